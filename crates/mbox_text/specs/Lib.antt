@@ -1,0 +1,7 @@
+pub mod Lines
+pub mod Quoting
+pub mod FromLine
+pub mod Mbox
+pub mod Spelling
+pub mod Held
+pub mod Fed

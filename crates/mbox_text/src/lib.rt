@@ -1,0 +1,18 @@
+//! Mbox texts: messages out of bytes that come in any pieces.
+#![tactic(auto)]
+
+mod body;
+mod bytes;
+mod entry;
+mod fault;
+mod from_line;
+pub mod laws;
+mod quoting;
+mod splitter;
+
+pub use bytes::Bytes;
+pub use entry::Entry;
+pub use fault::TextFault;
+pub use from_line::is_from_line;
+pub use quoting::is_quotable;
+pub use splitter::Splitter;
