@@ -1,6 +1,7 @@
 // From_ lines: the lines that begin a message.
 ghost use Rattle.std.specs.Prelude.{◌≡◌, ◌↔◌, IsTrue};
 ghost use Rattle.mbox_text.specs.FromLine.{IsFromLine};
+ghost use Rattle.mbox_text.specs.Lines.{NoEnd};
 ghost use Rattle.mbox_text.specs.Quoting.{begins_from, begins_with, from_bytes};
 
 use memchr::memchr;
@@ -9,7 +10,14 @@ use memchr::memchr;
 pub fn is_from_line(line: &[u8]) -> bool
     ensures { IsTrue result ↔ IsFromLine line.now }
 {
-    begins_with_from(line) && memchr(b'\n', line).is_none()
+    begins_with_from(line) && holds_no_end(line)
+}
+
+/// Whether the bytes hold no `\n`.
+fn holds_no_end(line: &[u8]) -> bool
+    ensures { IsTrue result ↔ NoEnd line.now }
+{
+    memchr(b'\n', line).is_none()
 }
 
 /// Whether the bytes begin with `From `.
