@@ -51,3 +51,7 @@ Mbox text (entry ∷ entries) =
 -- the text is empty or begins with `From `: just these texts have messages or none (this project's own rule: a text before the first From_ line is nobody's)
 abbrev pub IsMboxText : List ℕ → Type 0
 IsMboxText text = (text ≡ []) ⊎ (begins_from text ≡ true)
+
+-- no list of messages is the text's
+abbrev pub IsUnreadable : List ℕ → Type 0
+IsUnreadable text = (entries : List Entry) → ¬ Mbox text entries
