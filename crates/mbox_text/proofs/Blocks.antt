@@ -29,7 +29,7 @@ begins_with-cut [] line rest h = refl
 begins_with-cut (p ∷ prefix) [] rest h = rw h.0 refl
 begins_with-cut (p ∷ prefix) (c ∷ line) rest h = rw (begins_with-cut prefix line rest h.1) refl
 
-begins_from-cut : (line rest : List ℕ) → begins_from (line ++ 10 ∷ rest) ≡ begins_from line
+pub begins_from-cut : (line rest : List ℕ) → begins_from (line ++ 10 ∷ rest) ≡ begins_from line
 unfolding begins_from
 begins_from-cut line rest = begins_with-cut from_bytes line rest (refl, (refl, (refl, (refl, (refl, tt)))))
 

@@ -10,6 +10,7 @@ pub mod laws;
 mod quoting;
 mod split;
 mod splitter;
+mod write;
 
 pub use bytes::Bytes;
 pub use entry::Entry;
@@ -18,3 +19,4 @@ pub use from_line::is_from_line;
 pub use quoting::is_quotable;
 pub use split::split_all;
 pub use splitter::Splitter;
+pub use write::{write_bytes, write_entry};
