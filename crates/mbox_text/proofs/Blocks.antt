@@ -96,9 +96,9 @@ block_there text head len e b found body from_line =
       next = elim (body.next) [
         | inl l ↦ inl (omega (arith, l, h.within, length-drop (head + 1) text))
         | inr s ↦ inr (
-            rw (block, ← append_assoc (take head text) (10 ∷ []) (take len others)) (Ended-append (take head text ++ 10 ∷ []) (take len others) (inr (take head text, refl)) s.0),
-            ap begins_from (sym (drop-drop len (head + 1) text)) ∙ s.1,
-          )
+          rw (block, ← append_assoc (take head text) (10 ∷ []) (take len others)) (Ended-append (take head text ++ 10 ∷ []) (take len others) (inr (take head text, refl)) s.0),
+          ap begins_from (sym (drop-drop len (head + 1) text)) ∙ s.1,
+        )
       ];
     }
 

@@ -7,9 +7,9 @@ ghost use Rattle.mbox_text.specs.Mbox.{NoFrom, Mbox};
 ghost use Rattle.mbox_text.specs.Held.{chopped, Held, Moves, Refuses, Refused, NeverFrom};
 ghost use Rattle.mbox_text.specs.Fed.{Fed};
 
+use crate::body::{add_line, add_unquoted, drop_blank, take_lines};
 use crate::bytes::Bytes;
 use crate::entry::Entry;
-use crate::body::{add_line, add_unquoted, drop_blank, take_lines};
 use crate::fault::TextFault;
 use crate::from_line::{begins_with_from, is_from_start};
 use memchr::memchr;

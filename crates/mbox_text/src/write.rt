@@ -117,3 +117,6 @@ fn missing_end(body: &[u8]) -> &'static [u8]
     }
     b"\n"
 }
+
+#[cfg(test)]
+mod tests;
