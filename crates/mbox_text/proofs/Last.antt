@@ -14,13 +14,13 @@ use Rattle.mbox_text.proofs.LineLemmas.{lines-append, lines-line, lines-part, be
 use Rattle.mbox_text.proofs.Chopped.{chopped-part, without_blank-part, unquoted-some}
 use Rattle.mbox_text.proofs.HeldLemmas.{open-block, unended-push, NoFrom-append}
 
-closed-last : (front : List ℕ) (given : List Entry) (block : List ℕ) (e : Entry) → Closed front given → Block block e → Mbox (front ++ block) (given ++ e ∷ [])
+pub closed-last : (front : List ℕ) (given : List Entry) (block : List ℕ) (e : Entry) → Closed front given → Block block e → Mbox (front ++ block) (given ++ e ∷ [])
 unfolding Closed Mbox
 closed-last front [] block e h b = rw h (block, [], sym (append-nil block), b, inr refl, refl)
 closed-last front (g ∷ given) block e h b =
     (h.0, h.1 ++ block, rw h.2 (append_assoc h.0 h.1 block), h.3, inl h.4, closed-last h.1 given block e h.5 b)
 
-closed-mbox : (front : List ℕ) (given : List Entry) → Closed front given → Mbox front given
+pub closed-mbox : (front : List ℕ) (given : List Entry) → Closed front given → Mbox front given
 unfolding Closed Mbox
 closed-mbox front [] h = h
 closed-mbox front (g ∷ given) h = (h.0, h.1, h.2, h.3, inl h.4, closed-mbox h.1 given h.5)
@@ -30,7 +30,7 @@ unended-part [] h = refl
 unended-part (c ∷ l) h = rw (h.0, unended-part l h.1) refl
 
 -- a block that ends in a line with no `\n`
-open-last : (block f body line : List ℕ) (e : Entry) → Open block f body → NoEnd line → begins_from line ≡ false → e.from_line ≡ f → e.body ≡ chopped (body ++ unquoted line)
+pub open-last : (block f body line : List ℕ) (e : Entry) → Open block f body → NoEnd line → begins_from line ≡ false → e.from_line ≡ f → e.body ≡ chopped (body ++ unquoted line)
     → Block (block ++ line) e
 unfolding unquoted
 open-last block f body [] e o h b ef eb = rw (append-nil block) (open-block block f body e o ef (eb ∙ ap (λ z. chopped z) (append-nil body)))
@@ -49,7 +49,7 @@ open-last block f body (c ∷ l) e o h b ef eb =
     }
 
 -- a From_ line with nothing behind it
-from-block : (line : List ℕ) (e : Entry) → NoEnd line → begins_from line ≡ true → e.from_line ≡ line → e.body ≡ [] → Block line e
+pub from-block : (line : List ℕ) (e : Entry) → NoEnd line → begins_from line ≡ true → e.from_line ≡ line → e.body ≡ [] → Block line e
 unfolding without_blank begins_from
 from-block [] e h b ef eb = absurd (false≢true b)
 from-block (c ∷ l) e h b ef eb = record {

@@ -51,3 +51,7 @@ Mbox text (entry ∷ entries) =
 -- the text is empty or begins with `From `: just these texts have messages or none (this project's own rule: a text before the first From_ line is nobody's)
 abbrev pub IsMboxText : List ℕ → Type 0
 IsMboxText text = (text ≡ []) ⊎ (begins_from text ≡ true)
+
+-- the first list holds the first entries of the second, and not all of them
+abbrev pub IsProperFront : List Entry → List Entry → Type 0
+IsProperFront front entries = (next : Entry) × (rest : List Entry) × (entries ≡ front ++ next ∷ rest)
