@@ -31,7 +31,7 @@ pub unended-push : (l : List ℕ) → NoEnd l → unended (l ++ 10 ∷ []) ≡ l
 unended-push [] h = refl
 unended-push (c ∷ l) h = rw (h.0, unended-push l h.1) refl
 
-Closed-push : (text : List ℕ) (given : List Entry) (block : List ℕ) (e : Entry) → Closed text given → Block block e → Ended block → Closed (text ++ block) (given ++ e ∷ [])
+pub Closed-push : (text : List ℕ) (given : List Entry) (block : List ℕ) (e : Entry) → Closed text given → Block block e → Ended block → Closed (text ++ block) (given ++ e ∷ [])
 unfolding Closed
 Closed-push text [] block e h b ends = (block, [], rw h (sym (append-nil block)), b, ends, refl)
 Closed-push text (g ∷ given) block e h b ends =

@@ -25,7 +25,7 @@ unfolding Closed Mbox
 closed-mbox front [] h = h
 closed-mbox front (g ∷ given) h = (h.0, h.1, h.2, h.3, inl h.4, closed-mbox h.1 given h.5)
 
-unended-part : (l : List ℕ) → NoEnd l → unended l ≡ l
+pub unended-part : (l : List ℕ) → NoEnd l → unended l ≡ l
 unended-part [] h = refl
 unended-part (c ∷ l) h = rw (h.0, unended-part l h.1) refl
 

@@ -1,8 +1,8 @@
 // A body as it is read: its lines without their quoting, and without the blank line that ends the message.
-ghost use Rattle.std.specs.Prelude.{◌≡◌, ◌-◌, ◌<◌, ◌≤◌, ◌++◌, [], ◌∷◌, length, take, IfOk, OnOk, MatchBool};
+ghost use Rattle.std.specs.Prelude.{◌≡◌, ◌-◌, ◌<◌, ◌≤◌, ◌++◌, ◌⊎◌, [], ◌∷◌, true, length, take, drop, IfOk, OnOk, MatchBool};
 ghost use Rattle.std.specs.List.{flat_map};
-ghost use Rattle.mbox_text.specs.Lines.{lines, Ended};
-ghost use Rattle.mbox_text.specs.Quoting.{unquoted};
+ghost use Rattle.mbox_text.specs.Lines.{lines, Ended, NoEnd};
+ghost use Rattle.mbox_text.specs.Quoting.{begins_from, unquoted};
 ghost use Rattle.mbox_text.specs.Mbox.{NoFrom};
 ghost use Rattle.mbox_text.specs.Held.{chopped};
 
@@ -64,6 +64,7 @@ pub(crate) fn take_lines(body: &mut Vec<u8>, text: &[u8]) -> Result<usize, Alloc
     ensures added { IfOk result (λ n. body.new.items ≡ body.old.items ++ flat_map unquoted (lines (take n text.now))) }
     ensures ended { IfOk result (λ n. Ended (take n text.now)) }
     ensures none { IfOk result (λ n. NoFrom (lines (take n text.now))) }
+    ensures stops { IfOk result (λ n. (begins_from (drop n text.now) ≡ true) ⊎ NoEnd (drop n text.now)) }
 {
     let mut start = 0;
     let mut at = 0;

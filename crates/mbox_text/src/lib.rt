@@ -8,6 +8,7 @@ mod fault;
 mod from_line;
 pub mod laws;
 mod quoting;
+mod split;
 mod splitter;
 
 pub use bytes::Bytes;
@@ -15,4 +16,5 @@ pub use entry::Entry;
 pub use fault::TextFault;
 pub use from_line::is_from_line;
 pub use quoting::is_quotable;
+pub use split::split_all;
 pub use splitter::Splitter;
