@@ -6,7 +6,7 @@ use Rattle.std.proofs.lemmas.Bool.{both_ways, false_from_ne_true, false≢true, 
 use Rattle.std.proofs.lemmas.List.{take-append-drop, append-nil, take_all, take_rest, nil_from_length, drop-drop}
 use Rattle.memchr.specs.Find.{IsFirstByte, is_byte}
 use Rattle.mbox_text.specs.declared.entry.Entry.{Entry}
-use Rattle.mbox_text.specs.declared.splitter.Message.{Message}
+use Rattle.mbox_text.specs.declared.message.Message.{Message}
 use Rattle.mbox_text.specs.Lines.{lines, Ended, NoEnd}
 use Rattle.mbox_text.specs.Quoting.{unquoted, begins_from, begins_with, from_bytes}
 use Rattle.mbox_text.specs.Mbox.{NoFrom}

@@ -91,6 +91,9 @@ headed-append : (ls tail : List (List ℕ)) (l : List ℕ) (entries : List Entry
 headed-append [] tail l entries h b = b
 headed-append (f ∷ ls) tail l entries h b = reads-headed (f ∷ ls) entries h
 
+extended : (e g : Entry) (es gs : List Entry) (next : Entry) (rest : List Entry) → e ≡ g → es ≡ gs ++ next ∷ rest → e ∷ es ≡ g ∷ (gs ++ next ∷ rest)
+extended e g es gs next rest h h' = cc
+
 -- messages at the front of a text that goes on with a From_ line are its first, and not all
 pub reads-front : (ls tail : List (List ℕ)) (l : List ℕ) (given entries : List Entry) → Reads ls given → begins_from l ≡ true → Reads (ls ++ l ∷ tail) entries
     → (next : Entry) × (rest : List Entry) × (entries ≡ given ++ next ∷ rest)
@@ -108,6 +111,4 @@ reads-front ls tail l (g ∷ gs) (e ∷ es) r b h =
     let c0 : s.others ≡ s'.others = c.0 in
     let heads : g ≡ e = entry-one g e (s.from_line ∙ ap unended firsts ∙ sym s'.from_line) (s.body ∙ ap (λ o. flat_map unquoted (without_blank o)) c0 ∙ sym s'.body) in
     let ih = reads-front r.0 tail l gs es r.2 b (rw c.1 h.2) in
-    let F : List Entry → List Entry = λ z. e ∷ z in
-    let G : Entry → List Entry = λ z. z ∷ (gs ++ ih.0 ∷ ih.1) in
-    (ih.0, ih.1, ap F ih.2 ∙ ap G (sym heads))
+    (ih.0, ih.1, extended e g es gs ih.0 ih.1 (sym heads) ih.2)
