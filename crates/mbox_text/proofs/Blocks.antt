@@ -29,7 +29,7 @@ begins_with-cut [] line rest h = refl
 begins_with-cut (p ∷ prefix) [] rest h = rw h.0 refl
 begins_with-cut (p ∷ prefix) (c ∷ line) rest h = rw (begins_with-cut prefix line rest h.1) refl
 
-begins_from-cut : (line rest : List ℕ) → begins_from (line ++ 10 ∷ rest) ≡ begins_from line
+pub begins_from-cut : (line rest : List ℕ) → begins_from (line ++ 10 ∷ rest) ≡ begins_from line
 unfolding begins_from
 begins_from-cut line rest = begins_with-cut from_bytes line rest (refl, (refl, (refl, (refl, (refl, tt)))))
 
@@ -96,9 +96,9 @@ block_there text head len e b found body from_line =
       next = elim (body.next) [
         | inl l ↦ inl (omega (arith, l, h.within, length-drop (head + 1) text))
         | inr s ↦ inr (
-            rw (block, ← append_assoc (take head text) (10 ∷ []) (take len others)) (Ended-append (take head text ++ 10 ∷ []) (take len others) (inr (take head text, refl)) s.0),
-            ap begins_from (sym (drop-drop len (head + 1) text)) ∙ s.1,
-          )
+          rw (block, ← append_assoc (take head text) (10 ∷ []) (take len others)) (Ended-append (take head text ++ 10 ∷ []) (take len others) (inr (take head text, refl)) s.0),
+          ap begins_from (sym (drop-drop len (head + 1) text)) ∙ s.1,
+        )
       ];
     }
 

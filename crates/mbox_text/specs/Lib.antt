@@ -4,5 +4,6 @@ pub mod FromLine
 pub mod Mbox
 pub mod Split
 pub mod Spelling
+pub mod Writing
 pub mod Held
 pub mod Fed

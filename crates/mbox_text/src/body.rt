@@ -82,4 +82,3 @@ pub(crate) fn take_lines(body: &mut Vec<u8>, text: &[u8]) -> Result<usize, Alloc
     body.extend_from_slice(&text[start..at])?;
     Ok(at)
 }
-

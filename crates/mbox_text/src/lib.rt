@@ -11,6 +11,7 @@ mod message;
 mod quoting;
 mod split;
 mod splitter;
+mod write;
 
 pub use bytes::Bytes;
 pub use entry::Entry;
@@ -19,3 +20,4 @@ pub use from_line::is_from_line;
 pub use quoting::is_quotable;
 pub use split::split_all;
 pub use splitter::Splitter;
+pub use write::{write_bytes, write_entry};

@@ -96,3 +96,6 @@ fn first_body(alloc: Global, text: &[u8]) -> Result<FirstBody, AllocError>
     drop_blank(&mut bytes);
     Ok(FirstBody { bytes, len })
 }
+
+#[cfg(test)]
+mod tests;
