@@ -6,7 +6,7 @@ use Rattle.std.proofs.lemmas.Bool.{both_ways, false_from_ne_true, false≢true, 
 use Rattle.std.proofs.lemmas.List.{take-append-drop, append-nil, take_all, take_rest, nil_from_length, drop-drop}
 use Rattle.memchr.specs.Find.{IsFirstByte, is_byte}
 use Rattle.mbox_text.specs.declared.entry.Entry.{Entry}
-use Rattle.mbox_text.specs.declared.splitter.Message.{Message}
+use Rattle.mbox_text.specs.declared.message.Message.{Message}
 use Rattle.mbox_text.specs.Lines.{lines, Ended, NoEnd}
 use Rattle.mbox_text.specs.Quoting.{unquoted, begins_from, begins_with, from_bytes}
 use Rattle.mbox_text.specs.Mbox.{NoFrom}
@@ -67,7 +67,7 @@ pub take-at : (text : List ℕ) (at n : ℕ) → take (at + n) text ≡ take at 
 take-at text at n = rw (take_rest text at) (take-plus at n text)
 
 -- the text so far is the line alone
-at_start : (text : List ℕ) (given : List Entry) (line : List ℕ) → AtHead text given line → begins_from line ≡ false → (given ≡ []) × (text ≡ line)
+pub at_start : (text : List ℕ) (given : List Entry) (line : List ℕ) → AtHead text given line → begins_from line ≡ false → (given ≡ []) × (text ≡ line)
 unfolding Closed
 at_start text given line a b = elim (a.head) [
   | inl y ↦ absurd (both_ways (begins_from line) b y)
@@ -85,7 +85,7 @@ none_refuses message line part line' line1 line2 is el e1 b e2 p text given held
       | inr n ↦ let s = at_start text given line a n in (s.0, rw s.1 (b', p'))
     ]
 
-begins_with-ended : (line prefix : List ℕ) → NoEnd prefix → begins_with (line ++ 10 ∷ []) prefix ≡ false
+pub begins_with-ended : (line prefix : List ℕ) → NoEnd prefix → begins_with (line ++ 10 ∷ []) prefix ≡ false
 begins_with-ended [] [] h = refl
 begins_with-ended [] (p ∷ prefix) h = rw (ne_eqb 10 p (λ e. eqb-false p 10 h.0 (sym e))) refl
 begins_with-ended (c ∷ line) [] h = refl

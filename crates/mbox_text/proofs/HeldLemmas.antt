@@ -10,7 +10,7 @@ use Rattle.mbox_text.specs.Lines.{lines, Ended, NoEnd}
 use Rattle.mbox_text.specs.Quoting.{quotable, unquoted, begins_from, begins_with, from_bytes}
 use Rattle.mbox_text.specs.Mbox.{without_blank, NoFrom, unended, Block, Mbox}
 use Rattle.std.specs.Prelude.{Option, Some, None}
-use Rattle.mbox_text.specs.declared.splitter.Message.{Message}
+use Rattle.mbox_text.specs.declared.message.Message.{Message}
 use Rattle.mbox_text.specs.Held.{chopped, Closed, Open, AtHead, InBody, Held, Moves}
 use Rattle.mbox_text.proofs.LineLemmas.{lines-append, lines-line, lines-part, unquoted-push, begins_from-push, begins_from-more}
 use Rattle.mbox_text.proofs.Chopped.{chopped-body}

@@ -5,7 +5,7 @@ use Rattle.std.proofs.lemmas.Bool.{false≢true}
 use Rattle.std.proofs.lemmas.List.{append-nil}
 use Rattle.std.proofs.lemmas.List.Concat.{flat_map-append}
 use Rattle.mbox_text.specs.declared.entry.Entry.{Entry}
-use Rattle.mbox_text.specs.declared.splitter.Message.{Message}
+use Rattle.mbox_text.specs.declared.message.Message.{Message}
 use Rattle.mbox_text.specs.Lines.{lines, Ended, NoEnd}
 use Rattle.mbox_text.specs.Quoting.{unquoted, begins_from}
 use Rattle.mbox_text.specs.Mbox.{NoFrom, Block, Mbox, unended, without_blank}
@@ -30,7 +30,7 @@ unended-part [] h = refl
 unended-part (c ∷ l) h = rw (h.0, unended-part l h.1) refl
 
 -- a block that ends in a line with no `\n`
-open-last : (block f body line : List ℕ) (e : Entry) → Open block f body → NoEnd line → begins_from line ≡ false → e.from_line ≡ f → e.body ≡ chopped (body ++ unquoted line)
+pub open-last : (block f body line : List ℕ) (e : Entry) → Open block f body → NoEnd line → begins_from line ≡ false → e.from_line ≡ f → e.body ≡ chopped (body ++ unquoted line)
     → Block (block ++ line) e
 unfolding unquoted
 open-last block f body [] e o h b ef eb = rw (append-nil block) (open-block block f body e o ef (eb ∙ ap (λ z. chopped z) (append-nil body)))

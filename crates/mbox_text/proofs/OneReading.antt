@@ -21,7 +21,7 @@ pub record Split (ls : List (List ℕ)) (entry : Entry) (rest : List (List ℕ))
   pub body : entry.body ≡ flat_map unquoted (without_blank others)
 
 -- these lines are those of these messages
-abbrev Reads : List (List ℕ) → List Entry → Type 0
+abbrev pub Reads : List (List ℕ) → List Entry → Type 0
 Reads ls [] = ls ≡ []
 Reads ls (entry ∷ entries) = (rest : List (List ℕ)) × Split ls entry rest × Reads rest entries
 
@@ -85,3 +85,30 @@ mbox-reads text (entry ∷ entries) h =
 
 pub mbox-one : (text : List ℕ) (entries others : List Entry) → Mbox text entries → Mbox text others → entries ≡ others
 mbox-one text entries others h h' = reads-one (lines text) entries others (mbox-reads text entries h) (mbox-reads text others h')
+
+-- lines at the front that are those of these messages, and then a From_ line
+headed-append : (ls tail : List (List ℕ)) (l : List ℕ) (entries : List Entry) → Reads ls entries → begins_from l ≡ true → Headed (ls ++ l ∷ tail)
+headed-append [] tail l entries h b = b
+headed-append (f ∷ ls) tail l entries h b = reads-headed (f ∷ ls) entries h
+
+extended : (e g : Entry) (es gs : List Entry) (next : Entry) (rest : List Entry) → e ≡ g → es ≡ gs ++ next ∷ rest → e ∷ es ≡ g ∷ (gs ++ next ∷ rest)
+extended e g es gs next rest h h' = cc
+
+-- messages at the front of a text that goes on with a From_ line are its first, and not all
+pub reads-front : (ls tail : List (List ℕ)) (l : List ℕ) (given entries : List Entry) → Reads ls given → begins_from l ≡ true → Reads (ls ++ l ∷ tail) entries
+    → (next : Entry) × (rest : List Entry) × (entries ≡ given ++ next ∷ rest)
+reads-front ls tail l [] [] r b h = let e : l ∷ tail ≡ [] = rw r at h in absurd (cc)
+reads-front ls tail l [] (e ∷ es) r b h = (e, es, refl)
+reads-front ls tail l (g ∷ gs) [] r b h = let e = rw (r.1.is) at h in absurd (cc)
+reads-front ls tail l (g ∷ gs) (e ∷ es) r b h =
+    let s = r.1 in
+    let s' = h.1 in
+    let whole : ls ++ l ∷ tail ≡ s.first ∷ (s.others ++ (r.0 ++ l ∷ tail)) = rw (s.is) (ap (λ z. s.first ∷ z) (append_assoc s.others r.0 (l ∷ tail))) in
+    let whole' = s'.is in
+    let firsts : s.first ≡ s'.first = cc in
+    let tails : s.others ++ (r.0 ++ l ∷ tail) ≡ s'.others ++ h.0 = cc in
+    let c = cut_one s.others s'.others (r.0 ++ l ∷ tail) h.0 s.tail s'.tail (headed-append r.0 tail l gs r.2 b) (reads-headed h.0 es h.2) tails in
+    let c0 : s.others ≡ s'.others = c.0 in
+    let heads : g ≡ e = entry-one g e (s.from_line ∙ ap unended firsts ∙ sym s'.from_line) (s.body ∙ ap (λ o. flat_map unquoted (without_blank o)) c0 ∙ sym s'.body) in
+    let ih = reads-front r.0 tail l gs es r.2 b (rw c.1 h.2) in
+    (ih.0, ih.1, extended e g es gs ih.0 ih.1 (sym heads) ih.2)

@@ -154,3 +154,30 @@ pub spelled_again : (es : List Entry) → FromLines es → Mbox (flat_map spelli
 unfolding Mbox
 spelled_again [] h = refl
 spelled_again (e ∷ es) h = let b = spelled-block e h.0.0 h.0.1 in (spelling e, flat_map spelling es, refl, b.0, inl b.1, spelled_again es h.1)
+
+missing-full : (body front last : List ℕ) → body ≡ front ++ last → Ended front → NoEnd last → missing_end (body ++ missing_end body) ≡ []
+unfolding missing_end
+missing-full body front [] e (inl n) h = rw (e, n) refl
+missing-full body front [] e (inr s) h =
+    let m : missing_end body ≡ [] = rw (e, append-nil front, s.1) (missing-ended s.0) in
+    rw (m, append-nil body) m
+missing-full body front (c ∷ l) e ends h =
+    let m : missing_end body ≡ 10 ∷ [] = rw e (missing-part front c l h) in
+    rw m (missing-ended body)
+
+completed-once : (body : List ℕ) → missing_end (body ++ missing_end body) ≡ []
+completed-once body = let k = cut body in missing-full body k.front k.last k.is k.ended k.part
+
+spelled-same : (e : Entry) → spelling (completed e) ≡ spelling e
+unfolding spelling completed
+spelled-same e =
+    let u = full e.body in
+    let w = u.written in
+    let m = completed-once e.body in
+    let L : List ℕ → List ℕ = λ z. e.from_line ++ 10 ∷ (z ++ 10 ∷ []) in
+    rw (m, ← w) (rw append_assoc refl)
+
+-- what is completed is spelled as before
+pub spelled_once : (es : List Entry) → flat_map spelling (map completed es) ≡ flat_map spelling es
+spelled_once [] = refl
+spelled_once (e ∷ es) = rw (spelled-same e, spelled_once es) refl

@@ -2,10 +2,10 @@
 use Rattle.std.specs.Prelude.{◌≡◌, ℕ, ◌==◌, Bool, true, false, ◌&&◌, List, [], ◌∷◌, ◌++◌, ◌⊎◌, Option, Some, None, if◌then◌else◌}
 use Rattle.std.specs.List.{flat_map}
 use Rattle.mbox_text.specs.declared.entry.Entry.{Entry}
-use Rattle.mbox_text.specs.declared.splitter.Message.{Message}
+use Rattle.mbox_text.specs.declared.message.Message.{Message}
 use Rattle.mbox_text.specs.Lines.{lines, Ended, NoEnd}
 use Rattle.mbox_text.specs.Quoting.{begins_with, begins_from, from_bytes, unquoted}
-use Rattle.mbox_text.specs.Mbox.{NoFrom, Block}
+use Rattle.mbox_text.specs.Mbox.{NoFrom, Block, Mbox, IsProperFront}
 
 -- the text without its last line if that is `\n` alone; whether the text stands at the front of a line
 unfoldable pub chopped_from : Bool → List ℕ → List ℕ
@@ -55,7 +55,7 @@ abbrev pub Held : List ℕ → List Entry → Option Message → List ℕ → Ty
 Held text given None line = AtHead text given line
 Held text given (Some message) line = InBody text given message.from_line.items message.body.items line
 
--- from these fields to those the part adds these messages, whatever text and messages went before
+-- from these fields to those the part gives these messages, whatever text and messages went before
 abbrev pub Moves : Option Message → List ℕ → List ℕ → List Entry → Option Message → List ℕ → Type 0
 Moves message line part added message' line' =
     (text : List ℕ) (given : List Entry) → Held text given message line → Held (text ++ part) (given ++ added) message' line'
@@ -72,3 +72,13 @@ Refuses message line part = (text : List ℕ) (given : List Entry) → Held text
 abbrev pub Refused : Option Message → List ℕ → List ℕ → List Entry → List Entry → Type 0
 Refused message line piece out out' =
     (text : List ℕ) (given : List Entry) → Held text given message line → (given ≡ []) × (out' ≡ out) × NeverFrom (text ++ piece)
+
+-- whatever comes behind the text, these are none, or the first messages of the whole and not all of them
+abbrev pub Stay : List ℕ → List Entry → Type 0
+Stay text given = (more : List ℕ) (entries : List Entry) → Mbox (text ++ more) entries → (given ≡ []) ⊎ IsProperFront given entries
+
+-- of what the piece gives, only these messages were given before a growth was refused
+abbrev pub Breaks : Option Message → List ℕ → List ℕ → List Entry → List Entry → Type 0
+Breaks message line piece out out' =
+    (added : List Entry) × (out' ≡ out ++ added)
+    × ((text : List ℕ) (given : List Entry) → Held text given message line → Stay (text ++ piece) (given ++ added))

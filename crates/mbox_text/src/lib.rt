@@ -7,6 +7,7 @@ mod entry;
 mod fault;
 mod from_line;
 pub mod laws;
+mod message;
 mod quoting;
 mod split;
 mod splitter;
