@@ -1,1 +1,2 @@
 pub mod TargetLemmas
+pub mod NameLemmas

@@ -9,5 +9,5 @@ mod target;
 
 pub use fault::NameFault;
 pub use flags::Flags;
-pub use name::{Name, base_of};
+pub use name::{Name, base_of, is_converter_name};
 pub use target::{Place, Target};
