@@ -93,8 +93,8 @@ parsed : {E : Type 0} (text : List ℕ) (r : Result ℕ E) → 49 ≤ get_or tex
 unfolding is_occurrence
 parsed text (Ok x) low h =
     sym (and_from (all_ascii_digits text && leb 49 (get_or text 0 0)) (leb (digits_value 10 text) 18446744073709551615)
-        (and_from (all_ascii_digits text) (leb 49 (get_or text 0 0)) h.0.0 (le-leb 49 (get_or text 0 0) low))
-        (let small = h.0.2 in le-leb (digits_value 10 text) 18446744073709551615 (omega (arith, small))))
+    (and_from (all_ascii_digits text) (leb 49 (get_or text 0 0)) h.0.0 (le-leb 49 (get_or text 0 0) low))
+    (let small = h.0.2 in le-leb (digits_value 10 text) 18446744073709551615 (omega (arith, small))))
 parsed text (Err e) low h = sym (false_from_ne_true (is_occurrence text) (λ t.
     let outer = and_parts (all_ascii_digits text && leb 49 (get_or text 0 0)) (leb (digits_value 10 text) 18446744073709551615) t in
     let inner = and_parts (all_ascii_digits text) (leb 49 (get_or text 0 0)) outer.0 in
@@ -111,7 +111,7 @@ pub occurrence_low : (text : List ℕ) → get_or text 0 0 < 49 → false ≡ is
 unfolding is_occurrence
 occurrence_low text h =
     rw (and_left (all_ascii_digits text && leb 49 (get_or text 0 0)) (leb (digits_value 10 text) 18446744073709551615)
-        (and_right (all_ascii_digits text) (leb 49 (get_or text 0 0)) (lt-leb 49 (get_or text 0 0) h))) refl
+    (and_right (all_ascii_digits text) (leb 49 (get_or text 0 0)) (lt-leb 49 (get_or text 0 0) h))) refl
 
 pub occurrence_high : (text : List ℕ) → 57 < get_or text 0 0 → false ≡ is_occurrence text
 unfolding is_occurrence
@@ -173,9 +173,9 @@ base-info b info h =
     let s = b ++ 58 ∷ info in
     let long = length-append b (58 ∷ info) in
     let e : position_or_len is_colon s ≡ length b =
-        position_or_len_is is_colon s (length b) 0 (omega (arith, long))
-        (λ k l. rw (get_or_append_left b (58 ∷ info) 0 k l) (h k l))
-        (λ _. rw (get_or_at b 58 info 0 (length b) refl) refl) in
+    position_or_len_is is_colon s (length b) 0 (omega (arith, long))
+    (λ k l. rw (get_or_append_left b (58 ∷ info) 0 k l) (h k l))
+    (λ _. rw (get_or_at b 58 info 0 (length b) refl) refl) in
     rw e (take_at b (58 ∷ info) (length b) refl)
 
 -- this converter's bases have no colon
