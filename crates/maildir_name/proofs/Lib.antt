@@ -1,3 +1,5 @@
 pub mod TargetLemmas
 pub mod NameLemmas
 pub mod FlagLemmas
+pub mod BaseLemmas
+pub mod NamerLemmas
