@@ -3,3 +3,5 @@ pub mod NameLemmas
 pub mod FlagLemmas
 pub mod BaseLemmas
 pub mod NamerLemmas
+pub mod DistinctBases
+pub mod EqualBodies
