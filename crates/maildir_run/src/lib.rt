@@ -1,0 +1,13 @@
+//! A Maildir as a folder of the engine: its files, its calls, and what a run over it owes.
+#![tactic(auto)]
+
+mod fault;
+mod folder;
+pub mod laws;
+mod plan;
+mod report;
+
+pub use fault::RunFault;
+pub use folder::{Folder, FolderFault, Sub};
+pub use plan::Step;
+pub use report::Report;
