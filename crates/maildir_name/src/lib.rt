@@ -1,0 +1,13 @@
+//! Where messages are delivered in a Maildir: their flags, and the names that are exact and distinct.
+#![tactic(auto)]
+
+mod fault;
+mod flags;
+pub mod laws;
+mod name;
+mod target;
+
+pub use fault::NameFault;
+pub use flags::Flags;
+pub use name::{Name, base_of};
+pub use target::{Place, Target};
