@@ -6,3 +6,4 @@ pub mod Chains
 pub mod Outsiders
 pub mod Counted
 pub mod PlanLemmas
+pub mod Sets

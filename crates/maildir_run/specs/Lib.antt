@@ -4,3 +4,4 @@ pub mod Delivery
 pub mod Runs
 pub mod Alone
 pub mod Plan
+pub mod Bases

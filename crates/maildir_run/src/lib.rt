@@ -1,6 +1,7 @@
 //! A Maildir as a folder of the engine: its files, its calls, and what a run over it owes.
 #![tactic(auto)]
 
+mod bases;
 mod fault;
 mod folder;
 pub mod laws;
