@@ -1,1 +1,3 @@
 pub mod TargetLemmas
+pub mod NameLemmas
+pub mod FlagLemmas

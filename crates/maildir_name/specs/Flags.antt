@@ -1,5 +1,5 @@
 -- The flags of a message: what the header fields Status and X-Status of its body say.
-use Rattle.std.specs.Prelude.{◌≡◌, ℕ, ◌==◌, nat_eq, Bool, ◌||◌, not, List, [], ◌∷◌, length, take, drop, find, take_while, unwrap_or, codes, if◌then◌else◌}
+use Rattle.std.specs.Prelude.{ℕ, ◌==◌, Bool, ◌||◌, not, List, [], ◌∷◌, length, take, drop, find, take_while, unwrap_or, codes, if◌then◌else◌}
 use Rattle.std.specs.List.{list_any}
 use Rattle.std.specs.Str.{bytes_eq, str_eq_ignore_ascii_case}
 use Rattle.maildir_name.specs.declared.flags.Flags.{Flags}
@@ -38,9 +38,13 @@ status_field body = field (codes "Status:") (header body)
 abbrev pub x_status_field : List ℕ → List ℕ
 x_status_field body = field (codes "X-Status:") (header body)
 
+-- whether a letter stands in a field
+abbrev pub stands_in : List ℕ → ℕ → Bool
+stands_in text letter = list_any (λ c. c == letter) text
+
 -- whether a letter stands in one of the two fields
 abbrev pub has_letter : List ℕ → ℕ → Bool
-has_letter body letter = list_any (nat_eq letter) (status_field body) || list_any (nat_eq letter) (x_status_field body)
+has_letter body letter = stands_in (status_field body) letter || stands_in (x_status_field body) letter
 
 -- the flags of a body: `O` old, `F` flagged, `A` replied, `R` seen, `D` trashed (this project's own table, after the documentation of Python's module mailbox)
 unfoldable pub flags : List ℕ → Flags

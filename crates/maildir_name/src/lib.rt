@@ -8,6 +8,6 @@ mod name;
 mod target;
 
 pub use fault::NameFault;
-pub use flags::Flags;
-pub use name::{Name, base_of};
+pub use flags::{Flags, flags_of};
+pub use name::{Name, base_of, is_converter_name};
 pub use target::{Place, Target};
