@@ -5,10 +5,10 @@ mod bases;
 mod fault;
 mod folder;
 pub mod laws;
-mod plan;
+mod planner;
 mod report;
 
 pub use fault::RunFault;
 pub use folder::{Folder, FolderFault, Sub};
-pub use plan::Step;
+pub use planner::{Step, plan};
 pub use report::Report;
