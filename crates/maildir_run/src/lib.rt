@@ -1,0 +1,14 @@
+//! A Maildir as a folder of the engine: its files, its calls, and what a run over it owes.
+#![tactic(auto)]
+
+mod bases;
+mod fault;
+mod folder;
+pub mod laws;
+mod planner;
+mod report;
+
+pub use fault::RunFault;
+pub use folder::{Folder, FolderFault, Sub};
+pub use planner::{Step, plan};
+pub use report::Report;
