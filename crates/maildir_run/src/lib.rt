@@ -5,6 +5,7 @@ mod bases;
 mod fault;
 mod folder;
 pub mod laws;
+mod messages;
 mod planner;
 mod report;
 
