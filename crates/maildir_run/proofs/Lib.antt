@@ -7,3 +7,4 @@ pub mod Outsiders
 pub mod Counted
 pub mod PlanLemmas
 pub mod Sets
+pub mod Trees

@@ -5,3 +5,4 @@ pub mod Runs
 pub mod Alone
 pub mod Plan
 pub mod Bases
+pub mod Memory

@@ -3,6 +3,7 @@
 
 mod bases;
 mod fault;
+mod file_tree;
 mod folder;
 pub mod laws;
 mod planner;
