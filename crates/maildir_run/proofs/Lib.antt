@@ -8,3 +8,4 @@ pub mod Counted
 pub mod PlanLemmas
 pub mod Sets
 pub mod Trees
+pub mod Quiet

@@ -16,7 +16,7 @@ use Rattle.std.proofs.lemmas.Map.Keys.{sorted_head, sorted_tail}
 use Rattle.std.proofs.lemmas.Cmp.{eq_by_cmp_equiv}
 use Rattle.std.proofs.lemmas.Map.Text.{btree_map_updates_text, is_eq-slice_cmp}
 use Rattle.maildir_run.specs.Files.{name_cmp, is_name, FileMap}
-use Rattle.maildir_run.specs.Memory.{map_of}
+use Rattle.maildir_run.specs.FileTree.{map_of}
 use Rattle.maildir_run.proofs.Maps.{total, same}
 use Rattle.maildir_run.proofs.PlanLemmas.{append_nil}
 

@@ -5,4 +5,5 @@ pub mod Runs
 pub mod Alone
 pub mod Plan
 pub mod Bases
-pub mod Memory
+pub mod FileTree
+pub mod MemFolder

@@ -16,7 +16,7 @@ pub(crate) struct FileTree {
 
 impl Model for FileTree {
     ghost use Rattle.maildir_run.specs.Files.{FileMap};
-    ghost use Rattle.maildir_run.specs.Memory.{file_map_code, map_of};
+    ghost use Rattle.maildir_run.specs.FileTree.{file_map_code, map_of};
 
     ghost Value = { FileMap };
 

@@ -1,4 +1,4 @@
--- What a folder in memory shows.
+-- The files of one folder in memory, as a finite map.
 use Rattle.std.specs.Prelude.{ℕ, List, map, String, Vec, string_bytes}
 use Rattle.std.specs.Coded.{Coded, coded_list, coded_ℕ}
 use Rattle.std.specs.declared.alloc.Global.{Global}
