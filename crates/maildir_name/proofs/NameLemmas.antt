@@ -81,7 +81,8 @@ converter_uncut b e = sym (false_from_ne_true (is_converter_base b) (λ h.
     let l = parts_long b p in
     let d = dot_at b p in absurd (omega (arith, l, d, e))))
 
-own : IsNumeralModel (λ ds. all_ascii_digits ds ≡ true) (digits_value 10)
+-- decimal digits and their number
+pub own : IsNumeralModel (λ ds. all_ascii_digits ds ≡ true) (digits_value 10)
 own = numerals_by_value (λ ds. all_ascii_digits ds ≡ true) tells_all_ascii_digits
 
 starts : (text : List ℕ) → 49 ≤ get_or text 0 0 → 0 < length text

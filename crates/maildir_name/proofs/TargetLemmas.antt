@@ -2,7 +2,7 @@
 use Rattle.std.proofs.Common.{◌≡◌, ℕ, ◌+◌, ◌<◌, ◌≤◌, List, [], ◌∷◌, ◌++◌, length, get_or, take, map, refl, sym, ◌∙◌, ap, arith, length-append, le_refl, le_of_lt}
 use Rattle.std.specs.List.{range_with_len}
 use Rattle.std.proofs.lemmas.List.{length_push, take-append-le, get_or_append_left, get_or_push, take_all, same_lists, take_at}
-use Rattle.std.proofs.lemmas.List.FromFn.{map-range_with_len_more, length-map-range_with_len, get_or-map-range_with_len}
+use Rattle.std.proofs.lemmas.List.FromFn.{map-range_with_len_more, take-map-range_with_len, length-map-range_with_len, get_or-map-range_with_len}
 use Rattle.maildir_name.specs.declared.target.Target.{Target}
 use Rattle.maildir_name.specs.Targets.{target, targets}
 
@@ -43,3 +43,12 @@ targets-push bodies body =
       take_at bodies (body ∷ []) n refl,
       get_or_push bodies body [] n refl,
     ) refl)
+
+-- the targets of a prefix
+pub targets-prefix : (bodies more : List (List ℕ)) → take (length bodies) (targets (bodies ++ more)) ≡ targets bodies
+unfolding targets
+targets-prefix bodies more =
+    let all = bodies ++ more in
+    let n = length bodies in
+    take-map-range_with_len (target_at all) 0 (length all) n (omega (arith, length-append bodies more))
+    ∙ map-agree (target_at all) (target_at bodies) 0 n (λ k low high. target_at-append bodies more k (omega arith))

@@ -1,5 +1,5 @@
 -- Where the messages of a text are delivered: their bases, places and names.
-use Rattle.std.specs.Prelude.{◌≡◌, ℕ, Bool, ◌||◌, List, [], ◌∷◌, ◌++◌, length, take, map, count_by, slice_index_or, if◌then◌else◌}
+use Rattle.std.specs.Prelude.{◌≡◌, ℕ, Bool, ◌||◌, List, [], ◌∷◌, ◌++◌, length, take, map, filter, zip, count_by, slice_index_or, if◌then◌else◌}
 use Rattle.std.specs.List.{range_with_len}
 use Rattle.std.specs.Str.{bytes_eq}
 use Rattle.std.specs.Fmt.{decimal}
@@ -48,3 +48,11 @@ target before body = under_flags (numbered body (count_by (same_digest body) (be
 -- the targets of the bodies of one text, in order
 unfoldable pub targets : List (List ℕ) → List Target
 targets bodies = map (λ k. target (take k bodies) (slice_index_or bodies k [])) (range_with_len 0 (length bodies))
+
+-- the bases of the targets that belong to one body, in order
+abbrev pub bases_of : List ℕ → List (List ℕ) → List (List ℕ)
+bases_of body bodies = map (λ (entry : List ℕ × Target). entry.1.base) (filter (λ (entry : List ℕ × Target). bytes_eq body entry.0) (zip bodies (targets bodies)))
+
+-- the bases of a body with the numbers from 1 up to n
+abbrev pub numbered_up_to : List ℕ → ℕ → List (List ℕ)
+numbered_up_to body n = map (numbered body) (range_with_len 1 n)

@@ -5,9 +5,11 @@ mod fault;
 mod flags;
 pub mod laws;
 mod name;
+mod namer;
 mod target;
 
 pub use fault::NameFault;
 pub use flags::{Flags, flags_of};
 pub use name::{Name, base_of, is_converter_name};
+pub use namer::Namer;
 pub use target::{Place, Target};
