@@ -1,0 +1,159 @@
+-- A body without its last line if that is `\n` alone.
+use Rattle.std.proofs.Common.{zero, suc, ◌-◌, ◌<◌, ◌≡◌, ℕ, ◌+◌, Bool, true, false, eqb, List, [], ◌∷◌, ◌++◌, length, get_or, take, refl, sym, ◌∙◌, ap, arith, append_assoc, inl, inr}
+use Rattle.std.specs.Prelude.{◌⊎◌, ◌&&◌}
+use Rattle.std.specs.List.{flat_map}
+use Rattle.std.proofs.lemmas.Bool.{both_ways, cases_Bool, ne_eqb, eq-eqb, and_right}
+use Rattle.std.proofs.lemmas.List.{append-nil}
+use Rattle.mbox_text.specs.Lines.{before_first, lines, Ended, NoEnd}
+use Rattle.mbox_text.specs.Quoting.{quotable, unquoted, begins_from}
+use Rattle.mbox_text.specs.Mbox.{without_blank, kept}
+use Rattle.mbox_text.specs.Held.{chopped_from, chopped}
+use Rattle.mbox_text.proofs.LineLemmas.{lines-last, unquoted-push}
+
+-- each line ends with its only `\n`
+abbrev pub Whole : List (List ℕ) → Type 0
+Whole [] = Unit {0}
+Whole (l ∷ ls) = ((x : List ℕ) × (l ≡ x ++ 10 ∷ []) × NoEnd x) × Whole ls
+
+-- behind a `\n` only the rest counts
+chopped-behind : (front : Bool) (x : List ℕ) (c : ℕ) (t : List ℕ) → chopped_from front ((x ++ 10 ∷ []) ++ c ∷ t) ≡ (x ++ 10 ∷ []) ++ chopped (c ∷ t)
+unfolding chopped_from
+chopped-behind front [] c t = refl
+chopped-behind front (a ∷ []) c t = refl
+chopped-behind front (a ∷ b ∷ x) c t = ap (λ l. a ∷ l) (chopped-behind (eqb a 10) (b ∷ x) c t)
+
+-- a line that is not empty stays
+chopped-line : (front : Bool) (c : ℕ) (x : List ℕ) → NoEnd (c ∷ x) → chopped_from front (c ∷ (x ++ 10 ∷ [])) ≡ c ∷ (x ++ 10 ∷ [])
+unfolding chopped_from
+chopped-line front c [] h = rw h.0 refl
+chopped-line front c (d ∷ x) h = ap (λ l. c ∷ l) (chopped-line (eqb c 10) d x h.1)
+
+-- a line that is not empty is read as one that is not
+pub unquoted-some : (c : ℕ) (x : List ℕ) → NoEnd (c ∷ x) → (d : ℕ) × (y : List ℕ) × (unquoted (c ∷ x) ≡ d ∷ y) × NoEnd (d ∷ y)
+unfolding unquoted quotable
+unquoted-some c [] h = (c, [], elim (cases_Bool (eqb c 62)) [ inl e ↦ rw e refl | inr e ↦ rw e refl ], h)
+unquoted-some c (d ∷ x) h =
+    elim (cases_Bool (eqb c 62 && quotable (d ∷ x))) [ inl e ↦ rw e (d, x, refl, h.1) | inr e ↦ rw e (c, d ∷ x, refl, h) ]
+
+some : (y t : List ℕ) → (c : ℕ) × (u : List ℕ) × ((y ++ 10 ∷ []) ++ t ≡ c ∷ u)
+some [] t = (10, t, refl)
+some (c ∷ y) t = (c, (y ++ 10 ∷ []) ++ t, refl)
+
+unquoted-more : (l : List ℕ) (ls : List (List ℕ)) → Whole (l ∷ ls) → (c : ℕ) × (t : List ℕ) × (flat_map unquoted (l ∷ ls) ≡ c ∷ t)
+unquoted-more l ls w = let x = w.0.0 in rw (w.0.1, unquoted-push x) (some (unquoted x) (flat_map unquoted ls))
+
+kept-some : (c : ℕ) (x : List ℕ) → kept (c ∷ (x ++ 10 ∷ [])) ≡ (c ∷ (x ++ 10 ∷ [])) ∷ []
+kept-some c [] = refl
+kept-some c (d ∷ x) = refl
+
+chopped-one : (x : List ℕ) → NoEnd x → chopped (unquoted (x ++ 10 ∷ []) ++ []) ≡ flat_map unquoted (kept (x ++ 10 ∷ []))
+unfolding chopped_from unquoted
+chopped-one [] h = refl
+chopped-one (c ∷ x) h =
+    let u = unquoted-some c x h in
+    let p = unquoted-push (c ∷ x) in
+    rw (kept-some c x, append-nil (unquoted (c ∷ (x ++ 10 ∷ []))), p, u.2) (chopped-line true u.0 u.1 u.3)
+
+pub chopped-lines : (ls : List (List ℕ)) → Whole ls → chopped (flat_map unquoted ls) ≡ flat_map unquoted (without_blank ls)
+unfolding chopped_from without_blank
+chopped-lines [] w = refl
+chopped-lines (l ∷ []) w = rw (w.0.1) (chopped-one w.0.0 w.0.2)
+chopped-lines (l ∷ m ∷ ls) w =
+    let r = unquoted-more m ls w.1 in
+    let ih = chopped-lines (m ∷ ls) w.1 in
+    rw (w.0.1, unquoted-push w.0.0, ← ih, r.2) (chopped-behind true (unquoted w.0.0) r.0 r.1)
+
+before-whole : (c : ℕ) (first : List ℕ) (rest : List (List ℕ)) → eqb c 10 ≡ false → Whole (first ∷ rest) → Whole ((c ∷ first) ∷ rest)
+before-whole c first rest h w = ((c ∷ w.0.0, ap (λ x. c ∷ x) w.0.1, (h, w.0.2)), w.1)
+
+lines-whole-at : (front : List ℕ) → Whole (lines (front ++ 10 ∷ []))
+unfolding lines
+lines-whole-at [] = (([], refl, tt), tt)
+lines-whole-at (c ∷ front) =
+    elim (cases_Bool (eqb c 10)) [
+      | inl e ↦ rw e (([], refl, tt), lines-whole-at front)
+      | inr e ↦
+          let f = lines-last front in
+          let w' = rw f.2 at (lines-whole-at front) in
+          rw (e, f.2) (before-whole c f.0 f.1 e w')
+    ]
+
+-- a text that ends with a `\n` has whole lines
+pub lines-whole : (text : List ℕ) → Ended text → Whole (lines text)
+unfolding lines
+lines-whole text (inl e) = rw e tt
+lines-whole text (inr e) = rw e.1 (lines-whole-at e.0)
+
+pub chopped-body : (text : List ℕ) → Ended text → chopped (flat_map unquoted (lines text)) ≡ flat_map unquoted (without_blank (lines text))
+chopped-body text e = chopped-lines (lines text) (lines-whole text e)
+
+-- what the last two bytes say
+pub chop-both : (front : Bool) (k : ℕ) (b : List ℕ) → length b ≡ suc (suc k) → get_or b k 0 ≡ 10 → get_or b (suc k) 0 ≡ 10 → take (suc k) b ≡ chopped_from front b
+unfolding chopped_from
+chop-both front k [] l e e' = absurd (omega (arith, l))
+chop-both front k (c ∷ []) l e e' = absurd (omega (arith, l))
+chop-both front zero (c ∷ d ∷ []) l e e' = rw (eq-eqb c 10 e, eq-eqb d 10 e') refl
+chop-both front (suc k) (c ∷ d ∷ []) l e e' = absurd (omega (arith, l))
+chop-both front zero (c ∷ d ∷ e ∷ b) l h h' = absurd (omega (arith, l))
+chop-both front (suc k) (c ∷ d ∷ e ∷ b) l h h' = ap (λ x. c ∷ x) (chop-both (eqb c 10) k (d ∷ e ∷ b) (omega (arith, l)) h h')
+
+pub chop-last : (front : Bool) (k : ℕ) (b : List ℕ) → length b ≡ suc k → (get_or b k 0 ≡ 10 → ⊥) → b ≡ chopped_from front b
+unfolding chopped_from
+chop-last front k [] l h = refl
+chop-last front zero (c ∷ []) l h = rw (and_right front (eqb c 10) (ne_eqb c 10 h)) refl
+chop-last front (suc k) (c ∷ []) l h = absurd (omega (arith, l))
+chop-last front zero (c ∷ d ∷ b) l h = absurd (omega (arith, l))
+chop-last front (suc k) (c ∷ d ∷ b) l h = ap (λ x. c ∷ x) (chop-last (eqb c 10) k (d ∷ b) (omega (arith, l)) h)
+
+pub chop-before : (front : Bool) (k : ℕ) (b : List ℕ) → length b ≡ suc (suc k) → (get_or b k 0 ≡ 10 → ⊥) → b ≡ chopped_from front b
+unfolding chopped_from
+chop-before front k [] l h = refl
+chop-before front k (c ∷ []) l h = absurd (omega (arith, l))
+chop-before front zero (c ∷ d ∷ []) l h = rw (ne_eqb c 10 h) refl
+chop-before front (suc k) (c ∷ d ∷ []) l h = absurd (omega (arith, l))
+chop-before front zero (c ∷ d ∷ e ∷ b) l h = absurd (omega (arith, l))
+chop-before front (suc k) (c ∷ d ∷ e ∷ b) l h = ap (λ x. c ∷ x) (chop-before (eqb c 10) k (d ∷ e ∷ b) (omega (arith, l)) h)
+
+pub chop-only : (b : List ℕ) → length b ≡ 1 → get_or b 0 0 ≡ 10 → take 0 b ≡ chopped_from true b
+unfolding chopped_from
+chop-only [] l h = refl
+chop-only (c ∷ []) l h = rw (eq-eqb c 10 h) refl
+chop-only (c ∷ d ∷ b) l h = absurd (omega (arith, l))
+
+pub chop_not_last : (b : List ℕ) → (0 < length b → get_or b (length b - 1) 0 ≡ 10 → ⊥) → b ≡ chopped b
+unfolding chopped_from
+chop_not_last [] h = refl
+chop_not_last (c ∷ b) h =
+    let l : length (c ∷ b) ≡ suc (length b) = refl in
+    let e : length (c ∷ b) - 1 ≡ length b = omega (arith, l) in
+    chop-last true (length b) (c ∷ b) l (λ r. h (omega (arith, l)) (rw e r))
+
+pub chop_one : (b : List ℕ) → length b ≡ 1 → get_or b (length b - 1) 0 ≡ 10 → take (length b - 1) b ≡ chopped b
+chop_one b l h = let e : length b - 1 ≡ 0 = omega (arith, l) in rw e (chop-only b l (rw e at h))
+
+pub chop_two : (b : List ℕ) → 1 < length b → get_or b (length b - 1) 0 ≡ 10 → get_or b (length b - 2) 0 ≡ 10 → take (length b - 1) b ≡ chopped b
+chop_two b l h h' =
+    let e : length b - 1 ≡ suc (length b - 2) = omega (arith, l) in
+    let s : length b ≡ suc (suc (length b - 2)) = omega (arith, l) in
+    rw e (chop-both true (length b - 2) b s h' (rw e at h))
+
+pub chop_not_before : (b : List ℕ) → 1 < length b → (get_or b (length b - 2) 0 ≡ 10 → ⊥) → b ≡ chopped b
+chop_not_before b l h =
+    let s : length b ≡ suc (suc (length b - 2)) = omega (arith, l) in
+    chop-before true (length b - 2) b s h
+
+-- a text whose last line lacks its `\n` stays
+pub chopped-part : (front : Bool) (x : List ℕ) (d : ℕ) (y : List ℕ) → NoEnd (d ∷ y) → chopped_from front (x ++ d ∷ y) ≡ x ++ d ∷ y
+unfolding chopped_from
+chopped-part front [] d [] h = rw (and_right front (eqb d 10) h.0) refl
+chopped-part front [] d (e ∷ y) h = ap (λ l. d ∷ l) (chopped-part (eqb d 10) [] e y h.1)
+chopped-part front (a ∷ []) d y h = ap (λ l. a ∷ l) (chopped-part (eqb a 10) [] d y h)
+chopped-part front (a ∷ b ∷ x) d y h = ap (λ l. a ∷ l) (chopped-part (eqb a 10) (b ∷ x) d y h)
+
+-- so does the list of its lines
+pub without_blank-part : (ls : List (List ℕ)) (c : ℕ) (l : List ℕ) → NoEnd (c ∷ l) → without_blank (ls ++ (c ∷ l) ∷ []) ≡ ls ++ (c ∷ l) ∷ []
+unfolding without_blank
+without_blank-part [] c [] h = rw h.0 refl
+without_blank-part [] c (d ∷ l) h = refl
+without_blank-part (a ∷ []) c l h = ap (λ z. a ∷ z) (without_blank-part [] c l h)
+without_blank-part (a ∷ b ∷ ls) c l h = ap (λ z. a ∷ z) (without_blank-part (b ∷ ls) c l h)

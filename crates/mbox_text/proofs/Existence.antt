@@ -1,0 +1,123 @@
+-- A text that begins with `From ` has messages: what a splitter holds of it, byte by byte.
+use Rattle.std.proofs.Common.{◌≡◌, ℕ, Bool, true, false, eqb, List, [], ◌∷◌, ◌++◌, refl, sym, ◌∙◌, ap, append_assoc, inl, inr}
+use Rattle.std.specs.Prelude.{◌⊎◌, ◌↔◌}
+use Rattle.std.specs.List.{flat_map}
+use Rattle.std.proofs.lemmas.Bool.{both_ways, cases_Bool, eqb-true, false≢true}
+use Rattle.std.proofs.lemmas.List.{append-nil}
+use Rattle.mbox_text.specs.declared.entry.Entry.{Entry}
+use Rattle.mbox_text.specs.Lines.{lines, NoEnd}
+use Rattle.mbox_text.specs.Quoting.{unquoted, begins_with, begins_from, from_bytes}
+use Rattle.mbox_text.specs.Mbox.{Mbox, IsMboxText, without_blank}
+use Rattle.mbox_text.specs.Held.{chopped, AtHead, InBody, NeverFrom, Closed}
+use Rattle.mbox_text.specs.Fed.{AllButLast}
+use Rattle.mbox_text.proofs.LineLemmas.{begins_from-push, begins_from-more}
+use Rattle.mbox_text.proofs.Heads.{mbox-begins, mbox-begins-last}
+use Rattle.mbox_text.proofs.HeldLemmas.{head-add, head-ends, body-add, body-closes, body-ends}
+use Rattle.mbox_text.proofs.Fields.{held_none, never-more, at_start, begins_with-ended}
+use Rattle.mbox_text.proofs.Last.{closed-last, open-last, from-block}
+
+-- a text that ends in a From_ line, or in a line behind one
+abbrev Stands : List ℕ → Type 0
+Stands text =
+    ((given : List Entry) × (line : List ℕ) × AtHead text given line)
+    ⊎ ((given : List Entry) × (from_line : List ℕ) × (body : List ℕ) × (line : List ℕ) × InBody text given from_line body line)
+
+abbrev Goes : List ℕ → Type 0
+Goes text = Stands text ⊎ NeverFrom text
+
+-- one byte more
+head-byte : (text : List ℕ) (given : List Entry) (line : List ℕ) (c : ℕ) → AtHead text given line → Goes (text ++ c ∷ [])
+head-byte text given line c a =
+    elim (cases_Bool (eqb c 10)) [
+      | inl e ↦
+          let is : c ≡ 10 = eqb-true c 10 e in
+          elim (cases_Bool (begins_from line)) [
+            | inl b ↦ rw is (inl (inr (given, line, [], [], head-ends text given line a b)))
+            | inr b ↦
+                let s = at_start text given line a b in
+                rw (is, s.1) (inr (begins_from-push line ∙ b, begins_with-ended line from_bytes (refl, (refl, (refl, (refl, (refl, tt)))))))
+          ]
+      | inr e ↦
+          elim (cases_Bool (begins_from (line ++ c ∷ []))) [
+            | inl b ↦ inl (inl (given, line ++ c ∷ [], head-add text given line (c ∷ []) a (e, tt) (inl b)))
+            | inr b ↦
+                elim (cases_Bool (begins_with (line ++ c ∷ []) from_bytes)) [
+                  | inl s ↦ inl (inl (given, line ++ c ∷ [], head-add text given line (c ∷ []) a (e, tt) (inr s)))
+                  | inr s ↦
+                      elim (cases_Bool (begins_from line)) [
+                        | inl y ↦ absurd (both_ways (begins_from (line ++ c ∷ [])) b (begins_from-more line (c ∷ []) y))
+                        | inr n ↦ let t = at_start text given line a n in rw (t.1) (inr (b, s))
+                      ]
+                ]
+          ]
+    ]
+
+body-byte : (text : List ℕ) (given : List Entry) (f body line : List ℕ) (c : ℕ) → InBody text given f body line → Goes (text ++ c ∷ [])
+body-byte text given f body line c a =
+    elim (cases_Bool (eqb c 10)) [
+      | inl e ↦
+          let is : c ≡ 10 = eqb-true c 10 e in
+          rw is (inl (inr (given, f, (body ++ unquoted line) ++ 10 ∷ [], [], body-ends text given f body line a)))
+      | inr e ↦
+          elim (cases_Bool (begins_from (line ++ c ∷ []))) [
+            | inl b ↦
+                let entry : Entry = record { from_line = f; body = chopped body } in
+                inl (inl (given ++ entry ∷ [], line ++ c ∷ [], body-closes text given f body line (c ∷ []) entry a (e, tt) b refl refl))
+            | inr b ↦ inl (inr (given, f, body, line ++ c ∷ [], body-add text given f body line (c ∷ []) a (e, tt) b))
+          ]
+    ]
+
+goes-byte : (text : List ℕ) (c : ℕ) → Goes text → Goes (text ++ c ∷ [])
+goes-byte text c (inl (inl h)) = head-byte text h.0 h.1 c h.2
+goes-byte text c (inl (inr h)) = body-byte text h.0 h.1 h.2 h.3 c h.4
+goes-byte text c (inr n) = inr (never-more text (c ∷ []) n)
+
+goes-on : (more text : List ℕ) → Goes text → Goes (text ++ more)
+goes-on [] text g = rw (append-nil text) g
+goes-on (c ∷ more) text g = rw (← append_assoc text (c ∷ []) more) (goes-on more (text ++ c ∷ []) (goes-byte text c g))
+
+goes : (text : List ℕ) → Goes text
+goes text = goes-on text [] (inl (inl ([], [], held_none [] refl)))
+
+head-last : (text : List ℕ) (given : List Entry) (line : List ℕ) → AtHead text given line → begins_from line ≡ true → (last : Entry) × Mbox text (given ++ last ∷ [])
+unfolding without_blank
+head-last text given line a b =
+    let entry : Entry = record { from_line = line; body = [] } in
+    (entry, rw a.is (closed-last a.front given line entry a.closed (from-block line entry a.part b refl refl)))
+
+pub head-all : (text : List ℕ) (given : List Entry) (line : List ℕ) → AtHead text given line → AllButLast text given
+unfolding Closed
+head-all text given line a = elim (a.head) [
+  | inl b ↦ let m = head-last text given line a b in inl (mbox-begins-last text given m.0 m.1, m)
+  | inr g ↦ let none = rw (g.0) at a.closed in inr (rw (a.is, none) g.1, g.0)
+]
+
+body-last : (text : List ℕ) (given : List Entry) (f body line : List ℕ) → InBody text given f body line → (last : Entry) × Mbox text (given ++ last ∷ [])
+body-last text given f body line a =
+    let entry : Entry = record { from_line = f; body = chopped (body ++ unquoted line) } in
+    (entry, rw a.is (closed-last a.front given (a.block ++ line) entry a.closed (open-last a.block f body line entry a.opened a.part a.tail refl refl)))
+
+pub body-all : (text : List ℕ) (given : List Entry) (f body line : List ℕ) → InBody text given f body line → AllButLast text given
+body-all text given f body line a = let m = body-last text given f body line a in inl (mbox-begins-last text given m.0 m.1, m)
+
+exists-at : (text : List ℕ) → begins_from text ≡ true → Goes text → (entries : List Entry) × Mbox text entries
+exists-at text b (inl (inl h)) =
+    elim (cases_Bool (begins_from h.1)) [
+      | inl y ↦ let m = head-last text h.0 h.1 h.2 y in (h.0 ++ m.0 ∷ [], m.1)
+      | inr n ↦ let s = at_start text h.0 h.1 h.2 n in absurd (both_ways (begins_from h.1) n (rw s.1 at b))
+    ]
+exists-at text b (inl (inr h)) = let m = body-last text h.0 h.1 h.2 h.3 h.4 in (h.0 ++ m.0 ∷ [], m.1)
+exists-at text b (inr n) = absurd (both_ways (begins_from text) n.0 b)
+
+exists : (text : List ℕ) → IsMboxText text → (entries : List Entry) × Mbox text entries
+unfolding Mbox
+exists text (inl e) = ([], e)
+exists text (inr b) = exists-at text b (goes text)
+
+accepted : (text : List ℕ) (entries : List Entry) → Mbox text entries → IsMboxText text
+unfolding Mbox
+accepted text [] h = inl h
+accepted text (e ∷ es) h = inr (mbox-begins text e es h)
+
+pub read_where : (text : List ℕ) → IsMboxText text ↔ ((entries : List Entry) × Mbox text entries)
+read_where text = (exists text, λ h. accepted text h.0 h.1)

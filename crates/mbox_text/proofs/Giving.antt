@@ -1,0 +1,131 @@
+-- What a splitter has given: all messages but the last, whatever comes behind the text.
+use Rattle.std.proofs.Common.{◌≡◌, ℕ, ◌+◌, ◌<◌, ◌≤◌, Bool, true, false, List, [], ◌∷◌, ◌++◌, length, refl, sym, ◌∙◌, ap, arith, append_assoc, inl, inr, Option, Some, None, Result, Ok, Err}
+use Rattle.std.specs.Prelude.{◌⊎◌, OnErr}
+use Rattle.std.proofs.lemmas.Bool.{both_ways, false≢true}
+use Rattle.std.proofs.lemmas.List.{append-nil, length-append}
+use Rattle.mbox_text.specs.declared.entry.Entry.{Entry}
+use Rattle.mbox_text.specs.declared.message.Message.{Message}
+use Rattle.mbox_text.specs.declared.splitter.Splitter.{Splitter}
+use Rattle.mbox_text.specs.Quoting.{begins_with, begins_from, from_bytes}
+use Rattle.mbox_text.specs.Mbox.{Mbox, IsProperFront, without_blank}
+use Rattle.mbox_text.specs.Held.{AtHead, InBody, Held, Moves, Refused, Stay, Breaks}
+use Rattle.mbox_text.specs.Fed.{HasFailed, AllButLast, Fed, Takes, NeverBegins, TakesPart}
+use Rattle.mbox_text.proofs.LineLemmas.{begins_from-more}
+use Rattle.mbox_text.proofs.Heads.{from-rest}
+use Rattle.mbox_text.proofs.Last.{from-block}
+use Rattle.mbox_text.proofs.Prefixes.{closed-front}
+use Rattle.mbox_text.proofs.Existence.{head-all, body-all}
+
+held-stay : (message : Option Message) (text : List ℕ) (given : List Entry) (line : List ℕ) → Held text given message line → Stay text given
+held-stay None text given line a more entries h =
+    let texts : text ++ more ≡ a.front ++ (line ++ more) = ap (λ z. z ++ more) a.is ∙ append_assoc a.front line more in
+    elim (a.head) [
+      | inl b ↦ inr (closed-front a.front (line ++ more) given entries a.closed (begins_from-more line more b) (rw texts at h))
+      | inr g ↦ inl g.0
+    ]
+held-stay (Some m) text given line a more entries h =
+    let texts : text ++ more ≡ a.front ++ ((a.block ++ line) ++ more) = ap (λ z. z ++ more) a.is ∙ append_assoc a.front (a.block ++ line) more in
+    let o = a.opened in
+    let heads : begins_from a.block ≡ true = rw o.is (begins_from-more m.from_line.items (10 ∷ o.others) o.head) in
+    inr (closed-front a.front ((a.block ++ line) ++ more) given entries a.closed (begins_from-more (a.block ++ line) more (begins_from-more a.block line heads)) (rw texts at h))
+
+stay-more : (text more : List ℕ) (given : List Entry) → Stay text given → Stay (text ++ more) given
+stay-more text more given s more' entries h = s (more ++ more') entries (rw (append_assoc text more more') at h)
+
+held-all : (message : Option Message) (text : List ℕ) (given : List Entry) (line : List ℕ) → Held text given message line → AllButLast text given
+held-all None text given line a = head-all text given line a
+held-all (Some m) text given line a = body-all text given m.from_line.items m.body.items line a
+
+-- a growth was refused before anything of the piece was given
+pub breaks_at_once : (m : Option Message) (l piece : List ℕ) (out out' : List Entry) → out' ≡ out → Breaks m l piece out out'
+breaks_at_once m l piece out out' e =
+    ([], e ∙ sym (append-nil out), λ text given h. rw (append-nil given) (stay-more text piece given (held-stay m text given l h)))
+
+-- a growth was refused behind a part of the piece
+pub breaks_after : (m m' : Option Message) (l l' p q whole : List ℕ) (a out out' : List Entry) → Moves m l p a m' l' → whole ≡ p ++ q → out' ≡ out ++ a
+    → Breaks m l whole out out'
+breaks_after m m' l l' p q whole a out out' f is e = (a, e, λ text given h.
+    let s = stay-more (text ++ p) q (given ++ a) (held-stay m' (text ++ p) (given ++ a) l' (f text given h)) in
+    rw (is, ← append_assoc text p q) s)
+
+pub breaks_later : (m m' : Option Message) (l l' p q whole : List ℕ) (a out out1 out' : List Entry) → Moves m l p a m' l' → Breaks m' l' q out1 out'
+    → whole ≡ p ++ q → out1 ≡ out ++ a → Breaks m l whole out out'
+breaks_later m m' l l' p q whole a out out1 out' f b is e =
+    let A : List Entry → List Entry = λ z. z ++ b.0 in
+    (a ++ b.0, b.1 ∙ ap A e ∙ append_assoc out a b.0, λ text given h.
+      let s = b.2 (text ++ p) (given ++ a) (f text given h) in
+      rw (is, ← append_assoc text p q, ← append_assoc given a b.0) s)
+
+pub fed_from : (splitter : Splitter) (text : List ℕ) (given : List Entry) → splitter.failed ≡ false → Held text given splitter.message splitter.line.items → Fed text given splitter
+fed_from splitter text given works h = record {
+  works = λ t. both_ways splitter.failed works t;
+  given_are = held-all splitter.message text given splitter.line.items h;
+  stay = held-stay splitter.message text given splitter.line.items h;
+  held = h;
+}
+
+pub fed_takes : (old new : Splitter) (piece : List ℕ) (out out' : List Entry) → new.failed ≡ false
+    → (added : List Entry) × (out' ≡ out ++ added) × Moves old.message old.line.items piece added new.message new.line.items → Takes old piece out out' new
+fed_takes old new piece out out' works m =
+    (m.0, m.1, λ text given h. fed_from new (text ++ piece) (given ++ m.0) works (m.2 text given h.held))
+
+pub fed_never : (old : Splitter) (piece : List ℕ) (out out' : List Entry) → Refused old.message old.line.items piece out out' → NeverBegins old piece out out'
+fed_never old piece out out' r = λ text given h. let x = r text given h.held in (x.1, x.2)
+
+-- the same entries come off the front
+cancel : (given a b : List Entry) → given ++ a ≡ given ++ b → a ≡ b
+cancel [] a b e = e
+cancel (g ∷ given) a b e = cancel given a b (cc)
+
+nil-right : (a b : List Entry) → a ++ b ≡ [] → b ≡ []
+nil-right [] b e = e
+nil-right (x ∷ a) b e = absurd (cc)
+
+front-cut : (added all rest : List Entry) (last next : Entry) → all ++ last ∷ [] ≡ added ++ next ∷ rest → (r : List Entry) × (all ≡ added ++ r)
+front-cut [] all rest last next e = (all, refl)
+front-cut (x ∷ []) [] rest last next e = absurd (cc)
+front-cut (x ∷ y ∷ added) [] rest last next e = absurd (cc)
+front-cut (x ∷ added) (y ∷ all) rest last next e =
+    let heads : y ≡ x = cc in
+    let tails : all ++ last ∷ [] ≡ added ++ next ∷ rest = cc in
+    let r = front-cut added all rest last next tails in
+    let is : all ≡ added ++ r.0 = r.1 in
+    (r.0, cc)
+
+only-front : (given rest : List Entry) (last next : Entry) → last ∷ [] ≡ given ++ next ∷ rest → given ≡ []
+only-front [] rest last next e = refl
+only-front (g ∷ []) rest last next e = absurd (cc)
+only-front (g ∷ h ∷ given) rest last next e = absurd (cc)
+
+from-alone : (entry : Entry) × Mbox from_bytes (entry ∷ [])
+unfolding Mbox without_blank begins_from
+from-alone =
+    let entry : Entry = record { from_line = from_bytes; body = [] } in
+    (entry, (from_bytes, [], refl, from-block from_bytes entry (refl, (refl, (refl, (refl, (refl, tt))))) refl refl refl, inr refl, refl))
+
+-- what stays is the first of what is given where nothing is refused
+part : (text : List ℕ) (given added all : List Entry) → Stay text (given ++ added) → AllButLast text (given ++ all) → (rest : List Entry) × (all ≡ added ++ rest)
+part text given added all s (inl h) =
+    let texts : text ++ [] ≡ text = append-nil text in
+    elim (s [] ((given ++ all) ++ h.1.0 ∷ []) (rw texts h.1.1)) [
+      | inl none ↦ let n = nil-right given added none in (all, rw n refl)
+      | inr f ↦
+          let e : all ++ h.1.0 ∷ [] ≡ added ++ f.0 ∷ f.1 =
+          cancel given (all ++ h.1.0 ∷ []) (added ++ f.0 ∷ f.1) (sym (append_assoc given all (h.1.0 ∷ [])) ∙ f.2 ∙ append_assoc given added (f.0 ∷ f.1)) in
+          front-cut added all f.1 h.1.0 f.0 e
+    ]
+part text given added all s (inr h) =
+    let m = from-rest text h.0 in
+    let e = from-alone in
+    let none : given ++ added ≡ [] = elim (s m.0 (e.0 ∷ []) (rw m.1 e.1)) [ inl none ↦ none | inr f ↦ only-front (given ++ added) f.1 e.0 f.0 f.2 ] in
+    let n = nil-right given added none in
+    (all, rw n refl)
+
+pub fed_part : (old : Splitter) (piece : List ℕ) (out out' : List Entry) → Breaks old.message old.line.items piece out out' → TakesPart old piece out out'
+fed_part old piece out out' b =
+    (b.0, b.1, λ text given all h is_all. part (text ++ piece) given b.0 all (b.2 text given h.held) is_all)
+
+-- what holds in any case holds of an error
+pub on_err : {T E : Type 0} (r : Result T E) (P : Type 0) → P → OnErr r P
+on_err (Ok x) P p = tt
+on_err (Err e) P p = p

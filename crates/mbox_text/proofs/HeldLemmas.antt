@@ -1,0 +1,163 @@
+-- What a splitter holds, step by step.
+use Rattle.std.proofs.Common.{◌≡◌, ℕ, Bool, true, false, eqb, List, [], ◌∷◌, ◌++◌, refl, sym, ◌∙◌, ap, append_assoc, inl, inr}
+use Rattle.std.specs.Prelude.{◌⊎◌, ◌&&◌}
+use Rattle.std.specs.List.{flat_map}
+use Rattle.std.proofs.lemmas.Bool.{both_ways, cases_Bool, false≢true}
+use Rattle.std.proofs.lemmas.List.{append-nil}
+use Rattle.std.proofs.lemmas.List.Concat.{flat_map-append}
+use Rattle.mbox_text.specs.declared.entry.Entry.{Entry}
+use Rattle.mbox_text.specs.Lines.{lines, Ended, NoEnd}
+use Rattle.mbox_text.specs.Quoting.{quotable, unquoted, begins_from, begins_with, from_bytes}
+use Rattle.mbox_text.specs.Mbox.{without_blank, NoFrom, unended, Block, Mbox}
+use Rattle.std.specs.Prelude.{Option, Some, None}
+use Rattle.mbox_text.specs.declared.message.Message.{Message}
+use Rattle.mbox_text.specs.Held.{chopped, Closed, Open, AtHead, InBody, Held, Moves}
+use Rattle.mbox_text.proofs.LineLemmas.{lines-append, lines-line, lines-part, unquoted-push, begins_from-push, begins_from-more}
+use Rattle.mbox_text.proofs.Chopped.{chopped-body}
+
+pub NoEnd-append : (a b : List ℕ) → NoEnd a → NoEnd b → NoEnd (a ++ b)
+NoEnd-append [] b h h' = h'
+NoEnd-append (c ∷ a) b h h' = (h.0, NoEnd-append a b h.1 h')
+
+pub NoFrom-append : (a b : List (List ℕ)) → NoFrom a → NoFrom b → NoFrom (a ++ b)
+NoFrom-append [] b h h' = h'
+NoFrom-append (c ∷ a) b h h' = (h.0, NoFrom-append a b h.1 h')
+
+pub Ended-append : (a b : List ℕ) → Ended a → Ended b → Ended (a ++ b)
+Ended-append a b h (inl e) = rw e (rw (append-nil a) h)
+Ended-append a b h (inr e) = inr (a ++ e.0, rw e.1 (sym (append_assoc a e.0 (10 ∷ []))))
+
+pub unended-push : (l : List ℕ) → NoEnd l → unended (l ++ 10 ∷ []) ≡ l
+unended-push [] h = refl
+unended-push (c ∷ l) h = rw (h.0, unended-push l h.1) refl
+
+pub Closed-push : (text : List ℕ) (given : List Entry) (block : List ℕ) (e : Entry) → Closed text given → Block block e → Ended block → Closed (text ++ block) (given ++ e ∷ [])
+unfolding Closed
+Closed-push text [] block e h b ends = (block, [], rw h (sym (append-nil block)), b, ends, refl)
+Closed-push text (g ∷ given) block e h b ends =
+    (h.0, h.1 ++ block, rw h.2 (append_assoc h.0 h.1 block), h.3, h.4, Closed-push h.1 given block e h.5 b ends)
+
+open-ends : (block f body : List ℕ) → Open block f body → Ended block
+open-ends block f body o = elim (o.ended) [
+  | inl e ↦ inr (f, rw (o.is, e) refl)
+  | inr e ↦ inr (f ++ 10 ∷ e.0, rw (o.is, e.1) (sym (append_assoc f (10 ∷ e.0) (10 ∷ []))))
+]
+
+pub open-block : (block f body : List ℕ) (e : Entry) → Open block f body → e.from_line ≡ f → e.body ≡ chopped body → Block block e
+open-block block f body e o is_line is_body = record {
+  first = f ++ 10 ∷ [];
+  others = lines o.others;
+  is = rw o.is (lines-line f o.others o.line);
+  head = begins_from-more f (10 ∷ []) o.head;
+  tail = o.tail;
+  from_line = is_line ∙ sym (unended-push f o.line);
+  body = is_body ∙ ap chopped o.as_read ∙ chopped-body o.others o.ended;
+}
+
+-- more comes of a From_ line
+pub head-add : (text : List ℕ) (given : List Entry) (line part : List ℕ) → AtHead text given line → NoEnd part
+    → (begins_from (line ++ part) ≡ true) ⊎ (begins_with (line ++ part) from_bytes ≡ true) → AtHead (text ++ part) given (line ++ part)
+head-add text given line part a h b = record {
+  front = a.front;
+  is = rw a.is (append_assoc a.front line part);
+  closed = a.closed;
+  part = NoEnd-append line part a.part h;
+  head = elim b [ inl y ↦ inl y | inr p ↦ elim (a.head) [ inl y ↦ inl (begins_from-more line part y) | inr g ↦ inr (g.0, p) ] ];
+}
+
+-- more comes of a line that begins no message
+pub body-add : (text : List ℕ) (given : List Entry) (f body line part : List ℕ) → InBody text given f body line → NoEnd part
+    → begins_from (line ++ part) ≡ false → InBody (text ++ part) given f body (line ++ part)
+body-add text given f body line part a h b = record {
+  front = a.front;
+  block = a.block;
+  is = rw a.is (append_assoc a.front (a.block ++ line) part ∙ ap (λ x. a.front ++ x) (append_assoc a.block line part));
+  closed = a.closed;
+  opened = a.opened;
+  part = NoEnd-append line part a.part h;
+  tail = b;
+}
+
+-- the line begins the next message
+pub body-closes : (text : List ℕ) (given : List Entry) (f body line part : List ℕ) (e : Entry) → InBody text given f body line → NoEnd part
+    → begins_from (line ++ part) ≡ true → e.from_line ≡ f → e.body ≡ chopped body → AtHead (text ++ part) (given ++ e ∷ []) (line ++ part)
+body-closes text given f body line part e a h b is_line is_body = record {
+  front = a.front ++ a.block;
+  is = rw a.is (append_assoc a.front (a.block ++ line) part ∙ ap (λ x. a.front ++ x) (append_assoc a.block line part) ∙ sym (append_assoc a.front a.block (line ++ part)));
+  closed = Closed-push a.front given a.block e a.closed (open-block a.block f body e a.opened is_line is_body) (open-ends a.block f body a.opened);
+  part = NoEnd-append line part a.part h;
+  head = inl b;
+}
+
+-- the From_ line is whole
+pub head-ends : (text : List ℕ) (given : List Entry) (line : List ℕ) → AtHead text given line → begins_from line ≡ true
+    → InBody (text ++ 10 ∷ []) given line [] []
+unfolding lines begins_from
+head-ends text given line a b = record {
+  front = a.front;
+  block = line ++ 10 ∷ [];
+  is = rw a.is (rw (append-nil (line ++ 10 ∷ [])) (append_assoc a.front line (10 ∷ [])));
+  closed = a.closed;
+  opened = record { others = []; is = refl; head = b; line = a.part; ended = inl refl; tail = tt; as_read = refl };
+  part = tt;
+  tail = refl;
+}
+
+-- whole lines that begin no message
+pub body-lines : (text : List ℕ) (given : List Entry) (f body part : List ℕ) → InBody text given f body [] → Ended part → NoFrom (lines part)
+    → InBody (text ++ part) given f (body ++ flat_map unquoted (lines part)) []
+unfolding lines begins_from
+body-lines text given f body part a ends none =
+    let o = a.opened in
+    record {
+      front = a.front;
+      block = a.block ++ part;
+      is = rw a.is (rw (append-nil (a.block ++ part), append-nil a.block) (append_assoc a.front a.block part));
+      closed = a.closed;
+      opened = record {
+        others = o.others ++ part;
+        is = rw o.is (append_assoc f (10 ∷ o.others) part);
+        head = o.head;
+        line = o.line;
+        ended = Ended-append o.others part o.ended ends;
+        tail = rw (lines-append o.others part o.ended) (NoFrom-append (lines o.others) (lines part) o.tail none);
+        as_read = rw (o.as_read, lines-append o.others part o.ended) (sym (flat_map-append unquoted (lines o.others) (lines part)));
+      };
+      part = tt;
+      tail = refl;
+    }
+
+-- without the line
+body-whole : (text : List ℕ) (given : List Entry) (f body line : List ℕ) → (a : InBody text given f body line)
+    → InBody (a.front ++ a.block) given f body []
+unfolding begins_from
+body-whole text given f body line a = record {
+  front = a.front;
+  block = a.block;
+  is = rw (append-nil a.block) refl;
+  closed = a.closed;
+  opened = a.opened;
+  part = tt;
+  tail = refl;
+}
+
+-- a line is whole that begins no message
+pub body-ends : (text : List ℕ) (given : List Entry) (f body line : List ℕ) → InBody text given f body line
+    → InBody (text ++ 10 ∷ []) given f ((body ++ unquoted line) ++ 10 ∷ []) []
+unfolding lines
+body-ends text given f body line a =
+    let part : List ℕ = line ++ 10 ∷ [] in
+    let one : lines part ≡ part ∷ [] = lines-line line [] a.part in
+    let none : NoFrom (lines part) = rw one (begins_from-push line ∙ a.tail, tt) in
+    let whole = body-lines (a.front ++ a.block) given f body part (body-whole text given f body line a) (inr (line, refl)) none in
+    let texts : (a.front ++ a.block) ++ part ≡ text ++ 10 ∷ [] = rw a.is (simp append_assoc) in
+    let bodies : body ++ flat_map unquoted (lines part) ≡ (body ++ unquoted line) ++ 10 ∷ [] = rw (one, append-nil (unquoted part), unquoted-push line) (sym (append_assoc body (unquoted line) (10 ∷ []))) in
+    rw (← texts, ← bodies) whole
+
+pub moves-then : (m m' m'' : Option Message) (l l' l'' p q : List ℕ) (a b : List Entry) → Moves m l p a m' l' → Moves m' l' q b m'' l'' → Moves m l (p ++ q) (a ++ b) m'' l''
+moves-then m m' m'' l l' l'' p q a b f g = λ text given h.
+    let r = g (text ++ p) (given ++ a) (f text given h) in
+    rw (← append_assoc text p q, ← append_assoc given a b) r
+
+pub moves-none : (m : Option Message) (l : List ℕ) → Moves m l [] [] m l
+moves-none m l = λ text given h. rw (append-nil text, append-nil given) h

@@ -1,0 +1,168 @@
+-- Lemmas on lines and quoting.
+use Rattle.std.proofs.Common.{◌≡◌, ℕ, Bool, true, false, cond, eqb, List, [], ◌∷◌, ◌++◌, ◌+◌, ◌<◌, add-zero, length, get_or, drop, refl, sym, ◌∙◌, ap, arith, append_assoc, inl, inr}
+use Rattle.std.specs.Prelude.{◌&&◌, ◌⊎◌, ◌==◌, MatchBool}
+use Rattle.std.specs.List.{flat_map, concat, starts_with}
+use Rattle.std.proofs.lemmas.Bool.{false≢true, cases_Bool, eqb-true, ne_eqb, eq-eqb, cases_lt, and_parts, and_from}
+use Rattle.std.proofs.lemmas.List.{drop_more, drop_all, get_or-drop}
+use Rattle.std.proofs.lemmas.List.Concat.{flat_map-append}
+use Rattle.mbox_text.specs.Lines.{before_first, lines, Ended, NoEnd}
+use Rattle.mbox_text.specs.Quoting.{begins_with, begins_from, from_bytes, quotable, quoted, unquoted}
+
+pub unquoted_quoted : (line : List ℕ) → unquoted (quoted line) ≡ line
+unfolding unquoted quoted quotable
+unquoted_quoted [] = refl
+unquoted_quoted (c ∷ line) =
+    elim (cases_Bool (eqb c 62)) [
+      | inl e ↦ elim (cases_Bool (quotable line)) [ inl q ↦ rw (e, q) (rw (e, q) refl) | inr q ↦ rw (e, q) (rw (e, q) refl) ]
+      | inr e ↦ elim (cases_Bool (begins_from (c ∷ line))) [ inl q ↦ rw (e, q) (rw (e, q) refl) | inr q ↦ rw (e, q) (rw e refl) ]
+    ]
+
+pub quoted_no_from : (line : List ℕ) → begins_from (quoted line) ≡ false
+unfolding quoted quotable begins_from
+quoted_no_from [] = refl
+quoted_no_from (c ∷ line) =
+    elim (cases_Bool (quotable (c ∷ line))) [
+      | inl q ↦ rw q refl
+      | inr q ↦ rw q (elim (cases_Bool (eqb c 62)) [
+        | inl e ↦ rw (eqb-true c 62 e) refl
+        | inr e ↦ rw e at q
+      ])
+    ]
+
+-- a line comes off the front
+pub lines-line : (line rest : List ℕ) → NoEnd line → lines (line ++ 10 ∷ rest) ≡ (line ++ 10 ∷ []) ∷ lines rest
+unfolding lines
+lines-line [] rest h = refl
+lines-line (c ∷ line) rest h = rw (h.0, lines-line line rest h.1) refl
+
+-- what has no `\n` is one line
+pub lines-part : (c : ℕ) (line : List ℕ) → NoEnd (c ∷ line) → lines (c ∷ line) ≡ (c ∷ line) ∷ []
+unfolding lines
+lines-part c [] h = rw h.0 refl
+lines-part c (d ∷ line) h = rw (h.0, lines-part d line h.1) refl
+
+-- a text that is not empty has a first line
+before_first-is : (c : ℕ) (ls : List (List ℕ)) → (first : List ℕ) × (rest : List (List ℕ)) × (before_first c ls ≡ first ∷ rest)
+before_first-is c [] = (c ∷ [], [], refl)
+before_first-is c (l ∷ ls) = (c ∷ l, ls, refl)
+
+pub lines-first : (c : ℕ) (text : List ℕ) → (first : List ℕ) × (rest : List (List ℕ)) × (lines (c ∷ text) ≡ first ∷ rest)
+unfolding lines
+lines-first c text =
+    elim (cases_Bool (eqb c 10)) [ inl e ↦ (10 ∷ [], lines text, rw e refl) | inr e ↦ rw e (before_first-is c (lines text)) ]
+
+pub lines-last : (front : List ℕ) → (first : List ℕ) × (rest : List (List ℕ)) × (lines (front ++ 10 ∷ []) ≡ first ∷ rest)
+lines-last [] = lines-first 10 []
+lines-last (c ∷ front) = lines-first c (front ++ 10 ∷ [])
+
+-- a text that ends with a `\n` has its own lines
+lines-cut : (front back : List ℕ) → lines (front ++ 10 ∷ back) ≡ lines (front ++ 10 ∷ []) ++ lines back
+unfolding lines
+lines-cut [] back = refl
+lines-cut (c ∷ front) back =
+    elim (cases_Bool (eqb c 10)) [
+      | inl e ↦ rw (e, lines-cut front back) refl
+      | inr e ↦ let f = lines-last front in rw (e, lines-cut front back) (rw f.2 refl)
+    ]
+
+pub lines-append : (front back : List ℕ) → Ended front → lines (front ++ back) ≡ lines front ++ lines back
+unfolding lines
+lines-append front back (inl e) = rw e refl
+lines-append front back (inr e) = rw (e.1) (rw append_assoc (lines-cut e.0 back))
+
+-- the lines make up the text
+concat-before : (c : ℕ) (ls : List (List ℕ)) → concat (before_first c ls) ≡ c ∷ concat ls
+concat-before c [] = refl
+concat-before c (l ∷ ls) = refl
+
+pub concat-lines : (text : List ℕ) → concat (lines text) ≡ text
+unfolding lines
+concat-lines [] = refl
+concat-lines (c ∷ text) =
+    elim (cases_Bool (eqb c 10)) [
+      | inl e ↦ rw (e, concat-lines text) (ap (λ x. x ∷ text) (sym (eqb-true c 10 e)))
+      | inr e ↦ rw (e, concat-before c (lines text), concat-lines text) refl
+    ]
+
+-- one list of lines is one text
+pub lines-one : (s t : List ℕ) → lines s ≡ lines t → s ≡ t
+lines-one s t e = sym (concat-lines s) ∙ ap concat e ∙ concat-lines t
+
+-- the `\n` of a line plays no part in its front
+begins_with-push : (prefix line : List ℕ) → NoEnd prefix → begins_with prefix (line ++ 10 ∷ []) ≡ begins_with prefix line
+begins_with-push [] line h = refl
+begins_with-push (p ∷ prefix) [] h = rw h.0 refl
+begins_with-push (p ∷ prefix) (c ∷ line) h = rw (begins_with-push prefix line h.1) refl
+
+pub begins_from-push : (line : List ℕ) → begins_from (line ++ 10 ∷ []) ≡ begins_from line
+unfolding begins_from
+begins_from-push line = begins_with-push from_bytes line (refl, (refl, (refl, (refl, (refl, tt)))))
+
+pub quotable-push : (line : List ℕ) → quotable (line ++ 10 ∷ []) ≡ quotable line
+unfolding quotable begins_from
+quotable-push [] = refl
+quotable-push (c ∷ line) = rw (quotable-push line, begins_from-push (c ∷ line)) refl
+
+pub unquoted-push : (line : List ℕ) → unquoted (line ++ 10 ∷ []) ≡ unquoted line ++ 10 ∷ []
+unfolding unquoted
+unquoted-push [] = refl
+unquoted-push (c ∷ line) = rw (quotable-push line) (elim (cases_Bool (eqb c 62 && quotable line)) [ inl e ↦ rw e refl | inr e ↦ rw e refl ])
+
+-- a longer line begins so too
+begins_with-more : (prefix line more : List ℕ) → begins_with prefix line ≡ true → begins_with prefix (line ++ more) ≡ true
+begins_with-more [] line more h = refl
+begins_with-more (p ∷ prefix) [] more h = absurd (false≢true h)
+begins_with-more (p ∷ prefix) (c ∷ line) more h = let a = and_parts (eqb p c) (begins_with prefix line) h in
+    and_from (eqb p c) (begins_with prefix (line ++ more)) a.0 (begins_with-more prefix line more a.1)
+
+pub begins_from-more : (line more : List ℕ) → begins_from line ≡ true → begins_from (line ++ more) ≡ true
+unfolding begins_from
+begins_from-more line more h = begins_with-more from_bytes line more h
+
+pub begins_with-starts : (prefix line : List ℕ) → starts_with eqb line prefix ≡ begins_with prefix line
+begins_with-starts [] line = refl
+begins_with-starts (p ∷ prefix) [] = refl
+begins_with-starts (p ∷ prefix) (c ∷ line) = ap (λ b. eqb p c && b) (begins_with-starts prefix line)
+
+pub begins_from-starts : (line : List ℕ) → starts_with eqb line from_bytes ≡ begins_from line
+unfolding begins_from
+begins_from-starts line = begins_with-starts from_bytes line
+
+-- one `>` more
+pub quotable-mark : (line : List ℕ) (at : ℕ) → at < length line → get_or line at 0 ≡ 62 → quotable (drop at line) ≡ quotable (drop (at + 1) line)
+unfolding quotable
+quotable-mark line at h e = rw (drop_more line at 0 h, e) refl
+
+-- no `>` more
+pub quotable-plain : (line : List ℕ) → (get_or line 0 0 ≡ 62 → ⊥) → quotable line ≡ begins_from line
+unfolding quotable begins_from
+quotable-plain [] h = refl
+quotable-plain (c ∷ line) h = rw (ne_eqb c 62 h) refl
+
+pub unquoted-mark : (line : List ℕ) → get_or line 0 0 ≡ 62 → quotable line ≡ true → unquoted line ≡ drop 1 line
+unfolding unquoted quotable
+unquoted-mark [] e q = refl
+unquoted-mark (c ∷ line) e q = let h : eqb c 62 ≡ true = eq-eqb c 62 e in rw (h, rw h at q) refl
+
+pub unquoted-plain : (line : List ℕ) → (0 < length line → get_or line 0 0 ≡ 62 → ⊥) → unquoted line ≡ line
+unfolding unquoted
+unquoted-plain [] h = refl
+unquoted-plain (c ∷ line) h = rw (ne_eqb c 62 (h (omega arith))) refl
+
+pub unquoted-other : (line : List ℕ) → quotable line ≡ false → unquoted line ≡ line
+unfolding unquoted quotable
+unquoted-other [] q = refl
+unquoted-other (c ∷ line) q =
+    elim (cases_Bool (eqb c 62)) [ inl e ↦ rw (e, rw e at q) refl | inr e ↦ rw e refl ]
+
+pub quotable-stop : (line : List ℕ) (at : ℕ) → (at < length line → get_or line at 0 ≡ 62 → ⊥) → quotable (drop at line) ≡ begins_from (drop at line)
+quotable-stop line at h =
+    quotable-plain (drop at line) (λ e. elim (cases_lt at (length line)) [
+      | inl l ↦ h l (sym (get_or-drop at line 0 0 ∙ ap (λ i. get_or line i 0) (add-zero at)) ∙ e)
+      | inr g ↦ let z : get_or (drop at line) 0 0 ≡ 0 = rw (drop_all at line g) refl in absurd (omega (arith, z, e))
+    ])
+
+pub unquoted_cases : (line : List ℕ) (b : Bool) → 0 < length line → get_or line 0 0 ≡ 62 → b ≡ quotable line
+    → MatchBool b ((0 < length line) × (unquoted line ≡ drop 1 line)) (unquoted line ≡ line)
+unquoted_cases line true l e q = (l, unquoted-mark line e (sym q))
+unquoted_cases line false l e q = unquoted-other line (sym q)

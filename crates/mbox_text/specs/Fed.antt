@@ -1,0 +1,52 @@
+-- What a splitter has been fed, and what it has given of it.
+use Rattle.std.specs.Prelude.{◌≡◌, ℕ, ◌<◌, true, List, [], ◌∷◌, ◌++◌, ◌⊎◌, ◌↔◌, Option, IsNone, IsTrue, length, option_to_list}
+use Rattle.mbox_text.specs.declared.entry.Entry.{Entry}
+use Rattle.mbox_text.specs.declared.splitter.Splitter.{Splitter}
+use Rattle.mbox_text.specs.Quoting.{begins_with, begins_from, from_bytes}
+use Rattle.mbox_text.specs.Mbox.{Mbox}
+use Rattle.mbox_text.specs.Held.{Held, Stay, NeverFrom}
+
+-- a feed was refused
+abbrev pub HasFailed : Splitter → Type 0
+HasFailed splitter = IsTrue splitter.failed
+
+-- These are all messages of the text but the last, which may still grow (mbox(5): a message goes on up to the next From_ line).
+-- They are none where the text is a front of `From `.
+abbrev pub AllButLast : List ℕ → List Entry → Type 0
+AllButLast text given =
+    ((begins_from text ≡ true) × ((last : Entry) × Mbox text (given ++ last ∷ [])))
+    ⊎ ((begins_with text from_bytes ≡ true) × (given ≡ []))
+
+-- The splitter was fed this text, no feed was refused, and these are the messages that it has given.
+pub record Fed (text : List ℕ) (given : List Entry) (splitter : Splitter) : Type 0 where
+  pub works : ¬ HasFailed splitter
+  pub given_are : AllButLast text given
+  pub stay : Stay text given
+  pub held : Held text given splitter.message splitter.line.items
+
+-- the messages that were added to these are given of the piece, whatever the splitter was fed before
+abbrev pub Takes : Splitter → List ℕ → List Entry → List Entry → Splitter → Type 0
+Takes old piece out out' new =
+    (added : List Entry) × (out' ≡ out ++ added)
+    × ((text : List ℕ) (given : List Entry) → Fed text given old → Fed (text ++ piece) (given ++ added) new)
+
+-- With the piece no mbox text begins so, whatever the splitter was fed before, and no message is given of it.
+abbrev pub NeverBegins : Splitter → List ℕ → List Entry → List Entry → Type 0
+NeverBegins old piece out out' = (text : List ℕ) (given : List Entry) → Fed text given old → (out' ≡ out) × NeverFrom (text ++ piece)
+
+-- The messages that were added to these are the first of all that the piece would give, whatever the splitter was fed before.
+abbrev pub TakesPart : Splitter → List ℕ → List Entry → List Entry → Type 0
+TakesPart old piece out out' =
+    (added : List Entry) × (out' ≡ out ++ added)
+    × ((text : List ℕ) (given all : List Entry) → Fed text given old → AllButLast (text ++ piece) (given ++ all)
+      → (rest : List Entry) × (all ≡ added ++ rest))
+
+-- With this message those that were given are all of the text, whatever that is; none is left exactly where the text is empty.
+abbrev pub Ends : Splitter → Option Entry → Type 0
+Ends splitter last =
+    (text : List ℕ) (given : List Entry) → Fed text given splitter
+    → Mbox text (given ++ option_to_list last) × (IsNone last ↔ (text ≡ []))
+
+-- the text has bytes, and too few for `From `
+abbrev pub IsTooShort : List ℕ → Type 0
+IsTooShort text = (0 < length text) × (length text < 5)

@@ -1,0 +1,9 @@
+pub mod Lines
+pub mod Quoting
+pub mod FromLine
+pub mod Mbox
+pub mod Split
+pub mod Spelling
+pub mod Writing
+pub mod Held
+pub mod Fed

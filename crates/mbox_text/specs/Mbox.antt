@@ -1,0 +1,61 @@
+-- The messages of an mbox text (mbox(5)).
+use Rattle.std.specs.Prelude.{◌≡◌, ℕ, ◌==◌, false, true, List, [], ◌∷◌, ◌++◌, ◌⊎◌, if◌then◌else◌}
+use Rattle.std.specs.List.{flat_map}
+use Rattle.mbox_text.specs.declared.entry.Entry.{Entry}
+use Rattle.mbox_text.specs.Lines.{lines, Ended}
+use Rattle.mbox_text.specs.Quoting.{begins_from, unquoted}
+
+-- the line as a list of lines, without it if it is `\n` alone
+abbrev pub kept : List ℕ → List (List ℕ)
+kept [] = []
+kept (c ∷ []) = if c == 10 then [] else (c ∷ []) ∷ []
+kept (c ∷ d ∷ l) = (c ∷ d ∷ l) ∷ []
+
+-- the lines without the last of them if that is `\n` alone: the blank line that ends a message (mbox(5))
+unfoldable pub without_blank : List (List ℕ) → List (List ℕ)
+without_blank [] = []
+without_blank (l ∷ []) = kept l
+without_blank (l ∷ m ∷ ls) = l ∷ without_blank (m ∷ ls)
+
+-- no line begins with `From `
+abbrev pub NoFrom : List (List ℕ) → Type 0
+NoFrom [] = Unit {0}
+NoFrom (l ∷ ls) = (begins_from l ≡ false) × NoFrom ls
+
+-- a line without its `\n`
+abbrev pub unended : List ℕ → List ℕ
+unended [] = []
+unended (c ∷ l) = if c == 10 then [] else c ∷ unended l
+
+-- The block is this message's: its first line is the From_ line, no other begins a message, and the others, unquoted and
+-- without the blank line at their end, are the body (mbox(5); that no blank line is wanted before a From_ line is this project's own rule).
+pub record Block (block : List ℕ) (entry : Entry) : Type 0 where
+  pub first : List ℕ
+  pub others : List (List ℕ)
+  pub is : lines block ≡ first ∷ others
+  pub head : begins_from first ≡ true
+  pub tail : NoFrom others
+  pub from_line : entry.from_line ≡ unended first
+  pub body : entry.body ≡ flat_map unquoted (without_blank others)
+
+-- the text is one block for each entry, in order, and each but the last ends with `\n` (mbox(5))
+unfoldable pub Mbox : List ℕ → List Entry → Type 0
+Mbox text [] = text ≡ []
+Mbox text (entry ∷ entries) =
+    (block rest : List ℕ)
+    × (text ≡ block ++ rest)
+    × Block block entry
+    × (Ended block ⊎ (entries ≡ []))
+    × Mbox rest entries
+
+-- the text is empty or begins with `From `: just these texts have messages or none (this project's own rule: a text before the first From_ line is nobody's)
+abbrev pub IsMboxText : List ℕ → Type 0
+IsMboxText text = (text ≡ []) ⊎ (begins_from text ≡ true)
+
+-- the first list holds the first entries of the second, and not all of them
+abbrev pub IsProperFront : List Entry → List Entry → Type 0
+IsProperFront front entries = (next : Entry) × (rest : List Entry) × (entries ≡ front ++ next ∷ rest)
+
+-- no list of messages is the text's
+abbrev pub IsUnreadable : List ℕ → Type 0
+IsUnreadable text = (entries : List Entry) → ¬ Mbox text entries

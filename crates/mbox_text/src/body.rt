@@ -1,0 +1,84 @@
+// A body as it is read: its lines without their quoting, and without the blank line that ends the message.
+ghost use Rattle.std.specs.Prelude.{◌≡◌, ◌-◌, ◌<◌, ◌≤◌, ◌++◌, ◌⊎◌, [], ◌∷◌, true, length, take, drop, IfOk, OnOk, MatchBool};
+ghost use Rattle.std.specs.List.{flat_map};
+ghost use Rattle.mbox_text.specs.Lines.{lines, Ended, NoEnd};
+ghost use Rattle.mbox_text.specs.Quoting.{begins_from, unquoted};
+ghost use Rattle.mbox_text.specs.Mbox.{NoFrom};
+ghost use Rattle.mbox_text.specs.Held.{chopped};
+
+use crate::from_line::begins_with_from;
+use crate::quoting::is_quoted;
+use memchr::memchr;
+use std::alloc::AllocError;
+
+/// Adds a line and its `\n` as it is read.
+pub(crate) fn add_line(body: &mut Vec<u8>, line: &[u8]) -> Result<(), AllocError>
+    ensures { OnOk result (body.new.items ≡ (body.old.items ++ unquoted line.now) ++ 10 ∷ []) }
+{
+    add_unquoted(body, line)?;
+    body.push(b'\n')?;
+    Ok(())
+}
+
+/// Whether the last line is `\n` alone.
+fn last_is_blank(text: &[u8]) -> bool
+    ensures { MatchBool result ((0 < length text.now) × (take (length text.now - 1) text.now ≡ chopped text.now)) (text.now ≡ chopped text.now) }
+{
+    let n = text.len();
+    if n == 0 || text[n - 1] != b'\n' {
+        return false;
+    }
+    if n == 1 {
+        return true;
+    }
+    if text[n - 2] == b'\n' {
+        return true;
+    }
+    false
+}
+
+/// Takes off the last line if that is `\n` alone.
+pub(crate) fn drop_blank(body: &mut Vec<u8>)
+    ensures { body.new.items ≡ chopped body.old.items }
+{
+    if last_is_blank(body) {
+        let n = body.len();
+        body.truncate(n - 1);
+    }
+}
+
+/// Adds a line as it is read.
+pub(crate) fn add_unquoted(body: &mut Vec<u8>, line: &[u8]) -> Result<(), AllocError>
+    ensures { OnOk result (body.new.items ≡ body.old.items ++ unquoted line.now) }
+{
+    if is_quoted(line) {
+        body.extend_from_slice(&line[1..])
+    } else {
+        body.extend_from_slice(line)
+    }
+}
+
+/// Adds the whole lines of the text up to the first From_ line as they are read, and says where that line or the last one begins.
+pub(crate) fn take_lines(body: &mut Vec<u8>, text: &[u8]) -> Result<usize, AllocError>
+    ensures within { IfOk result (λ n. n ≤ length text.now) }
+    ensures added { IfOk result (λ n. body.new.items ≡ body.old.items ++ flat_map unquoted (lines (take n text.now))) }
+    ensures ended { IfOk result (λ n. Ended (take n text.now)) }
+    ensures none { IfOk result (λ n. NoFrom (lines (take n text.now))) }
+    ensures stops { IfOk result (λ n. (begins_from (drop n text.now) ≡ true) ⊎ NoEnd (drop n text.now)) }
+{
+    let mut start = 0;
+    let mut at = 0;
+    while let Some(n) = memchr(b'\n', &text[at..]) {
+        let line = &text[at..at + n + 1];
+        if begins_with_from(line) {
+            break;
+        }
+        if is_quoted(line) {
+            body.extend_from_slice(&text[start..at])?;
+            start = at + 1;
+        }
+        at += n + 1;
+    }
+    body.extend_from_slice(&text[start..at])?;
+    Ok(at)
+}

@@ -1,0 +1,23 @@
+//! Mbox texts: messages out of bytes that come in any pieces.
+#![tactic(auto)]
+
+mod body;
+mod bytes;
+mod entry;
+mod fault;
+mod from_line;
+pub mod laws;
+mod message;
+mod quoting;
+mod split;
+mod splitter;
+mod write;
+
+pub use bytes::Bytes;
+pub use entry::Entry;
+pub use fault::TextFault;
+pub use from_line::is_from_line;
+pub use quoting::is_quotable;
+pub use split::split_all;
+pub use splitter::Splitter;
+pub use write::{write_bytes, write_entry};

@@ -1,0 +1,230 @@
+// The splitter: messages out of a text that comes in pieces.
+ghost use Rattle.std.specs.Prelude.{◌≡◌, ℕ, ◌<◌, ◌≤◌, ◌++◌, ◌⊎◌, ◌↔◌, [], ◌∷◌, List, length, take, IfErr, IfOk, IsErr, IsErrOf, MatchBool, MatchOption, OnErr, OnOk};
+ghost use Rattle.mbox_text.specs.declared.entry.Entry.{Entry as Given};
+ghost use Rattle.mbox_text.specs.Fed.{Ends, Fed, HasFailed, IsTooShort, NeverBegins, Takes, TakesPart};
+ghost use Rattle.mbox_text.specs.Held.{Breaks, Moves, Refused, Refuses};
+ghost use Rattle.mbox_text.specs.Lines.{NoEnd};
+
+use crate::body::{add_line, take_lines};
+use crate::bytes::Bytes;
+use crate::entry::Entry;
+use crate::fault::TextFault;
+use crate::from_line::{begins_with_from, is_from_start};
+use crate::message::Message;
+use memchr::memchr;
+use std::alloc::{AllocError, Global};
+use std::mem;
+
+/// Splits a text that comes in pieces into its messages (mbox(5)). It holds the message that is being read and no other,
+/// and takes time in the bytes alone, however they are cut.
+#[derive(Drop)]
+pub struct Splitter {
+    alloc: Global,
+    failed: bool,
+    // None up to the end of a From_ line
+    message: Option<Message>,
+    // what has come of the last line
+    line: Vec<u8>,
+}
+
+impl Splitter {
+    /// A splitter that was fed nothing. Takes no memory.
+    pub fn new(alloc: Global) -> Splitter
+        ensures { Fed [] [] result }
+    {
+        Splitter {
+            alloc,
+            failed: false,
+            message: None,
+            line: Vec::new(alloc),
+        }
+    }
+
+    /// Takes the next piece of the text, and appends each message that is whole now: after Ok, all calls together have
+    /// appended all messages of the text so far but the last.
+    ///
+    /// Errors: `NoFromLine` where the text so far neither begins with `From ` nor is a front of it, and `OutOfMemory`,
+    /// where the first of the messages may have been appended. From then on `Failed`.
+    pub fn feed(&mut self, piece: &[u8], out: &mut Vec<Entry>) -> Result<(), TextFault>
+        ensures fed { OnOk result (Takes self.old piece.now out.old.items out.new.items self.new) }
+
+        // what a refusal means and leaves
+        ensures no_from_line { IsErrOf result TextFault.NoFromLine → NeverBegins self.old piece.now out.old.items out.new.items }
+        ensures out_of_memory { IsErrOf result TextFault.OutOfMemory → TakesPart self.old piece.now out.old.items out.new.items }
+        ensures failed { IsErrOf result TextFault.Failed ↔ HasFailed self.old }
+        ensures unchanged { IsErrOf result TextFault.Failed → out.new.items ≡ out.old.items }
+
+        ensures causes { IfErr result (λ fault. (fault ≡ TextFault.NoFromLine) ⊎ ((fault ≡ TextFault.Failed) ⊎ (fault ≡ TextFault.OutOfMemory))) }
+        ensures state { HasFailed self.new ↔ IsErr result }
+    {
+        if self.failed {
+            return Err(TextFault::Failed);
+        }
+        match self.take_piece(piece, out) {
+            Ok(true) => Ok(()),
+            Ok(false) => {
+                self.failed = true;
+                Err(TextFault::NoFromLine)
+            }
+            Err(_) => {
+                self.failed = true;
+                Err(TextFault::OutOfMemory)
+            }
+        }
+    }
+
+    /// The last message of the text, or None where nothing was fed.
+    ///
+    /// Errors: `Failed` after a refused `feed`, `NoFromLine` where one to four bytes were fed, `OutOfMemory`.
+    pub fn finish(self) -> Result<Option<Entry>, TextFault>
+        ensures last { IfOk result (Ends self) }
+        ensures failed { IsErrOf result TextFault.Failed ↔ HasFailed self }
+        ensures no_from_line { (text : List ℕ) (given : List Given) → Fed text given self → IsErrOf result TextFault.NoFromLine ↔ IsTooShort text }
+        ensures causes { IfErr result (λ fault. (fault ≡ TextFault.NoFromLine) ⊎ ((fault ≡ TextFault.Failed) ⊎ (fault ≡ TextFault.OutOfMemory))) }
+    {
+        if self.failed {
+            return Err(TextFault::Failed);
+        }
+        let line = self.line;
+        match self.message {
+            Some(message) => Ok(Some(message.close_with(&line)?)),
+            None => {
+                if line.is_empty() {
+                    return Ok(None);
+                }
+                if !begins_with_from(&line) {
+                    return Err(TextFault::NoFromLine);
+                }
+                Ok(Some(Entry {
+                    from_line: Bytes::new(line),
+                    body: Bytes::new(Vec::new(self.alloc)),
+                }))
+            }
+        }
+    }
+
+    // Takes the piece. False where no mbox text begins so.
+    fn take_piece(&mut self, piece: &[u8], out: &mut Vec<Entry>) -> Result<bool, AllocError>
+        ensures moved { IfOk result (λ fine. MatchBool fine
+            ((added : List Given) × (out.new.items ≡ out.old.items ++ added)
+            × Moves self.old.message self.old.line.items piece.now added self.new.message self.new.line.items)
+            (Refused self.old.message self.old.line.items piece.now out.old.items out.new.items)) }
+        ensures broken { OnErr result (Breaks self.old.message self.old.line.items piece.now out.old.items out.new.items) }
+        ensures same { self.new.failed ≡ self.old.failed }
+    {
+        let mut at = 0;
+        while at < piece.len() {
+            match self.advance(&piece[at..], out)? {
+                Some(n) => at += n,
+                None => return Ok(false),
+            }
+        }
+        Ok(true)
+    }
+
+    // Takes the whole lines at the front of the text, up to a From_ line, and then one line more, or what has come of it.
+    // None where no mbox text begins so.
+    fn advance(&mut self, text: &[u8], out: &mut Vec<Entry>) -> Result<Option<usize>, AllocError>
+        requires { 0 < length text.now }
+        ensures moved { IfOk result (λ went. MatchOption went
+            (Refused self.old.message self.old.line.items text.now out.old.items out.new.items)
+            (λ n. (0 < n) × (n ≤ length text.now) × ((added : List Given) × (out.new.items ≡ out.old.items ++ added)
+            × Moves self.old.message self.old.line.items (take n text.now) added self.new.message self.new.line.items))) }
+        ensures broken { OnErr result (Breaks self.old.message self.old.line.items text.now out.old.items out.new.items) }
+        ensures same { self.new.failed ≡ self.old.failed }
+    {
+        let at = self.take_body_lines(text)?;
+        let rest = &text[at..];
+        match memchr(b'\n', rest) {
+            Some(n) => {
+                if !self.add_part(&rest[..n], out)? || !self.end_line()? {
+                    return Ok(None);
+                }
+                Ok(Some(at + n + 1))
+            }
+            None => {
+                if !self.add_part(rest, out)? {
+                    return Ok(None);
+                }
+                Ok(Some(text.len()))
+            }
+        }
+    }
+
+    // Takes whole lines at the front of the text, where the splitter stands at the front of a line of a body.
+    fn take_body_lines(&mut self, text: &[u8]) -> Result<usize, AllocError>
+        ensures within { IfOk result (λ n. n ≤ length text.now) }
+        ensures held { IfOk result (λ n. Moves self.old.message self.old.line.items (take n text.now) [] self.new.message self.new.line.items) }
+        ensures same { self.new.failed ≡ self.old.failed }
+    {
+        if !self.line.is_empty() {
+            return Ok(0);
+        }
+        match &mut self.message {
+            Some(message) => {
+                let n = take_lines(&mut message.body, text)?;
+                Ok(n)
+            }
+            None => Ok(0),
+        }
+    }
+
+    // Adds bytes with no `\n` to the line, and closes the message if the line is a From_ line. False where no mbox text begins so.
+    fn add_part(&mut self, part: &[u8], out: &mut Vec<Entry>) -> Result<bool, AllocError>
+        requires { NoEnd part.now }
+        ensures moved { IfOk result (λ fine. MatchBool fine
+            ((added : List Given) × (out.new.items ≡ out.old.items ++ added)
+            × Moves self.old.message self.old.line.items part.now added self.new.message self.new.line.items)
+            ((out.new.items ≡ out.old.items) × Refuses self.old.message self.old.line.items part.now)) }
+        ensures broken { OnErr result (out.new.items ≡ out.old.items) }
+        ensures same { self.new.failed ≡ self.old.failed }
+    {
+        self.line.extend_from_slice(part)?;
+        if begins_with_from(&self.line) {
+            if let Some(message) = self.message.take() {
+                append(out, message.close())?;
+            }
+            return Ok(true);
+        }
+        if self.message.is_none() && !is_from_start(&self.line) {
+            return Ok(false);
+        }
+        Ok(true)
+    }
+
+    // The line is whole. False where no mbox text begins so.
+    fn end_line(&mut self) -> Result<bool, AllocError>
+        ensures moved { IfOk result (λ fine. MatchBool fine
+            (Moves self.old.message self.old.line.items (10 ∷ []) [] self.new.message self.new.line.items)
+            (Refuses self.old.message self.old.line.items (10 ∷ []))) }
+        ensures same { self.new.failed ≡ self.old.failed }
+    {
+        match &mut self.message {
+            Some(message) => {
+                add_line(&mut message.body, &self.line)?;
+                self.line.clear();
+                Ok(true)
+            }
+            None => {
+                if !begins_with_from(&self.line) {
+                    return Ok(false);
+                }
+                let from_line = mem::replace(&mut self.line, Vec::new(self.alloc));
+                self.message = Some(Message {
+                    from_line,
+                    body: Vec::new(self.alloc),
+                });
+                Ok(true)
+            }
+        }
+    }
+}
+
+/// Adds a message.
+fn append(out: &mut Vec<Entry>, entry: Entry) -> Result<(), AllocError>
+    ensures added { OnOk result (out.new.items ≡ out.old.items ++ entry ∷ []) }
+    ensures unchanged { OnErr result (out.new.items ≡ out.old.items) }
+{
+    out.push(entry)?;
+    Ok(())
+}

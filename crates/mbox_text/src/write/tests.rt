@@ -1,0 +1,90 @@
+// What is written of a message, and a writer that fails.
+use super::*;
+use crate::bytes::Bytes;
+use std::alloc::{AllocError, Global};
+use std::io;
+use std::test::Fail;
+
+// A writer that takes so many bytes, at most one piece a call, and then fails or takes none.
+#[derive(Drop)]
+struct Narrow {
+    taken: Vec<u8>,
+    room: usize,
+    piece: usize,
+    fails: bool,
+}
+
+impl Write for Narrow {
+    fn write(&mut self, buf: &[u8]) -> io::Result<usize> {
+        let n = self.room.min(self.piece).min(buf.len());
+        if n == 0 && self.fails {
+            return Err(io::Error::from(ErrorKind::StorageFull));
+        }
+        self.taken.extend_from_slice(&buf[..n])?;
+        self.room -= n;
+        Ok(n)
+    }
+
+    fn flush(&mut self) -> io::Result<()> {
+        Ok(())
+    }
+}
+
+fn entry(alloc: Global, from_line: &[u8], body: &[u8]) -> Result<Entry, AllocError> {
+    Ok(Entry {
+        from_line: Bytes::new(Vec::from_slice(alloc, from_line)?),
+        body: Bytes::new(Vec::from_slice(alloc, body)?),
+    })
+}
+
+#[test]
+fn spellings(rt: HostRuntime) -> Result<(), Fail> {
+    let rows: [(&str, &[u8], &[u8], &[u8]); 5] = [
+        (
+            "quoting",
+            b"From x",
+            b"From a\n>From b\n> From c\n>From\n",
+            b"From x\n>From a\n>>From b\n> From c\n>From\n\n",
+        ),
+        ("unended_line", b"From x", b"abc", b"From x\nabc\n\n"),
+        ("equal_empty_messages", b"From a", b"", b"From a\n\n"),
+        ("body_of_one_line_end", b"From a", b"\n", b"From a\n\n\n"),
+        (
+            "last line quoted",
+            b"From a",
+            b"x\n>>From ",
+            b"From a\nx\n>>>From \n\n",
+        ),
+    ];
+    for (name, from_line, body, want) in rows {
+        let message = entry(rt.alloc(), from_line, body)?;
+        let mut whole = Vec::new(rt.alloc());
+        write_entry(&message, &mut whole)?;
+        assert!(rt; whole.as_slice() == want, "{name}");
+        let mut narrow = Narrow {
+            taken: Vec::new(rt.alloc()),
+            room: 1000,
+            piece: 1,
+            fails: true,
+        };
+        write_entry(&message, &mut narrow)?;
+        assert!(rt; narrow.taken.as_slice() == want, "{name}, byte by byte");
+    }
+    Ok(())
+}
+
+#[test]
+fn output_fails(rt: HostRuntime) -> Result<(), Fail> {
+    let message = entry(rt.alloc(), b"From x", b"abc")?;
+    for fails in [true, false] {
+        let mut narrow = Narrow {
+            taken: Vec::new(rt.alloc()),
+            room: 4,
+            piece: 4,
+            fails,
+        };
+        assert!(rt; write_entry(&message, &mut narrow) == Err(TextFault::WriteFault));
+        assert!(rt; narrow.taken.as_slice() == b"From".as_slice());
+    }
+    Ok(())
+}
