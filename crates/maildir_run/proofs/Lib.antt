@@ -8,3 +8,5 @@ pub mod Counted
 pub mod PlanLemmas
 pub mod Sets
 pub mod Unread
+pub mod Trees
+pub mod Quiet

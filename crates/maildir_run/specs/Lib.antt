@@ -6,3 +6,5 @@ pub mod Alone
 pub mod Plan
 pub mod Bases
 pub mod Reading
+pub mod FileTree
+pub mod MemFolder
