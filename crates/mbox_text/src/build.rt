@@ -57,3 +57,6 @@ fn hyphen_for(byte: u8) -> u8
         _ => byte,
     }
 }
+
+#[cfg(test)]
+mod tests;
