@@ -10,3 +10,4 @@ pub mod Sets
 pub mod Unread
 pub mod Trees
 pub mod Quiet
+pub mod Poured

@@ -8,3 +8,4 @@ pub mod Bases
 pub mod Reading
 pub mod FileTree
 pub mod MemFolder
+pub mod Output
