@@ -11,3 +11,4 @@ pub mod Unread
 pub mod Trees
 pub mod Quiet
 pub mod Poured
+pub mod Each

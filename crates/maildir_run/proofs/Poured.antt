@@ -1,8 +1,12 @@
 -- A source that is read piece by piece while what belongs to its messages is written.
 use Rattle.std.proofs.Common.{◌≡◌, ℕ, zero, suc, ◌+◌, ◌*◌, ◌^◌, ◌<◌, ◌≤◌, Bool, true, false, Option, Some, None, Result, Ok, Err, List, [], ◌∷◌, ◌++◌, length, refl, sym, ◌∙◌, ap, arith, append_assoc, inl, inr}
+use Rattle.std.specs.Prelude.{IsErrAnd}
+use Rattle.std.specs.List.{flat_map}
+use Rattle.std.proofs.lemmas.List.Concat.{flat_map-append}
+use Rattle.mbox_text.specs.Spelling.{spelling}
 use Rattle.std.specs.Io.KnownBytes.{Consumes, Appends, Keeps, IsAtEnd}
 use Rattle.std.proofs.KnownBytes.{Consumes-trans, Consumes-nil, Appends-trans, Appends-nil}
-use Rattle.std.proofs.lemmas.List.{append-nil, length-append}
+use Rattle.std.proofs.lemmas.List.{append-nil, append_cancel_right, length-append}
 use Rattle.mbox_text.specs.declared.entry.Entry.{Entry}
 use Rattle.mbox_text.specs.declared.splitter.Splitter.{Splitter}
 use Rattle.mbox_text.specs.Lines.{lines}
@@ -44,11 +48,16 @@ end_fronts text now all m end = record {
       ([], mbox-one text entries all (rw same at h) m ∙ sym (append-nil all))
 }
 
+consumed : (before now : Option (List ℕ)) (had left text : List ℕ) → before ≡ Some had → now ≡ Some left → Consumes before now text → had ≡ text ++ left
+consumed before now had left text e f read =
+    let at_start : Consumes (Some had) now text = rw e at read in
+    let at_end : Consumes (Some had) (Some left) text = rw f at at_start in
+    at_end
+
 -- what was read is the front of each possible text
 read_is : (before now : Option (List ℕ)) (text t : List ℕ) → Consumes before now text → (p : Possible before now t) → p.read ≡ text
 read_is before now text t read p =
-    let r : Consumes (Some (p.read ++ p.left)) (Some p.left) text = rw (← p.had, ← p.has) read in
-    append_cancel_right p.read text p.left r
+    append_cancel_right p.read text p.left (consumed before now (p.read ++ p.left) p.left text p.had p.has read)
 
 pub gives_front : (output : List Entry → List ℕ) (before now was is : Option (List ℕ)) (text : List ℕ) (all : List Entry) → IsOutput output → Consumes before now text → Fronts text now all
     → AppendsFront was is (output all) → GivesFront output before now was is
@@ -226,3 +235,16 @@ poured_none output before was splitter reads left whole o f l none = record {
   counted = refl;
   empty = none;
 }
+
+-- what each message is written as is an output
+pub flat_output : IsOutput (flat_map spelling)
+flat_output = record { none = refl; front = λ a b. (flat_map spelling b, flat_map-append spelling a b) }
+
+-- what went out of a batch
+pub flat_more : (given whole entries : List Entry) → entries ≡ whole → flat_map spelling (given ++ whole) ≡ flat_map spelling given ++ flat_map spelling entries
+flat_more given whole entries e = flat_map-append spelling given whole ∙ ap (λ z. flat_map spelling given ++ flat_map spelling z) (sym e)
+
+-- the fault of an answer
+pub fault_is : {T : Type 0} (r : Result T RunFault) (fault named : RunFault) → IsErrAnd r (λ e. e ≡ fault) → r ≡ Err named → fault ≡ named
+fault_is (Ok x) fault named h e = absurd (cc)
+fault_is (Err x) fault named h e = let same : x ≡ named = cc in sym h ∙ same

@@ -34,7 +34,7 @@ pub fn rewrite<R: Read, W: Write>(alloc: Global, source: &mut R, out: &mut W, re
     let mut messages = Messages::new(alloc, reads)?;
     let mut whole = Vec::new(alloc);
     let mut count = 0u64;
-    loop {
+    'pieces: loop {
         let ended = messages.read(source, &mut whole)?;
         write_entries(&whole, out)?;
         count += whole.len() as u64;
