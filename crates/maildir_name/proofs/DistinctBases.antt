@@ -1,0 +1,74 @@
+-- The bases of the targets of one text: this converter's, and distinct.
+use Rattle.std.proofs.Common.{◌≡◌, ℕ, ◌+◌, ◌^◌, ◌<◌, ◌≤◌, Bool, true, false, List, [], ◌∷◌, ◌++◌, length, get_or, take, count_by, refl, sym, ◌∙◌, ap, arith, All, AllPairs, bytes_eq, cond, length-take-le}
+use Rattle.std.specs.Cmp.Lexicographic.{nat_list_eq_equiv}
+use Rattle.std.proofs.lemmas.List.{length_push, take_more, take-take}
+use Rattle.std.proofs.lemmas.List.Sums.{count_by-le-length, sum_by-take-le}
+use Rattle.sha2.specs.Sha256.{sha256}
+use Rattle.maildir_name.specs.declared.target.Target.{Target}
+use Rattle.maildir_name.specs.Flags.{flags}
+use Rattle.maildir_name.specs.Targets.{numbered, same_digest, under_flags, target, targets}
+use Rattle.maildir_name.proofs.BaseLemmas.{IsNamed, named-under_flags, numbered-converter, under_flags-base, same-digest, same-number}
+use Rattle.maildir_name.proofs.NamerLemmas.{count-push}
+use Rattle.maildir_name.proofs.TargetLemmas.{length-targets, get_or-targets, target_at}
+
+-- the number of a body that follows others
+abbrev pub number_after : List (List ℕ) → List ℕ → ℕ
+number_after before body = count_by (same_digest body) (before ++ body ∷ [])
+
+-- it counts the body itself, and no more than the bodies
+pub number_after-is : (before : List (List ℕ)) (body : List ℕ) → number_after before body ≡ count_by (same_digest body) before + 1
+number_after-is before body =
+    let itself : same_digest body body ≡ true = nat_list_eq_equiv.refl (sha256 body) in
+    rw itself at (count-push (same_digest body) before body)
+
+pub number_after-le : (before : List (List ℕ)) (body : List ℕ) → number_after before body ≤ length before + 1
+number_after-le before body =
+    let is = number_after-is before body in
+    let le = count_by-le-length (same_digest body) before in omega (arith, is, le)
+
+pub target-base : (before : List (List ℕ)) (body : List ℕ) → (target before body).base ≡ numbered body (number_after before body)
+unfolding target
+target-base before body = under_flags-base (numbered body (number_after before body)) (flags body)
+
+pub named-target : (before : List (List ℕ)) (body : List ℕ) → length before < 2 ^ 63 → IsNamed (target before body)
+unfolding target
+named-target before body few =
+    let n = number_after before body in
+    let is = number_after-is before body in
+    let le = number_after-le before body in
+    named-under_flags (target before body) (numbered body n) (flags body) refl (numbered-converter body n (omega (arith, is)) (omega (arith, le)))
+
+pub named-targets : (bodies : List (List ℕ)) → length bodies ≤ 2 ^ 63 → All IsNamed (targets bodies)
+named-targets bodies few k d below =
+    let l : k < length bodies = omega (arith, below, length-targets bodies) in
+    let len : length (take k bodies) ≡ k = length-take-le k bodies (omega arith) in
+    rw (get_or-targets bodies k d l) (named-target (take k bodies) (get_or bodies k []) (omega (arith, len)))
+
+-- an earlier body with the same digest has a smaller number
+earlier-lt : (bodies : List (List ℕ)) (i j : ℕ) → i < j → j < length bodies → sha256 (get_or bodies i []) ≡ sha256 (get_or bodies j [])
+    → number_after (take i bodies) (get_or bodies i []) < number_after (take j bodies) (get_or bodies j [])
+earlier-lt bodies i j lt in_list e =
+    let p = same_digest (get_or bodies j []) in
+    let one : number_after (take i bodies) (get_or bodies i []) ≡ count_by p (take (i + 1) bodies) =
+    ap (λ d. count_by (λ b. bytes_eq d (sha256 b)) (take i bodies ++ get_or bodies i [] ∷ [])) e
+    ∙ ap (count_by p) (sym (take_more bodies i [] (omega arith))) in
+    let within : take (i + 1) (take j bodies) ≡ take (i + 1) bodies = take-take (i + 1) j bodies (omega arith) in
+    let le : count_by p (take (i + 1) bodies) ≤ count_by p (take j bodies) = rw within at (sum_by-take-le (λ b. cond (p b) 1 0) (take j bodies) (i + 1)) in
+    let other = number_after-is (take j bodies) (get_or bodies j []) in
+    omega (arith, one, le, other)
+
+pub distinct-targets : (bodies : List (List ℕ)) → length bodies ≤ 2 ^ 63 → AllPairs (λ one other. one.base ≡ other.base → ⊥) (targets bodies)
+distinct-targets bodies few i j d lt below same =
+    let in_list : j < length bodies = omega (arith, below, length-targets bodies) in
+    let one = ap (λ (t : Target). t.base) (get_or-targets bodies i d (omega arith)) ∙ target-base (take i bodies) (get_or bodies i []) in
+    let other = ap (λ (t : Target). t.base) (get_or-targets bodies j d in_list) ∙ target-base (take j bodies) (get_or bodies j []) in
+    let m = number_after (take i bodies) (get_or bodies i []) in
+    let n = number_after (take j bodies) (get_or bodies j []) in
+    let bases : numbered (get_or bodies i []) m ≡ numbered (get_or bodies j []) n = sym one ∙ (same ∙ other) in
+    let m_le = number_after-le (take i bodies) (get_or bodies i []) in
+    let n_le = number_after-le (take j bodies) (get_or bodies j []) in
+    let i_len : length (take i bodies) ≡ i = length-take-le i bodies (omega arith) in
+    let j_len : length (take j bodies) ≡ j = length-take-le j bodies (omega arith) in
+    let less = earlier-lt bodies i j lt in_list (same-digest (get_or bodies i []) (get_or bodies j []) m n bases) in
+    let numbers = same-number (get_or bodies i []) (get_or bodies j []) m n (omega (arith, m_le, i_len)) (omega (arith, n_le, j_len)) bases in
+    absurd (omega (arith, less, numbers))

@@ -1,0 +1,94 @@
+-- The bases of equal bodies.
+use Rattle.std.proofs.Common.{◌≡◌, ℕ, ◌+◌, ◌<◌, Bool, true, false, cond, List, [], ◌∷◌, ◌++◌, length, get_or, map, filter, zip, count_by, refl, sym, ◌∙◌, ap, arith, All, bytes_eq, inl, inr, add-zero, append-nil, append_assoc}
+use Rattle.std.specs.Cmp.Lexicographic.{nat_list_eq_equiv, bytes_decides}
+use Rattle.std.specs.List.{range_with_len}
+use Rattle.std.proofs.lemmas.Bool.{cases_Bool, false_from_ne_true, both_ways}
+use Rattle.std.proofs.lemmas.List.{map-append, get_or_append_left, get_or_push, length_push}
+use Rattle.std.proofs.lemmas.List.Elements.{filter-append}
+use Rattle.std.proofs.lemmas.List.FromFn.{map-range_with_len_more}
+use Rattle.sha2.specs.Sha256.{sha256}
+use Rattle.maildir_name.specs.declared.target.Target.{Target}
+use Rattle.maildir_name.specs.Targets.{numbered, same_digest, target, targets, bases_of, numbered_up_to}
+use Rattle.maildir_name.proofs.DistinctBases.{number_after, number_after-is, target-base}
+use Rattle.maildir_name.proofs.NamerLemmas.{count-push}
+use Rattle.maildir_name.proofs.TargetLemmas.{length-targets, targets-push}
+
+-- what holds of no body, and of one more, holds of all
+by_one_more : (P : List (List ℕ) → Type 0) → P [] → ((bodies : List (List ℕ)) (body : List ℕ) → P bodies → P (bodies ++ body ∷ [])) → (front back : List (List ℕ)) → P front → P (front ++ back)
+by_one_more P none more front [] h = rw (append-nil front) h
+by_one_more P none more front (body ∷ back) h =
+    rw (sym (append_assoc front (body ∷ []) back)) (by_one_more P none more (front ++ body ∷ []) back (more front body h))
+
+zip-push : {A B : Type 0} (xs : List A) (ys : List B) (a : A) (b : B) → length xs ≡ length ys → zip (xs ++ a ∷ []) (ys ++ b ∷ []) ≡ zip xs ys ++ (a, b) ∷ []
+zip-push [] [] a b e = refl
+zip-push [] (y ∷ ys) a b e = absurd (omega (arith, e))
+zip-push (x ∷ xs) [] a b e = absurd (omega (arith, e))
+zip-push (x ∷ xs) (y ∷ ys) a b e = ap (λ l. (x, y) ∷ l) (zip-push xs ys a b (omega (arith, e)))
+
+-- no other body has its digest
+abbrev pub IsAlone : List ℕ → List (List ℕ) → Type 0
+IsAlone body bodies = All (λ other. sha256 other ≡ sha256 body → other ≡ body) bodies
+
+alone-front : (body : List ℕ) (bodies : List (List ℕ)) (last : List ℕ) → IsAlone body (bodies ++ last ∷ []) → IsAlone body bodies
+alone-front body bodies last h k d below =
+    let l = length_push bodies last in
+    rw (get_or_append_left bodies (last ∷ []) d k below) at (h k d (omega (arith, l)))
+
+alone-last : (body : List ℕ) (bodies : List (List ℕ)) (last : List ℕ) → IsAlone body (bodies ++ last ∷ []) → sha256 last ≡ sha256 body → last ≡ body
+alone-last body bodies last h =
+    let l = length_push bodies last in
+    rw (get_or_push bodies last [] (length bodies) refl) at (h (length bodies) [] (omega (arith, l)))
+
+-- then its digest tells it apart
+alone-same : (body last : List ℕ) → (sha256 last ≡ sha256 body → last ≡ body) → same_digest body last ≡ bytes_eq body last
+alone-same body last h = elim (cases_Bool (bytes_eq body last)) [
+  | inl t ↦ rw (t, sym ((bytes_decides body last).0 t)) (nat_list_eq_equiv.refl (sha256 body))
+  | inr f ↦ rw f (false_from_ne_true (same_digest body last) (λ t.
+      both_ways (bytes_eq body last) f ((bytes_decides body last).1 (sym (h (sym ((bytes_decides (sha256 body) (sha256 last)).0 t)))))))
+]
+
+count-alone : (body : List ℕ) (bodies : List (List ℕ)) → IsAlone body bodies → count_by (same_digest body) bodies ≡ count_by (bytes_eq body) bodies
+count-alone body bodies = by_one_more (λ l. IsAlone body l → count_by (same_digest body) l ≡ count_by (bytes_eq body) l) (λ _. refl)
+    (λ l last before h.
+    let e = before (alone-front body l last h) in
+    count-push (same_digest body) l last ∙ (rw (e, alone-same body last (alone-last body l last h)) (sym (count-push (bytes_eq body) l last))))
+    [] bodies (λ _. refl)
+
+bases-push : (body : List ℕ) (bodies : List (List ℕ)) (last : List ℕ)
+    → bases_of body (bodies ++ last ∷ []) ≡ bases_of body bodies ++ cond (bytes_eq body last) ((target bodies last).base ∷ []) []
+bases-push body bodies last =
+    let t = target bodies last in
+    let p = λ (entry : List ℕ × Target). bytes_eq body entry.0 in
+    let f = λ (entry : List ℕ × Target). entry.1.base in
+    rw (
+      targets-push bodies last,
+      zip-push bodies (targets bodies) last t (sym (length-targets bodies)),
+      filter-append p (zip bodies (targets bodies)) ((last, t) ∷ []),
+      map-append f (filter p (zip bodies (targets bodies))) (filter p ((last, t) ∷ [])),
+    )
+    (elim (cases_Bool (bytes_eq body last)) [ inl e ↦ rw e refl | inr e ↦ rw e refl ])
+
+bases-more : (body : List ℕ) (bodies : List (List ℕ)) (last : List ℕ)
+    → (IsAlone body bodies → bases_of body bodies ≡ numbered_up_to body (count_by (bytes_eq body) bodies))
+    → IsAlone body (bodies ++ last ∷ []) → bases_of body (bodies ++ last ∷ []) ≡ numbered_up_to body (count_by (bytes_eq body) (bodies ++ last ∷ []))
+bases-more body bodies last before h =
+    let alone = alone-front body bodies last h in
+    let n = count_by (bytes_eq body) bodies in
+    let bases = bases-push body bodies last in
+    let count = count-push (bytes_eq body) bodies last in
+    elim (cases_Bool (bytes_eq body last)) [
+      | inl t ↦
+          let same : last ≡ body = sym ((bytes_decides body last).0 t) in
+          let number : number_after bodies body ≡ n + 1 = number_after-is bodies body ∙ ap (λ k. k + 1) (count-alone body bodies alone) in
+          let base : (target bodies last).base ≡ numbered body (n + 1) =
+          target-base bodies last ∙ (ap (λ b. numbered b (number_after bodies b)) same ∙ ap (numbered body) number) in
+          (rw (t, base, before alone) at bases)
+          ∙ (sym (map-range_with_len_more (numbered body) 1 n (n + 1) (omega arith)) ∙ ap (numbered_up_to body) (sym (rw t at count)))
+      | inr f ↦
+          (rw (f, before alone, append-nil (numbered_up_to body n)) at bases)
+          ∙ ap (numbered_up_to body) (sym ((rw f at count) ∙ add-zero n))
+    ]
+
+pub bases-equal : (bodies : List (List ℕ)) (body : List ℕ) → IsAlone body bodies → bases_of body bodies ≡ numbered_up_to body (count_by (bytes_eq body) bodies)
+bases-equal bodies body =
+    by_one_more (λ l. IsAlone body l → bases_of body l ≡ numbered_up_to body (count_by (bytes_eq body) l)) (λ _. refl) (λ l last before. bases-more body l last before) [] bodies (λ _. refl)

@@ -1,0 +1,4 @@
+pub mod Names
+pub mod Flags
+pub mod Targets
+pub mod Named

@@ -1,0 +1,60 @@
+-- What any list of runs and actions leaves.
+use Rattle.std.proofs.Common.{◌≡◌, ℕ, Bool, true, not, List, [], ◌∷◌, All, Option, Some, None, IsPermutation, IsTrue, Ok, get_or, length, refl, sym, ap, subst, ◌∙◌, inl, inr}
+use Rattle.std.specs.FinMap.{get, contains_key}
+use Rattle.std.specs.Option.{is_some}
+use Rattle.std.proofs.lemmas.List.Sorted.{IsPermutation-refl, IsPermutation-trans}
+use Rattle.maildir_name.specs.Names.{is_converter_name, is_converter_base}
+use Rattle.maildir_run.specs.Files.{Files, homes, Action, acted}
+use Rattle.maildir_run.specs.Delivery.{Message, IsMissing, IsHome, IsSoundAt, AreNamed, is_base_of, Sound, IsSwept, Delivered}
+use Rattle.maildir_run.specs.declared.fault.RunFault.{RunFault}
+use Rattle.maildir_run.specs.declared.report.Report.{Report}
+use Rattle.maildir_run.specs.Runs.{Keeps, Run, Link, Ran, Acted, Linked, Runs}
+use Rattle.maildir_run.proofs.Homes.{acted_kept}
+use Rattle.maildir_run.proofs.Moves.{homes_none, homes_one, acted_tmp}
+
+sound_now : (ms : List Message) (a s : Files) → Sound ms a s → Sound ms s s
+sound_now ms a s sound = record { own = sound.own; others = λ b named other. IsPermutation-refl _ }
+
+sound_trans : (ms : List Message) (a b c : Files) → Sound ms a b → Sound ms b c → Sound ms a c
+sound_trans ms a b c first then = record {
+  own = then.own;
+  others = λ b named other. IsPermutation-trans _ _ _ (first.others b named other) (then.others b named other)
+}
+
+pub sound_at_start : (ms : List Message) (s : Files) → All (IsMissing s) ms → Sound ms s s
+sound_at_start ms s missing = record { own = λ k d h. inl (missing k d h); others = λ b named other. IsPermutation-refl _ }
+
+acted_sound_at : (m : Message) → IsTrue (is_converter_base m.target.base) → (action : Action) (s : Files) → IsSoundAt s m → IsSoundAt (acted action s) m
+acted_sound_at m named action s (inl none) = inl (homes_none m.target.base s (acted action s) (acted_kept m.target.base named action s) none)
+acted_sound_at m named action s (inr one) = inr (homes_one m.target.base m.body s (acted action s) (acted_kept m.target.base named action s) one)
+
+pub acted_sound : (ms : List Message) → AreNamed ms → (a s : Files) (action : Action) → Sound ms a s → Sound ms a (acted action s)
+acted_sound ms named a s action sound = record {
+  own = λ k d h. acted_sound_at (get_or ms k d) (named k d h) action s (sound.own k d h);
+  others = λ b is other. IsPermutation-trans _ _ _ (sound.others b is other) (acted_kept b is action s)
+}
+
+linked_sound : (ms : List Message) → AreNamed ms → (link : Link) (a old new : Files) → Sound ms a old → Linked ms link old new → Sound ms a new
+linked_sound ms named (Ran answer) a old new sound run = sound_trans ms a old new sound (run (sound_now ms a old sound)).sound
+linked_sound ms named (Acted action) a old new sound e = subst (Sound ms a) (sym e) (acted_sound ms named a old action sound)
+
+pub runs_sound : (ms : List Message) → AreNamed ms → (links : List Link) (a old new : Files) → Sound ms a old → Runs ms links old new → Sound ms a new
+runs_sound ms named [] a old new sound e = subst (Sound ms a) (sym e) sound
+runs_sound ms named (link ∷ links) a old new sound (mid, linked, rest) = runs_sound ms named links a mid new (linked_sound ms named link a old mid sound linked) rest
+
+pub after_any_runs-sound : (ms : List Message) (links : List Link) (old new : Files) → AreNamed ms → All (IsMissing old) ms → Runs ms links old new → Sound ms old new
+after_any_runs-sound ms links old new named missing runs = runs_sound ms named links old old new (sound_at_start ms old missing) runs
+
+pub after_any_runs-delivered : (ms : List Message) (links : List Link) (old mid new : Files) (report : Report) → AreNamed ms → All (IsMissing old) ms → Runs ms links old mid → Run ms mid (Ok report) new → Delivered ms new
+after_any_runs-delivered ms links old mid new report named missing runs last =
+    (last (sound_now ms old mid (after_any_runs-sound ms links old mid named missing runs))).ends.delivered
+
+still_swept : (name : List ℕ) → IsTrue (is_converter_name name) → (action : Action) (s : Files) → get s.tmp name ≡ None → get (acted action s).tmp name ≡ None
+still_swept name ours action s h =
+    elim (acted_tmp name ours action s) as (λ _. get (acted action s).tmp name ≡ None) [ inl e ↦ e ∙ h | inr e ↦ e ]
+
+pub acted_delivered : (ms : List Message) → AreNamed ms → (action : Action) (s : Files) → Delivered ms s → Delivered ms (acted action s)
+acted_delivered ms named action s d = record {
+  homes_are = λ k e h. homes_one (get_or ms k e).target.base (get_or ms k e).body s (acted action s) (acted_kept (get_or ms k e).target.base (named k e h) action s) (d.homes_are k e h);
+  swept = λ name ours. still_swept name ours action s (d.swept name ours)
+}

@@ -1,0 +1,13 @@
+pub mod Maps
+pub mod Homes
+pub mod Moves
+pub mod Listed
+pub mod Chains
+pub mod Outsiders
+pub mod Counted
+pub mod PlanLemmas
+pub mod Sets
+pub mod Unread
+pub mod Trees
+pub mod Quiet
+pub mod Poured

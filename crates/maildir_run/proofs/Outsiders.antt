@@ -1,0 +1,46 @@
+-- A folder in memory: to set or remove a file that is no converter's is an action.
+use Rattle.std.proofs.Common.{◌≡◌, ℕ, Bool, true, false, cond, not, List, [], ◌∷◌, ◌++◌, Option, Some, None, IsTrue, IsFalse, refl, sym, ap, subst, ◌∙◌, inl, inr}
+use Rattle.std.specs.FinMap.{get, insert, remove, entries, retain_keys, find, get-entries, get-from_entries, get-insert, get-remove, same_map}
+use Rattle.std.proofs.lemmas.Bool.{cases_Bool}
+use Rattle.maildir_name.specs.Names.{is_converter_name}
+use Rattle.maildir_run.specs.Files.{name_cmp, is_name, FileMap, Files, outsiders_of, Action, Outside, acted}
+use Rattle.maildir_run.proofs.Maps.{total, same, is_name-true, get_under}
+use Rattle.maildir_run.proofs.Homes.{get-outsiders_of}
+
+find-after : (q : List ℕ) (xs ys : List (List ℕ × List ℕ)) → find name_cmp q xs ≡ None → find name_cmp q (xs ++ ys) ≡ find name_cmp q ys
+find-after q [] ys none = refl
+find-after q (x ∷ xs) ys none =
+    elim (is_name q x.0) as (λ t. cond t (Some x.1) (find name_cmp q xs) ≡ None → cond t (Some x.1) (find name_cmp q (xs ++ ys)) ≡ find name_cmp q ys) [
+      | true ↦ λ e. cc
+      | false ↦ λ e. find-after q xs ys e
+    ] none
+
+get-outsiders_other : (ours theirs : FileMap) (q : List ℕ) → is_converter_name q ≡ false → get (outsiders_of ours theirs) q ≡ get theirs q
+get-outsiders_other ours theirs q h =
+    let mine = retain_keys ours is_converter_name in
+    let other = retain_keys theirs (λ n. not (is_converter_name n)) in
+    let none : find name_cmp q (entries mine) ≡ None = sym (get-entries mine q) ∙ get_under is_converter_name ours q ∙ rw h refl in
+    get-from_entries total (entries mine ++ entries other) q
+    ∙ find-after q (entries mine) (entries other) none
+    ∙ sym (get-entries other q) ∙ get_under (λ n. not (is_converter_name n)) theirs q ∙ rw h refl
+
+-- where the converter's names agree, it is the other folder
+pub outsiders_alike : (ours theirs : FileMap) → ((q : List ℕ) → is_converter_name q ≡ true → get ours q ≡ get theirs q) → outsiders_of ours theirs ≡ theirs
+outsiders_alike ours theirs alike =
+    same_map total same _ _ (λ q.
+      elim (cases_Bool (is_converter_name q)) as (λ _. get (outsiders_of ours theirs) q ≡ get theirs q) [
+        | inl on ↦ get-outsiders_of ours theirs q on ∙ alike q on
+        | inr off ↦ get-outsiders_other ours theirs q off
+      ])
+
+off_name : (k q : List ℕ) → is_converter_name k ≡ false → is_converter_name q ≡ true → is_name q k ≡ false
+off_name k q off on =
+    elim (cases_Bool (is_name q k)) as (λ _. is_name q k ≡ false) [
+      | inl e ↦ let alike : is_converter_name q ≡ is_converter_name k = ap is_converter_name (is_name-true q k e) in cc
+      | inr e ↦ e
+    ]
+
+pub put_is_action : (s : Files) (k v : List ℕ) → IsFalse (is_converter_name k) → acted (Outside (record s { tmp = insert s.tmp k v })) s ≡ record s { tmp = insert s.tmp k v }
+put_is_action s k v off =
+    rw (outsiders_alike s.tmp (insert s.tmp k v) (λ q on. sym (get-insert total s.tmp k v q ∙ rw (off_name k q off on) refl)),
+        outsiders_alike s.new s.new (λ q on. refl), outsiders_alike s.cur s.cur (λ q on. refl)) refl

@@ -1,0 +1,9 @@
+use Rattle.std.proofs.Common.{sym, ap, ◌∙◌}
+use Rattle.std.specs.FinMap.{insert}
+use Rattle.maildir_run.proofs.Sets.{set_of-insert}
+use Rattle.maildir_run.proofs.bases.Bases.add.Goals as goal
+
+pub returns : goal.returns
+returns c =
+    set_of-insert c.self.inside.bases c.insert.new.self c.args.base.now c.in_ok-insert.ensures.updates
+    ∙ ap (λ s. insert s c.args.base.now tt) c.self.view_is

@@ -1,0 +1,9 @@
+use Rattle.maildir_run.proofs.Homes.{acted_kept}
+use Rattle.maildir_run.proofs.Moves.{after_kept}
+use Rattle.maildir_run.proofs.laws.homes_are_kept.Goals as goal
+
+pub returns-clause-acted : goal.returns-clause-acted
+returns-clause-acted c = λ b action s named. acted_kept b named action s
+
+pub returns-clause-moved : goal.returns-clause-moved
+returns-clause-moved c = λ b call moves s named h. after_kept b named call h moves s

@@ -1,0 +1,11 @@
+pub mod Files
+pub mod Calls
+pub mod Delivery
+pub mod Runs
+pub mod Alone
+pub mod Plan
+pub mod Bases
+pub mod Reading
+pub mod FileTree
+pub mod MemFolder
+pub mod Output

@@ -1,0 +1,57 @@
+-- What one run owes, and what may follow one another: runs with any answers, and other programs' actions.
+use Rattle.std.specs.Prelude.{◌≡◌, ℕ, ◌-◌, ◌≤◌, List, [], ◌∷◌, ◌++◌, length, All, AllPairs, IfOk, Option, Some, Result}
+use Rattle.maildir_run.specs.declared.fault.RunFault.{RunFault}
+use Rattle.maildir_run.specs.declared.report.Report.{Report}
+use Rattle.maildir_run.specs.Files.{Files, Action, acted}
+use Rattle.maildir_run.specs.Delivery.{Message, HasHome, IsMissing, Sound, Delivered, there_count, leftover_count}
+
+-- A text is possible for a call that read from a source: what was read is its front, and all of it where the source has nothing left. The source tells what it has left, before the call and after it.
+pub record Possible (before after : Option (List ℕ)) (t : List ℕ) : Type 0 where
+  pub read : List ℕ
+  pub left : List ℕ
+  pub more : List ℕ
+  pub had : before ≡ Some (read ++ left)
+  pub has : after ≡ Some left
+  pub front : t ≡ read ++ more
+  pub whole : left ≡ [] → more ≡ []
+
+-- A report is true of a run over these messages from these files.
+pub record Reports (ms : List Message) (old : Files) (report : Report) : Type 0 where
+  pub messages : report.messages ≡ length ms
+  pub there : report.there ≡ there_count old ms
+  pub placed : report.placed ≡ length ms - there_count old ms
+  pub swept : report.swept ≤ leftover_count old
+
+-- A run over these messages ended with Ok: they are delivered, and the report is true.
+pub record Ends (ms : List Message) (old : Files) (report : Report) (new : Files) : Type 0 where
+  pub delivered : Delivered ms new
+  pub reports : Reports ms old report
+
+-- What a run over these messages owes, whatever it answered.
+pub record Keeps (ms : List Message) (old : Files) (answer : Result Report RunFault) (new : Files) : Type 0 where
+  -- the folder is sound, as against the run's start
+  pub sound : Sound ms old new
+  -- a message that had a home has one
+  pub still : All (λ m. HasHome old m → HasHome new m) ms
+  -- a message has come only after all before it
+  pub in_order : AllPairs (λ m n. IsMissing old n → HasHome new n → HasHome new m) ms
+  pub ends : IfOk answer (λ report. Ends ms old report new)
+
+-- one run over a folder that is sound for the messages as it begins
+abbrev pub Run : List Message → Files → Result Report RunFault → Files → Type 0
+Run ms old answer new = Sound ms old old → Keeps ms old answer new
+
+-- a link of a chain: a run with this answer, or an action of another program
+pub data Link : Type 0 where
+  Ran : (answer : Result Report RunFault) → Link
+  Acted : (action : Action) → Link
+
+-- a link leads from one moment to another
+abbrev pub Linked : List Message → Link → Files → Files → Type 0
+Linked ms (Ran answer) old new = Run ms old answer new
+Linked ms (Acted action) old new = new ≡ acted action old
+
+-- a finite chain of runs, with any answers, and of other programs' actions
+abbrev pub Runs : List Message → List Link → Files → Files → Type 0
+Runs ms [] old new = new ≡ old
+Runs ms (l ∷ ls) old new = (mid : Files) × Linked ms l old mid × Runs ms ls mid new
