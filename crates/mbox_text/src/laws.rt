@@ -3,7 +3,8 @@ ghost use Rattle.std.specs.Prelude.{◌≡◌, ◌++◌, [], ◌∷◌, ◌↔�
 ghost use Rattle.std.specs.List.{flat_map};
 ghost use Rattle.mbox_text.specs.FromLine.{built, cleaned, past_spaces, rest, sender};
 ghost use Rattle.mbox_text.specs.Quoting.{begins_from, quoted, unquoted};
-ghost use Rattle.mbox_text.specs.Mbox.{IsMboxText, IsProperFront, Mbox};
+ghost use Rattle.mbox_text.specs.Fronts.{IsProperFront};
+ghost use Rattle.mbox_text.specs.Mbox.{IsMboxText, Mbox};
 ghost use Rattle.mbox_text.specs.Spelling.{FromLines, completed, spelling};
 ghost use Rattle.mbox_text.specs.declared.entry.Entry.{Entry as Message};
 
