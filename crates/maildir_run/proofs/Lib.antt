@@ -9,3 +9,4 @@ pub mod PlanLemmas
 pub mod Sets
 pub mod Trees
 pub mod Quiet
+pub mod MessageLemmas

@@ -1,5 +1,5 @@
 //! Laws over the definitions alone. Each law is the contract of a function, and no function here does anything.
-ghost use Rattle.std.specs.Prelude.{◌≡◌, ℕ, List, [], ◌∷◌, ◌++◌, Some, Ok, All, IsTrue, IsFalse, IsPermutation};
+ghost use Rattle.std.specs.Prelude.{◌≡◌, ℕ, ◌<◌, ◌^◌, length, List, [], ◌∷◌, ◌++◌, Some, Ok, All, IsTrue, IsFalse, IsPermutation};
 ghost use Rattle.std.specs.List.{list_any};
 ghost use Rattle.std.specs.FinMap.{get};
 ghost use Rattle.maildir_name.specs.declared.target.Place.{Place};
@@ -10,7 +10,8 @@ ghost use Rattle.maildir_run.specs.declared.report.Report.{Report};
 ghost use Rattle.maildir_run.specs.Files.{Files, Action, acted, all_acted, homes, has_base};
 ghost use Rattle.maildir_run.specs.Calls.{Call, Move, after, Lists, Succeeded, PlacesElsewhere, WritesElsewhere, StaysOrGoes, NoneOrOne};
 ghost use Rattle.maildir_run.specs.Calls.Call.{Placing};
-ghost use Rattle.maildir_run.specs.Delivery.{Message, IsMissing, AreNamed, Sound, Delivered};
+ghost use Rattle.maildir_run.specs.Delivery.{Message, IsMissing, AreNamed, AreDistinct, Sound, Delivered};
+ghost use Rattle.maildir_run.specs.Texts.{MessagesOf};
 ghost use Rattle.maildir_run.specs.Runs.{Link, Run, Runs};
 ghost use Rattle.maildir_run.specs.Plan.{planned, each_alone};
 
@@ -48,11 +49,19 @@ pub fn listed_nowhere()
 {
 }
 
-/// Whatever runs, with any answers, and other programs' actions follow one another: a folder that had none of
-/// the messages is sound. One more run that answers Ok delivers them, and no other program takes that away.
+/// The bases of a text's messages are a converter's, and no two messages have the same base.
+pub fn messages_have_bases()
+    ensures named { (t : List ℕ) (ms : List Message) → MessagesOf t ms → length t < 2 ^ 63 → AreNamed ms }
+    ensures distinct { (t : List ℕ) (ms : List Message) → MessagesOf t ms → length t < 2 ^ 63 → AreDistinct ms }
+{
+}
+
+/// Whatever runs over a text, with any answers, and other programs' actions follow one another: a folder that
+/// had none of the text's messages is sound. One more run that answers Ok delivers them, and no other program
+/// takes that away.
 pub fn after_any_runs()
-    ensures sound { (ms : List Message) (links : List Link) (old new : Files) → AreNamed ms → All (IsMissing old) ms → Runs ms links old new → Sound ms old new }
-    ensures delivered { (ms : List Message) (links : List Link) (old mid new : Files) (report : Report) → AreNamed ms → All (IsMissing old) ms → Runs ms links old mid → Run ms mid (Ok report) new → Delivered ms new }
-    ensures kept { (ms : List Message) (action : Action) (s : Files) → AreNamed ms → Delivered ms s → Delivered ms (acted action s) }
+    ensures sound { (t : List ℕ) (ms : List Message) (links : List Link) (old new : Files) → MessagesOf t ms → length t < 2 ^ 63 → All (IsMissing old) ms → Runs t links old new → Sound ms old new }
+    ensures delivered { (t : List ℕ) (ms : List Message) (links : List Link) (old mid new : Files) (report : Report) → MessagesOf t ms → length t < 2 ^ 63 → All (IsMissing old) ms → Runs t links old mid → Run t mid (Ok report) new → Delivered ms new }
+    ensures kept { (t : List ℕ) (ms : List Message) (action : Action) (s : Files) → MessagesOf t ms → length t < 2 ^ 63 → Delivered ms s → Delivered ms (acted action s) }
 {
 }
