@@ -7,7 +7,8 @@ ghost use Rattle.maildir_name.specs.declared.target.Target.{Target};
 ghost use Rattle.maildir_name.specs.Names.{is_converter_base, is_converter_name};
 ghost use Rattle.maildir_run.specs.declared.folder.Sub.TheVariants as sub;
 ghost use Rattle.maildir_run.specs.declared.report.Report.{Report};
-ghost use Rattle.maildir_run.specs.Files.{Files, Action, acted, all_acted, homes, has_base};
+ghost use Rattle.maildir_run.specs.Files.{Files, Action, LeavesConverters, acted, all_acted, homes, has_base};
+ghost use Rattle.maildir_run.specs.Files.Action.{Outside};
 ghost use Rattle.maildir_run.specs.Calls.{Call, Move, after, Lists, Succeeded, PlacesElsewhere, WritesElsewhere, StaysOrGoes, NoneOrOne};
 ghost use Rattle.maildir_run.specs.Calls.Call.{Placing};
 ghost use Rattle.maildir_run.specs.Delivery.{Message, IsMissing, AreNamed, AreDistinct, Sound, Delivered};
@@ -26,6 +27,14 @@ pub fn plan_is_each_alone()
 pub fn homes_are_kept()
     ensures acted { (b : List ℕ) (action : Action) (s : Files) → IsTrue (is_converter_base b) → IsPermutation (homes s b) (homes (acted action s) b) }
     ensures moved { (b : List ℕ) (call : Call) (moves : List Move) (s : Files) → IsTrue (is_converter_base b) → PlacesElsewhere b call → IsPermutation (homes s b) (homes (after s call moves) b) }
+{
+}
+
+/// An action outside leaves all converter's names and their bytes as they are, and each state that leaves them
+/// so is reached by one.
+pub fn outside_actions()
+    ensures leaves { (files s : Files) → LeavesConverters s (acted (Outside files) s) }
+    ensures reaches { (s t : Files) → LeavesConverters s t → acted (Outside t) s ≡ t }
 {
 }
 
