@@ -19,7 +19,7 @@ sound_now ms a s sound = record { own = sound.own; others = λ b named other. Is
 sound_trans : (ms : List Message) (a b c : Files) → Sound ms a b → Sound ms b c → Sound ms a c
 sound_trans ms a b c first then = record {
   own = then.own;
-  others = λ b named other. IsPermutation-trans _ _ _ (first.others b named other) (then.others b named other)
+  others = λ b named other. IsPermutation-trans _ _ _ (first.others b named other) (then.others b named other);
 }
 
 pub sound_at_start : (ms : List Message) (s : Files) → All (IsMissing s) ms → Sound ms s s
@@ -32,7 +32,7 @@ acted_sound_at m named action s (inr one) = inr (homes_one m.target.base m.body 
 pub acted_sound : (ms : List Message) → AreNamed ms → (a s : Files) (action : Action) → Sound ms a s → Sound ms a (acted action s)
 acted_sound ms named a s action sound = record {
   own = λ k d h. acted_sound_at (get_or ms k d) (named k d h) action s (sound.own k d h);
-  others = λ b is other. IsPermutation-trans _ _ _ (sound.others b is other) (acted_kept b is action s)
+  others = λ b is other. IsPermutation-trans _ _ _ (sound.others b is other) (acted_kept b is action s);
 }
 
 -- ---- a chain over a text whose messages these are
@@ -59,5 +59,5 @@ still_swept name ours action s h =
 pub acted_delivered : (ms : List Message) → AreNamed ms → (action : Action) (s : Files) → Delivered ms s → Delivered ms (acted action s)
 acted_delivered ms named action s d = record {
   homes_are = λ k e h. homes_one (get_or ms k e).target.base (get_or ms k e).body s (acted action s) (acted_kept (get_or ms k e).target.base (named k e h) action s) (d.homes_are k e h);
-  swept = λ name ours. still_swept name ours action s (d.swept name ours)
+  swept = λ name ours. still_swept name ours action s (d.swept name ours);
 }

@@ -15,9 +15,9 @@ entries_under p m =
     let es = where_key name_cmp p (entries m) in
     let sorted = is_sorted-where_key name_cmp p (entries m) (entries_sorted m) in
     let is : retain_keys m p ≡ from_sorted es = same_map total same _ _ (λ q.
-      get_under p m q ∙ ap (λ o. cond (p q) o None) (get-entries m q)
-      ∙ sym (find-where_key name_cmp p q (λ x e. ap p (sym (same q x e))) (entries m))
-      ∙ sym (get-from_sorted name_cmp es q sorted)) in
+    get_under p m q ∙ ap (λ o. cond (p q) o None) (get-entries m q)
+    ∙ sym (find-where_key name_cmp p q (λ x e. ap p (sym (same q x e))) (entries m))
+    ∙ sym (get-from_sorted name_cmp es q sorted)) in
     ap entries is ∙ entries-from_sorted name_cmp es sorted
 
 keys_filter : (p : List ℕ → Bool) (es : List (List ℕ × List ℕ)) → length (filter p (map (λ e. e.0) es)) ≡ length (where_key name_cmp p es)

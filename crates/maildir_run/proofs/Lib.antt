@@ -10,3 +10,4 @@ pub mod Sets
 pub mod Trees
 pub mod Quiet
 pub mod MessageLemmas
+pub mod AloneLemmas

@@ -52,7 +52,7 @@ as_many bodies = length-messages_of bodies ∙ sym (length-targets bodies)
 pub messages_named : (bodies : List (List ℕ)) → length bodies ≤ 2 ^ 63 → AreNamed (messages_of bodies)
 messages_named bodies few k d below =
     subst (λ (t : Target). IsTrue (is_converter_base t.base)) (get_target bodies k d below)
-      (named-targets bodies few k d.target (omega (arith, below, as_many bodies))).converter
+    (named-targets bodies few k d.target (omega (arith, below, as_many bodies))).converter
 
 different : (a b : List ℕ) → (a ≡ b → ⊥) → IsFalse (is_name a b)
 different a b apart =
@@ -66,7 +66,7 @@ messages_distinct bodies few i j d lt below =
     let base_i : (get_or (targets bodies) i d.target).base ≡ (get_or (messages_of bodies) i d).target.base = ap (λ (t : Target). t.base) (get_target bodies i d (omega arith)) in
     let base_j : (get_or (targets bodies) j d.target).base ≡ (get_or (messages_of bodies) j d).target.base = ap (λ (t : Target). t.base) (get_target bodies j d below) in
     different (get_or (messages_of bodies) i d).target.base (get_or (messages_of bodies) j d).target.base
-      (λ e. distinct-targets bodies few i j d.target lt (omega (arith, below, as_many bodies)) (base_i ∙ (e ∙ sym base_j)))
+    (λ e. distinct-targets bodies few i j d.target lt (omega (arith, below, as_many bodies)) (base_i ∙ (e ∙ sym base_j)))
 
 -- ---- a text has no more messages than bytes
 no_lines : lines [] ≡ []

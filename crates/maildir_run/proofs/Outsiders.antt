@@ -28,10 +28,10 @@ get-outsiders_other ours theirs q h =
 pub outsiders_alike : (ours theirs : FileMap) → ((q : List ℕ) → is_converter_name q ≡ true → get ours q ≡ get theirs q) → outsiders_of ours theirs ≡ theirs
 outsiders_alike ours theirs alike =
     same_map total same _ _ (λ q.
-      elim (cases_Bool (is_converter_name q)) as (λ _. get (outsiders_of ours theirs) q ≡ get theirs q) [
-        | inl on ↦ get-outsiders_of ours theirs q on ∙ alike q on
-        | inr off ↦ get-outsiders_other ours theirs q off
-      ])
+    elim (cases_Bool (is_converter_name q)) as (λ _. get (outsiders_of ours theirs) q ≡ get theirs q) [
+      | inl on ↦ get-outsiders_of ours theirs q on ∙ alike q on
+      | inr off ↦ get-outsiders_other ours theirs q off
+    ])
 
 pub outside_leaves : (files s : Files) → LeavesConverters s (acted (Outside files) s)
 outside_leaves files s = record {
@@ -42,6 +42,8 @@ outside_leaves files s = record {
 
 pub outside_reaches : (s t : Files) → LeavesConverters s t → acted (Outside t) s ≡ t
 outside_reaches s t alike =
-    rw (outsiders_alike s.tmp t.tmp (λ q on. sym (alike.tmp_alike q on)),
-        outsiders_alike s.new t.new (λ q on. sym (alike.new_alike q on)),
-        outsiders_alike s.cur t.cur (λ q on. sym (alike.cur_alike q on))) refl
+    rw (
+      outsiders_alike s.tmp t.tmp (λ q on. sym (alike.tmp_alike q on)),
+      outsiders_alike s.new t.new (λ q on. sym (alike.new_alike q on)),
+      outsiders_alike s.cur t.cur (λ q on. sym (alike.cur_alike q on)),
+    ) refl
