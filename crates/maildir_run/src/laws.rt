@@ -1,5 +1,5 @@
 //! Laws over the definitions alone. Each law is the contract of a function, and no function here does anything.
-ghost use Rattle.std.specs.Prelude.{◌≡◌, ℕ, ◌<◌, ◌^◌, length, List, [], ◌∷◌, ◌++◌, Some, Ok, All, IsTrue, IsFalse, IsPermutation};
+ghost use Rattle.std.specs.Prelude.{◌≡◌, ℕ, ◌<◌, ◌≤◌, ◌^◌, length, List, [], ◌∷◌, ◌++◌, Some, Ok, All, IsTrue, IsFalse, IsPermutation};
 ghost use Rattle.std.specs.List.{list_any};
 ghost use Rattle.std.specs.FinMap.{get};
 ghost use Rattle.maildir_name.specs.declared.target.Place.{Place};
@@ -11,7 +11,7 @@ ghost use Rattle.maildir_run.specs.Files.{Files, Action, LeavesConverters, acted
 ghost use Rattle.maildir_run.specs.Files.Action.{Outside};
 ghost use Rattle.maildir_run.specs.Calls.{Call, Move, after, Lists, Succeeded, PlacesElsewhere, WritesElsewhere, StaysOrGoes, NoneOrOne};
 ghost use Rattle.maildir_run.specs.Calls.Call.{Placing};
-ghost use Rattle.maildir_run.specs.Delivery.{Message, IsMissing, AreNamed, AreDistinct, Sound, Delivered};
+ghost use Rattle.maildir_run.specs.Delivery.{Message, leftover_count, IsMissing, AreNamed, AreDistinct, Sound, Delivered};
 ghost use Rattle.maildir_run.specs.Texts.{MessagesOf};
 ghost use Rattle.maildir_run.specs.Runs.{Link, Run, Runs};
 ghost use Rattle.maildir_run.specs.Alone.{alone};
@@ -59,6 +59,11 @@ pub fn only_write_adds()
     ensures { (name : List ℕ) (call : Call) (moves : List Move) (s : Files) →
         IsTrue (is_converter_name name) → WritesElsewhere name call →
         StaysOrGoes name s (after s call moves) }
+{}
+
+/// No action of another program makes the converter's names in `tmp` more.
+pub fn leftovers_never_grow()
+    ensures { (action : Action) (s : Files) → leftover_count (acted action s) ≤ leftover_count s }
 {}
 
 /// A base that a listing of `new` does not show, nor a later one of `cur`, has no home, whatever other programs did.
