@@ -12,3 +12,5 @@ pub mod Trees
 pub mod Quiet
 pub mod Poured
 pub mod Each
+pub mod MessageLemmas
+pub mod AloneLemmas

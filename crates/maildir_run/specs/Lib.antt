@@ -1,6 +1,7 @@
 pub mod Files
 pub mod Calls
 pub mod Delivery
+pub mod Texts
 pub mod Runs
 pub mod Alone
 pub mod Plan
