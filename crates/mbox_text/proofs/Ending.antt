@@ -1,6 +1,6 @@
 -- What a splitter holds at the end of the text, and how long the text is.
-use Rattle.std.proofs.Common.{◌≡◌, ℕ, ◌+◌, ◌<◌, ◌≤◌, Bool, true, false, List, [], ◌∷◌, ◌++◌, length, refl, sym, ◌∙◌, ap, arith, append_assoc, inl, inr, Option, Some, None, Result, Ok, Err}
-use Rattle.std.specs.Prelude.{◌⊎◌, ◌↔◌, IsErrOf, option_to_list}
+use Rattle.std.proofs.Common.{◌≡◌, ℕ, ◌+◌, ◌<◌, ◌≤◌, true, false, List, [], ◌∷◌, ◌++◌, length, refl, sym, ◌∙◌, ap, arith, inl, inr, Option, Some, None, Result}
+use Rattle.std.specs.Prelude.{◌↔◌, IsErrOf}
 use Rattle.std.proofs.lemmas.Bool.{false≢true, true≢false}
 use Rattle.std.proofs.lemmas.List.{length-append}
 use Rattle.mbox_text.specs.declared.entry.Entry.{Entry}
@@ -8,9 +8,8 @@ use Rattle.mbox_text.specs.declared.fault.TextFault.{TextFault}
 use Rattle.mbox_text.specs.declared.fault.TextFault.TheVariants.{NoFromLine}
 use Rattle.mbox_text.specs.declared.message.Message.{Message}
 use Rattle.mbox_text.specs.declared.splitter.Splitter.{Splitter}
-use Rattle.mbox_text.specs.Quoting.{begins_with, begins_from, from_bytes, unquoted}
-use Rattle.mbox_text.specs.Mbox.{Mbox}
-use Rattle.mbox_text.specs.Held.{AtHead, InBody, Held, chopped}
+use Rattle.mbox_text.specs.Quoting.{begins_from, unquoted}
+use Rattle.mbox_text.specs.Held.{AtHead, Held, chopped}
 use Rattle.mbox_text.specs.Fed.{Fed, Ends, IsTooShort}
 use Rattle.mbox_text.proofs.LineLemmas.{begins_from-more}
 use Rattle.mbox_text.proofs.Heads.{from-long, from-short}

@@ -1,16 +1,16 @@
 -- What a splitter has given: all messages but the last, whatever comes behind the text.
-use Rattle.std.proofs.Common.{◌≡◌, ℕ, ◌+◌, ◌<◌, ◌≤◌, Bool, true, false, List, [], ◌∷◌, ◌++◌, length, refl, sym, ◌∙◌, ap, arith, append_assoc, inl, inr, Option, Some, None, Result, Ok, Err}
-use Rattle.std.specs.Prelude.{◌⊎◌, OnErr}
-use Rattle.std.proofs.lemmas.Bool.{both_ways, false≢true}
-use Rattle.std.proofs.lemmas.List.{append-nil, length-append}
+use Rattle.std.proofs.Common.{◌≡◌, ℕ, true, false, List, [], ◌∷◌, ◌++◌, refl, sym, ◌∙◌, ap, append_assoc, inl, inr, Option, Some, None, Result, Ok, Err}
+use Rattle.std.specs.Prelude.{OnErr}
+use Rattle.std.proofs.lemmas.Bool.{both_ways}
+use Rattle.std.proofs.lemmas.List.{append-nil}
 use Rattle.mbox_text.specs.declared.entry.Entry.{Entry}
 use Rattle.mbox_text.specs.declared.message.Message.{Message}
 use Rattle.mbox_text.specs.declared.splitter.Splitter.{Splitter}
-use Rattle.mbox_text.specs.Quoting.{begins_with, begins_from, from_bytes}
-use Rattle.mbox_text.specs.Fronts.{AllButLast, IsProperFront, NeverFrom, Stay}
+use Rattle.mbox_text.specs.Quoting.{begins_from, from_bytes}
+use Rattle.mbox_text.specs.Fronts.{AllButLast, NeverFrom, Stay}
 use Rattle.mbox_text.specs.Mbox.{Mbox, without_blank}
-use Rattle.mbox_text.specs.Held.{AtHead, InBody, Held, Moves, Refused, Breaks}
-use Rattle.mbox_text.specs.Fed.{HasFailed, Fed, Takes, NeverBegins, TakesPart}
+use Rattle.mbox_text.specs.Held.{Held, Moves, Refused, Breaks}
+use Rattle.mbox_text.specs.Fed.{Fed, Takes, NeverBegins, TakesPart}
 use Rattle.mbox_text.proofs.LineLemmas.{begins_from-more}
 use Rattle.mbox_text.proofs.Heads.{from-rest}
 use Rattle.mbox_text.proofs.Last.{from-block}
@@ -56,23 +56,32 @@ breaks_at_once m l piece out out' e =
 -- a growth was refused behind a part of the piece
 pub breaks_after : (m m' : Option Message) (l l' p q whole : List ℕ) (a out out' : List Entry) → Moves m l p a m' l' → whole ≡ p ++ q → out' ≡ out ++ a
     → Breaks m l whole out out'
-breaks_after m m' l l' p q whole a out out' f is e = (a, e, λ text given h.
-    let h' = f text given h in
-    let texts : text ++ whole ≡ (text ++ p) ++ q = rw is (sym (append_assoc text p q)) in
-    (rw texts (stay-more (text ++ p) q (given ++ a) (held-stay m' (text ++ p) (given ++ a) l' h')),
-      λ n. nil-right given a (held-never m' (text ++ p) q (given ++ a) l' h' (rw texts at n))))
+breaks_after m m' l l' p q whole a out out' f is e = (
+  a,
+  e,
+  λ text given h.
+      let h' = f text given h in
+      let texts : text ++ whole ≡ (text ++ p) ++ q = rw is (sym (append_assoc text p q)) in (
+        rw texts (stay-more (text ++ p) q (given ++ a) (held-stay m' (text ++ p) (given ++ a) l' h')),
+        λ n. nil-right given a (held-never m' (text ++ p) q (given ++ a) l' h' (rw texts at n)),
+      ),
+)
 
 pub breaks_later : (m m' : Option Message) (l l' p q whole : List ℕ) (a out out1 out' : List Entry) → Moves m l p a m' l' → Breaks m' l' q out1 out'
     → whole ≡ p ++ q → out1 ≡ out ++ a → Breaks m l whole out out'
 breaks_later m m' l l' p q whole a out out1 out' f b is e =
-    let A : List Entry → List Entry = λ z. z ++ b.0 in
-    (a ++ b.0, b.1 ∙ ap A e ∙ append_assoc out a b.0, λ text given h.
-      let h' = f text given h in
-      let s = b.2 (text ++ p) (given ++ a) h' in
-      let texts : text ++ whole ≡ (text ++ p) ++ q = rw is (sym (append_assoc text p q)) in
-      (rw (texts, ← append_assoc given a b.0) s.0,
-        λ n. let n' = rw texts at n in
-        rw (nil-right given a (held-never m' (text ++ p) q (given ++ a) l' h' n')) (s.1 n')))
+    let A : List Entry → List Entry = λ z. z ++ b.0 in (
+      a ++ b.0,
+      b.1 ∙ ap A e ∙ append_assoc out a b.0,
+      λ text given h.
+          let h' = f text given h in
+          let s = b.2 (text ++ p) (given ++ a) h' in
+          let texts : text ++ whole ≡ (text ++ p) ++ q = rw is (sym (append_assoc text p q)) in (
+            rw (texts, ← append_assoc given a b.0) s.0,
+            λ n. let n' = rw texts at n in
+                rw (nil-right given a (held-never m' (text ++ p) q (given ++ a) l' h' n')) (s.1 n'),
+          ),
+    )
 
 pub fed_from : (splitter : Splitter) (text : List ℕ) (given : List Entry) → splitter.failed ≡ false → Held text given splitter.message splitter.line.items → Fed text given splitter
 fed_from splitter text given works h = record {

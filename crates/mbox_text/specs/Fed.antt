@@ -1,5 +1,5 @@
 -- What a splitter has been fed, and what it has given of it.
-use Rattle.std.specs.Prelude.{◌≡◌, ℕ, ◌<◌, true, List, [], ◌∷◌, ◌++◌, ◌⊎◌, ◌↔◌, Option, IsNone, IsTrue, length, option_to_list}
+use Rattle.std.specs.Prelude.{◌≡◌, ℕ, ◌<◌, List, [], ◌++◌, ◌↔◌, Option, IsNone, IsTrue, length, option_to_list}
 use Rattle.mbox_text.specs.declared.entry.Entry.{Entry}
 use Rattle.mbox_text.specs.declared.splitter.Splitter.{Splitter}
 use Rattle.mbox_text.specs.Mbox.{Mbox}
@@ -33,8 +33,8 @@ abbrev pub TakesPart : Splitter → List ℕ → List Entry → List Entry → T
 TakesPart old piece out out' =
     (added : List Entry) × (out' ≡ out ++ added)
     × ((text : List ℕ) (given : List Entry) → Fed text given old
-      → ((all : List Entry) → AllButLast (text ++ piece) (given ++ all) → (rest : List Entry) × (all ≡ added ++ rest))
-      × (NeverFrom (text ++ piece) → added ≡ []))
+    → ((all : List Entry) → AllButLast (text ++ piece) (given ++ all) → (rest : List Entry) × (all ≡ added ++ rest))
+    × (NeverFrom (text ++ piece) → added ≡ []))
 
 -- With this message those that were given are all of the text, whatever that is; none is left exactly where the text is empty.
 abbrev pub Ends : Splitter → Option Entry → Type 0

@@ -75,4 +75,4 @@ abbrev pub Breaks : Option Message → List ℕ → List ℕ → List Entry → 
 Breaks message line piece out out' =
     (added : List Entry) × (out' ≡ out ++ added)
     × ((text : List ℕ) (given : List Entry) → Held text given message line
-      → Stay (text ++ piece) (given ++ added) × (NeverFrom (text ++ piece) → added ≡ []))
+    → Stay (text ++ piece) (given ++ added) × (NeverFrom (text ++ piece) → added ≡ []))
