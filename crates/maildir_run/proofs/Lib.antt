@@ -7,7 +7,10 @@ pub mod Outsiders
 pub mod Counted
 pub mod PlanLemmas
 pub mod Sets
+pub mod Unread
 pub mod Trees
 pub mod Quiet
+pub mod Poured
+pub mod Each
 pub mod MessageLemmas
 pub mod AloneLemmas
