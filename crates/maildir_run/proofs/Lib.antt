@@ -7,3 +7,8 @@ pub mod Outsiders
 pub mod Counted
 pub mod PlanLemmas
 pub mod Sets
+pub mod Unread
+pub mod Trees
+pub mod Quiet
+pub mod Poured
+pub mod Each

@@ -5,3 +5,7 @@ pub mod Runs
 pub mod Alone
 pub mod Plan
 pub mod Bases
+pub mod Reading
+pub mod FileTree
+pub mod MemFolder
+pub mod Output

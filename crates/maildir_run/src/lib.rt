@@ -3,12 +3,18 @@
 
 mod bases;
 mod fault;
+mod file_tree;
 mod folder;
 pub mod laws;
+mod mem_folder;
+mod messages;
 mod planner;
 mod report;
+mod rewriting;
 
 pub use fault::RunFault;
 pub use folder::{Folder, FolderFault, Sub};
+pub use mem_folder::MemFolder;
 pub use planner::{Step, plan};
 pub use report::Report;
+pub use rewriting::rewrite;

@@ -228,3 +228,6 @@ fn append(out: &mut Vec<Entry>, entry: Entry) -> Result<(), AllocError>
     out.push(entry)?;
     Ok(())
 }
+
+#[cfg(test)]
+mod tests;
