@@ -1,14 +1,13 @@
 # make            prove the crates and build build/mbox2maildir
-# make run        deliver the example mailbox to a fresh Maildir under build/, and show what it holds
+# make run        write the example mailbox in its regular spelling
 # make test       prove and test everything from nothing: the gate of the repository
 # make install    copy the program, and its page where there is one, below PREFIX
-# make bench      time the program on generated mail beside cat, sha256sum and a plain C program (SIZE=MB)
+# make bench      time the program on generated mail beside cat and a plain C program (SIZE=megabytes)
 # make clean      remove build/
 #
 # The command rt and a shell are all that the first four need.
 
 PREFIX ?= /usr/local
-SIZE ?= 1000
 
 PROGRAM = build/mbox2maildir
 CRATE = crates/mbox2maildir
@@ -16,7 +15,6 @@ SOURCES = crates.txt $(shell find crates -name out -prune -o \( -name '*.rt' -o 
 PAGE = $(wildcard docs/mbox2maildir.1)
 
 MAILBOX = examples/archive.mbox
-MAILDIR = build/example
 
 all: $(PROGRAM)
 
@@ -27,11 +25,7 @@ $(PROGRAM): $(SOURCES)
 	cp $(CRATE)/out/mbox2maildir $@
 
 run: $(PROGRAM)
-	$(PROGRAM) list $(MAILBOX)
-	rm -rf $(MAILDIR)
-	$(PROGRAM) convert $(MAILDIR) $(MAILBOX)
-	cd $(MAILDIR) && ls -l new cur
-	$(PROGRAM) convert $(MAILDIR) $(MAILBOX)
+	$(PROGRAM) rewrite $(MAILBOX)
 
 # The gate, and then the tests that run the built program.
 test:
@@ -47,7 +41,7 @@ ifneq ($(PAGE),)
 endif
 
 bench: $(PROGRAM)
-	SIZE=$(SIZE) bench/run
+	bench/run
 
 clean:
 	rm -rf build
