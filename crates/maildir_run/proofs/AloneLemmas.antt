@@ -1,5 +1,5 @@
 -- Where the messages are delivered, an undisturbed run has nothing to do.
-use Rattle.std.proofs.Common.{◌≡◌, ℕ, Bool, true, false, cond, not, List, [], ◌∷◌, All, Option, None, IsTrue, refl, sym, ap, ◌∙◌, inl, inr}
+use Rattle.std.proofs.Common.{◌≡◌, ℕ, true, cond, not, List, [], ◌∷◌, All, None, IsTrue, refl, sym, ap, ◌∙◌, inl, inr}
 use Rattle.std.specs.FinMap.{get, retain_keys, same_map}
 use Rattle.std.proofs.lemmas.Bool.{cases_Bool}
 use Rattle.std.proofs.lemmas.List.Elements.{All-head, All-tail}

@@ -1,4 +1,9 @@
-//! A Maildir as a folder of the engine: its files, its calls, and what a run over it owes.
+//! A Maildir as a run of the converter knows it, and what a run over it owes.
+//!
+//! [`Folder`] is a Maildir by its four calls. What a call may do to the files, and what other programs may do
+//! meanwhile, is said in `specs/Files.antt` and `specs/Calls.antt`; [`laws`] has what follows from that alone.
+//! [`plan`] answers the steps of a run for given lists and targets, and [`MemFolder`] is a folder in memory.
+//! `docs/ENGINE.md` tells the model in plain words.
 #![tactic(auto)]
 
 mod bases;
