@@ -8,7 +8,7 @@ mod tests;
 /// What the header of a message says about it: a flag for each letter of the fields Status and X-Status.
 #[derive(Clone, Copy, Debug, PartialEq, Eq)]
 pub struct Flags {
-    /// `O`: the message was listed before.
+    /// `O`: a mail program has listed the message.
     pub is_old: bool,
     /// `F`: the message is flagged.
     pub flagged: bool,

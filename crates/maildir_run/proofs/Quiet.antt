@@ -11,6 +11,10 @@ once call old new ready left = record { before = []; rest = []; others = tt; rea
 
 pub listed_once : (sub : Sub) (old : Files) (names : List (List ℕ)) (new : Files) → names ≡ keys (folder_of sub old) → new ≡ old → Lists sub old names new
 listed_once sub old names new is left = record {
-  before = []; rest = []; whole_before = tt; whole = tt; left = left;
-  names_are = subst (λ xs. IsPermutation names xs) is (IsPermutation-refl names)
+  before = [];
+  rest = [];
+  whole_before = tt;
+  whole = tt;
+  left = left;
+  names_are = subst (λ xs. IsPermutation names xs) is (IsPermutation-refl names);
 }

@@ -1,6 +1,7 @@
 pub mod Files
 pub mod Calls
 pub mod Delivery
+pub mod Texts
 pub mod Runs
 pub mod Alone
 pub mod Plan
@@ -9,3 +10,5 @@ pub mod Reading
 pub mod FileTree
 pub mod MemFolder
 pub mod Output
+pub mod Listing
+pub mod Listed

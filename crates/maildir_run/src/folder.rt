@@ -6,9 +6,8 @@ ghost use Rattle.maildir_run.specs.Calls.{Called, Listed, CalledQuietly, GoesUp,
 ghost use Rattle.maildir_run.specs.Calls.Call.{Listing, Writing, Placing, Removing};
 ghost use Rattle.maildir_run.specs.declared.folder.FolderFault.TheVariants.{OutOfMemory};
 
-use std::alloc::{AllocError, AllocFailed};
-
 use maildir_name::Place;
+use std::alloc::{AllocError, AllocFailed};
 use thiserror::Error;
 
 /// One of the three folders of a Maildir (maildir(5)).
@@ -70,48 +69,72 @@ pub trait Folder {
     ghost failures: { Self → ℕ };
 
     /// The names in one folder, each once, in any order, as of one moment of the call.
+    ///
+    /// # Errors
+    ///
+    /// [`FolderFault::Failed`], and [`FolderFault::OutOfMemory`] where a growth was refused in this call.
     fn list(&mut self, sub: Sub) -> Result<Vec<String>, FolderFault>
         ensures honest { honest self.old → honest self.new }
         ensures called { honest self.old → Listed sub (files self.old) result (files self.new) }
 
         ensures quiet { quiet self.old → quiet self.new }
-        ensures alone { quiet self.old → CalledQuietly (Listing sub) (files self.old) result (files self.new) }
-        ensures names { quiet self.old → IfOk result (λ v. IsPermutation (names_of v) (keys (folder_of sub (files self.old)))) }
+        ensures alone { quiet self.old →
+            CalledQuietly (Listing sub) (files self.old) result (files self.new) }
+        ensures names { quiet self.old → IfOk result (λ v. IsPermutation (names_of v)
+            (keys (folder_of sub (files self.old)))) }
 
         ensures counted { GoesUp (calls self.old) (calls self.new) }
         ensures cause { CountsFailure result (failures self.old) (failures self.new) }
         ensures not_absent { IsNotAbsent result };
 
     /// Makes the file `name` of `tmp` hold these bytes, in place of what it held.
+    ///
+    /// # Errors
+    ///
+    /// Those of [`Folder::list`].
     fn write(&mut self, name: &str, bytes: &[u8]) -> Result<(), FolderFault>
         ensures honest { honest self.old → honest self.new }
-        ensures called { honest self.old → Called (Writing name.now bytes.now) (files self.old) result (files self.new) }
+        ensures called { honest self.old →
+            Called (Writing name.now bytes.now) (files self.old) result (files self.new) }
 
         ensures quiet { quiet self.old → quiet self.new }
-        ensures alone { quiet self.old → CalledQuietly (Writing name.now bytes.now) (files self.old) result (files self.new) }
+        ensures alone { quiet self.old →
+            CalledQuietly (Writing name.now bytes.now) (files self.old) result (files self.new) }
 
         ensures counted { GoesUp (calls self.old) (calls self.new) }
         ensures cause { CountsFailure result (failures self.old) (failures self.new) }
         ensures not_absent { IsNotAbsent result };
 
     /// Moves the file `name` of `tmp` to `target` of `new` or `cur`, by one rename.
+    ///
+    /// # Errors
+    ///
+    /// [`FolderFault::Absent`] where no file was found, and those of [`Folder::list`].
     fn place(&mut self, name: &str, place: Place, target: &str) -> Result<(), FolderFault>
         ensures honest { honest self.old → honest self.new }
-        ensures called { honest self.old → Called (Placing name.now place target.now) (files self.old) result (files self.new) }
+        ensures called { honest self.old →
+            Called (Placing name.now place target.now) (files self.old) result (files self.new) }
 
         ensures quiet { quiet self.old → quiet self.new }
-        ensures alone { quiet self.old → CalledQuietly (Placing name.now place target.now) (files self.old) result (files self.new) }
+        ensures alone { quiet self.old →
+            CalledQuietly (Placing name.now place target.now) (files self.old) result (files self.new) }
 
         ensures counted { GoesUp (calls self.old) (calls self.new) }
         ensures cause { CountsFailure result (failures self.old) (failures self.new) };
 
     /// Removes the file `name` of `tmp`. Ok also where there was none.
+    ///
+    /// # Errors
+    ///
+    /// Those of [`Folder::list`].
     fn remove(&mut self, name: &str) -> Result<(), FolderFault>
         ensures honest { honest self.old → honest self.new }
-        ensures called { honest self.old → Called (Removing name.now) (files self.old) result (files self.new) }
+        ensures called { honest self.old →
+            Called (Removing name.now) (files self.old) result (files self.new) }
 
         ensures quiet { quiet self.old → quiet self.new }
-        ensures alone { quiet self.old → CalledQuietly (Removing name.now) (files self.old) result (files self.new) }
+        ensures alone { quiet self.old →
+            CalledQuietly (Removing name.now) (files self.old) result (files self.new) }
 
         ensures counted { GoesUp (calls self.old) (calls self.new) }
         ensures cause { CountsFailure result (failures self.old) (failures self.new) }

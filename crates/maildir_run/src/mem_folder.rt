@@ -6,12 +6,13 @@ ghost use Rattle.maildir_run.specs.Calls.{effect, folder_of, names_of, IsReady, 
 ghost use Rattle.maildir_run.specs.Calls.Call.{Listing, Writing, Placing, Removing};
 ghost use Rattle.maildir_run.specs.MemFolder.{files_of, call_count, all_call_count, failure_count, no_files, with_file, SameCounts, IsUnchanged, CountsCall};
 
-use std::alloc::{AllocError, Global};
-
-use maildir_name::Place;
-
 use crate::file_tree::FileTree;
 use crate::folder::{Folder, FolderFault, Sub};
+use maildir_name::Place;
+use std::alloc::{AllocError, Global};
+
+#[cfg(test)]
+mod tests;
 
 /// The files of a Maildir in memory. It lists names in the order of their bytes.
 #[derive(Drop)]
@@ -48,7 +49,8 @@ impl MemFolder {
     ///
     /// [`FolderFault::OutOfMemory`] where a growth was refused; then all is as before.
     pub fn put(&mut self, sub: Sub, name: String, bytes: Vec<u8>) -> Result<(), FolderFault>
-        ensures ok { OnOk result (files_of self.new ≡ with_file sub (string_bytes name) bytes.items (files_of self.old)) }
+        ensures ok { OnOk result (files_of self.new ≡ with_file sub (string_bytes name) bytes.items
+            (files_of self.old)) }
         ensures counts { SameCounts self.old self.new }
         ensures err { OnErr result (IsUnchanged self.old self.new) }
         ensures refused { IfErr result (λ fault. fault ≡ FolderFault.OutOfMemory) }
@@ -117,7 +119,8 @@ impl MemFolder {
     }
 
     fn set_tmp(&mut self, name: &str, bytes: &[u8]) -> Result<(), AllocError>
-        ensures ok { OnOk result (files_of self.new ≡ effect (Writing name.now bytes.now) (files_of self.old)) }
+        ensures ok { OnOk result (files_of self.new ≡ effect (Writing name.now bytes.now)
+            (files_of self.old)) }
         ensures counts { SameCounts self.old self.new }
         ensures err { OnErr result (files_of self.new ≡ files_of self.old) }
     {
@@ -129,9 +132,11 @@ impl MemFolder {
     // Whether the file was there. The copy comes first, so that a refused growth leaves all as it was.
     fn rename(&mut self, name: &str, place: Place, target: &str) -> Result<bool, AllocError>
         ensures found { IfOk result (λ found. IsTrue found → IsReady (Placing name.now place target.now) (files_of self.old)) }
-        ensures absent { IfOk result (λ found. IsFalse found → get (files_of self.old).tmp name.now ≡ None) }
+        ensures absent { IfOk result (λ found. IsFalse found → get (files_of self.old).tmp name.now
+            ≡ None) }
         ensures there { OnErr result (IsReady (Placing name.now place target.now) (files_of self.old)) }
-        ensures done { OnOk result (files_of self.new ≡ effect (Placing name.now place target.now) (files_of self.old)) }
+        ensures done { OnOk result (files_of self.new ≡ effect (Placing name.now place target.now)
+            (files_of self.old)) }
         ensures counts { SameCounts self.old self.new }
         ensures err { OnErr result (files_of self.new ≡ files_of self.old) }
     {
@@ -165,7 +170,9 @@ impl Folder for MemFolder {
     fn list(&mut self, sub: Sub) -> Result<Vec<String>, FolderFault>
         ensures called { Listed sub (files_of self.old) result (files_of self.new) }
         ensures alone { CalledQuietly (Listing sub) (files_of self.old) result (files_of self.new) }
-        ensures names { IfOk result (λ names. IsPermutation (names_of names) (keys (folder_of sub (files_of self.old)))) }
+        ensures names { IfOk result (λ names. IsPermutation (names_of names)
+            (keys (folder_of sub (files_of self.old)))) }
+        ensures in_order { IfOk result (λ names. names_of names ≡ keys (folder_of sub (files_of self.old))) }
 
         ensures counted { GoesUp (all_call_count self.old) (all_call_count self.new) }
         ensures cause { CountsFailure result (failure_count self.old) (failure_count self.new) }
@@ -179,7 +186,8 @@ impl Folder for MemFolder {
 
     fn write(&mut self, name: &str, bytes: &[u8]) -> Result<(), FolderFault>
         ensures called { Called (Writing name.now bytes.now) (files_of self.old) result (files_of self.new) }
-        ensures alone { CalledQuietly (Writing name.now bytes.now) (files_of self.old) result (files_of self.new) }
+        ensures alone { CalledQuietly (Writing name.now bytes.now)
+            (files_of self.old) result (files_of self.new) }
 
         ensures counted { GoesUp (all_call_count self.old) (all_call_count self.new) }
         ensures cause { CountsFailure result (failure_count self.old) (failure_count self.new) }
@@ -193,13 +201,16 @@ impl Folder for MemFolder {
     }
 
     fn place(&mut self, name: &str, place: Place, target: &str) -> Result<(), FolderFault>
-        ensures called { Called (Placing name.now place target.now) (files_of self.old) result (files_of self.new) }
-        ensures alone { CalledQuietly (Placing name.now place target.now) (files_of self.old) result (files_of self.new) }
+        ensures called { Called (Placing name.now place target.now)
+            (files_of self.old) result (files_of self.new) }
+        ensures alone { CalledQuietly (Placing name.now place target.now)
+            (files_of self.old) result (files_of self.new) }
 
         ensures counted { GoesUp (all_call_count self.old) (all_call_count self.new) }
         ensures cause { CountsFailure result (failure_count self.old) (failure_count self.new) }
         ensures told { CountsCall self.old self.new }
-        ensures absent { IsErrOf result FolderFault.Absent ↔ (get (files_of self.old).tmp name.now ≡ None) }
+        ensures absent { IsErrOf result FolderFault.Absent ↔ (get (files_of self.old).tmp name.now
+            ≡ None) }
         ensures not_failed { IsErrOf result FolderFault.Failed → ⊥ }
     {
         self.begin_call();

@@ -1,11 +1,11 @@
 -- What is read of a front of a text is read of the whole text.
-use Rattle.std.proofs.Common.{◌≡◌, ℕ, Bool, true, false, List, [], ◌∷◌, ◌++◌, refl, sym, ◌∙◌, ap, append_assoc, inl, inr}
-use Rattle.std.specs.Prelude.{◌⊎◌}
+use Rattle.std.proofs.Common.{◌≡◌, ℕ, true, List, [], ◌∷◌, ◌++◌, refl, ◌∙◌, ap, append_assoc, inl, inr}
 use Rattle.std.proofs.lemmas.List.{append-nil}
 use Rattle.mbox_text.specs.declared.entry.Entry.{Entry}
 use Rattle.mbox_text.specs.Lines.{lines, Ended}
 use Rattle.mbox_text.specs.Quoting.{begins_from}
-use Rattle.mbox_text.specs.Mbox.{Block, Mbox, IsProperFront}
+use Rattle.mbox_text.specs.Fronts.{IsProperFront}
+use Rattle.mbox_text.specs.Mbox.{Block, Mbox}
 use Rattle.mbox_text.specs.Held.{Closed}
 use Rattle.mbox_text.proofs.LineLemmas.{lines-append, begins_from-more}
 use Rattle.mbox_text.proofs.Heads.{head-line, block-begins}

@@ -8,5 +8,5 @@ use Rattle.maildir_run.proofs.mem_folder.MemFolderFolder.list.Goals as goal
 pub returns-clause-called : goal.returns-clause-called
 returns-clause-called c =
     listed_once c.args.sub (files_of c.args.self.now) (names_of c.in_ok-names.field-0) (files_of c.begin_call.new.self)
-      (c.in_ok-names.ensures ∙ ap (λ s. keys (folder_of c.args.sub s)) c.begin_call.ensures.files)
-      c.begin_call.ensures.files
+    (c.in_ok-names.ensures ∙ ap (λ s. keys (folder_of c.args.sub s)) c.begin_call.ensures.files)
+    c.begin_call.ensures.files

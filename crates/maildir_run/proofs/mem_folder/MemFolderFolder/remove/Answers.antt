@@ -11,4 +11,4 @@ returns-clause-called c =
     let call = Removing c.args.name.now in
     let s = files_of c.begin_call.new.self in
     once call (files_of c.args.self.now) (record s { tmp = c.remove.new.self }) tt
-      (ap (λ m. record s { tmp = m }) c.remove.ensures ∙ ap (effect call) c.begin_call.ensures.files)
+    (ap (λ m. record s { tmp = m }) c.remove.ensures ∙ ap (effect call) c.begin_call.ensures.files)
