@@ -12,10 +12,10 @@ use Rattle.maildir_run.proofs.Maps.{total, same, get_under}
 all_kept : (m : FileMap) → ((name : List ℕ) → IsTrue (is_converter_name name) → get m name ≡ None) → retain_keys m (λ name. not (is_converter_name name)) ≡ m
 all_kept m gone =
     same_map total same _ _ (λ q.
-      elim (cases_Bool (is_converter_name q)) as (λ _. get (retain_keys m (λ name. not (is_converter_name name))) q ≡ get m q) [
-        | inl on ↦ get_under (λ name. not (is_converter_name name)) m q ∙ ap (λ t. cond (not t) (get m q) None) on ∙ sym (gone q on)
-        | inr off ↦ get_under (λ name. not (is_converter_name name)) m q ∙ ap (λ t. cond (not t) (get m q) None) off
-      ])
+    elim (cases_Bool (is_converter_name q)) as (λ _. get (retain_keys m (λ name. not (is_converter_name name))) q ≡ get m q) [
+      | inl on ↦ get_under (λ name. not (is_converter_name name)) m q ∙ ap (λ t. cond (not t) (get m q) None) on ∙ sym (gone q on)
+      | inr off ↦ get_under (λ name. not (is_converter_name name)) m q ∙ ap (λ t. cond (not t) (get m q) None) off
+    ])
 
 nothing_swept : (s : Files) → IsSwept s → swept s ≡ s
 nothing_swept s gone = ap (λ m. record s { tmp = m }) (all_kept s.tmp gone)

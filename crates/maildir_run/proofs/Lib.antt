@@ -10,7 +10,9 @@ pub mod Sets
 pub mod Unread
 pub mod Trees
 pub mod Quiet
+pub mod FromLines
 pub mod Poured
 pub mod Each
 pub mod MessageLemmas
 pub mod AloneLemmas
+pub mod Listings

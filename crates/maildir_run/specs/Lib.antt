@@ -10,3 +10,5 @@ pub mod Reading
 pub mod FileTree
 pub mod MemFolder
 pub mod Output
+pub mod Listing
+pub mod Listed

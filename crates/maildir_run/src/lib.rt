@@ -6,6 +6,8 @@ mod fault;
 mod file_tree;
 mod folder;
 pub mod laws;
+mod line;
+mod listing;
 mod mem_folder;
 mod messages;
 mod planner;
@@ -14,6 +16,7 @@ mod rewriting;
 
 pub use fault::RunFault;
 pub use folder::{Folder, FolderFault, Sub};
+pub use listing::list_text;
 pub use mem_folder::MemFolder;
 pub use planner::{Step, plan};
 pub use report::Report;
