@@ -13,6 +13,8 @@ mod messages;
 mod planner;
 mod report;
 mod rewriting;
+#[cfg(test)]
+mod testing;
 
 pub use fault::RunFault;
 pub use folder::{Folder, FolderFault, Sub};

@@ -103,3 +103,6 @@ impl Lister {
         }
     }
 }
+
+#[cfg(test)]
+mod tests;

@@ -62,3 +62,6 @@ fn write_entries<W: Write>(entries: &[Entry], out: &mut W) -> Result<(), RunFaul
     }
     Ok(())
 }
+
+#[cfg(test)]
+mod tests;
