@@ -1,8 +1,8 @@
 # make            prove the crates and build build/mbox2maildir
-# make run        write the example mailbox in its regular spelling
+# make run        list the example mailbox
 # make test       prove and test everything from nothing: the gate of the repository
 # make install    copy the program, and its page where there is one, below PREFIX
-# make bench      time the program on generated mail beside cat and a plain C program (SIZE=megabytes)
+# make bench      time the program on generated mail beside cat, sha256sum and a plain C program (SIZE=megabytes)
 # make clean      remove build/
 #
 # The command rt and a shell are all that the first four need.
@@ -25,7 +25,7 @@ $(PROGRAM): $(SOURCES)
 	cp $(CRATE)/out/mbox2maildir $@
 
 run: $(PROGRAM)
-	$(PROGRAM) rewrite $(MAILBOX)
+	$(PROGRAM) list $(MAILBOX)
 
 # The documents, the gate, and then the tests that run the built program.
 test:
