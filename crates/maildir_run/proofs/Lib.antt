@@ -7,3 +7,8 @@ pub mod Outsiders
 pub mod Counted
 pub mod PlanLemmas
 pub mod Sets
+pub mod Counts
+pub mod Sweeps
+pub mod Steps
+pub mod Surveys
+pub mod Progress

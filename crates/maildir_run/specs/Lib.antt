@@ -5,3 +5,5 @@ pub mod Runs
 pub mod Alone
 pub mod Plan
 pub mod Bases
+pub mod Counting
+pub mod Progress

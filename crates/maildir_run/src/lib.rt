@@ -2,11 +2,15 @@
 #![tactic(auto)]
 
 mod bases;
+mod calls;
+mod delivery;
 mod fault;
 mod folder;
 pub mod laws;
 mod planner;
 mod report;
+mod survey;
+mod sweep;
 
 pub use fault::RunFault;
 pub use folder::{Folder, FolderFault, Sub};
