@@ -1,5 +1,5 @@
 -- The bases of targets: their parts, and that they are this converter's.
-use Rattle.std.proofs.Common.{◌≡◌, ℕ, zero, suc, ◌+◌, ◌*◌, ◌/◌, ◌%◌, ◌^◌, ◌<◌, ◌≤◌, Bool, true, false, ◌&&◌, leb, List, [], ◌∷◌, ◌++◌, length, get_or, take, drop, slice_index, refl, sym, ◌∙◌, ap, arith, Ok, decimal, append_assoc, inl, inr, lit<}
+use Rattle.std.proofs.Common.{◌≡◌, ℕ, zero, suc, ◌+◌, ◌/◌, ◌%◌, ◌^◌, ◌<◌, true, ◌&&◌, leb, List, [], ◌∷◌, ◌++◌, length, get_or, take, drop, slice_index, refl, sym, ◌∙◌, ap, arith, Ok, decimal, append_assoc, inl, inr, lit<}
 use Rattle.std.specs.List.{list_all}
 use Rattle.std.specs.Int.{byte_at, bytes_high_first, to_be_bytes, w32}
 use Rattle.std.specs.Str.{all_ascii_digits}
@@ -9,7 +9,7 @@ use Rattle.std.proofs.lemmas.Fmt.{digits_decimal, digits_value-decimal, first_de
 use Rattle.std.proofs.lemmas.List.{take_at, drop_at, get_or_at, length_push}
 use Rattle.sha2.specs.Sha256.{sha256, digest_bytes, final_hash, initial_hash_256}
 use Rattle.sha2.proofs.Facts256.{length-sha256}
-use Rattle.hex.specs.Hex.{encode_lower, encode_with, lower_digits, IsBytes, decode_of}
+use Rattle.hex.specs.Hex.{encode_with, lower_digits, IsBytes, decode_of}
 use Rattle.hex.proofs.HexLemmas.{length-encode_with, decode_of-encode_lower}
 use Rattle.maildir_name.specs.declared.flags.Flags.{Flags}
 use Rattle.maildir_name.specs.declared.target.Target.{Target}

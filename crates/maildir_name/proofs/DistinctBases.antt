@@ -1,15 +1,15 @@
 -- The bases of the targets of one text: this converter's, and distinct.
-use Rattle.std.proofs.Common.{◌≡◌, ℕ, ◌+◌, ◌^◌, ◌<◌, ◌≤◌, Bool, true, false, List, [], ◌∷◌, ◌++◌, length, get_or, take, count_by, refl, sym, ◌∙◌, ap, arith, All, AllPairs, bytes_eq, cond, length-take-le}
+use Rattle.std.proofs.Common.{◌≡◌, ℕ, ◌+◌, ◌^◌, ◌<◌, ◌≤◌, true, List, [], ◌∷◌, ◌++◌, length, get_or, take, count_by, refl, sym, ◌∙◌, ap, arith, All, AllPairs, bytes_eq, cond, length-take-le}
 use Rattle.std.specs.Cmp.Lexicographic.{nat_list_eq_equiv}
-use Rattle.std.proofs.lemmas.List.{length_push, take_more, take-take}
+use Rattle.std.proofs.lemmas.List.{take_more, take-take}
 use Rattle.std.proofs.lemmas.List.Sums.{count_by-le-length, sum_by-take-le}
 use Rattle.sha2.specs.Sha256.{sha256}
 use Rattle.maildir_name.specs.declared.target.Target.{Target}
 use Rattle.maildir_name.specs.Flags.{flags}
-use Rattle.maildir_name.specs.Targets.{numbered, same_digest, under_flags, target, targets}
+use Rattle.maildir_name.specs.Targets.{numbered, same_digest, target, targets}
 use Rattle.maildir_name.proofs.BaseLemmas.{IsNamed, named-under_flags, numbered-converter, under_flags-base, same-digest, same-number}
 use Rattle.maildir_name.proofs.NamerLemmas.{count-push}
-use Rattle.maildir_name.proofs.TargetLemmas.{length-targets, get_or-targets, target_at}
+use Rattle.maildir_name.proofs.TargetLemmas.{length-targets, get_or-targets}
 
 -- the number of a body that follows others
 abbrev pub number_after : List (List ℕ) → List ℕ → ℕ

@@ -1,5 +1,5 @@
 -- Lines, headers and fields.
-use Rattle.std.proofs.Common.{◌≡◌, ℕ, ◌+◌, ◌-◌, ◌<◌, ◌≤◌, zero, suc, Bool, true, false, cond, not, eqb, List, [], ◌∷◌, length, get_or, take, drop, find, position, take_while, unwrap_or, Some, None, refl, sym, ◌∙◌, ap, arith, inl, inr, le_refl, zero-le, ltb, add-one}
+use Rattle.std.proofs.Common.{◌≡◌, ℕ, ◌+◌, ◌-◌, ◌<◌, ◌≤◌, zero, suc, Bool, true, false, not, eqb, List, [], ◌∷◌, length, get_or, take, drop, position, Some, None, refl, sym, ◌∙◌, ap, arith, inl, inr, le_refl, zero-le, ltb, add-one}
 use Rattle.std.proofs.lemmas.Bool.{eqb-true, cases_Bool, ltb-false}
 use Rattle.std.proofs.lemmas.List.{drop_all, take_all, take_rest, nil_from_length}
 use Rattle.std.proofs.lemmas.List.Quantifiers.{position-Some}

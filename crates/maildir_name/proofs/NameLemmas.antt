@@ -1,13 +1,12 @@
 -- Bases and this converter's names.
-use Rattle.std.proofs.Common.{◌≡◌, ℕ, ◌+◌, ◌-◌, ◌<◌, ◌≤◌, ◌^◌, suc, Bool, true, false, ◌&&◌, ◌||◌, eqb, leb, List, [], ◌∷◌, ◌++◌, length, get_or, take, drop, refl, sym, ◌∙◌, ap, arith, inl, inr, Result, Ok, Err, is_ok, OkIff, lit<, lit≤, length-append, length-drop, length-take-le, get_or-take, get_or-drop}
+use Rattle.std.proofs.Common.{◌≡◌, ℕ, ◌+◌, ◌-◌, ◌<◌, ◌≤◌, ◌^◌, suc, Bool, true, false, ◌&&◌, eqb, leb, List, [], ◌∷◌, ◌++◌, length, get_or, take, drop, refl, sym, ◌∙◌, arith, inl, inr, Result, Ok, Err, is_ok, OkIff, length-append, length-drop, length-take-le, get_or-take, get_or-drop}
 use Rattle.std.specs.List.{before_first, after_first, position_or_len, list_all}
 use Rattle.std.specs.Char.{is_ascii_digit}
 use Rattle.std.specs.Int.{IsInRange}
 use Rattle.std.specs.Str.{all_ascii_digits}
 use Rattle.std.specs.Str.Parse.{digits_value, ParsesUnsigned}
-use Rattle.std.proofs.lemmas.Bool.{true≢false, false≢true, both_ways, and_parts, and_from, and_left, and_right, and_cases, cases_eq, cases_lt, cases_order, leb-true, leb-false, le-leb, lt-leb, eqb-true, eqb-false, eq-eqb, ne_eqb, false_from_ne_true}
+use Rattle.std.proofs.lemmas.Bool.{both_ways, and_parts, and_from, and_left, and_right, and_cases, cases_eq, cases_lt, cases_order, leb-true, leb-false, le-leb, lt-leb, eqb-true, eq-eqb, ne_eqb, false_from_ne_true}
 use Rattle.std.proofs.lemmas.List.{take_all, take_at, get_or_at, get_or_past, get_or_append_left}
-use Rattle.std.proofs.lemmas.List.Elements.{All-get_or}
 use Rattle.std.proofs.lemmas.List.Sums.{position_or_len_is, passes_at_first, AllPass-from_list_all}
 use Rattle.std.proofs.lemmas.Str.Parse.{IsNumeralModel, numerals_by_value, tells_all_ascii_digits, parse_plain, not_in_digits}
 use Rattle.maildir_name.specs.Names.{base, is_colon, is_lower_hex_digit, is_occurrence, is_converter_base, is_converter_name, IsConverterBase}

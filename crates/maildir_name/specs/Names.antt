@@ -1,5 +1,5 @@
 -- The names of files in a Maildir: the base of a name, and which names are this converter's.
-use Rattle.std.specs.Prelude.{◌≡◌, ℕ, ◌==◌, Bool, IsTrue, ◌&&◌, ◌||◌, nat_le, List, take, drop, slice_index}
+use Rattle.std.specs.Prelude.{ℕ, ◌==◌, Bool, IsTrue, ◌&&◌, ◌||◌, nat_le, List, take, drop, slice_index}
 use Rattle.std.specs.List.{before_first, list_all}
 use Rattle.std.specs.Char.{is_ascii_digit}
 use Rattle.std.specs.Str.{all_ascii_digits}

@@ -1,12 +1,11 @@
 -- Where the messages of a text are delivered: their bases, places and names.
-use Rattle.std.specs.Prelude.{◌≡◌, ℕ, Bool, ◌||◌, List, [], ◌∷◌, ◌++◌, length, take, map, filter, zip, count_by, slice_index_or, if◌then◌else◌}
+use Rattle.std.specs.Prelude.{ℕ, Bool, ◌||◌, List, [], ◌∷◌, ◌++◌, length, take, map, filter, zip, count_by, slice_index_or, if◌then◌else◌}
 use Rattle.std.specs.List.{range_with_len}
 use Rattle.std.specs.Str.{bytes_eq}
 use Rattle.std.specs.Fmt.{decimal}
 use Rattle.sha2.specs.Sha256.{sha256}
 use Rattle.hex.specs.Hex.{encode_lower}
 use Rattle.maildir_name.specs.declared.flags.Flags.{Flags}
-use Rattle.maildir_name.specs.declared.target.Place.{Place}
 use Rattle.maildir_name.specs.declared.target.Place.TheVariants.{New, Cur}
 use Rattle.maildir_name.specs.declared.target.Target.{Target}
 use Rattle.maildir_name.specs.Flags.{flags}

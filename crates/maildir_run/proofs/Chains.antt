@@ -8,7 +8,8 @@ use Rattle.maildir_run.specs.Files.{Files, homes, Action, acted}
 use Rattle.maildir_run.specs.Delivery.{Message, IsMissing, IsHome, IsSoundAt, AreNamed, is_base_of, Sound, IsSwept, Delivered}
 use Rattle.maildir_run.specs.declared.fault.RunFault.{RunFault}
 use Rattle.maildir_run.specs.declared.report.Report.{Report}
-use Rattle.maildir_run.specs.Runs.{Keeps, Run, Link, Ran, Acted, Linked, Runs}
+use Rattle.maildir_run.specs.Texts.{MessagesOf}
+use Rattle.maildir_run.specs.Runs.{Run, Link, Ran, Acted, Linked, Runs}
 use Rattle.maildir_run.proofs.Homes.{acted_kept}
 use Rattle.maildir_run.proofs.Moves.{homes_none, homes_one, acted_tmp}
 
@@ -18,7 +19,7 @@ sound_now ms a s sound = record { own = sound.own; others = λ b named other. Is
 sound_trans : (ms : List Message) (a b c : Files) → Sound ms a b → Sound ms b c → Sound ms a c
 sound_trans ms a b c first then = record {
   own = then.own;
-  others = λ b named other. IsPermutation-trans _ _ _ (first.others b named other) (then.others b named other)
+  others = λ b named other. IsPermutation-trans _ _ _ (first.others b named other) (then.others b named other);
 }
 
 pub sound_at_start : (ms : List Message) (s : Files) → All (IsMissing s) ms → Sound ms s s
@@ -31,23 +32,25 @@ acted_sound_at m named action s (inr one) = inr (homes_one m.target.base m.body 
 pub acted_sound : (ms : List Message) → AreNamed ms → (a s : Files) (action : Action) → Sound ms a s → Sound ms a (acted action s)
 acted_sound ms named a s action sound = record {
   own = λ k d h. acted_sound_at (get_or ms k d) (named k d h) action s (sound.own k d h);
-  others = λ b is other. IsPermutation-trans _ _ _ (sound.others b is other) (acted_kept b is action s)
+  others = λ b is other. IsPermutation-trans _ _ _ (sound.others b is other) (acted_kept b is action s);
 }
 
-linked_sound : (ms : List Message) → AreNamed ms → (link : Link) (a old new : Files) → Sound ms a old → Linked ms link old new → Sound ms a new
-linked_sound ms named (Ran answer) a old new sound run = sound_trans ms a old new sound (run (sound_now ms a old sound)).sound
-linked_sound ms named (Acted action) a old new sound e = subst (Sound ms a) (sym e) (acted_sound ms named a old action sound)
+-- ---- a chain over a text whose messages these are
+module _ (t : List ℕ) (ms : List Message) (are : MessagesOf t ms) (named : AreNamed ms) where
+  linked_sound : (link : Link) (a old new : Files) → Sound ms a old → Linked t link old new → Sound ms a new
+  linked_sound (Ran answer) a old new sound run = sound_trans ms a old new sound (run.keeps ms are (sound_now ms a old sound)).sound
+  linked_sound (Acted action) a old new sound e = subst (Sound ms a) (sym e) (acted_sound ms named a old action sound)
 
-pub runs_sound : (ms : List Message) → AreNamed ms → (links : List Link) (a old new : Files) → Sound ms a old → Runs ms links old new → Sound ms a new
-runs_sound ms named [] a old new sound e = subst (Sound ms a) (sym e) sound
-runs_sound ms named (link ∷ links) a old new sound (mid, linked, rest) = runs_sound ms named links a mid new (linked_sound ms named link a old mid sound linked) rest
+  runs_sound : (links : List Link) (a old new : Files) → Sound ms a old → Runs t links old new → Sound ms a new
+  runs_sound [] a old new sound e = subst (Sound ms a) (sym e) sound
+  runs_sound (link ∷ links) a old new sound (mid, linked, rest) = runs_sound links a mid new (linked_sound link a old mid sound linked) rest
 
-pub after_any_runs-sound : (ms : List Message) (links : List Link) (old new : Files) → AreNamed ms → All (IsMissing old) ms → Runs ms links old new → Sound ms old new
-after_any_runs-sound ms links old new named missing runs = runs_sound ms named links old old new (sound_at_start ms old missing) runs
+  pub chain_sound : (links : List Link) (old new : Files) → All (IsMissing old) ms → Runs t links old new → Sound ms old new
+  chain_sound links old new missing runs = runs_sound links old old new (sound_at_start ms old missing) runs
 
-pub after_any_runs-delivered : (ms : List Message) (links : List Link) (old mid new : Files) (report : Report) → AreNamed ms → All (IsMissing old) ms → Runs ms links old mid → Run ms mid (Ok report) new → Delivered ms new
-after_any_runs-delivered ms links old mid new report named missing runs last =
-    (last (sound_now ms old mid (after_any_runs-sound ms links old mid named missing runs))).ends.delivered
+  pub chain_delivered : (links : List Link) (old mid new : Files) (report : Report) → All (IsMissing old) ms → Runs t links old mid → Run t mid (Ok report) new → Delivered ms new
+  chain_delivered links old mid new report missing runs last =
+      (last.keeps ms are (sound_now ms old mid (chain_sound links old mid missing runs))).ends.delivered
 
 still_swept : (name : List ℕ) → IsTrue (is_converter_name name) → (action : Action) (s : Files) → get s.tmp name ≡ None → get (acted action s).tmp name ≡ None
 still_swept name ours action s h =
@@ -56,5 +59,5 @@ still_swept name ours action s h =
 pub acted_delivered : (ms : List Message) → AreNamed ms → (action : Action) (s : Files) → Delivered ms s → Delivered ms (acted action s)
 acted_delivered ms named action s d = record {
   homes_are = λ k e h. homes_one (get_or ms k e).target.base (get_or ms k e).body s (acted action s) (acted_kept (get_or ms k e).target.base (named k e h) action s) (d.homes_are k e h);
-  swept = λ name ours. still_swept name ours action s (d.swept name ours)
+  swept = λ name ours. still_swept name ours action s (d.swept name ours);
 }

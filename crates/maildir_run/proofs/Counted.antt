@@ -6,6 +6,7 @@ use Rattle.std.specs.FinMap.Entries.{where_key, is_sorted-where_key, find-where_
 use Rattle.std.proofs.lemmas.Bool.{cases_Bool}
 use Rattle.maildir_name.specs.Names.{is_converter_name}
 use Rattle.maildir_run.specs.Files.{name_cmp, FileMap, Files, Action, ToCur, Reflag, DropTmp, Outside, outsiders_of, acted}
+use Rattle.maildir_run.specs.Delivery.{leftover_count}
 use Rattle.maildir_run.proofs.Maps.{total, same, get_under, under_same, under_remove, under_remove_other}
 use Rattle.maildir_run.proofs.Homes.{get-outsiders_of}
 use Rattle.maildir_run.proofs.Moves.{to_cur_tmp, reflag_tmp}
@@ -15,9 +16,9 @@ entries_under p m =
     let es = where_key name_cmp p (entries m) in
     let sorted = is_sorted-where_key name_cmp p (entries m) (entries_sorted m) in
     let is : retain_keys m p ≡ from_sorted es = same_map total same _ _ (λ q.
-      get_under p m q ∙ ap (λ o. cond (p q) o None) (get-entries m q)
-      ∙ sym (find-where_key name_cmp p q (λ x e. ap p (sym (same q x e))) (entries m))
-      ∙ sym (get-from_sorted name_cmp es q sorted)) in
+    get_under p m q ∙ ap (λ o. cond (p q) o None) (get-entries m q)
+    ∙ sym (find-where_key name_cmp p q (λ x e. ap p (sym (same q x e))) (entries m))
+    ∙ sym (get-from_sorted name_cmp es q sorted)) in
     ap entries is ∙ entries-from_sorted name_cmp es sorted
 
 keys_filter : (p : List ℕ → Bool) (es : List (List ℕ × List ℕ)) → length (filter p (map (λ e. e.0) es)) ≡ length (where_key name_cmp p es)
@@ -50,3 +51,6 @@ acted_count (DropTmp name) s =
     elim (is_converter_name name) as (λ t. len (retain_keys (cond t (record s { tmp = remove s.tmp name }) s).tmp is_converter_name) ≤ len (retain_keys s.tmp is_converter_name)) [ true ↦ dropped_count s.tmp name | false ↦ omega arith ]
 acted_count (Outside files) s =
     rw (under_same is_converter_name (outsiders_of s.tmp files.tmp) s.tmp (λ q on. get-outsiders_of s.tmp files.tmp q on)) (omega arith)
+
+pub leftovers : (action : Action) (s : Files) → leftover_count (acted action s) ≤ leftover_count s
+leftovers action s = let after = counted (acted action s).tmp in let before = counted s.tmp in omega (arith, after, before, acted_count action s)

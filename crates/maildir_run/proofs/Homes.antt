@@ -21,12 +21,12 @@ held-remove_other b m k h = ap values (under_remove_other (has_base b) m k h)
 pub held-insert_new : (b : List ℕ) (m : FileMap) (k v : List ℕ) → has_base b k ≡ true → get m k ≡ None → IsPermutation (v ∷ held_under b m) (held_under b (insert m k v))
 held-insert_new b m k v h none =
     rw (under_insert (has_base b) m k v h)
-      (values-insert (retain_keys m (has_base b)) k v (get_under (has_base b) m k ∙ rw h none))
+    (values-insert (retain_keys m (has_base b)) k v (get_under (has_base b) m k ∙ rw h none))
 
 pub held-remove_old : (b : List ℕ) (m : FileMap) (k v : List ℕ) → has_base b k ≡ true → get m k ≡ Some v → IsPermutation (v ∷ held_under b (remove m k)) (held_under b m)
 held-remove_old b m k v h has =
     rw (under_remove (has_base b) m k h)
-      (values-remove (retain_keys m (has_base b)) k v (get_under (has_base b) m k ∙ rw h has))
+    (values-remove (retain_keys m (has_base b)) k v (get_under (has_base b) m k ∙ rw h has))
 
 -- ---- the outsiders' step
 find-both : (q : List ℕ) (xs ys : List (List ℕ × List ℕ)) → find name_cmp q ys ≡ None → find name_cmp q (xs ++ ys) ≡ find name_cmp q xs
@@ -68,11 +68,11 @@ to_cur_kept b s name target bytes has may =
     let alike : has_base b target ≡ has_base b name = ap (is_name b) (sym (is_name-true _ _ parts.1)) in
     elim (cases_Bool (has_base b name)) as (λ _. Kept b s (record s { new = remove s.new name; cur = insert s.cur target bytes })) [
       | inl on ↦
-        IsPermutation-trans _ _ _
+          IsPermutation-trans _ _ _
           (IsPermutation-append_left (held_under b s.cur) _ _ (IsPermutation-sym _ _ (held-remove_old b s.new name bytes on has)))
           (IsPermutation-trans _ _ _
-            (IsPermutation-sym _ _ (IsPermutation-middle (held_under b (remove s.new name)) bytes (held_under b s.cur)))
-            (IsPermutation-append_right (held_under b (remove s.new name)) _ _ (held-insert_new b s.cur target bytes (alike ∙ on) free)))
+          (IsPermutation-sym _ _ (IsPermutation-middle (held_under b (remove s.new name)) bytes (held_under b s.cur)))
+          (IsPermutation-append_right (held_under b (remove s.new name)) _ _ (held-insert_new b s.cur target bytes (alike ∙ on) free)))
       | inr off ↦ equally b s (record s { new = remove s.new name; cur = insert s.cur target bytes }) (rw (held-remove_other b s.new name off, held-insert_other b s.cur target bytes (alike ∙ off)) refl)
     ]
 
@@ -88,10 +88,10 @@ reflag_kept b s name target bytes has may =
     let gone : get (remove s.cur name) target ≡ None = get-remove total s.cur name target ∙ same_both (is_name target name) _ free in
     elim (cases_Bool (has_base b name)) as (λ _. Kept b s (record s { cur = insert (remove s.cur name) target bytes })) [
       | inl on ↦
-        IsPermutation-append_right (held_under b s.new) _ _
+          IsPermutation-append_right (held_under b s.new) _ _
           (IsPermutation-trans _ _ _
-            (IsPermutation-sym _ _ (held-remove_old b s.cur name bytes on has))
-            (held-insert_new b (remove s.cur name) target bytes (alike ∙ on) gone))
+          (IsPermutation-sym _ _ (held-remove_old b s.cur name bytes on has))
+          (held-insert_new b (remove s.cur name) target bytes (alike ∙ on) gone))
       | inr off ↦ equally b s (record s { cur = insert (remove s.cur name) target bytes }) (rw (held-insert_other b (remove s.cur name) target bytes (alike ∙ off), held-remove_other b s.cur name off) refl)
     ]
 
@@ -100,19 +100,19 @@ acted_kept b named (ToCur name target) s =
     elim (get s.new name) as (λ o. get s.new name ≡ o → Kept b s (to_cur s name target o)) [
       | None ↦ λ has. IsPermutation-refl _
       | Some bytes ↦ λ has.
-        elim (may_take s.cur name target) as (λ t. may_take s.cur name target ≡ t → Kept b s (cond t (record s { new = remove s.new name; cur = insert s.cur target bytes }) s)) [
-          | true ↦ λ may. to_cur_kept b s name target bytes has may
-          | false ↦ λ may. IsPermutation-refl _
-        ] refl
+          elim (may_take s.cur name target) as (λ t. may_take s.cur name target ≡ t → Kept b s (cond t (record s { new = remove s.new name; cur = insert s.cur target bytes }) s)) [
+            | true ↦ λ may. to_cur_kept b s name target bytes has may
+            | false ↦ λ may. IsPermutation-refl _
+          ] refl
     ] refl
 acted_kept b named (Reflag name target) s =
     elim (get s.cur name) as (λ o. get s.cur name ≡ o → Kept b s (reflag s name target o)) [
       | None ↦ λ has. IsPermutation-refl _
       | Some bytes ↦ λ has.
-        elim (may_take s.cur name target) as (λ t. may_take s.cur name target ≡ t → Kept b s (cond t (record s { cur = insert (remove s.cur name) target bytes }) s)) [
-          | true ↦ λ may. reflag_kept b s name target bytes has may
-          | false ↦ λ may. IsPermutation-refl _
-        ] refl
+          elim (may_take s.cur name target) as (λ t. may_take s.cur name target ≡ t → Kept b s (cond t (record s { cur = insert (remove s.cur name) target bytes }) s)) [
+            | true ↦ λ may. reflag_kept b s name target bytes has may
+            | false ↦ λ may. IsPermutation-refl _
+          ] refl
     ] refl
 acted_kept b named (DropTmp name) s =
     elim (is_converter_name name) as (λ t. Kept b s (cond t (record s { tmp = remove s.tmp name }) s)) [

@@ -12,3 +12,10 @@ pub mod Sweeps
 pub mod Steps
 pub mod Surveys
 pub mod Progress
+pub mod Unread
+pub mod Trees
+pub mod Quiet
+pub mod Poured
+pub mod Each
+pub mod MessageLemmas
+pub mod AloneLemmas

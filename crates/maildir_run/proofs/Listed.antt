@@ -75,7 +75,7 @@ pub listed_new : (b : List ℕ) → IsTrue (is_converter_base b) → (old : File
 listed_new b named old names new listed off =
     let mid = after old (Listing New) listed.before in
     subst (λ s. held_under b s.new ≡ []) (sym (listed.left ∙ after-append old (Listing New) listed.before (Again ∷ listed.rest)))
-      (listing_new b named New listed.rest mid (unlisted b mid.new names listed.names_are off))
+    (listing_new b named New listed.rest mid (unlisted b mid.new names listed.names_are off))
 
 -- and after a later listing of `cur` that does not show it either, it has no home
 pub listed_cur : (b : List ℕ) → IsTrue (is_converter_base b) → (old : Files) (names : List (List ℕ)) (new : Files) → held_under b old.new ≡ [] → Lists Cur old names new → IsFalse (list_any (has_base b) names) → homes new b ≡ []
@@ -83,10 +83,10 @@ listed_cur b named old names new e listed off =
     let mid = after old (Listing Cur) listed.before in
     let none : homes mid b ≡ [] = rw (listing_new b named Cur listed.before old e, unlisted b mid.cur names listed.names_are off) refl in
     subst (λ s. homes s b ≡ []) (sym (listed.left ∙ after-append old (Listing Cur) listed.before (Again ∷ listed.rest)))
-      (homes_none b mid (after mid (Listing Cur) listed.rest) (after_kept b named (Listing Cur) tt listed.rest mid) none)
+    (homes_none b mid (after mid (Listing Cur) listed.rest) (after_kept b named (Listing Cur) tt listed.rest mid) none)
 
 pub listed_twice : (b : List ℕ) → IsTrue (is_converter_base b) → (s t u v : Files) (in_new in_cur : List (List ℕ)) (actions : List Action) → Lists New s in_new t → u ≡ all_acted actions t → Lists Cur u in_cur v → IsFalse (list_any (has_base b) in_new) → IsFalse (list_any (has_base b) in_cur) → homes v b ≡ []
 listed_twice b named s t u v in_new in_cur actions first between second off_new off_cur =
     listed_cur b named u in_cur v
-      (subst (λ w. held_under b w.new ≡ []) (sym between) (all_acted_new b named actions t (listed_new b named s in_new t first off_new)))
-      second off_cur
+    (subst (λ w. held_under b w.new ≡ []) (sym between) (all_acted_new b named actions t (listed_new b named s in_new t first off_new)))
+    second off_cur

@@ -49,11 +49,11 @@ inside false false x y h = refl
 pub under_insert : (p : List ℕ → Bool) (m : FileMap) (k v : List ℕ) → p k ≡ true → retain_keys (insert m k v) p ≡ insert (retain_keys m p) k v
 under_insert p m k v h =
     same_map total same _ _ (λ q.
-      get_under p (insert m k v) q
-      ∙ ap (λ o. cond (p q) o None) (get-insert total m k v q)
-      ∙ inside (is_name q k) (p q) (Some v) (get m q) (λ e. ap p (is_name-true q k e) ∙ h)
-      ∙ ap (cond (is_name q k) (Some v)) (sym (get_under p m q))
-      ∙ sym (get-insert total (retain_keys m p) k v q))
+    get_under p (insert m k v) q
+    ∙ ap (λ o. cond (p q) o None) (get-insert total m k v q)
+    ∙ inside (is_name q k) (p q) (Some v) (get m q) (λ e. ap p (is_name-true q k e) ∙ h)
+    ∙ ap (cond (is_name q k) (Some v)) (sym (get_under p m q))
+    ∙ sym (get-insert total (retain_keys m p) k v q))
 
 outside : {X : Type 0} (b : Bool) (x y : X) → b ≡ false → cond b x y ≡ y
 outside b x y e = ap (λ c. cond c x y) e
@@ -85,11 +85,11 @@ removed false b y = refl
 pub under_remove : (p : List ℕ → Bool) (m : FileMap) (k : List ℕ) → p k ≡ true → retain_keys (remove m k) p ≡ remove (retain_keys m p) k
 under_remove p m k h =
     same_map total same _ _ (λ q.
-      get_under p (remove m k) q
-      ∙ ap (λ o. cond (p q) o None) (get-remove total m k q)
-      ∙ removed (is_name q k) (p q) (get m q)
-      ∙ ap (cond (is_name q k) None) (sym (get_under p m q))
-      ∙ sym (get-remove total (retain_keys m p) k q))
+    get_under p (remove m k) q
+    ∙ ap (λ o. cond (p q) o None) (get-remove total m k q)
+    ∙ removed (is_name q k) (p q) (get m q)
+    ∙ ap (cond (is_name q k) None) (sym (get_under p m q))
+    ∙ sym (get-remove total (retain_keys m p) k q))
 
 shadow : {X : Type 0} (b : Bool) (x y z : X) → (b ≡ true → z ≡ x) → z ≡ cond b x (cond b y z)
 shadow true x y z h = h refl
@@ -98,9 +98,9 @@ shadow false x y z h = refl
 pub put_back : (m : FileMap) (k v : List ℕ) → get m k ≡ Some v → m ≡ insert (remove m k) k v
 put_back m k v has =
     same_map total same _ _ (λ q.
-      shadow (is_name q k) (Some v) None (get m q) (λ e. ap (get m) (is_name-true q k e) ∙ has)
-      ∙ ap (cond (is_name q k) (Some v)) (sym (get-remove total m k q))
-      ∙ sym (get-insert total (remove m k) k v q))
+    shadow (is_name q k) (Some v) None (get m q) (λ e. ap (get m) (is_name-true q k e) ∙ has)
+    ∙ ap (cond (is_name q k) (Some v)) (sym (get-remove total m k q))
+    ∙ sym (get-insert total (remove m k) k v q))
 
 -- ---- what a folder holds, as one more file comes or goes
 abbrev the_values : List (List ℕ × List ℕ) → List (List ℕ)

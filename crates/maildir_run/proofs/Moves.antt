@@ -169,27 +169,29 @@ placed_first : (b name : List ℕ) (p : Place) (target bytes : List ℕ) (s : Fi
 placed_first b name New target bytes s on e =
     let parts = both_none (held_under b s.new) (held_under b s.cur) e in
     homes_first (held_under b s.new) (held_under b s.cur) bytes _ e
-      (IsPermutation-append_left (held_under b s.cur) _ _ (held-insert_new b s.new target bytes on (none_held b s.new parts.0 target on)))
+    (IsPermutation-append_left (held_under b s.cur) _ _ (held-insert_new b s.new target bytes on (none_held b s.new parts.0 target on)))
 placed_first b name Cur target bytes s on e =
     let parts = both_none (held_under b s.new) (held_under b s.cur) e in
     homes_first (held_under b s.new) (held_under b s.cur) bytes _ e
-      (IsPermutation-trans _ _ _
-        (IsPermutation-sym _ _ (IsPermutation-middle (held_under b s.new) bytes (held_under b s.cur)))
-        (IsPermutation-append_right (held_under b s.new) _ _ (held-insert_new b s.cur target bytes on (none_held b s.cur parts.1 target on))))
+    (IsPermutation-trans _ _ _
+    (IsPermutation-sym _ _ (IsPermutation-middle (held_under b s.new) bytes (held_under b s.cur)))
+    (IsPermutation-append_right (held_under b s.new) _ _ (held-insert_new b s.cur target bytes on (none_held b s.cur parts.1 target on))))
 
 waits_on : (b name : List ℕ) (had : Option (List ℕ)) (s t : Files) → Kept b s t → StaysOrGoes name s t → Waits b name had s → Waits b name had t
 waits_on b name had s t kept (inr gone) w = record { homes_are = homes_none b s t kept w.homes_are; waiting = inr gone }
 waits_on b name had s t kept (inl stays) w =
     record {
       homes_are = homes_none b s t kept w.homes_are;
-      waiting = elim w.waiting as (λ _. (get t.tmp name ≡ had) ⊎ (get t.tmp name ≡ None)) [ inl e ↦ inl (stays ∙ e) | inr e ↦ inr (stays ∙ e) ]
+      waiting = elim w.waiting as (λ _. (get t.tmp name ≡ had) ⊎ (get t.tmp name ≡ None)) [ inl e ↦ inl (stays ∙ e) | inr e ↦ inr (stays ∙ e) ];
     }
 
 arrived_on : (b name : List ℕ) (had : Option (List ℕ)) (s t : Files) → Kept b s t → StaysOrGoes name s t → Arrived b name had s → Arrived b name had t
 arrived_on b name had s t kept stays a =
     record {
-      bytes = a.bytes; was = a.was; homes_are = homes_one b a.bytes s t kept a.homes_are;
-      gone = elim stays as (λ _. get t.tmp name ≡ None) [ inl e ↦ e ∙ a.gone | inr e ↦ e ]
+      bytes = a.bytes;
+      was = a.was;
+      homes_are = homes_one b a.bytes s t kept a.homes_are;
+      gone = elim stays as (λ _. get t.tmp name ≡ None) [ inl e ↦ e ∙ a.gone | inr e ↦ e ];
     }
 
 placed_gone : (s : Files) (name : List ℕ) (p : Place) (target bytes : List ℕ) → get (placed s name p target (Some bytes)).tmp name ≡ None
@@ -203,7 +205,7 @@ arrives b name p target had s on w bytes has =
       bytes = bytes;
       was = elim w.waiting as (λ _. had ≡ Some bytes) [ inl e ↦ sym e ∙ has | inr e ↦ cc ];
       homes_are = placed_first b name p target bytes s on w.homes_are;
-      gone = placed_gone s name p target bytes
+      gone = placed_gone s name p target bytes;
     }
 
 abbrev pub Stage : (b name : List ℕ) (had : Option (List ℕ)) (s : Files) → Type 0
@@ -269,7 +271,7 @@ placing_ok b name p target named ours on old new done e =
     let mid = after old call done.before in
     let w : Waits b name had mid = waits_after b name p target named ours on had done.before old done.others (record { homes_are = e; waiting = inl refl }) in
     subst (Arrived b name had) (sym (done.left ∙ after-append old call done.before (Again ∷ done.rest)))
-      (arrived_after b name p target named ours on had done.rest (effect call mid) (ready b name p target named ours on had mid w done.ready))
+    (arrived_after b name p target named ours on had done.rest (effect call mid) (ready b name p target named ours on had mid w done.ready))
 
 -- ---- what was written
 abbrev pub WrittenOrGone : (name bytes : List ℕ) (s : Files) → Type 0
@@ -291,4 +293,4 @@ writing_ok name bytes ours old new done =
     let call = Writing name bytes in
     let mid = after old call done.before in
     subst (WrittenOrGone name bytes) (sym (done.left ∙ after-append old call done.before (Again ∷ done.rest)))
-      (written_after name bytes ours done.rest (effect call mid) done.whole (inl (get-insert_same mid.tmp name bytes)))
+    (written_after name bytes ours done.rest (effect call mid) done.whole (inl (get-insert_same mid.tmp name bytes)))

@@ -1,9 +1,9 @@
--- A folder in memory: to set or remove a file that is no converter's is an action.
+-- An action outside reaches just the states that leave the converter's names as they are.
 use Rattle.std.proofs.Common.{◌≡◌, ℕ, Bool, true, false, cond, not, List, [], ◌∷◌, ◌++◌, Option, Some, None, IsTrue, IsFalse, refl, sym, ap, subst, ◌∙◌, inl, inr}
 use Rattle.std.specs.FinMap.{get, insert, remove, entries, retain_keys, find, get-entries, get-from_entries, get-insert, get-remove, same_map}
 use Rattle.std.proofs.lemmas.Bool.{cases_Bool}
 use Rattle.maildir_name.specs.Names.{is_converter_name}
-use Rattle.maildir_run.specs.Files.{name_cmp, is_name, FileMap, Files, outsiders_of, Action, Outside, acted}
+use Rattle.maildir_run.specs.Files.{name_cmp, is_name, FileMap, Files, LeavesConverters, outsiders_of, Outside, acted}
 use Rattle.maildir_run.proofs.Maps.{total, same, is_name-true, get_under}
 use Rattle.maildir_run.proofs.Homes.{get-outsiders_of}
 
@@ -28,19 +28,22 @@ get-outsiders_other ours theirs q h =
 pub outsiders_alike : (ours theirs : FileMap) → ((q : List ℕ) → is_converter_name q ≡ true → get ours q ≡ get theirs q) → outsiders_of ours theirs ≡ theirs
 outsiders_alike ours theirs alike =
     same_map total same _ _ (λ q.
-      elim (cases_Bool (is_converter_name q)) as (λ _. get (outsiders_of ours theirs) q ≡ get theirs q) [
-        | inl on ↦ get-outsiders_of ours theirs q on ∙ alike q on
-        | inr off ↦ get-outsiders_other ours theirs q off
-      ])
+    elim (cases_Bool (is_converter_name q)) as (λ _. get (outsiders_of ours theirs) q ≡ get theirs q) [
+      | inl on ↦ get-outsiders_of ours theirs q on ∙ alike q on
+      | inr off ↦ get-outsiders_other ours theirs q off
+    ])
 
-off_name : (k q : List ℕ) → is_converter_name k ≡ false → is_converter_name q ≡ true → is_name q k ≡ false
-off_name k q off on =
-    elim (cases_Bool (is_name q k)) as (λ _. is_name q k ≡ false) [
-      | inl e ↦ let alike : is_converter_name q ≡ is_converter_name k = ap is_converter_name (is_name-true q k e) in cc
-      | inr e ↦ e
-    ]
+pub outside_leaves : (files s : Files) → LeavesConverters s (acted (Outside files) s)
+outside_leaves files s = record {
+  tmp_alike = λ name ours. get-outsiders_of s.tmp files.tmp name ours;
+  new_alike = λ name ours. get-outsiders_of s.new files.new name ours;
+  cur_alike = λ name ours. get-outsiders_of s.cur files.cur name ours;
+}
 
-pub put_is_action : (s : Files) (k v : List ℕ) → IsFalse (is_converter_name k) → acted (Outside (record s { tmp = insert s.tmp k v })) s ≡ record s { tmp = insert s.tmp k v }
-put_is_action s k v off =
-    rw (outsiders_alike s.tmp (insert s.tmp k v) (λ q on. sym (get-insert total s.tmp k v q ∙ rw (off_name k q off on) refl)),
-        outsiders_alike s.new s.new (λ q on. refl), outsiders_alike s.cur s.cur (λ q on. refl)) refl
+pub outside_reaches : (s t : Files) → LeavesConverters s t → acted (Outside t) s ≡ t
+outside_reaches s t alike =
+    rw (
+      outsiders_alike s.tmp t.tmp (λ q on. sym (alike.tmp_alike q on)),
+      outsiders_alike s.new t.new (λ q on. sym (alike.new_alike q on)),
+      outsiders_alike s.cur t.cur (λ q on. sym (alike.cur_alike q on)),
+    ) refl

@@ -47,12 +47,12 @@ text_of b = record { ref_ptr = (0, 0); now = b }
 pub set_of-insert : (old new : BTreeSet (Bor (List ℕ))) (k : List ℕ) → UpdatesBy (λ x y. slice_cmp nat_cmp x.now y.now) (λ x. slice_cmp nat_cmp k x.now) old new true → set_of new.keys ≡ insert (set_of old.keys) k (tt {0})
 set_of-insert old new k updates =
     same_map total same _ _ (λ q. unit_options _ _
-      (contains_key-set_of q new.keys
-      ∙ updates.0 (text_of q)
-      ∙ ap (λ t. cond t true (list_any (λ x. is_name q x.now) old.keys)) ((eq_by_cmp_equiv total).symm k q)
-      ∙ ap (cond (is_name q k) true) (sym (contains_key-set_of q old.keys))
-      ∙ sym (some_if (is_name q k) _)
-      ∙ ap is_some (sym (get-insert total (set_of old.keys) k (tt {0}) q))))
+    (contains_key-set_of q new.keys
+    ∙ updates.0 (text_of q)
+    ∙ ap (λ t. cond t true (list_any (λ x. is_name q x.now) old.keys)) ((eq_by_cmp_equiv total).symm k q)
+    ∙ ap (cond (is_name q k) true) (sym (contains_key-set_of q old.keys))
+    ∙ sym (some_if (is_name q k) _)
+    ∙ ap is_some (sym (get-insert total (set_of old.keys) k (tt {0}) q))))
 
 -- ---- the bases of two lists
 contains_key-insert : (s : BaseSet) (k b : List ℕ) → contains_key (insert s k (tt {0})) b ≡ (is_name b k || contains_key s b)

@@ -1,5 +1,5 @@
 -- The files of a Maildir, and what other programs may do to them.
-use Rattle.std.specs.Prelude.{◌≡◌, ◌&&◌, not, ℕ, Bool, List, [], ◌∷◌, ◌++◌, Option, Some, None, if◌then◌else◌}
+use Rattle.std.specs.Prelude.{◌≡◌, ◌&&◌, not, ℕ, Bool, IsTrue, List, [], ◌∷◌, ◌++◌, Option, Some, None, if◌then◌else◌}
 use Rattle.std.specs.declared.cmp.Ordering.{Ordering}
 use Rattle.std.specs.Ordering.{nat_cmp, eq_by_cmp}
 use Rattle.std.specs.Cmp.Lexicographic.{slice_cmp}
@@ -81,4 +81,10 @@ all_acted (action ∷ actions) s = all_acted actions (acted action s)
 
 -- two folders have the same converter's names, with the same bytes
 abbrev pub AgreeOnConverters : FileMap → FileMap → Type 0
-AgreeOnConverters a b = retain_keys a is_converter_name ≡ retain_keys b is_converter_name
+AgreeOnConverters old new = (name : List ℕ) → IsTrue (is_converter_name name) → get new name ≡ get old name
+
+-- All converter's names of the three folders and their bytes are as they were.
+pub record LeavesConverters (old new : Files) : Type 0 where
+  pub tmp_alike : AgreeOnConverters old.tmp new.tmp
+  pub new_alike : AgreeOnConverters old.new new.new
+  pub cur_alike : AgreeOnConverters old.cur new.cur

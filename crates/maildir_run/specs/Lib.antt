@@ -1,9 +1,14 @@
 pub mod Files
 pub mod Calls
 pub mod Delivery
+pub mod Texts
 pub mod Runs
 pub mod Alone
 pub mod Plan
 pub mod Bases
 pub mod Counting
 pub mod Progress
+pub mod Reading
+pub mod FileTree
+pub mod MemFolder
+pub mod Output

@@ -1,11 +1,14 @@
 -- What one run owes, and what may follow one another: runs with any answers, and other programs' actions.
-use Rattle.std.specs.Prelude.{◌≡◌, ℕ, ◌-◌, ◌≤◌, List, [], ◌∷◌, ◌++◌, length, All, AllPairs, IfOk, Option, Some, Result}
+use Rattle.std.specs.Prelude.{◌≡◌, ℕ, ◌+◌, ◌*◌, ◌-◌, ◌%◌, ◌^◌, ◌≤◌, List, [], ◌∷◌, ◌++◌, length, All, AllPairs, IfOk, OnOk, Option, Some, Result}
+use Rattle.mbox_text.specs.declared.entry.Entry.{Entry}
+use Rattle.mbox_text.specs.Mbox.{Mbox}
 use Rattle.maildir_run.specs.declared.fault.RunFault.{RunFault}
 use Rattle.maildir_run.specs.declared.report.Report.{Report}
 use Rattle.maildir_run.specs.Files.{Files, Action, acted}
 use Rattle.maildir_run.specs.Delivery.{Message, HasHome, IsMissing, Sound, Delivered, there_count, leftover_count}
+use Rattle.maildir_run.specs.Texts.{MessagesOf}
 
--- A text is possible for a call that read from a source: what was read is its front, and all of it where the source has nothing left. The source tells what it has left, before the call and after it.
+-- A text is possible for a call that read from a source: what was read is its front, and all of it where the source has nothing left. The source tells what it has left before the call and after it, with what it failed to give.
 pub record Possible (before after : Option (List ℕ)) (t : List ℕ) : Type 0 where
   pub read : List ℕ
   pub left : List ℕ
@@ -37,9 +40,14 @@ pub record Keeps (ms : List Message) (old : Files) (answer : Result Report RunFa
   pub in_order : AllPairs (λ m n. IsMissing old n → HasHome new n → HasHome new m) ms
   pub ends : IfOk answer (λ report. Ends ms old report new)
 
--- one run over a folder that is sound for the messages as it begins
-abbrev pub Run : List Message → Files → Result Report RunFault → Files → Type 0
-Run ms old answer new = Sound ms old old → Keeps ms old answer new
+-- One run over a text, in a folder that is sound for the text's messages as it begins: it keeps what it owes to them, and with Ok the text is in `Mbox`.
+pub record Run (t : List ℕ) (old : Files) (answer : Result Report RunFault) (new : Files) : Type 0 where
+  pub keeps : (ms : List Message) → MessagesOf t ms → Sound ms old old → Keeps ms old answer new
+  pub is_read : OnOk answer ((entries : List Entry) × Mbox t entries)
+
+-- the calls of a run that answered Ok: three listings, one removal for each name that was swept, and a write and a placement for each message that was placed; the count is one of 128 bits
+abbrev pub CountsRun : Report → ℕ → ℕ → Type 0
+CountsRun report old new = new % 2 ^ 128 ≡ (old + (3 + report.swept + 2 * report.placed)) % 2 ^ 128
 
 -- a link of a chain: a run with this answer, or an action of another program
 pub data Link : Type 0 where
@@ -47,11 +55,11 @@ pub data Link : Type 0 where
   Acted : (action : Action) → Link
 
 -- a link leads from one moment to another
-abbrev pub Linked : List Message → Link → Files → Files → Type 0
-Linked ms (Ran answer) old new = Run ms old answer new
-Linked ms (Acted action) old new = new ≡ acted action old
+abbrev pub Linked : List ℕ → Link → Files → Files → Type 0
+Linked t (Ran answer) old new = Run t old answer new
+Linked t (Acted action) old new = new ≡ acted action old
 
--- a finite chain of runs, with any answers, and of other programs' actions
-abbrev pub Runs : List Message → List Link → Files → Files → Type 0
-Runs ms [] old new = new ≡ old
-Runs ms (l ∷ ls) old new = (mid : Files) × Linked ms l old mid × Runs ms ls mid new
+-- a finite chain of runs over a text, with any answers, and of other programs' actions
+abbrev pub Runs : List ℕ → List Link → Files → Files → Type 0
+Runs t [] old new = new ≡ old
+Runs t (l ∷ ls) old new = (mid : Files) × Linked t l old mid × Runs t ls mid new

@@ -5,11 +5,10 @@ ghost use Rattle.maildir_name.specs.Names.{base};
 ghost use Rattle.maildir_run.specs.Plan.{is_listed};
 ghost use Rattle.maildir_run.specs.Bases.{with_bases};
 
+use maildir_name::base_of;
 use std::alloc::{AllocError, Global};
 use std::collections::BTreeSet;
 use std::marker::Model;
-
-use maildir_name::base_of;
 
 /// The bases of some names, kept in order. Contracts see them as a set.
 #[derive(Drop)]
@@ -37,8 +36,13 @@ impl<'a> Bases<'a> {
     }
 
     /// The bases of the names that were listed in `new` and in `cur`.
-    pub(crate) fn listed(alloc: Global, new: &'a [String], cur: &'a [String]) -> Result<Self, AllocError>
-        ensures { IfOk result (λ bases. (b : List ℕ) → contains_key bases b ≡ is_listed (map string_bytes new.now) (map string_bytes cur.now) b) }
+    pub(crate) fn listed(
+        alloc: Global,
+        new: &'a [String],
+        cur: &'a [String],
+    ) -> Result<Self, AllocError>
+        ensures { IfOk result (λ bases. (b : List ℕ) → contains_key bases b
+            ≡ is_listed (map string_bytes new.now) (map string_bytes cur.now) b) }
     {
         let mut bases = Bases::new(alloc);
         bases.add_all(new)?;

@@ -5,6 +5,9 @@ ghost use Rattle.maildir_run.specs.declared.fault.RunFault.TheVariants.{OutOfMem
 use std::alloc::{AllocError, AllocFailed};
 use thiserror::Error;
 
+#[cfg(test)]
+mod tests;
+
 /// Why a call of this crate ended before its work was done.
 #[derive(Clone, Copy, Debug, Drop, Error, PartialEq, Eq)]
 pub enum RunFault {

@@ -6,9 +6,8 @@ ghost use Rattle.maildir_run.specs.Calls.{Called, Listed, CalledQuietly, GoesUp,
 ghost use Rattle.maildir_run.specs.Calls.Call.{Listing, Writing, Placing, Removing};
 ghost use Rattle.maildir_run.specs.declared.folder.FolderFault.TheVariants.{OutOfMemory};
 
-use std::alloc::{AllocError, AllocFailed};
-
 use maildir_name::Place;
+use std::alloc::{AllocError, AllocFailed};
 use thiserror::Error;
 
 /// One of the three folders of a Maildir (maildir(5)).
@@ -75,8 +74,10 @@ pub trait Folder {
         ensures called { honest self.old → Listed sub (files self.old) result (files self.new) }
 
         ensures quiet { quiet self.old → quiet self.new }
-        ensures alone { quiet self.old → CalledQuietly (Listing sub) (files self.old) result (files self.new) }
-        ensures names { quiet self.old → IfOk result (λ v. IsPermutation (names_of v) (keys (folder_of sub (files self.old)))) }
+        ensures alone { quiet self.old →
+            CalledQuietly (Listing sub) (files self.old) result (files self.new) }
+        ensures names { quiet self.old → IfOk result (λ v. IsPermutation (names_of v)
+            (keys (folder_of sub (files self.old)))) }
 
         ensures counted { GoesUp (calls self.old) (calls self.new) }
         ensures cause { CountsFailure result (failures self.old) (failures self.new) }
@@ -85,10 +86,12 @@ pub trait Folder {
     /// Makes the file `name` of `tmp` hold these bytes, in place of what it held.
     fn write(&mut self, name: &str, bytes: &[u8]) -> Result<(), FolderFault>
         ensures honest { honest self.old → honest self.new }
-        ensures called { honest self.old → Called (Writing name.now bytes.now) (files self.old) result (files self.new) }
+        ensures called { honest self.old →
+            Called (Writing name.now bytes.now) (files self.old) result (files self.new) }
 
         ensures quiet { quiet self.old → quiet self.new }
-        ensures alone { quiet self.old → CalledQuietly (Writing name.now bytes.now) (files self.old) result (files self.new) }
+        ensures alone { quiet self.old →
+            CalledQuietly (Writing name.now bytes.now) (files self.old) result (files self.new) }
 
         ensures counted { GoesUp (calls self.old) (calls self.new) }
         ensures cause { CountsFailure result (failures self.old) (failures self.new) }
@@ -97,10 +100,12 @@ pub trait Folder {
     /// Moves the file `name` of `tmp` to `target` of `new` or `cur`, by one rename.
     fn place(&mut self, name: &str, place: Place, target: &str) -> Result<(), FolderFault>
         ensures honest { honest self.old → honest self.new }
-        ensures called { honest self.old → Called (Placing name.now place target.now) (files self.old) result (files self.new) }
+        ensures called { honest self.old →
+            Called (Placing name.now place target.now) (files self.old) result (files self.new) }
 
         ensures quiet { quiet self.old → quiet self.new }
-        ensures alone { quiet self.old → CalledQuietly (Placing name.now place target.now) (files self.old) result (files self.new) }
+        ensures alone { quiet self.old →
+            CalledQuietly (Placing name.now place target.now) (files self.old) result (files self.new) }
 
         ensures counted { GoesUp (calls self.old) (calls self.new) }
         ensures cause { CountsFailure result (failures self.old) (failures self.new) };
@@ -108,10 +113,12 @@ pub trait Folder {
     /// Removes the file `name` of `tmp`. Ok also where there was none.
     fn remove(&mut self, name: &str) -> Result<(), FolderFault>
         ensures honest { honest self.old → honest self.new }
-        ensures called { honest self.old → Called (Removing name.now) (files self.old) result (files self.new) }
+        ensures called { honest self.old →
+            Called (Removing name.now) (files self.old) result (files self.new) }
 
         ensures quiet { quiet self.old → quiet self.new }
-        ensures alone { quiet self.old → CalledQuietly (Removing name.now) (files self.old) result (files self.new) }
+        ensures alone { quiet self.old →
+            CalledQuietly (Removing name.now) (files self.old) result (files self.new) }
 
         ensures counted { GoesUp (calls self.old) (calls self.new) }
         ensures cause { CountsFailure result (failures self.old) (failures self.new) }

@@ -1,5 +1,5 @@
 //! Laws over the definitions alone. Each law is the contract of a function, and no function here does anything.
-ghost use Rattle.std.specs.Prelude.{◌≡◌, ℕ, List, [], ◌∷◌, ◌++◌, Some, Ok, All, IsTrue, IsFalse, IsPermutation};
+ghost use Rattle.std.specs.Prelude.{◌≡◌, ℕ, ◌<◌, ◌≤◌, ◌^◌, length, List, [], ◌∷◌, ◌++◌, Some, Ok, All, IsTrue, IsFalse, IsPermutation};
 ghost use Rattle.std.specs.List.{list_any};
 ghost use Rattle.std.specs.FinMap.{get};
 ghost use Rattle.maildir_name.specs.declared.target.Place.{Place};
@@ -7,52 +7,96 @@ ghost use Rattle.maildir_name.specs.declared.target.Target.{Target};
 ghost use Rattle.maildir_name.specs.Names.{is_converter_base, is_converter_name};
 ghost use Rattle.maildir_run.specs.declared.folder.Sub.TheVariants as sub;
 ghost use Rattle.maildir_run.specs.declared.report.Report.{Report};
-ghost use Rattle.maildir_run.specs.Files.{Files, Action, acted, all_acted, homes, has_base};
+ghost use Rattle.maildir_run.specs.Files.{Files, Action, LeavesConverters, acted, all_acted, homes, has_base};
+ghost use Rattle.maildir_run.specs.Files.Action.{Outside};
 ghost use Rattle.maildir_run.specs.Calls.{Call, Move, after, Lists, Succeeded, PlacesElsewhere, WritesElsewhere, StaysOrGoes, NoneOrOne};
 ghost use Rattle.maildir_run.specs.Calls.Call.{Placing};
-ghost use Rattle.maildir_run.specs.Delivery.{Message, IsMissing, AreNamed, Sound, Delivered};
+ghost use Rattle.maildir_run.specs.Delivery.{Message, leftover_count, IsMissing, AreNamed, AreDistinct, Sound, Delivered};
+ghost use Rattle.maildir_run.specs.Texts.{MessagesOf};
 ghost use Rattle.maildir_run.specs.Runs.{Link, Run, Runs};
+ghost use Rattle.maildir_run.specs.Alone.{alone};
 ghost use Rattle.maildir_run.specs.Plan.{planned, each_alone};
 
 /// The plan for some targets is the plan for none, followed by the steps of each target alone over an empty `tmp`.
 pub fn plan_is_each_alone()
-    ensures { (tmp new cur : List (List ℕ)) (targets : List Target) → planned tmp new cur targets ≡ planned tmp new cur [] ++ each_alone 0 new cur targets }
-{
-}
+    ensures { (tmp new cur : List (List ℕ)) (targets : List Target) →
+        planned tmp new cur targets ≡ planned tmp new cur [] ++ each_alone 0 new cur targets }
+{}
 
 /// A converter's base keeps what its homes hold, whatever another program does, and within each call that
 /// places no file under it: a listing, a write, a removal, and a placement under another base.
 pub fn homes_are_kept()
-    ensures acted { (b : List ℕ) (action : Action) (s : Files) → IsTrue (is_converter_base b) → IsPermutation (homes s b) (homes (acted action s) b) }
-    ensures moved { (b : List ℕ) (call : Call) (moves : List Move) (s : Files) → IsTrue (is_converter_base b) → PlacesElsewhere b call → IsPermutation (homes s b) (homes (after s call moves) b) }
-{
-}
+    ensures acted { (b : List ℕ) (action : Action) (s : Files) → IsTrue (is_converter_base b) →
+        IsPermutation (homes s b) (homes (acted action s) b) }
+    ensures moved { (b : List ℕ) (call : Call) (moves : List Move) (s : Files) →
+        IsTrue (is_converter_base b) → PlacesElsewhere b call →
+        IsPermutation (homes s b) (homes (after s call moves) b) }
+{}
+
+/// An action outside leaves all converter's names and their bytes as they are, and each state that leaves them
+/// so is reached by one.
+pub fn outside_actions()
+    ensures leaves { (files s : Files) → LeavesConverters s (acted (Outside files) s) }
+    ensures reaches { (s t : Files) → LeavesConverters s t → acted (Outside t) s ≡ t }
+{}
 
 /// A placement of a converter's name under a base that has no home leaves none, or one that holds what `tmp`
 /// had under the name; with Ok it leaves one.
 pub fn place_brings_one()
-    ensures any { (b name target : List ℕ) (place : Place) (moves : List Move) (s : Files) → IsTrue (is_converter_base b) → IsTrue (is_converter_name name) → IsTrue (has_base b target) → homes s b ≡ [] → NoneOrOne b (get s.tmp name) (after s (Placing name place target) moves) }
-    ensures ok { (b name target : List ℕ) (place : Place) (old new : Files) → IsTrue (is_converter_base b) → IsTrue (is_converter_name name) → IsTrue (has_base b target) → homes old b ≡ [] → Succeeded (Placing name place target) old new → (bytes : List ℕ) × (get old.tmp name ≡ Some bytes) × (homes new b ≡ bytes ∷ []) }
-{
-}
+    ensures any { (b name target : List ℕ) (place : Place) (moves : List Move) (s : Files) →
+        IsTrue (is_converter_base b) → IsTrue (is_converter_name name) →
+        IsTrue (has_base b target) → homes s b ≡ [] →
+        NoneOrOne b (get s.tmp name) (after s (Placing name place target) moves) }
+    ensures ok { (b name target : List ℕ) (place : Place) (old new : Files) →
+        IsTrue (is_converter_base b) → IsTrue (is_converter_name name) →
+        IsTrue (has_base b target) → homes old b ≡ [] →
+        Succeeded (Placing name place target) old new →
+        (bytes : List ℕ) × (get old.tmp name ≡ Some bytes) × (homes new b ≡ bytes ∷ []) }
+{}
 
 /// Only a write adds a converter's name to `tmp`, or changes what it holds there, and only its own.
 pub fn only_write_adds()
-    ensures { (name : List ℕ) (call : Call) (moves : List Move) (s : Files) → IsTrue (is_converter_name name) → WritesElsewhere name call → StaysOrGoes name s (after s call moves) }
-{
-}
+    ensures { (name : List ℕ) (call : Call) (moves : List Move) (s : Files) →
+        IsTrue (is_converter_name name) → WritesElsewhere name call →
+        StaysOrGoes name s (after s call moves) }
+{}
+
+/// No action of another program makes the converter's names in `tmp` more.
+pub fn leftovers_never_grow()
+    ensures { (action : Action) (s : Files) → leftover_count (acted action s) ≤ leftover_count s }
+{}
 
 /// A base that a listing of `new` does not show, nor a later one of `cur`, has no home, whatever other programs did.
 pub fn listed_nowhere()
-    ensures { (b : List ℕ) (s t u v : Files) (in_new in_cur : List (List ℕ)) (actions : List Action) → IsTrue (is_converter_base b) → Lists sub.New s in_new t → u ≡ all_acted actions t → Lists sub.Cur u in_cur v → IsFalse (list_any (has_base b) in_new) → IsFalse (list_any (has_base b) in_cur) → homes v b ≡ [] }
-{
-}
+    ensures { (b : List ℕ) (s t u v : Files) (in_new in_cur : List (List ℕ)) (actions : List Action) →
+        IsTrue (is_converter_base b) → Lists sub.New s in_new t → u ≡ all_acted actions t →
+        Lists sub.Cur u in_cur v → IsFalse (list_any (has_base b) in_new) →
+        IsFalse (list_any (has_base b) in_cur) → homes v b ≡ [] }
+{}
 
-/// Whatever runs, with any answers, and other programs' actions follow one another: a folder that had none of
-/// the messages is sound. One more run that answers Ok delivers them, and no other program takes that away.
+/// The bases of a text's messages are a converter's, and no two messages have the same base.
+pub fn messages_have_bases()
+    ensures named { (t : List ℕ) (ms : List Message) → MessagesOf t ms → length t < 2 ^ 63 →
+        AreNamed ms }
+    ensures distinct { (t : List ℕ) (ms : List Message) → MessagesOf t ms → length t < 2 ^ 63 →
+        AreDistinct ms }
+{}
+
+/// Whatever runs over a text, with any answers, and other programs' actions follow one another: a folder that
+/// had none of the text's messages is sound. One more run that answers Ok delivers them, and no other program
+/// takes that away.
 pub fn after_any_runs()
-    ensures sound { (ms : List Message) (links : List Link) (old new : Files) → AreNamed ms → All (IsMissing old) ms → Runs ms links old new → Sound ms old new }
-    ensures delivered { (ms : List Message) (links : List Link) (old mid new : Files) (report : Report) → AreNamed ms → All (IsMissing old) ms → Runs ms links old mid → Run ms mid (Ok report) new → Delivered ms new }
-    ensures kept { (ms : List Message) (action : Action) (s : Files) → AreNamed ms → Delivered ms s → Delivered ms (acted action s) }
-{
-}
+    ensures sound { (t : List ℕ) (ms : List Message) (links : List Link) (old new : Files) →
+        MessagesOf t ms → length t < 2 ^ 63 → All (IsMissing old) ms → Runs t links old new →
+        Sound ms old new }
+    ensures delivered { (t : List ℕ) (ms : List Message) (links : List Link) (old mid new : Files) (report : Report) →
+        MessagesOf t ms → length t < 2 ^ 63 → All (IsMissing old) ms → Runs t links old mid →
+        Run t mid (Ok report) new → Delivered ms new }
+    ensures kept { (t : List ℕ) (ms : List Message) (action : Action) (s : Files) →
+        MessagesOf t ms → length t < 2 ^ 63 → Delivered ms s → Delivered ms (acted action s) }
+{}
+
+/// Where the messages are delivered, an undisturbed run leaves all files as they are.
+pub fn nothing_left_to_do()
+    ensures { (ms : List Message) (s : Files) → Delivered ms s → alone ms s ≡ s }
+{}

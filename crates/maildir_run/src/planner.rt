@@ -3,12 +3,13 @@ ghost use Rattle.std.specs.Prelude.{◌≡◌, ℕ, ◌++◌, map, string_bytes,
 ghost use Rattle.std.specs.FinMap.{contains_key};
 ghost use Rattle.maildir_run.specs.Plan.{planned, removals, deliveries_from};
 
-use std::alloc::{AllocError, Global};
-
-use maildir_name::{Name, Target, is_converter_name};
-
 use crate::bases::Bases;
 use crate::fault::RunFault;
+use maildir_name::{Name, Target, is_converter_name};
+use std::alloc::{AllocError, Global};
+
+#[cfg(test)]
+mod tests;
 
 /// One step of a run. Messages are numbered from 0, in the order of the text.
 #[derive(Debug, Drop)]
@@ -28,8 +29,15 @@ pub enum Step {
 /// # Errors
 ///
 /// [`RunFault::OutOfMemory`] alone, where a growth was refused.
-pub fn plan(alloc: Global, tmp: &[String], new: &[String], cur: &[String], targets: &[Target]) -> Result<Vec<Step>, RunFault>
-    ensures exact { IfOk result (λ steps. steps.items ≡ planned (map string_bytes tmp.now) (map string_bytes new.now) (map string_bytes cur.now) targets.now) }
+pub fn plan(
+    alloc: Global,
+    tmp: &[String],
+    new: &[String],
+    cur: &[String],
+    targets: &[Target],
+) -> Result<Vec<Step>, RunFault>
+    ensures exact { IfOk result (λ steps. steps.items
+        ≡ planned (map string_bytes tmp.now) (map string_bytes new.now) (map string_bytes cur.now) targets.now) }
     ensures refused { IfErr result (λ fault. fault ≡ RunFault.OutOfMemory) }
 {
     let there = Bases::listed(alloc, new, cur)?;
@@ -50,8 +58,13 @@ fn add_removals(steps: &mut Vec<Step>, tmp: &[String]) -> Result<(), AllocError>
     Ok(())
 }
 
-fn add_deliveries(steps: &mut Vec<Step>, there: &Bases, targets: &[Target]) -> Result<(), AllocError>
-    ensures { OnOk result (steps.new.items ≡ steps.old.items ++ deliveries_from (contains_key there.now) 0 targets.now) }
+fn add_deliveries(
+    steps: &mut Vec<Step>,
+    there: &Bases,
+    targets: &[Target],
+) -> Result<(), AllocError>
+    ensures { OnOk result (steps.new.items
+        ≡ steps.old.items ++ deliveries_from (contains_key there.now) 0 targets.now) }
 {
     for (i, target) in targets.iter().enumerate() {
         if !there.contains(target.base.as_str()) {

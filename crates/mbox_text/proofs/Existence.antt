@@ -7,9 +7,9 @@ use Rattle.std.proofs.lemmas.List.{append-nil}
 use Rattle.mbox_text.specs.declared.entry.Entry.{Entry}
 use Rattle.mbox_text.specs.Lines.{lines, NoEnd}
 use Rattle.mbox_text.specs.Quoting.{unquoted, begins_with, begins_from, from_bytes}
+use Rattle.mbox_text.specs.Fronts.{AllButLast, NeverFrom}
 use Rattle.mbox_text.specs.Mbox.{Mbox, IsMboxText, without_blank}
-use Rattle.mbox_text.specs.Held.{chopped, AtHead, InBody, NeverFrom, Closed}
-use Rattle.mbox_text.specs.Fed.{AllButLast}
+use Rattle.mbox_text.specs.Held.{chopped, AtHead, InBody, Closed}
 use Rattle.mbox_text.proofs.LineLemmas.{begins_from-push, begins_from-more}
 use Rattle.mbox_text.proofs.Heads.{mbox-begins, mbox-begins-last}
 use Rattle.mbox_text.proofs.HeldLemmas.{head-add, head-ends, body-add, body-closes, body-ends}

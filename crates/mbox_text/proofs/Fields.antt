@@ -1,6 +1,8 @@
 -- What a splitter holds, over the fields as the code changes them.
-use Rattle.std.proofs.Common.{◌≡◌, ℕ, ◌+◌, ◌-◌, ◌≤◌, ◌<◌, Bool, true, false, eqb, List, [], ◌∷◌, ◌++◌, length, take, drop, refl, sym, ◌∙◌, ap, arith, append_assoc, inl, inr, Option, Some, None}
+use Rattle.std.proofs.Common.{◌≡◌, ℕ, ◌+◌, ◌-◌, ◌≤◌, ◌<◌, Bool, true, false, eqb, List, [], ◌∷◌, ◌++◌, length, take, drop, refl, sym, ◌∙◌, ap, arith, append_assoc, inl, inr, Option, Some, None, Result, Ok, Err}
+use Rattle.std.specs.Prelude.{IfOk}
 use Rattle.std.specs.Option.{is_some}
+use Rattle.std.specs.declared.alloc.AllocError.{AllocError}
 use Rattle.std.specs.List.{flat_map}
 use Rattle.std.proofs.lemmas.Bool.{both_ways, false_from_ne_true, false≢true, and_parts, ne_eqb, eqb-false, eqb-true, eq-eqb, and_right, cases_Bool}
 use Rattle.std.proofs.lemmas.List.{take-append-drop, append-nil, take_all, take_rest, nil_from_length, drop-drop}
@@ -9,8 +11,9 @@ use Rattle.mbox_text.specs.declared.entry.Entry.{Entry}
 use Rattle.mbox_text.specs.declared.message.Message.{Message}
 use Rattle.mbox_text.specs.Lines.{lines, Ended, NoEnd}
 use Rattle.mbox_text.specs.Quoting.{unquoted, begins_from, begins_with, from_bytes}
+use Rattle.mbox_text.specs.Fronts.{NeverFrom}
 use Rattle.mbox_text.specs.Mbox.{NoFrom}
-use Rattle.mbox_text.specs.Held.{chopped, AtHead, InBody, Held, Moves, NeverFrom, Refuses, Refused, Closed}
+use Rattle.mbox_text.specs.Held.{chopped, AtHead, InBody, Held, Moves, Refuses, Refused, Closed}
 use Rattle.mbox_text.proofs.HeldLemmas.{moves-then, head-add, body-add, body-closes, head-ends, body-ends, body-lines}
 use Rattle.mbox_text.proofs.LineLemmas.{begins_from-more, begins_from-push}
 use Rattle.mbox_text.proofs.Runs.{line-there, take-plus, NoEnd-take}
@@ -151,3 +154,10 @@ pub three-parts : (text : List ℕ) (at n : ℕ) → let rest : List ℕ = take 
 three-parts text at n =
     let rest : List ℕ = take (length text - at) (drop at text) in
     rw (append_assoc (take at text) (take n rest) (drop n rest), take-append-drop n rest, take_rest text at) (sym (take-append-drop at text))
+
+-- the lines that a call took
+pub lines_taken : (r : Result ℕ AllocError) (message : Option Message) (m : Message) (line body text : List ℕ) → message ≡ Some m → line ≡ []
+    → IfOk r (λ n. body ≡ m.body.items ++ flat_map unquoted (lines (take n text))) → IfOk r (λ n. Ended (take n text)) → IfOk r (λ n. NoFrom (lines (take n text)))
+    → IfOk r (λ n. (text' : List ℕ) (given : List Entry) → Held text' given message line → InBody (text' ++ take n text) (given ++ []) m.from_line.items body line)
+lines_taken (Ok n) message m line body text is e eb ends none = some_lines message m line body (take n text) is e eb ends none
+lines_taken (Err x) message m line body text is e eb ends none = tt

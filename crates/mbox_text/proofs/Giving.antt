@@ -7,9 +7,10 @@ use Rattle.mbox_text.specs.declared.entry.Entry.{Entry}
 use Rattle.mbox_text.specs.declared.message.Message.{Message}
 use Rattle.mbox_text.specs.declared.splitter.Splitter.{Splitter}
 use Rattle.mbox_text.specs.Quoting.{begins_with, begins_from, from_bytes}
-use Rattle.mbox_text.specs.Mbox.{Mbox, IsProperFront, without_blank}
-use Rattle.mbox_text.specs.Held.{AtHead, InBody, Held, Moves, Refused, Stay, Breaks}
-use Rattle.mbox_text.specs.Fed.{HasFailed, AllButLast, Fed, Takes, NeverBegins, TakesPart}
+use Rattle.mbox_text.specs.Fronts.{AllButLast, IsProperFront, Stay}
+use Rattle.mbox_text.specs.Mbox.{Mbox, without_blank}
+use Rattle.mbox_text.specs.Held.{AtHead, InBody, Held, Moves, Refused, Breaks}
+use Rattle.mbox_text.specs.Fed.{HasFailed, Fed, Takes, NeverBegins, TakesPart}
 use Rattle.mbox_text.proofs.LineLemmas.{begins_from-more}
 use Rattle.mbox_text.proofs.Heads.{from-rest}
 use Rattle.mbox_text.proofs.Last.{from-block}

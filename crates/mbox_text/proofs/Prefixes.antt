@@ -5,7 +5,8 @@ use Rattle.std.proofs.lemmas.List.{append-nil}
 use Rattle.mbox_text.specs.declared.entry.Entry.{Entry}
 use Rattle.mbox_text.specs.Lines.{lines, Ended}
 use Rattle.mbox_text.specs.Quoting.{begins_from}
-use Rattle.mbox_text.specs.Mbox.{Block, Mbox, IsProperFront}
+use Rattle.mbox_text.specs.Fronts.{IsProperFront}
+use Rattle.mbox_text.specs.Mbox.{Block, Mbox}
 use Rattle.mbox_text.specs.Held.{Closed}
 use Rattle.mbox_text.proofs.LineLemmas.{lines-append, begins_from-more}
 use Rattle.mbox_text.proofs.Heads.{head-line, block-begins}

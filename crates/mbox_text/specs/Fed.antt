@@ -2,20 +2,13 @@
 use Rattle.std.specs.Prelude.{◌≡◌, ℕ, ◌<◌, true, List, [], ◌∷◌, ◌++◌, ◌⊎◌, ◌↔◌, Option, IsNone, IsTrue, length, option_to_list}
 use Rattle.mbox_text.specs.declared.entry.Entry.{Entry}
 use Rattle.mbox_text.specs.declared.splitter.Splitter.{Splitter}
-use Rattle.mbox_text.specs.Quoting.{begins_with, begins_from, from_bytes}
 use Rattle.mbox_text.specs.Mbox.{Mbox}
-use Rattle.mbox_text.specs.Held.{Held, Stay, NeverFrom}
+use Rattle.mbox_text.specs.Fronts.{AllButLast, NeverFrom, Stay}
+use Rattle.mbox_text.specs.Held.{Held}
 
 -- a feed was refused
 abbrev pub HasFailed : Splitter → Type 0
 HasFailed splitter = IsTrue splitter.failed
-
--- These are all messages of the text but the last, which may still grow (mbox(5): a message goes on up to the next From_ line).
--- They are none where the text is a front of `From `.
-abbrev pub AllButLast : List ℕ → List Entry → Type 0
-AllButLast text given =
-    ((begins_from text ≡ true) × ((last : Entry) × Mbox text (given ++ last ∷ [])))
-    ⊎ ((begins_with text from_bytes ≡ true) × (given ≡ []))
 
 -- The splitter was fed this text, no feed was refused, and these are the messages that it has given.
 pub record Fed (text : List ℕ) (given : List Entry) (splitter : Splitter) : Type 0 where

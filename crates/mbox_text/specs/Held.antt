@@ -5,7 +5,8 @@ use Rattle.mbox_text.specs.declared.entry.Entry.{Entry}
 use Rattle.mbox_text.specs.declared.message.Message.{Message}
 use Rattle.mbox_text.specs.Lines.{lines, Ended, NoEnd}
 use Rattle.mbox_text.specs.Quoting.{begins_with, begins_from, from_bytes, unquoted}
-use Rattle.mbox_text.specs.Mbox.{NoFrom, Block, Mbox, IsProperFront}
+use Rattle.mbox_text.specs.Mbox.{NoFrom, Block}
+use Rattle.mbox_text.specs.Fronts.{NeverFrom, Stay}
 
 -- the text without its last line if that is `\n` alone; whether the text stands at the front of a line
 unfoldable pub chopped_from : Bool → List ℕ → List ℕ
@@ -60,10 +61,6 @@ abbrev pub Moves : Option Message → List ℕ → List ℕ → List Entry → O
 Moves message line part added message' line' =
     (text : List ℕ) (given : List Entry) → Held text given message line → Held (text ++ part) (given ++ added) message' line'
 
--- no mbox text begins so
-abbrev pub NeverFrom : List ℕ → Type 0
-NeverFrom text = (begins_from text ≡ false) × (begins_with text from_bytes ≡ false)
-
 -- with the part no mbox text begins so, and no message was given
 abbrev pub Refuses : Option Message → List ℕ → List ℕ → Type 0
 Refuses message line part = (text : List ℕ) (given : List Entry) → Held text given message line → (given ≡ []) × NeverFrom (text ++ part)
@@ -72,10 +69,6 @@ Refuses message line part = (text : List ℕ) (given : List Entry) → Held text
 abbrev pub Refused : Option Message → List ℕ → List ℕ → List Entry → List Entry → Type 0
 Refused message line piece out out' =
     (text : List ℕ) (given : List Entry) → Held text given message line → (given ≡ []) × (out' ≡ out) × NeverFrom (text ++ piece)
-
--- whatever comes behind the text, these are none, or the first messages of the whole and not all of them
-abbrev pub Stay : List ℕ → List Entry → Type 0
-Stay text given = (more : List ℕ) (entries : List Entry) → Mbox (text ++ more) entries → (given ≡ []) ⊎ IsProperFront given entries
 
 -- of what the piece gives, only these messages were given before a growth was refused
 abbrev pub Breaks : Option Message → List ℕ → List ℕ → List Entry → List Entry → Type 0

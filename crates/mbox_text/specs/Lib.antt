@@ -5,5 +5,7 @@ pub mod Mbox
 pub mod Split
 pub mod Spelling
 pub mod Writing
+pub mod Fronts
 pub mod Held
+pub mod Steps
 pub mod Fed

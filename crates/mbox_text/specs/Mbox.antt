@@ -52,10 +52,6 @@ Mbox text (entry ∷ entries) =
 abbrev pub IsMboxText : List ℕ → Type 0
 IsMboxText text = (text ≡ []) ⊎ (begins_from text ≡ true)
 
--- the first list holds the first entries of the second, and not all of them
-abbrev pub IsProperFront : List Entry → List Entry → Type 0
-IsProperFront front entries = (next : Entry) × (rest : List Entry) × (entries ≡ front ++ next ∷ rest)
-
 -- no list of messages is the text's
 abbrev pub IsUnreadable : List ℕ → Type 0
 IsUnreadable text = (entries : List Entry) → ¬ Mbox text entries

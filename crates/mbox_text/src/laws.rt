@@ -1,8 +1,10 @@
 // Laws of the definitions. Each function's contract is the law; it does nothing.
 ghost use Rattle.std.specs.Prelude.{◌≡◌, ◌++◌, [], ◌∷◌, ◌↔◌, false, List, map};
 ghost use Rattle.std.specs.List.{flat_map};
+ghost use Rattle.mbox_text.specs.FromLine.{built, cleaned, past_spaces, rest, sender};
 ghost use Rattle.mbox_text.specs.Quoting.{begins_from, quoted, unquoted};
-ghost use Rattle.mbox_text.specs.Mbox.{IsMboxText, IsProperFront, Mbox};
+ghost use Rattle.mbox_text.specs.Fronts.{IsProperFront};
+ghost use Rattle.mbox_text.specs.Mbox.{IsMboxText, Mbox};
 ghost use Rattle.mbox_text.specs.Spelling.{FromLines, completed, spelling};
 ghost use Rattle.mbox_text.specs.declared.entry.Entry.{Entry as Message};
 
@@ -18,6 +20,12 @@ pub fn unquote_of_quote(_line: &[u8])
 pub fn one_reading(_text: &[u8])
     ensures one { (one other : List Message) → Mbox _text.now one → Mbox _text.now other → one ≡ other }
     ensures read { IsMboxText _text.now ↔ ((entries : List Message) × Mbox _text.now entries) }
+{}
+
+/// The parts of a From_ line that was built are the sender as it is written, and the rest without the spaces at its front.
+pub fn parts_of_built(_sender: &[u8], _rest: &[u8])
+    ensures sender { sender (built _sender.now _rest.now) ≡ cleaned _sender.now }
+    ensures rest { rest (built _sender.now _rest.now) ≡ past_spaces _rest.now }
 {}
 
 /// All messages of a text but the last are the first messages of each text that goes on from it, and not all of them.

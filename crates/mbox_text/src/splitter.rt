@@ -2,8 +2,8 @@
 ghost use Rattle.std.specs.Prelude.{◌≡◌, ℕ, ◌<◌, ◌≤◌, ◌++◌, ◌⊎◌, ◌↔◌, [], ◌∷◌, List, length, take, IfErr, IfOk, IsErr, IsErrOf, MatchBool, MatchOption, OnErr, OnOk};
 ghost use Rattle.mbox_text.specs.declared.entry.Entry.{Entry as Given};
 ghost use Rattle.mbox_text.specs.Fed.{Ends, Fed, HasFailed, IsTooShort, NeverBegins, Takes, TakesPart};
-ghost use Rattle.mbox_text.specs.Held.{Breaks, Moves, Refused, Refuses};
 ghost use Rattle.mbox_text.specs.Lines.{NoEnd};
+ghost use Rattle.mbox_text.specs.Steps.{BreaksOff, Gives, GivesNone, Rejects, RejectsAt};
 
 use crate::body::{add_line, take_lines};
 use crate::bytes::Bytes;
@@ -106,10 +106,9 @@ impl Splitter {
     // Takes the piece. False where no mbox text begins so.
     fn take_piece(&mut self, piece: &[u8], out: &mut Vec<Entry>) -> Result<bool, AllocError>
         ensures moved { IfOk result (λ fine. MatchBool fine
-            ((added : List Given) × (out.new.items ≡ out.old.items ++ added)
-            × Moves self.old.message self.old.line.items piece.now added self.new.message self.new.line.items)
-            (Refused self.old.message self.old.line.items piece.now out.old.items out.new.items)) }
-        ensures broken { OnErr result (Breaks self.old.message self.old.line.items piece.now out.old.items out.new.items) }
+            (Gives self.old piece.now out.old.items out.new.items self.new)
+            (Rejects self.old piece.now out.old.items out.new.items)) }
+        ensures broken { OnErr result (BreaksOff self.old piece.now out.old.items out.new.items) }
         ensures same { self.new.failed ≡ self.old.failed }
     {
         let mut at = 0;
@@ -127,10 +126,10 @@ impl Splitter {
     fn advance(&mut self, text: &[u8], out: &mut Vec<Entry>) -> Result<Option<usize>, AllocError>
         requires { 0 < length text.now }
         ensures moved { IfOk result (λ went. MatchOption went
-            (Refused self.old.message self.old.line.items text.now out.old.items out.new.items)
-            (λ n. (0 < n) × (n ≤ length text.now) × ((added : List Given) × (out.new.items ≡ out.old.items ++ added)
-            × Moves self.old.message self.old.line.items (take n text.now) added self.new.message self.new.line.items))) }
-        ensures broken { OnErr result (Breaks self.old.message self.old.line.items text.now out.old.items out.new.items) }
+            (Rejects self.old text.now out.old.items out.new.items)
+            (λ n. (0 < n) × (n ≤ length text.now)
+            × Gives self.old (take n text.now) out.old.items out.new.items self.new)) }
+        ensures broken { OnErr result (BreaksOff self.old text.now out.old.items out.new.items) }
         ensures same { self.new.failed ≡ self.old.failed }
     {
         let at = self.take_body_lines(text)?;
@@ -154,17 +153,14 @@ impl Splitter {
     // Takes whole lines at the front of the text, where the splitter stands at the front of a line of a body.
     fn take_body_lines(&mut self, text: &[u8]) -> Result<usize, AllocError>
         ensures within { IfOk result (λ n. n ≤ length text.now) }
-        ensures held { IfOk result (λ n. Moves self.old.message self.old.line.items (take n text.now) [] self.new.message self.new.line.items) }
+        ensures held { IfOk result (λ n. GivesNone self.old (take n text.now) self.new) }
         ensures same { self.new.failed ≡ self.old.failed }
     {
         if !self.line.is_empty() {
             return Ok(0);
         }
         match &mut self.message {
-            Some(message) => {
-                let n = take_lines(&mut message.body, text)?;
-                Ok(n)
-            }
+            Some(message) => take_lines(&mut message.body, text),
             None => Ok(0),
         }
     }
@@ -173,16 +169,15 @@ impl Splitter {
     fn add_part(&mut self, part: &[u8], out: &mut Vec<Entry>) -> Result<bool, AllocError>
         requires { NoEnd part.now }
         ensures moved { IfOk result (λ fine. MatchBool fine
-            ((added : List Given) × (out.new.items ≡ out.old.items ++ added)
-            × Moves self.old.message self.old.line.items part.now added self.new.message self.new.line.items)
-            ((out.new.items ≡ out.old.items) × Refuses self.old.message self.old.line.items part.now)) }
+            (Gives self.old part.now out.old.items out.new.items self.new)
+            ((out.new.items ≡ out.old.items) × RejectsAt self.old part.now)) }
         ensures broken { OnErr result (out.new.items ≡ out.old.items) }
         ensures same { self.new.failed ≡ self.old.failed }
     {
         self.line.extend_from_slice(part)?;
         if begins_with_from(&self.line) {
             if let Some(message) = self.message.take() {
-                append(out, message.close())?;
+                out.push(message.close())?;
             }
             return Ok(true);
         }
@@ -195,8 +190,8 @@ impl Splitter {
     // The line is whole. False where no mbox text begins so.
     fn end_line(&mut self) -> Result<bool, AllocError>
         ensures moved { IfOk result (λ fine. MatchBool fine
-            (Moves self.old.message self.old.line.items (10 ∷ []) [] self.new.message self.new.line.items)
-            (Refuses self.old.message self.old.line.items (10 ∷ []))) }
+            (GivesNone self.old (10 ∷ []) self.new)
+            (RejectsAt self.old (10 ∷ []))) }
         ensures same { self.new.failed ≡ self.old.failed }
     {
         match &mut self.message {
@@ -220,11 +215,5 @@ impl Splitter {
     }
 }
 
-/// Adds a message.
-fn append(out: &mut Vec<Entry>, entry: Entry) -> Result<(), AllocError>
-    ensures added { OnOk result (out.new.items ≡ out.old.items ++ entry ∷ []) }
-    ensures unchanged { OnErr result (out.new.items ≡ out.old.items) }
-{
-    out.push(entry)?;
-    Ok(())
-}
+#[cfg(test)]
+mod tests;

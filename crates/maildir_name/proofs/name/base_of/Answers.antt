@@ -1,7 +1,6 @@
-use Rattle.std.proofs.Common.{refl, sym, ◌∙◌, lit<, le_of_eq, take_all, length}
+use Rattle.std.proofs.Common.{refl, sym, lit<, le_of_eq, take_all, length}
 use Rattle.std.proofs.lemmas.Str.Pattern.{split_once_first}
-use Rattle.std.specs.List.{position_or_len}
-use Rattle.maildir_name.specs.Names.{base, is_colon}
+use Rattle.maildir_name.specs.Names.{base}
 use Rattle.maildir_name.proofs.name.base_of.Goals as goal
 
 pub returns-in-Some : goal.returns-in-Some

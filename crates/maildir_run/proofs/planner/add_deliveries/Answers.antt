@@ -14,14 +14,14 @@ loop-i-preserved c =
     let d = c.index-targets-i.result in
     let old = c.loop-i.steps.items in
     let shown : contains_key there (get_or c.args.targets.now i d).base ≡ c.contains.result =
-        sym (c.contains.ensures ∙ ap (contains_key there) (c.as_str.ensures ∙ ap (λ (t : Target). t.base) c.index-targets-i.is)) in
+    sym (c.contains.ensures ∙ ap (contains_key there) (c.as_str.ensures ∙ ap (λ (t : Target). t.base) c.index-targets-i.is)) in
     elim c.if-not-contains.branch [
       | then-not-contains+in_ok-push+in_ok-push-2 w ↦
-        deliveries-step (contains_key there) c.args.targets.now i d c.args.steps.now.items old c.if-not-contains.steps.items false
+          deliveries-step (contains_key there) c.args.targets.now i d c.args.steps.now.items old c.if-not-contains.steps.items false
           c.loop-i-test.true (shown ∙ w.if-not-contains.true) c.loop-i.invariant
           (ap (λ v. v.items) w.steps-is ∙ w.in_ok-push-2.ensures.items ∙ ap (λ (xs : List Step). xs ++ Place i ∷ []) w.in_ok-push.ensures.items ∙ append_assoc old (Write i ∷ []) (Place i ∷ []))
       | else-not-contains w ↦
-        deliveries-step (contains_key there) c.args.targets.now i d c.args.steps.now.items old c.if-not-contains.steps.items true
+          deliveries-step (contains_key there) c.args.targets.now i d c.args.steps.now.items old c.if-not-contains.steps.items true
           c.loop-i-test.true (shown ∙ w.if-not-contains.false) c.loop-i.invariant
           (ap (λ v. v.items) w.steps-is ∙ sym (append_nil old))
     ]

@@ -1,0 +1,36 @@
+// Headers and the flags that they set.
+use super::*;
+
+// The flags of these letters.
+fn letters(text: &str) -> Flags {
+    Flags {
+        is_old: text.contains('O'),
+        flagged: text.contains('F'),
+        replied: text.contains('A'),
+        seen: text.contains('R'),
+        trashed: text.contains('D'),
+    }
+}
+
+#[test]
+fn flag_headers(rt: HostRuntime) {
+    for (body, set) in [
+        ("status: O\n\n", "O"),
+        ("Subject: s\n\nStatus: R\n", ""),
+        ("Status: r\n\n", ""),
+        ("X-Status: RD\n", "RD"),
+        ("Status: R\nStatus: O\n\n", "R"),
+        ("Status:\n O\n", ""),
+        ("", ""),
+        ("\nStatus: R\n", ""),
+        ("Status : R\n", ""),
+        ("STATUS: O\r\n\r\nX-Status: A\n", "O"),
+        ("X-Status: O", "O"),
+        ("Status: FLAGS\n", "FA"),
+        ("Subject: s\nx-status: D\nSTATUS:R\n\n", "DR"),
+        ("X-Status: F\nX-Status: A\n\n", "F"),
+        ("Status: RO\nX-Status: AF\n\nhi\n", "ROAF"),
+    ] {
+        assert_eq!(rt; flags_of(body.as_bytes()), letters(set), "in {body:?}");
+    }
+}

@@ -1,0 +1,28 @@
+-- Messages that are written one after the other.
+use Rattle.std.proofs.Common.{◌≡◌, ℕ, ◌+◌, ◌<◌, Bool, true, Option, Result, Ok, Err, is_err, List, [], ◌∷◌, ◌++◌, length, get_or, take, drop, refl, sym, ◌∙◌, ap}
+use Rattle.std.specs.List.{flat_map}
+use Rattle.std.specs.Io.KnownBytes.{Appends}
+use Rattle.std.proofs.lemmas.Bool.{false≢true}
+use Rattle.std.proofs.lemmas.List.{take-append-drop, drop_more}
+use Rattle.std.proofs.lemmas.List.Concat.{flat_map-append}
+use Rattle.mbox_text.specs.declared.entry.Entry.{Entry}
+use Rattle.mbox_text.specs.Spelling.{spelling}
+use Rattle.mbox_text.specs.Writing.{AppendsFront, Writes}
+use Rattle.mbox_text.proofs.Appended.{front_then}
+
+-- the first messages, one more and the others
+parted : (entries : List Entry) (i : ℕ) (e : Entry) → i < length entries → e ≡ get_or entries i e
+    → flat_map spelling entries ≡ flat_map spelling (take i entries) ++ (spelling e ++ flat_map spelling (drop (i + 1) entries))
+parted entries i e l is =
+    let whole : entries ≡ take i entries ++ e ∷ drop (i + 1) entries =
+    sym (take-append-drop i entries) ∙ ap (λ z. take i entries ++ z) (drop_more entries i e l ∙ ap (λ z. z ∷ drop (i + 1) entries) (sym is)) in
+    ap (flat_map spelling) whole ∙ flat_map-append spelling (take i entries) (e ∷ drop (i + 1) entries)
+
+refused : {T E : Type 0} (r : Result T E) (a b : Option (List ℕ)) (bytes : List ℕ) → true ≡ is_err r → Writes a b r bytes → AppendsFront a b bytes
+refused (Ok x) a b bytes e w = absurd (false≢true (sym e))
+refused (Err x) a b bytes e w = w
+
+pub each_front : {T E : Type 0} (entries : List Entry) (i : ℕ) (e : Entry) (r : Result T E) (a b c : Option (List ℕ)) → i < length entries → e ≡ get_or entries i e → Appends a b (flat_map spelling (take i entries))
+    → true ≡ is_err r → Writes b c r (spelling e) → AppendsFront a c (flat_map spelling entries)
+each_front entries i e r a b c l is h err w =
+    front_then a b c (flat_map spelling (take i entries)) (spelling e) (flat_map spelling (drop (i + 1) entries)) (flat_map spelling entries) h (refused r b c (spelling e) err w) (parted entries i e l is)

@@ -1,0 +1,101 @@
+-- The messages of a text: their bases are a converter's, and no two are the same.
+use Rattle.std.proofs.Common.{◌≡◌, ◌≢◌, ℕ, suc, ◌+◌, ◌<◌, ◌≤◌, ◌^◌, Bool, true, false, List, [], ◌∷◌, ◌++◌, map, length, get_or, All, AllPairs, IsTrue, IsFalse, refl, sym, ap, subst, ◌∙◌, inl, inr, arith}
+use Rattle.std.proofs.lemmas.Bool.{cases_Bool}
+use Rattle.std.proofs.lemmas.List.{length-append, length-map, get_or-map}
+use Rattle.std.proofs.lemmas.List.Elements.{All-nil}
+use Rattle.mbox_text.specs.declared.entry.Entry.{Entry}
+use Rattle.mbox_text.specs.Lines.{lines}
+use Rattle.mbox_text.specs.Mbox.{Mbox, Block}
+use Rattle.maildir_name.specs.declared.target.Target.{Target}
+use Rattle.maildir_name.specs.Names.{base, is_converter_base}
+use Rattle.maildir_name.specs.Targets.{target, targets}
+use Rattle.maildir_name.proofs.TargetLemmas.{length-targets, targets-push}
+use Rattle.maildir_name.proofs.DistinctBases.{named-targets, distinct-targets}
+use Rattle.maildir_run.specs.Files.{is_name}
+use Rattle.maildir_run.specs.Delivery.{Message, AreNamed, AreDistinct}
+use Rattle.maildir_run.specs.Texts.{with_bodies, messages_of, bodies_of, MessagesOf}
+use Rattle.maildir_run.proofs.Maps.{is_name-true}
+
+-- ---- each target with its body
+pub targets_of : (ts : List Target) (bodies : List (List ℕ)) → length ts ≡ length bodies → map (λ (m : Message). m.target) (with_bodies ts bodies) ≡ ts
+targets_of [] bodies e = refl
+targets_of (t ∷ ts) [] e = absurd (omega arith)
+targets_of (t ∷ ts) (body ∷ bodies) e = ap (λ xs. t ∷ xs) (targets_of ts bodies (omega arith))
+
+pub length-messages_of : (bodies : List (List ℕ)) → length (messages_of bodies) ≡ length bodies
+length-messages_of bodies =
+    sym (length-map (messages_of bodies) (λ (m : Message). m.target))
+    ∙ ap length (targets_of (targets bodies) bodies (length-targets bodies))
+    ∙ length-targets bodies
+
+with_bodies-push : (ts : List Target) (bodies : List (List ℕ)) (t : Target) (body : List ℕ) → length ts ≡ length bodies → with_bodies (ts ++ t ∷ []) (bodies ++ body ∷ []) ≡ with_bodies ts bodies ++ record { target = t; body = body } ∷ []
+with_bodies-push [] [] t body e = refl
+with_bodies-push [] (b ∷ bodies) t body e = absurd (omega arith)
+with_bodies-push (x ∷ ts) [] t body e = absurd (omega arith)
+with_bodies-push (x ∷ ts) (b ∷ bodies) t body e = ap (λ ms. record { target = x; body = b } ∷ ms) (with_bodies-push ts bodies t body (omega arith))
+
+-- one more body adds one message, behind the others
+pub messages_of-push : (bodies : List (List ℕ)) (body : List ℕ) → messages_of (bodies ++ body ∷ []) ≡ messages_of bodies ++ record { target = target bodies body; body = body } ∷ []
+messages_of-push bodies body =
+    ap (λ ts. with_bodies ts (bodies ++ body ∷ [])) (targets-push bodies body)
+    ∙ with_bodies-push (targets bodies) bodies (target bodies body) body (length-targets bodies)
+
+-- ---- their bases
+get_target : (bodies : List (List ℕ)) (k : ℕ) (d : Message) → k < length (messages_of bodies) → get_or (targets bodies) k d.target ≡ (get_or (messages_of bodies) k d).target
+get_target bodies k d below =
+    ap (λ ts. get_or ts k d.target) (sym (targets_of (targets bodies) bodies (length-targets bodies)))
+    ∙ get_or-map (λ (m : Message). m.target) (messages_of bodies) k d d.target below
+
+as_many : (bodies : List (List ℕ)) → length (messages_of bodies) ≡ length (targets bodies)
+as_many bodies = length-messages_of bodies ∙ sym (length-targets bodies)
+
+pub messages_named : (bodies : List (List ℕ)) → length bodies ≤ 2 ^ 63 → AreNamed (messages_of bodies)
+messages_named bodies few k d below =
+    subst (λ (t : Target). IsTrue (is_converter_base t.base)) (get_target bodies k d below)
+    (named-targets bodies few k d.target (omega (arith, below, as_many bodies))).converter
+
+different : (a b : List ℕ) → (a ≡ b → ⊥) → IsFalse (is_name a b)
+different a b apart =
+    elim (cases_Bool (is_name a b)) as (λ _. IsFalse (is_name a b)) [
+      | inl e ↦ absurd (apart (is_name-true a b e))
+      | inr e ↦ e
+    ]
+
+pub messages_distinct : (bodies : List (List ℕ)) → length bodies ≤ 2 ^ 63 → AreDistinct (messages_of bodies)
+messages_distinct bodies few i j d lt below =
+    let base_i : (get_or (targets bodies) i d.target).base ≡ (get_or (messages_of bodies) i d).target.base = ap (λ (t : Target). t.base) (get_target bodies i d (omega arith)) in
+    let base_j : (get_or (targets bodies) j d.target).base ≡ (get_or (messages_of bodies) j d).target.base = ap (λ (t : Target). t.base) (get_target bodies j d below) in
+    different (get_or (messages_of bodies) i d).target.base (get_or (messages_of bodies) j d).target.base
+    (λ e. distinct-targets bodies few i j d.target lt (omega (arith, below, as_many bodies)) (base_i ∙ (e ∙ sym base_j)))
+
+-- ---- a text has no more messages than bytes
+no_lines : lines [] ≡ []
+unfolding lines
+no_lines = refl
+
+block_bytes : (block : List ℕ) (entry : Entry) → Block block entry → 1 ≤ length block
+block_bytes [] entry b = let e : [] ≡ b.first ∷ b.others = sym no_lines ∙ b.is in cc
+block_bytes (c ∷ block) entry b = omega arith
+
+few_entries : (t : List ℕ) (entries : List Entry) → Mbox t entries → length entries ≤ length t
+unfolding Mbox
+few_entries t [] is = omega arith
+few_entries t (entry ∷ entries) (block, rest, joined, is, ended, others) =
+    let one = block_bytes block entry is in
+    let more = few_entries rest entries others in
+    let len : length t ≡ length block + length rest = ap length joined ∙ length-append block rest in
+    omega (arith, one, more, len)
+
+few_bodies : (t : List ℕ) (entries : List Entry) → Mbox t entries → length t < 2 ^ 63 → length (bodies_of entries) ≤ 2 ^ 63
+few_bodies t entries is small =
+    let few = few_entries t entries is in
+    let len = length-map entries (λ (entry : Entry). entry.body) in
+    omega (arith, few, len)
+
+pub text_named : (t : List ℕ) (ms : List Message) → MessagesOf t ms → length t < 2 ^ 63 → AreNamed ms
+text_named t ms (inl (entries, is, e)) small = subst AreNamed (sym e) (messages_named (bodies_of entries) (few_bodies t entries is small))
+text_named t ms (inr (none, e)) small = subst AreNamed (sym e) (All-nil (λ (m : Message). IsTrue (is_converter_base m.target.base)))
+
+pub text_distinct : (t : List ℕ) (ms : List Message) → MessagesOf t ms → length t < 2 ^ 63 → AreDistinct ms
+text_distinct t ms (inl (entries, is, e)) small = subst AreDistinct (sym e) (messages_distinct (bodies_of entries) (few_bodies t entries is small))
+text_distinct t ms (inr (none, e)) small = subst AreDistinct (sym e) (λ i j d lt below. absurd (omega arith))

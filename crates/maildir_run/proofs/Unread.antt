@@ -1,0 +1,80 @@
+-- Texts that no list of messages fits.
+use Rattle.std.proofs.Common.{◌≡◌, ℕ, ◌+◌, ◌<◌, ◌≤◌, Bool, true, false, Option, Some, None, Result, Ok, Err, List, [], ◌∷◌, ◌++◌, length, refl, sym, ◌∙◌, ap, arith, inl, inr}
+use Rattle.std.specs.Prelude.{◌*◌, IsErr, IsErrAnd}
+use Rattle.std.specs.Io.KnownBytes.{Consumes, IsAtEnd}
+use Rattle.std.proofs.lemmas.Bool.{both_ways, false≢true}
+use Rattle.std.proofs.lemmas.List.{append-nil}
+use Rattle.mbox_text.specs.declared.entry.Entry.{Entry}
+use Rattle.mbox_text.specs.declared.splitter.Splitter.{Splitter}
+use Rattle.mbox_text.specs.Quoting.{begins_from, begins_with, from_bytes}
+use Rattle.mbox_text.specs.Mbox.{Mbox, IsUnreadable}
+use Rattle.mbox_text.specs.Held.{NeverFrom}
+use Rattle.mbox_text.specs.Fed.{AllButLast, IsTooShort, NeverBegins}
+use Rattle.mbox_text.proofs.Blocks.{mbox-starts}
+use Rattle.mbox_text.proofs.Fields.{never-more}
+use Rattle.mbox_text.proofs.Heads.{from-long, mbox-begins-last}
+use Rattle.mbox_text.proofs.LineLemmas.{begins_from-more}
+use Rattle.maildir_run.specs.declared.fault.RunFault.{RunFault}
+use Rattle.maildir_run.specs.declared.fault.RunFault.TheVariants.{NoFromLine}
+use Rattle.maildir_run.specs.declared.messages.Messages.{Messages}
+use Rattle.maildir_run.specs.Reading.{NeverReads, Taken, Breaks, Went}
+
+-- what begins neither with `From ` nor with a front of it
+pub never_unreadable : (text : List ℕ) → NeverFrom text → IsUnreadable text
+never_unreadable text n entries h = elim (mbox-starts text entries h) [
+  | inl e ↦ let f : begins_with text from_bytes ≡ true = rw e refl in both_ways (begins_with text from_bytes) n.1 f
+  | inr b ↦ both_ways (begins_from text) n.0 b
+]
+
+pub never_reads : (text : List ℕ) (after : Option (List ℕ)) → NeverFrom text → NeverReads text after
+never_reads text after n more left has whole = never_unreadable (text ++ more) (never-more text more n)
+
+-- one to four bytes, and no more
+short_unreadable : (text : List ℕ) → IsTooShort text → IsUnreadable text
+short_unreadable text s entries h = elim (mbox-starts text entries h) [
+  | inl e ↦ absurd (omega (arith, ap length e, s.0))
+  | inr b ↦ absurd (omega (arith, from-long text b, s.1))
+]
+
+pub short_reads : (text : List ℕ) (after : Option (List ℕ)) → IsTooShort text → IsAtEnd after → NeverReads (text ++ []) after
+short_reads text after s end more left has whole entries h =
+    let none : left ≡ [] = rw has at end in
+    let all : (text ++ []) ++ more ≡ text = rw (whole none, append-nil text) (append-nil text) in
+    short_unreadable text s entries (rw all at h)
+
+-- then none was given
+pub never_given : (text piece : List ℕ) (given : List Entry) → NeverFrom (text ++ piece) → AllButLast text given → given ≡ []
+never_given text piece given n (inl a) = absurd (both_ways (begins_from (text ++ piece)) n.0 (begins_from-more text piece a.0))
+never_given text piece given n (inr a) = a.1
+
+pub short_given : (text : List ℕ) (given : List Entry) → IsTooShort text → AllButLast text given → given ≡ []
+short_given text given s (inl a) = absurd (omega (arith, from-long text a.0, s.1))
+short_given text given s (inr a) = a.1
+
+-- a read that is refused
+pub breaks_went : (old : Messages) (before after : Option (List ℕ)) (out out' : List Entry) (splitter : Splitter) (reads : ℕ) (r : Result Bool RunFault) (fault : RunFault) → IsErr r → IsErrAnd r (λ e. e ≡ fault)
+    → Breaks old before after fault → Went old before after out out' splitter reads r
+breaks_went old before after out out' splitter reads (Ok b) fault is e h = absurd (false≢true is)
+breaks_went old before after out out' splitter reads (Err f) fault is e h = rw e h
+
+-- the last message could not be told
+pub finish_breaks : (old : Messages) (before after : Option (List ℕ)) (fault : RunFault) → Consumes before after [] → IsAtEnd after
+    → (fault ≡ NoFromLine → (text : List ℕ) (given : List Entry) → Taken text given old → IsTooShort text) → Breaks old before after fault
+finish_breaks old before after fault read end short = (
+  [],
+  read,
+  omega arith,
+  λ e text given taken. let s = short e text given taken in (short_given text given s taken.given_are, short_reads text after s end),
+)
+
+-- what was read can't begin a text
+pub feed_breaks : (old : Messages) (before after : Option (List ℕ)) (piece : List ℕ) (out out' : List Entry) (fault : RunFault) → Consumes before after piece → length piece ≤ 65536 * old.reads
+    → (fault ≡ NoFromLine → NeverBegins old.splitter piece out out') → Breaks old before after fault
+feed_breaks old before after piece out out' fault read size never = (
+  piece,
+  read,
+  size,
+  λ e text given taken.
+      let n = (never e text given taken).1 in
+      (never_given text piece given n taken.given_are, never_reads (text ++ piece) after n),
+)

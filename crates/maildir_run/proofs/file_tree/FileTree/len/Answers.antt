@@ -1,0 +1,7 @@
+use Rattle.std.proofs.Common.{sym, ap, ◌∙◌}
+use Rattle.std.specs.FinMap.{len}
+use Rattle.maildir_run.proofs.Trees.{len-map_of}
+use Rattle.maildir_run.proofs.file_tree.FileTree.len.Goals as goal
+
+pub returns : goal.returns
+returns c = c.len.ensures.len ∙ sym (len-map_of c.self.inside.files c.len.ensures.ordered) ∙ ap len c.self.view_is

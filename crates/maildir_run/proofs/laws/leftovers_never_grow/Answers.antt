@@ -1,0 +1,5 @@
+use Rattle.maildir_run.proofs.Counted.{leftovers}
+use Rattle.maildir_run.proofs.laws.leftovers_never_grow.Goals as goal
+
+pub returns : goal.returns
+returns c = λ action s. leftovers action s

@@ -1,0 +1,8 @@
+use Rattle.maildir_run.proofs.Outsiders.{outside_leaves, outside_reaches}
+use Rattle.maildir_run.proofs.laws.outside_actions.Goals as goal
+
+pub returns-clause-leaves : goal.returns-clause-leaves
+returns-clause-leaves c = outside_leaves
+
+pub returns-clause-reaches : goal.returns-clause-reaches
+returns-clause-reaches c = outside_reaches

@@ -1,0 +1,12 @@
+use Rattle.std.specs.List.{flat_map}
+use Rattle.mbox_text.specs.Spelling.{spelling}
+use Rattle.maildir_run.proofs.Poured.{Poured}
+use Rattle.maildir_run.proofs.rewriting.rewrite.Given as goal
+
+abbrev pub invariant-pieces : goal.invariant-pieces
+invariant-pieces g l =
+    Poured (flat_map spelling) (g.R.Read.remaining l.initial.source) (g.R.Read.remaining l.source) (g.W.Write.contents l.initial.out) (g.W.Write.contents l.out)
+    l.messages.splitter l.messages.reads l.whole.items l.fn.reads l.count
+
+abbrev pub decreases-pieces : goal.decreases-pieces
+decreases-pieces g l = l.messages.reads

@@ -1,0 +1,20 @@
+-- What a call that writes owes of its output, for the texts that its source may have had.
+use Rattle.std.specs.Prelude.{◌≡◌, ℕ, List, ◌++◌, length, Option, IfSome}
+use Rattle.std.specs.Io.KnownBytes.{Appends, Keeps}
+use Rattle.mbox_text.specs.declared.entry.Entry.{Entry}
+use Rattle.mbox_text.specs.Mbox.{Mbox}
+use Rattle.mbox_text.specs.Writing.{AppendsFront}
+use Rattle.maildir_run.specs.Runs.{Possible}
+
+-- the source gave a text, and all that belongs to its messages was written, which are so many
+abbrev pub GivesAll : (List Entry → List ℕ) → Option (List ℕ) → Option (List ℕ) → Option (List ℕ) → ℕ → Type 0
+GivesAll output source was is count =
+    IfSome source (λ t. (entries : List Entry) × Mbox t entries × (count ≡ length entries) × Appends was is (output entries))
+
+-- for each text that the source may have had, a front of what belongs to its messages was written
+abbrev pub GivesFront : (List Entry → List ℕ) → Option (List ℕ) → Option (List ℕ) → Option (List ℕ) → Option (List ℕ) → Type 0
+GivesFront output before after was is = (t : List ℕ) (entries : List Entry) → Possible before after t → Mbox t entries → AppendsFront was is (output entries)
+
+-- no text that the source may have had is an mbox text, and nothing was written
+abbrev pub GivesNothing : Option (List ℕ) → Option (List ℕ) → Option (List ℕ) → Option (List ℕ) → Type 0
+GivesNothing before after was is = Keeps was is × ((t : List ℕ) (entries : List Entry) → Possible before after t → ¬ Mbox t entries)

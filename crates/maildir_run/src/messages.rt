@@ -1,0 +1,106 @@
+// The messages of a source, read piece by piece under a budget of reads.
+ghost use Rattle.std.specs.Prelude.{◌≡◌, ◌⊎◌, ◌<◌, ◌≤◌, ◌++◌, [], List, ℕ, Option, length, take, vec_len, IfOk, OnOk, IfErr, IsErrOf, MatchResult, option_to_list};
+ghost use Rattle.std.specs.Io.KnownBytes.{Consumes, IsAtEnd};
+ghost use Rattle.mbox_text.specs.Fed.{Fed, Takes, NeverBegins, Ends, IsTooShort};
+ghost use Rattle.mbox_text.specs.declared.entry.Entry.{Entry as Given};
+
+use crate::fault::RunFault;
+use mbox_text::{Entry, Splitter, TextFault};
+use std::alloc::{AllocError, Global};
+use std::io::Read;
+use std::mem;
+
+/// How many bytes one read asks for.
+const PIECE: usize = 65536;
+
+/// The messages of a source, as they become whole, under a budget of reads.
+#[derive(Drop)]
+pub(crate) struct Messages {
+    alloc: Global,
+    buffer: Vec<u8>,
+    splitter: Splitter,
+    reads: u64,
+    ghost roomy: { vec_len buffer ≡ 65536 },
+}
+
+impl Messages {
+    ghost use Rattle.maildir_run.specs.Reading.{IsReading, Taken, Went};
+
+    /// Nothing was read. So many reads may be made.
+    pub(crate) fn new(alloc: Global, reads: u64) -> Result<Messages, AllocError>
+        ensures { IfOk result (λ messages. Taken [] [] messages × (messages.reads ≡ reads)) }
+    {
+        Ok(Messages {
+            alloc,
+            buffer: vec![in alloc; 0; PIECE]?,
+            splitter: Splitter::new(alloc),
+            reads,
+        })
+    }
+
+    /// Makes one read, and appends each message that is whole now. True where the source is at its end: then the last
+    /// message was appended too, and no read is to follow.
+    ///
+    /// Errors: `TooManyReads` where no read is left, and then none is made; `ReadFault`; `NoFromLine` as soon as what was
+    /// read can't begin an mbox text; `OutOfMemory`.
+    pub(crate) fn read<R: Read>(&mut self, source: &mut R, out: &mut Vec<Entry>) -> Result<bool, RunFault>
+        ensures went { Went self.old (R.remaining source.old) (R.remaining source.new) out.old.items out.new.items self.new.splitter self.new.reads result }
+        ensures causes { IfErr result IsReading }
+    {
+        if self.reads == 0 {
+            return Err(RunFault::TooManyReads);
+        }
+        self.reads -= 1;
+        let n = read_piece(source, &mut self.buffer)?;
+        if n == 0 {
+            let splitter = mem::replace(&mut self.splitter, Splitter::new(self.alloc));
+            finish(splitter, out)?;
+            return Ok(true);
+        }
+        feed(&mut self.splitter, &self.buffer[..n], out)?;
+        Ok(false)
+    }
+}
+
+/// Makes one read into the buffer, and says how many bytes it gave: none only at the source's end.
+fn read_piece<R: Read>(source: &mut R, buffer: &mut [u8]) -> Result<usize, RunFault>
+    requires { 0 < length buffer.old }
+    ensures gave { MatchResult result
+        (λ n. (n ≤ length buffer.new) × Consumes (R.remaining source.old) (R.remaining source.new) (take n buffer.new) × (n ≡ 0 → IsAtEnd (R.remaining source.new)))
+        (λ fault. (fault ≡ RunFault.ReadFault) × Consumes (R.remaining source.old) (R.remaining source.new) []) }
+{
+    match source.read(buffer) {
+        Ok(n) => Ok(n),
+        Err(_) => Err(RunFault::ReadFault),
+    }
+}
+
+/// Feeds a splitter that no call refused.
+fn feed(splitter: &mut Splitter, piece: &[u8], out: &mut Vec<Entry>) -> Result<(), RunFault>
+    ensures fed { OnOk result (Takes splitter.old piece.now out.old.items out.new.items splitter.new) }
+    ensures no_from_line { IsErrOf result RunFault.NoFromLine → NeverBegins splitter.old piece.now out.old.items out.new.items }
+    ensures causes { IfErr result (λ fault. (fault ≡ RunFault.NoFromLine) ⊎ (fault ≡ RunFault.OutOfMemory)) }
+{
+    match splitter.feed(piece, out) {
+        Ok(()) => Ok(()),
+        Err(TextFault::NoFromLine) => Err(RunFault::NoFromLine),
+        Err(_) => Err(RunFault::OutOfMemory),
+    }
+}
+
+/// Appends the last message of a splitter that no call refused.
+fn finish(splitter: Splitter, out: &mut Vec<Entry>) -> Result<(), RunFault>
+    ensures last { OnOk result ((last : Option Given) × (out.new.items ≡ out.old.items ++ option_to_list last) × Ends splitter last) }
+    ensures no_from_line { IsErrOf result RunFault.NoFromLine → (text : List ℕ) (given : List Given) → Fed text given splitter → IsTooShort text }
+    ensures causes { IfErr result (λ fault. (fault ≡ RunFault.NoFromLine) ⊎ (fault ≡ RunFault.OutOfMemory)) }
+{
+    match splitter.finish() {
+        Ok(None) => Ok(()),
+        Ok(Some(last)) => {
+            out.push(last)?;
+            Ok(())
+        }
+        Err(TextFault::NoFromLine) => Err(RunFault::NoFromLine),
+        Err(_) => Err(RunFault::OutOfMemory),
+    }
+}

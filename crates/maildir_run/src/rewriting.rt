@@ -1,0 +1,59 @@
+// A text in its regular spelling.
+ghost use Rattle.std.specs.Prelude.{◌≡◌, ◌⊎◌, ◌*◌, ◌^◌, ◌≤◌, IfOk, OnOk, OnErr, IfErr, IsErrOf};
+ghost use Rattle.std.specs.List.{flat_map};
+ghost use Rattle.std.specs.Io.KnownBytes.{IsAtEnd};
+ghost use Rattle.mbox_text.specs.Spelling.{spelling};
+ghost use Rattle.mbox_text.specs.Writing.{Writes};
+ghost use Rattle.maildir_run.specs.Output.{GivesAll, GivesFront, GivesNothing};
+ghost use Rattle.maildir_run.specs.Reading.{IsReading, ReadsAtMost};
+
+use crate::fault::RunFault;
+use crate::messages::Messages;
+use mbox_text::{Entry, write_entry};
+use std::alloc::Global;
+use std::io::{Read, Write};
+
+/// Writes each message of the source's text in its regular spelling, in their order, and answers how many there are.
+/// At most `reads` reads are made, each for at most 65,536 bytes. One message is held at a time, beside what one read gave.
+///
+/// Errors: `NoFromLine` where the text is not empty and doesn't begin with `From `, told as soon as the bytes decide, and
+/// then nothing was written; `ReadFault`; `TooManyReads` where `reads` reads didn't meet the end; `OutputFault`;
+/// `OutOfMemory`. What was written then is a front of what belongs to the text.
+pub fn rewrite<R: Read, W: Write>(alloc: Global, source: &mut R, out: &mut W, reads: u64) -> Result<u64, RunFault>
+    requires { reads ≤ 2 ^ 40 }
+    ensures all { IfOk result (GivesAll (flat_map spelling) (R.remaining source.old) (W.contents out.old) (W.contents out.new)) }
+    ensures end { OnOk result (IsAtEnd (R.remaining source.new)) }
+
+    // after a refusal
+    ensures front { OnErr result (GivesFront (flat_map spelling) (R.remaining source.old) (R.remaining source.new) (W.contents out.old) (W.contents out.new)) }
+    ensures no_from_line { IsErrOf result RunFault.NoFromLine → GivesNothing (R.remaining source.old) (R.remaining source.new) (W.contents out.old) (W.contents out.new) }
+    ensures causes { IfErr result (λ fault. IsReading fault ⊎ (fault ≡ RunFault.OutputFault)) }
+
+    ensures budget { ReadsAtMost (R.remaining source.old) (R.remaining source.new) (65536 * reads) }
+{
+    let mut messages = Messages::new(alloc, reads)?;
+    let mut whole = Vec::new(alloc);
+    let mut count = 0u64;
+    'pieces: loop {
+        let ended = messages.read(source, &mut whole)?;
+        write_entries(&whole, out)?;
+        count += whole.len() as u64;
+        if ended {
+            return Ok(count);
+        }
+        whole.clear();
+    }
+}
+
+/// Writes messages in their regular spelling.
+fn write_entries<W: Write>(entries: &[Entry], out: &mut W) -> Result<(), RunFault>
+    ensures written { Writes (W.contents out.old) (W.contents out.new) result (flat_map spelling entries.now) }
+    ensures causes { IfErr result (λ fault. fault ≡ RunFault.OutputFault) }
+{
+    for entry in entries {
+        if write_entry(entry, out).is_err() {
+            return Err(RunFault::OutputFault);
+        }
+    }
+    Ok(())
+}

@@ -1,0 +1,152 @@
+-- From_ lines that are taken apart and built.
+use Rattle.std.proofs.Common.{◌≡◌, ℕ, zero, suc, add-zero, ◌+◌, ◌-◌, ◌<◌, ◌≤◌, Bool, true, false, Option, Some, None, Result, Ok, Err, cond, eqb, List, [], ◌∷◌, ◌++◌, get_or, length, take, drop, map, refl, sym, ◌∙◌, ap, arith, append_assoc, inl, inr}
+use Rattle.std.specs.Prelude.{◌↔◌, ◌||◌, Contains, IsErrOf, OnOk, codes, is_ok, is_some}
+use Rattle.std.proofs.lemmas.Bool.{both_ways, cases_Bool, eqb-true, eq-eqb, ne_eqb, or_parts, false_from_ne_true, false≢true}
+use Rattle.std.proofs.lemmas.List.{append-nil, drop_at, drop_more, get_or-drop, length-drop, length-take, take_rest}
+use Rattle.std.proofs.lemmas.List.Elements.{Contains-get_or}
+use Rattle.memchr.specs.Find.{IsFirstByte, is_byte}
+use Rattle.mbox_text.specs.Lines.{NoEnd}
+use Rattle.mbox_text.specs.Quoting.{begins_from, from_bytes}
+use Rattle.mbox_text.specs.FromLine.{IsFromLine, before_space, past_spaces, sender, rest, hyphened, cleaned, behind_sender, built}
+use Rattle.mbox_text.proofs.Fields.{none-there}
+use Rattle.mbox_text.proofs.HeldLemmas.{NoEnd-append}
+
+-- a list that a call extended
+pub extended_by : {E : Type 0} (r : Result (Unit {0}) E) (now was ys zs : List ℕ) → now ≡ cond (is_ok r) (was ++ ys) was → ys ≡ zs → OnOk r (now ≡ was ++ zs)
+extended_by (Ok u) now was ys zs e e' = rw (← e') e
+extended_by (Err x) now was ys zs e e' = tt
+
+pub cleaned-none : (s : List ℕ) → length s ≡ 0 → codes "MAILER-DAEMON" ≡ cleaned s
+unfolding cleaned
+cleaned-none [] h = refl
+cleaned-none (c ∷ s) h = absurd (omega (arith, h))
+
+pub cleaned-some : (s : List ℕ) → (length s ≡ 0 → ⊥) → cleaned s ≡ map hyphened s
+unfolding cleaned
+cleaned-some [] h = absurd (h refl)
+cleaned-some (c ∷ s) h = refl
+
+-- no byte of a sender is written as a space or as a `\n`
+hyphened-space : (c : ℕ) → eqb (hyphened c) 32 ≡ false
+hyphened-space c = elim (cases_Bool (eqb c 32 || (eqb c 9 || eqb c 10))) [
+  | inl e ↦ rw e refl
+  | inr e ↦ rw e (or_parts (eqb c 32) (eqb c 9 || eqb c 10) e).0
+]
+
+hyphened-end : (c : ℕ) → eqb (hyphened c) 10 ≡ false
+hyphened-end c = elim (cases_Bool (eqb c 32 || (eqb c 9 || eqb c 10))) [
+  | inl e ↦ rw e refl
+  | inr e ↦ rw e (or_parts (eqb c 9) (eqb c 10) (or_parts (eqb c 32) (eqb c 9 || eqb c 10) e).1).1
+]
+
+before-map : (s t : List ℕ) → before_space (map hyphened s ++ t) ≡ map hyphened s ++ before_space t
+before-map [] t = refl
+before-map (c ∷ s) t = rw (hyphened-space c, before-map s t) refl
+
+before-behind : (r : List ℕ) → before_space (behind_sender r) ≡ []
+before-behind [] = refl
+before-behind (c ∷ r) = refl
+
+before-cleaned : (s t : List ℕ) → before_space t ≡ [] → before_space (cleaned s ++ t) ≡ cleaned s
+unfolding cleaned
+before-cleaned [] t h = rw h refl
+before-cleaned (c ∷ s) t h = before-map (c ∷ s) t ∙ (rw h (append-nil (map hyphened (c ∷ s))))
+
+pub sender-built : (s r : List ℕ) → sender (built s r) ≡ cleaned s
+unfolding sender built
+sender-built s r = before-cleaned s (behind_sender r) (before-behind r)
+
+past-behind : (r : List ℕ) → past_spaces (behind_sender r) ≡ past_spaces r
+past-behind [] = refl
+past-behind (c ∷ r) = refl
+
+pub rest-built : (s r : List ℕ) → rest (built s r) ≡ past_spaces r
+unfolding rest built
+rest-built s r =
+    let P : List ℕ → List ℕ = λ z. past_spaces (drop (length z) (cleaned s ++ behind_sender r)) in
+    ap P (sender-built s r) ∙ (rw (drop_at (cleaned s) (behind_sender r) (length (cleaned s)) refl) (past-behind r))
+
+NoEnd-map : (s : List ℕ) → NoEnd (map hyphened s)
+NoEnd-map [] = tt
+NoEnd-map (c ∷ s) = (hyphened-end c, NoEnd-map s)
+
+NoEnd-cleaned : (s : List ℕ) → NoEnd (cleaned s)
+unfolding cleaned
+NoEnd-cleaned [] = (refl, (refl, (refl, (refl, (refl, (refl, (refl, (refl, (refl, (refl, (refl, (refl, (refl, tt)))))))))))))
+NoEnd-cleaned (c ∷ s) = NoEnd-map (c ∷ s)
+
+NoEnd-behind : (r : List ℕ) → NoEnd r → NoEnd (behind_sender r)
+NoEnd-behind [] h = tt
+NoEnd-behind (c ∷ r) h = (refl, h)
+
+built-line : (s r : List ℕ) → NoEnd r → IsFromLine (built s r)
+unfolding built begins_from
+built-line s r h = (refl, NoEnd-append from_bytes (cleaned s ++ behind_sender r) (refl, (refl, (refl, (refl, (refl, tt))))) (NoEnd-append (cleaned s) (behind_sender r) (NoEnd-cleaned s) (NoEnd-behind r h)))
+
+pub is-built : (line s r : List ℕ) (found : Option ℕ) → IsFirstByte (is_byte 10) r found → is_some found ≡ false → line ≡ built s r → IsFromLine line
+is-built line s r None h e is = rw is (built-line s r (none-there r h))
+is-built line s r (Some n) h e is = absurd (false≢true (sym e))
+
+no-end-at : (s : List ℕ) (n d : ℕ) → NoEnd s → n < length s → get_or s n d ≡ 10 → ⊥
+no-end-at [] n d h l e = absurd (omega arith)
+no-end-at (c ∷ s) zero d h l e = both_ways (eqb c 10) h.0 (eq-eqb c 10 e)
+no-end-at (c ∷ s) (suc n) d h l e = no-end-at s n d h.1 (omega arith) e
+
+pub not-found : (r : List ℕ) (found : Option ℕ) → IsFirstByte (is_byte 10) r found → is_some found ≡ false → Contains r 10 → ⊥
+not-found r None h e there = no-end-at r there.0 10 (none-there r h) there.1 there.2
+not-found r (Some n) h e there = absurd (false≢true (sym e))
+
+pub built-none : (s r : List ℕ) → length r ≡ 0 → from_bytes ++ cleaned s ≡ built s r
+unfolding built
+built-none s [] h = ap (λ z. from_bytes ++ z) (sym (append-nil (cleaned s)))
+built-none s (c ∷ r) h = absurd (omega (arith, h))
+
+pub built-some : (s r : List ℕ) → (length r ≡ 0 → ⊥) → ((from_bytes ++ cleaned s) ++ 32 ∷ []) ++ r ≡ built s r
+unfolding built
+built-some s [] h = absurd (h refl)
+built-some s (c ∷ r) h = simp append_assoc
+
+-- a search for the first space
+before-at : (s : List ℕ) (n : ℕ) → ((k : ℕ) → k < n → eqb (get_or s k 0) 32 ≡ true → ⊥) → n < length s → eqb (get_or s n 0) 32 ≡ true → take n s ≡ before_space s
+before-at [] n h l e = absurd (omega (arith, l))
+before-at (c ∷ s) zero h l e = rw e refl
+before-at (c ∷ s) (suc n) h l e =
+    let here : eqb c 32 ≡ false = false_from_ne_true (eqb c 32) (h 0 (omega arith)) in
+    rw (here, before-at s n (λ k lt. h (suc k) (omega arith)) (omega (arith, l)) e) refl
+
+before-all : (s : List ℕ) → ((k : ℕ) → k < length s → eqb (get_or s k 0) 32 ≡ true → ⊥) → s ≡ before_space s
+before-all [] h = refl
+before-all (c ∷ s) h =
+    let here : eqb c 32 ≡ false = false_from_ne_true (eqb c 32) (h 0 (omega arith)) in
+    let ih = before-all s (λ k lt. h (suc k) (omega arith)) in
+    rw here (ap (λ z. c ∷ z) ih)
+
+pub before-found : (s : List ℕ) (n : ℕ) → IsFirstByte (is_byte 32) s (Some n) → take n s ≡ before_space s
+before-found s n h = before-at s n (λ k l. h.0.before k (omega arith) l) h.0.high h.1
+
+pub before-none : (s : List ℕ) → IsFirstByte (is_byte 32) s None → s ≡ before_space s
+before-none s h = before-all s (λ k l. h k (omega arith) l)
+
+-- one space more
+pub past-mark : (s : List ℕ) (at : ℕ) → at < length s → get_or s at 0 ≡ 32 → past_spaces (drop at s) ≡ past_spaces (drop (at + 1) s)
+past-mark s at h e = rw (drop_more s at 0 h, e) refl
+
+past-plain : (s : List ℕ) → (0 < length s → get_or s 0 0 ≡ 32 → ⊥) → past_spaces s ≡ s
+past-plain [] h = refl
+past-plain (c ∷ s) h = rw (ne_eqb c 32 (h (omega arith))) refl
+
+-- no space more
+pub past-stop : (s : List ℕ) (at : ℕ) → (at < length s → get_or s at 0 ≡ 32 → ⊥) → past_spaces (drop at s) ≡ drop at s
+past-stop s at h = past-plain (drop at s) (λ l e. h (omega (arith, l, length-drop at s)) (sym (get_or-drop at s 0 0 ∙ ap (λ i. get_or s i 0) (add-zero at)) ∙ e))
+
+-- the parts of a From_ line, where the first space behind `From ` has this place
+pub sender-at : (line behind : List ℕ) (n : ℕ) → behind ≡ drop 5 line → take n behind ≡ before_space behind → take n behind ≡ sender line
+unfolding sender
+sender-at line behind n e b = b ∙ ap (λ z. before_space z) e
+
+pub rest-at : (line behind result : List ℕ) (n : ℕ) → behind ≡ drop 5 line → n ≤ length behind → take n behind ≡ before_space behind
+    → result ≡ past_spaces (take (length behind - n) (drop n behind)) → result ≡ rest line
+unfolding rest
+rest-at line behind result n e w b is =
+    let size : length (sender line) ≡ n = ap length (sym (sender-at line behind n e b)) ∙ omega (arith, length-take n behind, w) in
+    rw (is, take_rest behind n, size, e) refl

@@ -1,0 +1,10 @@
+use Rattle.std.proofs.Common.{length, arith, ◌∙◌}
+use Rattle.std.proofs.lemmas.List.{take_all}
+use Rattle.mbox_text.proofs.BuiltLines.{before-found, before-none}
+use Rattle.mbox_text.proofs.sender.first_space.Goals as goal
+
+pub returns-in-Some-clause-before : goal.returns-in-Some-clause-before
+returns-in-Some-clause-before c = before-found c.args.bytes.now c.in-Some.at c.in-Some.ensures
+
+pub returns-in-None-clause-before : goal.returns-in-None-clause-before
+returns-in-None-clause-before c = take_all _ c.args.bytes.now (omega arith) ∙ before-none c.args.bytes.now c.in-None.ensures
