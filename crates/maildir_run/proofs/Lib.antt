@@ -11,6 +11,7 @@ pub mod Counts
 pub mod Sweeps
 pub mod Steps
 pub mod Surveys
+pub mod Reach
 pub mod Progress
 pub mod Unread
 pub mod Trees

@@ -4,6 +4,7 @@
 mod bases;
 mod calls;
 mod delivery;
+mod engine;
 mod fault;
 mod file_tree;
 mod folder;

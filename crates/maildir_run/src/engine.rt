@@ -1,0 +1,55 @@
+// A run over a folder, from its listings on: message after message.
+ghost use Rattle.std.specs.Prelude.{◌≡◌, ◌<◌, ◌≤◌, ◌+◌, ◌*◌, ◌^◌, [], ◌∷◌, ◌++◌, List, ℕ, All, OnOk, length};
+ghost use Rattle.maildir_run.specs.Counting.{CountsFault, IsNumbered, MakesUpTo};
+ghost use Rattle.maildir_run.specs.Delivery.{IsSoundAt};
+ghost use Rattle.maildir_run.specs.Files.{Files};
+ghost use Rattle.maildir_run.specs.Progress.{Reached, Came, Places};
+ghost use Rattle.maildir_run.specs.Texts.{messages_of, bodies_of};
+
+use maildir_name::Namer;
+use mbox_text::Entry;
+
+use crate::bases::Bases;
+use crate::calls::Calls;
+use crate::delivery::bring;
+use crate::fault::RunFault;
+use crate::folder::Folder;
+
+/// A run that has listed what is there and swept `tmp`.
+#[derive(Drop)]
+pub(crate) struct Engine<'a> {
+    pub(crate) there: Bases<'a>,
+    pub(crate) namer: Namer,
+    pub(crate) calls: Calls,
+    pub(crate) messages: u64,
+    pub(crate) placed: u64,
+    ghost within: { placed ≤ messages },
+}
+
+impl Engine<'_> {
+    /// Brings the next message, if it was not there. The set of bases is asked once.
+    fn deliver<F: Folder>(&mut self, folder: &mut F, body: &[u8]) -> Result<(), RunFault>
+        requires { self.old.messages < 2 ^ 63 }
+        ensures honest { F.honest folder.old → F.honest folder.new }
+        ensures done { F.honest folder.old → (bodies : List (List ℕ)) (start : Files) → Reached bodies start self.old.there self.old.namer self.old.messages self.old.placed (F.files folder.old) →
+            length bodies < 2 ^ 63 → All (IsSoundAt start) (messages_of (bodies ++ body.now ∷ [])) →
+            OnOk result (Reached (bodies ++ body.now ∷ []) start self.new.there self.new.namer self.new.messages self.new.placed (F.files folder.new)) }
+        ensures came { F.honest folder.old → (bodies : List (List ℕ)) (start : Files) → Reached bodies start self.old.there self.old.namer self.old.messages self.old.placed (F.files folder.old) →
+            length bodies < 2 ^ 63 → All (IsSoundAt start) (messages_of (bodies ++ body.now ∷ [])) →
+            Came (bodies ++ body.now ∷ []) start (F.files folder.new) }
+
+        ensures one { OnOk result (self.new.messages ≡ self.old.messages + 1) }
+        ensures made { OnOk result (Places self.old.placed self.new.placed self.old.calls.made self.new.calls.made (F.calls folder.old) (F.calls folder.new)) }
+        ensures most { MakesUpTo 2 self.old.calls.made self.new.calls.made (F.calls folder.old) (F.calls folder.new) }
+        ensures cause { CountsFault result (F.failures folder.old) (F.failures folder.new) }
+        ensures numbered { IsNumbered result self.new.calls.made }
+    {
+        let target = self.namer.target(body)?;
+        self.messages += 1;
+        if !self.there.contains(target.base.as_str()) {
+            bring(folder, &mut self.calls, &target, body)?;
+            self.placed += 1;
+        }
+        Ok(())
+    }
+}
