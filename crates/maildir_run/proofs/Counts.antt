@@ -1,5 +1,5 @@
 -- The count of a run's calls, as one more is made.
-use Rattle.std.proofs.Common.{◌≡◌, ℕ, zero, suc, ◌+◌, ◌≤◌, ◌%◌, ◌^◌, min, Result, Ok, Err, refl, sym, ap, subst, ◌∙◌, inl, inr, arith, add-one, add-suc, add_assoc}
+use Rattle.std.proofs.Common.{◌≡◌, ℕ, zero, suc, ◌+◌, ◌≤◌, ◌*◌, ◌%◌, ◌^◌, min, Result, Ok, Err, refl, sym, ap, subst, ◌∙◌, inl, inr, arith, add-one, add-suc, add_assoc}
 use Rattle.std.proofs.lemmas.Bool.{cases_lt}
 use Rattle.maildir_run.specs.declared.folder.FolderFault.{FolderFault}
 use Rattle.maildir_run.specs.declared.folder.FolderFault.TheVariants.{Absent, Failed}
@@ -7,6 +7,7 @@ use Rattle.maildir_run.specs.declared.folder.FolderFault.TheVariants as folder
 use Rattle.maildir_run.specs.declared.fault.RunFault.{RunFault}
 use Rattle.maildir_run.specs.Calls.{GoesUp, CountsFailure}
 use Rattle.maildir_run.specs.Counting.{raised, capped, answered, CountsFault, IsNumbered, Makes, MakesUpTo}
+use Rattle.maildir_run.specs.Progress.{Places}
 
 pub answered_ok : {A : Type 0} (number : ℕ) (r : Result A FolderFault) (v : A) → Ok v ≡ answered number r → r ≡ Ok v
 answered_ok number (Ok w) v e = cc
@@ -43,3 +44,19 @@ more_up_to m most all a b c x y z le first then =
 
 pub no_failure : {A : Type 0} (number : ℕ) (r : Result A FolderFault) (v : A) (old new : ℕ) → Ok v ≡ answered number r → CountsFailure r old new → new ≡ old
 no_failure number r v old new e h = subst (λ x. CountsFailure x old new) (answered_ok number r v e) h
+
+pub up_to_then : (most more all a b c x y z : ℕ) → most + more ≤ all → MakesUpTo most a b x y → MakesUpTo more b c y z → MakesUpTo all a c x z
+up_to_then most more all a b c x y z le first then =
+    let one = first.within in
+    let two = then.within in
+    up_to (first.n + then.n) all a c x z (omega arith) (more_calls first.n then.n a b c x y z first.makes then.makes)
+
+pub places_none : (placed made calls : ℕ) → Places placed placed made made calls calls
+places_none placed made calls = record { n = 0; is = omega arith; makes = no_call made calls }
+
+pub places_then : (p q r a b c x y z : ℕ) → Places p q a b x y → Places q r b c y z → Places p r a c x z
+places_then p q r a b c x y z first then =
+    let one = first.is in
+    let two = then.is in
+    let e : 2 * first.n + 2 * then.n ≡ 2 * (first.n + then.n) = omega arith in
+    record { n = first.n + then.n; is = omega arith; makes = subst (λ n. Makes n a c x z) e (more_calls (2 * first.n) (2 * then.n) a b c x y z first.makes then.makes) }

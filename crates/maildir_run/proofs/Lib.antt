@@ -12,6 +12,8 @@ pub mod Sweeps
 pub mod Steps
 pub mod Surveys
 pub mod Reach
+pub mod Batches
+pub mod Givens
 pub mod Progress
 pub mod Unread
 pub mod Trees

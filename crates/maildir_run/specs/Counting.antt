@@ -45,6 +45,16 @@ IsNumbered (Err (FolderFailed n)) number = n ≡ number
 IsNumbered (Err OutputFault) number = Unit {0}
 IsNumbered (Err OutOfMemory) number = Unit {0}
 
+-- what a folder call of a run may be refused for, or a growth
+abbrev pub IsOfFolder : RunFault → Type 0
+IsOfFolder NoFromLine = ⊥
+IsOfFolder ReadFault = ⊥
+IsOfFolder TooManyReads = ⊥
+IsOfFolder FolderAbsent = Unit {0}
+IsOfFolder (FolderFailed _) = Unit {0}
+IsOfFolder OutputFault = ⊥
+IsOfFolder OutOfMemory = Unit {0}
+
 -- so many calls were made: the folder counts them, and so does the run
 pub record Makes (n made made' calls calls' : ℕ) : Type 0 where
   pub counted : calls' ≡ raised n calls

@@ -6,6 +6,7 @@ pub mod Runs
 pub mod Alone
 pub mod Plan
 pub mod Bases
+pub mod Given
 pub mod Counting
 pub mod Progress
 pub mod Reading

@@ -1,6 +1,6 @@
 // One message on its way to its target.
-ghost use Rattle.std.specs.Prelude.{◌≡◌, [], List, ℕ, OnOk};
-ghost use Rattle.maildir_run.specs.Counting.{CountsFault, IsNumbered, Makes, MakesUpTo};
+ghost use Rattle.std.specs.Prelude.{◌≡◌, [], List, ℕ, OnOk, IfErr};
+ghost use Rattle.maildir_run.specs.Counting.{CountsFault, IsNumbered, IsOfFolder, Makes, MakesUpTo};
 ghost use Rattle.maildir_run.specs.Delivery.{IsMissing, IsHome};
 ghost use Rattle.maildir_run.specs.Progress.{IsTarget, Brings, TmpWithin, message_at};
 
@@ -23,6 +23,7 @@ pub(crate) fn bring<F: Folder>(folder: &mut F, calls: &mut Calls, target: &Targe
     ensures most { MakesUpTo 2 calls.old.made calls.new.made (F.calls folder.old) (F.calls folder.new) }
     ensures cause { CountsFault result (F.failures folder.old) (F.failures folder.new) }
     ensures numbered { IsNumbered result calls.new.made }
+    ensures causes { IfErr result IsOfFolder }
 {
     let base = target.base.as_str();
     calls.answered(folder.write(base, body))?;

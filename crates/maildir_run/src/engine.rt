@@ -1,6 +1,6 @@
 // A run over a folder, from its listings on: message after message.
-ghost use Rattle.std.specs.Prelude.{◌≡◌, ◌<◌, ◌≤◌, ◌+◌, ◌*◌, ◌^◌, [], ◌∷◌, ◌++◌, List, ℕ, All, OnOk, length};
-ghost use Rattle.maildir_run.specs.Counting.{CountsFault, IsNumbered, MakesUpTo};
+ghost use Rattle.std.specs.Prelude.{◌≡◌, ◌<◌, ◌≤◌, ◌+◌, ◌*◌, ◌^◌, [], ◌∷◌, ◌++◌, List, ℕ, All, OnOk, length, IfErr};
+ghost use Rattle.maildir_run.specs.Counting.{CountsFault, IsNumbered, IsOfFolder, MakesUpTo};
 ghost use Rattle.maildir_run.specs.Delivery.{IsSoundAt};
 ghost use Rattle.maildir_run.specs.Files.{Files};
 ghost use Rattle.maildir_run.specs.Progress.{Reached, Came, Places};
@@ -43,12 +43,37 @@ impl Engine<'_> {
         ensures most { MakesUpTo 2 self.old.calls.made self.new.calls.made (F.calls folder.old) (F.calls folder.new) }
         ensures cause { CountsFault result (F.failures folder.old) (F.failures folder.new) }
         ensures numbered { IsNumbered result self.new.calls.made }
+        ensures causes { IfErr result IsOfFolder }
     {
         let target = self.namer.target(body)?;
         self.messages += 1;
         if !self.there.contains(target.base.as_str()) {
             bring(folder, &mut self.calls, &target, body)?;
             self.placed += 1;
+        }
+        Ok(())
+    }
+
+    /// Brings the messages of some entries, in their order.
+    pub(crate) fn deliver_all<F: Folder>(&mut self, folder: &mut F, entries: &[Entry]) -> Result<(), RunFault>
+        requires { self.old.messages + length entries.now < 2 ^ 63 }
+        ensures honest { F.honest folder.old → F.honest folder.new }
+        ensures done { F.honest folder.old → (bodies : List (List ℕ)) (start : Files) → Reached bodies start self.old.there self.old.namer self.old.messages self.old.placed (F.files folder.old) →
+            length bodies + length entries.now ≤ 2 ^ 63 → All (IsSoundAt start) (messages_of (bodies ++ bodies_of entries.now)) →
+            OnOk result (Reached (bodies ++ bodies_of entries.now) start self.new.there self.new.namer self.new.messages self.new.placed (F.files folder.new)) }
+        ensures came { F.honest folder.old → (bodies : List (List ℕ)) (start : Files) → Reached bodies start self.old.there self.old.namer self.old.messages self.old.placed (F.files folder.old) →
+            length bodies + length entries.now ≤ 2 ^ 63 → All (IsSoundAt start) (messages_of (bodies ++ bodies_of entries.now)) →
+            Came (bodies ++ bodies_of entries.now) start (F.files folder.new) }
+
+        ensures all { OnOk result (self.new.messages ≡ self.old.messages + length entries.now) }
+        ensures made { OnOk result (Places self.old.placed self.new.placed self.old.calls.made self.new.calls.made (F.calls folder.old) (F.calls folder.new)) }
+        ensures most { MakesUpTo (2 * length entries.now) self.old.calls.made self.new.calls.made (F.calls folder.old) (F.calls folder.new) }
+        ensures cause { CountsFault result (F.failures folder.old) (F.failures folder.new) }
+        ensures numbered { IsNumbered result self.new.calls.made }
+        ensures causes { IfErr result IsOfFolder }
+    {
+        for entry in entries {
+            self.deliver(folder, entry.body.as_slice())?;
         }
         Ok(())
     }

@@ -3,6 +3,7 @@
 
 mod bases;
 mod calls;
+mod convert;
 mod delivery;
 mod engine;
 mod fault;

@@ -1,8 +1,8 @@
 // What is there as a run begins.
-ghost use Rattle.std.specs.Prelude.{◌≡◌, ℕ, ◌≤◌, IfOk, OnOk, length, filter};
+ghost use Rattle.std.specs.Prelude.{◌≡◌, ℕ, ◌≤◌, IfOk, OnOk, length, filter, IfErr};
 ghost use Rattle.maildir_name.specs.Names.{is_converter_name};
 ghost use Rattle.maildir_run.specs.Calls.{names_of};
-ghost use Rattle.maildir_run.specs.Counting.{CountsFault, IsNumbered, Makes, MakesUpTo};
+ghost use Rattle.maildir_run.specs.Counting.{CountsFault, IsNumbered, IsOfFolder, Makes, MakesUpTo};
 ghost use Rattle.maildir_run.specs.Delivery.{leftover_count};
 ghost use Rattle.maildir_run.specs.Plan.{is_listed};
 ghost use Rattle.maildir_run.specs.Progress.{LeavesHomes, TmpWithin, Knows};
@@ -31,6 +31,7 @@ pub(crate) fn look<F: Folder>(folder: &mut F, calls: &mut Calls) -> Result<Surve
     ensures most { MakesUpTo 3 calls.old.made calls.new.made (F.calls folder.old) (F.calls folder.new) }
     ensures cause { CountsFault result (F.failures folder.old) (F.failures folder.new) }
     ensures numbered { IsNumbered result calls.new.made }
+    ensures causes { IfErr result IsOfFolder }
 {
     let tmp = calls.answered(folder.list(Sub::Tmp))?;
     let new = calls.answered(folder.list(Sub::New))?;

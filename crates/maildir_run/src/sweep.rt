@@ -1,7 +1,7 @@
 // The sweep: what broken runs left in `tmp` is removed.
-ghost use Rattle.std.specs.Prelude.{◌≡◌, [], ◌≤◌, IfOk, OnOk, map, length, filter, string_bytes};
+ghost use Rattle.std.specs.Prelude.{◌≡◌, [], ◌≤◌, IfOk, OnOk, map, length, filter, string_bytes, IfErr};
 ghost use Rattle.maildir_name.specs.Names.{is_converter_name as converter_name};
-ghost use Rattle.maildir_run.specs.Counting.{CountsFault, IsNumbered, Makes, MakesUpTo};
+ghost use Rattle.maildir_run.specs.Counting.{CountsFault, IsNumbered, IsOfFolder, Makes, MakesUpTo};
 ghost use Rattle.maildir_run.specs.Progress.{LeavesHomes, TmpWithin};
 
 use maildir_name::is_converter_name;
@@ -21,6 +21,7 @@ pub(crate) fn sweep<F: Folder>(folder: &mut F, calls: &mut Calls, listed: &[Stri
     ensures most { MakesUpTo (length listed.now) calls.old.made calls.new.made (F.calls folder.old) (F.calls folder.new) }
     ensures cause { CountsFault result (F.failures folder.old) (F.failures folder.new) }
     ensures numbered { IsNumbered result calls.new.made }
+    ensures causes { IfErr result IsOfFolder }
 {
     let mut swept = 0;
     for name in listed {
