@@ -1,12 +1,15 @@
 -- What one more read gives, and what a refused one leaves.
 use Rattle.std.proofs.Common.{◌≡◌, ℕ, zero, suc, ◌+◌, ◌*◌, ◌<◌, ◌≤◌, Bool, true, false, Option, Some, None, Result, Ok, Err, List, [], ◌∷◌, ◌++◌, length, refl, sym, ◌∙◌, ap, subst, arith, append_assoc, inl, inr}
+use Rattle.std.specs.Prelude.{◌==◌, IsErrAnd, IfErr}
 use Rattle.std.specs.Io.KnownBytes.{Consumes, IsAtEnd}
 use Rattle.std.proofs.KnownBytes.{Consumes-trans, Consumes-nil}
+use Rattle.std.proofs.lemmas.Bool.{eqb-true, eq-eqb}
 use Rattle.std.proofs.lemmas.List.{append-nil, length-append}
 use Rattle.mbox_text.specs.declared.entry.Entry.{Entry}
 use Rattle.mbox_text.specs.declared.splitter.Splitter.{Splitter}
 use Rattle.mbox_text.specs.Mbox.{Mbox, IsUnreadable}
-use Rattle.mbox_text.specs.Fed.{Fed, AllButLast}
+use Rattle.mbox_text.specs.Fed.{Fed}
+use Rattle.mbox_text.specs.Fronts.{AllButLast}
 use Rattle.mbox_text.proofs.OneReading.{mbox-one}
 use Rattle.mbox_text.proofs.Existence.{read_where}
 use Rattle.mbox_text.proofs.LineLemmas.{begins_from-more}
@@ -111,3 +114,23 @@ few_given text given (inr a) = rw a.1 (omega arith)
 pub given_few : (ended : Bool) (before now : Option (List ℕ)) (splitter : Splitter) (left reads : ℕ) (text : List ℕ) (given : List Entry) → IsGiven ended before now splitter left reads text given → length given ≤ 65536 * reads
 given_few false before now splitter left reads text given p = let within = p.budget in let few = few_given text given p.fed.given_are in omega arith
 given_few true before now splitter left reads text given p = let within = p.budget in let few = mbox-length text given p.all in omega arith
+
+pub gave_on : (ended : Bool) (before now : Option (List ℕ)) (splitter : Splitter) (left reads : ℕ) (given : List Entry) → ended ≡ false → GaveMore ended before now splitter left reads given → GaveMore false before now splitter left reads given
+gave_on ended before now splitter left reads given e more = subst (λ b. GaveMore b before now splitter left reads given) e more
+
+-- the fault of a refused call
+pub if_err : {A E : Type 0} (P : E → Type 0) (r : Result A E) (fault : E) → IsErrAnd r (λ e. e ≡ fault) → P fault → IfErr r P
+if_err P (Ok x) fault is p = tt
+if_err P (Err e) fault is p = subst P (sym is) p
+
+-- whether a list is empty, by its length
+pub none_left : (items : List Entry) (n : ℕ) (b : Bool) → b ≡ (n == 0) → b ≡ true → n ≡ length items → items ≡ []
+none_left [] n b is on e = refl
+none_left (x ∷ xs) n b is on e = let none = eqb-true n 0 (sym is ∙ on) in absurd (omega arith)
+
+pub some_left : (items : List Entry) (n : ℕ) (b : Bool) → b ≡ (n == 0) → b ≡ false → n ≡ length items → 0 < length items
+some_left [] n b is off e = let f = eq-eqb n 0 e in let g : b ≡ true = is ∙ f in cc
+some_left (x ∷ xs) n b is off e = omega arith
+
+pub gave_empty : (before now : Option (List ℕ)) (splitter : Splitter) (left reads : ℕ) (text : List ℕ) (given : List Entry) → given ≡ [] → Gave before now splitter left reads text given → Gave before now splitter left reads text []
+gave_empty before now splitter left reads text given e p = subst (Gave before now splitter left reads text) e p

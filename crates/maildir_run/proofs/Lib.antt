@@ -14,6 +14,7 @@ pub mod Surveys
 pub mod Reach
 pub mod Batches
 pub mod Givens
+pub mod Converts
 pub mod Progress
 pub mod Unread
 pub mod Trees

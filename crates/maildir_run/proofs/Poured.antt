@@ -11,8 +11,8 @@ use Rattle.mbox_text.specs.declared.entry.Entry.{Entry}
 use Rattle.mbox_text.specs.declared.splitter.Splitter.{Splitter}
 use Rattle.mbox_text.specs.Lines.{lines}
 use Rattle.mbox_text.specs.Mbox.{Mbox, Block}
-use Rattle.mbox_text.specs.Fed.{Fed, AllButLast}
-use Rattle.mbox_text.specs.Held.{Stay}
+use Rattle.mbox_text.specs.Fed.{Fed}
+use Rattle.mbox_text.specs.Fronts.{AllButLast, Stay}
 use Rattle.mbox_text.specs.Writing.{AppendsFront}
 use Rattle.mbox_text.proofs.OneReading.{mbox-one}
 use Rattle.mbox_text.proofs.Appended.{front_more, front_then}
@@ -55,7 +55,7 @@ consumed before now had left text e f read =
     at_end
 
 -- what was read is the front of each possible text
-read_is : (before now : Option (List ℕ)) (text t : List ℕ) → Consumes before now text → (p : Possible before now t) → p.read ≡ text
+pub read_is : (before now : Option (List ℕ)) (text t : List ℕ) → Consumes before now text → (p : Possible before now t) → p.read ≡ text
 read_is before now text t read p =
     append_cancel_right p.read text p.left (consumed before now (p.read ++ p.left) p.left text p.had p.has read)
 

@@ -8,8 +8,8 @@ use Rattle.mbox_text.specs.declared.entry.Entry.{Entry}
 use Rattle.mbox_text.specs.declared.splitter.Splitter.{Splitter}
 use Rattle.mbox_text.specs.Quoting.{begins_from, begins_with, from_bytes}
 use Rattle.mbox_text.specs.Mbox.{Mbox, IsUnreadable}
-use Rattle.mbox_text.specs.Held.{NeverFrom}
-use Rattle.mbox_text.specs.Fed.{AllButLast, IsTooShort, NeverBegins}
+use Rattle.mbox_text.specs.Fronts.{AllButLast, NeverFrom}
+use Rattle.mbox_text.specs.Fed.{IsTooShort, NeverBegins}
 use Rattle.mbox_text.proofs.Blocks.{mbox-starts}
 use Rattle.mbox_text.proofs.Fields.{never-more}
 use Rattle.mbox_text.proofs.Heads.{from-long, mbox-begins-last}

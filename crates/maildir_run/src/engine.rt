@@ -1,5 +1,6 @@
 // A run over a folder, from its listings on: message after message.
-ghost use Rattle.std.specs.Prelude.{◌≡◌, ◌<◌, ◌≤◌, ◌+◌, ◌*◌, ◌^◌, [], ◌∷◌, ◌++◌, List, ℕ, All, OnOk, length, IfErr};
+ghost use Rattle.std.specs.Prelude.{◌≡◌, ◌<◌, ◌≤◌, ◌+◌, ◌-◌, ◌*◌, ◌^◌, [], ◌∷◌, ◌++◌, List, ℕ, All, OnOk, length, IfErr};
+ghost use Rattle.maildir_name.specs.Named.{Named};
 ghost use Rattle.maildir_run.specs.Counting.{CountsFault, IsNumbered, IsOfFolder, MakesUpTo};
 ghost use Rattle.maildir_run.specs.Delivery.{IsSoundAt};
 ghost use Rattle.maildir_run.specs.Files.{Files};
@@ -8,12 +9,14 @@ ghost use Rattle.maildir_run.specs.Texts.{messages_of, bodies_of};
 
 use maildir_name::Namer;
 use mbox_text::Entry;
+use std::alloc::Global;
 
 use crate::bases::Bases;
 use crate::calls::Calls;
 use crate::delivery::bring;
 use crate::fault::RunFault;
 use crate::folder::Folder;
+use crate::report::Report;
 
 /// A run that has listed what is there and swept `tmp`.
 #[derive(Drop)]
@@ -26,7 +29,39 @@ pub(crate) struct Engine<'a> {
     ghost within: { placed ≤ messages },
 }
 
-impl Engine<'_> {
+impl<'a> Engine<'a> {
+    /// A run that has brought nothing, after these calls.
+    pub(crate) fn new(alloc: Global, there: Bases<'a>, calls: Calls) -> Engine<'a>
+        ensures there { result.there ≡ there.entry }
+        ensures namer { Named [] result.namer }
+        ensures calls { result.calls ≡ calls }
+        ensures messages { result.messages ≡ 0 }
+        ensures placed { result.placed ≡ 0 }
+    {
+        Engine {
+            there,
+            namer: Namer::new(alloc),
+            calls,
+            messages: 0,
+            placed: 0,
+        }
+    }
+
+    /// What the run did, which swept so many files before.
+    pub(crate) fn report(&self, swept: u64) -> Report
+        ensures messages { result.messages ≡ self.now.messages }
+        ensures there { result.there ≡ self.now.messages - self.now.placed }
+        ensures placed { result.placed ≡ self.now.placed }
+        ensures swept { result.swept ≡ swept }
+    {
+        Report {
+            messages: self.messages,
+            there: self.messages - self.placed,
+            placed: self.placed,
+            swept,
+        }
+    }
+
     /// Brings the next message, if it was not there. The set of bases is asked once.
     fn deliver<F: Folder>(&mut self, folder: &mut F, body: &[u8]) -> Result<(), RunFault>
         requires { self.old.messages < 2 ^ 63 }

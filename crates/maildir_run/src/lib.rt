@@ -3,7 +3,7 @@
 
 mod bases;
 mod calls;
-mod convert;
+mod converting;
 mod delivery;
 mod engine;
 mod fault;
@@ -18,6 +18,7 @@ mod rewriting;
 mod survey;
 mod sweep;
 
+pub use converting::convert;
 pub use fault::RunFault;
 pub use folder::{Folder, FolderFault, Sub};
 pub use mem_folder::MemFolder;

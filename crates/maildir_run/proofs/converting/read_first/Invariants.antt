@@ -1,6 +1,6 @@
 use Rattle.std.proofs.Common.{◌≡◌, ℕ, List, []}
 use Rattle.maildir_run.specs.Given.{Gave}
-use Rattle.maildir_run.proofs.convert.read_first.Given as goal
+use Rattle.maildir_run.proofs.converting.read_first.Given as goal
 
 abbrev pub invariant-pieces : goal.invariant-pieces
 invariant-pieces g l = record {
