@@ -1,5 +1,6 @@
 -- What a run has kept at its exits, for each text that its source may have had.
 use Rattle.std.proofs.Common.{◌≡◌, ℕ, suc, ◌+◌, ◌-◌, ◌*◌, ◌<◌, ◌≤◌, ◌^◌, ◌%◌, Bool, true, false, Option, Some, None, Result, Ok, Err, List, [], ◌∷◌, ◌++◌, map, length, All, AllPairs, IsPermutation, IsTrue, refl, sym, ap, subst, ◌∙◌, inl, inr, arith, append_assoc}
+use Rattle.std.specs.Prelude.{IsErr}
 use Rattle.std.specs.Io.KnownBytes.{Consumes, IsAtEnd}
 use Rattle.std.proofs.lemmas.List.{append-nil, map-append, length-append, length-map, nil_from_length}
 use Rattle.std.proofs.lemmas.List.Elements.{All-nil}
@@ -134,3 +135,21 @@ reached_run before source_now reads text all start now there namer messages plac
         };
       is_read = (all, whole)
     }
+
+-- ---- a batch
+pub batch_bodies : (given whole entries : List Entry) → entries ≡ whole → bodies_of given ++ bodies_of entries ≡ bodies_of (given ++ whole)
+batch_bodies given whole entries e = ap (λ es. bodies_of given ++ bodies_of es) e ∙ sym (bodies_parts given whole)
+
+pub batch_sound : (start : Files) (given whole entries : List Entry) → entries ≡ whole → All (IsSoundAt start) (messages_of (bodies_of (given ++ whole))) → All (IsSoundAt start) (messages_of (bodies_of given ++ bodies_of entries))
+batch_sound start given whole entries e sound = subst (λ bs. All (IsSoundAt start) (messages_of bs)) (sym (batch_bodies given whole entries e)) sound
+
+pub given_sound : (start : Files) (given whole : List Entry) → All (IsSoundAt start) (messages_of (bodies_of (given ++ whole))) → All (IsSoundAt start) (messages_of (bodies_of given))
+given_sound start given whole sound = sound_front start (bodies_of given) (bodies_of whole) (subst (λ bs. All (IsSoundAt start) (messages_of bs)) (bodies_parts given whole) sound)
+
+pub batch_few : (given whole entries : List Entry) (reads : ℕ) → entries ≡ whole → length (given ++ whole) ≤ 65536 * reads → reads ≤ 2 ^ 40 → length (bodies_of given) + length entries ≤ 2 ^ 63
+batch_few given whole entries reads e few most = omega (arith, ap length e, length-append given whole, length-map given (λ (x : Entry). x.body))
+
+-- whatever the fault
+pub run_err : (t : List ℕ) (start now : Files) (r : Result Report RunFault) → IsErr r → ((fault : RunFault) → Run t start (Err fault) now) → Run t start r now
+run_err t start now (Ok x) is run = let off : false ≡ true = is in cc
+run_err t start now (Err fault) is run = run fault

@@ -134,3 +134,28 @@ some_left (x ∷ xs) n b is off e = omega arith
 
 pub gave_empty : (before now : Option (List ℕ)) (splitter : Splitter) (left reads : ℕ) (text : List ℕ) (given : List Entry) → given ≡ [] → Gave before now splitter left reads text given → Gave before now splitter left reads text []
 gave_empty before now splitter left reads text given e p = subst (Gave before now splitter left reads text) e p
+
+-- a read was refused behind these messages
+pub record BrokenOff (before now : Option (List ℕ)) (reads : ℕ) (all : List Entry) : Type 0 where
+  pub text : List ℕ
+  pub read : Consumes before now text
+  pub first : First text now all
+
+pub broken_off : (before mid now : Option (List ℕ)) (old : Messages) (reads : ℕ) (text : List ℕ) (all : List Entry) (fault : RunFault) → Gave before mid old.splitter old.reads reads text all → Breaks old mid now fault → BrokenOff before now reads all
+broken_off before mid now old reads text all fault p b = record {
+  text = text ++ b.0;
+  read = Consumes-trans before mid now text b.0 p.read b.1;
+  first = record {
+    told = λ more rest entries has whole m. elim (p.fed.stay (b.0 ++ more) entries (subst (λ s. Mbox s entries) (append_assoc text b.0 more) m)) [
+      | inl none ↦ (entries, rw none refl)
+      | inr q ↦ (q.0 ∷ q.1, q.2)
+    ];
+    none = λ more rest has whole none. unread_none text (b.0 ++ more) all p.fed.given_are (subst IsUnreadable (append_assoc text b.0 more) none)
+  }
+}
+
+pub not_ended : (ended : Bool) (before now : Option (List ℕ)) (splitter : Splitter) (left reads : ℕ) (text : List ℕ) (given : List Entry) → ended ≡ false → IsGiven ended before now splitter left reads text given → Gave before now splitter left reads text given
+not_ended ended before now splitter left reads text given e p = subst (λ b. IsGiven b before now splitter left reads text given) e p
+
+pub at_end : (ended : Bool) (before now : Option (List ℕ)) (splitter : Splitter) (left reads : ℕ) (text : List ℕ) (given : List Entry) → ended ≡ true → IsGiven ended before now splitter left reads text given → GaveAll before now reads text given
+at_end ended before now splitter left reads text given e p = subst (λ b. IsGiven b before now splitter left reads text given) e p

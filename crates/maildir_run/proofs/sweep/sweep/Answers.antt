@@ -1,4 +1,4 @@
-use Rattle.std.proofs.Common.{◌≡◌, ℕ, ◌∷◌, map, drop, length, ◌<◌, ◌≤◌, ◌+◌, IsTrue, true, false, string_bytes, sym, ap, subst, ◌∙◌, arith, add-one, refl}
+use Rattle.std.proofs.Common.{◌≡◌, ℕ, ◌∷◌, map, drop, length, ◌<◌, ◌≤◌, ◌+◌, ◌^◌, IsTrue, true, false, string_bytes, sym, ap, subst, ◌∙◌, arith, add-one, refl}
 use Rattle.std.proofs.Math.Seq.{drop-cons}
 use Rattle.std.proofs.lemmas.List.{take_all}
 use Rattle.maildir_name.specs.Names.{is_converter_name}
@@ -17,7 +17,7 @@ pub returns-in_err-answered-clause-most : goal.returns-in_err-answered-clause-mo
 returns-in_err-answered-clause-most g c =
     let few = c.loop-name.invariant.few in
     let lt : c.loop-name.name-index < length c.args.listed.now = omega arith in
-    up_to (c.loop-name.swept + 1) _ _ _ _ _ (omega arith)
+    up_to (c.loop-name.swept + 1) (2 ^ 64) _ _ _ _ (omega arith)
       (more_calls c.loop-name.swept 1 _ _ _ _ _ _ c.loop-name.invariant.made (one_call _ _ _ _ c.answered.ensures.made c.remove.ensures.counted))
 
 pub loop-name-preserved : goal.loop-name-preserved
