@@ -27,8 +27,9 @@ $(PROGRAM): $(SOURCES)
 run: $(PROGRAM)
 	$(PROGRAM) rewrite $(MAILBOX)
 
-# The gate, and then the tests that run the built program.
+# The documents, the gate, and then the tests that run the built program.
 test:
+	tests/promises.py
 	rt ci
 	if [ -x tests/run ]; then $(MAKE) $(PROGRAM) && tests/run; fi
 

@@ -7,6 +7,15 @@ pub mod Outsiders
 pub mod Counted
 pub mod PlanLemmas
 pub mod Sets
+pub mod Counts
+pub mod Sweeps
+pub mod Steps
+pub mod Surveys
+pub mod Reach
+pub mod Batches
+pub mod Givens
+pub mod Converts
+pub mod Progress
 pub mod Unread
 pub mod Trees
 pub mod Quiet

@@ -6,6 +6,9 @@ pub mod Runs
 pub mod Alone
 pub mod Plan
 pub mod Bases
+pub mod Given
+pub mod Counting
+pub mod Progress
 pub mod Reading
 pub mod FileTree
 pub mod MemFolder

@@ -2,6 +2,7 @@
 ghost use Rattle.std.specs.Prelude.{◌≡◌};
 ghost use Rattle.maildir_run.specs.declared.fault.RunFault.TheVariants.{OutOfMemory};
 
+use maildir_name::NameFault;
 use std::alloc::{AllocError, AllocFailed};
 use thiserror::Error;
 
@@ -38,6 +39,14 @@ impl From<AllocError> for RunFault {
     ghost from_gives = { λ _ fault. fault ≡ OutOfMemory };
 
     fn from(_error: AllocError) -> RunFault {
+        RunFault::OutOfMemory
+    }
+}
+
+impl From<NameFault> for RunFault {
+    ghost from_gives = { λ _ fault. fault ≡ OutOfMemory };
+
+    fn from(_fault: NameFault) -> RunFault {
         RunFault::OutOfMemory
     }
 }

@@ -3,10 +3,14 @@
 //! [`Folder`] is a Maildir by its four calls. What a call may do to the files, and what other programs may do
 //! meanwhile, is said in `specs/Files.antt` and `specs/Calls.antt`; [`laws`] has what follows from that alone.
 //! [`plan`] answers the steps of a run for given lists and targets, and [`MemFolder`] is a folder in memory.
-//! `docs/ENGINE.md` tells the model in plain words.
+//! [`convert`] is a run, [`rewrite`] and [`list_text`] show what a text is. `docs/ENGINE.md` tells the model in plain words.
 #![tactic(auto)]
 
 mod bases;
+mod calls;
+mod converting;
+mod delivery;
+mod engine;
 mod fault;
 mod file_tree;
 mod folder;
@@ -18,9 +22,12 @@ mod messages;
 mod planner;
 mod report;
 mod rewriting;
+mod survey;
+mod sweep;
 #[cfg(test)]
 mod testing;
 
+pub use converting::convert;
 pub use fault::RunFault;
 pub use folder::{Folder, FolderFault, Sub};
 pub use listing::list_text;

@@ -7,6 +7,8 @@ ghost use Rattle.mbox2maildir.specs.Words.{AreOfAForm};
 pub enum Command<'a> {
     /// `rewrite [FILE]`, or no words at all: write the text in its regular spelling.
     Rewrite(Option<&'a str>),
+    /// `list [FILE]`: write a line for each message.
+    List(Option<&'a str>),
 }
 
 impl<'a> Command<'a> {
@@ -20,6 +22,8 @@ impl<'a> Command<'a> {
         match (word.as_str(), rest) {
             ("rewrite", []) => Some(Command::Rewrite(None)),
             ("rewrite", [file]) => Some(Command::Rewrite(Some(file.as_str()))),
+            ("list", []) => Some(Command::List(None)),
+            ("list", [file]) => Some(Command::List(Some(file.as_str()))),
             _ => None,
         }
     }
@@ -27,7 +31,7 @@ impl<'a> Command<'a> {
     /// The file that is read, where one is named.
     pub fn file(&self) -> Option<&'a str> {
         match self {
-            Command::Rewrite(file) => *file,
+            Command::Rewrite(file) | Command::List(file) => *file,
         }
     }
 }

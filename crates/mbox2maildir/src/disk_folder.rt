@@ -192,3 +192,6 @@ fn sub_of(place: Place) -> Sub {
         Place::Cur => Sub::Cur,
     }
 }
+
+#[cfg(test)]
+mod tests;

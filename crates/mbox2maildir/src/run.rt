@@ -5,7 +5,7 @@ ghost use Rattle.mbox2maildir.specs.Words.{AreOfAForm};
 
 use crate::command::Command;
 use crate::fault::Fault;
-use maildir_run::{RunFault, rewrite};
+use maildir_run::{RunFault, list_text, rewrite};
 use std::alloc::Global;
 use std::fmt::Display;
 use std::fs;
@@ -79,6 +79,9 @@ fn work<I: Read, W: Write>(
     match command {
         Command::Rewrite(_) => {
             rewrite(alloc, source, &mut out, READS)?;
+        }
+        Command::List(_) => {
+            list_text(alloc, source, &mut out, READS)?;
         }
     }
     out.flush().map_err(|_| RunFault::OutputFault)?;

@@ -10,7 +10,7 @@ use Rattle.mbox_text.specs.declared.message.Message.{Message}
 use Rattle.mbox_text.specs.declared.splitter.Splitter.{Splitter}
 use Rattle.mbox_text.specs.Quoting.{begins_from, unquoted}
 use Rattle.mbox_text.specs.Held.{AtHead, Held, chopped}
-use Rattle.mbox_text.specs.Fed.{Fed, Ends, IsTooShort, RefusesShort}
+use Rattle.mbox_text.specs.Fed.{Ends, IsTooShort, RefusesShort}
 use Rattle.mbox_text.proofs.LineLemmas.{begins_from-more}
 use Rattle.mbox_text.proofs.Heads.{from-long, from-short}
 use Rattle.mbox_text.proofs.Fields.{at_start}

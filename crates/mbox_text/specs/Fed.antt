@@ -5,7 +5,7 @@ use Rattle.mbox_text.specs.declared.fault.TextFault.{TextFault}
 use Rattle.mbox_text.specs.declared.fault.TextFault.TheVariants.{NoFromLine, Failed, OutOfMemory}
 use Rattle.mbox_text.specs.declared.splitter.Splitter.{Splitter}
 use Rattle.mbox_text.specs.Mbox.{Mbox}
-pub use Rattle.mbox_text.specs.Fronts.{AllButLast, NeverFrom, Stay}
+use Rattle.mbox_text.specs.Fronts.{AllButLast, NeverFrom, Stay}
 use Rattle.mbox_text.specs.Held.{Held}
 
 -- a feed was refused

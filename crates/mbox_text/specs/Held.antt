@@ -6,7 +6,7 @@ use Rattle.mbox_text.specs.declared.message.Message.{Message}
 use Rattle.mbox_text.specs.Lines.{lines, Ended, NoEnd}
 use Rattle.mbox_text.specs.Quoting.{begins_with, begins_from, from_bytes, unquoted}
 use Rattle.mbox_text.specs.Mbox.{NoFrom, Block}
-pub use Rattle.mbox_text.specs.Fronts.{NeverFrom, Stay}
+use Rattle.mbox_text.specs.Fronts.{NeverFrom, Stay}
 
 -- the text without its last line if that is `\n` alone; whether the text stands at the front of a line
 unfoldable pub chopped_from : Bool → List ℕ → List ℕ

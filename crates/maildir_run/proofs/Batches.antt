@@ -1,0 +1,69 @@
+-- One more entry of a batch.
+use Rattle.std.proofs.Common.{◌≡◌, ℕ, suc, ◌+◌, ◌<◌, ◌≤◌, ◌^◌, List, [], ◌∷◌, ◌++◌, map, take, drop, length, get_or, All, refl, sym, ap, subst, ◌∙◌, arith, add-one, length-append, append_assoc}
+use Rattle.std.proofs.Math.Seq.{drop-cons}
+use Rattle.std.proofs.lemmas.List.{take_more, map-append, append-nil, take-append-drop, get_or_append_left, length-map, length-take-le}
+use Rattle.mbox_text.specs.declared.entry.Entry.{Entry}
+use Rattle.maildir_name.specs.Targets.{target}
+use Rattle.maildir_run.specs.Files.{Files}
+use Rattle.maildir_run.specs.Delivery.{Message, IsSoundAt}
+use Rattle.maildir_run.specs.Texts.{messages_of, bodies_of}
+use Rattle.maildir_run.specs.Progress.{Came, message_at}
+use Rattle.maildir_run.proofs.MessageLemmas.{messages_of-push}
+
+-- more bodies give more messages behind
+pub messages_more : (a b : List (List ℕ)) → (more : List Message) × (messages_of (a ++ b) ≡ messages_of a ++ more)
+messages_more a [] = ([], ap messages_of (append-nil a) ∙ sym (append-nil (messages_of a)))
+messages_more a (y ∷ ys) =
+    let r = messages_more (a ++ y ∷ []) ys in
+    let m = message_at (target a y) y in (
+      m ∷ r.0,
+      ap messages_of (sym (append_assoc a (y ∷ []) ys)) ∙ r.1
+          ∙ ap (λ ms. ms ++ r.0) (messages_of-push a y)
+          ∙ append_assoc (messages_of a) (m ∷ []) r.0,
+    )
+
+front_all : (P : Message → Type 0) (xs ys : List Message) → All P (xs ++ ys) → All P xs
+front_all P xs ys all = λ k d h. subst P (get_or_append_left xs ys d k h) (all k d (omega (arith, h, length-append xs ys)))
+
+pub sound_front : (start : Files) (a b : List (List ℕ)) → All (IsSoundAt start) (messages_of (a ++ b)) → All (IsSoundAt start) (messages_of a)
+sound_front start a b all =
+    let r = messages_more a b in
+    front_all (IsSoundAt start) (messages_of a) r.0 (subst (All (IsSoundAt start)) r.1 all)
+
+pub came_more : (a b : List (List ℕ)) (start now : Files) → Came a start now → Came (a ++ b) start now
+came_more a b start now c = record {
+  done = c.done;
+  rest = c.rest ++ b;
+  is = ap (λ xs. xs ++ b) c.is ∙ append_assoc c.done c.rest b;
+  progress = c.progress;
+}
+
+-- the bodies of the first entries, one more, and the others
+module _ (entries : List Entry) (i : ℕ) (entry : Entry) (h : i < length entries) (is : entry ≡ get_or entries i entry) where
+  pub bodies_next : (bodies : List (List ℕ)) → bodies ++ bodies_of (take (i + 1) entries) ≡ (bodies ++ bodies_of (take i entries)) ++ entry.body ∷ []
+  bodies_next bodies =
+      ap (λ xs. bodies ++ xs)
+      (ap bodies_of (take_more entries i entry h) ∙ map-append (λ (e : Entry). e.body) (take i entries) (get_or entries i entry ∷ [])
+      ∙ ap (λ (e : Entry). bodies_of (take i entries) ++ e.body ∷ []) (sym is))
+      ∙ sym (append_assoc bodies (bodies_of (take i entries)) (entry.body ∷ []))
+
+  pub bodies_split : (bodies : List (List ℕ)) → bodies ++ bodies_of entries ≡ ((bodies ++ bodies_of (take i entries)) ++ entry.body ∷ []) ++ bodies_of (drop (i + 1) entries)
+  bodies_split bodies =
+      ap (λ xs. bodies ++ bodies_of xs) (sym (take-append-drop (i + 1) entries))
+      ∙ ap (λ xs. bodies ++ xs) (map-append (λ (e : Entry). e.body) (take (i + 1) entries) (drop (i + 1) entries))
+      ∙ sym (append_assoc bodies (bodies_of (take (i + 1) entries)) (bodies_of (drop (i + 1) entries)))
+      ∙ ap (λ xs. xs ++ bodies_of (drop (i + 1) entries)) (bodies_next bodies)
+
+  pub few_next : (bodies : List (List ℕ)) → length bodies + length entries ≤ 2 ^ 63 → length (bodies ++ bodies_of (take i entries)) < 2 ^ 63
+  few_next bodies few =
+      omega (arith, length-append bodies (bodies_of (take i entries)), length-map (take i entries) (λ (e : Entry). e.body), length-take-le i entries (omega arith))
+
+  pub sound_next : (bodies : List (List ℕ)) (start : Files) → All (IsSoundAt start) (messages_of (bodies ++ bodies_of entries)) → All (IsSoundAt start) (messages_of ((bodies ++ bodies_of (take i entries)) ++ entry.body ∷ []))
+  sound_next bodies start all =
+      sound_front start ((bodies ++ bodies_of (take i entries)) ++ entry.body ∷ []) (bodies_of (drop (i + 1) entries))
+      (subst (λ bs. All (IsSoundAt start) (messages_of bs)) (bodies_split bodies) all)
+
+  pub came_next : (bodies : List (List ℕ)) (start now : Files) → Came ((bodies ++ bodies_of (take i entries)) ++ entry.body ∷ []) start now → Came (bodies ++ bodies_of entries) start now
+  came_next bodies start now c =
+      subst (λ bs. Came bs start now) (sym (bodies_split bodies))
+      (came_more ((bodies ++ bodies_of (take i entries)) ++ entry.body ∷ []) (bodies_of (drop (i + 1) entries)) start now c)

@@ -1,0 +1,155 @@
+-- What a run has kept at its exits, for each text that its source may have had.
+use Rattle.std.proofs.Common.{◌≡◌, ℕ, suc, ◌+◌, ◌-◌, ◌*◌, ◌<◌, ◌≤◌, ◌^◌, ◌%◌, Bool, true, false, Option, Some, None, Result, Ok, Err, List, [], ◌∷◌, ◌++◌, map, length, All, AllPairs, IsPermutation, IsTrue, refl, sym, ap, subst, ◌∙◌, inl, inr, arith, append_assoc}
+use Rattle.std.specs.Prelude.{IsErr}
+use Rattle.std.specs.Io.KnownBytes.{Consumes, IsAtEnd}
+use Rattle.std.proofs.lemmas.List.{append-nil, map-append, length-append, length-map, nil_from_length}
+use Rattle.std.proofs.lemmas.List.Elements.{All-nil}
+use Rattle.mbox_text.specs.declared.entry.Entry.{Entry}
+use Rattle.mbox_text.specs.Mbox.{Mbox}
+use Rattle.mbox_text.proofs.OneReading.{mbox-one}
+use Rattle.maildir_name.specs.Names.{is_converter_base, is_converter_name}
+use Rattle.maildir_name.specs.Named.{Counts, Named}
+use Rattle.maildir_run.specs.declared.fault.RunFault.{RunFault}
+use Rattle.maildir_run.specs.declared.report.Report.{Report}
+use Rattle.maildir_run.specs.Files.{Files}
+use Rattle.maildir_run.specs.Bases.{BaseSet}
+use Rattle.maildir_run.specs.Delivery.{Message, IsSoundAt, IsHome, AreNamed, AreDistinct, Sound, Delivered, there_count, leftover_count}
+use Rattle.maildir_run.specs.Texts.{messages_of, bodies_of, MessagesOf}
+use Rattle.maildir_run.specs.Runs.{Possible, Reports, Ends, Keeps, Run}
+use Rattle.maildir_run.specs.Progress.{LeavesHomes, TmpWithin, Knows, Progress, Reached, Came}
+use Rattle.maildir_run.specs.Given.{GaveAll}
+use Rattle.std.specs.FinMap.{contains_key}
+use Rattle.maildir_run.proofs.MessageLemmas.{text_named, text_distinct, length-messages_of}
+use Rattle.maildir_run.proofs.Progress.{Stands, progress_stands}
+use Rattle.maildir_run.proofs.Batches.{messages_more, sound_front}
+use Rattle.maildir_run.proofs.Givens.{First}
+use Rattle.maildir_run.proofs.Poured.{read_is}
+
+pub none_done : (start now : Files) → LeavesHomes start now → Progress [] start now
+none_done start now leaves = record { homes_are = All-nil (IsHome now); kept = λ b named off. leaves.kept b named }
+
+pub no_messages : messages_of [] ≡ []
+no_messages = nil_from_length (messages_of []) (length-messages_of [])
+
+-- as it begins
+pub reached_none : (start now : Files) (there : BaseSet) (namer : Counts) (messages placed : ℕ) → LeavesHomes start now → Knows (contains_key there) start → TmpWithin [] now → Named [] namer → messages ≡ 0 → placed ≡ 0 → Reached [] start there namer messages placed now
+reached_none start now there namer messages placed leaves knows within named e f = record {
+  named = named;
+  knows = knows;
+  progress = subst (λ ms. Progress ms start now) (sym no_messages) (none_done start now leaves);
+  within = within;
+  counted = e;
+  brought = ap (λ ms. placed + there_count start ms) no_messages ∙ (omega (arith, f));
+}
+
+stands_keeps : (ms : List Message) (start now : Files) (fault : RunFault) → Stands ms start now → Keeps ms start (Err fault) now
+stands_keeps ms start now fault s = record { sound = s.sound; still = s.still; in_order = s.in_order; ends = tt }
+
+-- messages of which the first are done
+front_stands : (ms : List Message) (done : List (List ℕ)) (more : List Message) (start now : Files) → AreNamed ms → AreDistinct ms → Sound ms start start → ms ≡ messages_of done ++ more → Progress (messages_of done) start now → Stands ms start now
+front_stands ms done more start now named distinct sound e p =
+    subst (λ x. Stands x start now) (sym e)
+    (progress_stands (messages_of done) more start now (subst AreNamed e named) (subst AreDistinct e distinct) (subst (λ x. Sound x start start) e sound) p)
+
+-- a run that delivered nothing
+pub untouched_run : (t : List ℕ) (start now : Files) (fault : RunFault) → LeavesHomes start now → length t < 2 ^ 63 → Run t start (Err fault) now
+untouched_run t start now fault leaves small = record {
+  keeps = λ ms of sound.
+      stands_keeps ms start now fault (progress_stands [] ms start now (text_named t ms of small) (text_distinct t ms of small) sound (none_done start now leaves));
+  is_read = tt;
+}
+
+bodies_parts : (all rest : List Entry) → bodies_of (all ++ rest) ≡ bodies_of all ++ bodies_of rest
+bodies_parts all rest = map-append (λ (e : Entry). e.body) all rest
+
+came_stands : (t : List ℕ) (ms : List Message) (all rest entries : List Entry) (start now : Files) → AreNamed ms → AreDistinct ms → Sound ms start start → ms ≡ messages_of (bodies_of entries) → entries ≡ all ++ rest → (All (IsSoundAt start) (messages_of (bodies_of all)) → Came (bodies_of all) start now) → Stands ms start now
+came_stands t ms all rest entries start now named distinct sound e is come =
+    let bodies : bodies_of entries ≡ bodies_of all ++ bodies_of rest = ap bodies_of is ∙ bodies_parts all rest in
+    let own : All (IsSoundAt start) (messages_of (bodies_of all ++ bodies_of rest)) = subst (All (IsSoundAt start)) (e ∙ ap messages_of bodies) sound.own in
+    let came = come (sound_front start (bodies_of all) (bodies_of rest) own) in
+    let parts : bodies_of entries ≡ came.done ++ (came.rest ++ bodies_of rest) = bodies ∙ ap (λ xs. xs ++ bodies_of rest) came.is ∙ append_assoc came.done came.rest (bodies_of rest) in
+    let more = messages_more came.done (came.rest ++ bodies_of rest) in
+    front_stands ms came.done more.0 start now named distinct sound (e ∙ ap messages_of parts ∙ more.1) came.progress
+
+none_done_here : (done rest : List (List ℕ)) → [] ≡ done ++ rest → done ≡ []
+none_done_here [] rest e = refl
+none_done_here (x ∷ done) rest e = cc
+
+-- a run that ended on its way
+pub came_run : (before source_now : Option (List ℕ)) (text : List ℕ) (all : List Entry) (start now : Files) (fault : RunFault) → Consumes before source_now text → First text source_now all → (All (IsSoundAt start) (messages_of (bodies_of all)) → Came (bodies_of all) start now) → (t : List ℕ) → length t < 2 ^ 63 → Possible before source_now t → Run t start (Err fault) now
+came_run before source_now text all start now fault read first come t small p =
+    let is : t ≡ text ++ p.more = rw (← read_is before source_now text t read p) p.front in
+    record {
+      keeps = λ ms of sound.
+          let named = text_named t ms of small in
+          let distinct = text_distinct t ms of small in
+          stands_keeps ms start now fault (elim of as (λ _. Stands ms start now) [
+            | inl (entries, m, e) ↦
+                let r = first.told p.more p.left entries p.has p.whole (rw is at m) in
+                came_stands t ms all r.0 entries start now named distinct sound e r.1 come
+            | inr (none, e) ↦
+                let gone : all ≡ [] = first.none p.more p.left p.has p.whole (rw is at none) in
+                let came = come (subst (λ xs. All (IsSoundAt start) (messages_of (bodies_of xs))) (sym gone) (subst (All (IsSoundAt start)) (sym no_messages) (All-nil (IsSoundAt start)))) in
+                let empty : came.done ≡ [] = none_done_here came.done came.rest (sym (ap bodies_of gone) ∙ came.is) in
+                front_stands ms came.done [] start now named distinct sound (e ∙ sym (append-nil (messages_of came.done) ∙ ap messages_of empty ∙ no_messages)) came.progress
+          ]);
+      is_read = tt;
+    }
+
+-- a run that ended with Ok
+pub reached_run : (before source_now : Option (List ℕ)) (reads : ℕ) (text : List ℕ) (all : List Entry) (start now : Files) (there : BaseSet) (namer : Counts) (messages placed : ℕ) (report : Report) → GaveAll before source_now reads text all → (All (IsSoundAt start) (messages_of (bodies_of all)) → Reached (bodies_of all) start there namer messages placed now) → report.messages ≡ messages → report.there ≡ messages - placed → report.placed ≡ placed → report.swept ≤ leftover_count start → (t : List ℕ) → length t < 2 ^ 63 → Possible before source_now t → Run t start (Ok report) now
+reached_run before source_now reads text all start now there namer messages placed report gave come e1 e2 e3 few t small p =
+    let at_end : p.left ≡ [] = rw p.has at gave.end in
+    let is : t ≡ text = rw (← read_is before source_now text t gave.read p) p.front ∙ ap (λ xs. text ++ xs) (p.whole at_end) ∙ append-nil text in
+    let whole : Mbox t all = rw is gave.all in
+    record {
+      keeps = λ ms of sound.
+          let named = text_named t ms of small in
+          let distinct = text_distinct t ms of small in
+          let e : ms ≡ messages_of (bodies_of all) = elim of as (λ _. ms ≡ messages_of (bodies_of all)) [
+            | inl (entries, m, e) ↦ e ∙ ap (λ es. messages_of (bodies_of es)) (mbox-one t entries all m whole)
+            | inr (none, e) ↦ absurd (none all whole)
+          ] in
+          let r = come (subst (All (IsSoundAt start)) e sound.own) in
+          let s = front_stands ms (bodies_of all) [] start now named distinct sound (e ∙ sym (append-nil (messages_of (bodies_of all)))) r.progress in
+          let len : length ms ≡ length (bodies_of all) = ap length e ∙ length-messages_of (bodies_of all) in
+          let count : there_count start ms ≡ there_count start (messages_of (bodies_of all)) = ap (there_count start) e in
+          let counted = r.counted in
+          let brought = r.brought in
+          record {
+            sound = s.sound;
+            still = s.still;
+            in_order = s.in_order;
+            ends = record {
+              delivered = record {
+                homes_are = subst (All (IsHome now)) (sym e) r.progress.homes_are;
+                swept = λ name ours. r.within.gone name ours refl;
+              };
+              reports = record {
+                messages = omega (arith, e1, counted, len);
+                there = omega (arith, e2, counted, brought, count);
+                placed = omega (arith, e3, counted, brought, count, len);
+                swept = few;
+              };
+            };
+          };
+      is_read = (all, whole);
+    }
+
+-- ---- a batch
+pub batch_bodies : (given whole entries : List Entry) → entries ≡ whole → bodies_of given ++ bodies_of entries ≡ bodies_of (given ++ whole)
+batch_bodies given whole entries e = ap (λ es. bodies_of given ++ bodies_of es) e ∙ sym (bodies_parts given whole)
+
+pub batch_sound : (start : Files) (given whole entries : List Entry) → entries ≡ whole → All (IsSoundAt start) (messages_of (bodies_of (given ++ whole))) → All (IsSoundAt start) (messages_of (bodies_of given ++ bodies_of entries))
+batch_sound start given whole entries e sound = subst (λ bs. All (IsSoundAt start) (messages_of bs)) (sym (batch_bodies given whole entries e)) sound
+
+pub given_sound : (start : Files) (given whole : List Entry) → All (IsSoundAt start) (messages_of (bodies_of (given ++ whole))) → All (IsSoundAt start) (messages_of (bodies_of given))
+given_sound start given whole sound = sound_front start (bodies_of given) (bodies_of whole) (subst (λ bs. All (IsSoundAt start) (messages_of bs)) (bodies_parts given whole) sound)
+
+pub batch_few : (given whole entries : List Entry) (reads : ℕ) → entries ≡ whole → length (given ++ whole) ≤ 65536 * reads → reads ≤ 2 ^ 40 → length (bodies_of given) + length entries ≤ 2 ^ 63
+batch_few given whole entries reads e few most = omega (arith, ap length e, length-append given whole, length-map given (λ (x : Entry). x.body))
+
+-- whatever the fault
+pub run_err : (t : List ℕ) (start now : Files) (r : Result Report RunFault) → IsErr r → ((fault : RunFault) → Run t start (Err fault) now) → Run t start r now
+run_err t start now (Ok x) is run = let off : false ≡ true = is in cc
+run_err t start now (Err fault) is run = run fault

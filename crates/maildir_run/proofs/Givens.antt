@@ -1,0 +1,161 @@
+-- What one more read gives, and what a refused one leaves.
+use Rattle.std.proofs.Common.{◌≡◌, ℕ, zero, suc, ◌+◌, ◌*◌, ◌<◌, ◌≤◌, Bool, true, false, Option, Some, None, Result, Ok, Err, List, [], ◌∷◌, ◌++◌, length, refl, sym, ◌∙◌, ap, subst, arith, append_assoc, inl, inr}
+use Rattle.std.specs.Prelude.{◌==◌, IsErrAnd, IfErr}
+use Rattle.std.specs.Io.KnownBytes.{Consumes, IsAtEnd}
+use Rattle.std.proofs.KnownBytes.{Consumes-trans, Consumes-nil}
+use Rattle.std.proofs.lemmas.Bool.{eqb-true, eq-eqb}
+use Rattle.std.proofs.lemmas.List.{append-nil, length-append}
+use Rattle.mbox_text.specs.declared.entry.Entry.{Entry}
+use Rattle.mbox_text.specs.declared.splitter.Splitter.{Splitter}
+use Rattle.mbox_text.specs.Mbox.{Mbox, IsUnreadable}
+use Rattle.mbox_text.specs.Fed.{Fed}
+use Rattle.mbox_text.specs.Fronts.{AllButLast}
+use Rattle.mbox_text.proofs.OneReading.{mbox-one}
+use Rattle.mbox_text.proofs.Existence.{read_where}
+use Rattle.mbox_text.proofs.LineLemmas.{begins_from-more}
+use Rattle.maildir_run.specs.declared.fault.RunFault.{RunFault}
+use Rattle.maildir_run.specs.declared.fault.RunFault.TheVariants.{NoFromLine}
+use Rattle.maildir_run.specs.declared.messages.Messages.{Messages}
+use Rattle.maildir_run.specs.Runs.{Possible}
+use Rattle.maildir_run.specs.Reading.{NeverReads, Breaks, Went}
+use Rattle.maildir_run.specs.Given.{Gave, GaveAll, IsGiven, Begins, Refused}
+use Rattle.maildir_run.proofs.Poured.{read_is, mbox-length}
+
+pub gave_none : (before : Option (List ℕ)) (splitter : Splitter) (left reads : ℕ) → Fed [] [] splitter → left ≡ reads → Gave before before splitter left reads [] []
+gave_none before splitter left reads fed e = record { read = Consumes-nil before; budget = omega (arith, e); fed = fed }
+
+-- one more read, with what became whole by it
+pub record GaveMore (ended : Bool) (before now : Option (List ℕ)) (splitter : Splitter) (left reads : ℕ) (given : List Entry) : Type 0 where
+  pub text : List ℕ
+  pub gave : IsGiven ended before now splitter left reads text given
+
+pub gave_more : (ended : Bool) (before mid now : Option (List ℕ)) (old : Messages) (splitter : Splitter) (left reads : ℕ) (text : List ℕ) (given out whole : List Entry) → out ≡ [] → Gave before mid old.splitter old.reads reads text given → Went old mid now out whole splitter left (Ok ended) → GaveMore ended before now splitter left reads (given ++ whole)
+gave_more true before mid now old splitter left reads text given out whole none p w =
+    let within = p.budget in
+    let added : whole ≡ w.0 = rw none at w.3 in
+    record {
+      text = text;
+      gave = record {
+        read = rw (append-nil text) at (Consumes-trans before mid now text [] p.read w.1);
+        budget = omega arith;
+        end = w.2;
+        all = rw added (w.4 text given p.fed);
+      };
+    }
+gave_more false before mid now old splitter left reads text given out whole none p w =
+    let within = p.budget in
+    let added : whole ≡ w.1 = rw none at w.5 in
+    record {
+      text = text ++ w.0;
+      gave = record {
+        read = Consumes-trans before mid now text w.0 p.read w.2;
+        budget = omega (arith, length-append text w.0, w.3, w.4);
+        fed = rw added (w.6 text given p.fed);
+      };
+    }
+
+pub gave_refused : (before mid now : Option (List ℕ)) (old : Messages) (reads : ℕ) (text : List ℕ) (given : List Entry) (fault : RunFault) → Gave before mid old.splitter old.reads reads text given → Breaks old mid now fault → Refused before now reads fault
+gave_refused before mid now old reads text given fault p b =
+    let within = p.budget in
+    let read = Consumes-trans before mid now text b.0 p.read b.1 in
+    record {
+      budget = (text ++ b.0, read, omega (arith, length-append text b.0, b.2));
+      unreadable = λ e t entries q m.
+          let never = (b.3 e text given p.fed).1 in
+          let is : t ≡ text ++ b.0 ++ q.more = rw (← read_is before now (text ++ b.0) t read q) q.front in
+          never q.more q.left q.has q.whole entries (rw is at m);
+    }
+
+-- a message was given, so the text begins well
+pub never_again : (mid now : Option (List ℕ)) (old : Messages) (text : List ℕ) (given : List Entry) (fault : RunFault) → Fed text given old.splitter → 0 < length given → Breaks old mid now fault → fault ≡ NoFromLine → ⊥
+never_again mid now old text given fault fed some b e = let none = (b.3 e text given fed).0 in absurd (omega (arith, some, ap length none))
+
+-- ---- the messages are the first of each possible text
+pub record First (text : List ℕ) (now : Option (List ℕ)) (all : List Entry) : Type 0 where
+  pub told : (more left : List ℕ) (entries : List Entry) → now ≡ Some left → (left ≡ [] → more ≡ []) → Mbox (text ++ more) entries → (rest : List Entry) × (entries ≡ all ++ rest)
+  pub none : (more left : List ℕ) → now ≡ Some left → (left ≡ [] → more ≡ []) → IsUnreadable (text ++ more) → all ≡ []
+
+unread_none : (text more : List ℕ) (given : List Entry) → AllButLast text given → IsUnreadable (text ++ more) → given ≡ []
+unread_none text more given (inl a) none = let r = (read_where (text ++ more)).0 (inr (begins_from-more text more a.0)) in absurd (none r.0 r.1)
+unread_none text more given (inr a) none = a.1
+
+pub given_first : (ended : Bool) (before now : Option (List ℕ)) (splitter : Splitter) (left reads : ℕ) (text : List ℕ) (given : List Entry) → IsGiven ended before now splitter left reads text given → First text now given
+given_first false before now splitter left reads text given p = record {
+  told = λ more rest entries has whole m. elim (p.fed.stay more entries m) [
+    | inl none ↦ (entries, rw none refl)
+    | inr q ↦ (q.0 ∷ q.1, q.2)
+  ];
+  none = λ more rest has whole none. unread_none text more given p.fed.given_are none;
+}
+given_first true before now splitter left reads text given p = record {
+  told = λ more rest entries has whole m.
+      let at_end : rest ≡ [] = rw has at p.end in
+      let same : text ++ more ≡ text = rw (whole at_end) (append-nil text) in
+      ([], mbox-one text entries given (rw same at m) p.all ∙ sym (append-nil given));
+  none = λ more rest has whole none.
+      let at_end : rest ≡ [] = rw has at p.end in
+      let same : text ++ more ≡ text = rw (whole at_end) (append-nil text) in
+      absurd (none given (rw same p.all));
+}
+
+pub given_read : (ended : Bool) (before now : Option (List ℕ)) (splitter : Splitter) (left reads : ℕ) (text : List ℕ) (given : List Entry) → IsGiven ended before now splitter left reads text given → Consumes before now text
+given_read false before now splitter left reads text given p = p.read
+given_read true before now splitter left reads text given p = p.read
+
+pub given_budget : (ended : Bool) (before now : Option (List ℕ)) (splitter : Splitter) (left reads : ℕ) (text : List ℕ) (given : List Entry) → IsGiven ended before now splitter left reads text given → length text ≤ 65536 * reads
+given_budget false before now splitter left reads text given p = let within = p.budget in omega arith
+given_budget true before now splitter left reads text given p = p.budget
+
+-- there are no more messages than bytes
+few_given : (text : List ℕ) (given : List Entry) → AllButLast text given → length given ≤ length text
+few_given text given (inl a) = omega (arith, mbox-length text (given ++ a.1.0 ∷ []) a.1.1, length-append given (a.1.0 ∷ []))
+few_given text given (inr a) = rw a.1 (omega arith)
+
+pub given_few : (ended : Bool) (before now : Option (List ℕ)) (splitter : Splitter) (left reads : ℕ) (text : List ℕ) (given : List Entry) → IsGiven ended before now splitter left reads text given → length given ≤ 65536 * reads
+given_few false before now splitter left reads text given p = let within = p.budget in let few = few_given text given p.fed.given_are in omega arith
+given_few true before now splitter left reads text given p = let within = p.budget in let few = mbox-length text given p.all in omega arith
+
+pub gave_on : (ended : Bool) (before now : Option (List ℕ)) (splitter : Splitter) (left reads : ℕ) (given : List Entry) → ended ≡ false → GaveMore ended before now splitter left reads given → GaveMore false before now splitter left reads given
+gave_on ended before now splitter left reads given e more = subst (λ b. GaveMore b before now splitter left reads given) e more
+
+-- the fault of a refused call
+pub if_err : {A E : Type 0} (P : E → Type 0) (r : Result A E) (fault : E) → IsErrAnd r (λ e. e ≡ fault) → P fault → IfErr r P
+if_err P (Ok x) fault is p = tt
+if_err P (Err e) fault is p = subst P (sym is) p
+
+-- whether a list is empty, by its length
+pub none_left : (items : List Entry) (n : ℕ) (b : Bool) → b ≡ (n == 0) → b ≡ true → n ≡ length items → items ≡ []
+none_left [] n b is on e = refl
+none_left (x ∷ xs) n b is on e = let none = eqb-true n 0 (sym is ∙ on) in absurd (omega arith)
+
+pub some_left : (items : List Entry) (n : ℕ) (b : Bool) → b ≡ (n == 0) → b ≡ false → n ≡ length items → 0 < length items
+some_left [] n b is off e = let f = eq-eqb n 0 e in let g : b ≡ true = is ∙ f in cc
+some_left (x ∷ xs) n b is off e = omega arith
+
+pub gave_empty : (before now : Option (List ℕ)) (splitter : Splitter) (left reads : ℕ) (text : List ℕ) (given : List Entry) → given ≡ [] → Gave before now splitter left reads text given → Gave before now splitter left reads text []
+gave_empty before now splitter left reads text given e p = subst (Gave before now splitter left reads text) e p
+
+-- a read was refused behind these messages
+pub record BrokenOff (before now : Option (List ℕ)) (reads : ℕ) (all : List Entry) : Type 0 where
+  pub text : List ℕ
+  pub read : Consumes before now text
+  pub first : First text now all
+
+pub broken_off : (before mid now : Option (List ℕ)) (old : Messages) (reads : ℕ) (text : List ℕ) (all : List Entry) (fault : RunFault) → Gave before mid old.splitter old.reads reads text all → Breaks old mid now fault → BrokenOff before now reads all
+broken_off before mid now old reads text all fault p b = record {
+  text = text ++ b.0;
+  read = Consumes-trans before mid now text b.0 p.read b.1;
+  first = record {
+    told = λ more rest entries has whole m. elim (p.fed.stay (b.0 ++ more) entries (subst (λ s. Mbox s entries) (append_assoc text b.0 more) m)) [
+      | inl none ↦ (entries, rw none refl)
+      | inr q ↦ (q.0 ∷ q.1, q.2)
+    ];
+    none = λ more rest has whole none. unread_none text (b.0 ++ more) all p.fed.given_are (subst IsUnreadable (append_assoc text b.0 more) none);
+  };
+}
+
+pub not_ended : (ended : Bool) (before now : Option (List ℕ)) (splitter : Splitter) (left reads : ℕ) (text : List ℕ) (given : List Entry) → ended ≡ false → IsGiven ended before now splitter left reads text given → Gave before now splitter left reads text given
+not_ended ended before now splitter left reads text given e p = subst (λ b. IsGiven b before now splitter left reads text given) e p
+
+pub at_end : (ended : Bool) (before now : Option (List ℕ)) (splitter : Splitter) (left reads : ℕ) (text : List ℕ) (given : List Entry) → ended ≡ true → IsGiven ended before now splitter left reads text given → GaveAll before now reads text given
+at_end ended before now splitter left reads text given e p = subst (λ b. IsGiven b before now splitter left reads text given) e p

@@ -1,0 +1,119 @@
+-- What the three listings tell together.
+use Rattle.std.proofs.Common.{◌≡◌, ℕ, ◌≤◌, suc, Bool, true, false, ◌||◌, List, [], ◌∷◌, ◌++◌, IsPermutation, IsTrue, IsFalse, length, Option, Some, None, Result, Ok, Err, Vec, String, Global, sum_by, cond, ◌+◌, refl, sym, ap, subst, ◌∙◌, inl, inr, arith}
+use Rattle.std.specs.List.{list_any, filter}
+use Rattle.std.specs.FinMap.{keys, len, retain_keys}
+use Rattle.std.proofs.lemmas.Bool.{or_parts, or_cases, cases_Bool}
+use Rattle.std.proofs.lemmas.List.Sums.{sum_by-cons}
+use Rattle.std.proofs.lemmas.List.Sorted.{IsPermutation-sym, IsPermutation-trans, sum_by-IsPermutation}
+use Rattle.maildir_run.specs.declared.folder.Sub.{Sub}
+use Rattle.maildir_run.specs.declared.folder.Sub.TheVariants.{Tmp, New, Cur}
+use Rattle.maildir_name.specs.Names.{is_converter_base, is_converter_name}
+use Rattle.maildir_run.specs.Files.{Files, has_base, held_under, homes}
+use Rattle.maildir_run.specs.Calls.{Call, Listing, Move, Other, Again, Torn, moved, after, Lists, Listed, Failed, names_of}
+use Rattle.maildir_run.specs.Delivery.{has_home, is_any, leftover_count}
+use Rattle.maildir_run.specs.Plan.{is_listed}
+use Rattle.maildir_run.specs.Progress.{LeavesHomes, TmpWithin}
+use Rattle.maildir_run.proofs.Moves.{homes_none, both_none, after_kept, after-append}
+use Rattle.maildir_run.proofs.Listed.{listed_new, listed_cur}
+use Rattle.maildir_run.proofs.Counted.{counted, acted_count}
+use Rattle.maildir_run.proofs.Steps.{listing_leaves, not_shown, leaves_trans, called_kept, called_tmp, within_on}
+use Rattle.maildir_run.specs.declared.folder.FolderFault.{FolderFault}
+use Rattle.maildir_run.specs.declared.fault.RunFault.{RunFault}
+use Rattle.maildir_run.specs.Counting.{answered}
+use Rattle.maildir_run.proofs.Counts.{answered_ok}
+use Rattle.maildir_run.proofs.Progress.{any_kept}
+
+pub listed_leaves : (sub : Sub) (old new : Files) → Failed (Listing sub) old new → LeavesHomes old new
+listed_leaves sub old new c = record { kept = λ b named. called_kept b named (Listing sub) tt old new c }
+
+-- any answer of a listing
+pub some_listing : (sub : Sub) (old : Files) (r : Result (Vec (String Global) Global) FolderFault) (new : Files) → Listed sub old r new → LeavesHomes old new
+some_listing sub old (Ok names) new h = listing_leaves sub old (names_of names) new h
+some_listing sub old (Err fault) new h = listed_leaves sub old new h
+
+-- and Ok, as the run gives it
+pub told_listing : (sub : Sub) (old : Files) (r : Result (Vec (String Global) Global) FolderFault) (new : Files) (number : ℕ) (names : Vec (String Global) Global) → Ok names ≡ answered number r → Listed sub old r new → Lists sub old (names_of names) new
+told_listing sub old r new number names e h = subst (λ x. Listed sub old x new) (answered_ok number r names e) h
+
+-- tmp gains no converter's name by a listing
+pub listed_within : (sub : Sub) (listed : List (List ℕ)) (old : Files) (names : List (List ℕ)) (new : Files) → Lists sub old names new → TmpWithin listed old → TmpWithin listed new
+listed_within sub listed old names new h =
+    within_on listed old new (λ q ours off. called_tmp q ours (Listing sub) tt old new (record { moves = h.before ++ Again ∷ h.rest; left = h.left }))
+
+-- ---- which bases have a home
+none_of : (xs : List (List ℕ)) → is_any xs ≡ false → xs ≡ []
+none_of [] e = refl
+none_of (x ∷ xs) e = cc
+
+new_shows_none : (b : List ℕ) → IsTrue (is_converter_base b) → (old : Files) (names : List (List ℕ)) (new : Files) → Lists New old names new → IsTrue (list_any (has_base b) names) → homes old b ≡ [] → ⊥
+new_shows_none b named old names new listed on e =
+    let mid = after old (Listing New) listed.before in
+    let none : homes mid b ≡ [] = homes_none b old mid (after_kept b named (Listing New) tt listed.before old) e in
+    not_shown b mid.new names listed.names_are (both_none (held_under b mid.new) (held_under b mid.cur) none).0 on
+
+cur_shows_none : (b : List ℕ) → IsTrue (is_converter_base b) → (old : Files) (names : List (List ℕ)) (new : Files) → Lists Cur old names new → IsTrue (list_any (has_base b) names) → homes old b ≡ [] → ⊥
+cur_shows_none b named old names new listed on e =
+    let mid = after old (Listing Cur) listed.before in
+    let none : homes mid b ≡ [] = homes_none b old mid (after_kept b named (Listing Cur) tt listed.before old) e in
+    not_shown b mid.cur names listed.names_are (both_none (held_under b mid.new) (held_under b mid.cur) none).1 on
+
+two_listings : (b : List ℕ) → IsTrue (is_converter_base b) → (s t u : Files) (in_new in_cur : List (List ℕ)) → Lists New s in_new t → Lists Cur t in_cur u → is_listed in_new in_cur b ≡ has_home s b
+two_listings b named s t u in_new in_cur first second =
+    let kept_first = (listing_leaves New s in_new t first).kept b named in
+    let kept_both = IsPermutation-trans _ _ _ kept_first ((listing_leaves Cur t in_cur u second).kept b named) in
+    elim (cases_Bool (is_listed in_new in_cur b)) as (λ _. is_listed in_new in_cur b ≡ has_home s b) [
+      | inl on ↦
+          elim (cases_Bool (has_home s b)) as (λ _. is_listed in_new in_cur b ≡ has_home s b) [
+            | inl e ↦ on ∙ sym e
+            | inr e ↦
+                let none = none_of (homes s b) e in
+                absurd (elim (or_cases (list_any (has_base b) in_new) (list_any (has_base b) in_cur) on) as (λ _. ⊥) [
+                  | inl shown ↦ new_shows_none b named s in_new t first shown none
+                  | inr shown ↦ cur_shows_none b named t in_cur u second shown (homes_none b s t kept_first none)
+                ])
+          ]
+      | inr off ↦
+          let parts = or_parts (list_any (has_base b) in_new) (list_any (has_base b) in_cur) off in
+          let none : homes u b ≡ [] = listed_cur b named t in_cur u (listed_new b named s in_new t first parts.0) second parts.1 in
+          off ∙ sym (any_kept (homes s b) (homes u b) kept_both ∙ ap is_any none)
+    ]
+
+pub three_listings : (b : List ℕ) → IsTrue (is_converter_base b) → (r s t u : Files) (in_tmp in_new in_cur : List (List ℕ)) → Lists Tmp r in_tmp s → Lists New s in_new t → Lists Cur t in_cur u → is_listed in_new in_cur b ≡ has_home r b
+three_listings b named r s t u in_tmp in_new in_cur none first second =
+    two_listings b named s t u in_new in_cur first second ∙ sym (any_kept (homes r b) (homes s b) ((listing_leaves Tmp r in_tmp s none).kept b named))
+
+-- ---- how many are left over
+moved_count : (m : Move) (s : Files) → len (retain_keys (moved (Listing Tmp) m s).tmp is_converter_name) ≤ len (retain_keys s.tmp is_converter_name)
+moved_count (Other action) s = acted_count action s
+moved_count Again s = omega arith
+moved_count (Torn bytes) s = omega arith
+
+listing_count : (ms : List Move) (s : Files) → len (retain_keys (after s (Listing Tmp) ms).tmp is_converter_name) ≤ len (retain_keys s.tmp is_converter_name)
+listing_count [] s = omega arith
+listing_count (m ∷ ms) s = let one = moved_count m s in let more = listing_count ms (moved (Listing Tmp) m s) in omega arith
+
+filter_cons : (p : List ℕ → Bool) (x : List ℕ) (xs : List (List ℕ)) → length (filter p (x ∷ xs)) ≡ cond (p x) 1 0 + length (filter p xs)
+filter_cons p x xs =
+    elim (p x) as (λ t. length (cond t (x ∷ filter p xs) (filter p xs)) ≡ cond t 1 0 + length (filter p xs)) [
+      | true ↦ omega arith
+      | false ↦ omega arith
+    ]
+
+sum_one : (p : List ℕ → Bool) (x : List ℕ) (xs : List (List ℕ)) → cond (p x) 1 0 + sum_by (λ y. cond (p y) 1 0) xs ≡ sum_by (λ y. cond (p y) 1 0) (x ∷ xs)
+sum_one p x xs = sym (sum_by-cons (λ y. cond (p y) 1 0) x xs)
+
+filter_sum : (p : List ℕ → Bool) (xs : List (List ℕ)) → length (filter p xs) ≡ sum_by (λ x. cond (p x) 1 0) xs
+filter_sum p [] = refl
+filter_sum p (x ∷ xs) =
+    let more = filter_sum p xs in
+    filter_cons p x xs ∙ ap (λ n. cond (p x) 1 0 + n) more ∙ sum_one p x xs
+
+filter-length : (p : List ℕ → Bool) (xs ys : List (List ℕ)) → IsPermutation xs ys → length (filter p xs) ≡ length (filter p ys)
+filter-length p xs ys h = filter_sum p xs ∙ sym (sum_by-IsPermutation (λ x. cond (p x) 1 0) xs ys h) ∙ sym (filter_sum p ys)
+
+pub few_listed : (old : Files) (names : List (List ℕ)) (new : Files) → Lists Tmp old names new → length (filter is_converter_name names) ≤ leftover_count old
+few_listed old names new listed =
+    let mid = after old (Listing Tmp) listed.before in
+    let same = filter-length is_converter_name names (keys mid.tmp) listed.names_are in
+    let few = listing_count listed.before old in
+    rw (same, counted mid.tmp, counted old.tmp) few

@@ -1,0 +1,32 @@
+use Rattle.std.proofs.Common.{◌≡◌, ℕ, ◌<◌, Bool, true, false, [], length, Result, Ok, sym, ap, arith, rules}
+use Rattle.maildir_run.proofs.Givens.{gave_more, gave_on, gave_refused, gave_empty, if_err, some_left, none_left}
+use Rattle.maildir_run.specs.Given.{Refused}
+use Rattle.maildir_run.proofs.converting.read_first.Goals as goal
+use Rattle.maildir_run.proofs.converting.read_first.Goals.{then-ended-via-then-ended, then-ended-via-else-ended+then-not-is_empty}
+
+pub returns-in_err-ended-clause-refused : goal.returns-in_err-ended-clause-refused
+returns-in_err-ended-clause-refused g c =
+    let i = c.pieces.invariant in
+    if_err _ c.from_residual.result c.in_err-ended.field-0.0 c.from_residual.ensures.1
+    (gave_refused _ _ _ c.pieces.messages _ i.text [] c.in_err-ended.field-0.0 i.gave c.in_err-ended.ensures.went)
+
+pub returns-then-ended-clause-begins : goal.returns-then-ended-clause-begins
+returns-then-ended-clause-begins g c =
+    let i = c.pieces.invariant in
+    let more = gave_more c.in_ok-ended.ended _ _ _ c.pieces.messages _ _ _ i.text [] c.pieces.whole.items c.read.new.out.items i.empty i.gave c.in_ok-ended.ensures.went in
+    record {
+      text = more.text;
+      gave = more.gave;
+      begun = λ e.
+          elim c.then-ended.branch [
+            | then-ended-via-then-ended w ↦ let on = w.if-ended.true in cc
+            | then-ended-via-else-ended+then-not-is_empty w ↦ some_left c.read.new.out.items _ w.is_empty.result w.is_empty.ensures w.if-not-is_empty.true (omega (arith, c.read.new.out.ok.0))
+          ];
+    }
+
+pub pieces-preserved : goal.pieces-preserved
+pieces-preserved g c =
+    let i = c.pieces.invariant in
+    let more = gave_on c.in_ok-ended.ended _ _ _ _ _ _ c.if-ended.false (gave_more c.in_ok-ended.ended _ _ _ c.pieces.messages _ _ _ i.text [] c.pieces.whole.items c.read.new.out.items i.empty i.gave c.in_ok-ended.ensures.went) in
+    let none : c.read.new.out.items ≡ [] = none_left c.read.new.out.items _ c.is_empty.result c.is_empty.ensures c.if-not-is_empty.false (omega (arith, c.read.new.out.ok.0)) in
+    record { text = more.text; gave = gave_empty _ _ _ _ _ more.text c.read.new.out.items none more.gave; empty = none }

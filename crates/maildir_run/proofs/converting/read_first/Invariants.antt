@@ -1,0 +1,13 @@
+use Rattle.std.proofs.Common.{◌≡◌, ℕ, List, []}
+use Rattle.maildir_run.specs.Given.{Gave}
+use Rattle.maildir_run.proofs.converting.read_first.Given as goal
+
+abbrev pub invariant-pieces : goal.invariant-pieces
+invariant-pieces g l = record {
+  text : List ℕ;
+  gave : Gave (g.R.Read.remaining l.initial.source) (g.R.Read.remaining l.source) l.messages.splitter l.messages.reads l.initial.messages.reads text [];
+  empty : l.whole.items ≡ [];
+}
+
+abbrev pub decreases-pieces : goal.decreases-pieces
+decreases-pieces g l = l.messages.reads

@@ -1,0 +1,54 @@
+use Rattle.std.proofs.Common.{◌≡◌, IsTrue, refl, sym, ap, subst, ◌∙◌, arith, ◌≤◌}
+use Rattle.maildir_run.specs.Files.{has_base}
+use Rattle.maildir_run.specs.Progress.{message_at}
+use Rattle.maildir_run.proofs.Counts.{one_call, more_calls, up_to}
+use Rattle.maildir_run.proofs.Steps.{write_brings, write_ok, place_brings, place_home, some_moves}
+use Rattle.maildir_run.proofs.Sweeps.{told_called}
+use Rattle.maildir_run.proofs.delivery.bring.Goals as goal
+
+pub returns-in_err-answered-clause-brings : goal.returns-in_err-answered-clause-brings
+returns-in_err-answered-clause-brings g c = λ honest missing.
+    write_brings (message_at c.args.target.now c.args.body.now) c.requires.named _ _ _ _ (some_moves _ _ c.write.result _ (c.write.ensures.called honest)) missing
+
+pub returns-in_err-answered-clause-most : goal.returns-in_err-answered-clause-most
+returns-in_err-answered-clause-most g c = up_to 1 2 _ _ _ _ (omega arith) (one_call _ _ _ _ c.answered.ensures.made c.write.ensures.counted)
+
+pub returns-in_err-answered-2-clause-brings : goal.returns-in_err-answered-2-clause-brings
+returns-in_err-answered-2-clause-brings g c = λ honest missing.
+    let m = message_at c.args.target.now c.args.body.now in
+    let w = write_ok m c.requires.named c.requires.whole _ c.args.body.now c.as_str-base.ensures refl _ _ (told_called _ _ _ _ _ _ c.in_ok-answered.ensures.is (c.write.ensures.called honest)) missing in
+    let on : IsTrue (has_base m.target.base c.as_str.result.now) = rw c.as_str.ensures c.requires.under in
+    place_brings m c.requires.named c.requires.whole _ c.as_str-base.ensures _ _ on _ _ _ w (some_moves _ _ c.place.result _ (c.place.ensures.called (c.write.ensures.honest honest)))
+
+pub returns-in_err-answered-2-clause-most : goal.returns-in_err-answered-2-clause-most
+returns-in_err-answered-2-clause-most g c =
+    up_to 2 2 _ _ _ _ (omega arith)
+    (more_calls 1 1 _ _ _ _ _ _ (one_call _ _ _ _ c.answered.ensures.made c.write.ensures.counted) (one_call _ _ _ _ c.answered-2.ensures.made c.place.ensures.counted))
+
+pub returns-clause-brings : goal.returns-clause-brings
+returns-clause-brings g c = λ honest missing.
+    let m = message_at c.args.target.now c.args.body.now in
+    let w = write_ok m c.requires.named c.requires.whole _ c.args.body.now c.as_str-base.ensures refl _ _ (told_called _ _ _ _ _ _ c.in_ok-answered.ensures.is (c.write.ensures.called honest)) missing in
+    let on : IsTrue (has_base m.target.base c.as_str.result.now) = rw c.as_str.ensures c.requires.under in
+    place_brings m c.requires.named c.requires.whole _ c.as_str-base.ensures _ _ on _ _ _ w (some_moves _ _ c.place.result _ (c.place.ensures.called (c.write.ensures.honest honest)))
+
+pub returns-clause-home : goal.returns-clause-home
+returns-clause-home g c = λ honest missing.
+    let m = message_at c.args.target.now c.args.body.now in
+    let w = write_ok m c.requires.named c.requires.whole _ c.args.body.now c.as_str-base.ensures refl _ _ (told_called _ _ _ _ _ _ c.in_ok-answered.ensures.is (c.write.ensures.called honest)) missing in
+    let on : IsTrue (has_base m.target.base c.as_str.result.now) = rw c.as_str.ensures c.requires.under in
+    (place_home m c.requires.named c.requires.whole _ c.as_str-base.ensures _ _ on _ _ _ w (told_called _ _ _ _ _ _ c.in_ok-answered-2.ensures.is (c.place.ensures.called (c.write.ensures.honest honest)))).0
+
+pub returns-clause-swept : goal.returns-clause-swept
+returns-clause-swept g c = λ honest missing within.
+    let m = message_at c.args.target.now c.args.body.now in
+    let w = write_ok m c.requires.named c.requires.whole _ c.args.body.now c.as_str-base.ensures refl _ _ (told_called _ _ _ _ _ _ c.in_ok-answered.ensures.is (c.write.ensures.called honest)) missing in
+    let on : IsTrue (has_base m.target.base c.as_str.result.now) = rw c.as_str.ensures c.requires.under in
+    (place_home m c.requires.named c.requires.whole _ c.as_str-base.ensures _ _ on _ _ _ w (told_called _ _ _ _ _ _ c.in_ok-answered-2.ensures.is (c.place.ensures.called (c.write.ensures.honest honest)))).1 within
+
+pub returns-clause-made : goal.returns-clause-made
+returns-clause-made g c =
+    more_calls 1 1 _ _ _ _ _ _ (one_call _ _ _ _ c.answered.ensures.made c.write.ensures.counted) (one_call _ _ _ _ c.answered-2.ensures.made c.place.ensures.counted)
+
+pub returns-clause-most : goal.returns-clause-most
+returns-clause-most g c = up_to 2 2 _ _ _ _ (omega arith) (returns-clause-made g c)

@@ -1,0 +1,40 @@
+-- How far a source was read, and which messages were given of it.
+use Rattle.std.specs.Prelude.{◌≡◌, ℕ, ◌+◌, ◌*◌, ◌<◌, ◌≤◌, Bool, true, false, List, length, Option}
+use Rattle.std.specs.Io.KnownBytes.{Consumes, IsAtEnd}
+use Rattle.mbox_text.specs.declared.entry.Entry.{Entry}
+use Rattle.mbox_text.specs.declared.splitter.Splitter.{Splitter}
+use Rattle.mbox_text.specs.Fed.{Fed}
+use Rattle.mbox_text.specs.Mbox.{Mbox}
+use Rattle.maildir_run.specs.declared.fault.RunFault.{RunFault}
+use Rattle.maildir_run.specs.declared.fault.RunFault.TheVariants.{NoFromLine}
+use Rattle.maildir_run.specs.Runs.{Possible}
+use Rattle.maildir_run.specs.Reading.{ReadsAtMost}
+
+-- this text was read, these messages were given of it, and so many reads are left of those that were allowed
+pub record Gave (before now : Option (List ℕ)) (splitter : Splitter) (left reads : ℕ) (text : List ℕ) (given : List Entry) : Type 0 where
+  pub read : Consumes before now text
+  pub budget : length text + 65536 * left ≤ 65536 * reads
+  pub fed : Fed text given splitter
+
+-- this text was read up to the source's end, and these are its messages
+pub record GaveAll (before now : Option (List ℕ)) (reads : ℕ) (text : List ℕ) (given : List Entry) : Type 0 where
+  pub read : Consumes before now text
+  pub budget : length text ≤ 65536 * reads
+  pub end : IsAtEnd now
+  pub all : Mbox text given
+
+-- this text was read, up to the end or not, and these messages were given of it
+abbrev pub IsGiven : Bool → Option (List ℕ) → Option (List ℕ) → Splitter → ℕ → ℕ → List ℕ → List Entry → Type 0
+IsGiven false before now splitter left reads text given = Gave before now splitter left reads text given
+IsGiven true before now splitter left reads text given = GaveAll before now reads text given
+
+-- the source was read up to its end, or up to where these messages are whole, of which there is one
+pub record Begins (ended : Bool) (before now : Option (List ℕ)) (splitter : Splitter) (left reads : ℕ) (whole : List Entry) : Type 0 where
+  pub text : List ℕ
+  pub gave : IsGiven ended before now splitter left reads text whole
+  pub begun : ended ≡ false → 0 < length whole
+
+-- nothing more could be read; with `NoFromLine` no text that the source may have had is an mbox text
+pub record Refused (before now : Option (List ℕ)) (reads : ℕ) (fault : RunFault) : Type 0 where
+  pub budget : ReadsAtMost before now (65536 * reads)
+  pub unreadable : fault ≡ NoFromLine → (t : List ℕ) (entries : List Entry) → Possible before now t → ¬ Mbox t entries

@@ -1,0 +1,66 @@
+-- What the parts of a run leave.
+use Rattle.std.specs.Prelude.{◌≡◌, ℕ, ◌+◌, ◌*◌, List, [], ◌++◌, All, IsPermutation, IsTrue, IsFalse, None, Bool, length}
+use Rattle.std.specs.List.{list_any}
+use Rattle.std.specs.FinMap.{get, contains_key}
+use Rattle.maildir_name.specs.declared.target.Target.{Target}
+use Rattle.maildir_name.specs.Named.{Counts, Named}
+use Rattle.maildir_name.specs.Names.{is_converter_base, is_converter_name}
+use Rattle.maildir_run.specs.Files.{Files, homes, is_name, has_base}
+use Rattle.maildir_run.specs.Bases.{BaseSet}
+use Rattle.maildir_run.specs.Counting.{Makes}
+use Rattle.maildir_run.specs.Delivery.{Message, IsHome, IsSoundAt, has_home, is_base_of, there_count}
+use Rattle.maildir_run.specs.Texts.{messages_of}
+
+-- each converter's base keeps its homes
+pub record LeavesHomes (old new : Files) : Type 0 where
+  pub kept : (b : List ℕ) → IsTrue (is_converter_base b) → IsPermutation (homes old b) (homes new b)
+
+-- the only converter's names in `tmp` are of these
+pub record TmpWithin (names : List (List ℕ)) (s : Files) : Type 0 where
+  pub gone : (name : List ℕ) → IsTrue (is_converter_name name) → IsFalse (list_any (is_name name) names) → get s.tmp name ≡ None
+
+-- a message that was missing was written and placed, perhaps
+pub record Brings (m : Message) (old new : Files) : Type 0 where
+  pub own : IsSoundAt new m
+  pub others : (b : List ℕ) → IsTrue (is_converter_base b) → IsFalse (is_name m.target.base b) → IsPermutation (homes old b) (homes new b)
+
+-- these messages have their homes, and each other converter's base has what it had
+pub record Progress (done : List Message) (old now : Files) : Type 0 where
+  pub homes_are : All (IsHome now) done
+  pub kept : (b : List ℕ) → IsTrue (is_converter_base b) → IsFalse (is_base_of done b) → IsPermutation (homes old b) (homes now b)
+
+-- the message with this target and this body
+abbrev pub message_at : Target → List ℕ → Message
+message_at target body = record { target = target; body = body }
+
+-- a target's base is a converter's and its own base, and its name has that base
+pub record IsTarget (target : Target) : Type 0 where
+  pub named : IsTrue (is_converter_base target.base)
+  pub whole : IsTrue (has_base target.base target.base)
+  pub under : IsTrue (has_base target.base target.name)
+
+-- this test tells of each converter's base whether it has a home
+abbrev pub Knows : (List ℕ → Bool) → Files → Type 0
+Knows is_there s = (b : List ℕ) → IsTrue (is_converter_base b) → is_there b ≡ has_home s b
+
+-- How far a run has come that began with these files: these bodies were named, what was there is known, and each of their messages is at home.
+pub record Reached (bodies : List (List ℕ)) (start : Files) (there : BaseSet) (namer : Counts) (messages placed : ℕ) (now : Files) : Type 0 where
+  pub named : Named bodies namer
+  pub knows : Knows (contains_key there) start
+  pub progress : Progress (messages_of bodies) start now
+  pub within : TmpWithin [] now
+  pub counted : messages ≡ length bodies
+  pub brought : placed + there_count start (messages_of bodies) ≡ length bodies
+
+-- the messages of the first of these bodies are at home, and nothing came of the others
+pub record Came (bodies : List (List ℕ)) (start now : Files) : Type 0 where
+  pub done : List (List ℕ)
+  pub rest : List (List ℕ)
+  pub is : bodies ≡ done ++ rest
+  pub progress : Progress (messages_of done) start now
+
+-- so many more messages were placed, by two calls each
+pub record Places (placed placed' made made' calls calls' : ℕ) : Type 0 where
+  pub n : ℕ
+  pub is : placed' ≡ placed + n
+  pub makes : Makes (2 * n) made made' calls calls'

@@ -1,0 +1,96 @@
+// One run: a source's messages into a folder.
+ghost use Rattle.std.specs.Prelude.{◌≡◌, ◌⊎◌, ◌*◌, ◌^◌, ◌<◌, ◌≤◌, ℕ, [], List, length, IfOk, OnOk, IfErr, IsErrOf};
+ghost use Rattle.std.specs.Io.KnownBytes.{IsAtEnd};
+ghost use Rattle.mbox_text.specs.declared.entry.Entry.{Entry as Message};
+ghost use Rattle.mbox_text.specs.Mbox.{Mbox};
+ghost use Rattle.maildir_run.specs.Counting.{CountsFault, IsOfFolder, Numbers};
+ghost use Rattle.maildir_run.specs.Given.{Begins, Refused};
+ghost use Rattle.maildir_run.specs.Reading.{IsReading, ReadsAtMost, Taken};
+ghost use Rattle.maildir_run.specs.Runs.{CountsRun, Possible, Run};
+
+use crate::bases::Bases;
+use crate::calls::Calls;
+use crate::engine::Engine;
+use crate::fault::RunFault;
+use crate::folder::Folder;
+use crate::messages::Messages;
+use crate::report::Report;
+use crate::survey::look;
+use crate::sweep::sweep;
+use mbox_text::Entry;
+use std::alloc::Global;
+use std::io::Read;
+
+/// Delivers the messages of the source's text that have no home in the folder, and reports what it did. The source is
+/// read until a message is whole; then `tmp`, `new` and `cur` are listed, in this order, and what broken runs left in
+/// `tmp` is removed; then each message that is missing is written and placed as soon as it is whole, in their order. At
+/// most `reads` reads are made, each for at most 65,536 bytes, and none between a message's write and its placement.
+/// What one read gave is held at a time, beside the listed names and the digests.
+///
+/// Errors: `NoFromLine` where the text is not empty and doesn't begin with `From `, and then no folder call was made;
+/// `ReadFault`; `TooManyReads` where `reads` reads didn't meet the end; `FolderAbsent`; `FolderFailed` with the number of
+/// the call; `OutOfMemory`. The first fault ends the run, and a later run goes on from there.
+pub fn convert<F: Folder, R: Read>(
+    alloc: Global,
+    folder: &mut F,
+    source: &mut R,
+    reads: u64,
+) -> Result<Report, RunFault>
+    requires { reads ≤ 2 ^ 40 }
+    ensures honest { F.honest folder.old → F.honest folder.new }
+    ensures run { F.honest folder.old → (t : List ℕ) → length t < 2 ^ 63 → Possible (R.remaining source.old) (R.remaining source.new) t → Run t (F.files folder.old) result (F.files folder.new) }
+    ensures end { OnOk result (IsAtEnd (R.remaining source.new)) }
+
+    // what it counts
+    ensures calls { IfOk result (λ report. CountsRun report (F.calls folder.old) (F.calls folder.new)) }
+    ensures cause { CountsFault result (F.failures folder.old) (F.failures folder.new) }
+    ensures numbered { Numbers result (F.calls folder.old) (F.calls folder.new) }
+
+    // its refusals
+    ensures untouched { IsErrOf result RunFault.NoFromLine → F.calls folder.new ≡ F.calls folder.old }
+    ensures no_from_line { IsErrOf result RunFault.NoFromLine → (t : List ℕ) (entries : List Message) → Possible (R.remaining source.old) (R.remaining source.new) t → ¬ Mbox t entries }
+    ensures causes { IfErr result (λ fault. IsReading fault ⊎ IsOfFolder fault) }
+
+    ensures budget { ReadsAtMost (R.remaining source.old) (R.remaining source.new) (65536 * reads) }
+{
+    let mut messages = Messages::new(alloc, reads)?;
+    let mut whole = Vec::new(alloc);
+    let mut ended = read_first(&mut messages, source, &mut whole)?;
+    let mut calls = Calls::new();
+    let found = look(folder, &mut calls)?;
+    let swept = sweep(folder, &mut calls, &found.tmp)?;
+    let there = Bases::listed(alloc, &found.new, &found.cur)?;
+    let mut engine = Engine::new(alloc, there, calls);
+    'pieces: loop {
+        engine.deliver_all(folder, &whole)?;
+        if ended {
+            return Ok(engine.report(swept));
+        }
+        whole.clear();
+        ended = messages.read(source, &mut whole)?;
+    }
+}
+
+/// Reads until a message is whole or the source is at its end, and tells whether it is. By then the first bytes have
+/// told whether the text is an mbox text.
+fn read_first<R: Read>(
+    messages: &mut Messages,
+    source: &mut R,
+    whole: &mut Vec<Entry>,
+) -> Result<bool, RunFault>
+    requires fresh { Taken [] [] messages.old }
+    requires empty { whole.old.items ≡ [] }
+    ensures begins { IfOk result (λ ended. Begins ended (R.remaining source.old) (R.remaining source.new) messages.new.splitter messages.new.reads messages.old.reads whole.new.items) }
+    ensures refused { IfErr result (Refused (R.remaining source.old) (R.remaining source.new) messages.old.reads) }
+    ensures causes { IfErr result IsReading }
+{
+    'pieces: loop {
+        let ended = messages.read(source, whole)?;
+        if ended || !whole.is_empty() {
+            return Ok(ended);
+        }
+    }
+}
+
+#[cfg(test)]
+mod tests;

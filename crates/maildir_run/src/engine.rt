@@ -1,0 +1,118 @@
+// A run over a folder, from its listings on: message after message.
+ghost use Rattle.std.specs.Prelude.{◌≡◌, ◌<◌, ◌≤◌, ◌+◌, ◌-◌, ◌*◌, ◌^◌, [], ◌∷◌, ◌++◌, List, ℕ, All, OnOk, length, IfErr};
+ghost use Rattle.maildir_name.specs.Named.{Named};
+ghost use Rattle.maildir_run.specs.Counting.{CountsFault, IsNumbered, IsOfFolder, MakesUpTo};
+ghost use Rattle.maildir_run.specs.Delivery.{IsSoundAt};
+ghost use Rattle.maildir_run.specs.Files.{Files};
+ghost use Rattle.maildir_run.specs.Progress.{Reached, Came, Places};
+ghost use Rattle.maildir_run.specs.Texts.{messages_of, bodies_of};
+
+use crate::bases::Bases;
+use crate::calls::Calls;
+use crate::delivery::bring;
+use crate::fault::RunFault;
+use crate::folder::Folder;
+use crate::report::Report;
+use maildir_name::Namer;
+use mbox_text::Entry;
+use std::alloc::Global;
+
+/// A run that has listed what is there and swept `tmp`.
+#[derive(Drop)]
+pub(crate) struct Engine<'a> {
+    pub(crate) there: Bases<'a>,
+    pub(crate) namer: Namer,
+    pub(crate) calls: Calls,
+    pub(crate) messages: u64,
+    pub(crate) placed: u64,
+    ghost within: { placed ≤ messages },
+}
+
+impl<'a> Engine<'a> {
+    /// A run that has brought nothing, after these calls.
+    pub(crate) fn new(alloc: Global, there: Bases<'a>, calls: Calls) -> Engine<'a>
+        ensures there { result.there ≡ there.entry }
+        ensures namer { Named [] result.namer }
+        ensures calls { result.calls ≡ calls }
+        ensures messages { result.messages ≡ 0 }
+        ensures placed { result.placed ≡ 0 }
+    {
+        Engine {
+            there,
+            namer: Namer::new(alloc),
+            calls,
+            messages: 0,
+            placed: 0,
+        }
+    }
+
+    /// What the run did, which swept so many files before.
+    pub(crate) fn report(&self, swept: u64) -> Report
+        ensures messages { result.messages ≡ self.now.messages }
+        ensures there { result.there ≡ self.now.messages - self.now.placed }
+        ensures placed { result.placed ≡ self.now.placed }
+        ensures swept { result.swept ≡ swept }
+    {
+        Report {
+            messages: self.messages,
+            there: self.messages - self.placed,
+            placed: self.placed,
+            swept,
+        }
+    }
+
+    /// Brings the next message, if it was not there. The set of bases is asked once.
+    fn deliver<F: Folder>(&mut self, folder: &mut F, body: &[u8]) -> Result<(), RunFault>
+        requires { self.old.messages < 2 ^ 63 }
+        ensures honest { F.honest folder.old → F.honest folder.new }
+        ensures done { F.honest folder.old → (bodies : List (List ℕ)) (start : Files) → Reached bodies start self.old.there self.old.namer self.old.messages self.old.placed (F.files folder.old) →
+            length bodies < 2 ^ 63 → All (IsSoundAt start) (messages_of (bodies ++ body.now ∷ [])) →
+            OnOk result (Reached (bodies ++ body.now ∷ []) start self.new.there self.new.namer self.new.messages self.new.placed (F.files folder.new)) }
+        ensures came { F.honest folder.old → (bodies : List (List ℕ)) (start : Files) → Reached bodies start self.old.there self.old.namer self.old.messages self.old.placed (F.files folder.old) →
+            length bodies < 2 ^ 63 → All (IsSoundAt start) (messages_of (bodies ++ body.now ∷ [])) →
+            Came (bodies ++ body.now ∷ []) start (F.files folder.new) }
+
+        ensures one { OnOk result (self.new.messages ≡ self.old.messages + 1) }
+        ensures made { OnOk result (Places self.old.placed self.new.placed self.old.calls.made self.new.calls.made (F.calls folder.old) (F.calls folder.new)) }
+        ensures most { MakesUpTo 2 self.old.calls.made self.new.calls.made (F.calls folder.old) (F.calls folder.new) }
+        ensures cause { CountsFault result (F.failures folder.old) (F.failures folder.new) }
+        ensures numbered { IsNumbered result self.new.calls.made }
+        ensures causes { IfErr result IsOfFolder }
+    {
+        let target = self.namer.target(body)?;
+        self.messages += 1;
+        if !self.there.contains(target.base.as_str()) {
+            bring(folder, &mut self.calls, &target, body)?;
+            self.placed += 1;
+        }
+        Ok(())
+    }
+
+    /// Brings the messages of some entries, in their order.
+    pub(crate) fn deliver_all<F: Folder>(
+        &mut self,
+        folder: &mut F,
+        entries: &[Entry],
+    ) -> Result<(), RunFault>
+        requires { self.old.messages + length entries.now < 2 ^ 63 }
+        ensures honest { F.honest folder.old → F.honest folder.new }
+        ensures done { F.honest folder.old → (bodies : List (List ℕ)) (start : Files) → Reached bodies start self.old.there self.old.namer self.old.messages self.old.placed (F.files folder.old) →
+            length bodies + length entries.now ≤ 2 ^ 63 → All (IsSoundAt start) (messages_of (bodies ++ bodies_of entries.now)) →
+            OnOk result (Reached (bodies ++ bodies_of entries.now) start self.new.there self.new.namer self.new.messages self.new.placed (F.files folder.new)) }
+        ensures came { F.honest folder.old → (bodies : List (List ℕ)) (start : Files) → Reached bodies start self.old.there self.old.namer self.old.messages self.old.placed (F.files folder.old) →
+            length bodies + length entries.now ≤ 2 ^ 63 → All (IsSoundAt start) (messages_of (bodies ++ bodies_of entries.now)) →
+            Came (bodies ++ bodies_of entries.now) start (F.files folder.new) }
+
+        ensures all { OnOk result (self.new.messages ≡ self.old.messages + length entries.now) }
+        ensures made { OnOk result (Places self.old.placed self.new.placed self.old.calls.made self.new.calls.made (F.calls folder.old) (F.calls folder.new)) }
+        ensures most { MakesUpTo (2 * length entries.now) self.old.calls.made self.new.calls.made (F.calls folder.old) (F.calls folder.new) }
+        ensures cause { CountsFault result (F.failures folder.old) (F.failures folder.new) }
+        ensures numbered { IsNumbered result self.new.calls.made }
+        ensures causes { IfErr result IsOfFolder }
+    {
+        for entry in entries {
+            self.deliver(folder, entry.body.as_slice())?;
+        }
+        Ok(())
+    }
+}
