@@ -23,3 +23,4 @@ pub mod Poured
 pub mod Each
 pub mod MessageLemmas
 pub mod AloneLemmas
+pub mod QuietRuns

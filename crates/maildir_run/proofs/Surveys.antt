@@ -109,7 +109,7 @@ filter_sum p (x ∷ xs) =
     filter_cons p x xs ∙ ap (λ n. cond (p x) 1 0 + n) more ∙ sum_one p x xs
 
 
-filter-length : (p : List ℕ → Bool) (xs ys : List (List ℕ)) → IsPermutation xs ys → length (filter p xs) ≡ length (filter p ys)
+pub filter-length : (p : List ℕ → Bool) (xs ys : List (List ℕ)) → IsPermutation xs ys → length (filter p xs) ≡ length (filter p ys)
 filter-length p xs ys h = filter_sum p xs ∙ sym (sum_by-IsPermutation (λ x. cond (p x) 1 0) xs ys h) ∙ sym (filter_sum p ys)
 
 pub few_listed : (old : Files) (names : List (List ℕ)) (new : Files) → Lists Tmp old names new → length (filter is_converter_name names) ≤ leftover_count old

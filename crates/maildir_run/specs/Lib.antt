@@ -13,3 +13,4 @@ pub mod Reading
 pub mod FileTree
 pub mod MemFolder
 pub mod Output
+pub mod Quietly
