@@ -14,6 +14,12 @@ use Rattle.maildir_run.proofs.Steps.{leaves_trans}
 use Rattle.maildir_run.proofs.Reach.{came_whole}
 use Rattle.maildir_run.proofs.Givens.{gave_more, gave_refused, broken_off, not_ended, at_end, given_first, given_read, given_few}
 use Rattle.maildir_run.proofs.Converts.{reached_none, untouched_run, came_run, reached_run, batch_bodies, batch_sound, given_sound, batch_few, run_err}
+use Rattle.std.proofs.Common.{IsPermutation}
+use Rattle.std.specs.FinMap.{keys}
+use Rattle.maildir_run.specs.Quietly.{Filled, LeavesOthers}
+use Rattle.maildir_run.proofs.Converts.{filled_none, alone_run}
+use Rattle.maildir_run.proofs.Surveys.{filter-length}
+use Rattle.maildir_run.proofs.QuietRuns.{others_same, others_then}
 use Rattle.maildir_run.proofs.converting.convert.Goals as goal
 
 pub returns-in_err-ended-clause-numbered : goal.returns-in_err-ended-clause-numbered
@@ -74,6 +80,20 @@ pieces-init g c =
           ∙ c.in_ok-found.ensures.shown h b named in
         let within : TmpWithin [] (g.F.Folder.files c.sweep.new.folder) = c.in_ok-swept.ensures.swept h1 (subst (λ l. TmpWithin (map string_bytes l) (g.F.Folder.files c.look.new.folder)) (sym c.deref.ensures.value) (c.in_ok-found.ensures.within h)) in
         reached_none start _ _ _ _ _ (leaves_trans _ _ _ (c.in_ok-found.ensures.leaves h) (c.in_ok-swept.ensures.leaves h1)) knows within c.new-engine.ensures.namer c.new-engine.ensures.messages c.new-engine.ensures.placed;
+      quiet = λ q. c.in_ok-swept.ensures.quiet (c.in_ok-found.ensures.quiet q);
+      filled = λ q.
+        let q1 = c.in_ok-found.ensures.quiet q in
+        let knows : Knows (contains_key engine.there) start = λ b named.
+          ap (λ s. contains_key s b) c.new-engine.ensures.there ∙ c.in_ok-there.ensures b
+          ∙ ap (λ l. is_listed (map string_bytes l) (map string_bytes c.deref-3.result.now) b) c.deref-2.ensures.value
+          ∙ ap (λ l. is_listed (map string_bytes c.in_ok-found.found.new.items) (map string_bytes l) b) c.deref-3.ensures.value
+          ∙ c.in_ok-found.ensures.shown (g.met.F.Folder.quiet_is_honest c.args.folder.now q) b named in
+        let same = c.in_ok-found.ensures.same q in
+        let listed : IsPermutation (map string_bytes c.deref.result.now) (keys (g.F.Folder.files c.look.new.folder).tmp) =
+          subst (λ s. IsPermutation (map string_bytes c.deref.result.now) (keys s.tmp)) (sym same)
+            (subst (λ l. IsPermutation (map string_bytes l) (keys start.tmp)) (sym c.deref.ensures.value) (c.in_ok-found.ensures.listed q)) in
+        filled_none start (g.F.Folder.files c.look.new.folder) (g.F.Folder.files c.sweep.new.folder) _ _ same (c.in_ok-swept.ensures.all q1 listed) knows c.new-engine.ensures.namer;
+      others = λ q. subst (λ s. LeavesOthers s (g.F.Folder.files c.sweep.new.folder)) (c.in_ok-found.ensures.same q) (c.in_ok-swept.ensures.others (c.in_ok-found.ensures.quiet q));
       made =
         let placed = c.new-engine.ensures.placed in
         let same : c.sweep.new.calls.made ≡ engine.calls.made = ap (λ (x : Calls). x.made) (sym c.new-engine.ensures.calls) in
@@ -230,7 +250,51 @@ pieces-preserved g c =
         subst (λ bs. Reached bs start engine.there engine.namer engine.messages engine.placed now) (batch_bodies i.given whole entries is)
           (c.in_ok-deliver_all.ensures.done (i.honest h) (bodies_of i.given) start (i.reached h (given_sound start i.given whole sound))
             (batch_few i.given whole entries c.args.reads is few c.requires) (batch_sound start i.given whole entries is sound));
+      quiet = λ q. c.in_ok-deliver_all.ensures.quiet (i.quiet q);
+      filled = λ q.
+        subst (λ bs. Filled bs start engine.there engine.namer now) (batch_bodies i.given whole entries is)
+          (c.in_ok-deliver_all.ensures.exact (i.quiet q) (bodies_of i.given) start (i.filled q) (batch_few i.given whole entries c.args.reads is few c.requires));
+      others = λ q. others_then _ _ _ (i.others q) (c.in_ok-deliver_all.ensures.others (i.quiet q));
       made = subst (λ n. Makes n 0 engine.calls.made (g.F.Folder.calls c.args.folder.now) (g.F.Folder.calls c.deliver_all.new.folder)) total
         (more_calls (3 + c.in_ok-swept.swept + 2 * c.pieces.engine.placed) (2 * places.n) _ _ _ _ _ _ i.made places.makes);
       failures = c.in_ok-deliver_all.ensures.cause ∙ i.failures
     }
+
+pub returns-in_err-found-clause-others : goal.returns-in_err-found-clause-others
+returns-in_err-found-clause-others g c = λ q. subst (LeavesOthers (g.F.Folder.files c.args.folder.now)) (sym (c.in_err-found.ensures.same q)) (others_same (g.F.Folder.files c.args.folder.now))
+
+pub returns-in_err-swept-clause-others : goal.returns-in_err-swept-clause-others
+returns-in_err-swept-clause-others g c = λ q.
+    subst (λ s. LeavesOthers s (g.F.Folder.files c.sweep.new.folder)) (c.in_ok-found.ensures.same q) (c.in_err-swept.ensures.others (c.in_ok-found.ensures.quiet q))
+
+pub returns-in_err-there-clause-others : goal.returns-in_err-there-clause-others
+returns-in_err-there-clause-others g c = λ q.
+    subst (λ s. LeavesOthers s (g.F.Folder.files c.sweep.new.folder)) (c.in_ok-found.ensures.same q) (c.in_ok-swept.ensures.others (c.in_ok-found.ensures.quiet q))
+
+pub returns-in_err-deliver_all-clause-others : goal.returns-in_err-deliver_all-clause-others
+returns-in_err-deliver_all-clause-others g c = λ q. others_then _ _ _ (c.pieces.invariant.others q) (c.in_err-deliver_all.ensures.others (c.pieces.invariant.quiet q))
+
+pub returns-in_err-ended-2-clause-others : goal.returns-in_err-ended-2-clause-others
+returns-in_err-ended-2-clause-others g c = λ q. others_then _ _ _ (c.pieces.invariant.others q) (c.in_ok-deliver_all.ensures.others (c.pieces.invariant.quiet q))
+
+pub returns-then-ended-clause-others : goal.returns-then-ended-clause-others
+returns-then-ended-clause-others g c = λ q. others_then _ _ _ (c.pieces.invariant.others q) (c.in_ok-deliver_all.ensures.others (c.pieces.invariant.quiet q))
+
+pub returns-then-ended-clause-alone : goal.returns-then-ended-clause-alone
+returns-then-ended-clause-alone g c = λ q t ms p of.
+    let i = c.pieces.invariant in
+    let whole = c.pieces.whole.items in
+    let start = g.F.Folder.files c.args.folder.now in
+    let now = g.F.Folder.files c.deliver_all.new.folder in
+    let entries = c.deref-in-pieces.result.now in
+    let engine = c.deliver_all.new.self in
+    let is : entries ≡ whole = c.deref-in-pieces.ensures.value in
+    let few = given_few c.pieces.ended _ _ _ _ _ i.text (i.given ++ whole) i.gave in
+    let filled : Filled (bodies_of (i.given ++ whole)) start engine.there engine.namer now =
+      subst (λ bs. Filled bs start engine.there engine.namer now) (batch_bodies i.given whole entries is)
+        (c.in_ok-deliver_all.ensures.exact (i.quiet q) (bodies_of i.given) start (i.filled q) (batch_few i.given whole entries c.args.reads is few c.requires)) in
+    let listed : IsPermutation (map string_bytes c.deref.result.now) (keys start.tmp) =
+      subst (λ l. IsPermutation (map string_bytes l) (keys start.tmp)) (sym c.deref.ensures.value) (c.in_ok-found.ensures.listed q) in
+    (alone_run _ _ c.args.reads i.text (i.given ++ whole) start now engine.there engine.namer
+        (at_end c.pieces.ended _ _ _ _ _ i.text (i.given ++ whole) c.if-ended.true i.gave) filled t ms p of,
+      c.report.ensures.swept ∙ c.in_ok-swept.ensures.count ∙ filter-length is_converter_name (map string_bytes c.deref.result.now) (keys start.tmp) listed)
