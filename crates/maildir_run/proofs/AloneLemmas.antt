@@ -1,5 +1,5 @@
 -- Where the messages are delivered, an undisturbed run has nothing to do.
-use Rattle.std.proofs.Common.{◌≡◌, ℕ, Bool, true, false, cond, not, List, [], ◌∷◌, All, Option, None, IsTrue, refl, sym, ap, ◌∙◌, inl, inr}
+use Rattle.std.proofs.Common.{◌≡◌, ℕ, true, cond, not, List, [], ◌∷◌, All, None, IsTrue, refl, sym, ap, ◌∙◌, inl, inr}
 use Rattle.std.specs.FinMap.{get, retain_keys, same_map}
 use Rattle.std.proofs.lemmas.Bool.{cases_Bool}
 use Rattle.std.proofs.lemmas.List.Elements.{All-head, All-tail}
@@ -12,10 +12,10 @@ use Rattle.maildir_run.proofs.Maps.{total, same, get_under}
 all_kept : (m : FileMap) → ((name : List ℕ) → IsTrue (is_converter_name name) → get m name ≡ None) → retain_keys m (λ name. not (is_converter_name name)) ≡ m
 all_kept m gone =
     same_map total same _ _ (λ q.
-      elim (cases_Bool (is_converter_name q)) as (λ _. get (retain_keys m (λ name. not (is_converter_name name))) q ≡ get m q) [
-        | inl on ↦ get_under (λ name. not (is_converter_name name)) m q ∙ ap (λ t. cond (not t) (get m q) None) on ∙ sym (gone q on)
-        | inr off ↦ get_under (λ name. not (is_converter_name name)) m q ∙ ap (λ t. cond (not t) (get m q) None) off
-      ])
+    elim (cases_Bool (is_converter_name q)) as (λ _. get (retain_keys m (λ name. not (is_converter_name name))) q ≡ get m q) [
+      | inl on ↦ get_under (λ name. not (is_converter_name name)) m q ∙ ap (λ t. cond (not t) (get m q) None) on ∙ sym (gone q on)
+      | inr off ↦ get_under (λ name. not (is_converter_name name)) m q ∙ ap (λ t. cond (not t) (get m q) None) off
+    ])
 
 nothing_swept : (s : Files) → IsSwept s → swept s ≡ s
 nothing_swept s gone = ap (λ m. record s { tmp = m }) (all_kept s.tmp gone)

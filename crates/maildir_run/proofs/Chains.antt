@@ -1,12 +1,10 @@
 -- What any list of runs and actions leaves.
-use Rattle.std.proofs.Common.{◌≡◌, ℕ, Bool, true, not, List, [], ◌∷◌, All, Option, Some, None, IsPermutation, IsTrue, Ok, get_or, length, refl, sym, ap, subst, ◌∙◌, inl, inr}
-use Rattle.std.specs.FinMap.{get, contains_key}
-use Rattle.std.specs.Option.{is_some}
+use Rattle.std.proofs.Common.{◌≡◌, ℕ, List, [], ◌∷◌, All, None, IsTrue, Ok, get_or, sym, subst, ◌∙◌, inl, inr}
+use Rattle.std.specs.FinMap.{get}
 use Rattle.std.proofs.lemmas.List.Sorted.{IsPermutation-refl, IsPermutation-trans}
 use Rattle.maildir_name.specs.Names.{is_converter_name, is_converter_base}
-use Rattle.maildir_run.specs.Files.{Files, homes, Action, acted}
-use Rattle.maildir_run.specs.Delivery.{Message, IsMissing, IsHome, IsSoundAt, AreNamed, is_base_of, Sound, IsSwept, Delivered}
-use Rattle.maildir_run.specs.declared.fault.RunFault.{RunFault}
+use Rattle.maildir_run.specs.Files.{Files, Action, acted}
+use Rattle.maildir_run.specs.Delivery.{Message, IsMissing, IsSoundAt, AreNamed, Sound, Delivered}
 use Rattle.maildir_run.specs.declared.report.Report.{Report}
 use Rattle.maildir_run.specs.Texts.{MessagesOf}
 use Rattle.maildir_run.specs.Runs.{Run, Link, Ran, Acted, Linked, Runs}

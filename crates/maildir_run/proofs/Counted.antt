@@ -1,7 +1,7 @@
 -- How many converter's names tmp has, as other programs act.
-use Rattle.std.proofs.Common.{◌≡◌, ℕ, suc, ◌≤◌, ◌+◌, ◌-◌, Bool, true, false, cond, not, List, [], ◌∷◌, map, length, Option, Some, None, IsTrue, IsPermutation, refl, sym, ap, subst, ◌∙◌, inl, inr, arith}
+use Rattle.std.proofs.Common.{◌≡◌, ℕ, suc, ◌≤◌, ◌-◌, Bool, true, false, cond, List, [], ◌∷◌, map, length, None, refl, sym, ap, ◌∙◌, inl, inr, arith}
 use Rattle.std.specs.List.{filter}
-use Rattle.std.specs.FinMap.{get, remove, insert, entries, keys, len, retain_keys, contains_key, from_sorted, same_map, get-entries, get-from_sorted, entries-from_sorted, entries_sorted, len-entries, len-remove}
+use Rattle.std.specs.FinMap.{get, remove, entries, keys, len, retain_keys, contains_key, from_sorted, same_map, get-entries, get-from_sorted, entries-from_sorted, entries_sorted, len-entries, len-remove}
 use Rattle.std.specs.FinMap.Entries.{where_key, is_sorted-where_key, find-where_key}
 use Rattle.std.proofs.lemmas.Bool.{cases_Bool}
 use Rattle.maildir_name.specs.Names.{is_converter_name}

@@ -1,12 +1,12 @@
 -- What the homes of a converter's b hold, after an action of another program.
 use Rattle.std.proofs.Common.{◌≡◌, ℕ, Bool, true, false, cond, not, List, [], ◌∷◌, ◌++◌, Option, Some, None, IsPermutation, IsTrue, refl, sym, ap, subst, ◌∙◌, inl, inr}
-use Rattle.std.specs.FinMap.{get, insert, remove, values, contains_key, entries, retain_keys, from_entries, find, get-entries, get-from_entries, get-insert, get-remove}
+use Rattle.std.specs.FinMap.{get, insert, remove, values, entries, retain_keys, find, get-entries, get-from_entries, get-remove}
 use Rattle.std.specs.Option.{is_some}
-use Rattle.std.proofs.lemmas.Bool.{cases_Bool, and_parts, not-true}
-use Rattle.std.proofs.lemmas.List.Sorted.{IsPermutation-refl, IsPermutation-sym, IsPermutation-trans, IsPermutation-cons, IsPermutation-middle, IsPermutation-append, IsPermutation-append_left, IsPermutation-append_right}
+use Rattle.std.proofs.lemmas.Bool.{cases_Bool, and_parts}
+use Rattle.std.proofs.lemmas.List.Sorted.{IsPermutation-refl, IsPermutation-sym, IsPermutation-trans, IsPermutation-middle, IsPermutation-append_left, IsPermutation-append_right}
 use Rattle.maildir_name.specs.Names.{base, is_converter_name, is_converter_base}
 use Rattle.maildir_run.specs.Files.{name_cmp, is_name, FileMap, Files, has_base, held_under, homes, Action, ToCur, Reflag, DropTmp, Outside, outsiders_of, may_take, to_cur, reflag, acted}
-use Rattle.maildir_run.proofs.Maps.{total, same, is_name-true, is_name-refl, get_under, under_same, under_insert, under_insert_other, under_remove, under_remove_other, get-insert_same, get-remove_same, values-insert, values-remove}
+use Rattle.maildir_run.proofs.Maps.{total, is_name-true, get_under, under_same, under_insert, under_insert_other, under_remove, under_remove_other, values-insert, values-remove}
 
 -- ---- one folder, under one b
 pub held_same : (b : List ℕ) (m n : FileMap) → ((q : List ℕ) → has_base b q ≡ true → get m q ≡ get n q) → held_under b m ≡ held_under b n

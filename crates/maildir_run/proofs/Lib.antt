@@ -19,8 +19,10 @@ pub mod Progress
 pub mod Unread
 pub mod Trees
 pub mod Quiet
+pub mod FromLines
 pub mod Poured
 pub mod Each
 pub mod MessageLemmas
 pub mod AloneLemmas
 pub mod QuietRuns
+pub mod Listings

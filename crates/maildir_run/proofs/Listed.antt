@@ -1,17 +1,17 @@
 -- A b that two listings do not show has no home.
-use Rattle.std.proofs.Common.{◌≡◌, ℕ, Bool, true, false, cond, ◌||◌, List, [], ◌∷◌, ◌++◌, Option, Some, None, IsPermutation, IsTrue, IsFalse, refl, sym, ap, subst, ◌∙◌, inl, inr}
+use Rattle.std.proofs.Common.{◌≡◌, ℕ, Bool, true, false, cond, ◌||◌, List, [], ◌∷◌, Option, Some, None, IsPermutation, IsTrue, IsFalse, refl, sym, ap, subst, ◌∙◌, inl, inr}
 use Rattle.std.specs.List.{list_any}
 use Rattle.std.specs.FinMap.{get, remove, insert, keys, contains_key-keys, get-remove}
 use Rattle.std.specs.Option.{is_some}
 use Rattle.std.proofs.lemmas.Bool.{or_parts, cases_Bool}
-use Rattle.std.proofs.lemmas.List.Sorted.{list_any-IsPermutation, IsPermutation-trans}
+use Rattle.std.proofs.lemmas.List.Sorted.{list_any-IsPermutation}
 use Rattle.maildir_run.specs.declared.folder.Sub.{Sub}
 use Rattle.maildir_run.specs.declared.folder.Sub.TheVariants.{New, Cur}
 use Rattle.maildir_name.specs.Names.{is_converter_base, is_converter_name}
-use Rattle.maildir_run.specs.Files.{is_name, FileMap, Files, has_base, held_under, homes, Action, ToCur, Reflag, DropTmp, Outside, outsiders_of, may_take, to_cur, reflag, acted, all_acted}
+use Rattle.maildir_run.specs.Files.{is_name, FileMap, Files, has_base, held_under, homes, Action, ToCur, Reflag, DropTmp, Outside, may_take, to_cur, reflag, acted, all_acted}
 use Rattle.maildir_run.specs.Calls.{Listing, Move, Other, Again, Torn, moved, after, Lists}
 use Rattle.maildir_run.proofs.Maps.{total, is_name-true}
-use Rattle.maildir_run.proofs.Homes.{Kept, acted_kept, held-outsiders_of}
+use Rattle.maildir_run.proofs.Homes.{held-outsiders_of}
 use Rattle.maildir_run.proofs.Moves.{after_kept, after-append, homes_none, none_held, held_none}
 
 -- ---- what a listing shows

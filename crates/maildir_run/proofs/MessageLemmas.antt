@@ -1,5 +1,5 @@
 -- The messages of a text: their bases are a converter's, and no two are the same.
-use Rattle.std.proofs.Common.{◌≡◌, ◌≢◌, ℕ, suc, ◌+◌, ◌<◌, ◌≤◌, ◌^◌, Bool, true, false, List, [], ◌∷◌, ◌++◌, map, length, get_or, All, AllPairs, IsTrue, IsFalse, refl, sym, ap, subst, ◌∙◌, inl, inr, arith}
+use Rattle.std.proofs.Common.{◌≡◌, ℕ, ◌+◌, ◌<◌, ◌≤◌, ◌^◌, List, [], ◌∷◌, ◌++◌, map, length, get_or, IsTrue, IsFalse, refl, sym, ap, subst, ◌∙◌, inl, inr, arith}
 use Rattle.std.proofs.lemmas.Bool.{cases_Bool}
 use Rattle.std.proofs.lemmas.List.{length-append, length-map, get_or-map}
 use Rattle.std.proofs.lemmas.List.Elements.{All-nil}
@@ -7,7 +7,7 @@ use Rattle.mbox_text.specs.declared.entry.Entry.{Entry}
 use Rattle.mbox_text.specs.Lines.{lines}
 use Rattle.mbox_text.specs.Mbox.{Mbox, Block}
 use Rattle.maildir_name.specs.declared.target.Target.{Target}
-use Rattle.maildir_name.specs.Names.{base, is_converter_base}
+use Rattle.maildir_name.specs.Names.{is_converter_base}
 use Rattle.maildir_name.specs.Targets.{target, targets}
 use Rattle.maildir_name.proofs.TargetLemmas.{length-targets, targets-push}
 use Rattle.maildir_name.proofs.DistinctBases.{named-targets, distinct-targets}

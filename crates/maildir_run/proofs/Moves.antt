@@ -1,18 +1,16 @@
 -- What a call's moves leave: of the homes of a b, and of a name in tmp.
-use Rattle.std.proofs.Common.{◌≡◌, ℕ, Bool, true, false, cond, List, [], ◌∷◌, ◌++◌, ◌⊎◌, Option, Some, None, IsPermutation, IsTrue, IsFalse, All, refl, sym, ap, subst, ◌∙◌, inl, inr, map, length, arith}
+use Rattle.std.proofs.Common.{◌≡◌, ℕ, Bool, true, false, cond, List, [], ◌∷◌, ◌++◌, ◌⊎◌, Option, Some, None, IsPermutation, IsTrue, refl, sym, ap, subst, ◌∙◌, inl, inr, map, arith}
 use Rattle.std.specs.FinMap.{get, insert, remove, values, contains_key, entries, retain_keys, empty, get-entries, get-insert, get-remove, get-empty, same_map, len, len-empty, len-entries}
 use Rattle.std.specs.Option.{is_some}
-use Rattle.std.proofs.lemmas.Bool.{cases_Bool}
 use Rattle.std.proofs.lemmas.List.Elements.{All-nil, All-cons, All-head}
 use Rattle.std.proofs.lemmas.List.{nil_from_length}
 use Rattle.std.proofs.lemmas.List.Sorted.{IsPermutation-refl, IsPermutation-sym, IsPermutation-trans, IsPermutation-middle, IsPermutation-append_left, IsPermutation-append_right, length_permutation, All-permutation}
-use Rattle.maildir_run.specs.declared.folder.Sub.{Sub}
 use Rattle.maildir_name.specs.declared.target.Place.{Place}
 use Rattle.maildir_name.specs.declared.target.Place.TheVariants.{New, Cur}
 use Rattle.maildir_name.specs.Names.{is_converter_name, is_converter_base}
 use Rattle.maildir_run.specs.Files.{name_cmp, is_name, FileMap, Files, has_base, held_under, homes, Action, ToCur, Reflag, DropTmp, Outside, may_take, to_cur, reflag, acted}
-use Rattle.maildir_run.specs.Calls.{Call, Listing, Writing, Placing, Removing, Move, Other, Again, Torn, placed, effect, torn, moved, after, IsOthers, IsWhole, IsReady, Succeeded, PlacesElsewhere, WritesElsewhere, StaysOrGoes}
-use Rattle.maildir_run.proofs.Maps.{total, same, is_name-true, is_name-refl, get_under, get-insert_same, get-remove_same}
+use Rattle.maildir_run.specs.Calls.{Call, Listing, Writing, Placing, Removing, Move, Other, Again, Torn, placed, effect, torn, moved, after, IsOthers, IsWhole, Succeeded, PlacesElsewhere, WritesElsewhere, StaysOrGoes}
+use Rattle.maildir_run.proofs.Maps.{total, same, get_under, get-insert_same, get-remove_same}
 use Rattle.maildir_run.proofs.Homes.{Kept, equally, acted_kept, held-insert_other, held-insert_new, get-outsiders_of}
 
 -- ---- a b at which nothing is placed

@@ -1,10 +1,10 @@
 -- An action outside reaches just the states that leave the converter's names as they are.
-use Rattle.std.proofs.Common.{◌≡◌, ℕ, Bool, true, false, cond, not, List, [], ◌∷◌, ◌++◌, Option, Some, None, IsTrue, IsFalse, refl, sym, ap, subst, ◌∙◌, inl, inr}
-use Rattle.std.specs.FinMap.{get, insert, remove, entries, retain_keys, find, get-entries, get-from_entries, get-insert, get-remove, same_map}
+use Rattle.std.proofs.Common.{◌≡◌, ℕ, true, false, cond, not, List, [], ◌∷◌, ◌++◌, Some, None, refl, sym, ◌∙◌, inl, inr}
+use Rattle.std.specs.FinMap.{get, entries, retain_keys, find, get-entries, get-from_entries, same_map}
 use Rattle.std.proofs.lemmas.Bool.{cases_Bool}
 use Rattle.maildir_name.specs.Names.{is_converter_name}
 use Rattle.maildir_run.specs.Files.{name_cmp, is_name, FileMap, Files, LeavesConverters, outsiders_of, Outside, acted}
-use Rattle.maildir_run.proofs.Maps.{total, same, is_name-true, get_under}
+use Rattle.maildir_run.proofs.Maps.{total, same, get_under}
 use Rattle.maildir_run.proofs.Homes.{get-outsiders_of}
 
 find-after : (q : List ℕ) (xs ys : List (List ℕ × List ℕ)) → find name_cmp q xs ≡ None → find name_cmp q (xs ++ ys) ≡ find name_cmp q ys

@@ -3,7 +3,7 @@ use Rattle.std.proofs.Common.{◌≡◌, ℕ, suc, ◌<◌, ◌≤◌, take, get
 use Rattle.std.proofs.lemmas.List.{take_more, length-take-le}
 use Rattle.maildir_name.specs.declared.target.Target.{Target}
 use Rattle.maildir_run.specs.declared.planner.Step.{Step}
-use Rattle.maildir_run.specs.declared.planner.Step.TheVariants.{Remove, Write, Place}
+use Rattle.maildir_run.specs.declared.planner.Step.TheVariants.{Write, Place}
 use Rattle.maildir_run.specs.Plan.{is_listed, removals, delivery, deliveries_from, planned, numbered, each_alone}
 
 pub append_nil : {X : Type 0} (xs : List X) → xs ++ [] ≡ xs

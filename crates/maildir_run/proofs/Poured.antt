@@ -3,7 +3,7 @@ use Rattle.std.proofs.Common.{◌≡◌, ℕ, zero, suc, ◌+◌, ◌*◌, ◌^�
 use Rattle.std.specs.Prelude.{IsErrAnd}
 use Rattle.std.specs.List.{flat_map}
 use Rattle.std.proofs.lemmas.List.Concat.{flat_map-append}
-use Rattle.mbox_text.specs.Spelling.{spelling}
+use Rattle.mbox_text.specs.Spelling.{spelling, FromLines}
 use Rattle.std.specs.Io.KnownBytes.{Consumes, Appends, Keeps, IsAtEnd}
 use Rattle.std.proofs.KnownBytes.{Consumes-trans, Consumes-nil, Appends-trans, Appends-nil}
 use Rattle.std.proofs.lemmas.List.{append-nil, append_cancel_right, length-append}
@@ -16,6 +16,7 @@ use Rattle.mbox_text.specs.Fronts.{AllButLast, Stay}
 use Rattle.mbox_text.specs.Writing.{AppendsFront}
 use Rattle.mbox_text.proofs.OneReading.{mbox-one}
 use Rattle.mbox_text.proofs.Appended.{front_more, front_then}
+use Rattle.maildir_run.proofs.FromLines.{mbox-from_lines, from_lines-behind, given-from_lines}
 use Rattle.maildir_run.specs.declared.fault.RunFault.{RunFault}
 use Rattle.maildir_run.specs.declared.fault.RunFault.TheVariants.{NoFromLine}
 use Rattle.maildir_run.specs.declared.messages.Messages.{Messages}
@@ -37,7 +38,7 @@ stay_fronts text now given stay = record {
   told = λ more left entries has whole h. elim (stay more entries h) [
     | inl none ↦ (entries, rw none refl)
     | inr p ↦ (p.0 ∷ p.1, p.2)
-  ]
+  ];
 }
 
 end_fronts : (text : List ℕ) (now : Option (List ℕ)) (all : List Entry) → Mbox text all → IsAtEnd now → Fronts text now all
@@ -45,7 +46,7 @@ end_fronts text now all m end = record {
   told = λ more left entries has whole h.
       let none : left ≡ [] = rw has at end in
       let same : text ++ more ≡ text = rw (whole none) (append-nil text) in
-      ([], mbox-one text entries all (rw same at h) m ∙ sym (append-nil all))
+      ([], mbox-one text entries all (rw same at h) m ∙ sym (append-nil all));
 }
 
 consumed : (before now : Option (List ℕ)) (had left text : List ℕ) → before ≡ Some had → now ≡ Some left → Consumes before now text → had ≡ text ++ left
@@ -78,9 +79,8 @@ nothing (Some x) None h = h
 nothing (Some x) (Some y) h = h ∙ append-nil x
 
 -- all that was given is written, and nothing is whole that was not
-pub record Poured (output : List Entry → List ℕ) (before now was is : Option (List ℕ)) (splitter : Splitter) (left : ℕ) (whole : List Entry) (reads count : ℕ) : Type 0 where
+pub record Poured (output : List Entry → List ℕ) (given : List Entry) (before now was is : Option (List ℕ)) (splitter : Splitter) (left : ℕ) (whole : List Entry) (reads count : ℕ) : Type 0 where
   pub text : List ℕ
-  pub given : List Entry
   pub read : Consumes before now text
   pub budget : length text + 65536 * left ≤ 65536 * reads
   pub fed : Fed text given splitter
@@ -112,73 +112,78 @@ pub record Broken (output : List Entry → List ℕ) (before now was is : Option
   pub nothing : fault ≡ NoFromLine → GivesNothing before now was is
   pub budget : ReadsAtMost before now (65536 * reads)
 
-pub read_broken : (output : List Entry → List ℕ) (before mid now was is : Option (List ℕ)) (messages : Messages) (whole : List Entry) (reads count : ℕ) (fault : RunFault) → IsOutput output
-    → Poured output before mid was is messages.splitter messages.reads whole reads count → Breaks messages mid now fault → Broken output before now was is reads fault
-read_broken output before mid now was is messages whole reads count fault o p b =
+pub read_broken : (output : List Entry → List ℕ) (given : List Entry) (before mid now was is : Option (List ℕ)) (messages : Messages) (whole : List Entry) (reads count : ℕ) (fault : RunFault) → IsOutput output
+    → Poured output given before mid was is messages.splitter messages.reads whole reads count → Breaks messages mid now fault → Broken output before now was is reads fault
+read_broken output given before mid now was is messages whole reads count fault o p b =
     let read = Consumes-trans before mid now p.text b.0 p.read b.1 in
-    let stay : Stay (p.text ++ b.0) p.given = λ more entries h. p.fed.stay (b.0 ++ more) entries (rw (append_assoc p.text b.0 more) at h) in
+    let stay : Stay (p.text ++ b.0) given = λ more entries h. p.fed.stay (b.0 ++ more) entries (rw (append_assoc p.text b.0 more) at h) in
     record {
-      front = gives_front output before now was is (p.text ++ b.0) p.given o read (stay_fronts (p.text ++ b.0) now p.given stay) (output p.given, [], sym (append-nil (output p.given)), p.written);
+      front = gives_front output before now was is (p.text ++ b.0) given o read (stay_fronts (p.text ++ b.0) now given stay) (output given, [], sym (append-nil (output given)), p.written);
       nothing = λ e.
-          let n = b.3 e p.text p.given p.fed in
-          let out : output p.given ≡ [] = ap output n.0 ∙ o.none in
+          let n = b.3 e p.text given p.fed in
+          let out : output given ≡ [] = ap output n.0 ∙ o.none in
           (nothing was is (rw out at p.written), λ t entries q m. never_gives before now (p.text ++ b.0) t entries read n.1 q m);
       budget = (p.text ++ b.0, read, omega (arith, length-append p.text b.0, p.budget, b.2));
     }
 
 -- a read, and what became whole by it
-pub record Batch (output : List Entry → List ℕ) (before now was is : Option (List ℕ)) (whole : List Entry) (reads count : ℕ) : Type 0 where
+pub record Batch (output : List Entry → List ℕ) (given : List Entry) (before now was is : Option (List ℕ)) (whole : List Entry) (reads count : ℕ) : Type 0 where
   pub text : List ℕ
-  pub given : List Entry
   pub read : Consumes before now text
   pub budget : length text ≤ 65536 * reads
   pub fronts : Fronts text now (given ++ whole)
   pub written : Appends was is (output given)
   pub counted : count ≡ length given
   pub size : length (given ++ whole) ≤ length text
+  pub from_lines : FromLines whole
 
-pub batch : (output : List Entry → List ℕ) (before mid now was is : Option (List ℕ)) (messages : Messages) (splitter : Splitter) (left : ℕ) (old whole : List Entry) (reads count : ℕ) (ended : Bool)
-    → Poured output before mid was is messages.splitter messages.reads old reads count → Went messages mid now old whole splitter left (Ok ended) → Batch output before now was is whole reads count
-batch output before mid now was is messages splitter left old whole reads count true p w =
+pub batch : (output : List Entry → List ℕ) (given : List Entry) (before mid now was is : Option (List ℕ)) (messages : Messages) (splitter : Splitter) (left : ℕ) (old whole : List Entry) (reads count : ℕ) (ended : Bool)
+    → Poured output given before mid was is messages.splitter messages.reads old reads count → Went messages mid now old whole splitter left (Ok ended) → Batch output given before now was is whole reads count
+batch output given before mid now was is messages splitter left old whole reads count true p w =
     let read : Consumes before now p.text = rw (append-nil p.text) at (Consumes-trans before mid now p.text [] p.read w.1) in
     let added : whole ≡ w.0 = rw p.empty at w.3 in
-    let m : Mbox p.text (p.given ++ whole) = rw added (w.4 p.text p.given p.fed) in
+    let m : Mbox p.text (given ++ whole) = rw added (w.4 p.text given p.fed) in
     record {
       text = p.text;
-      given = p.given;
       read = read;
       budget = omega (arith, p.budget);
-      fronts = end_fronts p.text now (p.given ++ whole) m w.2;
+      fronts = end_fronts p.text now (given ++ whole) m w.2;
       written = p.written;
       counted = p.counted;
-      size = mbox-length p.text (p.given ++ whole) m;
+      size = mbox-length p.text (given ++ whole) m;
+      from_lines = from_lines-behind given whole (mbox-from_lines p.text (given ++ whole) m);
     }
-batch output before mid now was is messages splitter left old whole reads count false p w =
+batch output given before mid now was is messages splitter left old whole reads count false p w =
     let added : whole ≡ w.1 = rw p.empty at w.5 in
-    let f : Fed (p.text ++ w.0) (p.given ++ whole) splitter = rw added (w.6 p.text p.given p.fed) in
+    let f : Fed (p.text ++ w.0) (given ++ whole) splitter = rw added (w.6 p.text given p.fed) in
     record {
       text = p.text ++ w.0;
-      given = p.given;
       read = Consumes-trans before mid now p.text w.0 p.read w.2;
       budget = omega (arith, length-append p.text w.0, p.budget, w.3, w.4);
-      fronts = stay_fronts (p.text ++ w.0) now (p.given ++ whole) f.stay;
+      fronts = stay_fronts (p.text ++ w.0) now (given ++ whole) f.stay;
       written = p.written;
       counted = p.counted;
-      size = given-length (p.text ++ w.0) (p.given ++ whole) f.given_are;
+      size = given-length (p.text ++ w.0) (given ++ whole) f.given_are;
+      from_lines = given-from_lines (p.text ++ w.0) given whole f.given_are;
     }
 
 -- the count is far from its type's end
-pub count_fits : (output : List Entry → List ℕ) (before now was is : Option (List ℕ)) (whole : List Entry) (reads count : ℕ) → Batch output before now was is whole reads count → reads ≤ 2 ^ 40
+pub count_fits : (output : List Entry → List ℕ) (given : List Entry) (before now was is : Option (List ℕ)) (whole : List Entry) (reads count : ℕ) → Batch output given before now was is whole reads count → reads ≤ 2 ^ 40
     → count + length whole < 2 ^ 64
-count_fits output before now was is whole reads count b most = omega (arith, length-append b.given whole, b.size, b.budget, b.counted)
+count_fits output given before now was is whole reads count b most = omega (arith, length-append given whole, b.size, b.budget, b.counted)
+
+-- there are numbers for all messages
+pub names_fit : (output : List Entry → List ℕ) (given : List Entry) (before now was is : Option (List ℕ)) (whole : List Entry) (reads count : ℕ) → Batch output given before now was is whole reads count → reads ≤ 2 ^ 40
+    → length (given ++ whole) < 2 ^ 63
+names_fit output given before now was is whole reads count b most = omega (arith, b.size, b.budget)
 
 -- the writer failed in the batch
-pub batch_broken : (output : List Entry → List ℕ) (before now was is is' : Option (List ℕ)) (whole : List Entry) (reads count : ℕ) (bytes : List ℕ) → IsOutput output
-    → (b : Batch output before now was is whole reads count) → output (b.given ++ whole) ≡ output b.given ++ bytes → AppendsFront is is' bytes
+pub batch_broken : (output : List Entry → List ℕ) (given : List Entry) (before now was is is' : Option (List ℕ)) (whole : List Entry) (reads count : ℕ) (bytes : List ℕ) → IsOutput output
+    → (b : Batch output given before now was is whole reads count) → output (given ++ whole) ≡ output given ++ bytes → AppendsFront is is' bytes
     → GivesFront output before now was is' × ReadsAtMost before now (65536 * reads)
-batch_broken output before now was is is' whole reads count bytes o b e h = (
-  gives_front output before now was is' b.text (b.given ++ whole) o b.read b.fronts
-      (front_then was is is' (output b.given) bytes [] (output (b.given ++ whole)) b.written h (e ∙ ap (λ z. output b.given ++ z) (sym (append-nil bytes)))),
+batch_broken output given before now was is is' whole reads count bytes o b e h = (
+  gives_front output before now was is' b.text (given ++ whole) o b.read b.fronts
+      (front_then was is is' (output given) bytes [] (output (given ++ whole)) b.written h (e ∙ ap (λ z. output given ++ z) (sym (append-nil bytes)))),
   (b.text, b.read, b.budget),
 )
 
@@ -192,42 +197,40 @@ all_given output (Some x) (Some y) was is text all count read end m c h =
     (all, rw e m, c, h)
 
 -- the batch is written, and the source is at its end
-pub poured_all : (output : List Entry → List ℕ) (before mid now was is is' : Option (List ℕ)) (messages : Messages) (splitter : Splitter) (left : ℕ) (old whole : List Entry) (reads count : ℕ) (bytes : List ℕ)
-    → (p : Poured output before mid was is messages.splitter messages.reads old reads count) → Went messages mid now old whole splitter left (Ok true)
-    → output (p.given ++ whole) ≡ output p.given ++ bytes → Appends is is' bytes
+pub poured_all : (output : List Entry → List ℕ) (given : List Entry) (before mid now was is is' : Option (List ℕ)) (messages : Messages) (splitter : Splitter) (left : ℕ) (old whole : List Entry) (reads count : ℕ) (bytes : List ℕ)
+    → (p : Poured output given before mid was is messages.splitter messages.reads old reads count) → Went messages mid now old whole splitter left (Ok true)
+    → output (given ++ whole) ≡ output given ++ bytes → Appends is is' bytes
     → GivesAll output before was is' (count + length whole) × IsAtEnd now × ReadsAtMost before now (65536 * reads)
-poured_all output before mid now was is is' messages splitter left old whole reads count bytes p w e h =
+poured_all output given before mid now was is is' messages splitter left old whole reads count bytes p w e h =
     let read : Consumes before now p.text = rw (append-nil p.text) at (Consumes-trans before mid now p.text [] p.read w.1) in
     let added : whole ≡ w.0 = rw p.empty at w.3 in
-    let m : Mbox p.text (p.given ++ whole) = rw added (w.4 p.text p.given p.fed) in
-    let written : Appends was is' (output (p.given ++ whole)) = rw e (Appends-trans was is is' (output p.given) bytes p.written h) in
-    let total : count + length whole ≡ length (p.given ++ whole) = omega (arith, length-append p.given whole, p.counted) in
-    (all_given output before now was is' p.text (p.given ++ whole) (count + length whole) read w.2 m total written, w.2, (p.text, read, omega (arith, p.budget)))
+    let m : Mbox p.text (given ++ whole) = rw added (w.4 p.text given p.fed) in
+    let written : Appends was is' (output (given ++ whole)) = rw e (Appends-trans was is is' (output given) bytes p.written h) in
+    let total : count + length whole ≡ length (given ++ whole) = omega (arith, length-append given whole, p.counted) in
+    (all_given output before now was is' p.text (given ++ whole) (count + length whole) read w.2 m total written, w.2, (p.text, read, omega (arith, p.budget)))
 
 -- the batch is written, and more is to come
-pub poured_more : (output : List Entry → List ℕ) (before mid now was is is' : Option (List ℕ)) (messages : Messages) (splitter : Splitter) (left : ℕ) (old whole after : List Entry) (reads count : ℕ) (bytes : List ℕ)
-    → (p : Poured output before mid was is messages.splitter messages.reads old reads count) → Went messages mid now old whole splitter left (Ok false)
-    → output (p.given ++ whole) ≡ output p.given ++ bytes → Appends is is' bytes → after ≡ []
-    → Poured output before now was is' splitter left after reads (count + length whole)
-poured_more output before mid now was is is' messages splitter left old whole after reads count bytes p w e h none =
+pub poured_more : (output : List Entry → List ℕ) (given : List Entry) (before mid now was is is' : Option (List ℕ)) (messages : Messages) (splitter : Splitter) (left : ℕ) (old whole after : List Entry) (reads count : ℕ) (bytes : List ℕ)
+    → (p : Poured output given before mid was is messages.splitter messages.reads old reads count) → Went messages mid now old whole splitter left (Ok false)
+    → output (given ++ whole) ≡ output given ++ bytes → Appends is is' bytes → after ≡ []
+    → Poured output (given ++ whole) before now was is' splitter left after reads (count + length whole)
+poured_more output given before mid now was is is' messages splitter left old whole after reads count bytes p w e h none =
     let added : whole ≡ w.1 = rw p.empty at w.5 in
     record {
       text = p.text ++ w.0;
-      given = p.given ++ whole;
       read = Consumes-trans before mid now p.text w.0 p.read w.2;
       budget = omega (arith, length-append p.text w.0, p.budget, w.3, w.4);
-      fed = rw added (w.6 p.text p.given p.fed);
-      written = rw e (Appends-trans was is is' (output p.given) bytes p.written h);
-      counted = omega (arith, length-append p.given whole, p.counted);
+      fed = rw added (w.6 p.text given p.fed);
+      written = rw e (Appends-trans was is is' (output given) bytes p.written h);
+      counted = omega (arith, length-append given whole, p.counted);
       empty = none;
     }
 
 -- nothing was read
 pub poured_none : (output : List Entry → List ℕ) (before was : Option (List ℕ)) (splitter : Splitter) (reads left : ℕ) (whole : List Entry) → IsOutput output → Fed [] [] splitter → left ≡ reads → whole ≡ []
-    → Poured output before before was was splitter left whole reads 0
+    → Poured output [] before before was was splitter left whole reads 0
 poured_none output before was splitter reads left whole o f l none = record {
   text = [];
-  given = [];
   read = Consumes-nil before;
   budget = omega (arith, l);
   fed = f;

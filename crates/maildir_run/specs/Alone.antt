@@ -1,5 +1,5 @@
 -- What a run leaves that nobody disturbs.
-use Rattle.std.specs.Prelude.{ℕ, List, [], ◌∷◌, Bool, not, if◌then◌else◌}
+use Rattle.std.specs.Prelude.{ℕ, List, [], ◌∷◌, not, if◌then◌else◌}
 use Rattle.std.specs.FinMap.{insert, retain_keys}
 use Rattle.maildir_name.specs.declared.target.Place.{Place}
 use Rattle.maildir_name.specs.declared.target.Place.TheVariants.{New, Cur}

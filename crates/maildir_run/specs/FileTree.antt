@@ -1,5 +1,5 @@
 -- The files of one folder in memory, as a finite map.
-use Rattle.std.specs.Prelude.{ℕ, List, map, String, Vec, string_bytes}
+use Rattle.std.specs.Prelude.{ℕ, map, String, Vec, string_bytes}
 use Rattle.std.specs.Coded.{Coded, coded_list, coded_ℕ}
 use Rattle.std.specs.declared.alloc.Global.{Global}
 use Rattle.std.specs.BTreeMap.{BTreeMap}

@@ -14,3 +14,5 @@ pub mod FileTree
 pub mod MemFolder
 pub mod Output
 pub mod Quietly
+pub mod Listing
+pub mod Listed

@@ -69,6 +69,10 @@ pub trait Folder {
     ghost failures: { Self → ℕ };
 
     /// The names in one folder, each once, in any order, as of one moment of the call.
+    ///
+    /// # Errors
+    ///
+    /// [`FolderFault::Failed`], and [`FolderFault::OutOfMemory`] where a growth was refused in this call.
     fn list(&mut self, sub: Sub) -> Result<Vec<String>, FolderFault>
         ensures honest { honest self.old → honest self.new }
         ensures called { honest self.old → Listed sub (files self.old) result (files self.new) }
@@ -84,6 +88,10 @@ pub trait Folder {
         ensures not_absent { IsNotAbsent result };
 
     /// Makes the file `name` of `tmp` hold these bytes, in place of what it held.
+    ///
+    /// # Errors
+    ///
+    /// Those of [`Folder::list`].
     fn write(&mut self, name: &str, bytes: &[u8]) -> Result<(), FolderFault>
         ensures honest { honest self.old → honest self.new }
         ensures called { honest self.old →
@@ -98,6 +106,10 @@ pub trait Folder {
         ensures not_absent { IsNotAbsent result };
 
     /// Moves the file `name` of `tmp` to `target` of `new` or `cur`, by one rename.
+    ///
+    /// # Errors
+    ///
+    /// [`FolderFault::Absent`] where no file was found, and those of [`Folder::list`].
     fn place(&mut self, name: &str, place: Place, target: &str) -> Result<(), FolderFault>
         ensures honest { honest self.old → honest self.new }
         ensures called { honest self.old →
@@ -111,6 +123,10 @@ pub trait Folder {
         ensures cause { CountsFailure result (failures self.old) (failures self.new) };
 
     /// Removes the file `name` of `tmp`. Ok also where there was none.
+    ///
+    /// # Errors
+    ///
+    /// Those of [`Folder::list`].
     fn remove(&mut self, name: &str) -> Result<(), FolderFault>
         ensures honest { honest self.old → honest self.new }
         ensures called { honest self.old →

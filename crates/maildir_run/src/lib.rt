@@ -1,4 +1,9 @@
-//! A Maildir as a folder of the engine: its files, its calls, and what a run over it owes.
+//! A Maildir as a run of the converter knows it, and what a run over it owes.
+//!
+//! [`Folder`] is a Maildir by its four calls. What a call may do to the files, and what other programs may do
+//! meanwhile, is said in `specs/Files.antt` and `specs/Calls.antt`; [`laws`] has what follows from that alone.
+//! [`plan`] answers the steps of a run for given lists and targets, and [`MemFolder`] is a folder in memory.
+//! [`convert`] is a run, [`rewrite`] and [`list_text`] show what a text is. `docs/ENGINE.md` tells the model in plain words.
 #![tactic(auto)]
 
 mod bases;
@@ -10,6 +15,8 @@ mod fault;
 mod file_tree;
 mod folder;
 pub mod laws;
+mod line;
+mod listing;
 mod mem_folder;
 mod messages;
 mod planner;
@@ -17,10 +24,13 @@ mod report;
 mod rewriting;
 mod survey;
 mod sweep;
+#[cfg(test)]
+mod testing;
 
 pub use converting::convert;
 pub use fault::RunFault;
 pub use folder::{Folder, FolderFault, Sub};
+pub use listing::list_text;
 pub use mem_folder::MemFolder;
 pub use planner::{Step, plan};
 pub use report::Report;

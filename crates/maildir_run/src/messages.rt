@@ -43,7 +43,11 @@ impl Messages {
     ///
     /// Errors: `TooManyReads` where no read is left, and then none is made; `ReadFault`; `NoFromLine` as soon as what was
     /// read can't begin an mbox text; `OutOfMemory`.
-    pub(crate) fn read<R: Read>(&mut self, source: &mut R, out: &mut Vec<Entry>) -> Result<bool, RunFault>
+    pub(crate) fn read<R: Read>(
+        &mut self,
+        source: &mut R,
+        out: &mut Vec<Entry>,
+    ) -> Result<bool, RunFault>
         ensures went { Went self.old (R.remaining source.old) (R.remaining source.new) out.old.items out.new.items self.new.splitter self.new.reads result }
         ensures causes { IfErr result IsReading }
     {

@@ -19,7 +19,12 @@ use std::io::{Read, Write};
 /// Errors: `NoFromLine` where the text is not empty and doesn't begin with `From `, told as soon as the bytes decide, and
 /// then nothing was written; `ReadFault`; `TooManyReads` where `reads` reads didn't meet the end; `OutputFault`;
 /// `OutOfMemory`. What was written then is a front of what belongs to the text.
-pub fn rewrite<R: Read, W: Write>(alloc: Global, source: &mut R, out: &mut W, reads: u64) -> Result<u64, RunFault>
+pub fn rewrite<R: Read, W: Write>(
+    alloc: Global,
+    source: &mut R,
+    out: &mut W,
+    reads: u64,
+) -> Result<u64, RunFault>
     requires { reads ≤ 2 ^ 40 }
     ensures all { IfOk result (GivesAll (flat_map spelling) (R.remaining source.old) (W.contents out.old) (W.contents out.new)) }
     ensures end { OnOk result (IsAtEnd (R.remaining source.new)) }
@@ -57,3 +62,6 @@ fn write_entries<W: Write>(entries: &[Entry], out: &mut W) -> Result<(), RunFaul
     }
     Ok(())
 }
+
+#[cfg(test)]
+mod tests;

@@ -1,9 +1,9 @@
 -- A text that is read block by block.
-use Rattle.std.proofs.Common.{◌≡◌, ℕ, zero, suc, ◌+◌, ◌-◌, ◌≤◌, ◌<◌, Option, Some, None, true, false, eqb, List, [], ◌∷◌, ◌++◌, length, take, drop, refl, sym, ◌∙◌, ap, arith, append_assoc, inl, inr}
+use Rattle.std.proofs.Common.{◌≡◌, ℕ, zero, suc, ◌+◌, ◌≤◌, ◌<◌, Some, None, true, false, eqb, List, [], ◌∷◌, ◌++◌, length, take, drop, refl, sym, ◌∙◌, ap, arith, append_assoc, inl, inr}
 use Rattle.std.specs.Prelude.{◌⊎◌}
 use Rattle.std.specs.List.{flat_map, concat}
 use Rattle.std.proofs.lemmas.Bool.{both_ways, false≢true}
-use Rattle.std.proofs.lemmas.List.{append-nil, take-append-drop, take_all, drop_all, drop-drop, length-drop, length-append}
+use Rattle.std.proofs.lemmas.List.{append-nil, take-append-drop, take_all, drop_all, drop-drop, length-drop}
 use Rattle.std.proofs.lemmas.List.Concat.{flat_map-append}
 use Rattle.memchr.specs.Find.{IsFirstByte, is_byte}
 use Rattle.mbox_text.specs.declared.entry.Entry.{Entry}
@@ -11,8 +11,8 @@ use Rattle.mbox_text.specs.Lines.{lines, Ended, NoEnd}
 use Rattle.mbox_text.specs.Quoting.{begins_with, begins_from, from_bytes, unquoted}
 use Rattle.mbox_text.specs.Mbox.{Mbox, NoFrom, Block, IsMboxText, without_blank}
 use Rattle.mbox_text.specs.Held.{Closed, chopped}
-use Rattle.mbox_text.specs.Split.{StopsAt, IsFirstBody, IsFirstBlock}
-use Rattle.mbox_text.proofs.LineLemmas.{concat-lines, lines-append, lines-line, lines-part, begins_from-more, lines-first}
+use Rattle.mbox_text.specs.Split.{IsFirstBody, IsFirstBlock}
+use Rattle.mbox_text.proofs.LineLemmas.{concat-lines, lines-append, lines-line, lines-part, begins_from-more}
 use Rattle.mbox_text.proofs.Chopped.{chopped-body, chopped-part, without_blank-part, unquoted-some}
 use Rattle.mbox_text.proofs.HeldLemmas.{Closed-push, NoFrom-append, Ended-append, unended-push}
 use Rattle.mbox_text.proofs.Runs.{take-plus, line-there}

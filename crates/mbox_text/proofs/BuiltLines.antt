@@ -1,9 +1,8 @@
 -- From_ lines that are taken apart and built.
-use Rattle.std.proofs.Common.{◌≡◌, ℕ, zero, suc, add-zero, ◌+◌, ◌-◌, ◌<◌, ◌≤◌, Bool, true, false, Option, Some, None, Result, Ok, Err, cond, eqb, List, [], ◌∷◌, ◌++◌, get_or, length, take, drop, map, refl, sym, ◌∙◌, ap, arith, append_assoc, inl, inr}
-use Rattle.std.specs.Prelude.{◌↔◌, ◌||◌, Contains, IsErrOf, OnOk, codes, is_ok, is_some}
-use Rattle.std.proofs.lemmas.Bool.{both_ways, cases_Bool, eqb-true, eq-eqb, ne_eqb, or_parts, false_from_ne_true, false≢true}
+use Rattle.std.proofs.Common.{◌≡◌, ℕ, zero, suc, add-zero, ◌+◌, ◌-◌, ◌<◌, ◌≤◌, true, false, Option, Some, None, Result, Ok, Err, cond, eqb, List, [], ◌∷◌, ◌++◌, get_or, length, take, drop, map, refl, sym, ◌∙◌, ap, arith, append_assoc, inl, inr}
+use Rattle.std.specs.Prelude.{◌||◌, Contains, OnOk, codes, is_ok, is_some}
+use Rattle.std.proofs.lemmas.Bool.{both_ways, cases_Bool, eq-eqb, ne_eqb, or_parts, false_from_ne_true, false≢true}
 use Rattle.std.proofs.lemmas.List.{append-nil, drop_at, drop_more, get_or-drop, length-drop, length-take, take_rest}
-use Rattle.std.proofs.lemmas.List.Elements.{Contains-get_or}
 use Rattle.memchr.specs.Find.{IsFirstByte, is_byte}
 use Rattle.mbox_text.specs.Lines.{NoEnd}
 use Rattle.mbox_text.specs.Quoting.{begins_from, from_bytes}

@@ -1,11 +1,11 @@
 -- A body without its last line if that is `\n` alone.
-use Rattle.std.proofs.Common.{zero, suc, ◌-◌, ◌<◌, ◌≡◌, ℕ, ◌+◌, Bool, true, false, eqb, List, [], ◌∷◌, ◌++◌, length, get_or, take, refl, sym, ◌∙◌, ap, arith, append_assoc, inl, inr}
-use Rattle.std.specs.Prelude.{◌⊎◌, ◌&&◌}
+use Rattle.std.proofs.Common.{zero, suc, ◌-◌, ◌<◌, ◌≡◌, ℕ, Bool, true, false, eqb, List, [], ◌∷◌, ◌++◌, length, get_or, take, refl, ap, arith, inl, inr}
+use Rattle.std.specs.Prelude.{◌&&◌}
 use Rattle.std.specs.List.{flat_map}
-use Rattle.std.proofs.lemmas.Bool.{both_ways, cases_Bool, ne_eqb, eq-eqb, and_right}
+use Rattle.std.proofs.lemmas.Bool.{cases_Bool, ne_eqb, eq-eqb, and_right}
 use Rattle.std.proofs.lemmas.List.{append-nil}
-use Rattle.mbox_text.specs.Lines.{before_first, lines, Ended, NoEnd}
-use Rattle.mbox_text.specs.Quoting.{quotable, unquoted, begins_from}
+use Rattle.mbox_text.specs.Lines.{lines, Ended, NoEnd}
+use Rattle.mbox_text.specs.Quoting.{quotable, unquoted}
 use Rattle.mbox_text.specs.Mbox.{without_blank, kept}
 use Rattle.mbox_text.specs.Held.{chopped_from, chopped}
 use Rattle.mbox_text.proofs.LineLemmas.{lines-last, unquoted-push}

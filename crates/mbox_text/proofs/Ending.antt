@@ -1,6 +1,6 @@
 -- What a splitter holds at the end of the text, and how long the text is.
-use Rattle.std.proofs.Common.{◌≡◌, ℕ, ◌+◌, ◌<◌, ◌≤◌, Bool, true, false, List, [], ◌∷◌, ◌++◌, length, refl, sym, ◌∙◌, ap, arith, append_assoc, inl, inr, Option, Some, None, Result, Ok, Err}
-use Rattle.std.specs.Prelude.{◌⊎◌, ◌↔◌, IsErrOf, option_to_list}
+use Rattle.std.proofs.Common.{◌≡◌, ℕ, ◌+◌, ◌<◌, ◌≤◌, true, false, List, [], ◌∷◌, ◌++◌, length, refl, sym, ◌∙◌, ap, arith, inl, inr, Option, Some, None, Result}
+use Rattle.std.specs.Prelude.{◌↔◌, IsErrOf}
 use Rattle.std.proofs.lemmas.Bool.{false≢true, true≢false}
 use Rattle.std.proofs.lemmas.List.{length-append}
 use Rattle.mbox_text.specs.declared.entry.Entry.{Entry}
@@ -8,10 +8,9 @@ use Rattle.mbox_text.specs.declared.fault.TextFault.{TextFault}
 use Rattle.mbox_text.specs.declared.fault.TextFault.TheVariants.{NoFromLine}
 use Rattle.mbox_text.specs.declared.message.Message.{Message}
 use Rattle.mbox_text.specs.declared.splitter.Splitter.{Splitter}
-use Rattle.mbox_text.specs.Quoting.{begins_with, begins_from, from_bytes, unquoted}
-use Rattle.mbox_text.specs.Mbox.{Mbox}
-use Rattle.mbox_text.specs.Held.{AtHead, InBody, Held, chopped}
-use Rattle.mbox_text.specs.Fed.{Fed, Ends, IsTooShort}
+use Rattle.mbox_text.specs.Quoting.{begins_from, unquoted}
+use Rattle.mbox_text.specs.Held.{AtHead, Held, chopped}
+use Rattle.mbox_text.specs.Fed.{Ends, IsTooShort, RefusesShort}
 use Rattle.mbox_text.proofs.LineLemmas.{begins_from-more}
 use Rattle.mbox_text.proofs.Heads.{from-long, from-short}
 use Rattle.mbox_text.proofs.Fields.{at_start}
@@ -79,10 +78,7 @@ ends_from splitter e line1 is e1 b ef eb = λ text given h. (
 )
 
 -- which texts are refused at their end
-abbrev pub Shortens : Splitter → Result (Option Entry) TextFault → Type 0
-Shortens splitter r = (text : List ℕ) (given : List Entry) → Fed text given splitter → IsErrOf r NoFromLine ↔ IsTooShort text
-
-pub short_none : (splitter : Splitter) (r : Result (Option Entry) TextFault) → (IsErrOf r NoFromLine → ⊥) → splitter.message ≡ None → splitter.line.items ≡ [] → Shortens splitter r
+pub short_none : (splitter : Splitter) (r : Result (Option Entry) TextFault) → (IsErrOf r NoFromLine → ⊥) → splitter.message ≡ None → splitter.line.items ≡ [] → RefusesShort splitter r
 short_none splitter r n is e = λ text given h.
     let l : length text ≡ 0 = ap length (none_empty splitter.message splitter.line.items text given is e h.held) in
     (λ x. absurd (n x), λ s. let s0 = s.0 in absurd (omega (arith, l, s0)))
@@ -90,14 +86,14 @@ short_none splitter r n is e = λ text given h.
 not-short : (r : Result (Option Entry) TextFault) (text : List ℕ) → (IsErrOf r NoFromLine → ⊥) → 5 ≤ length text → IsErrOf r NoFromLine ↔ IsTooShort text
 not-short r text n l = (λ x. absurd (n x), λ s. let s1 = s.1 in absurd (omega (arith, l, s1)))
 
-pub short_some : (splitter : Splitter) (m : Message) (r : Result (Option Entry) TextFault) → (IsErrOf r NoFromLine → ⊥) → splitter.message ≡ Some m → Shortens splitter r
+pub short_some : (splitter : Splitter) (m : Message) (r : Result (Option Entry) TextFault) → (IsErrOf r NoFromLine → ⊥) → splitter.message ≡ Some m → RefusesShort splitter r
 short_some splitter m r n is = λ text given h. not-short r text n (some_long splitter.message m splitter.line.items text given is h.held)
 
 pub short_from : (splitter : Splitter) (line1 : List ℕ) (r : Result (Option Entry) TextFault) → (IsErrOf r NoFromLine → ⊥) → splitter.message ≡ None → line1 ≡ splitter.line.items
-    → begins_from line1 ≡ true → Shortens splitter r
+    → begins_from line1 ≡ true → RefusesShort splitter r
 short_from splitter line1 r n is e1 b = λ text given h. not-short r text n (none_long splitter.message splitter.line.items line1 text given is e1 b h.held)
 
 pub short_refused : (splitter : Splitter) (line1 : List ℕ) (r : Result (Option Entry) TextFault) → IsErrOf r NoFromLine → splitter.message ≡ None → 0 < length splitter.line.items
-    → line1 ≡ splitter.line.items → begins_from line1 ≡ false → Shortens splitter r
+    → line1 ≡ splitter.line.items → begins_from line1 ≡ false → RefusesShort splitter r
 short_refused splitter line1 r y is some e1 b = λ text given h.
     (λ _. none_short splitter.message splitter.line.items line1 text given is some e1 b h.held, λ _. y)

@@ -1,5 +1,5 @@
 -- Texts that hold no `\n`.
-use Rattle.std.proofs.Common.{◌≡◌, ℕ, zero, suc, ◌<◌, ◌↔◌, Bool, true, false, Option, Some, None, eqb, List, [], ◌∷◌, length, get_or, not, is_some, IsTrue, refl, sym, ◌∙◌, arith}
+use Rattle.std.proofs.Common.{◌≡◌, ℕ, zero, suc, ◌<◌, ◌↔◌, Bool, true, false, Option, Some, None, eqb, List, [], ◌∷◌, length, get_or, not, is_some, IsTrue, refl, arith}
 use Rattle.std.proofs.lemmas.Bool.{both_ways}
 use Rattle.memchr.specs.Find.{IsFirstByte, is_byte}
 use Rattle.mbox_text.specs.Lines.{NoEnd}

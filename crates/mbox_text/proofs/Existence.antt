@@ -1,11 +1,9 @@
 -- A text that begins with `From ` has messages: what a splitter holds of it, byte by byte.
-use Rattle.std.proofs.Common.{◌≡◌, ℕ, Bool, true, false, eqb, List, [], ◌∷◌, ◌++◌, refl, sym, ◌∙◌, ap, append_assoc, inl, inr}
+use Rattle.std.proofs.Common.{◌≡◌, ℕ, true, eqb, List, [], ◌∷◌, ◌++◌, refl, ◌∙◌, append_assoc, inl, inr}
 use Rattle.std.specs.Prelude.{◌⊎◌, ◌↔◌}
-use Rattle.std.specs.List.{flat_map}
-use Rattle.std.proofs.lemmas.Bool.{both_ways, cases_Bool, eqb-true, false≢true}
+use Rattle.std.proofs.lemmas.Bool.{both_ways, cases_Bool, eqb-true}
 use Rattle.std.proofs.lemmas.List.{append-nil}
 use Rattle.mbox_text.specs.declared.entry.Entry.{Entry}
-use Rattle.mbox_text.specs.Lines.{lines, NoEnd}
 use Rattle.mbox_text.specs.Quoting.{unquoted, begins_with, begins_from, from_bytes}
 use Rattle.mbox_text.specs.Fronts.{AllButLast, NeverFrom}
 use Rattle.mbox_text.specs.Mbox.{Mbox, IsMboxText, without_blank}

@@ -1,11 +1,11 @@
 -- What a splitter holds, over the fields as the code changes them.
-use Rattle.std.proofs.Common.{◌≡◌, ℕ, ◌+◌, ◌-◌, ◌≤◌, ◌<◌, Bool, true, false, eqb, List, [], ◌∷◌, ◌++◌, length, take, drop, refl, sym, ◌∙◌, ap, arith, append_assoc, inl, inr, Option, Some, None, Result, Ok, Err}
+use Rattle.std.proofs.Common.{◌≡◌, ℕ, ◌+◌, ◌-◌, true, false, eqb, List, [], ◌∷◌, ◌++◌, length, take, drop, refl, sym, ◌∙◌, arith, append_assoc, inl, inr, Option, Some, None, Result, Ok, Err}
 use Rattle.std.specs.Prelude.{IfOk}
 use Rattle.std.specs.Option.{is_some}
 use Rattle.std.specs.declared.alloc.AllocError.{AllocError}
 use Rattle.std.specs.List.{flat_map}
 use Rattle.std.proofs.lemmas.Bool.{both_ways, false_from_ne_true, false≢true, and_parts, ne_eqb, eqb-false, eqb-true, eq-eqb, and_right, cases_Bool}
-use Rattle.std.proofs.lemmas.List.{take-append-drop, append-nil, take_all, take_rest, nil_from_length, drop-drop}
+use Rattle.std.proofs.lemmas.List.{take-append-drop, append-nil, take_all, take_rest}
 use Rattle.memchr.specs.Find.{IsFirstByte, is_byte}
 use Rattle.mbox_text.specs.declared.entry.Entry.{Entry}
 use Rattle.mbox_text.specs.declared.message.Message.{Message}
@@ -14,9 +14,9 @@ use Rattle.mbox_text.specs.Quoting.{unquoted, begins_from, begins_with, from_byt
 use Rattle.mbox_text.specs.Fronts.{NeverFrom}
 use Rattle.mbox_text.specs.Mbox.{NoFrom}
 use Rattle.mbox_text.specs.Held.{chopped, AtHead, InBody, Held, Moves, Refuses, Refused, Closed}
-use Rattle.mbox_text.proofs.HeldLemmas.{moves-then, head-add, body-add, body-closes, head-ends, body-ends, body-lines}
+use Rattle.mbox_text.proofs.HeldLemmas.{head-add, body-add, body-closes, head-ends, body-ends, body-lines}
 use Rattle.mbox_text.proofs.LineLemmas.{begins_from-more, begins_from-push}
-use Rattle.mbox_text.proofs.Runs.{line-there, take-plus, NoEnd-take}
+use Rattle.mbox_text.proofs.Runs.{take-plus, NoEnd-take}
 
 pub held_none : (line : List ℕ) → line ≡ [] → AtHead [] [] line
 unfolding Rattle.mbox_text.specs.Held.Closed

@@ -1,16 +1,16 @@
 -- What a splitter has given: all messages but the last, whatever comes behind the text.
-use Rattle.std.proofs.Common.{◌≡◌, ℕ, ◌+◌, ◌<◌, ◌≤◌, Bool, true, false, List, [], ◌∷◌, ◌++◌, length, refl, sym, ◌∙◌, ap, arith, append_assoc, inl, inr, Option, Some, None, Result, Ok, Err}
-use Rattle.std.specs.Prelude.{◌⊎◌, OnErr}
-use Rattle.std.proofs.lemmas.Bool.{both_ways, false≢true}
-use Rattle.std.proofs.lemmas.List.{append-nil, length-append}
+use Rattle.std.proofs.Common.{◌≡◌, ℕ, true, false, List, [], ◌∷◌, ◌++◌, refl, sym, ◌∙◌, ap, append_assoc, inl, inr, Option, Some, None, Result, Ok, Err}
+use Rattle.std.specs.Prelude.{OnErr}
+use Rattle.std.proofs.lemmas.Bool.{both_ways}
+use Rattle.std.proofs.lemmas.List.{append-nil}
 use Rattle.mbox_text.specs.declared.entry.Entry.{Entry}
 use Rattle.mbox_text.specs.declared.message.Message.{Message}
 use Rattle.mbox_text.specs.declared.splitter.Splitter.{Splitter}
-use Rattle.mbox_text.specs.Quoting.{begins_with, begins_from, from_bytes}
-use Rattle.mbox_text.specs.Fronts.{AllButLast, IsProperFront, Stay}
+use Rattle.mbox_text.specs.Quoting.{begins_from, from_bytes}
+use Rattle.mbox_text.specs.Fronts.{AllButLast, NeverFrom, Stay}
 use Rattle.mbox_text.specs.Mbox.{Mbox, without_blank}
-use Rattle.mbox_text.specs.Held.{AtHead, InBody, Held, Moves, Refused, Breaks}
-use Rattle.mbox_text.specs.Fed.{HasFailed, Fed, Takes, NeverBegins, TakesPart}
+use Rattle.mbox_text.specs.Held.{Held, Moves, Refused, Breaks}
+use Rattle.mbox_text.specs.Fed.{Fed, Takes, NeverBegins, TakesPart}
 use Rattle.mbox_text.proofs.LineLemmas.{begins_from-more}
 use Rattle.mbox_text.proofs.Heads.{from-rest}
 use Rattle.mbox_text.proofs.Last.{from-block}
@@ -37,25 +37,51 @@ held-all : (message : Option Message) (text : List ℕ) (given : List Entry) (li
 held-all None text given line a = head-all text given line a
 held-all (Some m) text given line a = body-all text given m.from_line.items m.body.items line a
 
+-- a text with messages goes on to no text that begins otherwise
+held-never : (message : Option Message) (text more : List ℕ) (given : List Entry) (line : List ℕ) → Held text given message line → NeverFrom (text ++ more) → given ≡ []
+held-never message text more given line h n = elim (held-all message text given line h) [
+  | inl b ↦ absurd (both_ways (begins_from (text ++ more)) n.0 (begins_from-more text more b.0))
+  | inr g ↦ g.1
+]
+
+nil-right : (a b : List Entry) → a ++ b ≡ [] → b ≡ []
+nil-right [] b e = e
+nil-right (x ∷ a) b e = absurd (cc)
+
 -- a growth was refused before anything of the piece was given
 pub breaks_at_once : (m : Option Message) (l piece : List ℕ) (out out' : List Entry) → out' ≡ out → Breaks m l piece out out'
 breaks_at_once m l piece out out' e =
-    ([], e ∙ sym (append-nil out), λ text given h. rw (append-nil given) (stay-more text piece given (held-stay m text given l h)))
+    ([], e ∙ sym (append-nil out), λ text given h. (rw (append-nil given) (stay-more text piece given (held-stay m text given l h)), λ _. refl))
 
 -- a growth was refused behind a part of the piece
 pub breaks_after : (m m' : Option Message) (l l' p q whole : List ℕ) (a out out' : List Entry) → Moves m l p a m' l' → whole ≡ p ++ q → out' ≡ out ++ a
     → Breaks m l whole out out'
-breaks_after m m' l l' p q whole a out out' f is e = (a, e, λ text given h.
-    let s = stay-more (text ++ p) q (given ++ a) (held-stay m' (text ++ p) (given ++ a) l' (f text given h)) in
-    rw (is, ← append_assoc text p q) s)
+breaks_after m m' l l' p q whole a out out' f is e = (
+  a,
+  e,
+  λ text given h.
+      let h' = f text given h in
+      let texts : text ++ whole ≡ (text ++ p) ++ q = rw is (sym (append_assoc text p q)) in (
+        rw texts (stay-more (text ++ p) q (given ++ a) (held-stay m' (text ++ p) (given ++ a) l' h')),
+        λ n. nil-right given a (held-never m' (text ++ p) q (given ++ a) l' h' (rw texts at n)),
+      ),
+)
 
 pub breaks_later : (m m' : Option Message) (l l' p q whole : List ℕ) (a out out1 out' : List Entry) → Moves m l p a m' l' → Breaks m' l' q out1 out'
     → whole ≡ p ++ q → out1 ≡ out ++ a → Breaks m l whole out out'
 breaks_later m m' l l' p q whole a out out1 out' f b is e =
-    let A : List Entry → List Entry = λ z. z ++ b.0 in
-    (a ++ b.0, b.1 ∙ ap A e ∙ append_assoc out a b.0, λ text given h.
-      let s = b.2 (text ++ p) (given ++ a) (f text given h) in
-      rw (is, ← append_assoc text p q, ← append_assoc given a b.0) s)
+    let A : List Entry → List Entry = λ z. z ++ b.0 in (
+      a ++ b.0,
+      b.1 ∙ ap A e ∙ append_assoc out a b.0,
+      λ text given h.
+          let h' = f text given h in
+          let s = b.2 (text ++ p) (given ++ a) h' in
+          let texts : text ++ whole ≡ (text ++ p) ++ q = rw is (sym (append_assoc text p q)) in (
+            rw (texts, ← append_assoc given a b.0) s.0,
+            λ n. let n' = rw texts at n in
+                rw (nil-right given a (held-never m' (text ++ p) q (given ++ a) l' h' n')) (s.1 n'),
+          ),
+    )
 
 pub fed_from : (splitter : Splitter) (text : List ℕ) (given : List Entry) → splitter.failed ≡ false → Held text given splitter.message splitter.line.items → Fed text given splitter
 fed_from splitter text given works h = record {
@@ -77,10 +103,6 @@ fed_never old piece out out' r = λ text given h. let x = r text given h.held in
 cancel : (given a b : List Entry) → given ++ a ≡ given ++ b → a ≡ b
 cancel [] a b e = e
 cancel (g ∷ given) a b e = cancel given a b (cc)
-
-nil-right : (a b : List Entry) → a ++ b ≡ [] → b ≡ []
-nil-right [] b e = e
-nil-right (x ∷ a) b e = absurd (cc)
 
 front-cut : (added all rest : List Entry) (last next : Entry) → all ++ last ∷ [] ≡ added ++ next ∷ rest → (r : List Entry) × (all ≡ added ++ r)
 front-cut [] all rest last next e = (all, refl)
@@ -124,7 +146,7 @@ part text given added all s (inr h) =
 
 pub fed_part : (old : Splitter) (piece : List ℕ) (out out' : List Entry) → Breaks old.message old.line.items piece out out' → TakesPart old piece out out'
 fed_part old piece out out' b =
-    (b.0, b.1, λ text given all h is_all. part (text ++ piece) given b.0 all (b.2 text given h.held) is_all)
+    (b.0, b.1, λ text given h. let x = b.2 text given h.held in (λ all is_all. part (text ++ piece) given b.0 all x.0 is_all, x.1))
 
 -- what holds in any case holds of an error
 pub on_err : {T E : Type 0} (r : Result T E) (P : Type 0) → P → OnErr r P

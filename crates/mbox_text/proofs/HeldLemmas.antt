@@ -1,18 +1,17 @@
 -- What a splitter holds, step by step.
-use Rattle.std.proofs.Common.{◌≡◌, ℕ, Bool, true, false, eqb, List, [], ◌∷◌, ◌++◌, refl, sym, ◌∙◌, ap, append_assoc, inl, inr}
-use Rattle.std.specs.Prelude.{◌⊎◌, ◌&&◌}
+use Rattle.std.proofs.Common.{◌≡◌, ℕ, true, false, List, [], ◌∷◌, ◌++◌, refl, sym, ◌∙◌, ap, append_assoc, inl, inr}
+use Rattle.std.specs.Prelude.{◌⊎◌}
 use Rattle.std.specs.List.{flat_map}
-use Rattle.std.proofs.lemmas.Bool.{both_ways, cases_Bool, false≢true}
 use Rattle.std.proofs.lemmas.List.{append-nil}
 use Rattle.std.proofs.lemmas.List.Concat.{flat_map-append}
 use Rattle.mbox_text.specs.declared.entry.Entry.{Entry}
 use Rattle.mbox_text.specs.Lines.{lines, Ended, NoEnd}
-use Rattle.mbox_text.specs.Quoting.{quotable, unquoted, begins_from, begins_with, from_bytes}
-use Rattle.mbox_text.specs.Mbox.{without_blank, NoFrom, unended, Block, Mbox}
-use Rattle.std.specs.Prelude.{Option, Some, None}
+use Rattle.mbox_text.specs.Quoting.{unquoted, begins_from, begins_with, from_bytes}
+use Rattle.mbox_text.specs.Mbox.{NoFrom, unended, Block}
+use Rattle.std.specs.Prelude.{Option}
 use Rattle.mbox_text.specs.declared.message.Message.{Message}
-use Rattle.mbox_text.specs.Held.{chopped, Closed, Open, AtHead, InBody, Held, Moves}
-use Rattle.mbox_text.proofs.LineLemmas.{lines-append, lines-line, lines-part, unquoted-push, begins_from-push, begins_from-more}
+use Rattle.mbox_text.specs.Held.{chopped, Closed, Open, AtHead, InBody, Moves}
+use Rattle.mbox_text.proofs.LineLemmas.{lines-append, lines-line, unquoted-push, begins_from-push, begins_from-more}
 use Rattle.mbox_text.proofs.Chopped.{chopped-body}
 
 pub NoEnd-append : (a b : List ℕ) → NoEnd a → NoEnd b → NoEnd (a ++ b)

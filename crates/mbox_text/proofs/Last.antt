@@ -1,15 +1,14 @@
 -- What a splitter holds at the end of the text.
-use Rattle.std.proofs.Common.{◌≡◌, ℕ, Bool, true, false, List, [], ◌∷◌, ◌++◌, refl, sym, ◌∙◌, ap, append_assoc, inl, inr, Option, Some, None}
-use Rattle.std.specs.List.{flat_map}
+use Rattle.std.proofs.Common.{◌≡◌, ℕ, true, false, List, [], ◌∷◌, ◌++◌, refl, sym, ◌∙◌, ap, append_assoc, inl, inr, Option, Some, None}
 use Rattle.std.proofs.lemmas.Bool.{false≢true}
 use Rattle.std.proofs.lemmas.List.{append-nil}
 use Rattle.std.proofs.lemmas.List.Concat.{flat_map-append}
 use Rattle.mbox_text.specs.declared.entry.Entry.{Entry}
 use Rattle.mbox_text.specs.declared.message.Message.{Message}
-use Rattle.mbox_text.specs.Lines.{lines, Ended, NoEnd}
+use Rattle.mbox_text.specs.Lines.{lines, NoEnd}
 use Rattle.mbox_text.specs.Quoting.{unquoted, begins_from}
-use Rattle.mbox_text.specs.Mbox.{NoFrom, Block, Mbox, unended, without_blank}
-use Rattle.mbox_text.specs.Held.{chopped, Closed, Open, AtHead, InBody, Held}
+use Rattle.mbox_text.specs.Mbox.{Block, Mbox, unended, without_blank}
+use Rattle.mbox_text.specs.Held.{chopped, Closed, Open, AtHead, Held}
 use Rattle.mbox_text.proofs.LineLemmas.{lines-append, lines-line, lines-part, begins_from-more}
 use Rattle.mbox_text.proofs.Chopped.{chopped-part, without_blank-part, unquoted-some}
 use Rattle.mbox_text.proofs.HeldLemmas.{open-block, unended-push, NoFrom-append}

@@ -1,10 +1,9 @@
 -- Lemmas on lines and quoting.
-use Rattle.std.proofs.Common.{◌≡◌, ℕ, Bool, true, false, cond, eqb, List, [], ◌∷◌, ◌++◌, ◌+◌, ◌<◌, add-zero, length, get_or, drop, refl, sym, ◌∙◌, ap, arith, append_assoc, inl, inr}
-use Rattle.std.specs.Prelude.{◌&&◌, ◌⊎◌, ◌==◌, MatchBool}
-use Rattle.std.specs.List.{flat_map, concat, starts_with}
+use Rattle.std.proofs.Common.{◌≡◌, ℕ, Bool, true, false, eqb, List, [], ◌∷◌, ◌++◌, ◌+◌, ◌<◌, add-zero, length, get_or, drop, refl, sym, ◌∙◌, ap, arith, append_assoc, inl, inr}
+use Rattle.std.specs.Prelude.{◌&&◌, MatchBool}
+use Rattle.std.specs.List.{concat, starts_with}
 use Rattle.std.proofs.lemmas.Bool.{false≢true, cases_Bool, eqb-true, ne_eqb, eq-eqb, cases_lt, and_parts, and_from}
 use Rattle.std.proofs.lemmas.List.{drop_more, drop_all, get_or-drop}
-use Rattle.std.proofs.lemmas.List.Concat.{flat_map-append}
 use Rattle.mbox_text.specs.Lines.{before_first, lines, Ended, NoEnd}
 use Rattle.mbox_text.specs.Quoting.{begins_with, begins_from, from_bytes, quotable, quoted, unquoted}
 

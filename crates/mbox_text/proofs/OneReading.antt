@@ -1,5 +1,5 @@
 -- A text is in `Mbox` with one list of entries.
-use Rattle.std.proofs.Common.{◌≡◌, ℕ, Bool, true, false, List, [], ◌∷◌, ◌++◌, refl, sym, ◌∙◌, ap, append_assoc, inl, inr}
+use Rattle.std.proofs.Common.{◌≡◌, ℕ, true, List, [], ◌∷◌, ◌++◌, refl, sym, ◌∙◌, ap, append_assoc, inl, inr}
 use Rattle.std.specs.Prelude.{◌⊎◌}
 use Rattle.std.specs.List.{flat_map}
 use Rattle.std.proofs.lemmas.Bool.{both_ways}
@@ -7,7 +7,7 @@ use Rattle.std.proofs.lemmas.List.{append-nil}
 use Rattle.mbox_text.specs.declared.entry.Entry.{Entry}
 use Rattle.mbox_text.specs.Lines.{lines, Ended}
 use Rattle.mbox_text.specs.Quoting.{begins_from, unquoted}
-use Rattle.mbox_text.specs.Mbox.{without_blank, NoFrom, unended, Block, Mbox}
+use Rattle.mbox_text.specs.Mbox.{without_blank, NoFrom, unended, Mbox}
 use Rattle.mbox_text.proofs.LineLemmas.{lines-append}
 
 -- the lines of a message, and the lines after it

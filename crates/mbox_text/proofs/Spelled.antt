@@ -1,5 +1,5 @@
 -- What is written is read again.
-use Rattle.std.proofs.Common.{◌≡◌, ℕ, Bool, true, false, eqb, List, [], ◌∷◌, ◌++◌, map, refl, sym, ◌∙◌, ap, append_assoc, inl, inr}
+use Rattle.std.proofs.Common.{◌≡◌, ℕ, true, eqb, List, [], ◌∷◌, ◌++◌, map, refl, sym, ◌∙◌, ap, append_assoc, inl, inr}
 use Rattle.std.specs.List.{flat_map, concat}
 use Rattle.std.proofs.lemmas.Bool.{cases_Bool, eqb-true}
 use Rattle.std.proofs.lemmas.List.{append-nil}
@@ -7,11 +7,11 @@ use Rattle.std.proofs.lemmas.List.Concat.{flat_map-append}
 use Rattle.mbox_text.specs.declared.entry.Entry.{Entry}
 use Rattle.mbox_text.specs.Lines.{lines, Ended, NoEnd}
 use Rattle.mbox_text.specs.Quoting.{quotable, quoted, unquoted, begins_from}
-use Rattle.mbox_text.specs.Mbox.{NoFrom, Block, Mbox, unended, without_blank, kept}
+use Rattle.mbox_text.specs.Mbox.{NoFrom, Block, Mbox, without_blank}
 use Rattle.mbox_text.specs.Spelling.{missing_end, spelling, completed, FromLines}
 use Rattle.mbox_text.proofs.LineLemmas.{lines-append, lines-line, lines-part, begins_from-more, quotable-push, quoted_no_from, unquoted_quoted, concat-lines}
 use Rattle.mbox_text.proofs.Chopped.{Whole, lines-whole}
-use Rattle.mbox_text.proofs.HeldLemmas.{unended-push, NoFrom-append, Ended-append}
+use Rattle.mbox_text.proofs.HeldLemmas.{unended-push, NoFrom-append}
 
 -- whole lines, and a last line that lacks its `\n`
 record Cut (text : List ℕ) : Type 0 where

@@ -1,5 +1,5 @@
 -- What is written run by run.
-use Rattle.std.proofs.Common.{◌≡◌, ℕ, zero, suc, ◌+◌, ◌-◌, ◌≤◌, ◌<◌, Option, Some, None, true, false, Bool, eqb, List, [], ◌∷◌, ◌++◌, length, take, drop, get_or, refl, sym, ◌∙◌, ap, subst, arith, append_assoc, inl, inr}
+use Rattle.std.proofs.Common.{◌≡◌, ℕ, zero, suc, ◌+◌, ◌-◌, ◌≤◌, ◌<◌, Option, Some, None, true, false, eqb, List, [], ◌∷◌, ◌++◌, length, take, drop, get_or, refl, sym, ◌∙◌, ap, arith, append_assoc, inl, inr}
 use Rattle.std.specs.Prelude.{◌⊎◌}
 use Rattle.std.specs.List.{flat_map}
 use Rattle.std.specs.Io.KnownBytes.{Appends}
@@ -8,7 +8,7 @@ use Rattle.std.proofs.lemmas.Bool.{cases_Bool, ne_eqb, eq-eqb, eqb-true, eqb-fal
 use Rattle.std.proofs.lemmas.List.{append-nil, take-append-drop, take_all, drop_all, length-drop, nil_from_length}
 use Rattle.std.proofs.lemmas.List.Concat.{flat_map-append}
 use Rattle.memchr.specs.Find.{IsFirstByte, is_byte}
-use Rattle.mbox_text.specs.Lines.{lines, Ended, NoEnd}
+use Rattle.mbox_text.specs.Lines.{lines, Ended}
 use Rattle.mbox_text.specs.Quoting.{begins_from, quotable, quoted}
 use Rattle.mbox_text.specs.Spelling.{missing_end}
 use Rattle.mbox_text.specs.Writing.{AppendsFront}
@@ -17,7 +17,7 @@ use Rattle.mbox_text.proofs.HeldLemmas.{Ended-append}
 use Rattle.mbox_text.proofs.Runs.{take-plus, line-there}
 use Rattle.mbox_text.proofs.Fields.{none-there}
 use Rattle.mbox_text.proofs.Blocks.{begins_from-cut}
-use Rattle.mbox_text.proofs.Appended.{front_more, front_then}
+use Rattle.mbox_text.proofs.Appended.{front_then}
 
 -- the `\n` of a line, and what stands behind it, plays no part in its quoting
 quotable-cut : (line rest : List ℕ) → quotable (line ++ 10 ∷ rest) ≡ quotable line

@@ -1,6 +1,8 @@
 -- What a splitter has been fed, and what it has given of it.
-use Rattle.std.specs.Prelude.{◌≡◌, ℕ, ◌<◌, true, List, [], ◌∷◌, ◌++◌, ◌⊎◌, ◌↔◌, Option, IsNone, IsTrue, length, option_to_list}
+use Rattle.std.specs.Prelude.{◌≡◌, ℕ, ◌<◌, List, [], ◌++◌, ◌⊎◌, ◌↔◌, Option, Result, IsErrOf, IsNone, IsTrue, length, option_to_list}
 use Rattle.mbox_text.specs.declared.entry.Entry.{Entry}
+use Rattle.mbox_text.specs.declared.fault.TextFault.{TextFault}
+use Rattle.mbox_text.specs.declared.fault.TextFault.TheVariants.{NoFromLine, Failed, OutOfMemory}
 use Rattle.mbox_text.specs.declared.splitter.Splitter.{Splitter}
 use Rattle.mbox_text.specs.Mbox.{Mbox}
 use Rattle.mbox_text.specs.Fronts.{AllButLast, NeverFrom, Stay}
@@ -28,11 +30,13 @@ abbrev pub NeverBegins : Splitter → List ℕ → List Entry → List Entry →
 NeverBegins old piece out out' = (text : List ℕ) (given : List Entry) → Fed text given old → (out' ≡ out) × NeverFrom (text ++ piece)
 
 -- The messages that were added to these are the first of all that the piece would give, whatever the splitter was fed before.
+-- They are none where no mbox text begins so.
 abbrev pub TakesPart : Splitter → List ℕ → List Entry → List Entry → Type 0
 TakesPart old piece out out' =
     (added : List Entry) × (out' ≡ out ++ added)
-    × ((text : List ℕ) (given all : List Entry) → Fed text given old → AllButLast (text ++ piece) (given ++ all)
-      → (rest : List Entry) × (all ≡ added ++ rest))
+    × ((text : List ℕ) (given : List Entry) → Fed text given old
+    → ((all : List Entry) → AllButLast (text ++ piece) (given ++ all) → (rest : List Entry) × (all ≡ added ++ rest))
+    × (NeverFrom (text ++ piece) → added ≡ []))
 
 -- With this message those that were given are all of the text, whatever that is; none is left exactly where the text is empty.
 abbrev pub Ends : Splitter → Option Entry → Type 0
@@ -43,3 +47,11 @@ Ends splitter last =
 -- the text has bytes, and too few for `From `
 abbrev pub IsTooShort : List ℕ → Type 0
 IsTooShort text = (0 < length text) × (length text < 5)
+
+-- `NoFromLine` is answered at the end exactly where the text is too short, whatever the splitter was fed
+abbrev pub RefusesShort : Splitter → Result (Option Entry) TextFault → Type 0
+RefusesShort splitter result = (text : List ℕ) (given : List Entry) → Fed text given splitter → IsErrOf result NoFromLine ↔ IsTooShort text
+
+-- a refusal that a splitter has
+abbrev pub IsSplitterFault : TextFault → Type 0
+IsSplitterFault fault = (fault ≡ NoFromLine) ⊎ ((fault ≡ Failed) ⊎ (fault ≡ OutOfMemory))

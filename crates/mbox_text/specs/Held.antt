@@ -70,8 +70,9 @@ abbrev pub Refused : Option Message → List ℕ → List ℕ → List Entry →
 Refused message line piece out out' =
     (text : List ℕ) (given : List Entry) → Held text given message line → (given ≡ []) × (out' ≡ out) × NeverFrom (text ++ piece)
 
--- of what the piece gives, only these messages were given before a growth was refused
+-- Of what the piece gives, only these messages were given before a growth was refused; none where no mbox text begins so.
 abbrev pub Breaks : Option Message → List ℕ → List ℕ → List Entry → List Entry → Type 0
 Breaks message line piece out out' =
     (added : List Entry) × (out' ≡ out ++ added)
-    × ((text : List ℕ) (given : List Entry) → Held text given message line → Stay (text ++ piece) (given ++ added))
+    × ((text : List ℕ) (given : List Entry) → Held text given message line
+    → Stay (text ++ piece) (given ++ added) × (NeverFrom (text ++ piece) → added ≡ []))

@@ -22,7 +22,8 @@ pub fn one_reading(_text: &[u8])
     ensures read { IsMboxText _text.now ↔ ((entries : List Message) × Mbox _text.now entries) }
 {}
 
-/// The parts of a From_ line that was built are the sender as it is written, and the rest without the spaces at its front.
+/// The parts of a From_ line that was built are the sender as it is written, and the rest without the spaces at its
+/// front.
 pub fn parts_of_built(_sender: &[u8], _rest: &[u8])
     ensures sender { sender (built _sender.now _rest.now) ≡ cleaned _sender.now }
     ensures rest { rest (built _sender.now _rest.now) ≡ past_spaces _rest.now }
@@ -30,10 +31,12 @@ pub fn parts_of_built(_sender: &[u8], _rest: &[u8])
 
 /// All messages of a text but the last are the first messages of each text that goes on from it, and not all of them.
 pub fn prefix_reading(_text: &[u8], _more: &[u8])
-    ensures { (entries given : List Message) (last : Message) → Mbox _text.now (given ++ last ∷ []) → Mbox (_text.now ++ _more.now) entries → IsProperFront given entries }
+    ensures { (entries given : List Message) (last : Message) → Mbox _text.now (given ++ last ∷ [])
+        → Mbox (_text.now ++ _more.now) entries → IsProperFront given entries }
 {}
 
-/// What is written is read again, but for the `\n` that a body lacked at its end. So what is written of what was read again is the same.
+/// What is written is read again, with the `\n` that a body lacked at its end. So writing what was read again gives the
+/// same text: rewriting twice is rewriting once.
 pub fn spelled_again(_entries: &[Entry])
     ensures read { FromLines _entries.now → Mbox (flat_map spelling _entries.now) (map completed _entries.now) }
     ensures same { flat_map spelling (map completed _entries.now) ≡ flat_map spelling _entries.now }

@@ -1,7 +1,6 @@
 // The splitter: messages out of a text that comes in pieces.
-ghost use Rattle.std.specs.Prelude.{◌≡◌, ℕ, ◌<◌, ◌≤◌, ◌++◌, ◌⊎◌, ◌↔◌, [], ◌∷◌, List, length, take, IfErr, IfOk, IsErr, IsErrOf, MatchBool, MatchOption, OnErr, OnOk};
-ghost use Rattle.mbox_text.specs.declared.entry.Entry.{Entry as Given};
-ghost use Rattle.mbox_text.specs.Fed.{Ends, Fed, HasFailed, IsTooShort, NeverBegins, Takes, TakesPart};
+ghost use Rattle.std.specs.Prelude.{◌≡◌, ◌<◌, ◌≤◌, ◌↔◌, [], ◌∷◌, length, take, IfErr, IfOk, IsErr, IsErrOf, MatchBool, MatchOption, OnErr, OnOk};
+ghost use Rattle.mbox_text.specs.Fed.{Ends, Fed, HasFailed, IsSplitterFault, NeverBegins, RefusesShort, Takes, TakesPart};
 ghost use Rattle.mbox_text.specs.Lines.{NoEnd};
 ghost use Rattle.mbox_text.specs.Steps.{BreaksOff, Gives, GivesNone, Rejects, RejectsAt};
 
@@ -49,12 +48,14 @@ impl Splitter {
         ensures fed { OnOk result (Takes self.old piece.now out.old.items out.new.items self.new) }
 
         // what a refusal means and leaves
-        ensures no_from_line { IsErrOf result TextFault.NoFromLine → NeverBegins self.old piece.now out.old.items out.new.items }
-        ensures out_of_memory { IsErrOf result TextFault.OutOfMemory → TakesPart self.old piece.now out.old.items out.new.items }
+        ensures no_from_line { IsErrOf result TextFault.NoFromLine
+            → NeverBegins self.old piece.now out.old.items out.new.items }
+        ensures out_of_memory { IsErrOf result TextFault.OutOfMemory
+            → TakesPart self.old piece.now out.old.items out.new.items }
         ensures failed { IsErrOf result TextFault.Failed ↔ HasFailed self.old }
         ensures unchanged { IsErrOf result TextFault.Failed → out.new.items ≡ out.old.items }
 
-        ensures causes { IfErr result (λ fault. (fault ≡ TextFault.NoFromLine) ⊎ ((fault ≡ TextFault.Failed) ⊎ (fault ≡ TextFault.OutOfMemory))) }
+        ensures causes { IfErr result IsSplitterFault }
         ensures state { HasFailed self.new ↔ IsErr result }
     {
         if self.failed {
@@ -79,8 +80,8 @@ impl Splitter {
     pub fn finish(self) -> Result<Option<Entry>, TextFault>
         ensures last { IfOk result (Ends self) }
         ensures failed { IsErrOf result TextFault.Failed ↔ HasFailed self }
-        ensures no_from_line { (text : List ℕ) (given : List Given) → Fed text given self → IsErrOf result TextFault.NoFromLine ↔ IsTooShort text }
-        ensures causes { IfErr result (λ fault. (fault ≡ TextFault.NoFromLine) ⊎ ((fault ≡ TextFault.Failed) ⊎ (fault ≡ TextFault.OutOfMemory))) }
+        ensures no_from_line { RefusesShort self result }
+        ensures causes { IfErr result IsSplitterFault }
     {
         if self.failed {
             return Err(TextFault::Failed);
@@ -121,8 +122,8 @@ impl Splitter {
         Ok(true)
     }
 
-    // Takes the whole lines at the front of the text, up to a From_ line, and then one line more, or what has come of it.
-    // None where no mbox text begins so.
+    // Takes the whole lines at the front of the text, up to a From_ line, and then one line more, or what has
+    // come of it. None where no mbox text begins so.
     fn advance(&mut self, text: &[u8], out: &mut Vec<Entry>) -> Result<Option<usize>, AllocError>
         requires { 0 < length text.now }
         ensures moved { IfOk result (λ went. MatchOption went
@@ -165,7 +166,8 @@ impl Splitter {
         }
     }
 
-    // Adds bytes with no `\n` to the line, and closes the message if the line is a From_ line. False where no mbox text begins so.
+    // Adds bytes with no `\n` to the line, and closes the message if the line is a From_ line. False where no mbox
+    // text begins so.
     fn add_part(&mut self, part: &[u8], out: &mut Vec<Entry>) -> Result<bool, AllocError>
         requires { NoEnd part.now }
         ensures moved { IfOk result (λ fine. MatchBool fine

@@ -9,7 +9,7 @@ ghost use Rattle.mbox_text.specs.Writing.{Writes};
 use crate::entry::Entry;
 use crate::fault::TextFault;
 use crate::quoting::is_quotable;
-use memchr::memchr;
+use memchr::{memchr, memmem};
 use std::io::{ErrorKind, Write};
 
 /// Writes the message in its regular spelling (mbox(5)): the From_ line and `\n`; the body, with one `>` more before each line
@@ -87,6 +87,9 @@ fn run_len(text: &[u8]) -> usize
     ensures run { flat_map quoted (lines (take result text.now)) ≡ quoted (take result text.now) }
     ensures ends { (result ≡ length text.now) ⊎ Ended (take result text.now) }
 {
+    if memmem::find(text, b"From ").is_none() {
+        return text.len();
+    }
     let mut at = line_len(text);
     while at < text.len() && !is_quotable(&text[at..]) {
         at += line_len(&text[at..]);

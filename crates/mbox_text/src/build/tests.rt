@@ -15,7 +15,11 @@ fn assert_parts(rt: &impl Abort, line: &[u8], sender: &[u8], rest: &[u8]) {
 #[test]
 fn built_from_lines(rt: HostRuntime) -> Result<(), Fail> {
     let table: [(&[u8], &[u8], &[u8]); 5] = [
-        (b"", b"Thu Jan  1 00:00:00 1970", b"From MAILER-DAEMON Thu Jan  1 00:00:00 1970"),
+        (
+            b"",
+            b"Thu Jan  1 00:00:00 1970",
+            b"From MAILER-DAEMON Thu Jan  1 00:00:00 1970",
+        ),
         (b"a b", b"", b"From a-b"),
         (b"a\tb\nc", b"  d", b"From a-b-c   d"),
         (b"a", b"  ", b"From a   "),

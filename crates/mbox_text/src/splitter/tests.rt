@@ -29,14 +29,21 @@ fn assert_pieces(rt: &(impl Abort + AllocGlobal), text: &[u8], size: usize) -> R
     let got = split_pieces(rt.alloc(), text, size)?;
     assert_eq!(rt; got.len(), want.len(), "pieces of {size}");
     for (got, want) in got.iter().zip(want.iter()) {
-        assert!(rt; got.from_line.as_slice() == want.from_line.as_slice(), "pieces of {size}");
-        assert!(rt; got.body.as_slice() == want.body.as_slice(), "pieces of {size}");
+        assert!(rt;
+            got.from_line.as_slice() == want.from_line.as_slice(),
+            "pieces of {size}"
+        );
+        assert!(rt;
+            got.body.as_slice() == want.body.as_slice(),
+            "pieces of {size}"
+        );
     }
     Ok(())
 }
 
 // Every kind of line, and every kind of end of a message.
-const LINES: &[u8] = b"From a\n>From b\n>>From c\n> From d\n>From\nFrom\n\nFrom e\nx\r\n\n\nFrom f\n\n\nFrom  g h\nFrom \n>\n>Fro\n\nFrom i\nlast";
+const LINES: &[u8] =
+    b"From a\n>From b\n>>From c\n> From d\n>From\nFrom\n\nFrom e\nx\r\n\n\nFrom f\n\n\nFrom  g h\nFrom \n>\n>Fro\n\nFrom i\nlast";
 
 #[test]
 fn any_pieces(rt: HostRuntime) -> Result<(), Fail> {

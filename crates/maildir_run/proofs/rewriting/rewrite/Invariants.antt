@@ -1,3 +1,5 @@
+use Rattle.std.proofs.Common.{List}
+use Rattle.mbox_text.specs.declared.entry.Entry.{Entry}
 use Rattle.std.specs.List.{flat_map}
 use Rattle.mbox_text.specs.Spelling.{spelling}
 use Rattle.maildir_run.proofs.Poured.{Poured}
@@ -5,7 +7,7 @@ use Rattle.maildir_run.proofs.rewriting.rewrite.Given as goal
 
 abbrev pub invariant-pieces : goal.invariant-pieces
 invariant-pieces g l =
-    Poured (flat_map spelling) (g.R.Read.remaining l.initial.source) (g.R.Read.remaining l.source) (g.W.Write.contents l.initial.out) (g.W.Write.contents l.out)
+    (given : List Entry) × Poured (flat_map spelling) given (g.R.Read.remaining l.initial.source) (g.R.Read.remaining l.source) (g.W.Write.contents l.initial.out) (g.W.Write.contents l.out)
     l.messages.splitter l.messages.reads l.whole.items l.fn.reads l.count
 
 abbrev pub decreases-pieces : goal.decreases-pieces

@@ -1,4 +1,4 @@
-use Rattle.std.proofs.Common.{◌<◌, ◌-◌, length, arith}
+use Rattle.std.proofs.Common.{arith}
 use Rattle.mbox_text.proofs.Chopped.{chop_not_last, chop_one, chop_two, chop_not_before}
 use Rattle.mbox_text.proofs.body.last_is_blank.Goals as goal
 use Rattle.mbox_text.proofs.body.last_is_blank.Goals.{then-n-eq0-via-then-n-eq0, then-n-eq0-via-else-n-eq0+then-text-n-ne10}

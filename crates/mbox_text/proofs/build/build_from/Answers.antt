@@ -1,4 +1,4 @@
-use Rattle.std.proofs.Common.{Ok, sym, ◌∙◌}
+use Rattle.std.proofs.Common.{sym}
 use Rattle.mbox_text.proofs.BuiltLines.{is-built, not-found}
 use Rattle.mbox_text.proofs.build.build_from.Goals as goal
 

@@ -1,4 +1,4 @@
-use Rattle.std.proofs.Common.{◌<◌, length, arith, sym, ap, ◌∙◌}
+use Rattle.std.proofs.Common.{arith, sym, ap, ◌∙◌}
 use Rattle.std.proofs.lemmas.List.{take_rest}
 use Rattle.mbox_text.specs.Quoting.{begins_from}
 use Rattle.mbox_text.proofs.LineLemmas.{quotable-mark, quotable-stop}

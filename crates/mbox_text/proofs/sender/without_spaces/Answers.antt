@@ -1,4 +1,4 @@
-use Rattle.std.proofs.Common.{◌<◌, length, arith, sym, ◌∙◌}
+use Rattle.std.proofs.Common.{arith, sym, ◌∙◌}
 use Rattle.std.proofs.lemmas.List.{take_rest}
 use Rattle.mbox_text.proofs.BuiltLines.{past-mark, past-stop}
 use Rattle.mbox_text.proofs.sender.without_spaces.Goals as goal

@@ -1,4 +1,4 @@
-use Rattle.std.proofs.Common.{sym, ◌∙◌}
+use Rattle.std.proofs.Common.{sym}
 use Rattle.mbox_text.proofs.Blocks.{not_mbox}
 use Rattle.mbox_text.proofs.split.split_all.Goals as goal
 

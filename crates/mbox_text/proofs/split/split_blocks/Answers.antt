@@ -1,5 +1,5 @@
-use Rattle.std.proofs.Common.{◌≡◌, ℕ, ◌+◌, ◌++◌, [], ◌∷◌, List, drop, length, sym, ◌∙◌, ap, arith}
-use Rattle.std.proofs.lemmas.List.{take_rest, length-drop}
+use Rattle.std.proofs.Common.{drop, arith}
+use Rattle.std.proofs.lemmas.List.{take_rest}
 use Rattle.mbox_text.proofs.Blocks.{so_far_none, so_far_more, so_far_all, first-some}
 use Rattle.mbox_text.proofs.split.split_blocks.Goals as goal
 

@@ -1,5 +1,4 @@
-use Rattle.std.proofs.Common.{◌≡◌, ℕ, [], ◌∷◌, sym, refl}
-use Rattle.std.proofs.KnownBytes.{Appends-nil}
+use Rattle.std.proofs.Common.{[], ◌∷◌, sym}
 use Rattle.mbox_text.proofs.Appended.{err_writes, front_more, writes_then}
 use Rattle.mbox_text.proofs.Written.{quoted-marked, quoted-plain}
 use Rattle.mbox_text.proofs.write.write_run.Goals as goal

@@ -1,6 +1,4 @@
 use Rattle.std.proofs.Common.{ap, ◌∙◌}
-use Rattle.std.specs.FinMap.{remove}
-use Rattle.maildir_run.specs.Files.{Files}
 use Rattle.maildir_run.specs.Calls.{effect, Removing}
 use Rattle.maildir_run.specs.MemFolder.{files_of}
 use Rattle.maildir_run.proofs.Quiet.{once}

@@ -1,6 +1,5 @@
 use Rattle.std.proofs.Common.{◌≡◌, ℕ, ◌+◌, ◌-◌, ◌++◌, List, [], ◌∷◌, length, take, drop, arith, ap, ◌∙◌, sym, append_assoc, refl}
 use Rattle.std.proofs.lemmas.List.{append-nil, take_rest, length-drop}
-use Rattle.mbox_text.specs.declared.entry.Entry.{Entry}
 use Rattle.mbox_text.proofs.HeldLemmas.{moves-then}
 use Rattle.mbox_text.proofs.Giving.{on_err, breaks_at_once, breaks_after}
 use Rattle.mbox_text.proofs.Runs.{line-there}

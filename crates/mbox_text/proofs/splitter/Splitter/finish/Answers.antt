@@ -1,4 +1,4 @@
-use Rattle.std.proofs.Common.{◌≡◌, ◌<◌, ◌++◌, ℕ, List, length, vec_len, ap, sym, refl, ◌∙◌, arith, Ok, Err, Some, None}
+use Rattle.std.proofs.Common.{◌≡◌, ◌++◌, ℕ, List, vec_len, ap, sym, refl, ◌∙◌, arith, Ok, Err, Some, None}
 use Rattle.std.proofs.lemmas.Bool.{eqb-true, eqb-false}
 use Rattle.std.proofs.lemmas.List.{nil_from_length}
 use Rattle.std.proofs.lemmas.Result.{err_from_is_err_and}

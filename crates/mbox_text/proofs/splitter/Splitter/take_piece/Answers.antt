@@ -1,4 +1,4 @@
-use Rattle.std.proofs.Common.{◌≡◌, ℕ, ◌+◌, ◌-◌, ◌++◌, List, [], ◌∷◌, length, take, drop, arith, ap, ◌∙◌, sym, append_assoc, refl}
+use Rattle.std.proofs.Common.{◌≡◌, ℕ, ◌-◌, ◌++◌, List, [], length, take, drop, arith, ap, ◌∙◌, sym, append_assoc, refl}
 use Rattle.std.proofs.lemmas.List.{take-append-drop, append-nil, take_rest, length-drop}
 use Rattle.mbox_text.specs.declared.entry.Entry.{Entry}
 use Rattle.mbox_text.proofs.HeldLemmas.{moves-then, moves-none}

@@ -1,0 +1,50 @@
+# make            prove the crates and build build/mbox2maildir
+# make run        list the example mailbox
+# make test       prove and test everything from nothing: the gate of the repository
+# make install    copy the program, and its page where there is one, below PREFIX
+# make bench      time the program on generated mail beside cat, sha256sum and a plain C program (SIZE=megabytes)
+# make clean      remove build/
+#
+# The command rt and a shell are all that the first four need.
+
+PREFIX ?= /usr/local
+
+PROGRAM = build/mbox2maildir
+CRATE = crates/mbox2maildir
+SOURCES = crates.txt $(shell find crates -name out -prune -o \( -name '*.rt' -o -name '*.antt' \) -print)
+PAGE = $(wildcard docs/mbox2maildir.1)
+
+MAILBOX = examples/archive.mbox
+
+all: $(PROGRAM)
+
+# rt builds a program only where it is proved, and then runs it, here on no input.
+$(PROGRAM): $(SOURCES)
+	cd $(CRATE) && rt run </dev/null >/dev/null
+	mkdir -p build
+	cp $(CRATE)/out/mbox2maildir $@
+
+run: $(PROGRAM)
+	$(PROGRAM) list $(MAILBOX)
+
+# The documents, the gate, and then the tests that run the built program.
+test:
+	tests/promises.py
+	rt ci
+	if [ -x tests/run ]; then $(MAKE) $(PROGRAM) && tests/run; fi
+
+install: $(PROGRAM)
+	install -d $(DESTDIR)$(PREFIX)/bin
+	install -m 755 $(PROGRAM) $(DESTDIR)$(PREFIX)/bin
+ifneq ($(PAGE),)
+	install -d $(DESTDIR)$(PREFIX)/share/man/man1
+	install -m 644 $(PAGE) $(DESTDIR)$(PREFIX)/share/man/man1
+endif
+
+bench: $(PROGRAM)
+	bench/run
+
+clean:
+	rm -rf build
+
+.PHONY: all run test install bench clean

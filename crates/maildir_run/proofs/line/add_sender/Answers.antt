@@ -1,0 +1,11 @@
+use Rattle.std.proofs.Common.{◌≡◌, ◌++◌, ℕ, List, map, take, sym, ◌∙◌, ap}
+use Rattle.std.proofs.lemmas.List.{take_all}
+use Rattle.maildir_run.specs.Listing.{shown_byte}
+use Rattle.maildir_run.proofs.Listings.{sender-some}
+use Rattle.maildir_run.proofs.line.add_sender.Goals as goal
+
+pub returns : goal.returns
+returns c =
+    let whole : take c.loop-byte.byte-index c.args.sender.now ≡ c.args.sender.now = take_all c.loop-byte.byte-index c.args.sender.now c.loop-byte-test.false in
+    c.loop-byte.invariant ∙ ap (λ s. c.args.line.now.items ++ map shown_byte s) whole
+    ∙ ap (λ s. c.args.line.now.items ++ s) (sym (sender-some c.args.sender.now (sym c.if-is_empty.ensures)))

@@ -1,0 +1,10 @@
+use Rattle.std.proofs.Common.{◌≡◌, ℕ, length, ap, sym, ◌∙◌, arith}
+use Rattle.mbox_text.specs.FromLine.{sender}
+use Rattle.maildir_run.proofs.Listings.{line-is}
+use Rattle.maildir_run.proofs.line.line_of.Goals as goal
+
+pub returns : goal.returns
+returns c =
+    line-is c.args.index _ c.args.entry.now c.args.target.now _ c.sender_of.result.now c.in_ok-line.line.items c.add_sender.new.line.items c.push.new.self.items c.in_ok-front.ensures
+    (ap length c.as_slice.ensures) (c.in_ok-line.ensures.items ∙ c.as_bytes.ensures.value) (c.sender_of.ensures ∙ ap sender c.as_slice-2.ensures) c.in_ok-add_sender.ensures
+    c.in_ok-push.ensures.items

@@ -1,0 +1,34 @@
+use Rattle.std.proofs.Common.{◌≡◌, ℕ, ◌+◌, ◌++◌, [], ◌∷◌, List, length, map, arith, ap, sym, ◌∙◌}
+use Rattle.std.proofs.lemmas.List.{length-append, length-map}
+use Rattle.mbox_text.specs.declared.entry.Entry.{Entry}
+use Rattle.maildir_run.specs.Listing.{listed}
+use Rattle.maildir_run.proofs.Listings.{bodies, lists_none, lists_err, listing-push, listed_more}
+use Rattle.maildir_run.proofs.listing.Lister.list_one.Goals as goal
+
+pub returns-in_default-clause-lists : goal.returns-in_default-clause-lists
+returns-in_default-clause-lists g c = λ given h l. let n = lists_none given (c.args.entry.now ∷ []) (g.W.Write.contents c.args.out.now) in (n.0, n.1, n.2, tt)
+
+pub returns-in_err-line-clause-lists : goal.returns-in_err-line-clause-lists
+returns-in_err-line-clause-lists g c = λ given h l. lists_err c.from_residual.result given (c.args.entry.now ∷ []) (g.W.Write.contents c.args.out.now) _ c.from_residual.ensures.0
+
+pub returns-in-Ok-write_bytes-clause-lists : goal.returns-in-Ok-write_bytes-clause-lists
+returns-in-Ok-write_bytes-clause-lists g c = λ given h l.
+    let entry : Entry = c.args.entry.now in
+    let size : length (bodies given) ≡ length given = length-map given (λ e. e.body) in
+    let next = c.in-Ok.ensures.next (bodies given) h.named (omega (arith, l, size, length-append given (entry ∷ []))) in
+    let counted : c.saturating_add-self.result ≡ length given + 1 = omega (arith, c.saturating_add-self.ensures, h.counted, l, length-append given (entry ∷ [])) in
+    let line : c.deref.result.now ≡ listed (length given + 1) entry c.in-Ok.target = c.deref.ensures.value ∙ c.in_ok-line.ensures ∙ ap (λ k. listed k entry c.in-Ok.target) counted in (
+      listed (length given + 1) entry c.in-Ok.target,
+      listing-push given entry c.in-Ok.target (rw c.as_slice.ensures at next.0),
+      rw line at c.in-Ok-write_bytes.ensures.written,
+      listed_more given _ _ _ _ entry c.as_slice.result.now h c.as_slice.ensures next.1 counted,
+    )
+
+pub returns-clause-lists : goal.returns-clause-lists
+returns-clause-lists g c = λ given h l.
+    let entry : Entry = c.args.entry.now in
+    let size : length (bodies given) ≡ length given = length-map given (λ e. e.body) in
+    let next = c.in-Ok.ensures.next (bodies given) h.named (omega (arith, l, size, length-append given (entry ∷ []))) in
+    let counted : c.saturating_add-self.result ≡ length given + 1 = omega (arith, c.saturating_add-self.ensures, h.counted, l, length-append given (entry ∷ [])) in
+    let line : c.deref.result.now ≡ listed (length given + 1) entry c.in-Ok.target = c.deref.ensures.value ∙ c.in_ok-line.ensures ∙ ap (λ k. listed k entry c.in-Ok.target) counted in
+    (listed (length given + 1) entry c.in-Ok.target, listing-push given entry c.in-Ok.target (rw c.as_slice.ensures at next.0), rw line at c.in-Err.ensures.written, tt)

@@ -1,0 +1,75 @@
+use Rattle.std.proofs.Common.{◌≡◌, ℕ, ◌+◌, ◌++◌, ◌^◌, ◌<◌, ◌≤◌, List, [], ◌∷◌, length, ap, sym, ◌∙◌, arith}
+use Rattle.std.proofs.lemmas.List.{length-append}
+use Rattle.mbox_text.specs.declared.entry.Entry.{Entry}
+use Rattle.mbox_text.specs.Spelling.{FromLines}
+use Rattle.mbox_text.proofs.Giving.{on_err}
+use Rattle.maildir_run.specs.Listing.{listing}
+use Rattle.maildir_run.proofs.Listings.{listing_output}
+use Rattle.maildir_run.proofs.Poured.{fault_is, read_broken, batch, batch_broken, names_fit, poured_none, poured_all, poured_more}
+use Rattle.maildir_run.proofs.listing.list_text.Goals as goal
+
+pub pieces-init : goal.pieces-init
+pieces-init g c =
+    let none = c.new-lister.ensures in
+    ([], rw none.counted (poured_none listing _ _ c.in_ok-messages.messages.splitter c.args.reads c.in_ok-messages.messages.reads c.new-whole.result.items listing_output c.in_ok-messages.ensures.0 c.in_ok-messages.ensures.1 c.new-whole.ensures.items), none)
+
+pub returns-in_err-ended-clause-front : goal.returns-in_err-ended-clause-front
+returns-in_err-ended-clause-front g c =
+    let b = read_broken listing c.pieces.invariant.0 _ _ _ _ _ c.pieces.messages c.pieces.whole.items c.args.reads c.pieces.lister.count c.in_err-ended.field-0.0 listing_output c.pieces.invariant.1 c.in_err-ended.ensures.went in
+    on_err c.from_residual-in_err-ended.result _ b.front
+
+pub returns-in_err-ended-clause-no_from_line : goal.returns-in_err-ended-clause-no_from_line
+returns-in_err-ended-clause-no_from_line g c = λ e.
+    let b = read_broken listing c.pieces.invariant.0 _ _ _ _ _ c.pieces.messages c.pieces.whole.items c.args.reads c.pieces.lister.count c.in_err-ended.field-0.0 listing_output c.pieces.invariant.1 c.in_err-ended.ensures.went in
+    b.nothing (fault_is c.from_residual-in_err-ended.result c.in_err-ended.field-0.0 _ c.from_residual-in_err-ended.ensures.1 e)
+
+pub returns-in_err-ended-clause-budget : goal.returns-in_err-ended-clause-budget
+returns-in_err-ended-clause-budget g c =
+    let b = read_broken listing c.pieces.invariant.0 _ _ _ _ _ c.pieces.messages c.pieces.whole.items c.args.reads c.pieces.lister.count c.in_err-ended.field-0.0 listing_output c.pieces.invariant.1 c.in_err-ended.ensures.went in
+    b.budget
+
+pub list-requires : goal.list-requires
+list-requires g c =
+    let b = batch listing c.pieces.invariant.0 _ _ _ _ _ c.pieces.messages c.read.new.self.splitter c.read.new.self.reads c.pieces.whole.items c.read.new.out.items c.args.reads c.pieces.lister.count c.in_ok-ended.ended
+    c.pieces.invariant.1 c.in_ok-ended.ensures.went in
+    rw c.deref.ensures.value b.from_lines
+
+pub returns-in_err-list-clause-front : goal.returns-in_err-list-clause-front
+returns-in_err-list-clause-front g c =
+    let given : List Entry = c.pieces.invariant.0 in
+    let b = batch listing given _ _ _ _ _ c.pieces.messages c.read.new.self.splitter c.read.new.self.reads c.pieces.whole.items c.read.new.out.items c.args.reads c.pieces.lister.count c.in_ok-ended.ended
+    c.pieces.invariant.1 c.in_ok-ended.ensures.went in
+    let fit = names_fit listing given _ _ _ _ c.read.new.out.items c.args.reads c.pieces.lister.count b c.requires in
+    let s = rw c.deref.ensures.value at (c.in_err-list.ensures.lists given c.pieces.invariant.2 (rw c.deref.ensures.value fit)) in
+    let w = batch_broken listing given _ _ _ _ _ c.read.new.out.items c.args.reads c.pieces.lister.count s.0 listing_output b s.1 s.2 in
+    on_err c.from_residual-in_err-list.result _ w.0
+
+pub returns-in_err-list-clause-budget : goal.returns-in_err-list-clause-budget
+returns-in_err-list-clause-budget g c =
+    let b = batch listing c.pieces.invariant.0 _ _ _ _ _ c.pieces.messages c.read.new.self.splitter c.read.new.self.reads c.pieces.whole.items c.read.new.out.items c.args.reads c.pieces.lister.count c.in_ok-ended.ended
+    c.pieces.invariant.1 c.in_ok-ended.ensures.went in
+    (b.text, b.read, b.budget)
+
+pub returns-then-ended-clause-all : goal.returns-then-ended-clause-all
+returns-then-ended-clause-all g c =
+    let given : List Entry = c.pieces.invariant.0 in
+    let b = batch listing given _ _ _ _ _ c.pieces.messages c.read.new.self.splitter c.read.new.self.reads c.pieces.whole.items c.read.new.out.items c.args.reads c.pieces.lister.count c.in_ok-ended.ended
+    c.pieces.invariant.1 c.in_ok-ended.ensures.went in
+    let fit = names_fit listing given _ _ _ _ c.read.new.out.items c.args.reads c.pieces.lister.count b c.requires in
+    let s = rw c.deref.ensures.value at (c.in_ok-list.ensures.lists given c.pieces.invariant.2 (rw c.deref.ensures.value fit)) in
+    let all = poured_all listing given _ _ _ _ _ _ c.pieces.messages c.read.new.self.splitter c.read.new.self.reads c.pieces.whole.items c.read.new.out.items c.args.reads c.pieces.lister.count
+    s.0 c.pieces.invariant.1 (rw c.if-ended.true at c.in_ok-ended.ensures.went) s.1 s.2 in
+    let count : c.list.new.self.count ≡ c.pieces.lister.count + length c.read.new.out.items = omega (arith, s.3.counted, c.pieces.invariant.2.counted, length-append given c.read.new.out.items) in
+    rw count all.0
+
+pub pieces-preserved : goal.pieces-preserved
+pieces-preserved g c =
+    let given : List Entry = c.pieces.invariant.0 in
+    let b = batch listing given _ _ _ _ _ c.pieces.messages c.read.new.self.splitter c.read.new.self.reads c.pieces.whole.items c.read.new.out.items c.args.reads c.pieces.lister.count c.in_ok-ended.ended
+    c.pieces.invariant.1 c.in_ok-ended.ensures.went in
+    let fit = names_fit listing given _ _ _ _ c.read.new.out.items c.args.reads c.pieces.lister.count b c.requires in
+    let s = rw c.deref.ensures.value at (c.in_ok-list.ensures.lists given c.pieces.invariant.2 (rw c.deref.ensures.value fit)) in
+    let more = poured_more listing given _ _ _ _ _ _ c.pieces.messages c.read.new.self.splitter c.read.new.self.reads c.pieces.whole.items c.read.new.out.items c.clear.new.self.items c.args.reads c.pieces.lister.count
+    s.0 c.pieces.invariant.1 (rw c.if-ended.false at c.in_ok-ended.ensures.went) s.1 s.2 c.clear.ensures.items in
+    let count : c.list.new.self.count ≡ c.pieces.lister.count + length c.read.new.out.items = omega (arith, s.3.counted, c.pieces.invariant.2.counted, length-append given c.read.new.out.items) in
+    (given ++ c.read.new.out.items, rw count more, s.3)

@@ -1,0 +1,16 @@
+use Rattle.std.proofs.Common.{List}
+use Rattle.mbox_text.specs.declared.entry.Entry.{Entry}
+use Rattle.maildir_run.specs.Listing.{listing}
+use Rattle.maildir_run.specs.Listed.{HasListed}
+use Rattle.maildir_run.proofs.Poured.{Poured}
+use Rattle.maildir_run.proofs.listing.list_text.Given as goal
+
+abbrev pub invariant-pieces : goal.invariant-pieces
+invariant-pieces g l =
+    (given : List Entry)
+    × Poured listing given (g.R.Read.remaining l.initial.source) (g.R.Read.remaining l.source) (g.W.Write.contents l.initial.out) (g.W.Write.contents l.out)
+    l.messages.splitter l.messages.reads l.whole.items l.fn.reads l.lister.count
+    × HasListed given l.lister.namer l.lister.count
+
+abbrev pub decreases-pieces : goal.decreases-pieces
+decreases-pieces g l = l.messages.reads

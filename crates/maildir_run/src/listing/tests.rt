@@ -1,0 +1,88 @@
+// Worked texts as they are listed, and refusals. The digests are those of other programs.
+use super::*;
+use crate::testing::{Cut, Then};
+use std::test::Fail;
+
+const LIMIT: u64 = 1_099_511_627_776;
+
+#[test]
+fn worked_texts(rt: HostRuntime) -> Result<(), Fail> {
+    let rows: [(&str, &[u8], &[u8], u64); 8] = [
+        ("empty_text", b"", b"", 0),
+        (
+            "unended_line",
+            b"From x\nabc",
+            b"1 ba7816bf8f01cfea414140de5dae2223b00361a396177a9cb410ff61f20015ad.1 new - 3 x\n",
+            1,
+        ),
+        (
+            "equal_empty_messages",
+            b"From a\n\nFrom b\n\n",
+            b"1 e3b0c44298fc1c149afbf4c8996fb92427ae41e4649b934ca495991b7852b855.1 new - 0 a\n2 e3b0c44298fc1c149afbf4c8996fb92427ae41e4649b934ca495991b7852b855.2 new - 0 b\n",
+            2,
+        ),
+        (
+            "body_of_one_line_end",
+            b"From a\n\n\n",
+            b"1 01ba4719c80b6fe911b091a7c05124b64eeece964e09c058ef8f9805daca546b.1 new - 1 a\n",
+            1,
+        ),
+        (
+            "all_flags",
+            b"From a\tb@c Thu Jan  1 00:00:00 1970\nStatus: RO\nX-Status: AF\n\nhi\n\n",
+            b"1 6e10782762e5fa1e91d5bfce9779c600776be9832f251fd48a19b758b735a824.1 cur 2,FRS 28 a?b@c\n",
+            1,
+        ),
+        (
+            "carriage_returns",
+            b"From a\r\nx\r\n\r\n",
+            b"1 5ffb1299c251e89766c7448c6d4609b9be1b5a07143345552c6da2e9d87ff025.1 new - 5 a?\n",
+            1,
+        ),
+        (
+            "no sender",
+            b"From \n",
+            b"1 e3b0c44298fc1c149afbf4c8996fb92427ae41e4649b934ca495991b7852b855.1 new - 0 -\n",
+            1,
+        ),
+        (
+            "a space for the sender",
+            b"From  x\nStatus: O\n\n\n",
+            b"1 8a5868e83419304256d0099b35489c50bd0de59ff9e9b30895f5aa064337dc8e.1 cur 2, 11 -\n",
+            1,
+        ),
+    ];
+    for (name, text, want, count) in rows {
+        for piece in [1, 14, 65_536] {
+            let mut out = Vec::new(rt.alloc());
+            let mut source = Cut::new(text, piece, Then::Ends);
+            assert_eq!(rt;
+                list_text(rt.alloc(), &mut source, &mut out, LIMIT)?,
+                count,
+                "{name} in pieces of {piece}"
+            );
+            assert!(rt; out.as_slice() == want, "{name} in pieces of {piece}");
+        }
+    }
+    Ok(())
+}
+
+#[test]
+fn refusals(rt: HostRuntime) {
+    let rows: [(&[u8], Then, u64, RunFault); 5] = [
+        (b"Subject: x\n", Then::Ends, LIMIT, RunFault::NoFromLine),
+        (b"Fro", Then::Ends, LIMIT, RunFault::NoFromLine),
+        (b"From x\n", Then::GoesOn, 5, RunFault::TooManyReads),
+        (b"From x\nabc", Then::Fails, LIMIT, RunFault::ReadFault),
+        (b"", Then::Ends, 0, RunFault::TooManyReads),
+    ];
+    for (text, then, reads, want) in rows {
+        let mut out = Vec::new(rt.alloc());
+        let mut source = Cut::new(text, 1, then);
+        assert!(rt;
+            list_text(rt.alloc(), &mut source, &mut out, reads) == Err(want),
+            "{text:?}"
+        );
+        assert!(rt; out.is_empty(), "{text:?}");
+    }
+}

@@ -1,0 +1,80 @@
+// Sources and writers for tests: they cut, fail, end or never end.
+use std::io;
+use std::io::{ErrorKind, Read, Write};
+
+/// How a source goes on after its bytes.
+#[derive(Clone, Copy, PartialEq, Eq)]
+pub(crate) enum Then {
+    Ends,
+    Fails,
+    GoesOn,
+}
+
+/// A source that gives its bytes in pieces of at most a size.
+#[derive(Drop)]
+pub(crate) struct Cut<'a> {
+    pub bytes: &'a [u8],
+    pub piece: usize,
+    pub then: Then,
+    pub reads: u64,
+}
+
+impl<'a> Cut<'a> {
+    pub(crate) fn new(bytes: &'a [u8], piece: usize, then: Then) -> Cut<'a> {
+        Cut {
+            bytes,
+            piece,
+            then,
+            reads: 0,
+        }
+    }
+}
+
+impl Read for Cut<'_> {
+    fn read(&mut self, buf: &mut [u8]) -> io::Result<usize> {
+        self.reads = self.reads.saturating_add(1);
+        let n = self.piece.min(buf.len()).min(self.bytes.len());
+        let (front, rest) = self.bytes.split_at(n);
+        buf[..n].copy_from_slice(front);
+        self.bytes = rest;
+        if n > 0 {
+            return Ok(n);
+        }
+        match self.then {
+            Then::Ends => Ok(0),
+            Then::Fails => Err(io::Error::from(ErrorKind::Other)),
+            Then::GoesOn => {
+                let more = self.piece.min(buf.len());
+                for byte in &mut buf[..more] {
+                    *byte = b'a';
+                }
+                Ok(more)
+            }
+        }
+    }
+}
+
+/// A writer that takes so many bytes and then fails or takes none.
+#[derive(Drop)]
+pub(crate) struct Narrow {
+    pub taken: Vec<u8>,
+    pub room: usize,
+    pub piece: usize,
+    pub fails: bool,
+}
+
+impl Write for Narrow {
+    fn write(&mut self, buf: &[u8]) -> io::Result<usize> {
+        let n = self.room.min(self.piece).min(buf.len());
+        if n == 0 && self.fails {
+            return Err(io::Error::from(ErrorKind::StorageFull));
+        }
+        self.taken.extend_from_slice(&buf[..n])?;
+        self.room -= n;
+        Ok(n)
+    }
+
+    fn flush(&mut self) -> io::Result<()> {
+        Ok(())
+    }
+}

@@ -1,0 +1,39 @@
+// Why a command was not done.
+use crate::disk;
+use maildir_run::RunFault;
+use std::alloc::AllocError;
+use std::io;
+use thiserror::Error;
+
+/// Why a command was not done.
+#[derive(Clone, Copy, Debug, Drop, Error, PartialEq, Eq)]
+pub enum Fault {
+    /// The file that was named cannot be opened.
+    #[error("cannot open the source")]
+    Source,
+    /// The work on them ended early.
+    #[error("{0}")]
+    Run(RunFault),
+}
+
+impl From<RunFault> for Fault {
+    fn from(fault: RunFault) -> Fault {
+        Fault::Run(fault)
+    }
+}
+
+impl From<AllocError> for Fault {
+    fn from(error: AllocError) -> Fault {
+        Fault::Run(RunFault::from(error))
+    }
+}
+
+impl Fault {
+    /// What it is that a source could not be opened.
+    pub fn of_source(error: &io::Error) -> Fault {
+        if disk::is_refused_growth(error) {
+            return Fault::Run(RunFault::OutOfMemory);
+        }
+        Fault::Source
+    }
+}

@@ -1,0 +1,89 @@
+// The program's work: its words, its streams and its status.
+ghost use Rattle.std.specs.Prelude.{◌≡◌, ◌↔◌, map, string_bytes};
+ghost use Rattle.std.specs.Io.KnownBytes.{Keeps};
+ghost use Rattle.mbox2maildir.specs.Words.{AreOfAForm};
+
+use crate::command::Command;
+use crate::fault::Fault;
+use maildir_run::{RunFault, list_text, rewrite};
+use std::alloc::Global;
+use std::fmt::Display;
+use std::fs;
+use std::io::{BufWriter, Read, Write};
+use std::rt::Files;
+
+// How many reads a run makes at most.
+const READS: u64 = 1 << 40;
+
+// How many bytes of output are written at once.
+const OUTPUT_BYTES: usize = 1 << 16;
+
+/// Does the program's work, and answers its status: 0 where it is done; 1 after a fault, and 2 where the words are
+/// of no form, each with one line on standard error. A fault in writing to standard error changes no status.
+pub fn run<R: Files, I: Read, W: Write, E: Write>(
+    rt: &R,
+    alloc: Global,
+    words: &[String],
+    input: &mut I,
+    out: &mut W,
+    err: &mut E,
+) -> u8
+    ensures wrong { (result ≡ 2) ↔ ¬ AreOfAForm (map string_bytes words.now) }
+    ensures untouched { result ≡ 2 → Keeps (W.contents out.old) (W.contents out.new) }
+{
+    let Some(command) = Command::of(words) else {
+        tell("wrong words", err);
+        return 2;
+    };
+    match perform(rt, alloc, command, input, out) {
+        Ok(()) => 0,
+        Err(fault) => {
+            tell(fault, err);
+            1
+        }
+    }
+}
+
+/// Writes the line of a fault to standard error.
+pub fn tell<E: Write>(fault: impl Display + Drop, err: &mut E) {
+    let _ = writeln!(err, "mbox2maildir: {fault}");
+}
+
+// Opens the source of a command and then does its work.
+fn perform<R: Files, I: Read, W: Write>(
+    rt: &R,
+    alloc: Global,
+    command: Command<'_>,
+    input: &mut I,
+    out: &mut W,
+) -> Result<(), Fault> {
+    match command.file() {
+        None => work(alloc, command, input, out),
+        Some(path) => {
+            let mut source = fs::open(rt, path).map_err(|error| Fault::of_source(&error))?;
+            work(alloc, command, &mut source, out)
+        }
+    }
+}
+
+// Does the work of a command on its source, and writes what it gives through a buffer.
+fn work<I: Read, W: Write>(
+    alloc: Global,
+    command: Command<'_>,
+    source: &mut I,
+    out: &mut W,
+) -> Result<(), Fault> {
+    let mut out = BufWriter::with_capacity(alloc, OUTPUT_BYTES, out).map_err(
+        |_| RunFault::OutOfMemory,
+    )?;
+    match command {
+        Command::Rewrite(_) => {
+            rewrite(alloc, source, &mut out, READS)?;
+        }
+        Command::List(_) => {
+            list_text(alloc, source, &mut out, READS)?;
+        }
+    }
+    out.flush().map_err(|_| RunFault::OutputFault)?;
+    Ok(())
+}
