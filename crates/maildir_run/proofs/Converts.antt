@@ -18,6 +18,8 @@ use Rattle.maildir_run.specs.Texts.{messages_of, bodies_of, MessagesOf}
 use Rattle.maildir_run.specs.Runs.{Possible, Reports, Ends, Keeps, Run}
 use Rattle.maildir_run.specs.Progress.{LeavesHomes, TmpWithin, Knows, Progress, Reached, Came}
 use Rattle.maildir_run.specs.Given.{GaveAll}
+use Rattle.maildir_run.specs.Alone.{swept, filled, alone}
+use Rattle.maildir_run.specs.Quietly.{Filled}
 use Rattle.std.specs.FinMap.{contains_key}
 use Rattle.maildir_run.proofs.MessageLemmas.{text_named, text_distinct, length-messages_of}
 use Rattle.maildir_run.proofs.Progress.{Stands, progress_stands}
@@ -153,3 +155,22 @@ batch_few given whole entries reads e few most = omega (arith, ap length e, leng
 pub run_err : (t : List ℕ) (start now : Files) (r : Result Report RunFault) → IsErr r → ((fault : RunFault) → Run t start (Err fault) now) → Run t start r now
 run_err t start now (Ok x) is run = let off : false ≡ true = is in cc
 run_err t start now (Err fault) is run = run fault
+
+-- ---- undisturbed
+pub filled_none : (start mid now : Files) (there : BaseSet) (namer : Counts) → mid ≡ start → now ≡ swept mid → Knows (contains_key there) start → Named [] namer → Filled [] start there namer now
+filled_none start mid now there namer e f knows named = record {
+  named = named;
+  knows = knows;
+  exact = f ∙ ap swept e ∙ sym (ap (λ ms. filled start ms (swept start)) no_messages)
+}
+
+pub alone_run : (before source_now : Option (List ℕ)) (reads : ℕ) (text : List ℕ) (all : List Entry) (start now : Files) (there : BaseSet) (namer : Counts) → GaveAll before source_now reads text all → Filled (bodies_of all) start there namer now → (t : List ℕ) (ms : List Message) → Possible before source_now t → MessagesOf t ms → now ≡ alone ms start
+alone_run before source_now reads text all start now there namer gave f t ms p of =
+    let at_end : p.left ≡ [] = rw p.has at gave.end in
+    let is : t ≡ text = rw (← read_is before source_now text t gave.read p) p.front ∙ ap (λ xs. text ++ xs) (p.whole at_end) ∙ append-nil text in
+    let whole : Mbox t all = rw is gave.all in
+    let e : ms ≡ messages_of (bodies_of all) = elim of as (λ _. ms ≡ messages_of (bodies_of all)) [
+      | inl (entries, m, e) ↦ e ∙ ap (λ es. messages_of (bodies_of es)) (mbox-one t entries all m whole)
+      | inr (none, e) ↦ absurd (none all whole)
+    ] in
+    f.exact ∙ ap (λ x. filled start x (swept start)) (sym e)

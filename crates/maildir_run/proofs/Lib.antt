@@ -24,4 +24,5 @@ pub mod Poured
 pub mod Each
 pub mod MessageLemmas
 pub mod AloneLemmas
+pub mod QuietRuns
 pub mod Listings

@@ -57,7 +57,7 @@ home_known m s on (inl none) = let off : has_home s m.target.base ≡ false = ap
 home_known m s on (inr home) = home
 
 -- ---- the next message
-last_is : (ts : List Target) (a b : Target) → ts ++ a ∷ [] ≡ ts ++ b ∷ [] → a ≡ b
+pub last_is : (ts : List Target) (a b : Target) → ts ++ a ∷ [] ≡ ts ++ b ∷ [] → a ≡ b
 last_is [] a b e = cc
 last_is (t ∷ ts) a b e = let inner : ts ++ a ∷ [] ≡ ts ++ b ∷ [] = cc in last_is ts a b inner
 

@@ -13,5 +13,6 @@ pub mod Reading
 pub mod FileTree
 pub mod MemFolder
 pub mod Output
+pub mod Quietly
 pub mod Listing
 pub mod Listed

@@ -3,10 +3,14 @@ ghost use Rattle.std.specs.Prelude.{◌≡◌, ◌⊎◌, ◌*◌, ◌^◌, ◌<
 ghost use Rattle.std.specs.Io.KnownBytes.{IsAtEnd};
 ghost use Rattle.mbox_text.specs.declared.entry.Entry.{Entry as Message};
 ghost use Rattle.mbox_text.specs.Mbox.{Mbox};
+ghost use Rattle.maildir_run.specs.Alone.{alone as alone_after};
 ghost use Rattle.maildir_run.specs.Counting.{CountsFault, IsOfFolder, Numbers};
+ghost use Rattle.maildir_run.specs.Delivery.{Message as Due, leftover_count};
 ghost use Rattle.maildir_run.specs.Given.{Begins, Refused};
+ghost use Rattle.maildir_run.specs.Quietly.{LeavesOthers};
 ghost use Rattle.maildir_run.specs.Reading.{IsReading, ReadsAtMost, Taken};
 ghost use Rattle.maildir_run.specs.Runs.{CountsRun, Possible, Run};
+ghost use Rattle.maildir_run.specs.Texts.{MessagesOf};
 
 use crate::bases::Bases;
 use crate::calls::Calls;
@@ -40,6 +44,12 @@ pub fn convert<F: Folder, R: Read>(
     ensures honest { F.honest folder.old → F.honest folder.new }
     ensures run { F.honest folder.old → (t : List ℕ) → length t < 2 ^ 63 → Possible (R.remaining source.old) (R.remaining source.new) t → Run t (F.files folder.old) result (F.files folder.new) }
     ensures end { OnOk result (IsAtEnd (R.remaining source.new)) }
+
+    // where nobody disturbs it
+    ensures quiet { F.quiet folder.old → F.quiet folder.new }
+    ensures alone { F.quiet folder.old → (t : List ℕ) (ms : List Due) → Possible (R.remaining source.old) (R.remaining source.new) t → MessagesOf t ms →
+        IfOk result (λ report. (F.files folder.new ≡ alone_after ms (F.files folder.old)) × (report.swept ≡ leftover_count (F.files folder.old))) }
+    ensures others { F.quiet folder.old → LeavesOthers (F.files folder.old) (F.files folder.new) }
 
     // what it counts
     ensures calls { IfOk result (λ report. CountsRun report (F.calls folder.old) (F.calls folder.new)) }

@@ -1,8 +1,11 @@
 // One message on its way to its target.
-ghost use Rattle.std.specs.Prelude.{◌≡◌, [], List, ℕ, OnOk, IfErr};
+ghost use Rattle.std.specs.Prelude.{◌≡◌, [], None, OnOk, IfErr};
+ghost use Rattle.std.specs.FinMap.{get};
+ghost use Rattle.maildir_run.specs.Alone.{added};
 ghost use Rattle.maildir_run.specs.Counting.{CountsFault, IsNumbered, IsOfFolder, Makes, MakesUpTo};
 ghost use Rattle.maildir_run.specs.Delivery.{IsMissing, IsHome};
 ghost use Rattle.maildir_run.specs.Progress.{IsTarget, Brings, TmpWithin, message_at};
+ghost use Rattle.maildir_run.specs.Quietly.{LeavesOthers};
 
 use crate::calls::Calls;
 use crate::fault::RunFault;
@@ -22,6 +25,10 @@ pub(crate) fn bring<F: Folder>(
     ensures brings { F.honest folder.old → IsMissing (F.files folder.old) (message_at target.now body.now) → Brings (message_at target.now body.now) (F.files folder.old) (F.files folder.new) }
     ensures home { F.honest folder.old → IsMissing (F.files folder.old) (message_at target.now body.now) → OnOk result (IsHome (F.files folder.new) (message_at target.now body.now)) }
     ensures swept { F.honest folder.old → IsMissing (F.files folder.old) (message_at target.now body.now) → TmpWithin [] (F.files folder.old) → OnOk result (TmpWithin [] (F.files folder.new)) }
+
+    ensures quiet { F.quiet folder.old → F.quiet folder.new }
+    ensures exact { F.quiet folder.old → get (F.files folder.old).tmp target.now.base ≡ None → OnOk result (F.files folder.new ≡ added (F.files folder.old) target.now.place target.now.name body.now) }
+    ensures others { F.quiet folder.old → LeavesOthers (F.files folder.old) (F.files folder.new) }
 
     ensures made { OnOk result (Makes 2 calls.old.made calls.new.made (F.calls folder.old) (F.calls folder.new)) }
     ensures most { MakesUpTo 2 calls.old.made calls.new.made (F.calls folder.old) (F.calls folder.new) }

@@ -5,6 +5,7 @@ ghost use Rattle.maildir_run.specs.Counting.{CountsFault, IsNumbered, IsOfFolder
 ghost use Rattle.maildir_run.specs.Delivery.{IsSoundAt};
 ghost use Rattle.maildir_run.specs.Files.{Files};
 ghost use Rattle.maildir_run.specs.Progress.{Reached, Came, Places};
+ghost use Rattle.maildir_run.specs.Quietly.{Filled, LeavesOthers};
 ghost use Rattle.maildir_run.specs.Texts.{messages_of, bodies_of};
 
 use crate::bases::Bases;
@@ -72,6 +73,11 @@ impl<'a> Engine<'a> {
             length bodies < 2 ^ 63 → All (IsSoundAt start) (messages_of (bodies ++ body.now ∷ [])) →
             Came (bodies ++ body.now ∷ []) start (F.files folder.new) }
 
+        ensures quiet { F.quiet folder.old → F.quiet folder.new }
+        ensures exact { F.quiet folder.old → (bodies : List (List ℕ)) (start : Files) → Filled bodies start self.old.there self.old.namer (F.files folder.old) → length bodies < 2 ^ 63 →
+            OnOk result (Filled (bodies ++ body.now ∷ []) start self.new.there self.new.namer (F.files folder.new)) }
+        ensures others { F.quiet folder.old → LeavesOthers (F.files folder.old) (F.files folder.new) }
+
         ensures one { OnOk result (self.new.messages ≡ self.old.messages + 1) }
         ensures made { OnOk result (Places self.old.placed self.new.placed self.old.calls.made self.new.calls.made (F.calls folder.old) (F.calls folder.new)) }
         ensures most { MakesUpTo 2 self.old.calls.made self.new.calls.made (F.calls folder.old) (F.calls folder.new) }
@@ -102,6 +108,11 @@ impl<'a> Engine<'a> {
         ensures came { F.honest folder.old → (bodies : List (List ℕ)) (start : Files) → Reached bodies start self.old.there self.old.namer self.old.messages self.old.placed (F.files folder.old) →
             length bodies + length entries.now ≤ 2 ^ 63 → All (IsSoundAt start) (messages_of (bodies ++ bodies_of entries.now)) →
             Came (bodies ++ bodies_of entries.now) start (F.files folder.new) }
+
+        ensures quiet { F.quiet folder.old → F.quiet folder.new }
+        ensures exact { F.quiet folder.old → (bodies : List (List ℕ)) (start : Files) → Filled bodies start self.old.there self.old.namer (F.files folder.old) → length bodies + length entries.now ≤ 2 ^ 63 →
+            OnOk result (Filled (bodies ++ bodies_of entries.now) start self.new.there self.new.namer (F.files folder.new)) }
+        ensures others { F.quiet folder.old → LeavesOthers (F.files folder.old) (F.files folder.new) }
 
         ensures all { OnOk result (self.new.messages ≡ self.old.messages + length entries.now) }
         ensures made { OnOk result (Places self.old.placed self.new.placed self.old.calls.made self.new.calls.made (F.calls folder.old) (F.calls folder.new)) }

@@ -1,5 +1,6 @@
 // What is there as a run begins.
-ghost use Rattle.std.specs.Prelude.{◌≡◌, ℕ, ◌≤◌, IfOk, OnOk, length, filter, IfErr};
+ghost use Rattle.std.specs.Prelude.{◌≡◌, ◌≤◌, IfOk, OnOk, IsPermutation, length, filter, IfErr};
+ghost use Rattle.std.specs.FinMap.{keys};
 ghost use Rattle.maildir_name.specs.Names.{is_converter_name};
 ghost use Rattle.maildir_run.specs.Calls.{names_of};
 ghost use Rattle.maildir_run.specs.Counting.{CountsFault, IsNumbered, IsOfFolder, Makes, MakesUpTo};
@@ -26,6 +27,10 @@ pub(crate) fn look<F: Folder>(folder: &mut F, calls: &mut Calls) -> Result<Surve
     ensures within { F.honest folder.old → IfOk result (λ found. TmpWithin (names_of found.tmp) (F.files folder.new)) }
     ensures few { F.honest folder.old → IfOk result (λ found. length (filter is_converter_name (names_of found.tmp)) ≤ leftover_count (F.files folder.old)) }
     ensures shown { F.honest folder.old → IfOk result (λ found. Knows (is_listed (names_of found.new) (names_of found.cur)) (F.files folder.old)) }
+
+    ensures quiet { F.quiet folder.old → F.quiet folder.new }
+    ensures same { F.quiet folder.old → F.files folder.new ≡ F.files folder.old }
+    ensures listed { F.quiet folder.old → IfOk result (λ found. IsPermutation (names_of found.tmp) (keys (F.files folder.old).tmp)) }
 
     ensures made { OnOk result (Makes 3 calls.old.made calls.new.made (F.calls folder.old) (F.calls folder.new)) }
     ensures most { MakesUpTo 3 calls.old.made calls.new.made (F.calls folder.old) (F.calls folder.new) }

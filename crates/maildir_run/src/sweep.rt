@@ -1,8 +1,11 @@
 // The sweep: what broken runs left in `tmp` is removed.
-ghost use Rattle.std.specs.Prelude.{◌≡◌, [], ◌<◌, ◌^◌, IfOk, OnOk, map, length, filter, string_bytes, IfErr};
+ghost use Rattle.std.specs.Prelude.{◌≡◌, [], ◌<◌, ◌^◌, IfOk, OnOk, IsPermutation, map, length, filter, string_bytes, IfErr};
+ghost use Rattle.std.specs.FinMap.{keys};
 ghost use Rattle.maildir_name.specs.Names.{is_converter_name as converter_name};
+ghost use Rattle.maildir_run.specs.Alone.{swept as swept_files};
 ghost use Rattle.maildir_run.specs.Counting.{CountsFault, IsNumbered, IsOfFolder, Makes, MakesUpTo};
 ghost use Rattle.maildir_run.specs.Progress.{LeavesHomes, TmpWithin};
+ghost use Rattle.maildir_run.specs.Quietly.{LeavesOthers};
 
 use crate::calls::Calls;
 use crate::fault::RunFault;
@@ -19,6 +22,10 @@ pub(crate) fn sweep<F: Folder>(
     ensures leaves { F.honest folder.old → LeavesHomes (F.files folder.old) (F.files folder.new) }
     ensures swept { F.honest folder.old → TmpWithin (map string_bytes listed.now) (F.files folder.old) → OnOk result (TmpWithin [] (F.files folder.new)) }
     ensures count { IfOk result (λ n. n ≡ length (filter converter_name (map string_bytes listed.now))) }
+
+    ensures quiet { F.quiet folder.old → F.quiet folder.new }
+    ensures all { F.quiet folder.old → IsPermutation (map string_bytes listed.now) (keys (F.files folder.old).tmp) → OnOk result (F.files folder.new ≡ swept_files (F.files folder.old)) }
+    ensures others { F.quiet folder.old → LeavesOthers (F.files folder.old) (F.files folder.new) }
 
     ensures made { IfOk result (λ n. Makes n calls.old.made calls.new.made (F.calls folder.old) (F.calls folder.new)) }
     ensures few { IfOk result (λ n. n < 2 ^ 64) }

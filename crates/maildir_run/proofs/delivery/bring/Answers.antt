@@ -4,6 +4,10 @@ use Rattle.maildir_run.specs.Progress.{message_at}
 use Rattle.maildir_run.proofs.Counts.{one_call, more_calls, up_to}
 use Rattle.maildir_run.proofs.Steps.{write_brings, write_ok, place_brings, place_home, some_moves}
 use Rattle.maildir_run.proofs.Sweeps.{told_called}
+use Rattle.maildir_run.specs.Calls.{Writing, Placing}
+use Rattle.maildir_name.specs.Names.{base, is_converter_name, is_converter_base}
+use Rattle.maildir_run.proofs.Maps.{is_name-true}
+use Rattle.maildir_run.proofs.QuietRuns.{quiet_effect, quiet_others, others_then, brought_exact}
 use Rattle.maildir_run.proofs.delivery.bring.Goals as goal
 
 pub returns-in_err-answered-clause-brings : goal.returns-in_err-answered-clause-brings
@@ -52,3 +56,35 @@ returns-clause-made g c =
 
 pub returns-clause-most : goal.returns-clause-most
 returns-clause-most g c = up_to 2 2 _ _ _ _ (omega arith) (returns-clause-made g c)
+
+pub returns-in_err-answered-clause-others : goal.returns-in_err-answered-clause-others
+returns-in_err-answered-clause-others g c = λ q.
+    let t = c.args.target.now in
+    let ours : IsTrue (is_converter_name c.as_str-base.result.now) =
+      ap is_converter_name c.as_str-base.ensures ∙ ap is_converter_base (sym (is_name-true t.base (base t.base) c.requires.whole)) ∙ c.requires.named in
+    quiet_others (Writing c.as_str-base.result.now c.args.body.now) ours (g.F.Folder.files c.args.folder.now) c.write.result (g.F.Folder.files c.write.new.self) (c.write.ensures.alone q)
+
+pub returns-in_err-answered-2-clause-others : goal.returns-in_err-answered-2-clause-others
+returns-in_err-answered-2-clause-others g c = λ q.
+    let t = c.args.target.now in
+    let ours : IsTrue (is_converter_name c.as_str-base.result.now) =
+      ap is_converter_name c.as_str-base.ensures ∙ ap is_converter_base (sym (is_name-true t.base (base t.base) c.requires.whole)) ∙ c.requires.named in
+    let theirs : IsTrue (is_converter_name c.as_str.result.now) =
+      ap is_converter_name c.as_str.ensures ∙ ap is_converter_base (sym (is_name-true t.base (base t.name) c.requires.under)) ∙ c.requires.named in
+    others_then _ _ _ (quiet_others (Writing c.as_str-base.result.now c.args.body.now) ours (g.F.Folder.files c.args.folder.now) c.write.result (g.F.Folder.files c.write.new.self) (c.write.ensures.alone q)) (quiet_others (Placing c.as_str-base.result.now t.place c.as_str.result.now) (ours, theirs) (g.F.Folder.files c.write.new.self) c.place.result (g.F.Folder.files c.place.new.self) (c.place.ensures.alone (c.write.ensures.quiet q)))
+
+pub returns-clause-exact : goal.returns-clause-exact
+returns-clause-exact g c = λ q free.
+    let t = c.args.target.now in
+    brought_exact (g.F.Folder.files c.args.folder.now) (g.F.Folder.files c.write.new.self) (g.F.Folder.files c.place.new.self) t.base c.as_str-base.result.now c.args.body.now t.place t.name c.as_str.result.now c.as_str-base.ensures c.as_str.ensures
+      (quiet_effect (Writing c.as_str-base.result.now c.args.body.now) (g.F.Folder.files c.args.folder.now) c.write.result (g.F.Folder.files c.write.new.self) _ _ c.in_ok-answered.ensures.is (c.write.ensures.alone q))
+      (quiet_effect (Placing c.as_str-base.result.now t.place c.as_str.result.now) (g.F.Folder.files c.write.new.self) c.place.result (g.F.Folder.files c.place.new.self) _ _ c.in_ok-answered-2.ensures.is (c.place.ensures.alone (c.write.ensures.quiet q))) free
+
+pub returns-clause-others : goal.returns-clause-others
+returns-clause-others g c = λ q.
+    let t = c.args.target.now in
+    let ours : IsTrue (is_converter_name c.as_str-base.result.now) =
+      ap is_converter_name c.as_str-base.ensures ∙ ap is_converter_base (sym (is_name-true t.base (base t.base) c.requires.whole)) ∙ c.requires.named in
+    let theirs : IsTrue (is_converter_name c.as_str.result.now) =
+      ap is_converter_name c.as_str.ensures ∙ ap is_converter_base (sym (is_name-true t.base (base t.name) c.requires.under)) ∙ c.requires.named in
+    others_then _ _ _ (quiet_others (Writing c.as_str-base.result.now c.args.body.now) ours (g.F.Folder.files c.args.folder.now) c.write.result (g.F.Folder.files c.write.new.self) (c.write.ensures.alone q)) (quiet_others (Placing c.as_str-base.result.now t.place c.as_str.result.now) (ours, theirs) (g.F.Folder.files c.write.new.self) c.place.result (g.F.Folder.files c.place.new.self) (c.place.ensures.alone (c.write.ensures.quiet q)))

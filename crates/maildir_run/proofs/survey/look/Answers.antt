@@ -3,6 +3,10 @@ use Rattle.maildir_run.specs.Counting.{Makes}
 use Rattle.maildir_run.proofs.Counts.{one_call, more_calls, up_to}
 use Rattle.maildir_run.proofs.Steps.{leaves_trans, listing_within}
 use Rattle.maildir_run.proofs.Surveys.{some_listing, told_listing, listed_within, three_listings, few_listed}
+use Rattle.std.proofs.Common.{IsPermutation}
+use Rattle.std.specs.FinMap.{keys}
+use Rattle.maildir_run.specs.Calls.{names_of}
+use Rattle.maildir_run.proofs.QuietRuns.{quiet_listing, told_names}
 use Rattle.maildir_run.proofs.survey.look.Goals as goal
 
 pub returns-in_err-tmp-clause-leaves : goal.returns-in_err-tmp-clause-leaves
@@ -66,3 +70,23 @@ returns-clause-made g c =
 
 pub returns-clause-most : goal.returns-clause-most
 returns-clause-most g c = up_to 3 3 _ _ _ _ (omega arith) (returns-clause-made g c)
+
+pub returns-in_err-tmp-clause-same : goal.returns-in_err-tmp-clause-same
+returns-in_err-tmp-clause-same g c = λ q. quiet_listing _ _ c.list.result _ (c.list.ensures.alone q)
+
+pub returns-in_err-new-clause-same : goal.returns-in_err-new-clause-same
+returns-in_err-new-clause-same g c = λ q. quiet_listing _ _ c.list-2.result _ (c.list-2.ensures.alone (c.list.ensures.quiet q)) ∙ quiet_listing _ _ c.list.result _ (c.list.ensures.alone q)
+
+pub returns-in_err-cur-clause-same : goal.returns-in_err-cur-clause-same
+returns-in_err-cur-clause-same g c = λ q.
+    let q1 = c.list.ensures.quiet q in
+    quiet_listing _ _ c.list-3.result _ (c.list-3.ensures.alone (c.list-2.ensures.quiet q1)) ∙ quiet_listing _ _ c.list-2.result _ (c.list-2.ensures.alone q1) ∙ quiet_listing _ _ c.list.result _ (c.list.ensures.alone q)
+
+pub returns-clause-same : goal.returns-clause-same
+returns-clause-same g c = λ q.
+    let q1 = c.list.ensures.quiet q in
+    quiet_listing _ _ c.list-3.result _ (c.list-3.ensures.alone (c.list-2.ensures.quiet q1)) ∙ quiet_listing _ _ c.list-2.result _ (c.list-2.ensures.alone q1) ∙ quiet_listing _ _ c.list.result _ (c.list.ensures.alone q)
+
+pub returns-clause-listed : goal.returns-clause-listed
+returns-clause-listed g c = λ q.
+    told_names (λ v. IsPermutation (names_of v) (keys (g.F.Folder.files c.args.folder.now).tmp)) _ c.list.result c.in_ok-tmp.tmp c.in_ok-tmp.ensures.is (c.list.ensures.names q)

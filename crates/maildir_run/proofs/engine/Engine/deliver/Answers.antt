@@ -1,7 +1,14 @@
 use Rattle.std.proofs.Common.{◌≡◌, true, false, sym, ap, subst, ◌∙◌}
 use Rattle.std.specs.FinMap.{contains_key}
 use Rattle.maildir_run.specs.Progress.{Reached, Came, message_at}
-use Rattle.maildir_run.proofs.Reach.{target_is, Next, missing_now, reached_there, reached_brought, came_brought, came_whole}
+use Rattle.std.proofs.Common.{◌++◌, ◌∷◌, []}
+use Rattle.maildir_name.specs.Targets.{target, targets}
+use Rattle.maildir_name.proofs.TargetLemmas.{targets-push}
+use Rattle.maildir_run.specs.Texts.{messages_of}
+use Rattle.maildir_run.specs.Quietly.{Filled}
+use Rattle.maildir_run.proofs.MessageLemmas.{messages_of-push}
+use Rattle.maildir_run.proofs.QuietRuns.{others_same, free_now, filled_there, filled_brought}
+use Rattle.maildir_run.proofs.Reach.{last_is, target_is, Next, missing_now, reached_there, reached_brought, came_brought, came_whole}
 use Rattle.maildir_run.proofs.engine.Engine.deliver.Goals as goal
 use Rattle.maildir_run.proofs.engine.Engine.deliver.Goals.{then-not-contains+in_ok-bring, else-not-contains}
 
@@ -39,3 +46,23 @@ returns-clause-done g c = λ honest bodies start r few sound.
 
 pub returns-clause-came : goal.returns-clause-came
 returns-clause-came g c = λ honest bodies start r few sound. came_whole _ _ _ _ _ _ _ (returns-clause-done g c honest bodies start r few sound)
+
+pub returns-clause-exact : goal.returns-clause-exact
+returns-clause-exact g c = λ q bodies start f few.
+    let t = c.in_ok-target.target in
+    let there = c.args.self.now.there in
+    let old = g.F.Folder.files c.args.folder.now in
+    let body = c.args.body.now in
+    let told = c.in_ok-target.ensures.next bodies f.named few in
+    let named = target_is t c.in_ok-target.ensures.base in
+    let is : messages_of (bodies ++ body ∷ []) ≡ messages_of bodies ++ message_at t body ∷ [] =
+      messages_of-push bodies body ∙ ap (λ x. messages_of bodies ++ message_at x body ∷ []) (last_is (targets bodies) (target bodies body) t (sym (targets-push bodies body) ∙ told.0)) in
+    let test : contains_key there t.base ≡ c.contains.result = ap (contains_key there) (sym c.as_str.ensures) ∙ sym c.contains.ensures in
+    elim c.if-not-contains.branch [
+      | then-not-contains+in_ok-bring w ↦
+        rw (w.self-is, w.folder-is)
+          (filled_brought bodies body t start there c.args.self.now.namer old is named f _ (g.F.Folder.files w.bring.new.folder) told.1 (test ∙ w.if-not-contains.true)
+            (w.in_ok-bring.ensures.exact q (free_now bodies body t start there c.args.self.now.namer old is named f)))
+      | else-not-contains w ↦
+        rw (w.self-is, w.folder-is) (filled_there bodies body t start there c.args.self.now.namer old is named f _ told.1 (test ∙ w.if-not-contains.false))
+    ]

@@ -7,6 +7,8 @@ use Rattle.maildir_run.specs.Texts.{messages_of, bodies_of}
 use Rattle.maildir_run.proofs.Batches.{bodies_next, few_next, sound_next, came_next}
 use Rattle.maildir_run.proofs.Counts.{no_failure, up_to_then, places_then}
 use Rattle.maildir_run.proofs.Reach.{came_whole}
+use Rattle.maildir_run.specs.Quietly.{Filled}
+use Rattle.maildir_run.proofs.QuietRuns.{others_same, others_then}
 use Rattle.maildir_run.proofs.engine.Engine.deliver_all.Goals as goal
 
 pub returns-in_err-deliver-clause-came : goal.returns-in_err-deliver-clause-came
@@ -45,6 +47,13 @@ loop-entry-preserved g c =
           let now = c.deliver.new.self in
           subst (λ bs. Reached bs start now.there now.namer now.messages now.placed (g.F.Folder.files c.deliver.new.folder))
           (ap (λ b. (bodies ++ bodies_of (take i entries)) ++ b ∷ []) c.as_slice.ensures ∙ sym (bodies_next entries i entry lt c.entry-item.is bodies)) done;
+      quiet = λ q. c.in_ok-deliver.ensures.quiet (before.quiet q);
+      exact = λ q bodies start f few.
+        let now = c.deliver.new.self in
+        subst (λ bs. Filled bs start now.there now.namer (g.F.Folder.files c.deliver.new.folder))
+          (ap (λ b. (bodies ++ bodies_of (take i entries)) ++ b ∷ []) c.as_slice.ensures ∙ sym (bodies_next entries i entry lt c.entry-item.is bodies))
+          (c.in_ok-deliver.ensures.exact (before.quiet q) (bodies ++ bodies_of (take i entries)) start (before.exact q bodies start f few) (few_next entries i entry lt c.entry-item.is bodies few));
+      others = λ q. others_then _ _ _ (before.others q) (c.in_ok-deliver.ensures.others (before.quiet q));
       count = omega arith;
       made = places_then _ _ _ _ _ _ _ _ _ before.made c.in_ok-deliver.ensures.made;
       most = up_to_then (2 * i) 2 _ _ _ _ _ _ _ (omega arith) before.most c.in_ok-deliver.ensures.most;
@@ -60,3 +69,13 @@ returns-clause-done g c = λ honest bodies start r few sound.
 
 pub returns-clause-came : goal.returns-clause-came
 returns-clause-came g c = λ honest bodies start r few sound. came_whole _ _ _ _ _ _ _ (returns-clause-done g c honest bodies start r few sound)
+
+pub returns-in_err-deliver-clause-others : goal.returns-in_err-deliver-clause-others
+returns-in_err-deliver-clause-others g c = λ q. others_then _ _ _ (c.loop-entry.invariant.others q) (c.in_err-deliver.ensures.others (c.loop-entry.invariant.quiet q))
+
+pub returns-clause-exact : goal.returns-clause-exact
+returns-clause-exact g c = λ q bodies start f few.
+    let now = c.loop-entry.self in
+    let le : length c.args.entries.now ≤ c.loop-entry.entry-index = c.loop-entry-test.false in
+    subst (λ es. Filled (bodies ++ bodies_of es) start now.there now.namer (g.F.Folder.files c.loop-entry.folder)) (take_all c.loop-entry.entry-index c.args.entries.now le)
+      (c.loop-entry.invariant.exact q bodies start f few)
