@@ -33,7 +33,7 @@ def message_of(block):
     from_line, *others = block
     if others and others[-1] == b"\n":
         others.pop()
-    return from_line.removesuffix(b"\n"), b"".join(line[1:] if QUOTED.match(line) else line for line in others)
+    return from_line.split(b"\n")[0], b"".join(line[1:] if QUOTED.match(line) else line for line in others)
 
 
 def header_of(body):
@@ -68,7 +68,7 @@ def info_of(flags):
 
 
 def sender_of(from_line):
-    sender = from_line.removeprefix(b"From ").split(b" ", 1)[0]
+    sender = from_line[len(b"From ") :].split(b" ", 1)[0]
     return "".join(chr(c) if 0x21 <= c <= 0x7E else "?" for c in sender) or "-"
 
 

@@ -15,11 +15,12 @@ pub messages_more : (a b : List (List ℕ)) → (more : List Message) × (messag
 messages_more a [] = ([], ap messages_of (append-nil a) ∙ sym (append-nil (messages_of a)))
 messages_more a (y ∷ ys) =
     let r = messages_more (a ++ y ∷ []) ys in
-    let m = message_at (target a y) y in
-    (m ∷ r.0,
+    let m = message_at (target a y) y in (
+      m ∷ r.0,
       ap messages_of (sym (append_assoc a (y ∷ []) ys)) ∙ r.1
-      ∙ ap (λ ms. ms ++ r.0) (messages_of-push a y)
-      ∙ append_assoc (messages_of a) (m ∷ []) r.0)
+          ∙ ap (λ ms. ms ++ r.0) (messages_of-push a y)
+          ∙ append_assoc (messages_of a) (m ∷ []) r.0,
+    )
 
 front_all : (P : Message → Type 0) (xs ys : List Message) → All P (xs ++ ys) → All P xs
 front_all P xs ys all = λ k d h. subst P (get_or_append_left xs ys d k h) (all k d (omega (arith, h, length-append xs ys)))
@@ -34,7 +35,7 @@ came_more a b start now c = record {
   done = c.done;
   rest = c.rest ++ b;
   is = ap (λ xs. xs ++ b) c.is ∙ append_assoc c.done c.rest b;
-  progress = c.progress
+  progress = c.progress;
 }
 
 -- the bodies of the first entries, one more, and the others
@@ -42,8 +43,8 @@ module _ (entries : List Entry) (i : ℕ) (entry : Entry) (h : i < length entrie
   pub bodies_next : (bodies : List (List ℕ)) → bodies ++ bodies_of (take (i + 1) entries) ≡ (bodies ++ bodies_of (take i entries)) ++ entry.body ∷ []
   bodies_next bodies =
       ap (λ xs. bodies ++ xs)
-        (ap bodies_of (take_more entries i entry h) ∙ map-append (λ (e : Entry). e.body) (take i entries) (get_or entries i entry ∷ [])
-        ∙ ap (λ (e : Entry). bodies_of (take i entries) ++ e.body ∷ []) (sym is))
+      (ap bodies_of (take_more entries i entry h) ∙ map-append (λ (e : Entry). e.body) (take i entries) (get_or entries i entry ∷ [])
+      ∙ ap (λ (e : Entry). bodies_of (take i entries) ++ e.body ∷ []) (sym is))
       ∙ sym (append_assoc bodies (bodies_of (take i entries)) (entry.body ∷ []))
 
   pub bodies_split : (bodies : List (List ℕ)) → bodies ++ bodies_of entries ≡ ((bodies ++ bodies_of (take i entries)) ++ entry.body ∷ []) ++ bodies_of (drop (i + 1) entries)
@@ -60,9 +61,9 @@ module _ (entries : List Entry) (i : ℕ) (entry : Entry) (h : i < length entrie
   pub sound_next : (bodies : List (List ℕ)) (start : Files) → All (IsSoundAt start) (messages_of (bodies ++ bodies_of entries)) → All (IsSoundAt start) (messages_of ((bodies ++ bodies_of (take i entries)) ++ entry.body ∷ []))
   sound_next bodies start all =
       sound_front start ((bodies ++ bodies_of (take i entries)) ++ entry.body ∷ []) (bodies_of (drop (i + 1) entries))
-        (subst (λ bs. All (IsSoundAt start) (messages_of bs)) (bodies_split bodies) all)
+      (subst (λ bs. All (IsSoundAt start) (messages_of bs)) (bodies_split bodies) all)
 
   pub came_next : (bodies : List (List ℕ)) (start now : Files) → Came ((bodies ++ bodies_of (take i entries)) ++ entry.body ∷ []) start now → Came (bodies ++ bodies_of entries) start now
   came_next bodies start now c =
       subst (λ bs. Came bs start now) (sym (bodies_split bodies))
-        (came_more ((bodies ++ bodies_of (take i entries)) ++ entry.body ∷ []) (bodies_of (drop (i + 1) entries)) start now c)
+      (came_more ((bodies ++ bodies_of (take i entries)) ++ entry.body ∷ []) (bodies_of (drop (i + 1) entries)) start now c)

@@ -39,7 +39,7 @@ reached_none start now there namer messages placed leaves knows within named e f
   progress = subst (λ ms. Progress ms start now) (sym no_messages) (none_done start now leaves);
   within = within;
   counted = e;
-  brought = ap (λ ms. placed + there_count start ms) no_messages ∙ (omega (arith, f))
+  brought = ap (λ ms. placed + there_count start ms) no_messages ∙ (omega (arith, f));
 }
 
 stands_keeps : (ms : List Message) (start now : Files) (fault : RunFault) → Stands ms start now → Keeps ms start (Err fault) now
@@ -49,14 +49,14 @@ stands_keeps ms start now fault s = record { sound = s.sound; still = s.still; i
 front_stands : (ms : List Message) (done : List (List ℕ)) (more : List Message) (start now : Files) → AreNamed ms → AreDistinct ms → Sound ms start start → ms ≡ messages_of done ++ more → Progress (messages_of done) start now → Stands ms start now
 front_stands ms done more start now named distinct sound e p =
     subst (λ x. Stands x start now) (sym e)
-      (progress_stands (messages_of done) more start now (subst AreNamed e named) (subst AreDistinct e distinct) (subst (λ x. Sound x start start) e sound) p)
+    (progress_stands (messages_of done) more start now (subst AreNamed e named) (subst AreDistinct e distinct) (subst (λ x. Sound x start start) e sound) p)
 
 -- a run that delivered nothing
 pub untouched_run : (t : List ℕ) (start now : Files) (fault : RunFault) → LeavesHomes start now → length t < 2 ^ 63 → Run t start (Err fault) now
 untouched_run t start now fault leaves small = record {
   keeps = λ ms of sound.
-    stands_keeps ms start now fault (progress_stands [] ms start now (text_named t ms of small) (text_distinct t ms of small) sound (none_done start now leaves));
-  is_read = tt
+      stands_keeps ms start now fault (progress_stands [] ms start now (text_named t ms of small) (text_distinct t ms of small) sound (none_done start now leaves));
+  is_read = tt;
 }
 
 bodies_parts : (all rest : List Entry) → bodies_of (all ++ rest) ≡ bodies_of all ++ bodies_of rest
@@ -81,19 +81,19 @@ came_run before source_now text all start now fault read first come t small p =
     let is : t ≡ text ++ p.more = rw (← read_is before source_now text t read p) p.front in
     record {
       keeps = λ ms of sound.
-        let named = text_named t ms of small in
-        let distinct = text_distinct t ms of small in
-        stands_keeps ms start now fault (elim of as (λ _. Stands ms start now) [
-          | inl (entries, m, e) ↦
-            let r = first.told p.more p.left entries p.has p.whole (rw is at m) in
-            came_stands t ms all r.0 entries start now named distinct sound e r.1 come
-          | inr (none, e) ↦
-            let gone : all ≡ [] = first.none p.more p.left p.has p.whole (rw is at none) in
-            let came = come (subst (λ xs. All (IsSoundAt start) (messages_of (bodies_of xs))) (sym gone) (subst (All (IsSoundAt start)) (sym no_messages) (All-nil (IsSoundAt start)))) in
-            let empty : came.done ≡ [] = none_done_here came.done came.rest (sym (ap bodies_of gone) ∙ came.is) in
-            front_stands ms came.done [] start now named distinct sound (e ∙ sym (append-nil (messages_of came.done) ∙ ap messages_of empty ∙ no_messages)) came.progress
-        ]);
-      is_read = tt
+          let named = text_named t ms of small in
+          let distinct = text_distinct t ms of small in
+          stands_keeps ms start now fault (elim of as (λ _. Stands ms start now) [
+            | inl (entries, m, e) ↦
+                let r = first.told p.more p.left entries p.has p.whole (rw is at m) in
+                came_stands t ms all r.0 entries start now named distinct sound e r.1 come
+            | inr (none, e) ↦
+                let gone : all ≡ [] = first.none p.more p.left p.has p.whole (rw is at none) in
+                let came = come (subst (λ xs. All (IsSoundAt start) (messages_of (bodies_of xs))) (sym gone) (subst (All (IsSoundAt start)) (sym no_messages) (All-nil (IsSoundAt start)))) in
+                let empty : came.done ≡ [] = none_done_here came.done came.rest (sym (ap bodies_of gone) ∙ came.is) in
+                front_stands ms came.done [] start now named distinct sound (e ∙ sym (append-nil (messages_of came.done) ∙ ap messages_of empty ∙ no_messages)) came.progress
+          ]);
+      is_read = tt;
     }
 
 -- a run that ended with Ok
@@ -104,36 +104,36 @@ reached_run before source_now reads text all start now there namer messages plac
     let whole : Mbox t all = rw is gave.all in
     record {
       keeps = λ ms of sound.
-        let named = text_named t ms of small in
-        let distinct = text_distinct t ms of small in
-        let e : ms ≡ messages_of (bodies_of all) = elim of as (λ _. ms ≡ messages_of (bodies_of all)) [
-          | inl (entries, m, e) ↦ e ∙ ap (λ es. messages_of (bodies_of es)) (mbox-one t entries all m whole)
-          | inr (none, e) ↦ absurd (none all whole)
-        ] in
-        let r = come (subst (All (IsSoundAt start)) e sound.own) in
-        let s = front_stands ms (bodies_of all) [] start now named distinct sound (e ∙ sym (append-nil (messages_of (bodies_of all)))) r.progress in
-        let len : length ms ≡ length (bodies_of all) = ap length e ∙ length-messages_of (bodies_of all) in
-        let count : there_count start ms ≡ there_count start (messages_of (bodies_of all)) = ap (there_count start) e in
-        let counted = r.counted in
-        let brought = r.brought in
-        record {
-          sound = s.sound;
-          still = s.still;
-          in_order = s.in_order;
-          ends = record {
-            delivered = record {
-              homes_are = subst (All (IsHome now)) (sym e) r.progress.homes_are;
-              swept = λ name ours. r.within.gone name ours refl
+          let named = text_named t ms of small in
+          let distinct = text_distinct t ms of small in
+          let e : ms ≡ messages_of (bodies_of all) = elim of as (λ _. ms ≡ messages_of (bodies_of all)) [
+            | inl (entries, m, e) ↦ e ∙ ap (λ es. messages_of (bodies_of es)) (mbox-one t entries all m whole)
+            | inr (none, e) ↦ absurd (none all whole)
+          ] in
+          let r = come (subst (All (IsSoundAt start)) e sound.own) in
+          let s = front_stands ms (bodies_of all) [] start now named distinct sound (e ∙ sym (append-nil (messages_of (bodies_of all)))) r.progress in
+          let len : length ms ≡ length (bodies_of all) = ap length e ∙ length-messages_of (bodies_of all) in
+          let count : there_count start ms ≡ there_count start (messages_of (bodies_of all)) = ap (there_count start) e in
+          let counted = r.counted in
+          let brought = r.brought in
+          record {
+            sound = s.sound;
+            still = s.still;
+            in_order = s.in_order;
+            ends = record {
+              delivered = record {
+                homes_are = subst (All (IsHome now)) (sym e) r.progress.homes_are;
+                swept = λ name ours. r.within.gone name ours refl;
+              };
+              reports = record {
+                messages = omega (arith, e1, counted, len);
+                there = omega (arith, e2, counted, brought, count);
+                placed = omega (arith, e3, counted, brought, count, len);
+                swept = few;
+              };
             };
-            reports = record {
-              messages = omega (arith, e1, counted, len);
-              there = omega (arith, e2, counted, brought, count);
-              placed = omega (arith, e3, counted, brought, count, len);
-              swept = few
-            }
-          }
-        };
-      is_read = (all, whole)
+          };
+      is_read = (all, whole);
     }
 
 -- ---- a batch

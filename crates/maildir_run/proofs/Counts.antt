@@ -37,7 +37,7 @@ raised-add m (suc n) count = rw add-suc (ap (λ c. (c + 1) % 2 ^ 128) (raised-ad
 pub more_calls : (m n a b c x y z : ℕ) → Makes m a b x y → Makes n b c y z → Makes (m + n) a c x z
 more_calls m n a b c x y z first then = record {
   counted = then.counted ∙ ap (raised n) first.counted ∙ sym (raised-add m n x);
-  numbered = λ k is. then.numbered (k + m) (first.numbered k is) ∙ ap capped (add_assoc k m n)
+  numbered = λ k is. then.numbered (k + m) (first.numbered k is) ∙ ap capped (add_assoc k m n);
 }
 
 pub up_to : (n most made made' calls calls' : ℕ) → n ≤ most → Makes n made made' calls calls' → MakesUpTo most made made' calls calls'
@@ -97,7 +97,7 @@ numbers_call {B} r fault most made made' calls calls' is e few up h =
       n = up.n;
       few = omega arith;
       counted = up.makes.counted;
-      numbered = is_numbered r fault (capped up.n) is (subst (λ k. IsNumbered {A = B} (Err fault) k) (number_is up.n made made' calls calls' e up.makes) h)
+      numbered = is_numbered r fault (capped up.n) is (subst (λ k. IsNumbered {A = B} (Err fault) k) (number_is up.n made made' calls calls' e up.makes) h);
     }
 
 -- something else was refused, or nothing

@@ -39,8 +39,8 @@ gave_more true before mid now old splitter left reads text given out whole none 
         read = rw (append-nil text) at (Consumes-trans before mid now text [] p.read w.1);
         budget = omega arith;
         end = w.2;
-        all = rw added (w.4 text given p.fed)
-      }
+        all = rw added (w.4 text given p.fed);
+      };
     }
 gave_more false before mid now old splitter left reads text given out whole none p w =
     let within = p.budget in
@@ -50,8 +50,8 @@ gave_more false before mid now old splitter left reads text given out whole none
       gave = record {
         read = Consumes-trans before mid now text w.0 p.read w.2;
         budget = omega (arith, length-append text w.0, w.3, w.4);
-        fed = rw added (w.6 text given p.fed)
-      }
+        fed = rw added (w.6 text given p.fed);
+      };
     }
 
 pub gave_refused : (before mid now : Option (List ℕ)) (old : Messages) (reads : ℕ) (text : List ℕ) (given : List Entry) (fault : RunFault) → Gave before mid old.splitter old.reads reads text given → Breaks old mid now fault → Refused before now reads fault
@@ -61,9 +61,9 @@ gave_refused before mid now old reads text given fault p b =
     record {
       budget = (text ++ b.0, read, omega (arith, length-append text b.0, b.2));
       unreadable = λ e t entries q m.
-        let never = (b.3 e text given p.fed).1 in
-        let is : t ≡ text ++ b.0 ++ q.more = rw (← read_is before now (text ++ b.0) t read q) q.front in
-        never q.more q.left q.has q.whole entries (rw is at m)
+          let never = (b.3 e text given p.fed).1 in
+          let is : t ≡ text ++ b.0 ++ q.more = rw (← read_is before now (text ++ b.0) t read q) q.front in
+          never q.more q.left q.has q.whole entries (rw is at m);
     }
 
 -- a message was given, so the text begins well
@@ -85,17 +85,17 @@ given_first false before now splitter left reads text given p = record {
     | inl none ↦ (entries, rw none refl)
     | inr q ↦ (q.0 ∷ q.1, q.2)
   ];
-  none = λ more rest has whole none. unread_none text more given p.fed.given_are none
+  none = λ more rest has whole none. unread_none text more given p.fed.given_are none;
 }
 given_first true before now splitter left reads text given p = record {
   told = λ more rest entries has whole m.
-    let at_end : rest ≡ [] = rw has at p.end in
-    let same : text ++ more ≡ text = rw (whole at_end) (append-nil text) in
-    ([], mbox-one text entries given (rw same at m) p.all ∙ sym (append-nil given));
+      let at_end : rest ≡ [] = rw has at p.end in
+      let same : text ++ more ≡ text = rw (whole at_end) (append-nil text) in
+      ([], mbox-one text entries given (rw same at m) p.all ∙ sym (append-nil given));
   none = λ more rest has whole none.
-    let at_end : rest ≡ [] = rw has at p.end in
-    let same : text ++ more ≡ text = rw (whole at_end) (append-nil text) in
-    absurd (none given (rw same p.all))
+      let at_end : rest ≡ [] = rw has at p.end in
+      let same : text ++ more ≡ text = rw (whole at_end) (append-nil text) in
+      absurd (none given (rw same p.all));
 }
 
 pub given_read : (ended : Bool) (before now : Option (List ℕ)) (splitter : Splitter) (left reads : ℕ) (text : List ℕ) (given : List Entry) → IsGiven ended before now splitter left reads text given → Consumes before now text
@@ -150,8 +150,8 @@ broken_off before mid now old reads text all fault p b = record {
       | inl none ↦ (entries, rw none refl)
       | inr q ↦ (q.0 ∷ q.1, q.2)
     ];
-    none = λ more rest has whole none. unread_none text (b.0 ++ more) all p.fed.given_are (subst IsUnreadable (append_assoc text b.0 more) none)
-  }
+    none = λ more rest has whole none. unread_none text (b.0 ++ more) all p.fed.given_are (subst IsUnreadable (append_assoc text b.0 more) none);
+  };
 }
 
 pub not_ended : (ended : Bool) (before now : Option (List ℕ)) (splitter : Splitter) (left reads : ℕ) (text : List ℕ) (given : List Entry) → ended ≡ false → IsGiven ended before now splitter left reads text given → Gave before now splitter left reads text given

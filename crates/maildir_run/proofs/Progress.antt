@@ -21,7 +21,7 @@ progress_start s = record { homes_are = All-nil _; kept = λ base named other. I
 pub progress_on : (done : List Message) (old mid now : Files) → AreNamed done → LeavesHomes mid now → Progress done old mid → Progress done old now
 progress_on done old mid now named leaves p = record {
   homes_are = λ k d h. homes_one _ _ mid now (leaves.kept _ (named k d h)) (p.homes_are k d h);
-  kept = λ base is other. IsPermutation-trans _ _ _ (p.kept base is other) (leaves.kept base is)
+  kept = λ base is other. IsPermutation-trans _ _ _ (p.kept base is other) (leaves.kept base is);
 }
 
 not_before : (done : List Message) (m : Message) (base : List ℕ) → IsFalse (is_base_of (done ++ m ∷ []) base) → IsFalse (is_base_of done base) × IsFalse (is_name m.target.base base)
@@ -33,7 +33,7 @@ not_before done m base off =
 pub progress_home : (done : List Message) (m : Message) (old now : Files) → IsHome now m → Progress done old now → Progress (done ++ m ∷ []) old now
 progress_home done m old now home p = record {
   homes_are = All-push (IsHome now) done m p.homes_are home;
-  kept = λ base is other. p.kept base is (not_before done m base other).0
+  kept = λ base is other. p.kept base is (not_before done m base other).0;
 }
 
 -- the messages so far keep their homes as another is brought
@@ -45,8 +45,8 @@ pub progress_brought : (done : List Message) (m : Message) (old mid now : Files)
 progress_brought done m old mid now named apart brings home p = record {
   homes_are = All-push (IsHome now) done m (brought_done done m mid now named apart brings p.homes_are) home;
   kept = λ base is other.
-    let off = not_before done m base other in
-    IsPermutation-trans _ _ _ (p.kept base is off.0) (brings.others base is off.1)
+      let off = not_before done m base other in
+      IsPermutation-trans _ _ _ (p.kept base is off.0) (brings.others base is off.1);
 }
 
 -- ---- whether there is a home
@@ -78,7 +78,7 @@ module _ (done rest : List Message) (old now : Files) (named : AreNamed (done ++
   base_apart : (k : ℕ) (d : Message) → length done ≤ k → k < length (done ++ rest) → IsFalse (is_base_of done (get_or (done ++ rest) k d).target.base)
   base_apart k d ge h =
       list_any_none _ done (All-from_get_or (λ m. IsFalse (is_name m.target.base (get_or (done ++ rest) k d).target.base)) done d (λ i lt.
-        subst (λ m. IsFalse (is_name m.target.base (get_or (done ++ rest) k d).target.base)) (get_or_append_left done rest d i lt) (distinct i k d (omega arith) h)))
+      subst (λ m. IsFalse (is_name m.target.base (get_or (done ++ rest) k d).target.base)) (get_or_append_left done rest d i lt) (distinct i k d (omega arith) h)))
 
   kept_at : (k : ℕ) (d : Message) → length done ≤ k → k < length (done ++ rest) → IsPermutation (homes old (get_or (done ++ rest) k d).target.base) (homes now (get_or (done ++ rest) k d).target.base)
   kept_at k d ge h = p.kept _ (named k d h) (base_apart k d ge h)
@@ -115,16 +115,18 @@ module _ (done rest : List Message) (old now : Files) (named : AreNamed (done ++
   progress_stands = record {
     sound = record { own = sound_now; others = λ base is other. p.kept base is (other_now base other) };
     still = still_now;
-    in_order = in_order_now
+    in_order = in_order_now;
   }
 
 -- where a message that was missing is missing yet, nothing happened
 nothing_brought : (m : Message) (mid now : Files) → IsMissing mid m → IsMissing now m → Brings m mid now → LeavesHomes mid now
-nothing_brought m mid now was is brings = record { kept = λ base named.
-    elim (cases_Bool (is_name m.target.base base)) as (λ _. IsPermutation (homes mid base) (homes now base)) [
-      | inl e ↦ subst (λ b. IsPermutation (homes mid b) (homes now b)) (is_name-true m.target.base base e) (rw (was, is) (IsPermutation-refl _))
-      | inr e ↦ brings.others base named e
-    ] }
+nothing_brought m mid now was is brings = record {
+  kept = λ base named.
+      elim (cases_Bool (is_name m.target.base base)) as (λ _. IsPermutation (homes mid base) (homes now base)) [
+        | inl e ↦ subst (λ b. IsPermutation (homes mid b) (homes now b)) (is_name-true m.target.base base e) (rw (was, is) (IsPermutation-refl _))
+        | inr e ↦ brings.others base named e
+      ];
+}
 
 -- a message that was missing was brought, or is missing yet
 pub progress_or_more : (done : List Message) (m : Message) (old mid now : Files) → AreNamed done → All (λ n. IsFalse (is_name m.target.base n.target.base)) done → IsMissing mid m → Brings m mid now → Progress done old mid → Progress done old now ⊎ Progress (done ++ m ∷ []) old now

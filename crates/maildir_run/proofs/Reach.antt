@@ -26,18 +26,18 @@ pub target_is : (t : Target) → IsConverterBase t.base × (base t.base ≡ t.ba
 target_is t h = record {
   named = h.0;
   whole = ap (is_name t.base) h.1 ∙ is_name-refl t.base;
-  under = ap (is_name t.base) h.2 ∙ is_name-refl t.base
+  under = ap (is_name t.base) h.2 ∙ is_name-refl t.base;
 }
 
 -- ---- messages that were done
 pub apart_front : (done : List Message) (m : Message) (later : List Message) → AreDistinct (done ++ m ∷ later) → All (λ n. IsFalse (is_name m.target.base n.target.base)) done
 apart_front done m later distinct =
     All-from_get_or (λ n. IsFalse (is_name m.target.base n.target.base)) done m (λ i lt.
-      let h : IsFalse (is_name (get_or (done ++ m ∷ later) i m).target.base (get_or (done ++ m ∷ later) (length done) m).target.base) = distinct i (length done) m lt (omega (arith, length-append done (m ∷ later))) in
-      (eq_by_cmp_equiv total).symm m.target.base (get_or done i m).target.base
-      ∙ ap (λ x. is_name x.target.base m.target.base) (sym (get_or_append_left done (m ∷ later) m i lt))
-      ∙ ap (λ y. is_name (get_or (done ++ m ∷ later) i m).target.base y.target.base) (sym (get_or-append_seam done m later m))
-      ∙ h)
+    let h : IsFalse (is_name (get_or (done ++ m ∷ later) i m).target.base (get_or (done ++ m ∷ later) (length done) m).target.base) = distinct i (length done) m lt (omega (arith, length-append done (m ∷ later))) in
+    (eq_by_cmp_equiv total).symm m.target.base (get_or done i m).target.base
+    ∙ ap (λ x. is_name x.target.base m.target.base) (sym (get_or_append_left done (m ∷ later) m i lt))
+    ∙ ap (λ y. is_name (get_or (done ++ m ∷ later) i m).target.base y.target.base) (sym (get_or-append_seam done m later m))
+    ∙ h)
 
 not_done : (done : List Message) (m : Message) → All (λ n. IsFalse (is_name m.target.base n.target.base)) done → IsFalse (is_base_of done m.target.base)
 not_done done m apart = list_any_none (λ n. is_name n.target.base m.target.base) done (All-weaker (λ n. is_name m.target.base n.target.base ≡ false) (λ n. is_name n.target.base m.target.base ≡ false) (λ n h. (eq_by_cmp_equiv total).symm n.target.base m.target.base ∙ h) done apart)
@@ -89,17 +89,17 @@ module _ (bodies : List (List ℕ)) (body : List ℕ) (t : Target) (start : File
   sound_next =
       let all : All (IsSoundAt start) (messages_of bodies ++ message_at t body ∷ []) = subst (All (IsSoundAt start)) one_more next.sound in
       subst (IsSoundAt start) (get_or-append_seam (messages_of bodies) (message_at t body) [] (message_at t body))
-        (all (length (messages_of bodies)) (message_at t body) (omega (arith, length-append (messages_of bodies) (message_at t body ∷ []))))
+      (all (length (messages_of bodies)) (message_at t body) (omega (arith, length-append (messages_of bodies) (message_at t body ∷ []))))
 
   pub missing_now : contains_key there t.base ≡ false → IsMissing old (message_at t body)
   missing_now off =
       still_missing (messages_of bodies) (message_at t body) start old next.named.named apart r.progress
-        (none_of (homes start t.base) (sym (r.knows t.base next.named.named) ∙ off))
+      (none_of (homes start t.base) (sym (r.knows t.base next.named.named) ∙ off))
 
   there_now : contains_key there t.base ≡ true → IsHome old (message_at t body)
   there_now on =
       still_there (messages_of bodies) (message_at t body) start old next.named.named apart r.progress
-        (home_known (message_at t body) start (sym (r.knows t.base next.named.named) ∙ on) sound_next)
+      (home_known (message_at t body) start (sym (r.knows t.base next.named.named) ∙ on) sound_next)
 
   count_more : (shown : Bool) → contains_key there t.base ≡ shown → there_count start (messages_of (bodies ++ body ∷ [])) ≡ there_count start (messages_of bodies) + cond shown 1 0
   count_more shown is =
@@ -118,7 +118,7 @@ module _ (bodies : List (List ℕ)) (body : List ℕ) (t : Target) (start : File
         progress = subst (λ ms. Progress ms start old) (sym one_more) (progress_home (messages_of bodies) (message_at t body) start old (there_now on) r.progress);
         within = r.within;
         counted = omega (arith, counted, length-append bodies (body ∷ []));
-        brought = omega (arith, brought, length-append bodies (body ∷ []), count_more true on)
+        brought = omega (arith, brought, length-append bodies (body ∷ []), count_more true on);
       }
 
   -- it was missing, and was brought
@@ -132,7 +132,7 @@ module _ (bodies : List (List ℕ)) (body : List ℕ) (t : Target) (start : File
         progress = subst (λ ms. Progress ms start now) (sym one_more) (progress_brought (messages_of bodies) (message_at t body) start old now done_named apart brings home r.progress);
         within = within;
         counted = omega (arith, counted, length-append bodies (body ∷ []));
-        brought = omega (arith, brought, length-append bodies (body ∷ []), count_more false off)
+        brought = omega (arith, brought, length-append bodies (body ∷ []), count_more false off);
       }
 
   -- the run ended as it was brought

@@ -37,8 +37,10 @@ called_tmp q ours call h old new c = subst (λ s. StaysOrGoes q old s) (sym c.le
 
 -- ---- tmp
 pub within_on : (names : List (List ℕ)) (old new : Files) → ((q : List ℕ) → IsTrue (is_converter_name q) → IsFalse (list_any (is_name q) names) → StaysOrGoes q old new) → TmpWithin names old → TmpWithin names new
-within_on names old new stays within = record { gone = λ q ours off.
-    elim (stays q ours off) as (λ _. get new.tmp q ≡ None) [ inl e ↦ e ∙ within.gone q ours off | inr e ↦ e ] }
+within_on names old new stays within = record {
+  gone = λ q ours off.
+      elim (stays q ours off) as (λ _. get new.tmp q ≡ None) [ inl e ↦ e ∙ within.gone q ours off | inr e ↦ e ];
+}
 
 none_within : (names : List (List ℕ)) (s : Files) → TmpWithin [] s → TmpWithin names s
 none_within names s within = record { gone = λ q ours off. within.gone q ours refl }
@@ -51,19 +53,23 @@ writing_within name bytes old new c within =
     within_on (name ∷ []) old new (λ q ours off. called_tmp q ours (Writing name bytes) (one_off q name off) old new c) (none_within (name ∷ []) old within)
 
 without : (name : List ℕ) (names : List (List ℕ)) (s : Files) → get s.tmp name ≡ None → TmpWithin (name ∷ names) s → TmpWithin names s
-without name names s gone within = record { gone = λ q ours off.
-    elim (cases_Bool (is_name q name)) as (λ _. get s.tmp q ≡ None) [
-      | inl e ↦ ap (get s.tmp) (is_name-true q name e) ∙ gone
-      | inr e ↦ within.gone q ours (rw e off)
-    ] }
+without name names s gone within = record {
+  gone = λ q ours off.
+      elim (cases_Bool (is_name q name)) as (λ _. get s.tmp q ≡ None) [
+        | inl e ↦ ap (get s.tmp) (is_name-true q name e) ∙ gone
+        | inr e ↦ within.gone q ours (rw e off)
+      ];
+}
 
 -- a name that is no converter's
 pub without_other : (name : List ℕ) (names : List (List ℕ)) (s : Files) → IsFalse (is_converter_name name) → TmpWithin (name ∷ names) s → TmpWithin names s
-without_other name names s other within = record { gone = λ q ours off.
-    elim (cases_Bool (is_name q name)) as (λ _. get s.tmp q ≡ None) [
-      | inl e ↦ let alike : is_converter_name q ≡ is_converter_name name = ap is_converter_name (is_name-true q name e) in cc
-      | inr e ↦ within.gone q ours (rw e off)
-    ] }
+without_other name names s other within = record {
+  gone = λ q ours off.
+      elim (cases_Bool (is_name q name)) as (λ _. get s.tmp q ≡ None) [
+        | inl e ↦ let alike : is_converter_name q ≡ is_converter_name name = ap is_converter_name (is_name-true q name e) in cc
+        | inr e ↦ within.gone q ours (rw e off)
+      ];
+}
 
 gone_on : (name : List ℕ) (old new : Files) → StaysOrGoes name old new → get old.tmp name ≡ None → get new.tmp name ≡ None
 gone_on name old new (inl e) h = e ∙ h
@@ -74,12 +80,12 @@ removing_gone name ours old new done =
     let call = Removing name in
     let mid = effect call (after old call done.before) in
     subst (λ s. get s.tmp name ≡ None) (sym (done.left ∙ after-append old call done.before (Again ∷ done.rest)))
-      (gone_on name mid (after mid call done.rest) (after_tmp name ours call tt done.rest mid) (get-remove_same (after old call done.before).tmp name))
+    (gone_on name mid (after mid call done.rest) (after_tmp name ours call tt done.rest mid) (get-remove_same (after old call done.before).tmp name))
 
 pub removing_within : (name : List ℕ) (names : List (List ℕ)) → IsTrue (is_converter_name name) → (old new : Files) → Succeeded (Removing name) old new → TmpWithin (name ∷ names) old → TmpWithin names new
 removing_within name names ours old new done within =
     without name names new (removing_gone name ours old new done)
-      (within_on (name ∷ names) old new (λ q is off. called_tmp q is (Removing name) tt old new (ok_moves (Removing name) old new done)) within)
+    (within_on (name ∷ names) old new (λ q is off. called_tmp q is (Removing name) tt old new (ok_moves (Removing name) old new done)) within)
 
 pub placing_within : (name : List ℕ) (p : Place) (target : List ℕ) (old new : Files) → Succeeded (Placing name p target) old new → get new.tmp name ≡ None → TmpWithin (name ∷ []) old → TmpWithin [] new
 placing_within name p target old new done gone within =
@@ -95,17 +101,19 @@ listing_within old names new listed =
     let mid = after old call listed.before in
     let here : TmpWithin names mid = record { gone = λ q ours off. nothing _ (contains_key-keys mid.tmp q ∙ sym (list_any-IsPermutation (is_name q) names (keys mid.tmp) listed.names_are) ∙ off) } in
     subst (TmpWithin names) (sym (listed.left ∙ after-append old call listed.before (Again ∷ listed.rest)))
-      (within_on names mid (after mid call listed.rest) (λ q ours off. after_tmp q ours call tt listed.rest mid) here)
+    (within_on names mid (after mid call listed.rest) (λ q ours off. after_tmp q ours call tt listed.rest mid) here)
 
 -- ---- the homes
 pub listing_leaves : (sub : Sub) (old : Files) (names : List (List ℕ)) (new : Files) → Lists sub old names new → LeavesHomes old new
-listing_leaves sub old names new listed = record { kept = λ base named.
-    subst (λ s. IsPermutation (homes old base) (homes s base)) (sym listed.left) (after_kept base named (Listing sub) tt (listed.before ++ Again ∷ listed.rest) old) }
+listing_leaves sub old names new listed = record {
+  kept = λ base named.
+      subst (λ s. IsPermutation (homes old base) (homes s base)) (sym listed.left) (after_kept base named (Listing sub) tt (listed.before ++ Again ∷ listed.rest) old);
+}
 
 pub leaves_brings : (m : Message) (old new : Files) → IsTrue (is_converter_base m.target.base) → IsMissing old m → LeavesHomes old new → Brings m old new
 leaves_brings m old new named missing leaves = record {
   own = inl (homes_none m.target.base old new (leaves.kept m.target.base named) missing);
-  others = λ base is off. leaves.kept base is
+  others = λ base is off. leaves.kept base is;
 }
 
 elsewhere : (m : Message) (base target : List ℕ) → IsTrue (has_base m.target.base target) → IsFalse (is_name m.target.base base) → IsFalse (has_base base target)
@@ -123,11 +131,11 @@ pub placing_brings : (m : Message) (name : List ℕ) (p : Place) (target : List 
 placing_brings m name p target named ours on old new written missing c =
     record {
       own = subst (λ s. IsSoundAt s m) (sym c.left)
-        (elim (placing m.target.base name p target named ours on c.moves old missing) as (λ _. IsSoundAt (after old (Placing name p target) c.moves) m) [
-          | inl w ↦ inl w.homes_are
-          | inr a ↦ inr (a.homes_are ∙ ap (λ x. x ∷ []) (body_of name m.body a.bytes old written a.was))
-        ]);
-      others = λ base is off. called_kept base is (Placing name p target) (elsewhere m base target on off) old new c
+          (elim (placing m.target.base name p target named ours on c.moves old missing) as (λ _. IsSoundAt (after old (Placing name p target) c.moves) m) [
+            | inl w ↦ inl w.homes_are
+            | inr a ↦ inr (a.homes_are ∙ ap (λ x. x ∷ []) (body_of name m.body a.bytes old written a.was))
+          ]);
+      others = λ base is off. called_kept base is (Placing name p target) (elsewhere m base target on off) old new c;
     }
 
 pub placing_home : (m : Message) (name : List ℕ) (p : Place) (target : List ℕ) → IsTrue (is_converter_base m.target.base) → IsTrue (is_converter_name name) → IsTrue (has_base m.target.base target) → (old new : Files) → WrittenOrGone name m.body old → IsMissing old m → Succeeded (Placing name p target) old new → IsHome new m × (get new.tmp name ≡ None)
@@ -187,13 +195,13 @@ write_ok m named whole name bytes e f old mid done missing =
       written = writing_ok m.target.base m.body (base_name m named whole) old mid own;
       missing = homes_none m.target.base old mid (leaves.kept m.target.base named) missing;
       leaves = leaves;
-      within = writing_within m.target.base m.body old mid (ok_moves (Writing m.target.base m.body) old mid own)
+      within = writing_within m.target.base m.body old mid (ok_moves (Writing m.target.base m.body) old mid own);
     }
 
 brings_on : (m : Message) (old mid new : Files) → LeavesHomes old mid → Brings m mid new → Brings m old new
 brings_on m old mid new leaves brings = record {
   own = brings.own;
-  others = λ base is off. IsPermutation-trans _ _ _ (leaves.kept base is) (brings.others base is off)
+  others = λ base is off. IsPermutation-trans _ _ _ (leaves.kept base is) (brings.others base is off);
 }
 
 pub place_brings : (m : Message) → IsTrue (is_converter_base m.target.base) → IsTrue (has_base m.target.base m.target.base) → (name : List ℕ) → name ≡ m.target.base → (p : Place) (target : List ℕ) → IsTrue (has_base m.target.base target) → (old mid new : Files) → Written m old mid → Failed (Placing name p target) mid new → Brings m old new

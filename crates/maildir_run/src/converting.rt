@@ -30,7 +30,12 @@ use std::io::Read;
 /// Errors: `NoFromLine` where the text is not empty and doesn't begin with `From `, and then no folder call was made;
 /// `ReadFault`; `TooManyReads` where `reads` reads didn't meet the end; `FolderAbsent`; `FolderFailed` with the number of
 /// the call; `OutOfMemory`. The first fault ends the run, and a later run goes on from there.
-pub fn convert<F: Folder, R: Read>(alloc: Global, folder: &mut F, source: &mut R, reads: u64) -> Result<Report, RunFault>
+pub fn convert<F: Folder, R: Read>(
+    alloc: Global,
+    folder: &mut F,
+    source: &mut R,
+    reads: u64,
+) -> Result<Report, RunFault>
     requires { reads ≤ 2 ^ 40 }
     ensures honest { F.honest folder.old → F.honest folder.new }
     ensures run { F.honest folder.old → (t : List ℕ) → length t < 2 ^ 63 → Possible (R.remaining source.old) (R.remaining source.new) t → Run t (F.files folder.old) result (F.files folder.new) }
@@ -68,7 +73,11 @@ pub fn convert<F: Folder, R: Read>(alloc: Global, folder: &mut F, source: &mut R
 
 /// Reads until a message is whole or the source is at its end, and tells whether it is. By then the first bytes have
 /// told whether the text is an mbox text.
-fn read_first<R: Read>(messages: &mut Messages, source: &mut R, whole: &mut Vec<Entry>) -> Result<bool, RunFault>
+fn read_first<R: Read>(
+    messages: &mut Messages,
+    source: &mut R,
+    whole: &mut Vec<Entry>,
+) -> Result<bool, RunFault>
     requires fresh { Taken [] [] messages.old }
     requires empty { whole.old.items ≡ [] }
     ensures begins { IfOk result (λ ended. Begins ended (R.remaining source.old) (R.remaining source.new) messages.new.splitter messages.new.reads messages.old.reads whole.new.items) }
@@ -82,3 +91,6 @@ fn read_first<R: Read>(messages: &mut Messages, source: &mut R, whole: &mut Vec<
         }
     }
 }
+
+#[cfg(test)]
+mod tests;

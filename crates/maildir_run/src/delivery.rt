@@ -4,15 +4,19 @@ ghost use Rattle.maildir_run.specs.Counting.{CountsFault, IsNumbered, IsOfFolder
 ghost use Rattle.maildir_run.specs.Delivery.{IsMissing, IsHome};
 ghost use Rattle.maildir_run.specs.Progress.{IsTarget, Brings, TmpWithin, message_at};
 
-use maildir_name::Target;
-
 use crate::calls::Calls;
 use crate::fault::RunFault;
 use crate::folder::Folder;
+use maildir_name::Target;
 
 /// Writes a message that has no home in `tmp` under its base, and then places it at its target by one rename. Only what
 /// this call itself wrote is placed (maildir(5)).
-pub(crate) fn bring<F: Folder>(folder: &mut F, calls: &mut Calls, target: &Target, body: &[u8]) -> Result<(), RunFault>
+pub(crate) fn bring<F: Folder>(
+    folder: &mut F,
+    calls: &mut Calls,
+    target: &Target,
+    body: &[u8],
+) -> Result<(), RunFault>
     requires { IsTarget target.now }
     ensures honest { F.honest folder.old → F.honest folder.new }
     ensures brings { F.honest folder.old → IsMissing (F.files folder.old) (message_at target.now body.now) → Brings (message_at target.now body.now) (F.files folder.old) (F.files folder.new) }

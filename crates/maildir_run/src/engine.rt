@@ -7,16 +7,15 @@ ghost use Rattle.maildir_run.specs.Files.{Files};
 ghost use Rattle.maildir_run.specs.Progress.{Reached, Came, Places};
 ghost use Rattle.maildir_run.specs.Texts.{messages_of, bodies_of};
 
-use maildir_name::Namer;
-use mbox_text::Entry;
-use std::alloc::Global;
-
 use crate::bases::Bases;
 use crate::calls::Calls;
 use crate::delivery::bring;
 use crate::fault::RunFault;
 use crate::folder::Folder;
 use crate::report::Report;
+use maildir_name::Namer;
+use mbox_text::Entry;
+use std::alloc::Global;
 
 /// A run that has listed what is there and swept `tmp`.
 #[derive(Drop)]
@@ -90,7 +89,11 @@ impl<'a> Engine<'a> {
     }
 
     /// Brings the messages of some entries, in their order.
-    pub(crate) fn deliver_all<F: Folder>(&mut self, folder: &mut F, entries: &[Entry]) -> Result<(), RunFault>
+    pub(crate) fn deliver_all<F: Folder>(
+        &mut self,
+        folder: &mut F,
+        entries: &[Entry],
+    ) -> Result<(), RunFault>
         requires { self.old.messages + length entries.now < 2 ^ 63 }
         ensures honest { F.honest folder.old → F.honest folder.new }
         ensures done { F.honest folder.old → (bodies : List (List ℕ)) (start : Files) → Reached bodies start self.old.there self.old.namer self.old.messages self.old.placed (F.files folder.old) →

@@ -2,8 +2,8 @@
 ghost use Rattle.std.specs.Prelude.{◌≡◌};
 ghost use Rattle.maildir_run.specs.declared.fault.RunFault.TheVariants.{OutOfMemory};
 
-use std::alloc::{AllocError, AllocFailed};
 use maildir_name::NameFault;
+use std::alloc::{AllocError, AllocFailed};
 use thiserror::Error;
 
 #[cfg(test)]

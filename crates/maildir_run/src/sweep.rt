@@ -4,14 +4,17 @@ ghost use Rattle.maildir_name.specs.Names.{is_converter_name as converter_name};
 ghost use Rattle.maildir_run.specs.Counting.{CountsFault, IsNumbered, IsOfFolder, Makes, MakesUpTo};
 ghost use Rattle.maildir_run.specs.Progress.{LeavesHomes, TmpWithin};
 
-use maildir_name::is_converter_name;
-
 use crate::calls::Calls;
 use crate::fault::RunFault;
 use crate::folder::Folder;
+use maildir_name::is_converter_name;
 
 /// Removes each of the converter's names among those that were listed in `tmp`, in the order of the list. Answers how many.
-pub(crate) fn sweep<F: Folder>(folder: &mut F, calls: &mut Calls, listed: &[String]) -> Result<u64, RunFault>
+pub(crate) fn sweep<F: Folder>(
+    folder: &mut F,
+    calls: &mut Calls,
+    listed: &[String],
+) -> Result<u64, RunFault>
     ensures honest { F.honest folder.old → F.honest folder.new }
     ensures leaves { F.honest folder.old → LeavesHomes (F.files folder.old) (F.files folder.new) }
     ensures swept { F.honest folder.old → TmpWithin (map string_bytes listed.now) (F.files folder.old) → OnOk result (TmpWithin [] (F.files folder.new)) }

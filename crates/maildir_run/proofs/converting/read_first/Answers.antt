@@ -8,17 +8,21 @@ pub returns-in_err-ended-clause-refused : goal.returns-in_err-ended-clause-refus
 returns-in_err-ended-clause-refused g c =
     let i = c.pieces.invariant in
     if_err _ c.from_residual.result c.in_err-ended.field-0.0 c.from_residual.ensures.1
-      (gave_refused _ _ _ c.pieces.messages _ i.text [] c.in_err-ended.field-0.0 i.gave c.in_err-ended.ensures.went)
+    (gave_refused _ _ _ c.pieces.messages _ i.text [] c.in_err-ended.field-0.0 i.gave c.in_err-ended.ensures.went)
 
 pub returns-then-ended-clause-begins : goal.returns-then-ended-clause-begins
 returns-then-ended-clause-begins g c =
     let i = c.pieces.invariant in
     let more = gave_more c.in_ok-ended.ended _ _ _ c.pieces.messages _ _ _ i.text [] c.pieces.whole.items c.read.new.out.items i.empty i.gave c.in_ok-ended.ensures.went in
-    record { text = more.text; gave = more.gave; begun = λ e. 
-      elim c.then-ended.branch [
-        | then-ended-via-then-ended w ↦ let on = w.if-ended.true in cc
-        | then-ended-via-else-ended+then-not-is_empty w ↦ some_left c.read.new.out.items _ w.is_empty.result w.is_empty.ensures w.if-not-is_empty.true (omega (arith, c.read.new.out.ok.0))
-      ] }
+    record {
+      text = more.text;
+      gave = more.gave;
+      begun = λ e.
+          elim c.then-ended.branch [
+            | then-ended-via-then-ended w ↦ let on = w.if-ended.true in cc
+            | then-ended-via-else-ended+then-not-is_empty w ↦ some_left c.read.new.out.items _ w.is_empty.result w.is_empty.ensures w.if-not-is_empty.true (omega (arith, c.read.new.out.ok.0))
+          ];
+    }
 
 pub pieces-preserved : goal.pieces-preserved
 pieces-preserved g c =

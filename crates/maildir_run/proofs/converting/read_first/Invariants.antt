@@ -6,7 +6,7 @@ abbrev pub invariant-pieces : goal.invariant-pieces
 invariant-pieces g l = record {
   text : List ℕ;
   gave : Gave (g.R.Read.remaining l.initial.source) (g.R.Read.remaining l.source) l.messages.splitter l.messages.reads l.initial.messages.reads text [];
-  empty : l.whole.items ≡ []
+  empty : l.whole.items ≡ [];
 }
 
 abbrev pub decreases-pieces : goal.decreases-pieces

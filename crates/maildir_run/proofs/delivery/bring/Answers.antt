@@ -23,7 +23,7 @@ returns-in_err-answered-2-clause-brings g c = λ honest missing.
 pub returns-in_err-answered-2-clause-most : goal.returns-in_err-answered-2-clause-most
 returns-in_err-answered-2-clause-most g c =
     up_to 2 2 _ _ _ _ (omega arith)
-      (more_calls 1 1 _ _ _ _ _ _ (one_call _ _ _ _ c.answered.ensures.made c.write.ensures.counted) (one_call _ _ _ _ c.answered-2.ensures.made c.place.ensures.counted))
+    (more_calls 1 1 _ _ _ _ _ _ (one_call _ _ _ _ c.answered.ensures.made c.write.ensures.counted) (one_call _ _ _ _ c.answered-2.ensures.made c.place.ensures.counted))
 
 pub returns-clause-brings : goal.returns-clause-brings
 returns-clause-brings g c = λ honest missing.

@@ -18,34 +18,34 @@ returns-in_err-new-clause-leaves g c = λ h.
 pub returns-in_err-new-clause-most : goal.returns-in_err-new-clause-most
 returns-in_err-new-clause-most g c =
     up_to 2 3 _ _ _ _ (omega arith)
-      (more_calls 1 1 _ _ _ _ _ _ (one_call _ _ _ _ c.answered.ensures.made c.list.ensures.counted) (one_call _ _ _ _ c.answered-2.ensures.made c.list-2.ensures.counted))
+    (more_calls 1 1 _ _ _ _ _ _ (one_call _ _ _ _ c.answered.ensures.made c.list.ensures.counted) (one_call _ _ _ _ c.answered-2.ensures.made c.list-2.ensures.counted))
 
 pub returns-in_err-cur-clause-leaves : goal.returns-in_err-cur-clause-leaves
 returns-in_err-cur-clause-leaves g c = λ h.
     let h1 = c.list.ensures.honest h in
     leaves_trans _ _ _ (leaves_trans _ _ _ (some_listing _ _ _ _ (c.list.ensures.called h)) (some_listing _ _ _ _ (c.list-2.ensures.called h1)))
-      (some_listing _ _ _ _ (c.list-3.ensures.called (c.list-2.ensures.honest h1)))
+    (some_listing _ _ _ _ (c.list-3.ensures.called (c.list-2.ensures.honest h1)))
 
 pub returns-in_err-cur-clause-most : goal.returns-in_err-cur-clause-most
 returns-in_err-cur-clause-most g c =
     up_to 3 3 _ _ _ _ (omega arith)
-      (more_calls 2 1 _ _ _ _ _ _
-        (more_calls 1 1 _ _ _ _ _ _ (one_call _ _ _ _ c.answered.ensures.made c.list.ensures.counted) (one_call _ _ _ _ c.answered-2.ensures.made c.list-2.ensures.counted))
-        (one_call _ _ _ _ c.answered-3.ensures.made c.list-3.ensures.counted))
+    (more_calls 2 1 _ _ _ _ _ _
+    (more_calls 1 1 _ _ _ _ _ _ (one_call _ _ _ _ c.answered.ensures.made c.list.ensures.counted) (one_call _ _ _ _ c.answered-2.ensures.made c.list-2.ensures.counted))
+    (one_call _ _ _ _ c.answered-3.ensures.made c.list-3.ensures.counted))
 
 pub returns-clause-leaves : goal.returns-clause-leaves
 returns-clause-leaves g c = λ h.
     let h1 = c.list.ensures.honest h in
     leaves_trans _ _ _ (leaves_trans _ _ _ (some_listing _ _ _ _ (c.list.ensures.called h)) (some_listing _ _ _ _ (c.list-2.ensures.called h1)))
-      (some_listing _ _ _ _ (c.list-3.ensures.called (c.list-2.ensures.honest h1)))
+    (some_listing _ _ _ _ (c.list-3.ensures.called (c.list-2.ensures.honest h1)))
 
 pub returns-clause-within : goal.returns-clause-within
 returns-clause-within g c = λ h.
     let h1 = c.list.ensures.honest h in
     let h2 = c.list-2.ensures.honest h1 in
     listed_within _ _ _ _ _ (told_listing _ _ _ _ _ _ c.in_ok-cur.ensures.is (c.list-3.ensures.called h2))
-      (listed_within _ _ _ _ _ (told_listing _ _ _ _ _ _ c.in_ok-new.ensures.is (c.list-2.ensures.called h1))
-        (listing_within _ _ _ (told_listing _ _ _ _ _ _ c.in_ok-tmp.ensures.is (c.list.ensures.called h))))
+    (listed_within _ _ _ _ _ (told_listing _ _ _ _ _ _ c.in_ok-new.ensures.is (c.list-2.ensures.called h1))
+    (listing_within _ _ _ (told_listing _ _ _ _ _ _ c.in_ok-tmp.ensures.is (c.list.ensures.called h))))
 
 pub returns-clause-few : goal.returns-clause-few
 returns-clause-few g c = λ h. few_listed _ _ _ (told_listing _ _ _ _ _ _ c.in_ok-tmp.ensures.is (c.list.ensures.called h))
@@ -55,14 +55,14 @@ returns-clause-shown g c = λ h b named.
     let h1 = c.list.ensures.honest h in
     let h2 = c.list-2.ensures.honest h1 in
     three_listings b named _ _ _ _ _ _ _ (told_listing _ _ _ _ _ _ c.in_ok-tmp.ensures.is (c.list.ensures.called h))
-      (told_listing _ _ _ _ _ _ c.in_ok-new.ensures.is (c.list-2.ensures.called h1))
-      (told_listing _ _ _ _ _ _ c.in_ok-cur.ensures.is (c.list-3.ensures.called h2))
+    (told_listing _ _ _ _ _ _ c.in_ok-new.ensures.is (c.list-2.ensures.called h1))
+    (told_listing _ _ _ _ _ _ c.in_ok-cur.ensures.is (c.list-3.ensures.called h2))
 
 pub returns-clause-made : goal.returns-clause-made
 returns-clause-made g c =
     more_calls 2 1 _ _ _ _ _ _
-      (more_calls 1 1 _ _ _ _ _ _ (one_call _ _ _ _ c.answered.ensures.made c.list.ensures.counted) (one_call _ _ _ _ c.answered-2.ensures.made c.list-2.ensures.counted))
-      (one_call _ _ _ _ c.answered-3.ensures.made c.list-3.ensures.counted)
+    (more_calls 1 1 _ _ _ _ _ _ (one_call _ _ _ _ c.answered.ensures.made c.list.ensures.counted) (one_call _ _ _ _ c.answered-2.ensures.made c.list-2.ensures.counted))
+    (one_call _ _ _ _ c.answered-3.ensures.made c.list-3.ensures.counted)
 
 pub returns-clause-most : goal.returns-clause-most
 returns-clause-most g c = up_to 3 3 _ _ _ _ (omega arith) (returns-clause-made g c)

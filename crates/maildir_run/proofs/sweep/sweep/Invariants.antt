@@ -12,5 +12,5 @@ invariant-loop-name g l = record {
   count : l.swept ≡ length (filter is_converter_name (map string_bytes (take l.name-index l.listed)));
   few : l.swept ≤ l.name-index;
   made : Makes l.swept l.fn.calls.made l.calls.made (g.F.Folder.calls l.fn.folder) (g.F.Folder.calls l.folder);
-  failures : g.F.Folder.failures l.folder ≡ g.F.Folder.failures l.fn.folder
+  failures : g.F.Folder.failures l.folder ≡ g.F.Folder.failures l.fn.folder;
 }

@@ -16,7 +16,7 @@ returns-in_err-bring-clause-came g c = λ honest bodies start r few sound.
     let next : Next bodies c.args.body.now t start = record { few = few; is = (c.in_ok-target.ensures.next bodies r.named few).0; named = target_is t c.in_ok-target.ensures.base; sound = sound } in
     let off : contains_key there t.base ≡ false = ap (contains_key there) (sym c.as_str.ensures) ∙ sym c.contains.ensures ∙ c.if-not-contains.true in
     came_brought bodies c.args.body.now t start there _ _ _ old next r (g.F.Folder.files c.bring.new.folder) off
-      (c.in_err-bring.ensures.brings honest (missing_now bodies c.args.body.now t start there _ _ _ old next r off))
+    (c.in_err-bring.ensures.brings honest (missing_now bodies c.args.body.now t start there _ _ _ old next r off))
 
 pub returns-clause-done : goal.returns-clause-done
 returns-clause-done g c = λ honest bodies start r few sound.
@@ -29,12 +29,12 @@ returns-clause-done g c = λ honest bodies start r few sound.
     let test : contains_key there t.base ≡ c.contains.result = ap (contains_key there) (sym c.as_str.ensures) ∙ sym c.contains.ensures in
     elim c.if-not-contains.branch [
       | then-not-contains+in_ok-bring w ↦
-        let off = test ∙ w.if-not-contains.true in
-        let was = missing_now bodies body t start there _ _ _ old next r off in
-        rw (w.self-is, w.folder-is)
+          let off = test ∙ w.if-not-contains.true in
+          let was = missing_now bodies body t start there _ _ _ old next r off in
+          rw (w.self-is, w.folder-is)
           (reached_brought bodies body t start there _ _ _ old next r _ _ told.1 off (w.in_ok-bring.ensures.brings honest was) (w.in_ok-bring.ensures.home honest was) (w.in_ok-bring.ensures.swept honest was r.within))
       | else-not-contains w ↦
-        rw (w.self-is, w.folder-is) (reached_there bodies body t start there _ _ _ old next r _ told.1 (test ∙ w.if-not-contains.false))
+          rw (w.self-is, w.folder-is) (reached_there bodies body t start there _ _ _ old next r _ told.1 (test ∙ w.if-not-contains.false))
     ]
 
 pub returns-clause-came : goal.returns-clause-came

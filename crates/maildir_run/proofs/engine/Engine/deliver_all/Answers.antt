@@ -17,10 +17,10 @@ returns-in_err-deliver-clause-came g c = λ honest bodies start r few sound.
     let lt : i < length entries = c.loop-entry-test.true in
     let before = c.loop-entry.invariant in
     let all : All (IsSoundAt start) (messages_of ((bodies ++ bodies_of (take i entries)) ++ c.as_slice.result.now ∷ [])) =
-      subst (λ b. All (IsSoundAt start) (messages_of ((bodies ++ bodies_of (take i entries)) ++ b ∷ []))) (sym c.as_slice.ensures) (sound_next entries i entry lt c.entry-item.is bodies start sound) in
+    subst (λ b. All (IsSoundAt start) (messages_of ((bodies ++ bodies_of (take i entries)) ++ b ∷ []))) (sym c.as_slice.ensures) (sound_next entries i entry lt c.entry-item.is bodies start sound) in
     let came = c.in_err-deliver.ensures.came (before.honest honest) (bodies ++ bodies_of (take i entries)) start (before.done honest bodies start r few sound) (few_next entries i entry lt c.entry-item.is bodies few) all in
     came_next entries i entry lt c.entry-item.is bodies start (g.F.Folder.files c.deliver.new.folder)
-      (subst (λ b. Came ((bodies ++ bodies_of (take i entries)) ++ b ∷ []) start (g.F.Folder.files c.deliver.new.folder)) c.as_slice.ensures came)
+    (subst (λ b. Came ((bodies ++ bodies_of (take i entries)) ++ b ∷ []) start (g.F.Folder.files c.deliver.new.folder)) c.as_slice.ensures came)
 
 pub returns-in_err-deliver-clause-most : goal.returns-in_err-deliver-clause-most
 returns-in_err-deliver-clause-most g c =
@@ -39,16 +39,16 @@ loop-entry-preserved g c =
     record {
       honest = λ honest. c.in_ok-deliver.ensures.honest (before.honest honest);
       done = λ honest bodies start r few sound.
-        let all : All (IsSoundAt start) (messages_of ((bodies ++ bodies_of (take i entries)) ++ c.as_slice.result.now ∷ [])) =
+          let all : All (IsSoundAt start) (messages_of ((bodies ++ bodies_of (take i entries)) ++ c.as_slice.result.now ∷ [])) =
           subst (λ b. All (IsSoundAt start) (messages_of ((bodies ++ bodies_of (take i entries)) ++ b ∷ []))) (sym c.as_slice.ensures) (sound_next entries i entry lt c.entry-item.is bodies start sound) in
-        let done = c.in_ok-deliver.ensures.done (before.honest honest) (bodies ++ bodies_of (take i entries)) start (before.done honest bodies start r few sound) (few_next entries i entry lt c.entry-item.is bodies few) all in
-        let now = c.deliver.new.self in
-        subst (λ bs. Reached bs start now.there now.namer now.messages now.placed (g.F.Folder.files c.deliver.new.folder))
+          let done = c.in_ok-deliver.ensures.done (before.honest honest) (bodies ++ bodies_of (take i entries)) start (before.done honest bodies start r few sound) (few_next entries i entry lt c.entry-item.is bodies few) all in
+          let now = c.deliver.new.self in
+          subst (λ bs. Reached bs start now.there now.namer now.messages now.placed (g.F.Folder.files c.deliver.new.folder))
           (ap (λ b. (bodies ++ bodies_of (take i entries)) ++ b ∷ []) c.as_slice.ensures ∙ sym (bodies_next entries i entry lt c.entry-item.is bodies)) done;
       count = omega arith;
       made = places_then _ _ _ _ _ _ _ _ _ before.made c.in_ok-deliver.ensures.made;
       most = up_to_then (2 * i) 2 _ _ _ _ _ _ _ (omega arith) before.most c.in_ok-deliver.ensures.most;
-      failures = c.in_ok-deliver.ensures.cause ∙ before.failures
+      failures = c.in_ok-deliver.ensures.cause ∙ before.failures;
     }
 
 pub returns-clause-done : goal.returns-clause-done
@@ -56,7 +56,7 @@ returns-clause-done g c = λ honest bodies start r few sound.
     let now = c.loop-entry.self in
     let le : length c.args.entries.now ≤ c.loop-entry.entry-index = c.loop-entry-test.false in
     subst (λ es. Reached (bodies ++ bodies_of es) start now.there now.namer now.messages now.placed (g.F.Folder.files c.loop-entry.folder)) (take_all c.loop-entry.entry-index c.args.entries.now le)
-      (c.loop-entry.invariant.done honest bodies start r few sound)
+    (c.loop-entry.invariant.done honest bodies start r few sound)
 
 pub returns-clause-came : goal.returns-clause-came
 returns-clause-came g c = λ honest bodies start r few sound. came_whole _ _ _ _ _ _ _ (returns-clause-done g c honest bodies start r few sound)
