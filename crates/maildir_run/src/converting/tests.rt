@@ -178,6 +178,7 @@ fn read_budget(rt: HostRuntime) {
     let mut folder = MemFolder::new(rt.alloc());
     let mut source = Cut::new(UNENDED, 1, Then::Ends);
     assert!(rt; convert(rt.alloc(), &mut folder, &mut source, 3) == Err(RunFault::TooManyReads));
+    assert_eq!(rt; source.reads, 3);
     assert_eq!(rt; folder.calls(), 0);
     let mut source = Cut::new(UNENDED, 1, Then::Ends);
     assert!(rt; convert(rt.alloc(), &mut folder, &mut source, 10) == Err(RunFault::TooManyReads));
@@ -185,8 +186,9 @@ fn read_budget(rt: HostRuntime) {
     assert_eq!(rt; folder.count(Sub::Tmp), 0);
     let mut source = Cut::new(UNENDED, 1, Then::Ends);
     assert!(rt; convert(rt.alloc(), &mut folder, &mut source, 11) == Ok(report(1, 0, 1, 0)));
-    let mut source = Cut::new(b"From x\n", 1, Then::GoesOn);
-    assert!(rt; convert(rt.alloc(), &mut folder, &mut source, 50) == Err(RunFault::TooManyReads));
+    let mut source = Cut::new(b"From x\n", 65_536, Then::GoesOn);
+    assert!(rt; convert(rt.alloc(), &mut folder, &mut source, 5) == Err(RunFault::TooManyReads));
+    assert_eq!(rt; source.reads, 5);
 }
 
 #[test]

@@ -1,6 +1,6 @@
 // Worked texts as they are listed, and refusals. The digests are those of other programs.
 use super::*;
-use crate::testing::{Cut, Then};
+use crate::testing::{Cut, Narrow, Then};
 use std::test::Fail;
 
 const LIMIT: u64 = 1_099_511_627_776;
@@ -84,5 +84,20 @@ fn refusals(rt: HostRuntime) {
             "{text:?}"
         );
         assert!(rt; out.is_empty(), "{text:?}");
+    }
+}
+
+#[test]
+fn output_fails(rt: HostRuntime) {
+    for fails in [true, false] {
+        let mut out = Narrow {
+            taken: Vec::new(rt.alloc()),
+            room: 4,
+            piece: 4,
+            fails,
+        };
+        let mut source = Cut::new(b"From x\nabc", 65_536, Then::Ends);
+        assert!(rt; list_text(rt.alloc(), &mut source, &mut out, LIMIT) == Err(RunFault::OutputFault));
+        assert!(rt; out.taken.as_slice() == b"1 ba".as_slice());
     }
 }

@@ -2,4 +2,4 @@ use Rattle.mbox_text.proofs.BuiltLines.{sender-built, rest-built}
 use Rattle.mbox_text.proofs.laws.parts_of_built.Goals as goal
 
 pub returns : goal.returns
-returns c = record { sender = sender-built _ _; rest = rest-built _ _ }
+returns c = record { sender = λ from behind. sender-built from behind; rest = λ from behind. rest-built from behind }
