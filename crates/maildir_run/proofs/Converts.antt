@@ -161,7 +161,7 @@ pub filled_none : (start mid now : Files) (there : BaseSet) (namer : Counts) →
 filled_none start mid now there namer e f knows named = record {
   named = named;
   knows = knows;
-  exact = f ∙ ap swept e ∙ sym (ap (λ ms. filled start ms (swept start)) no_messages)
+  exact = f ∙ ap swept e ∙ sym (ap (λ ms. filled start ms (swept start)) no_messages);
 }
 
 pub alone_run : (before source_now : Option (List ℕ)) (reads : ℕ) (text : List ℕ) (all : List Entry) (start now : Files) (there : BaseSet) (namer : Counts) → GaveAll before source_now reads text all → Filled (bodies_of all) start there namer now → (t : List ℕ) (ms : List Message) → Possible before source_now t → MessagesOf t ms → now ≡ alone ms start

@@ -33,7 +33,7 @@ pub others_then : (a b c : Files) → LeavesOthers a b → LeavesOthers b c → 
 others_then a b c first then = record {
   in_tmp = λ q off. then.in_tmp q off ∙ first.in_tmp q off;
   in_new = λ q off. then.in_new q off ∙ first.in_new q off;
-  in_cur = λ q off. then.in_cur q off ∙ first.in_cur q off
+  in_cur = λ q off. then.in_cur q off ∙ first.in_cur q off;
 }
 
 -- ---- a call that names converter's names alone
@@ -133,22 +133,22 @@ any_push q x xs = sym (list_any-append (is_name q) xs (x ∷ []))
 taken_one : (xs : List (List ℕ)) (x : List ℕ) (start mid now : Files) → IsTrue (is_converter_name x) → now ≡ effect (Removing x) mid → TakenOut xs start mid → TakenOut (xs ++ x ∷ []) start now
 taken_one xs x start mid now ours e taken = subst (TakenOut (xs ++ x ∷ []) start) (sym e) (record {
   in_tmp = λ q.
-    get-remove total mid.tmp x q
-    ∙ ap (cond (is_name q x) None) (taken.in_tmp q)
-    ∙ combined (is_converter_name q) (list_any (is_name q) xs) (is_name q x) (get start.tmp q) (λ same. ap is_converter_name (is_name-true q x same) ∙ ours)
-    ∙ ap (λ t. cond (is_converter_name q && t) None (get start.tmp q)) (any_push q x xs);
+      get-remove total mid.tmp x q
+      ∙ ap (cond (is_name q x) None) (taken.in_tmp q)
+      ∙ combined (is_converter_name q) (list_any (is_name q) xs) (is_name q x) (get start.tmp q) (λ same. ap is_converter_name (is_name-true q x same) ∙ ours)
+      ∙ ap (λ t. cond (is_converter_name q && t) None (get start.tmp q)) (any_push q x xs);
   in_new = taken.in_new;
-  in_cur = taken.in_cur
+  in_cur = taken.in_cur;
 })
 
 taken_skip : (xs : List (List ℕ)) (x : List ℕ) (start now : Files) → IsFalse (is_converter_name x) → TakenOut xs start now → TakenOut (xs ++ x ∷ []) start now
 taken_skip xs x start now other taken = record {
   in_tmp = λ q.
-    taken.in_tmp q
-    ∙ skipped (is_converter_name q) (list_any (is_name q) xs) (is_name q x) (get start.tmp q) (λ same. ap is_converter_name (is_name-true q x same) ∙ other)
-    ∙ ap (λ t. cond (is_converter_name q && t) None (get start.tmp q)) (any_push q x xs);
+      taken.in_tmp q
+      ∙ skipped (is_converter_name q) (list_any (is_name q) xs) (is_name q x) (get start.tmp q) (λ same. ap is_converter_name (is_name-true q x same) ∙ other)
+      ∙ ap (λ t. cond (is_converter_name q && t) None (get start.tmp q)) (any_push q x xs);
   in_new = taken.in_new;
-  in_cur = taken.in_cur
+  in_cur = taken.in_cur;
 }
 
 next_name : (names : List (String Global)) (i : ℕ) (item : String Global) → i < length names → item ≡ get_or names i item → map string_bytes (take (i + 1) names) ≡ map string_bytes (take i names) ++ string_bytes item ∷ []
@@ -159,7 +159,7 @@ next_name names i item h is =
 pub taken_next : (names : List (String Global)) (i : ℕ) (item : String Global) → i < length names → item ≡ get_or names i item → (shown : List ℕ) → shown ≡ string_bytes item → (start mid now : Files) → IsTrue (is_converter_name shown) → now ≡ effect (Removing shown) mid → TakenOut (map string_bytes (take i names)) start mid → TakenOut (map string_bytes (take (i + 1) names)) start now
 taken_next names i item h is shown same start mid now ours e taken =
     subst (λ l. TakenOut l start now) (sym (next_name names i item h is))
-      (subst (λ x. TakenOut (map string_bytes (take i names) ++ x ∷ []) start now) same (taken_one (map string_bytes (take i names)) shown start mid now ours e taken))
+    (subst (λ x. TakenOut (map string_bytes (take i names) ++ x ∷ []) start now) same (taken_one (map string_bytes (take i names)) shown start mid now ours e taken))
 
 pub taken_other : (names : List (String Global)) (i : ℕ) (item : String Global) → i < length names → item ≡ get_or names i item → (start now : Files) → IsFalse (is_converter_name (string_bytes item)) → TakenOut (map string_bytes (take i names)) start now → TakenOut (map string_bytes (take (i + 1) names)) start now
 taken_other names i item h is start now other taken =
@@ -173,7 +173,7 @@ pub taken_others : (names : List (List ℕ)) (old new : Files) → TakenOut name
 taken_others names old new taken = record {
   in_tmp = λ q off. taken.in_tmp q ∙ other_kept (is_converter_name q) (list_any (is_name q) names) (get old.tmp q) off;
   in_new = λ q off. ap (λ m. get m q) taken.in_new;
-  in_cur = λ q off. ap (λ m. get m q) taken.in_cur
+  in_cur = λ q off. ap (λ m. get m q) taken.in_cur;
 }
 
 unlisted_none : (o : Option (List ℕ)) → is_some o ≡ false → o ≡ None
@@ -188,9 +188,9 @@ all_out false a o h = refl
 pub swept_exact : (names : List (List ℕ)) (start now : Files) → IsPermutation names (keys start.tmp) → TakenOut names start now → now ≡ swept start
 swept_exact names start now listed taken =
     let tmp : now.tmp ≡ retain_keys start.tmp (λ name. not (is_converter_name name)) = same_map total same _ _ (λ q.
-      taken.in_tmp q
-      ∙ all_out (is_converter_name q) (list_any (is_name q) names) (get start.tmp q) (λ off. unlisted_none (get start.tmp q) (contains_key-keys start.tmp q ∙ sym (list_any-IsPermutation (is_name q) names (keys start.tmp) listed) ∙ off))
-      ∙ sym (get_under (λ name. not (is_converter_name name)) start.tmp q)) in
+    taken.in_tmp q
+    ∙ all_out (is_converter_name q) (list_any (is_name q) names) (get start.tmp q) (λ off. unlisted_none (get start.tmp q) (contains_key-keys start.tmp q ∙ sym (list_any-IsPermutation (is_name q) names (keys start.tmp) listed) ∙ off))
+    ∙ sym (get_under (λ name. not (is_converter_name name)) start.tmp q)) in
     ap (λ m. record now { tmp = m }) tmp
     ∙ ap (λ m. record { tmp = (swept start).tmp; new = m; cur = now.cur }) taken.in_new
     ∙ ap (λ m. record { tmp = (swept start).tmp; new = start.new; cur = m }) taken.in_cur
@@ -198,11 +198,11 @@ swept_exact names start now listed taken =
 -- ---- a message
 put_away : (m : FileMap) (k v : List ℕ) → get m k ≡ None → remove (insert m k v) k ≡ m
 put_away m k v none = same_map total same _ _ (λ q.
-  get-remove total (insert m k v) k q ∙ ap (cond (is_name q k) None) (get-insert total m k v q)
-  ∙ elim (cases_Bool (is_name q k)) as (λ _. cond (is_name q k) None (cond (is_name q k) (Some v) (get m q)) ≡ get m q) [
-    | inl e ↦ ap (λ t. cond t None (cond t (Some v) (get m q))) e ∙ sym (ap (get m) (is_name-true q k e) ∙ none)
-    | inr e ↦ ap (λ t. cond t None (cond t (Some v) (get m q))) e
-  ])
+    get-remove total (insert m k v) k q ∙ ap (cond (is_name q k) None) (get-insert total m k v q)
+    ∙ elim (cases_Bool (is_name q k)) as (λ _. cond (is_name q k) None (cond (is_name q k) (Some v) (get m q)) ≡ get m q) [
+      | inl e ↦ ap (λ t. cond t None (cond t (Some v) (get m q))) e ∙ sym (ap (get m) (is_name-true q k e) ∙ none)
+      | inr e ↦ ap (λ t. cond t None (cond t (Some v) (get m q))) e
+    ])
 
 placed_exact : (old : Files) (b body : List ℕ) (p : Place) (name : List ℕ) → get old.tmp b ≡ None → placed (record old { tmp = insert old.tmp b body }) b p name (Some body) ≡ added old p name body
 placed_exact old b body New name none = ap (λ m. record { tmp = m; new = insert old.new name body; cur = old.cur }) (put_away old.tmp b body none)

@@ -63,19 +63,19 @@ two_listings b named s t u in_new in_cur first second =
     let kept_both = IsPermutation-trans _ _ _ kept_first ((listing_leaves Cur t in_cur u second).kept b named) in
     elim (cases_Bool (is_listed in_new in_cur b)) as (λ _. is_listed in_new in_cur b ≡ has_home s b) [
       | inl on ↦
-        elim (cases_Bool (has_home s b)) as (λ _. is_listed in_new in_cur b ≡ has_home s b) [
-          | inl e ↦ on ∙ sym e
-          | inr e ↦
-            let none = none_of (homes s b) e in
-            absurd (elim (or_cases (list_any (has_base b) in_new) (list_any (has_base b) in_cur) on) as (λ _. ⊥) [
-              | inl shown ↦ new_shows_none b named s in_new t first shown none
-              | inr shown ↦ cur_shows_none b named t in_cur u second shown (homes_none b s t kept_first none)
-            ])
-        ]
+          elim (cases_Bool (has_home s b)) as (λ _. is_listed in_new in_cur b ≡ has_home s b) [
+            | inl e ↦ on ∙ sym e
+            | inr e ↦
+                let none = none_of (homes s b) e in
+                absurd (elim (or_cases (list_any (has_base b) in_new) (list_any (has_base b) in_cur) on) as (λ _. ⊥) [
+                  | inl shown ↦ new_shows_none b named s in_new t first shown none
+                  | inr shown ↦ cur_shows_none b named t in_cur u second shown (homes_none b s t kept_first none)
+                ])
+          ]
       | inr off ↦
-        let parts = or_parts (list_any (has_base b) in_new) (list_any (has_base b) in_cur) off in
-        let none : homes u b ≡ [] = listed_cur b named t in_cur u (listed_new b named s in_new t first parts.0) second parts.1 in
-        off ∙ sym (any_kept (homes s b) (homes u b) kept_both ∙ ap is_any none)
+          let parts = or_parts (list_any (has_base b) in_new) (list_any (has_base b) in_cur) off in
+          let none : homes u b ≡ [] = listed_cur b named t in_cur u (listed_new b named s in_new t first parts.0) second parts.1 in
+          off ∙ sym (any_kept (homes s b) (homes u b) kept_both ∙ ap is_any none)
     ]
 
 pub three_listings : (b : List ℕ) → IsTrue (is_converter_base b) → (r s t u : Files) (in_tmp in_new in_cur : List (List ℕ)) → Lists Tmp r in_tmp s → Lists New s in_new t → Lists Cur t in_cur u → is_listed in_new in_cur b ≡ has_home r b
@@ -107,7 +107,6 @@ filter_sum p [] = refl
 filter_sum p (x ∷ xs) =
     let more = filter_sum p xs in
     filter_cons p x xs ∙ ap (λ n. cond (p x) 1 0 + n) more ∙ sum_one p x xs
-
 
 pub filter-length : (p : List ℕ → Bool) (xs ys : List (List ℕ)) → IsPermutation xs ys → length (filter p xs) ≡ length (filter p ys)
 filter-length p xs ys h = filter_sum p xs ∙ sym (sum_by-IsPermutation (λ x. cond (p x) 1 0) xs ys h) ∙ sym (filter_sum p ys)

@@ -37,24 +37,24 @@ returns-in_err-found-clause-numbered g c =
 pub returns-in_err-swept-clause-run : goal.returns-in_err-swept-clause-run
 returns-in_err-swept-clause-run g c = λ honest t small p.
     run_err t _ _ c.from_residual-in_err-swept.result c.from_residual-in_err-swept.ensures.0
-      (λ fault. untouched_run t _ _ fault (leaves_trans _ _ _ (c.in_ok-found.ensures.leaves honest) (c.in_err-swept.ensures.leaves (c.in_ok-found.ensures.honest honest))) small)
+    (λ fault. untouched_run t _ _ fault (leaves_trans _ _ _ (c.in_ok-found.ensures.leaves honest) (c.in_err-swept.ensures.leaves (c.in_ok-found.ensures.honest honest))) small)
 
 pub returns-in_err-swept-clause-numbered : goal.returns-in_err-swept-clause-numbered
 returns-in_err-swept-clause-numbered g c =
     numbers_call c.from_residual-in_err-swept.result c.in_err-swept.field-0.0 (3 + 2 ^ 64) _ _ _ _ c.from_residual-in_err-swept.ensures.1 c.new-calls.ensures (omega arith)
-      (more_up_to 3 (2 ^ 64) (3 + 2 ^ 64) _ _ _ _ _ _ (omega arith) c.in_ok-found.ensures.made c.in_err-swept.ensures.most) c.in_err-swept.ensures.numbered
+    (more_up_to 3 (2 ^ 64) (3 + 2 ^ 64) _ _ _ _ _ _ (omega arith) c.in_ok-found.ensures.made c.in_err-swept.ensures.most) c.in_err-swept.ensures.numbered
 
 pub returns-in_err-there-clause-run : goal.returns-in_err-there-clause-run
 returns-in_err-there-clause-run g c = λ honest t small p.
     run_err t _ _ c.from_residual-in_err-there.result c.from_residual-in_err-there.ensures.0
-      (λ fault. untouched_run t _ _ fault (leaves_trans _ _ _ (c.in_ok-found.ensures.leaves honest) (c.in_ok-swept.ensures.leaves (c.in_ok-found.ensures.honest honest))) small)
+    (λ fault. untouched_run t _ _ fault (leaves_trans _ _ _ (c.in_ok-found.ensures.leaves honest) (c.in_ok-swept.ensures.leaves (c.in_ok-found.ensures.honest honest))) small)
 
 pub returns-in_err-there-clause-numbered : goal.returns-in_err-there-clause-numbered
 returns-in_err-there-clause-numbered g c =
     let swept = c.in_ok-swept.ensures.few in
     let few : 3 + c.in_ok-swept.swept < 2 ^ 66 = omega arith in
     numbers_read c.from_residual-in_err-there.result _ (3 + c.in_ok-swept.swept) _ _ c.from_residual-in_err-there.ensures.1 few
-      (more_calls 3 c.in_ok-swept.swept _ _ _ _ _ _ c.in_ok-found.ensures.made c.in_ok-swept.ensures.made).counted (inr (inr (inr refl)))
+    (more_calls 3 c.in_ok-swept.swept _ _ _ _ _ _ c.in_ok-found.ensures.made c.in_ok-swept.ensures.made).counted (inr (inr (inr refl)))
 
 pub pieces-init : goal.pieces-init
 pieces-init g c =
@@ -62,8 +62,8 @@ pieces-init g c =
     let start = g.F.Folder.files c.args.folder.now in
     let engine = c.new-engine.result in
     let made : Makes (3 + c.in_ok-swept.swept) 0 c.sweep.new.calls.made (g.F.Folder.calls c.args.folder.now) (g.F.Folder.calls c.sweep.new.folder) =
-      subst (λ m. Makes (3 + c.in_ok-swept.swept) m c.sweep.new.calls.made (g.F.Folder.calls c.args.folder.now) (g.F.Folder.calls c.sweep.new.folder)) c.new-calls.ensures
-        (more_calls 3 c.in_ok-swept.swept _ _ _ _ _ _ c.in_ok-found.ensures.made c.in_ok-swept.ensures.made) in
+    subst (λ m. Makes (3 + c.in_ok-swept.swept) m c.sweep.new.calls.made (g.F.Folder.calls c.args.folder.now) (g.F.Folder.calls c.sweep.new.folder)) c.new-calls.ensures
+    (more_calls 3 c.in_ok-swept.swept _ _ _ _ _ _ c.in_ok-found.ensures.made c.in_ok-swept.ensures.made) in
     record {
       text = begins.text;
       given = [];
@@ -72,34 +72,34 @@ pieces-init g c =
       count = c.new-engine.ensures.messages;
       honest = λ h. c.in_ok-swept.ensures.honest (c.in_ok-found.ensures.honest h);
       reached = λ h sound.
-        let h1 = c.in_ok-found.ensures.honest h in
-        let knows : Knows (contains_key engine.there) start = λ b named.
+          let h1 = c.in_ok-found.ensures.honest h in
+          let knows : Knows (contains_key engine.there) start = λ b named.
           ap (λ s. contains_key s b) c.new-engine.ensures.there ∙ c.in_ok-there.ensures b
           ∙ ap (λ l. is_listed (map string_bytes l) (map string_bytes c.deref-3.result.now) b) c.deref-2.ensures.value
           ∙ ap (λ l. is_listed (map string_bytes c.in_ok-found.found.new.items) (map string_bytes l) b) c.deref-3.ensures.value
           ∙ c.in_ok-found.ensures.shown h b named in
-        let within : TmpWithin [] (g.F.Folder.files c.sweep.new.folder) = c.in_ok-swept.ensures.swept h1 (subst (λ l. TmpWithin (map string_bytes l) (g.F.Folder.files c.look.new.folder)) (sym c.deref.ensures.value) (c.in_ok-found.ensures.within h)) in
-        reached_none start _ _ _ _ _ (leaves_trans _ _ _ (c.in_ok-found.ensures.leaves h) (c.in_ok-swept.ensures.leaves h1)) knows within c.new-engine.ensures.namer c.new-engine.ensures.messages c.new-engine.ensures.placed;
+          let within : TmpWithin [] (g.F.Folder.files c.sweep.new.folder) = c.in_ok-swept.ensures.swept h1 (subst (λ l. TmpWithin (map string_bytes l) (g.F.Folder.files c.look.new.folder)) (sym c.deref.ensures.value) (c.in_ok-found.ensures.within h)) in
+          reached_none start _ _ _ _ _ (leaves_trans _ _ _ (c.in_ok-found.ensures.leaves h) (c.in_ok-swept.ensures.leaves h1)) knows within c.new-engine.ensures.namer c.new-engine.ensures.messages c.new-engine.ensures.placed;
       quiet = λ q. c.in_ok-swept.ensures.quiet (c.in_ok-found.ensures.quiet q);
       filled = λ q.
-        let q1 = c.in_ok-found.ensures.quiet q in
-        let knows : Knows (contains_key engine.there) start = λ b named.
+          let q1 = c.in_ok-found.ensures.quiet q in
+          let knows : Knows (contains_key engine.there) start = λ b named.
           ap (λ s. contains_key s b) c.new-engine.ensures.there ∙ c.in_ok-there.ensures b
           ∙ ap (λ l. is_listed (map string_bytes l) (map string_bytes c.deref-3.result.now) b) c.deref-2.ensures.value
           ∙ ap (λ l. is_listed (map string_bytes c.in_ok-found.found.new.items) (map string_bytes l) b) c.deref-3.ensures.value
           ∙ c.in_ok-found.ensures.shown (g.met.F.Folder.quiet_is_honest c.args.folder.now q) b named in
-        let same = c.in_ok-found.ensures.same q in
-        let listed : IsPermutation (map string_bytes c.deref.result.now) (keys (g.F.Folder.files c.look.new.folder).tmp) =
+          let same = c.in_ok-found.ensures.same q in
+          let listed : IsPermutation (map string_bytes c.deref.result.now) (keys (g.F.Folder.files c.look.new.folder).tmp) =
           subst (λ s. IsPermutation (map string_bytes c.deref.result.now) (keys s.tmp)) (sym same)
-            (subst (λ l. IsPermutation (map string_bytes l) (keys start.tmp)) (sym c.deref.ensures.value) (c.in_ok-found.ensures.listed q)) in
-        filled_none start (g.F.Folder.files c.look.new.folder) (g.F.Folder.files c.sweep.new.folder) _ _ same (c.in_ok-swept.ensures.all q1 listed) knows c.new-engine.ensures.namer;
+          (subst (λ l. IsPermutation (map string_bytes l) (keys start.tmp)) (sym c.deref.ensures.value) (c.in_ok-found.ensures.listed q)) in
+          filled_none start (g.F.Folder.files c.look.new.folder) (g.F.Folder.files c.sweep.new.folder) _ _ same (c.in_ok-swept.ensures.all q1 listed) knows c.new-engine.ensures.namer;
       others = λ q. subst (λ s. LeavesOthers s (g.F.Folder.files c.sweep.new.folder)) (c.in_ok-found.ensures.same q) (c.in_ok-swept.ensures.others (c.in_ok-found.ensures.quiet q));
       made =
-        let placed = c.new-engine.ensures.placed in
-        let same : c.sweep.new.calls.made ≡ engine.calls.made = ap (λ (x : Calls). x.made) (sym c.new-engine.ensures.calls) in
-        subst (λ k. Makes k 0 engine.calls.made (g.F.Folder.calls c.args.folder.now) (g.F.Folder.calls c.sweep.new.folder)) (omega arith)
+          let placed = c.new-engine.ensures.placed in
+          let same : c.sweep.new.calls.made ≡ engine.calls.made = ap (λ (x : Calls). x.made) (sym c.new-engine.ensures.calls) in
+          subst (λ k. Makes k 0 engine.calls.made (g.F.Folder.calls c.args.folder.now) (g.F.Folder.calls c.sweep.new.folder)) (omega arith)
           (subst (λ m. Makes (3 + c.in_ok-swept.swept) 0 m (g.F.Folder.calls c.args.folder.now) (g.F.Folder.calls c.sweep.new.folder)) same made);
-      failures = c.in_ok-swept.ensures.cause ∙ c.in_ok-found.ensures.cause
+      failures = c.in_ok-swept.ensures.cause ∙ c.in_ok-found.ensures.cause;
     }
 
 pub deliver_all-requires : goal.deliver_all-requires
@@ -119,11 +119,11 @@ returns-in_err-deliver_all-clause-run g c = λ honest t small p.
     let is : entries ≡ whole = c.deref-in-pieces.ensures.value in
     let few = given_few c.pieces.ended _ _ _ _ _ i.text (i.given ++ whole) i.gave in
     let come : All (IsSoundAt start) (messages_of (bodies_of (i.given ++ whole))) → Came (bodies_of (i.given ++ whole)) start now = λ sound.
-      subst (λ bs. Came bs start now) (batch_bodies i.given whole entries is)
-        (c.in_err-deliver_all.ensures.came (i.honest honest) (bodies_of i.given) start (i.reached honest (given_sound start i.given whole sound))
-          (batch_few i.given whole entries c.args.reads is few c.requires) (batch_sound start i.given whole entries is sound)) in
+    subst (λ bs. Came bs start now) (batch_bodies i.given whole entries is)
+    (c.in_err-deliver_all.ensures.came (i.honest honest) (bodies_of i.given) start (i.reached honest (given_sound start i.given whole sound))
+    (batch_few i.given whole entries c.args.reads is few c.requires) (batch_sound start i.given whole entries is sound)) in
     run_err t start now c.from_residual-in_err-deliver_all.result c.from_residual-in_err-deliver_all.ensures.0
-      (λ fault. came_run _ _ i.text (i.given ++ whole) start now fault (given_read c.pieces.ended _ _ _ _ _ i.text (i.given ++ whole) i.gave) (given_first c.pieces.ended _ _ _ _ _ i.text (i.given ++ whole) i.gave) come t small p)
+    (λ fault. came_run _ _ i.text (i.given ++ whole) start now fault (given_read c.pieces.ended _ _ _ _ _ i.text (i.given ++ whole) i.gave) (given_first c.pieces.ended _ _ _ _ _ i.text (i.given ++ whole) i.gave) come t small p)
 
 pub returns-in_err-deliver_all-clause-numbered : goal.returns-in_err-deliver_all-clause-numbered
 returns-in_err-deliver_all-clause-numbered g c =
@@ -137,7 +137,7 @@ returns-in_err-deliver_all-clause-numbered g c =
     let before = 3 + c.in_ok-swept.swept + 2 * c.pieces.engine.placed in
     let most : before + 2 * length entries < 2 ^ 66 = omega (arith, few, count, placed, swept, length-append i.given whole, ap length c.deref-in-pieces.ensures.value, c.requires) in
     numbers_call c.from_residual-in_err-deliver_all.result c.in_err-deliver_all.field-0.0 (before + 2 * length entries) 0 _ _ _ c.from_residual-in_err-deliver_all.ensures.1 refl most
-      (more_up_to before (2 * length entries) (before + 2 * length entries) _ _ _ _ _ _ (omega arith) i.made c.in_err-deliver_all.ensures.most) c.in_err-deliver_all.ensures.numbered
+    (more_up_to before (2 * length entries) (before + 2 * length entries) _ _ _ _ _ _ (omega arith) i.made c.in_err-deliver_all.ensures.most) c.in_err-deliver_all.ensures.numbered
 
 pub returns-then-ended-clause-run : goal.returns-then-ended-clause-run
 returns-then-ended-clause-run g c = λ honest t small p.
@@ -150,14 +150,14 @@ returns-then-ended-clause-run g c = λ honest t small p.
     let is : entries ≡ whole = c.deref-in-pieces.ensures.value in
     let few = given_few c.pieces.ended _ _ _ _ _ i.text (i.given ++ whole) i.gave in
     let come : All (IsSoundAt start) (messages_of (bodies_of (i.given ++ whole))) → Reached (bodies_of (i.given ++ whole)) start engine.there engine.namer engine.messages engine.placed now = λ sound.
-      subst (λ bs. Reached bs start engine.there engine.namer engine.messages engine.placed now) (batch_bodies i.given whole entries is)
-        (c.in_ok-deliver_all.ensures.done (i.honest honest) (bodies_of i.given) start (i.reached honest (given_sound start i.given whole sound))
-          (batch_few i.given whole entries c.args.reads is few c.requires) (batch_sound start i.given whole entries is sound)) in
+    subst (λ bs. Reached bs start engine.there engine.namer engine.messages engine.placed now) (batch_bodies i.given whole entries is)
+    (c.in_ok-deliver_all.ensures.done (i.honest honest) (bodies_of i.given) start (i.reached honest (given_sound start i.given whole sound))
+    (batch_few i.given whole entries c.args.reads is few c.requires) (batch_sound start i.given whole entries is sound)) in
     let count = c.in_ok-swept.ensures.count in
     let listed = c.in_ok-found.ensures.few honest in
     let swept : c.report.result.swept ≤ leftover_count start = omega (arith, c.report.ensures.swept, count, listed, ap (λ l. length (filter is_converter_name (map string_bytes l))) c.deref.ensures.value) in
     reached_run _ _ c.args.reads i.text (i.given ++ whole) start now engine.there engine.namer engine.messages engine.placed c.report.result
-      (at_end c.pieces.ended _ _ _ _ _ i.text (i.given ++ whole) c.if-ended.true i.gave) come c.report.ensures.messages c.report.ensures.there c.report.ensures.placed swept t small p
+    (at_end c.pieces.ended _ _ _ _ _ i.text (i.given ++ whole) c.if-ended.true i.gave) come c.report.ensures.messages c.report.ensures.there c.report.ensures.placed swept t small p
 
 pub returns-then-ended-clause-calls : goal.returns-then-ended-clause-calls
 returns-then-ended-clause-calls g c =
@@ -166,7 +166,7 @@ returns-then-ended-clause-calls g c =
     let placed = places.is in
     let total : 3 + c.in_ok-swept.swept + 2 * c.pieces.engine.placed + 2 * places.n ≡ 3 + c.in_ok-swept.swept + 2 * c.deliver_all.new.self.placed = omega arith in
     run_counts c.report.result c.in_ok-swept.swept c.deliver_all.new.self.placed 0 c.deliver_all.new.self.calls.made _ _ c.report.ensures.swept c.report.ensures.placed
-      (subst (λ n. Makes n 0 c.deliver_all.new.self.calls.made (g.F.Folder.calls c.args.folder.now) (g.F.Folder.calls c.deliver_all.new.folder)) total made)
+    (subst (λ n. Makes n 0 c.deliver_all.new.self.calls.made (g.F.Folder.calls c.args.folder.now) (g.F.Folder.calls c.deliver_all.new.folder)) total made)
 
 pub returns-then-ended-clause-numbered : goal.returns-then-ended-clause-numbered
 returns-then-ended-clause-numbered g c =
@@ -181,7 +181,7 @@ returns-then-ended-clause-numbered g c =
     let within = c.deliver_all.new.self.within in
     let swept = c.in_ok-swept.ensures.few in
     numbers_ok c.report.result (3 + c.in_ok-swept.swept + 2 * c.pieces.engine.placed + 2 * places.n) _ _
-      (omega (arith, few, count, all, within, placed, swept, length-append i.given whole, ap length c.deref-in-pieces.ensures.value, c.requires)) made.counted
+    (omega (arith, few, count, all, within, placed, swept, length-append i.given whole, ap length c.deref-in-pieces.ensures.value, c.requires)) made.counted
 
 pub returns-in_err-ended-2-clause-run : goal.returns-in_err-ended-2-clause-run
 returns-in_err-ended-2-clause-run g c = λ honest t small p.
@@ -193,12 +193,12 @@ returns-in_err-ended-2-clause-run g c = λ honest t small p.
     let is : entries ≡ whole = c.deref-in-pieces.ensures.value in
     let few = given_few c.pieces.ended _ _ _ _ _ i.text (i.given ++ whole) i.gave in
     let come : All (IsSoundAt start) (messages_of (bodies_of (i.given ++ whole))) → Came (bodies_of (i.given ++ whole)) start now = λ sound.
-      subst (λ bs. Came bs start now) (batch_bodies i.given whole entries is)
-        (c.in_ok-deliver_all.ensures.came (i.honest honest) (bodies_of i.given) start (i.reached honest (given_sound start i.given whole sound))
-          (batch_few i.given whole entries c.args.reads is few c.requires) (batch_sound start i.given whole entries is sound)) in
+    subst (λ bs. Came bs start now) (batch_bodies i.given whole entries is)
+    (c.in_ok-deliver_all.ensures.came (i.honest honest) (bodies_of i.given) start (i.reached honest (given_sound start i.given whole sound))
+    (batch_few i.given whole entries c.args.reads is few c.requires) (batch_sound start i.given whole entries is sound)) in
     let broken = broken_off _ _ _ c.pieces.messages c.args.reads i.text (i.given ++ whole) c.in_err-ended-2.field-0.0 (not_ended c.pieces.ended _ _ _ _ _ i.text (i.given ++ whole) c.if-ended.false i.gave) c.in_err-ended-2.ensures.went in
     run_err t start now c.from_residual-in_err-ended-2.result c.from_residual-in_err-ended-2.ensures.0
-      (λ fault. came_run _ _ broken.text (i.given ++ whole) start now fault broken.read broken.first come t small p)
+    (λ fault. came_run _ _ broken.text (i.given ++ whole) start now fault broken.read broken.first come t small p)
 
 pub returns-in_err-ended-2-clause-numbered : goal.returns-in_err-ended-2-clause-numbered
 returns-in_err-ended-2-clause-numbered g c =
@@ -213,7 +213,7 @@ returns-in_err-ended-2-clause-numbered g c =
     let within = c.deliver_all.new.self.within in
     let swept = c.in_ok-swept.ensures.few in
     numbers_read c.from_residual-in_err-ended-2.result c.in_err-ended-2.field-0.0 (3 + c.in_ok-swept.swept + 2 * c.pieces.engine.placed + 2 * places.n) _ _ c.from_residual-in_err-ended-2.ensures.1
-      (omega (arith, few, count, all, within, placed, swept, length-append i.given whole, ap length c.deref-in-pieces.ensures.value, c.requires)) made.counted c.in_err-ended-2.ensures.causes
+    (omega (arith, few, count, all, within, placed, swept, length-append i.given whole, ap length c.deref-in-pieces.ensures.value, c.requires)) made.counted c.in_err-ended-2.ensures.causes
 
 pub returns-in_err-ended-2-clause-budget : goal.returns-in_err-ended-2-clause-budget
 returns-in_err-ended-2-clause-budget g c =
@@ -232,7 +232,7 @@ pieces-preserved g c =
     let is : entries ≡ whole = c.deref-in-pieces.ensures.value in
     let few = given_few c.pieces.ended _ _ _ _ _ i.text (i.given ++ whole) i.gave in
     let more = gave_more c.in_ok-ended-2.ended _ _ _ c.pieces.messages _ _ _ i.text (i.given ++ whole) c.clear.new.self.items c.read.new.out.items c.clear.ensures.items
-      (not_ended c.pieces.ended _ _ _ _ _ i.text (i.given ++ whole) c.if-ended.false i.gave) c.in_ok-ended-2.ensures.went in
+    (not_ended c.pieces.ended _ _ _ _ _ i.text (i.given ++ whole) c.if-ended.false i.gave) c.in_ok-ended-2.ensures.went in
     let places = c.in_ok-deliver_all.ensures.made in
     let placed = places.is in
     let total : 3 + c.in_ok-swept.swept + 2 * c.pieces.engine.placed + 2 * places.n ≡ 3 + c.in_ok-swept.swept + 2 * engine.placed = omega arith in
@@ -247,17 +247,17 @@ pieces-preserved g c =
       count = omega (arith, count, all, length-append i.given whole, ap length c.deref-in-pieces.ensures.value);
       honest = λ h. c.in_ok-deliver_all.ensures.honest (i.honest h);
       reached = λ h sound.
-        subst (λ bs. Reached bs start engine.there engine.namer engine.messages engine.placed now) (batch_bodies i.given whole entries is)
+          subst (λ bs. Reached bs start engine.there engine.namer engine.messages engine.placed now) (batch_bodies i.given whole entries is)
           (c.in_ok-deliver_all.ensures.done (i.honest h) (bodies_of i.given) start (i.reached h (given_sound start i.given whole sound))
-            (batch_few i.given whole entries c.args.reads is few c.requires) (batch_sound start i.given whole entries is sound));
+          (batch_few i.given whole entries c.args.reads is few c.requires) (batch_sound start i.given whole entries is sound));
       quiet = λ q. c.in_ok-deliver_all.ensures.quiet (i.quiet q);
       filled = λ q.
-        subst (λ bs. Filled bs start engine.there engine.namer now) (batch_bodies i.given whole entries is)
+          subst (λ bs. Filled bs start engine.there engine.namer now) (batch_bodies i.given whole entries is)
           (c.in_ok-deliver_all.ensures.exact (i.quiet q) (bodies_of i.given) start (i.filled q) (batch_few i.given whole entries c.args.reads is few c.requires));
       others = λ q. others_then _ _ _ (i.others q) (c.in_ok-deliver_all.ensures.others (i.quiet q));
       made = subst (λ n. Makes n 0 engine.calls.made (g.F.Folder.calls c.args.folder.now) (g.F.Folder.calls c.deliver_all.new.folder)) total
-        (more_calls (3 + c.in_ok-swept.swept + 2 * c.pieces.engine.placed) (2 * places.n) _ _ _ _ _ _ i.made places.makes);
-      failures = c.in_ok-deliver_all.ensures.cause ∙ i.failures
+          (more_calls (3 + c.in_ok-swept.swept + 2 * c.pieces.engine.placed) (2 * places.n) _ _ _ _ _ _ i.made places.makes);
+      failures = c.in_ok-deliver_all.ensures.cause ∙ i.failures;
     }
 
 pub returns-in_err-found-clause-others : goal.returns-in_err-found-clause-others
@@ -291,10 +291,11 @@ returns-then-ended-clause-alone g c = λ q t ms p of.
     let is : entries ≡ whole = c.deref-in-pieces.ensures.value in
     let few = given_few c.pieces.ended _ _ _ _ _ i.text (i.given ++ whole) i.gave in
     let filled : Filled (bodies_of (i.given ++ whole)) start engine.there engine.namer now =
-      subst (λ bs. Filled bs start engine.there engine.namer now) (batch_bodies i.given whole entries is)
-        (c.in_ok-deliver_all.ensures.exact (i.quiet q) (bodies_of i.given) start (i.filled q) (batch_few i.given whole entries c.args.reads is few c.requires)) in
+    subst (λ bs. Filled bs start engine.there engine.namer now) (batch_bodies i.given whole entries is)
+    (c.in_ok-deliver_all.ensures.exact (i.quiet q) (bodies_of i.given) start (i.filled q) (batch_few i.given whole entries c.args.reads is few c.requires)) in
     let listed : IsPermutation (map string_bytes c.deref.result.now) (keys start.tmp) =
-      subst (λ l. IsPermutation (map string_bytes l) (keys start.tmp)) (sym c.deref.ensures.value) (c.in_ok-found.ensures.listed q) in
-    (alone_run _ _ c.args.reads i.text (i.given ++ whole) start now engine.there engine.namer
-        (at_end c.pieces.ended _ _ _ _ _ i.text (i.given ++ whole) c.if-ended.true i.gave) filled t ms p of,
-      c.report.ensures.swept ∙ c.in_ok-swept.ensures.count ∙ filter-length is_converter_name (map string_bytes c.deref.result.now) (keys start.tmp) listed)
+    subst (λ l. IsPermutation (map string_bytes l) (keys start.tmp)) (sym c.deref.ensures.value) (c.in_ok-found.ensures.listed q) in (
+      alone_run _ _ c.args.reads i.text (i.given ++ whole) start now engine.there engine.namer
+          (at_end c.pieces.ended _ _ _ _ _ i.text (i.given ++ whole) c.if-ended.true i.gave) filled t ms p of,
+      c.report.ensures.swept ∙ c.in_ok-swept.ensures.count ∙ filter-length is_converter_name (map string_bytes c.deref.result.now) (keys start.tmp) listed,
+    )

@@ -17,12 +17,12 @@ invariant-pieces g l = record {
   count : l.engine.messages ≡ length given;
   honest : g.F.Folder.honest l.fn.folder → g.F.Folder.honest l.folder;
   reached : g.F.Folder.honest l.fn.folder → All (IsSoundAt (g.F.Folder.files l.fn.folder)) (messages_of (bodies_of given)) →
-    Reached (bodies_of given) (g.F.Folder.files l.fn.folder) l.engine.there l.engine.namer l.engine.messages l.engine.placed (g.F.Folder.files l.folder);
+      Reached (bodies_of given) (g.F.Folder.files l.fn.folder) l.engine.there l.engine.namer l.engine.messages l.engine.placed (g.F.Folder.files l.folder);
   quiet : g.F.Folder.quiet l.fn.folder → g.F.Folder.quiet l.folder;
   filled : g.F.Folder.quiet l.fn.folder → Filled (bodies_of given) (g.F.Folder.files l.fn.folder) l.engine.there l.engine.namer (g.F.Folder.files l.folder);
   others : g.F.Folder.quiet l.fn.folder → LeavesOthers (g.F.Folder.files l.fn.folder) (g.F.Folder.files l.folder);
   made : Makes (3 + l.swept + 2 * l.engine.placed) 0 l.engine.calls.made (g.F.Folder.calls l.fn.folder) (g.F.Folder.calls l.folder);
-  failures : g.F.Folder.failures l.folder ≡ g.F.Folder.failures l.fn.folder
+  failures : g.F.Folder.failures l.folder ≡ g.F.Folder.failures l.fn.folder;
 }
 
 abbrev pub decreases-pieces : goal.decreases-pieces

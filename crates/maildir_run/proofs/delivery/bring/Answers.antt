@@ -61,30 +61,30 @@ pub returns-in_err-answered-clause-others : goal.returns-in_err-answered-clause-
 returns-in_err-answered-clause-others g c = λ q.
     let t = c.args.target.now in
     let ours : IsTrue (is_converter_name c.as_str-base.result.now) =
-      ap is_converter_name c.as_str-base.ensures ∙ ap is_converter_base (sym (is_name-true t.base (base t.base) c.requires.whole)) ∙ c.requires.named in
+    ap is_converter_name c.as_str-base.ensures ∙ ap is_converter_base (sym (is_name-true t.base (base t.base) c.requires.whole)) ∙ c.requires.named in
     quiet_others (Writing c.as_str-base.result.now c.args.body.now) ours (g.F.Folder.files c.args.folder.now) c.write.result (g.F.Folder.files c.write.new.self) (c.write.ensures.alone q)
 
 pub returns-in_err-answered-2-clause-others : goal.returns-in_err-answered-2-clause-others
 returns-in_err-answered-2-clause-others g c = λ q.
     let t = c.args.target.now in
     let ours : IsTrue (is_converter_name c.as_str-base.result.now) =
-      ap is_converter_name c.as_str-base.ensures ∙ ap is_converter_base (sym (is_name-true t.base (base t.base) c.requires.whole)) ∙ c.requires.named in
+    ap is_converter_name c.as_str-base.ensures ∙ ap is_converter_base (sym (is_name-true t.base (base t.base) c.requires.whole)) ∙ c.requires.named in
     let theirs : IsTrue (is_converter_name c.as_str.result.now) =
-      ap is_converter_name c.as_str.ensures ∙ ap is_converter_base (sym (is_name-true t.base (base t.name) c.requires.under)) ∙ c.requires.named in
+    ap is_converter_name c.as_str.ensures ∙ ap is_converter_base (sym (is_name-true t.base (base t.name) c.requires.under)) ∙ c.requires.named in
     others_then _ _ _ (quiet_others (Writing c.as_str-base.result.now c.args.body.now) ours (g.F.Folder.files c.args.folder.now) c.write.result (g.F.Folder.files c.write.new.self) (c.write.ensures.alone q)) (quiet_others (Placing c.as_str-base.result.now t.place c.as_str.result.now) (ours, theirs) (g.F.Folder.files c.write.new.self) c.place.result (g.F.Folder.files c.place.new.self) (c.place.ensures.alone (c.write.ensures.quiet q)))
 
 pub returns-clause-exact : goal.returns-clause-exact
 returns-clause-exact g c = λ q free.
     let t = c.args.target.now in
     brought_exact (g.F.Folder.files c.args.folder.now) (g.F.Folder.files c.write.new.self) (g.F.Folder.files c.place.new.self) t.base c.as_str-base.result.now c.args.body.now t.place t.name c.as_str.result.now c.as_str-base.ensures c.as_str.ensures
-      (quiet_effect (Writing c.as_str-base.result.now c.args.body.now) (g.F.Folder.files c.args.folder.now) c.write.result (g.F.Folder.files c.write.new.self) _ _ c.in_ok-answered.ensures.is (c.write.ensures.alone q))
-      (quiet_effect (Placing c.as_str-base.result.now t.place c.as_str.result.now) (g.F.Folder.files c.write.new.self) c.place.result (g.F.Folder.files c.place.new.self) _ _ c.in_ok-answered-2.ensures.is (c.place.ensures.alone (c.write.ensures.quiet q))) free
+    (quiet_effect (Writing c.as_str-base.result.now c.args.body.now) (g.F.Folder.files c.args.folder.now) c.write.result (g.F.Folder.files c.write.new.self) _ _ c.in_ok-answered.ensures.is (c.write.ensures.alone q))
+    (quiet_effect (Placing c.as_str-base.result.now t.place c.as_str.result.now) (g.F.Folder.files c.write.new.self) c.place.result (g.F.Folder.files c.place.new.self) _ _ c.in_ok-answered-2.ensures.is (c.place.ensures.alone (c.write.ensures.quiet q))) free
 
 pub returns-clause-others : goal.returns-clause-others
 returns-clause-others g c = λ q.
     let t = c.args.target.now in
     let ours : IsTrue (is_converter_name c.as_str-base.result.now) =
-      ap is_converter_name c.as_str-base.ensures ∙ ap is_converter_base (sym (is_name-true t.base (base t.base) c.requires.whole)) ∙ c.requires.named in
+    ap is_converter_name c.as_str-base.ensures ∙ ap is_converter_base (sym (is_name-true t.base (base t.base) c.requires.whole)) ∙ c.requires.named in
     let theirs : IsTrue (is_converter_name c.as_str.result.now) =
-      ap is_converter_name c.as_str.ensures ∙ ap is_converter_base (sym (is_name-true t.base (base t.name) c.requires.under)) ∙ c.requires.named in
+    ap is_converter_name c.as_str.ensures ∙ ap is_converter_base (sym (is_name-true t.base (base t.name) c.requires.under)) ∙ c.requires.named in
     others_then _ _ _ (quiet_others (Writing c.as_str-base.result.now c.args.body.now) ours (g.F.Folder.files c.args.folder.now) c.write.result (g.F.Folder.files c.write.new.self) (c.write.ensures.alone q)) (quiet_others (Placing c.as_str-base.result.now t.place c.as_str.result.now) (ours, theirs) (g.F.Folder.files c.write.new.self) c.place.result (g.F.Folder.files c.place.new.self) (c.place.ensures.alone (c.write.ensures.quiet q)))

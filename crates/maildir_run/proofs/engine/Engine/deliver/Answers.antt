@@ -56,13 +56,13 @@ returns-clause-exact g c = λ q bodies start f few.
     let told = c.in_ok-target.ensures.next bodies f.named few in
     let named = target_is t c.in_ok-target.ensures.base in
     let is : messages_of (bodies ++ body ∷ []) ≡ messages_of bodies ++ message_at t body ∷ [] =
-      messages_of-push bodies body ∙ ap (λ x. messages_of bodies ++ message_at x body ∷ []) (last_is (targets bodies) (target bodies body) t (sym (targets-push bodies body) ∙ told.0)) in
+    messages_of-push bodies body ∙ ap (λ x. messages_of bodies ++ message_at x body ∷ []) (last_is (targets bodies) (target bodies body) t (sym (targets-push bodies body) ∙ told.0)) in
     let test : contains_key there t.base ≡ c.contains.result = ap (contains_key there) (sym c.as_str.ensures) ∙ sym c.contains.ensures in
     elim c.if-not-contains.branch [
       | then-not-contains+in_ok-bring w ↦
-        rw (w.self-is, w.folder-is)
+          rw (w.self-is, w.folder-is)
           (filled_brought bodies body t start there c.args.self.now.namer old is named f _ (g.F.Folder.files w.bring.new.folder) told.1 (test ∙ w.if-not-contains.true)
-            (w.in_ok-bring.ensures.exact q (free_now bodies body t start there c.args.self.now.namer old is named f)))
+          (w.in_ok-bring.ensures.exact q (free_now bodies body t start there c.args.self.now.namer old is named f)))
       | else-not-contains w ↦
-        rw (w.self-is, w.folder-is) (filled_there bodies body t start there c.args.self.now.namer old is named f _ told.1 (test ∙ w.if-not-contains.false))
+          rw (w.self-is, w.folder-is) (filled_there bodies body t start there c.args.self.now.namer old is named f _ told.1 (test ∙ w.if-not-contains.false))
     ]

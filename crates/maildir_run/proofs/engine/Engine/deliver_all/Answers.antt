@@ -49,8 +49,8 @@ loop-entry-preserved g c =
           (ap (λ b. (bodies ++ bodies_of (take i entries)) ++ b ∷ []) c.as_slice.ensures ∙ sym (bodies_next entries i entry lt c.entry-item.is bodies)) done;
       quiet = λ q. c.in_ok-deliver.ensures.quiet (before.quiet q);
       exact = λ q bodies start f few.
-        let now = c.deliver.new.self in
-        subst (λ bs. Filled bs start now.there now.namer (g.F.Folder.files c.deliver.new.folder))
+          let now = c.deliver.new.self in
+          subst (λ bs. Filled bs start now.there now.namer (g.F.Folder.files c.deliver.new.folder))
           (ap (λ b. (bodies ++ bodies_of (take i entries)) ++ b ∷ []) c.as_slice.ensures ∙ sym (bodies_next entries i entry lt c.entry-item.is bodies))
           (c.in_ok-deliver.ensures.exact (before.quiet q) (bodies ++ bodies_of (take i entries)) start (before.exact q bodies start f few) (few_next entries i entry lt c.entry-item.is bodies few));
       others = λ q. others_then _ _ _ (before.others q) (c.in_ok-deliver.ensures.others (before.quiet q));
@@ -78,4 +78,4 @@ returns-clause-exact g c = λ q bodies start f few.
     let now = c.loop-entry.self in
     let le : length c.args.entries.now ≤ c.loop-entry.entry-index = c.loop-entry-test.false in
     subst (λ es. Filled (bodies ++ bodies_of es) start now.there now.namer (g.F.Folder.files c.loop-entry.folder)) (take_all c.loop-entry.entry-index c.args.entries.now le)
-      (c.loop-entry.invariant.exact q bodies start f few)
+    (c.loop-entry.invariant.exact q bodies start f few)
