@@ -1,5 +1,5 @@
 # make            prove the crates and build build/mbox2maildir
-# make run        list the example mailbox
+# make run        deliver the example mailbox to a fresh Maildir under build/, and show what it holds
 # make test       prove and test everything from nothing: the gate of the repository
 # make install    copy the program, and its page where there is one, below PREFIX
 # make bench      time the program on generated mail beside cat, sha256sum and a plain C program (SIZE=megabytes)
@@ -15,6 +15,7 @@ SOURCES = crates.txt $(shell find crates -name out -prune -o \( -name '*.rt' -o 
 PAGE = $(wildcard docs/mbox2maildir.1)
 
 MAILBOX = examples/archive.mbox
+MAILDIR = build/example
 
 all: $(PROGRAM)
 
@@ -26,12 +27,17 @@ $(PROGRAM): $(SOURCES)
 
 run: $(PROGRAM)
 	$(PROGRAM) list $(MAILBOX)
+	rm -rf $(MAILDIR)
+	$(PROGRAM) convert $(MAILDIR) $(MAILBOX)
+	cd $(MAILDIR) && ls -l new cur
+	$(PROGRAM) convert $(MAILDIR) $(MAILBOX)
 
 # The documents, the gate, and then the tests that run the built program.
 test:
 	tests/promises.py
 	rt ci
-	if [ -x tests/run ]; then $(MAKE) $(PROGRAM) && tests/run; fi
+	$(MAKE) $(PROGRAM)
+	tests/run
 
 install: $(PROGRAM)
 	install -d $(DESTDIR)$(PREFIX)/bin

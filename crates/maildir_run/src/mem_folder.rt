@@ -179,6 +179,7 @@ impl Folder for MemFolder {
         ensures told { CountsCall self.old self.new }
         ensures not_absent { IsNotAbsent result }
         ensures refused { IfErr result (λ fault. fault ≡ FolderFault.OutOfMemory) }
+        ensures err { OnErr result (files_of self.new ≡ files_of self.old) }
     {
         self.begin_call();
         Ok(self.names(sub)?)
@@ -194,6 +195,7 @@ impl Folder for MemFolder {
         ensures told { CountsCall self.old self.new }
         ensures not_absent { IsNotAbsent result }
         ensures refused { IfErr result (λ fault. fault ≡ FolderFault.OutOfMemory) }
+        ensures err { OnErr result (files_of self.new ≡ files_of self.old) }
     {
         self.begin_call();
         self.set_tmp(name, bytes)?;
@@ -212,6 +214,7 @@ impl Folder for MemFolder {
         ensures absent { IsErrOf result FolderFault.Absent ↔ (get (files_of self.old).tmp name.now
             ≡ None) }
         ensures not_failed { IsErrOf result FolderFault.Failed → ⊥ }
+        ensures err { OnErr result (files_of self.new ≡ files_of self.old) }
     {
         self.begin_call();
         if self.rename(name, place, target)? {

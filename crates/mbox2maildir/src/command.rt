@@ -9,6 +9,8 @@ pub enum Command<'a> {
     Rewrite(Option<&'a str>),
     /// `list [FILE]`: write a line for each message.
     List(Option<&'a str>),
+    /// `convert MAILDIR [FILE]`: deliver the messages.
+    Convert(&'a str, Option<&'a str>),
 }
 
 impl<'a> Command<'a> {
@@ -24,6 +26,11 @@ impl<'a> Command<'a> {
             ("rewrite", [file]) => Some(Command::Rewrite(Some(file.as_str()))),
             ("list", []) => Some(Command::List(None)),
             ("list", [file]) => Some(Command::List(Some(file.as_str()))),
+            ("convert", [maildir]) => Some(Command::Convert(maildir.as_str(), None)),
+            ("convert", [maildir, file]) => Some(Command::Convert(
+                maildir.as_str(),
+                Some(file.as_str()),
+            )),
             _ => None,
         }
     }
@@ -31,7 +38,7 @@ impl<'a> Command<'a> {
     /// The file that is read, where one is named.
     pub fn file(&self) -> Option<&'a str> {
         match self {
-            Command::Rewrite(file) | Command::List(file) => *file,
+            Command::Rewrite(file) | Command::List(file) | Command::Convert(_, file) => *file,
         }
     }
 }

@@ -1,6 +1,6 @@
 // Why a command was not done.
 use crate::disk;
-use maildir_run::RunFault;
+use maildir_run::{FolderFault, RunFault};
 use std::alloc::AllocError;
 use std::io;
 use thiserror::Error;
@@ -11,6 +11,9 @@ pub enum Fault {
     /// The file that was named cannot be opened.
     #[error("cannot open the source")]
     Source,
+    /// The Maildir that is named cannot be opened or made.
+    #[error("cannot open the folder")]
+    Folder,
     /// The work on them ended early.
     #[error("{0}")]
     Run(RunFault),
@@ -35,5 +38,23 @@ impl Fault {
             return Fault::Run(RunFault::OutOfMemory);
         }
         Fault::Source
+    }
+
+    /// What it is that a folder could not be opened.
+    pub fn of_folder(fault: FolderFault) -> Fault {
+        match fault {
+            FolderFault::OutOfMemory => Fault::Run(RunFault::OutOfMemory),
+            FolderFault::Absent | FolderFault::Failed => Fault::Folder,
+        }
+    }
+
+    /// What it is that a folder could not be synced, after a run that made this many calls of it.
+    pub fn of_sync(fault: FolderFault, calls: u64) -> Fault {
+        match fault {
+            FolderFault::OutOfMemory => Fault::Run(RunFault::OutOfMemory),
+            FolderFault::Absent | FolderFault::Failed => {
+                Fault::Run(RunFault::FolderFailed(calls.saturating_add(1)))
+            }
+        }
     }
 }

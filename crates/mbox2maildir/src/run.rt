@@ -4,13 +4,14 @@ ghost use Rattle.std.specs.Io.KnownBytes.{Keeps};
 ghost use Rattle.mbox2maildir.specs.Words.{AreOfAForm};
 
 use crate::command::Command;
+use crate::disk_folder::DiskFolder;
 use crate::fault::Fault;
-use maildir_run::{RunFault, list_text, rewrite};
+use maildir_run::{Report, RunFault, convert, list_text, rewrite};
 use std::alloc::Global;
 use std::fmt::Display;
 use std::fs;
 use std::io::{BufWriter, Read, Write};
-use std::rt::Files;
+use std::rt::{Clock, Files};
 
 // How many reads a run makes at most.
 const READS: u64 = 1 << 40;
@@ -20,7 +21,7 @@ const OUTPUT_BYTES: usize = 1 << 16;
 
 /// Does the program's work, and answers its status: 0 where it is done; 1 after a fault, and 2 where the words are
 /// of no form, each with one line on standard error. A fault in writing to standard error changes no status.
-pub fn run<R: Files, I: Read, W: Write, E: Write>(
+pub fn run<R: Files + Clock, I: Read, W: Write, E: Write>(
     rt: &R,
     alloc: Global,
     words: &[String],
@@ -50,7 +51,7 @@ pub fn tell<E: Write>(fault: impl Display + Drop, err: &mut E) {
 }
 
 // Opens the source of a command and then does its work.
-fn perform<R: Files, I: Read, W: Write>(
+fn perform<R: Files + Clock, I: Read, W: Write>(
     rt: &R,
     alloc: Global,
     command: Command<'_>,
@@ -58,16 +59,17 @@ fn perform<R: Files, I: Read, W: Write>(
     out: &mut W,
 ) -> Result<(), Fault> {
     match command.file() {
-        None => work(alloc, command, input, out),
+        None => work(rt, alloc, command, input, out),
         Some(path) => {
             let mut source = fs::open(rt, path).map_err(|error| Fault::of_source(&error))?;
-            work(alloc, command, &mut source, out)
+            work(rt, alloc, command, &mut source, out)
         }
     }
 }
 
 // Does the work of a command on its source, and writes what it gives through a buffer.
-fn work<I: Read, W: Write>(
+fn work<R: Files + Clock, I: Read, W: Write>(
+    rt: &R,
     alloc: Global,
     command: Command<'_>,
     source: &mut I,
@@ -83,7 +85,53 @@ fn work<I: Read, W: Write>(
         Command::List(_) => {
             list_text(alloc, source, &mut out, READS)?;
         }
+        Command::Convert(maildir, _) => {
+            let report = deliver(rt, alloc, maildir, source)?;
+            print_report(report, &mut out)?;
+        }
     }
     out.flush().map_err(|_| RunFault::OutputFault)?;
     Ok(())
 }
+
+// Delivers the messages of the source into the Maildir, and syncs it.
+fn deliver<R: Files + Clock, I: Read>(
+    rt: &R,
+    alloc: Global,
+    maildir: &str,
+    source: &mut I,
+) -> Result<Report, Fault> {
+    let mut folder = DiskFolder::open_at(rt, alloc, maildir).map_err(Fault::of_folder)?;
+    let report = convert(alloc, &mut folder, source, READS)?;
+    folder
+        .sync()
+        .map_err(|fault| Fault::of_sync(fault, calls_of(report)))?;
+    Ok(report)
+}
+
+// How many calls of the folder a run made that gave this report: three listings, a removal for each file that was
+// swept, and a write and a placement for each message that was placed.
+fn calls_of(report: Report) -> u64 {
+    report
+        .placed
+        .saturating_mul(2)
+        .saturating_add(report.swept)
+        .saturating_add(3)
+}
+
+fn print_report<W: Write>(report: Report, out: &mut W) -> Result<(), RunFault> {
+    let Report {
+        messages,
+        there,
+        placed,
+        swept,
+    } = report;
+    writeln!(
+        out,
+        "messages {messages}, there {there}, placed {placed}, swept {swept}"
+    )
+    .map_err(|_| RunFault::OutputFault)
+}
+
+#[cfg(test)]
+mod tests;

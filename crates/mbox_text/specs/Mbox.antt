@@ -28,7 +28,7 @@ unended [] = []
 unended (c ∷ l) = if c == 10 then [] else c ∷ unended l
 
 -- The block is this message's: its first line is the From_ line, no other begins a message, and the others, unquoted and
--- without the blank line at their end, are the body (mbox(5); that no blank line is wanted before a From_ line is this project's own rule).
+-- without the blank line at their end, are the body; no blank line is wanted before a From_ line (mbox(5)).
 pub record Block (block : List ℕ) (entry : Entry) : Type 0 where
   pub first : List ℕ
   pub others : List (List ℕ)

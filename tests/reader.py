@@ -1,0 +1,32 @@
+#!/usr/bin/env python3
+"""A mail reader at work: reflags messages of a folder at random moments, until its time is over or it is killed.
+
+Words: the folder `cur`, how many changes to make a second (0: as many as it can), and for how many seconds.
+"""
+import os
+import random
+import sys
+import time
+
+
+def main():
+    folder, rate, seconds = sys.argv[1], int(sys.argv[2]), float(sys.argv[3])
+    draw = random.Random(1)
+    # each message by its name up to the flags, and whether it has the flag S
+    messages = [[name.split(":2,")[0], name.endswith("S")] for name in os.listdir(folder) if ":2," in name]
+    end = time.monotonic() + seconds
+    changes = 0
+    while messages and time.monotonic() < end:
+        if rate:
+            time.sleep(draw.uniform(0, 2 / rate))
+        message = draw.choice(messages)
+        name, seen = message
+        old, new = (":2,S", ":2,") if seen else (":2,", ":2,S")
+        os.rename(f"{folder}/{name}{old}", f"{folder}/{name}{new}")
+        message[1] = not seen
+        changes += 1
+    print(f"{changes} changes")
+
+
+if __name__ == "__main__":
+    main()
