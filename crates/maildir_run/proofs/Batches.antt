@@ -1,6 +1,5 @@
 -- One more entry of a batch.
-use Rattle.std.proofs.Common.{◌≡◌, ℕ, suc, ◌+◌, ◌<◌, ◌≤◌, ◌^◌, List, [], ◌∷◌, ◌++◌, map, take, drop, length, get_or, All, refl, sym, ap, subst, ◌∙◌, arith, add-one, length-append, append_assoc}
-use Rattle.std.proofs.Math.Seq.{drop-cons}
+use Rattle.std.proofs.Common.{◌≡◌, ℕ, ◌+◌, ◌<◌, ◌≤◌, ◌^◌, List, [], ◌∷◌, ◌++◌, take, drop, length, get_or, All, sym, ap, subst, ◌∙◌, arith, length-append, append_assoc}
 use Rattle.std.proofs.lemmas.List.{take_more, map-append, append-nil, take-append-drop, get_or_append_left, length-map, length-take-le}
 use Rattle.mbox_text.specs.declared.entry.Entry.{Entry}
 use Rattle.maildir_name.specs.Targets.{target}

@@ -1,21 +1,20 @@
 -- What a run has kept at its exits, for each text that its source may have had.
-use Rattle.std.proofs.Common.{◌≡◌, ℕ, suc, ◌+◌, ◌-◌, ◌*◌, ◌<◌, ◌≤◌, ◌^◌, ◌%◌, Bool, true, false, Option, Some, None, Result, Ok, Err, List, [], ◌∷◌, ◌++◌, map, length, All, AllPairs, IsPermutation, IsTrue, refl, sym, ap, subst, ◌∙◌, inl, inr, arith, append_assoc}
+use Rattle.std.proofs.Common.{◌≡◌, ℕ, ◌+◌, ◌-◌, ◌*◌, ◌<◌, ◌≤◌, ◌^◌, true, false, Option, Result, Ok, Err, List, [], ◌∷◌, ◌++◌, length, All, refl, sym, ap, subst, ◌∙◌, inl, inr, arith, append_assoc}
 use Rattle.std.specs.Prelude.{IsErr}
-use Rattle.std.specs.Io.KnownBytes.{Consumes, IsAtEnd}
+use Rattle.std.specs.Io.KnownBytes.{Consumes}
 use Rattle.std.proofs.lemmas.List.{append-nil, map-append, length-append, length-map, nil_from_length}
 use Rattle.std.proofs.lemmas.List.Elements.{All-nil}
 use Rattle.mbox_text.specs.declared.entry.Entry.{Entry}
 use Rattle.mbox_text.specs.Mbox.{Mbox}
 use Rattle.mbox_text.proofs.OneReading.{mbox-one}
-use Rattle.maildir_name.specs.Names.{is_converter_base, is_converter_name}
 use Rattle.maildir_name.specs.Named.{Counts, Named}
 use Rattle.maildir_run.specs.declared.fault.RunFault.{RunFault}
 use Rattle.maildir_run.specs.declared.report.Report.{Report}
 use Rattle.maildir_run.specs.Files.{Files}
 use Rattle.maildir_run.specs.Bases.{BaseSet}
-use Rattle.maildir_run.specs.Delivery.{Message, IsSoundAt, IsHome, AreNamed, AreDistinct, Sound, Delivered, there_count, leftover_count}
+use Rattle.maildir_run.specs.Delivery.{Message, IsSoundAt, IsHome, AreNamed, AreDistinct, Sound, there_count, leftover_count}
 use Rattle.maildir_run.specs.Texts.{messages_of, bodies_of, MessagesOf}
-use Rattle.maildir_run.specs.Runs.{Possible, Reports, Ends, Keeps, Run}
+use Rattle.maildir_run.specs.Runs.{Possible, Keeps, Run}
 use Rattle.maildir_run.specs.Progress.{LeavesHomes, TmpWithin, Knows, Progress, Reached, Came}
 use Rattle.maildir_run.specs.Given.{GaveAll}
 use Rattle.maildir_run.specs.Alone.{swept, filled, alone}

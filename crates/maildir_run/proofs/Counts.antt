@@ -1,18 +1,16 @@
 -- The count of a run's calls, as one more is made.
-use Rattle.std.proofs.Common.{◌≡◌, ℕ, zero, suc, ◌+◌, ◌<◌, ◌≤◌, ◌*◌, ◌%◌, ◌^◌, min, Result, Ok, Err, refl, sym, ap, subst, ◌∙◌, inl, inr, arith, add-one, add-suc, add_assoc}
+use Rattle.std.proofs.Common.{◌≡◌, ℕ, zero, suc, ◌+◌, ◌<◌, ◌≤◌, ◌*◌, ◌%◌, ◌^◌, Result, Ok, Err, refl, sym, ap, subst, ◌∙◌, inl, inr, arith, add-suc, add_assoc}
 use Rattle.std.specs.Prelude.{IsErrAnd}
 use Rattle.std.proofs.Math.Nat.{mod-mod, mod-add-mod}
 use Rattle.maildir_run.specs.declared.folder.FolderFault.{FolderFault}
 use Rattle.maildir_run.specs.declared.folder.FolderFault.TheVariants.{Absent, Failed}
 use Rattle.maildir_run.specs.declared.folder.FolderFault.TheVariants as folder
 use Rattle.maildir_run.specs.declared.fault.RunFault.{RunFault}
-use Rattle.maildir_run.specs.declared.fault.RunFault.TheVariants.{NoFromLine, ReadFault, TooManyReads, FolderAbsent, FolderFailed, OutputFault}
-use Rattle.maildir_run.specs.declared.fault.RunFault.TheVariants as run
 use Rattle.maildir_run.specs.declared.report.Report.{Report}
 use Rattle.maildir_run.specs.Runs.{CountsRun}
 use Rattle.maildir_run.specs.Reading.{IsReading}
 use Rattle.maildir_run.specs.Calls.{GoesUp, CountsFailure}
-use Rattle.maildir_run.specs.Counting.{raised, capped, answered, CountsFault, IsNumbered, Makes, MakesUpTo, Numbers}
+use Rattle.maildir_run.specs.Counting.{raised, capped, answered, IsNumbered, Makes, MakesUpTo, Numbers}
 use Rattle.maildir_run.specs.Progress.{Places}
 
 pub answered_ok : {A : Type 0} (number : ℕ) (r : Result A FolderFault) (v : A) → Ok v ≡ answered number r → r ≡ Ok v

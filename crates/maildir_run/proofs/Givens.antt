@@ -1,7 +1,7 @@
 -- What one more read gives, and what a refused one leaves.
-use Rattle.std.proofs.Common.{◌≡◌, ℕ, zero, suc, ◌+◌, ◌*◌, ◌<◌, ◌≤◌, Bool, true, false, Option, Some, None, Result, Ok, Err, List, [], ◌∷◌, ◌++◌, length, refl, sym, ◌∙◌, ap, subst, arith, append_assoc, inl, inr}
+use Rattle.std.proofs.Common.{◌≡◌, ℕ, ◌*◌, ◌<◌, ◌≤◌, Bool, true, false, Option, Some, Result, Ok, Err, List, [], ◌∷◌, ◌++◌, length, refl, sym, ◌∙◌, ap, subst, arith, append_assoc, inl, inr}
 use Rattle.std.specs.Prelude.{◌==◌, IsErrAnd, IfErr}
-use Rattle.std.specs.Io.KnownBytes.{Consumes, IsAtEnd}
+use Rattle.std.specs.Io.KnownBytes.{Consumes}
 use Rattle.std.proofs.KnownBytes.{Consumes-trans, Consumes-nil}
 use Rattle.std.proofs.lemmas.Bool.{eqb-true, eq-eqb}
 use Rattle.std.proofs.lemmas.List.{append-nil, length-append}
@@ -16,9 +16,8 @@ use Rattle.mbox_text.proofs.LineLemmas.{begins_from-more}
 use Rattle.maildir_run.specs.declared.fault.RunFault.{RunFault}
 use Rattle.maildir_run.specs.declared.fault.RunFault.TheVariants.{NoFromLine}
 use Rattle.maildir_run.specs.declared.messages.Messages.{Messages}
-use Rattle.maildir_run.specs.Runs.{Possible}
-use Rattle.maildir_run.specs.Reading.{NeverReads, Breaks, Went}
-use Rattle.maildir_run.specs.Given.{Gave, GaveAll, IsGiven, Begins, Refused}
+use Rattle.maildir_run.specs.Reading.{Breaks, Went}
+use Rattle.maildir_run.specs.Given.{Gave, GaveAll, IsGiven, Refused}
 use Rattle.maildir_run.proofs.Poured.{read_is, mbox-length}
 
 pub gave_none : (before : Option (List ℕ)) (splitter : Splitter) (left reads : ℕ) → Fed [] [] splitter → left ≡ reads → Gave before before splitter left reads [] []

@@ -1,16 +1,14 @@
 -- How far a run has come, and what that says at its exits.
-use Rattle.std.proofs.Common.{◌≡◌, ℕ, ◌<◌, ◌≤◌, ◌+◌, ◌-◌, Bool, true, false, ◌||◌, List, [], ◌∷◌, ◌++◌, All, IsPermutation, IsTrue, IsFalse, length, get_or, refl, sym, ap, subst, ◌∙◌, inl, inr, ◌⊎◌, arith, length-append, append_assoc}
+use Rattle.std.proofs.Common.{◌≡◌, ℕ, ◌<◌, ◌≤◌, false, List, [], ◌∷◌, ◌++◌, All, IsPermutation, IsFalse, length, get_or, refl, sym, subst, ◌∙◌, inl, inr, ◌⊎◌, arith}
 use Rattle.std.specs.Prelude.{AllPairs}
-use Rattle.std.specs.List.{list_any}
 use Rattle.std.proofs.lemmas.Bool.{or_parts, cases_Bool, cases_lt}
 use Rattle.std.proofs.lemmas.List.Elements.{All-push, All-nil, All-from_get_or}
 use Rattle.std.proofs.lemmas.List.{get_or_append_left}
 use Rattle.std.proofs.lemmas.List.Folds.{list_any-append, list_any_none}
 use Rattle.std.proofs.lemmas.List.Sorted.{IsPermutation-refl, IsPermutation-sym, IsPermutation-trans}
-use Rattle.maildir_name.specs.Names.{is_converter_base}
 use Rattle.maildir_run.specs.Files.{Files, is_name, homes}
 use Rattle.maildir_run.specs.Delivery.{Message, IsMissing, IsHome, IsSoundAt, HasHome, is_any, AreNamed, AreDistinct, is_base_of, Sound, IsSwept, Delivered}
-use Rattle.maildir_run.specs.Progress.{LeavesHomes, TmpWithin, Brings, Progress}
+use Rattle.maildir_run.specs.Progress.{LeavesHomes, Brings, Progress}
 use Rattle.maildir_run.proofs.Maps.{is_name-true}
 use Rattle.maildir_run.proofs.Moves.{homes_none, homes_one, none_kept}
 

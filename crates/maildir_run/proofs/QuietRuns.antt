@@ -1,9 +1,9 @@
 -- What a run's calls leave in a quiet folder.
-use Rattle.std.proofs.Common.{◌≡◌, ℕ, suc, ◌+◌, ◌<◌, ◌^◌, Bool, true, false, cond, not, ◌&&◌, ◌||◌, List, [], ◌∷◌, ◌++◌, map, take, length, get_or, Option, Some, None, Result, Ok, Err, String, Global, string_bytes, Vec, IfOk, IsPermutation, IsTrue, IsFalse, refl, sym, ap, subst, ◌∙◌, inl, inr, arith}
+use Rattle.std.proofs.Common.{◌≡◌, ℕ, ◌+◌, ◌<◌, Bool, true, false, cond, not, ◌&&◌, ◌||◌, List, [], ◌∷◌, ◌++◌, map, take, length, get_or, Option, Some, None, Result, Ok, Err, String, Global, string_bytes, IfOk, IsPermutation, IsTrue, IsFalse, refl, sym, ap, subst, ◌∙◌, inl, inr}
 use Rattle.std.specs.List.{list_any}
 use Rattle.std.specs.Option.{is_some}
 use Rattle.std.specs.FinMap.{get, insert, remove, keys, contains_key, retain_keys, same_map, get-insert, get-remove, contains_key-keys}
-use Rattle.std.proofs.lemmas.Bool.{cases_Bool, and_parts}
+use Rattle.std.proofs.lemmas.Bool.{cases_Bool}
 use Rattle.std.proofs.lemmas.List.{take_more, map-append}
 use Rattle.std.proofs.lemmas.List.Folds.{list_any-append}
 use Rattle.std.proofs.lemmas.List.Sorted.{list_any-IsPermutation}
@@ -14,16 +14,16 @@ use Rattle.maildir_name.specs.declared.target.Place.TheVariants.{New, Cur}
 use Rattle.maildir_name.specs.declared.target.Target.{Target}
 use Rattle.maildir_name.specs.Names.{base, is_converter_name, is_converter_base}
 use Rattle.maildir_name.specs.Named.{Counts, Named}
-use Rattle.maildir_run.specs.Files.{Files, FileMap, is_name, has_base}
+use Rattle.maildir_run.specs.Files.{Files, FileMap, is_name}
 use Rattle.maildir_run.specs.Bases.{BaseSet}
-use Rattle.maildir_run.specs.Calls.{Call, Listing, Writing, Placing, Removing, Move, Other, Again, Torn, moved, after, effect, placed, torn, IsOwn, CalledQuietly, names_of}
+use Rattle.maildir_run.specs.Calls.{Call, Listing, Writing, Placing, Removing, Move, Other, Again, Torn, after, effect, placed, torn, IsOwn, CalledQuietly}
 use Rattle.maildir_run.specs.Counting.{answered}
 use Rattle.maildir_run.specs.Alone.{swept, added, filled}
 use Rattle.maildir_run.specs.Delivery.{Message, has_home}
 use Rattle.maildir_run.specs.Texts.{messages_of}
-use Rattle.maildir_run.specs.Progress.{IsTarget, Knows, message_at}
+use Rattle.maildir_run.specs.Progress.{IsTarget, message_at}
 use Rattle.maildir_run.specs.Quietly.{LeavesOthers, TakenOut, Filled}
-use Rattle.maildir_run.proofs.Maps.{total, same, is_name-true, is_name-refl, get_under, get-insert_same}
+use Rattle.maildir_run.proofs.Maps.{total, same, is_name-true, get_under, get-insert_same}
 use Rattle.maildir_run.proofs.Counts.{answered_ok}
 
 pub others_same : (s : Files) → LeavesOthers s s

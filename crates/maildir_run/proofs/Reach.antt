@@ -1,5 +1,5 @@
 -- One more message of a run.
-use Rattle.std.proofs.Common.{◌≡◌, ℕ, suc, ◌+◌, ◌<◌, ◌≤◌, ◌^◌, Bool, true, false, cond, List, [], ◌∷◌, ◌++◌, length, get_or, All, IsTrue, IsFalse, refl, sym, ap, subst, ◌∙◌, inl, inr, ◌⊎◌, arith, length-append, append_assoc}
+use Rattle.std.proofs.Common.{◌≡◌, ℕ, ◌+◌, ◌<◌, ◌^◌, Bool, true, false, cond, List, [], ◌∷◌, ◌++◌, length, get_or, All, IsTrue, IsFalse, refl, sym, ap, subst, ◌∙◌, inl, inr, arith, length-append}
 use Rattle.std.specs.FinMap.{contains_key}
 use Rattle.std.proofs.Math.Seq.{get_or-append_seam}
 use Rattle.std.proofs.lemmas.Cmp.{eq_by_cmp_equiv}
@@ -12,7 +12,7 @@ use Rattle.maildir_name.specs.Named.{Counts, Named}
 use Rattle.maildir_name.specs.Targets.{target, targets}
 use Rattle.maildir_name.proofs.TargetLemmas.{targets-push}
 use Rattle.maildir_name.proofs.NamerLemmas.{count-push}
-use Rattle.maildir_run.specs.Files.{Files, is_name, has_base, homes}
+use Rattle.maildir_run.specs.Files.{Files, is_name, homes}
 use Rattle.maildir_run.specs.Bases.{BaseSet}
 use Rattle.maildir_run.specs.Delivery.{Message, IsMissing, IsHome, IsSoundAt, AreNamed, AreDistinct, is_base_of, is_any, has_home, there_count}
 use Rattle.maildir_run.specs.Texts.{messages_of}

@@ -1,20 +1,20 @@
 -- What one call of a run gives, in the words of a run.
-use Rattle.std.proofs.Common.{◌≡◌, ℕ, Bool, true, false, cond, ◌||◌, List, [], ◌∷◌, ◌++◌, ◌⊎◌, Option, Some, None, Result, Ok, Err, OnOk, IsPermutation, IsTrue, IsFalse, refl, sym, ap, subst, ◌∙◌, inl, inr}
+use Rattle.std.proofs.Common.{◌≡◌, ℕ, Bool, true, false, ◌||◌, List, [], ◌∷◌, ◌++◌, Option, Some, None, Result, Ok, Err, OnOk, IsPermutation, IsTrue, IsFalse, refl, sym, ap, subst, ◌∙◌, inl, inr}
 use Rattle.std.specs.List.{list_any}
 use Rattle.std.specs.Option.{is_some}
 use Rattle.std.specs.FinMap.{get, keys, contains_key-keys}
 use Rattle.std.proofs.lemmas.Bool.{or_parts, cases_Bool}
-use Rattle.std.proofs.lemmas.List.Sorted.{list_any-IsPermutation, IsPermutation-sym, IsPermutation-trans}
+use Rattle.std.proofs.lemmas.List.Sorted.{list_any-IsPermutation, IsPermutation-trans}
 use Rattle.maildir_run.specs.declared.folder.Sub.{Sub}
-use Rattle.maildir_run.specs.declared.folder.Sub.TheVariants.{Tmp, New, Cur}
+use Rattle.maildir_run.specs.declared.folder.Sub.TheVariants.{Tmp}
 use Rattle.maildir_name.specs.declared.target.Place.{Place}
 use Rattle.maildir_name.specs.Names.{is_converter_name, is_converter_base}
 use Rattle.maildir_run.specs.Files.{Files, FileMap, is_name, has_base, held_under, homes}
-use Rattle.maildir_run.specs.Calls.{Call, Listing, Writing, Placing, Removing, Move, Other, Again, Torn, after, effect, moved, Called, Succeeded, Failed, Lists, PlacesElsewhere, WritesElsewhere, StaysOrGoes}
-use Rattle.maildir_run.specs.Delivery.{Message, IsMissing, IsHome, IsSoundAt, IsSwept}
+use Rattle.maildir_run.specs.Calls.{Call, Listing, Writing, Placing, Removing, Again, after, effect, Called, Succeeded, Failed, Lists, PlacesElsewhere, WritesElsewhere, StaysOrGoes}
+use Rattle.maildir_run.specs.Delivery.{Message, IsMissing, IsHome, IsSoundAt}
 use Rattle.maildir_run.specs.Progress.{LeavesHomes, TmpWithin, Brings}
 use Rattle.maildir_run.proofs.Maps.{is_name-true, is_name-refl, get-remove_same}
-use Rattle.maildir_run.proofs.Moves.{after_kept, after_tmp, after-append, homes_none, homes_one, none_held, both_none, Waits, Arrived, placing, placing_ok, WrittenOrGone, writing_ok}
+use Rattle.maildir_run.proofs.Moves.{after_kept, after_tmp, after-append, homes_none, none_held, placing, placing_ok, WrittenOrGone, writing_ok}
 
 -- ---- any answer is some list of moves, which is what `Failed` says
 pub some_moves : {A E : Type 0} (call : Call) (old : Files) (r : Result A E) (new : Files) → Called call old r new → Failed call old new

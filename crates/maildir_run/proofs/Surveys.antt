@@ -1,24 +1,23 @@
 -- What the three listings tell together.
-use Rattle.std.proofs.Common.{◌≡◌, ℕ, ◌≤◌, suc, Bool, true, false, ◌||◌, List, [], ◌∷◌, ◌++◌, IsPermutation, IsTrue, IsFalse, length, Option, Some, None, Result, Ok, Err, Vec, String, Global, sum_by, cond, ◌+◌, refl, sym, ap, subst, ◌∙◌, inl, inr, arith}
+use Rattle.std.proofs.Common.{◌≡◌, ℕ, ◌≤◌, Bool, true, false, List, [], ◌∷◌, ◌++◌, IsPermutation, IsTrue, length, Result, Ok, Err, Vec, String, Global, sum_by, cond, ◌+◌, refl, sym, ap, subst, ◌∙◌, inl, inr, arith}
 use Rattle.std.specs.List.{list_any, filter}
 use Rattle.std.specs.FinMap.{keys, len, retain_keys}
 use Rattle.std.proofs.lemmas.Bool.{or_parts, or_cases, cases_Bool}
 use Rattle.std.proofs.lemmas.List.Sums.{sum_by-cons}
-use Rattle.std.proofs.lemmas.List.Sorted.{IsPermutation-sym, IsPermutation-trans, sum_by-IsPermutation}
+use Rattle.std.proofs.lemmas.List.Sorted.{IsPermutation-trans, sum_by-IsPermutation}
 use Rattle.maildir_run.specs.declared.folder.Sub.{Sub}
 use Rattle.maildir_run.specs.declared.folder.Sub.TheVariants.{Tmp, New, Cur}
 use Rattle.maildir_name.specs.Names.{is_converter_base, is_converter_name}
 use Rattle.maildir_run.specs.Files.{Files, has_base, held_under, homes}
-use Rattle.maildir_run.specs.Calls.{Call, Listing, Move, Other, Again, Torn, moved, after, Lists, Listed, Failed, names_of}
+use Rattle.maildir_run.specs.Calls.{Listing, Move, Other, Again, Torn, moved, after, Lists, Listed, Failed, names_of}
 use Rattle.maildir_run.specs.Delivery.{has_home, is_any, leftover_count}
 use Rattle.maildir_run.specs.Plan.{is_listed}
 use Rattle.maildir_run.specs.Progress.{LeavesHomes, TmpWithin}
-use Rattle.maildir_run.proofs.Moves.{homes_none, both_none, after_kept, after-append}
+use Rattle.maildir_run.proofs.Moves.{homes_none, both_none, after_kept}
 use Rattle.maildir_run.proofs.Listed.{listed_new, listed_cur}
 use Rattle.maildir_run.proofs.Counted.{counted, acted_count}
-use Rattle.maildir_run.proofs.Steps.{listing_leaves, not_shown, leaves_trans, called_kept, called_tmp, within_on}
+use Rattle.maildir_run.proofs.Steps.{listing_leaves, not_shown, called_kept, called_tmp, within_on}
 use Rattle.maildir_run.specs.declared.folder.FolderFault.{FolderFault}
-use Rattle.maildir_run.specs.declared.fault.RunFault.{RunFault}
 use Rattle.maildir_run.specs.Counting.{answered}
 use Rattle.maildir_run.proofs.Counts.{answered_ok}
 use Rattle.maildir_run.proofs.Progress.{any_kept}

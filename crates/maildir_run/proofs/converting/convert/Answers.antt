@@ -1,6 +1,5 @@
-use Rattle.std.proofs.Common.{◌≡◌, ℕ, suc, ◌+◌, ◌*◌, ◌<◌, ◌≤◌, ◌^◌, Bool, true, false, List, [], ◌++◌, map, string_bytes, All, length, refl, sym, ap, subst, ◌∙◌, arith, length-append, inl, inr}
+use Rattle.std.proofs.Common.{◌≡◌, ◌+◌, ◌*◌, ◌<◌, ◌≤◌, ◌^◌, [], ◌++◌, map, string_bytes, All, length, refl, sym, ap, subst, ◌∙◌, arith, length-append, inr}
 use Rattle.std.specs.FinMap.{contains_key}
-use Rattle.mbox_text.specs.declared.entry.Entry.{Entry}
 use Rattle.maildir_run.specs.declared.calls.Calls.{Calls}
 use Rattle.maildir_run.specs.Counting.{Makes}
 use Rattle.std.specs.List.{filter}
@@ -11,7 +10,6 @@ use Rattle.maildir_run.specs.Progress.{Reached, Came, Knows, TmpWithin}
 use Rattle.maildir_run.specs.Texts.{messages_of, bodies_of}
 use Rattle.maildir_run.proofs.Counts.{more_calls, more_up_to, run_counts, numbers_call, numbers_read, numbers_ok}
 use Rattle.maildir_run.proofs.Steps.{leaves_trans}
-use Rattle.maildir_run.proofs.Reach.{came_whole}
 use Rattle.maildir_run.proofs.Givens.{gave_more, gave_refused, broken_off, not_ended, at_end, given_first, given_read, given_few}
 use Rattle.maildir_run.proofs.Converts.{reached_none, untouched_run, came_run, reached_run, batch_bodies, batch_sound, given_sound, batch_few, run_err}
 use Rattle.std.proofs.Common.{IsPermutation}

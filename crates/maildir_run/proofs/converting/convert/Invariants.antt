@@ -1,4 +1,4 @@
-use Rattle.std.proofs.Common.{◌≡◌, ℕ, suc, ◌+◌, ◌*◌, ◌<◌, Bool, false, cond, List, ◌++◌, All, length}
+use Rattle.std.proofs.Common.{◌≡◌, ℕ, suc, ◌+◌, ◌*◌, ◌<◌, false, cond, List, ◌++◌, All, length}
 use Rattle.mbox_text.specs.declared.entry.Entry.{Entry}
 use Rattle.maildir_run.specs.Counting.{Makes}
 use Rattle.maildir_run.specs.Delivery.{IsSoundAt}

@@ -1,4 +1,4 @@
-use Rattle.std.proofs.Common.{◌≡◌, IsTrue, refl, sym, ap, subst, ◌∙◌, arith, ◌≤◌}
+use Rattle.std.proofs.Common.{IsTrue, refl, sym, ap, ◌∙◌, arith}
 use Rattle.maildir_run.specs.Files.{has_base}
 use Rattle.maildir_run.specs.Progress.{message_at}
 use Rattle.maildir_run.proofs.Counts.{one_call, more_calls, up_to}

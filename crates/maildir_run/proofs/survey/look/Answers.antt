@@ -1,5 +1,4 @@
-use Rattle.std.proofs.Common.{◌≡◌, ℕ, ◌≤◌, refl, sym, ap, ◌∙◌, arith}
-use Rattle.maildir_run.specs.Counting.{Makes}
+use Rattle.std.proofs.Common.{◌∙◌, arith}
 use Rattle.maildir_run.proofs.Counts.{one_call, more_calls, up_to}
 use Rattle.maildir_run.proofs.Steps.{leaves_trans, listing_within}
 use Rattle.maildir_run.proofs.Surveys.{some_listing, told_listing, listed_within, three_listings, few_listed}

@@ -1,8 +1,8 @@
-use Rattle.std.proofs.Common.{◌≡◌, ℕ, ◌∷◌, map, drop, length, ◌<◌, ◌≤◌, ◌+◌, ◌^◌, IsTrue, true, false, string_bytes, sym, ap, subst, ◌∙◌, arith, add-one, refl}
+use Rattle.std.proofs.Common.{◌≡◌, ◌∷◌, map, drop, length, ◌<◌, ◌≤◌, ◌+◌, ◌^◌, IsTrue, true, false, string_bytes, sym, ap, subst, ◌∙◌, arith, add-one, refl}
 use Rattle.std.proofs.Math.Seq.{drop-cons}
 use Rattle.std.proofs.lemmas.List.{take_all}
 use Rattle.maildir_name.specs.Names.{is_converter_name}
-use Rattle.maildir_run.specs.Progress.{LeavesHomes, TmpWithin}
+use Rattle.maildir_run.specs.Progress.{TmpWithin}
 use Rattle.maildir_run.proofs.Counts.{no_failure, no_call, one_call, more_calls, up_to}
 use Rattle.maildir_run.proofs.Steps.{some_moves, removed_leaves, leaves_trans, sweep_removed, without_other}
 use Rattle.maildir_run.proofs.Sweeps.{told_called, counted_more}

@@ -1,13 +1,12 @@
-use Rattle.std.proofs.Common.{◌≡◌, true, false, sym, ap, subst, ◌∙◌}
+use Rattle.std.proofs.Common.{◌≡◌, false, sym, ap, ◌∙◌}
 use Rattle.std.specs.FinMap.{contains_key}
-use Rattle.maildir_run.specs.Progress.{Reached, Came, message_at}
+use Rattle.maildir_run.specs.Progress.{message_at}
 use Rattle.std.proofs.Common.{◌++◌, ◌∷◌, []}
 use Rattle.maildir_name.specs.Targets.{target, targets}
 use Rattle.maildir_name.proofs.TargetLemmas.{targets-push}
 use Rattle.maildir_run.specs.Texts.{messages_of}
-use Rattle.maildir_run.specs.Quietly.{Filled}
 use Rattle.maildir_run.proofs.MessageLemmas.{messages_of-push}
-use Rattle.maildir_run.proofs.QuietRuns.{others_same, free_now, filled_there, filled_brought}
+use Rattle.maildir_run.proofs.QuietRuns.{free_now, filled_there, filled_brought}
 use Rattle.maildir_run.proofs.Reach.{last_is, target_is, Next, missing_now, reached_there, reached_brought, came_brought, came_whole}
 use Rattle.maildir_run.proofs.engine.Engine.deliver.Goals as goal
 use Rattle.maildir_run.proofs.engine.Engine.deliver.Goals.{then-not-contains+in_ok-bring, else-not-contains}

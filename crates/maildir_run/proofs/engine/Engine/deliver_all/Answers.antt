@@ -1,14 +1,13 @@
-use Rattle.std.proofs.Common.{◌≡◌, ℕ, ◌+◌, ◌*◌, ◌≤◌, ◌<◌, List, [], ◌∷◌, ◌++◌, All, length, take, sym, ap, subst, ◌∙◌, arith}
+use Rattle.std.proofs.Common.{◌*◌, ◌≤◌, ◌<◌, [], ◌∷◌, ◌++◌, All, length, take, sym, ap, subst, ◌∙◌, arith}
 use Rattle.std.proofs.lemmas.List.{take_all}
 use Rattle.maildir_run.specs.Delivery.{IsSoundAt}
-use Rattle.maildir_run.specs.Files.{Files}
 use Rattle.maildir_run.specs.Progress.{Reached, Came}
 use Rattle.maildir_run.specs.Texts.{messages_of, bodies_of}
 use Rattle.maildir_run.proofs.Batches.{bodies_next, few_next, sound_next, came_next}
-use Rattle.maildir_run.proofs.Counts.{no_failure, up_to_then, places_then}
+use Rattle.maildir_run.proofs.Counts.{up_to_then, places_then}
 use Rattle.maildir_run.proofs.Reach.{came_whole}
 use Rattle.maildir_run.specs.Quietly.{Filled}
-use Rattle.maildir_run.proofs.QuietRuns.{others_same, others_then}
+use Rattle.maildir_run.proofs.QuietRuns.{others_then}
 use Rattle.maildir_run.proofs.engine.Engine.deliver_all.Goals as goal
 
 pub returns-in_err-deliver-clause-came : goal.returns-in_err-deliver-clause-came
