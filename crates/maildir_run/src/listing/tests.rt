@@ -97,7 +97,9 @@ fn output_fails(rt: HostRuntime) {
             fails,
         };
         let mut source = Cut::new(b"From x\nabc", 65_536, Then::Ends);
-        assert!(rt; list_text(rt.alloc(), &mut source, &mut out, LIMIT) == Err(RunFault::OutputFault));
+        assert!(rt;
+            list_text(rt.alloc(), &mut source, &mut out, LIMIT) == Err(RunFault::OutputFault)
+        );
         assert!(rt; out.taken.as_slice() == b"1 ba".as_slice());
     }
 }
