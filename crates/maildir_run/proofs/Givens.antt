@@ -21,7 +21,7 @@ use Rattle.maildir_run.specs.Given.{Gave, GaveAll, IsGiven, Refused}
 use Rattle.maildir_run.proofs.Poured.{read_is, mbox-length}
 
 pub gave_none : (before : Option (List ℕ)) (splitter : Splitter) (left reads : ℕ) → Fed [] [] splitter → left ≡ reads → Gave before before splitter left reads [] []
-gave_none before splitter left reads fed e = record { read = Consumes-nil before; budget = omega (arith, e); fed = fed }
+gave_none before splitter left reads fed e = record { read = Consumes-nil before; budget = omega (arith, e); spent = omega (arith, e); fed = fed }
 
 -- one more read, with what became whole by it
 pub record GaveMore (ended : Bool) (before now : Option (List ℕ)) (splitter : Splitter) (left reads : ℕ) (given : List Entry) : Type 0 where
@@ -43,12 +43,14 @@ gave_more true before mid now old splitter left reads text given out whole none 
     }
 gave_more false before mid now old splitter left reads text given out whole none p w =
     let within = p.budget in
+    let spent = p.spent in
     let added : whole ≡ w.1 = rw none at w.5 in
     record {
       text = text ++ w.0;
       gave = record {
         read = Consumes-trans before mid now text w.0 p.read w.2;
         budget = omega (arith, length-append text w.0, w.3, w.4);
+        spent = omega (arith, spent, length-append text w.0, w.4, w.7);
         fed = rw added (w.6 text given p.fed);
       };
     }
@@ -56,9 +58,11 @@ gave_more false before mid now old splitter left reads text given out whole none
 pub gave_refused : (before mid now : Option (List ℕ)) (old : Messages) (reads : ℕ) (text : List ℕ) (given : List Entry) (fault : RunFault) → Gave before mid old.splitter old.reads reads text given → Breaks old mid now fault → Refused before now reads fault
 gave_refused before mid now old reads text given fault p b =
     let within = p.budget in
+    let spent = p.spent in
     let read = Consumes-trans before mid now text b.0 p.read b.1 in
     record {
       budget = (text ++ b.0, read, omega (arith, length-append text b.0, b.2));
+      spent = λ e. (text ++ b.0, read, omega (arith, spent, length-append text b.0, b.4 e));
       unreadable = λ e t entries q m.
           let never = (b.3 e text given p.fed).1 in
           let is : t ≡ text ++ b.0 ++ q.more = rw (← read_is before now (text ++ b.0) t read q) q.front in

@@ -1,5 +1,5 @@
 -- A source that is read piece by piece while what belongs to its messages is written.
-use Rattle.std.proofs.Common.{◌≡◌, ℕ, zero, suc, ◌+◌, ◌*◌, ◌^◌, ◌<◌, ◌≤◌, Bool, true, false, Option, Some, None, Result, Ok, Err, List, [], ◌∷◌, ◌++◌, length, refl, sym, ◌∙◌, ap, arith, append_assoc, inl, inr}
+use Rattle.std.proofs.Common.{◌≡◌, ℕ, ◌+◌, ◌*◌, ◌^◌, ◌<◌, ◌≤◌, Bool, true, false, Option, Some, None, Result, Ok, Err, List, [], ◌∷◌, ◌++◌, length, refl, sym, ◌∙◌, ap, arith, append_assoc, inl, inr}
 use Rattle.std.specs.Prelude.{IsErrAnd}
 use Rattle.std.specs.List.{flat_map}
 use Rattle.std.proofs.lemmas.List.Concat.{flat_map-append}
@@ -18,10 +18,10 @@ use Rattle.mbox_text.proofs.OneReading.{mbox-one}
 use Rattle.mbox_text.proofs.Appended.{front_more, front_then}
 use Rattle.maildir_run.proofs.FromLines.{mbox-from_lines, from_lines-behind, given-from_lines}
 use Rattle.maildir_run.specs.declared.fault.RunFault.{RunFault}
-use Rattle.maildir_run.specs.declared.fault.RunFault.TheVariants.{NoFromLine}
+use Rattle.maildir_run.specs.declared.fault.RunFault.TheVariants.{NoFromLine, TooManyReads}
 use Rattle.maildir_run.specs.declared.messages.Messages.{Messages}
 use Rattle.maildir_run.specs.Runs.{Possible}
-use Rattle.maildir_run.specs.Reading.{ReadsAtMost, NeverReads, GoesOn, MeetsEnd, Breaks, Went}
+use Rattle.maildir_run.specs.Reading.{ReadsAtLeast, ReadsAtMost, NeverReads, Breaks, Went}
 use Rattle.maildir_run.specs.Output.{GivesAll, GivesFront, GivesNothing}
 
 -- each text that begins so has these first messages; the source has these bytes left
@@ -83,6 +83,7 @@ pub record Poured (output : List Entry → List ℕ) (given : List Entry) (befor
   pub text : List ℕ
   pub read : Consumes before now text
   pub budget : length text + 65536 * left ≤ 65536 * reads
+  pub spent : reads ≤ left + length text
   pub fed : Fed text given splitter
   pub written : Appends was is (output given)
   pub counted : count ≡ length given
@@ -111,6 +112,7 @@ pub record Broken (output : List Entry → List ℕ) (before now was is : Option
   pub front : GivesFront output before now was is
   pub nothing : fault ≡ NoFromLine → GivesNothing before now was is
   pub budget : ReadsAtMost before now (65536 * reads)
+  pub spent : fault ≡ TooManyReads → ReadsAtLeast before now reads
 
 pub read_broken : (output : List Entry → List ℕ) (given : List Entry) (before mid now was is : Option (List ℕ)) (messages : Messages) (whole : List Entry) (reads count : ℕ) (fault : RunFault) → IsOutput output
     → Poured output given before mid was is messages.splitter messages.reads whole reads count → Breaks messages mid now fault → Broken output before now was is reads fault
@@ -124,6 +126,7 @@ read_broken output given before mid now was is messages whole reads count fault 
           let out : output given ≡ [] = ap output n.0 ∙ o.none in
           (nothing was is (rw out at p.written), λ t entries q m. never_gives before now (p.text ++ b.0) t entries read n.1 q m);
       budget = (p.text ++ b.0, read, omega (arith, length-append p.text b.0, p.budget, b.2));
+      spent = λ e. (p.text ++ b.0, read, omega (arith, length-append p.text b.0, p.spent, b.4 e));
     }
 
 -- a read, and what became whole by it
@@ -220,6 +223,7 @@ poured_more output given before mid now was is is' messages splitter left old wh
       text = p.text ++ w.0;
       read = Consumes-trans before mid now p.text w.0 p.read w.2;
       budget = omega (arith, length-append p.text w.0, p.budget, w.3, w.4);
+      spent = omega (arith, length-append p.text w.0, p.spent, w.4, w.7);
       fed = rw added (w.6 p.text given p.fed);
       written = rw e (Appends-trans was is is' (output given) bytes p.written h);
       counted = omega (arith, length-append given whole, p.counted);
@@ -233,6 +237,7 @@ poured_none output before was splitter reads left whole o f l none = record {
   text = [];
   read = Consumes-nil before;
   budget = omega (arith, l);
+  spent = omega (arith, l);
   fed = f;
   written = rw o.none (Appends-nil was);
   counted = refl;

@@ -1,5 +1,5 @@
 -- Texts that no list of messages fits.
-use Rattle.std.proofs.Common.{◌≡◌, ℕ, ◌+◌, ◌<◌, ◌≤◌, Bool, true, false, Option, Some, None, Result, Ok, Err, List, [], ◌∷◌, ◌++◌, length, refl, sym, ◌∙◌, ap, arith, inl, inr}
+use Rattle.std.proofs.Common.{◌≡◌, ◌⊎◌, ℕ, ◌≤◌, Bool, true, Option, Result, Ok, Err, List, [], ◌++◌, length, refl, ap, arith, inl, inr}
 use Rattle.std.specs.Prelude.{◌*◌, IsErr, IsErrAnd}
 use Rattle.std.specs.Io.KnownBytes.{Consumes, IsAtEnd}
 use Rattle.std.proofs.lemmas.Bool.{both_ways, false≢true}
@@ -7,15 +7,15 @@ use Rattle.std.proofs.lemmas.List.{append-nil}
 use Rattle.mbox_text.specs.declared.entry.Entry.{Entry}
 use Rattle.mbox_text.specs.declared.splitter.Splitter.{Splitter}
 use Rattle.mbox_text.specs.Quoting.{begins_from, begins_with, from_bytes}
-use Rattle.mbox_text.specs.Mbox.{Mbox, IsUnreadable}
+use Rattle.mbox_text.specs.Mbox.{IsUnreadable}
 use Rattle.mbox_text.specs.Fronts.{AllButLast, NeverFrom}
 use Rattle.mbox_text.specs.Fed.{IsTooShort, NeverBegins}
 use Rattle.mbox_text.proofs.Blocks.{mbox-starts}
 use Rattle.mbox_text.proofs.Fields.{never-more}
-use Rattle.mbox_text.proofs.Heads.{from-long, mbox-begins-last}
+use Rattle.mbox_text.proofs.Heads.{from-long}
 use Rattle.mbox_text.proofs.LineLemmas.{begins_from-more}
 use Rattle.maildir_run.specs.declared.fault.RunFault.{RunFault}
-use Rattle.maildir_run.specs.declared.fault.RunFault.TheVariants.{NoFromLine}
+use Rattle.maildir_run.specs.declared.fault.RunFault.TheVariants.{NoFromLine, TooManyReads, OutOfMemory}
 use Rattle.maildir_run.specs.declared.messages.Messages.{Messages}
 use Rattle.maildir_run.specs.Reading.{NeverReads, Taken, Breaks, Went}
 
@@ -57,24 +57,31 @@ pub breaks_went : (old : Messages) (before after : Option (List ℕ)) (out out' 
 breaks_went old before after out out' splitter reads (Ok b) fault is e h = absurd (false≢true is)
 breaks_went old before after out out' splitter reads (Err f) fault is e h = rw e h
 
+-- a splitter's refusal says nothing of the reads
+unspent : (left : ℕ) (fault : RunFault) → (fault ≡ NoFromLine) ⊎ (fault ≡ OutOfMemory) → fault ≡ TooManyReads → left ≡ 0
+unspent left fault (inl e) is = cc
+unspent left fault (inr e) is = cc
+
 -- the last message could not be told
-pub finish_breaks : (old : Messages) (before after : Option (List ℕ)) (fault : RunFault) → Consumes before after [] → IsAtEnd after
+pub finish_breaks : (old : Messages) (before after : Option (List ℕ)) (fault : RunFault) → (fault ≡ NoFromLine) ⊎ (fault ≡ OutOfMemory) → Consumes before after [] → IsAtEnd after
     → (fault ≡ NoFromLine → (text : List ℕ) (given : List Entry) → Taken text given old → IsTooShort text) → Breaks old before after fault
-finish_breaks old before after fault read end short = (
+finish_breaks old before after fault cause read end short = (
   [],
   read,
   omega arith,
   λ e text given taken. let s = short e text given taken in (short_given text given s taken.given_are, short_reads text after s end),
+  unspent old.reads fault cause,
 )
 
 -- what was read can't begin a text
-pub feed_breaks : (old : Messages) (before after : Option (List ℕ)) (piece : List ℕ) (out out' : List Entry) (fault : RunFault) → Consumes before after piece → length piece ≤ 65536 * old.reads
+pub feed_breaks : (old : Messages) (before after : Option (List ℕ)) (piece : List ℕ) (out out' : List Entry) (fault : RunFault) → (fault ≡ NoFromLine) ⊎ (fault ≡ OutOfMemory) → Consumes before after piece → length piece ≤ 65536 * old.reads
     → (fault ≡ NoFromLine → NeverBegins old.splitter piece out out') → Breaks old before after fault
-feed_breaks old before after piece out out' fault read size never = (
+feed_breaks old before after piece out out' fault cause read size never = (
   piece,
   read,
   size,
   λ e text given taken.
       let n = (never e text given taken).1 in
       (never_given text piece given n taken.given_are, never_reads (text ++ piece) after n),
+  unspent old.reads fault cause,
 )

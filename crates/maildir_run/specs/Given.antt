@@ -6,14 +6,15 @@ use Rattle.mbox_text.specs.declared.splitter.Splitter.{Splitter}
 use Rattle.mbox_text.specs.Fed.{Fed}
 use Rattle.mbox_text.specs.Mbox.{Mbox}
 use Rattle.maildir_run.specs.declared.fault.RunFault.{RunFault}
-use Rattle.maildir_run.specs.declared.fault.RunFault.TheVariants.{NoFromLine}
+use Rattle.maildir_run.specs.declared.fault.RunFault.TheVariants.{NoFromLine, TooManyReads}
 use Rattle.maildir_run.specs.Runs.{Possible}
-use Rattle.maildir_run.specs.Reading.{ReadsAtMost}
+use Rattle.maildir_run.specs.Reading.{ReadsAtLeast, ReadsAtMost}
 
--- this text was read, these messages were given of it, and so many reads are left of those that were allowed
+-- this text was read, these messages were given of it, and so many reads are left of those that were allowed; each that was made gave a byte
 pub record Gave (before now : Option (List ℕ)) (splitter : Splitter) (left reads : ℕ) (text : List ℕ) (given : List Entry) : Type 0 where
   pub read : Consumes before now text
   pub budget : length text + 65536 * left ≤ 65536 * reads
+  pub spent : reads ≤ left + length text
   pub fed : Fed text given splitter
 
 -- this text was read up to the source's end, and these are its messages
@@ -34,7 +35,8 @@ pub record Begins (ended : Bool) (before now : Option (List ℕ)) (splitter : Sp
   pub gave : IsGiven ended before now splitter left reads text whole
   pub begun : ended ≡ false → 0 < length whole
 
--- nothing more could be read; with `NoFromLine` no text that the source may have had is an mbox text
+-- nothing more could be read; with `TooManyReads` each of the reads gave a byte, and with `NoFromLine` no text that the source may have had is an mbox text
 pub record Refused (before now : Option (List ℕ)) (reads : ℕ) (fault : RunFault) : Type 0 where
   pub budget : ReadsAtMost before now (65536 * reads)
+  pub spent : fault ≡ TooManyReads → ReadsAtLeast before now reads
   pub unreadable : fault ≡ NoFromLine → (t : List ℕ) (entries : List Entry) → Possible before now t → ¬ Mbox t entries

@@ -1,5 +1,5 @@
 -- What a call that writes owes of its output, for the texts that its source may have had.
-use Rattle.std.specs.Prelude.{◌≡◌, ℕ, List, ◌++◌, length, Option, IfSome}
+use Rattle.std.specs.Prelude.{◌≡◌, ℕ, List, length, Option, IfSome}
 use Rattle.std.specs.Io.KnownBytes.{Appends, Keeps}
 use Rattle.mbox_text.specs.declared.entry.Entry.{Entry}
 use Rattle.mbox_text.specs.Mbox.{Mbox}

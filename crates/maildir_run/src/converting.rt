@@ -8,7 +8,7 @@ ghost use Rattle.maildir_run.specs.Counting.{CountsFault, IsOfFolder, Numbers};
 ghost use Rattle.maildir_run.specs.Delivery.{Message as Due, leftover_count};
 ghost use Rattle.maildir_run.specs.Given.{Begins, Refused};
 ghost use Rattle.maildir_run.specs.Quietly.{LeavesOthers};
-ghost use Rattle.maildir_run.specs.Reading.{IsReading, ReadsAtMost, Taken};
+ghost use Rattle.maildir_run.specs.Reading.{IsReading, ReadsAtLeast, ReadsAtMost, Taken};
 ghost use Rattle.maildir_run.specs.Runs.{CountsRun, Possible, Run};
 ghost use Rattle.maildir_run.specs.Texts.{MessagesOf};
 
@@ -59,6 +59,7 @@ pub fn convert<F: Folder, R: Read>(
     // its refusals
     ensures untouched { IsErrOf result RunFault.NoFromLine → F.calls folder.new ≡ F.calls folder.old }
     ensures no_from_line { IsErrOf result RunFault.NoFromLine → (t : List ℕ) (entries : List Message) → Possible (R.remaining source.old) (R.remaining source.new) t → ¬ Mbox t entries }
+    ensures spent { IsErrOf result RunFault.TooManyReads → ReadsAtLeast (R.remaining source.old) (R.remaining source.new) reads }
     ensures causes { IfErr result (λ fault. IsReading fault ⊎ IsOfFolder fault) }
 
     ensures budget { ReadsAtMost (R.remaining source.old) (R.remaining source.new) (65536 * reads) }
@@ -101,6 +102,3 @@ fn read_first<R: Read>(
         }
     }
 }
-
-#[cfg(test)]
-mod tests;

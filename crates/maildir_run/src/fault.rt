@@ -6,9 +6,6 @@ use maildir_name::NameFault;
 use std::alloc::{AllocError, AllocFailed};
 use thiserror::Error;
 
-#[cfg(test)]
-mod tests;
-
 /// Why a call of this crate ended before its work was done.
 #[derive(Clone, Copy, Debug, Drop, Error, PartialEq, Eq)]
 pub enum RunFault {

@@ -24,8 +24,6 @@ mod report;
 mod rewriting;
 mod survey;
 mod sweep;
-#[cfg(test)]
-mod testing;
 
 pub use converting::convert;
 pub use fault::RunFault;

@@ -6,7 +6,7 @@ ghost use Rattle.mbox_text.specs.Spelling.{FromLines};
 ghost use Rattle.maildir_run.specs.Listed.{HasListed, ListsMore};
 ghost use Rattle.maildir_run.specs.Listing.{listing as listing_of};
 ghost use Rattle.maildir_run.specs.Output.{GivesAll, GivesFront, GivesNothing};
-ghost use Rattle.maildir_run.specs.Reading.{IsReading, ReadsAtMost};
+ghost use Rattle.maildir_run.specs.Reading.{IsReading, ReadsAtLeast, ReadsAtMost};
 
 use crate::fault::RunFault;
 use crate::line::line_of;
@@ -37,6 +37,7 @@ pub fn list_text<R: Read, W: Write>(
     // after a refusal
     ensures front { OnErr result (GivesFront listing_of (R.remaining source.old) (R.remaining source.new) (W.contents out.old) (W.contents out.new)) }
     ensures no_from_line { IsErrOf result RunFault.NoFromLine → GivesNothing (R.remaining source.old) (R.remaining source.new) (W.contents out.old) (W.contents out.new) }
+    ensures spent { IsErrOf result RunFault.TooManyReads → ReadsAtLeast (R.remaining source.old) (R.remaining source.new) reads }
     ensures causes { IfErr result (λ fault. IsReading fault ⊎ (fault ≡ RunFault.OutputFault)) }
 
     ensures budget { ReadsAtMost (R.remaining source.old) (R.remaining source.new) (65536 * reads) }
@@ -103,6 +104,3 @@ impl Lister {
         }
     }
 }
-
-#[cfg(test)]
-mod tests;

@@ -11,9 +11,6 @@ use crate::folder::{Folder, FolderFault, Sub};
 use maildir_name::Place;
 use std::alloc::{AllocError, Global};
 
-#[cfg(test)]
-mod tests;
-
 /// The files of a Maildir in memory. It lists names in the order of their bytes.
 #[derive(Drop)]
 pub struct MemFolder {

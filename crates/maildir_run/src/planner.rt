@@ -8,9 +8,6 @@ use crate::fault::RunFault;
 use maildir_name::{Name, Target, is_converter_name};
 use std::alloc::{AllocError, Global};
 
-#[cfg(test)]
-mod tests;
-
 /// One step of a run. Messages are numbered from 0, in the order of the text.
 #[derive(Debug, Drop)]
 pub enum Step {

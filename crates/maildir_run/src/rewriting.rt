@@ -5,7 +5,7 @@ ghost use Rattle.std.specs.Io.KnownBytes.{IsAtEnd};
 ghost use Rattle.mbox_text.specs.Spelling.{spelling};
 ghost use Rattle.mbox_text.specs.Writing.{Writes};
 ghost use Rattle.maildir_run.specs.Output.{GivesAll, GivesFront, GivesNothing};
-ghost use Rattle.maildir_run.specs.Reading.{IsReading, ReadsAtMost};
+ghost use Rattle.maildir_run.specs.Reading.{IsReading, ReadsAtLeast, ReadsAtMost};
 
 use crate::fault::RunFault;
 use crate::messages::Messages;
@@ -32,6 +32,7 @@ pub fn rewrite<R: Read, W: Write>(
     // after a refusal
     ensures front { OnErr result (GivesFront (flat_map spelling) (R.remaining source.old) (R.remaining source.new) (W.contents out.old) (W.contents out.new)) }
     ensures no_from_line { IsErrOf result RunFault.NoFromLine → GivesNothing (R.remaining source.old) (R.remaining source.new) (W.contents out.old) (W.contents out.new) }
+    ensures spent { IsErrOf result RunFault.TooManyReads → ReadsAtLeast (R.remaining source.old) (R.remaining source.new) reads }
     ensures causes { IfErr result (λ fault. IsReading fault ⊎ (fault ≡ RunFault.OutputFault)) }
 
     ensures budget { ReadsAtMost (R.remaining source.old) (R.remaining source.new) (65536 * reads) }
@@ -62,6 +63,3 @@ fn write_entries<W: Write>(entries: &[Entry], out: &mut W) -> Result<(), RunFaul
     }
     Ok(())
 }
-
-#[cfg(test)]
-mod tests;

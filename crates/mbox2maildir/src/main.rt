@@ -11,6 +11,8 @@ mod listing;
 mod run;
 #[cfg(test)]
 mod scratch;
+#[cfg(test)]
+mod vectors;
 
 use crate::run::{run, tell};
 use maildir_run::RunFault;

@@ -8,6 +8,7 @@ use Rattle.maildir_run.specs.Delivery.{IsSoundAt, leftover_count}
 use Rattle.maildir_run.specs.Plan.{is_listed}
 use Rattle.maildir_run.specs.Progress.{Reached, Came, Knows, TmpWithin}
 use Rattle.maildir_run.specs.Texts.{messages_of, bodies_of}
+use Rattle.maildir_run.proofs.Poured.{fault_is}
 use Rattle.maildir_run.proofs.Counts.{more_calls, more_up_to, run_counts, numbers_call, numbers_read, numbers_ok}
 use Rattle.maildir_run.proofs.Steps.{leaves_trans}
 use Rattle.maildir_run.proofs.Givens.{gave_more, gave_refused, broken_off, not_ended, at_end, given_first, given_read, given_few}
@@ -218,6 +219,12 @@ returns-in_err-ended-2-clause-budget g c =
     let i = c.pieces.invariant in
     let whole = c.pieces.whole.items in
     (gave_refused _ _ _ c.pieces.messages c.args.reads i.text (i.given ++ whole) c.in_err-ended-2.field-0.0 (not_ended c.pieces.ended _ _ _ _ _ i.text (i.given ++ whole) c.if-ended.false i.gave) c.in_err-ended-2.ensures.went).budget
+
+pub returns-in_err-ended-2-clause-spent : goal.returns-in_err-ended-2-clause-spent
+returns-in_err-ended-2-clause-spent g c = λ e.
+    let i = c.pieces.invariant in
+    let whole = c.pieces.whole.items in
+    (gave_refused _ _ _ c.pieces.messages c.args.reads i.text (i.given ++ whole) c.in_err-ended-2.field-0.0 (not_ended c.pieces.ended _ _ _ _ _ i.text (i.given ++ whole) c.if-ended.false i.gave) c.in_err-ended-2.ensures.went).spent (fault_is c.from_residual-in_err-ended-2.result c.in_err-ended-2.field-0.0 _ c.from_residual-in_err-ended-2.ensures.1 e)
 
 pub pieces-preserved : goal.pieces-preserved
 pieces-preserved g c =

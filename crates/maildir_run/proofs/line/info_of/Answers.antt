@@ -1,4 +1,4 @@
-use Rattle.std.proofs.Common.{◌≡◌, ◌<◌, refl, lit<, length, arith, ltb, false}
+use Rattle.std.proofs.Common.{◌≡◌, refl, lit<, length, arith, ltb, false}
 use Rattle.std.specs.List.{position_or_len}
 use Rattle.std.proofs.lemmas.Bool.{lt-ltb, le-ltb}
 use Rattle.std.proofs.lemmas.Str.Pattern.{split_once_first}

@@ -1,4 +1,4 @@
-use Rattle.std.proofs.Common.{◌≡◌, ℕ, length, ap, sym, ◌∙◌, arith}
+use Rattle.std.proofs.Common.{length, ap, ◌∙◌}
 use Rattle.mbox_text.specs.FromLine.{sender}
 use Rattle.maildir_run.proofs.Listings.{line-is}
 use Rattle.maildir_run.proofs.line.line_of.Goals as goal

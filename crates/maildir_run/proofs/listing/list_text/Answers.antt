@@ -1,7 +1,6 @@
-use Rattle.std.proofs.Common.{◌≡◌, ℕ, ◌+◌, ◌++◌, ◌^◌, ◌<◌, ◌≤◌, List, [], ◌∷◌, length, ap, sym, ◌∙◌, arith}
+use Rattle.std.proofs.Common.{◌≡◌, ◌+◌, ◌++◌, List, [], length, arith}
 use Rattle.std.proofs.lemmas.List.{length-append}
 use Rattle.mbox_text.specs.declared.entry.Entry.{Entry}
-use Rattle.mbox_text.specs.Spelling.{FromLines}
 use Rattle.mbox_text.proofs.Giving.{on_err}
 use Rattle.maildir_run.specs.Listing.{listing}
 use Rattle.maildir_run.proofs.Listings.{listing_output}
@@ -27,6 +26,11 @@ pub returns-in_err-ended-clause-budget : goal.returns-in_err-ended-clause-budget
 returns-in_err-ended-clause-budget g c =
     let b = read_broken listing c.pieces.invariant.0 _ _ _ _ _ c.pieces.messages c.pieces.whole.items c.args.reads c.pieces.lister.count c.in_err-ended.field-0.0 listing_output c.pieces.invariant.1 c.in_err-ended.ensures.went in
     b.budget
+
+pub returns-in_err-ended-clause-spent : goal.returns-in_err-ended-clause-spent
+returns-in_err-ended-clause-spent g c = λ e.
+    let b = read_broken listing c.pieces.invariant.0 _ _ _ _ _ c.pieces.messages c.pieces.whole.items c.args.reads c.pieces.lister.count c.in_err-ended.field-0.0 listing_output c.pieces.invariant.1 c.in_err-ended.ensures.went in
+    b.spent (fault_is c.from_residual-in_err-ended.result c.in_err-ended.field-0.0 _ c.from_residual-in_err-ended.ensures.1 e)
 
 pub list-requires : goal.list-requires
 list-requires g c =

@@ -1,8 +1,8 @@
-use Rattle.std.proofs.Common.{◌≡◌, ℕ, ◌+◌, ◌++◌, ◌^◌, ◌<◌, ◌≤◌, length, ap, sym, ◌∙◌, arith}
+use Rattle.std.proofs.Common.{◌≡◌, ◌++◌, length, arith}
 use Rattle.std.specs.List.{flat_map}
 use Rattle.mbox_text.specs.Spelling.{spelling}
 use Rattle.mbox_text.proofs.Giving.{on_err}
-use Rattle.maildir_run.proofs.Poured.{Broken, Batch, flat_output, flat_more, fault_is, read_broken, batch, batch_broken, count_fits, poured_all, poured_more}
+use Rattle.maildir_run.proofs.Poured.{flat_output, flat_more, fault_is, read_broken, batch, batch_broken, count_fits, poured_all, poured_more}
 use Rattle.maildir_run.proofs.rewriting.rewrite.Goals as goal
 
 pub returns-in_err-ended-clause-front : goal.returns-in_err-ended-clause-front
@@ -19,6 +19,11 @@ pub returns-in_err-ended-clause-budget : goal.returns-in_err-ended-clause-budget
 returns-in_err-ended-clause-budget g c =
     let b = read_broken (flat_map spelling) c.pieces.invariant.0 _ _ _ _ _ c.pieces.messages c.pieces.whole.items c.args.reads c.pieces.count c.in_err-ended.field-0.0 flat_output c.pieces.invariant.1 c.in_err-ended.ensures.went in
     b.budget
+
+pub returns-in_err-ended-clause-spent : goal.returns-in_err-ended-clause-spent
+returns-in_err-ended-clause-spent g c = λ e.
+    let b = read_broken (flat_map spelling) c.pieces.invariant.0 _ _ _ _ _ c.pieces.messages c.pieces.whole.items c.args.reads c.pieces.count c.in_err-ended.field-0.0 flat_output c.pieces.invariant.1 c.in_err-ended.ensures.went in
+    b.spent (fault_is c.from_residual-in_err-ended.result c.in_err-ended.field-0.0 _ c.from_residual-in_err-ended.ensures.1 e)
 
 pub returns-in_err-write_entries-clause-front : goal.returns-in_err-write_entries-clause-front
 returns-in_err-write_entries-clause-front g c =

@@ -1,4 +1,4 @@
-use Rattle.std.proofs.Common.{ℕ, ◌++◌, ◌<◌, ◌^◌, List, length}
+use Rattle.std.proofs.Common.{◌++◌, ◌<◌, ◌^◌, List, length}
 use Rattle.mbox_text.specs.declared.entry.Entry.{Entry}
 use Rattle.maildir_run.specs.Listed.{HasListed}
 use Rattle.maildir_run.proofs.Listings.{ListedTo}

@@ -1,4 +1,4 @@
-use Rattle.std.proofs.Common.{◌≡◌, ℕ, ◌+◌, ◌++◌, [], ◌∷◌, List, length, map, arith, ap, sym, ◌∙◌}
+use Rattle.std.proofs.Common.{◌≡◌, ◌+◌, [], ◌∷◌, length, arith, ap, ◌∙◌}
 use Rattle.std.proofs.lemmas.List.{length-append, length-map}
 use Rattle.mbox_text.specs.declared.entry.Entry.{Entry}
 use Rattle.maildir_run.specs.Listing.{listed}

@@ -1,6 +1,6 @@
 // Worked texts as they are listed, and refusals. The digests are those of other programs.
-use super::*;
-use crate::testing::{Cut, Narrow, Then};
+use super::streams::{Cut, Narrow, Then};
+use maildir_run::{RunFault, list_text};
 use std::test::Fail;
 
 const LIMIT: u64 = 1_099_511_627_776;

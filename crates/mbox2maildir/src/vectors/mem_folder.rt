@@ -1,5 +1,6 @@
 // The calls of the folder in memory, by hand and through the trait's bound.
-use super::*;
+use maildir_name::Place;
+use maildir_run::{Folder, FolderFault, MemFolder, Sub};
 use std::test::Fail;
 
 fn write_through<F: Folder>(folder: &mut F) -> Result<(), FolderFault> {

@@ -1,6 +1,7 @@
 // The plan of three lists. The digests are FIPS 180-4's examples.
-use super::*;
 use maildir_name::Namer;
+use maildir_run::{Step, plan};
+use std::alloc::{AllocError, Global};
 use std::test::Fail;
 
 // The SHA-256 of no bytes, and of `abc`, each with the number 1.

@@ -1,8 +1,7 @@
 // Worked runs over the folder in memory. The digests are those of other programs.
-use super::*;
-use crate::folder::Sub;
-use crate::mem_folder::MemFolder;
-use crate::testing::{Cut, Then};
+use super::streams::{Cut, Then};
+use maildir_run::{MemFolder, Report, RunFault, Sub, convert};
+use std::alloc::Global;
 use std::test::Fail;
 
 const LIMIT: u64 = 1_099_511_627_776;

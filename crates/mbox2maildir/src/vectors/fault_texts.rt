@@ -1,5 +1,5 @@
 // The texts of faults.
-use super::*;
+use maildir_run::RunFault;
 use std::test::Fail;
 
 #[test]

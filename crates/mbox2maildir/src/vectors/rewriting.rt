@@ -1,6 +1,6 @@
 // Worked texts in their regular spelling, and refusals.
-use super::*;
-use crate::testing::{Cut, Narrow, Then};
+use super::streams::{Cut, Narrow, Then};
+use maildir_run::{RunFault, rewrite};
 use std::test::Fail;
 
 const LIMIT: u64 = 1_099_511_627_776;
