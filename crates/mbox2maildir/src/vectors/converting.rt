@@ -145,7 +145,7 @@ fn source_fails(rt: HostRuntime) {
 #[test]
 fn every_front_of_a_text(rt: HostRuntime) {
     let whole: &[u8] = b"From a\n\nFrom b\n\nFrom c\nabc";
-    for k in 0..whole.len() {
+    for k in 0..=whole.len() {
         let mut folder = MemFolder::new(rt.alloc());
         let mut source = Cut::new(&whole[..k], 1, Then::Fails);
         assert!(rt;
