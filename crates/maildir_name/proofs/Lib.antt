@@ -5,3 +5,4 @@ pub mod BaseLemmas
 pub mod NamerLemmas
 pub mod DistinctBases
 pub mod EqualBodies
+pub mod Digests

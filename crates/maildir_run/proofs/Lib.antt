@@ -23,6 +23,10 @@ pub mod FromLines
 pub mod Poured
 pub mod Each
 pub mod MessageLemmas
+pub mod Numbers
+pub mod Levels
+pub mod SeveralTexts
+pub mod OneText
 pub mod AloneLemmas
 pub mod QuietRuns
 pub mod Listings

@@ -86,7 +86,7 @@ few_entries t (entry ∷ entries) (block, rest, joined, is, ended, others) =
     let len : length t ≡ length block + length rest = ap length joined ∙ length-append block rest in
     omega (arith, one, more, len)
 
-few_bodies : (t : List ℕ) (entries : List Entry) → Mbox t entries → length t < 2 ^ 63 → length (bodies_of entries) ≤ 2 ^ 63
+pub few_bodies : (t : List ℕ) (entries : List Entry) → Mbox t entries → length t < 2 ^ 63 → length (bodies_of entries) ≤ 2 ^ 63
 few_bodies t entries is small =
     let few = few_entries t entries is in
     let len = length-map entries (λ (entry : Entry). entry.body) in

@@ -3,6 +3,7 @@ pub mod Calls
 pub mod Delivery
 pub mod Texts
 pub mod Runs
+pub mod Several
 pub mod Alone
 pub mod Plan
 pub mod Bases

@@ -1,5 +1,5 @@
 //! Laws over the definitions alone. Each law is the contract of a function, and no function here does anything.
-ghost use Rattle.std.specs.Prelude.{◌≡◌, ℕ, ◌<◌, ◌≤◌, ◌^◌, length, List, [], ◌∷◌, ◌++◌, Some, Ok, All, IsTrue, IsFalse, IsPermutation};
+ghost use Rattle.std.specs.Prelude.{◌≡◌, ◌↔◌, ℕ, map, ◌<◌, ◌≤◌, ◌^◌, length, List, [], ◌∷◌, ◌++◌, Some, Ok, All, IsTrue, IsFalse, IsPermutation};
 ghost use Rattle.std.specs.List.{list_any};
 ghost use Rattle.std.specs.FinMap.{get};
 ghost use Rattle.maildir_name.specs.declared.target.Place.{Place};
@@ -14,6 +14,7 @@ ghost use Rattle.maildir_run.specs.Calls.Call.{Placing};
 ghost use Rattle.maildir_run.specs.Delivery.{Message, leftover_count, IsMissing, AreNamed, AreDistinct, Sound, Delivered};
 ghost use Rattle.maildir_run.specs.Texts.{MessagesOf};
 ghost use Rattle.maildir_run.specs.Runs.{Link, Run, Runs};
+ghost use Rattle.maildir_run.specs.Several.{Text, IsText, OfEach, SoundForAll, LinkOver, RunsOver, link_over, link_of, HaveOwnDigests, IsUnknown, StandsAfter};
 ghost use Rattle.maildir_run.specs.Alone.{alone};
 ghost use Rattle.maildir_run.specs.Plan.{planned, each_alone};
 
@@ -94,6 +95,30 @@ pub fn after_any_runs()
         Run t mid (Ok report) new → Delivered ms new }
     ensures kept { (t : List ℕ) (ms : List Message) (action : Action) (s : Files) →
         MessagesOf t ms → length t < 2 ^ 63 → Delivered ms s → Delivered ms (acted action s) }
+{}
+
+/// Whatever runs over any of several texts, with any answers, and other programs' actions follow one another: a folder
+/// in which no converter's base had the digest of a body of theirs is sound for all of them, and each body has the
+/// numbers 1 to n, and no others. It is there at least as often as in each text of which a run answered Ok, and at most
+/// as often as in one of which a run was made. Distinct bodies are to have distinct digests.
+pub fn several_texts()
+    ensures sound { (texts : List Text) (links : List LinkOver) (old new : Files) →
+        All IsText texts → HaveOwnDigests texts → OfEach (λ m. IsUnknown old m.body) texts →
+        RunsOver texts links old new → SoundForAll texts old new }
+    ensures counted { (texts : List Text) (links : List LinkOver) (old new : Files) →
+        All IsText texts → HaveOwnDigests texts → OfEach (λ m. IsUnknown old m.body) texts →
+        RunsOver texts links old new → OfEach (λ m. StandsAfter links m.body new) texts }
+{}
+
+/// For a list of one text these are the words for one text: the same folders are sound, and the same chains lead from
+/// one moment to another.
+pub fn one_text()
+    ensures sound { (text : Text) (old new : Files) → IsText text →
+        SoundForAll (text ∷ []) old new ↔ Sound text.messages old new }
+    ensures runs { (text : Text) (links : List LinkOver) (old new : Files) →
+        RunsOver (text ∷ []) links old new → Runs text.bytes (map link_of links) old new }
+    ensures runs_over { (text : Text) (links : List Link) (old new : Files) →
+        Runs text.bytes links old new → RunsOver (text ∷ []) (map (link_over text) links) old new }
 {}
 
 /// Where the messages are delivered, an undisturbed run leaves all files as they are.

@@ -1,0 +1,8 @@
+use Rattle.maildir_run.proofs.SeveralTexts.{chain_sound, chain_counted}
+use Rattle.maildir_run.proofs.laws.several_texts.Goals as goal
+
+pub returns-clause-sound : goal.returns-clause-sound
+returns-clause-sound c = λ texts links old new are own unknown runs. chain_sound texts are own links old new unknown runs
+
+pub returns-clause-counted : goal.returns-clause-counted
+returns-clause-counted c = λ texts links old new are own unknown runs. chain_counted texts are own links old new unknown runs
