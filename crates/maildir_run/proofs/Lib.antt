@@ -19,6 +19,8 @@ pub mod Progress
 pub mod Unread
 pub mod Trees
 pub mod Quiet
+pub mod Scripts
+pub mod Followed
 pub mod FromLines
 pub mod Poured
 pub mod Each

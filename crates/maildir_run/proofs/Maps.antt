@@ -55,10 +55,10 @@ under_insert p m k v h =
     ∙ ap (cond (is_name q k) (Some v)) (sym (get_under p m q))
     ∙ sym (get-insert total (retain_keys m p) k v q))
 
-outside : {X : Type 0} (b : Bool) (x y : X) → b ≡ false → cond b x y ≡ y
+pub outside : {X : Type 0} (b : Bool) (x y : X) → b ≡ false → cond b x y ≡ y
 outside b x y e = ap (λ c. cond c x y) e
 
-apart : (p : List ℕ → Bool) (k q : List ℕ) → p k ≡ false → p q ≡ true → is_name q k ≡ false
+pub apart : (p : List ℕ → Bool) (k q : List ℕ) → p k ≡ false → p q ≡ true → is_name q k ≡ false
 apart p k q off on =
     elim (cases_Bool (is_name q k)) as (λ _. is_name q k ≡ false) [
       | inl e ↦ let same_answer : p q ≡ p k = ap p (is_name-true q k e) in cc
@@ -121,3 +121,18 @@ values-insert m k v none = rw (entries-insert total m k v) (put_new k v (entries
 pub values-remove : (m : FileMap) (k v : List ℕ) → get m k ≡ Some v → IsPermutation (v ∷ values (remove m k)) (values m)
 values-remove m k v has =
     subst (λ n. IsPermutation (v ∷ values (remove m k)) (values n)) (sym (put_back m k v has)) (values-insert (remove m k) k v (get-remove_same m k))
+
+-- ---- a file under another name
+swapped : {X : Type 0} (here there : Bool) (x y : Option X) → (here ≡ true → there ≡ false) → cond here None (cond there x y) ≡ cond there x (cond here None y)
+swapped true true x y h = cc (h refl)
+swapped true false x y h = refl
+swapped false b x y h = refl
+
+pub remove-insert : (m : FileMap) (name target bytes : List ℕ) → is_name name target ≡ false → remove (insert m target bytes) name ≡ insert (remove m name) target bytes
+remove-insert m name target bytes differ =
+    same_map total same _ _ (λ q.
+    get-remove total (insert m target bytes) name q
+    ∙ ap (cond (is_name q name) None) (get-insert total m target bytes q)
+    ∙ swapped (is_name q name) (is_name q target) (Some bytes) (get m q) (λ e. ap (λ n. is_name n target) (is_name-true q name e) ∙ differ)
+    ∙ ap (cond (is_name q target) (Some bytes)) (sym (get-remove total m name q))
+    ∙ sym (get-insert total (remove m name) target bytes q))

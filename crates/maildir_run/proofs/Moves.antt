@@ -192,7 +192,7 @@ arrived_on b name had s t kept stays a =
       gone = elim stays as (λ _. get t.tmp name ≡ None) [ inl e ↦ e ∙ a.gone | inr e ↦ e ];
     }
 
-placed_gone : (s : Files) (name : List ℕ) (p : Place) (target bytes : List ℕ) → get (placed s name p target (Some bytes)).tmp name ≡ None
+pub placed_gone : (s : Files) (name : List ℕ) (p : Place) (target bytes : List ℕ) → get (placed s name p target (Some bytes)).tmp name ≡ None
 placed_gone s name New target bytes = get-remove_same s.tmp name
 placed_gone s name Cur target bytes = get-remove_same s.tmp name
 

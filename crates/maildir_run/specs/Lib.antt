@@ -12,6 +12,8 @@ pub mod Counting
 pub mod Progress
 pub mod Reading
 pub mod FileTree
+pub mod MemFiles
+pub mod Script
 pub mod MemFolder
 pub mod Output
 pub mod Quietly

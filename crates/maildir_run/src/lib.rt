@@ -6,6 +6,7 @@
 //! [`convert`] is a run, [`rewrite`] and [`list_text`] show what a text is. `docs/ENGINE.md` tells the model in plain words.
 #![tactic(auto)]
 
+mod acting;
 mod bases;
 mod calls;
 mod converting;
@@ -17,11 +18,14 @@ mod folder;
 pub mod laws;
 mod line;
 mod listing;
+mod mem_files;
 mod mem_folder;
 mod messages;
+mod modes;
 mod planner;
 mod report;
 mod rewriting;
+mod script;
 mod survey;
 mod sweep;
 
@@ -33,3 +37,4 @@ pub use mem_folder::MemFolder;
 pub use planner::{Step, plan};
 pub use report::Report;
 pub use rewriting::rewrite;
+pub use script::{Act, Mode, ScriptLine};

@@ -1,43 +1,64 @@
 // The folder in memory.
-ghost use Rattle.std.specs.Prelude.{◌≡◌, ℕ, ◌+◌, ◌%◌, ◌^◌, IfOk, IfErr, OnOk, OnErr, IsOk, IsErrOf, IsTrue, IsFalse, IsPermutation, None, ◌↔◌, string_bytes};
+ghost use Rattle.std.specs.Prelude.{◌≡◌, ℕ, ◌+◌, ◌%◌, ◌^◌, [], IfOk, IfErr, OnOk, OnErr, IsOk, IsErrOf, IsPermutation, None, ◌↔◌, string_bytes};
 ghost use Rattle.std.specs.FinMap.{get, keys, len};
 ghost use Rattle.std.specs.Option.{option_copied};
-ghost use Rattle.maildir_run.specs.Calls.{effect, folder_of, names_of, IsReady, Called, Listed, CalledQuietly, GoesUp, CountsFailure, IsNotAbsent};
+ghost use Rattle.maildir_run.specs.Calls.{folder_of, names_of, Called, Listed, CalledQuietly, GoesUp, CountsFailure, IsNotAbsent};
 ghost use Rattle.maildir_run.specs.Calls.Call.{Listing, Writing, Placing, Removing};
-ghost use Rattle.maildir_run.specs.MemFolder.{files_of, call_count, all_call_count, failure_count, no_files, with_file, SameCounts, IsUnchanged, CountsCall};
+ghost use Rattle.maildir_run.specs.MemFiles.{no_files, with_file};
+ghost use Rattle.maildir_run.specs.Script.{IsCutShort};
+ghost use Rattle.maildir_run.specs.MemFolder.{files_of, call_count, all_call_count, failure_count, lines_of, fail_from_of, IsQuiet, IsUndisturbed, next_mode, next_acts, next_files, FollowsScript, SameCounts, SameScript, IsUnchanged, CountsCall};
 
-use crate::file_tree::FileTree;
 use crate::folder::{Folder, FolderFault, Sub};
+use crate::mem_files::MemFiles;
+use crate::script::{Mode, ScriptLine, mode_of_call};
 use maildir_name::Place;
 use std::alloc::{AllocError, Global};
 
-/// The files of a Maildir in memory. It lists names in the order of their bytes.
+/// The files of a Maildir in memory. It lists names in the order of their bytes, and follows its script.
 #[derive(Drop)]
 pub struct MemFolder {
-    alloc: Global,
-    in_tmp: FileTree,
-    in_new: FileTree,
-    in_cur: FileTree,
+    files: MemFiles,
+    lines: Vec<ScriptLine>,
+    fail_from: Option<u64>,
     calls: u64,
     all_calls: u128,
     failures: u128,
 }
 
 impl MemFolder {
-    /// A folder with no files.
+    /// A folder with no files, and a script with no line.
     pub fn new(alloc: Global) -> Self
         ensures files { files_of result ≡ no_files }
         ensures calls { call_count result ≡ 0 }
+        ensures quiet { IsQuiet result }
+        ensures undisturbed { fail_from_of result ≡ None }
     {
         MemFolder {
-            alloc,
-            in_tmp: FileTree::new(alloc),
-            in_new: FileTree::new(alloc),
-            in_cur: FileTree::new(alloc),
+            files: MemFiles::new(alloc),
+            lines: Vec::new(alloc),
+            fail_from: None,
             calls: 0,
             all_calls: 0,
             failures: 0,
         }
+    }
+
+    /// Replaces the script, and counts the calls from 0 again. Each line says what happens at the call of its number;
+    /// from the call `fail_from` on every call answers `Failed` without effect, whatever its mode is, and acts are still
+    /// made. Where an act, the effect or the answer of a call finds no memory, neither it nor what follows it in this
+    /// call is made, and the call answers `OutOfMemory`.
+    pub fn script(&mut self, lines: Vec<ScriptLine>, fail_from: Option<u64>)
+        ensures files { files_of self.new ≡ files_of self.old }
+        ensures calls { call_count self.new ≡ 0 }
+        ensures all_calls { all_call_count self.new ≡ all_call_count self.old }
+        ensures failures { failure_count self.new ≡ failure_count self.old }
+        ensures lines { lines_of self.new ≡ lines.items }
+        ensures quiet { IsQuiet self.new ↔ (lines.items ≡ []) }
+        ensures fail_from { fail_from_of self.new ≡ fail_from }
+    {
+        self.lines = lines;
+        self.fail_from = fail_from;
+        self.calls = 0;
     }
 
     /// Sets one file, in place of what stood under its name. No call is counted.
@@ -49,14 +70,11 @@ impl MemFolder {
         ensures ok { OnOk result (files_of self.new ≡ with_file sub (string_bytes name) bytes.items
             (files_of self.old)) }
         ensures counts { SameCounts self.old self.new }
+        ensures script { SameScript self.old self.new }
         ensures err { OnErr result (IsUnchanged self.old self.new) }
         ensures refused { IfErr result (λ fault. fault ≡ FolderFault.OutOfMemory) }
     {
-        match sub {
-            Sub::Tmp => self.in_tmp.set(name, bytes)?,
-            Sub::New => self.in_new.set(name, bytes)?,
-            Sub::Cur => self.in_cur.set(name, bytes)?,
-        }
+        self.files.put(sub, name, bytes)?;
         Ok(())
     }
 
@@ -64,90 +82,49 @@ impl MemFolder {
     pub fn bytes_of(&self, sub: Sub, name: &str) -> Option<&[u8]>
         ensures { option_copied result ≡ get (folder_of sub (files_of self.now)) name.now }
     {
-        match sub {
-            Sub::Tmp => self.in_tmp.get(name),
-            Sub::New => self.in_new.get(name),
-            Sub::Cur => self.in_cur.get(name),
-        }
+        self.files.get(sub, name)
     }
 
     /// How many files a folder has.
     pub fn count(&self, sub: Sub) -> usize
         ensures { result ≡ len (folder_of sub (files_of self.now)) }
     {
-        match sub {
-            Sub::Tmp => self.in_tmp.len(),
-            Sub::New => self.in_new.len(),
-            Sub::Cur => self.in_cur.len(),
-        }
+        self.files.len(sub)
     }
 
-    /// How many calls of [`Folder`] were made since `new`; it stops at 2^64 - 1.
+    /// How many calls of [`Folder`] were made since `script`, or since `new`; it stops at 2^64 - 1.
     pub fn calls(&self) -> u64
         ensures { result ≡ call_count self.now }
     {
         self.calls
     }
 
-    fn begin_call(&mut self)
-        ensures files { files_of self.new ≡ files_of self.old }
+    // Counts the call and makes the acts before it. Answers its mode.
+    fn begin_call(&mut self) -> Result<Mode, AllocError>
+        ensures mode { IfOk result (λ mode. mode ≡ next_mode self.old) }
+        ensures ok { OnOk result (files_of self.new ≡ next_files self.old) }
+        ensures err { OnErr result (IsCutShort (next_acts self.old) (files_of self.old) (files_of self.new)) }
+        ensures script { SameScript self.old self.new }
         ensures calls { CountsCall self.old self.new }
-        ensures all_calls { self.new.all_calls ≡ (self.old.all_calls + 1) % 2 ^ 128 }
-        ensures failures { self.new.failures ≡ self.old.failures }
+        ensures all_calls { GoesUp (all_call_count self.old) (all_call_count self.new) }
+        ensures failures { failure_count self.new ≡ failure_count self.old }
     {
         self.calls = self.calls.saturating_add(1);
         self.all_calls = self.all_calls.wrapping_add(1);
+        self.files.act_before(self.calls, &self.lines)?;
+        Ok(mode_of_call(&self.lines, self.fail_from, self.calls))
     }
 
-    fn count_failure(&mut self)
-        ensures { self.new ≡ record self.old { failures = (self.old.failures + 1) % 2 ^ 128 } }
+    // Counts a failure if the call has failed.
+    fn counted<T>(&mut self, answer: Result<T, FolderFault>) -> Result<T, FolderFault>
+        ensures answer { result ≡ answer }
+        ensures cause { CountsFailure answer (failure_count self.old) (failure_count self.new) }
+        ensures rest { self.new ≡ record self.old { failures = failure_count self.new } }
     {
-        self.failures = self.failures.wrapping_add(1);
-    }
-
-    fn names(&self, sub: Sub) -> Result<Vec<String>, AllocError>
-        ensures { IfOk result (λ names. names_of names ≡ keys (folder_of sub (files_of self.now))) }
-    {
-        match sub {
-            Sub::Tmp => self.in_tmp.names(self.alloc),
-            Sub::New => self.in_new.names(self.alloc),
-            Sub::Cur => self.in_cur.names(self.alloc),
+        if let Err(FolderFault::Absent | FolderFault::Failed) = &answer {
+            self.failures = self.failures.wrapping_add(1);
         }
-    }
-
-    fn set_tmp(&mut self, name: &str, bytes: &[u8]) -> Result<(), AllocError>
-        ensures ok { OnOk result (files_of self.new ≡ effect (Writing name.now bytes.now)
-            (files_of self.old)) }
-        ensures counts { SameCounts self.old self.new }
-        ensures err { OnErr result (files_of self.new ≡ files_of self.old) }
-    {
-        let name = String::from_str(self.alloc, name)?;
-        let bytes = Vec::from_slice(self.alloc, bytes)?;
-        self.in_tmp.set(name, bytes)
-    }
-
-    // Whether the file was there. The copy comes first, so that a refused growth leaves all as it was.
-    fn rename(&mut self, name: &str, place: Place, target: &str) -> Result<bool, AllocError>
-        ensures found { IfOk result (λ found. IsTrue found → IsReady (Placing name.now place target.now) (files_of self.old)) }
-        ensures absent { IfOk result (λ found. IsFalse found → get (files_of self.old).tmp name.now
-            ≡ None) }
-        ensures there { OnErr result (IsReady (Placing name.now place target.now) (files_of self.old)) }
-        ensures done { OnOk result (files_of self.new ≡ effect (Placing name.now place target.now)
-            (files_of self.old)) }
-        ensures counts { SameCounts self.old self.new }
-        ensures err { OnErr result (files_of self.new ≡ files_of self.old) }
-    {
-        let Some(bytes) = self.in_tmp.get(name) else {
-            return Ok(false);
-        };
-        let bytes = Vec::from_slice(self.alloc, bytes)?;
-        let target = String::from_str(self.alloc, target)?;
-        match place {
-            Place::New => self.in_new.set(target, bytes)?,
-            Place::Cur => self.in_cur.set(target, bytes)?,
-        }
-        self.in_tmp.remove(name);
-        Ok(true)
+        answer
     }
 }
 
@@ -156,84 +133,98 @@ impl Folder for MemFolder {
 
     ghost honest = { λ _. Unit {0} };
 
-    ghost quiet = { λ _. Unit {0} };
+    ghost quiet = { IsQuiet };
 
     ghost calls = { all_call_count };
 
     ghost failures = { failure_count };
 
-    ghost quiet_is_honest = { λ _ h. h };
+    ghost quiet_is_honest = { λ _ _. tt };
 
     fn list(&mut self, sub: Sub) -> Result<Vec<String>, FolderFault>
         ensures called { Listed sub (files_of self.old) result (files_of self.new) }
-        ensures alone { CalledQuietly (Listing sub) (files_of self.old) result (files_of self.new) }
-        ensures names { IfOk result (λ names. IsPermutation (names_of names)
+        ensures scripted { FollowsScript (Listing sub) self.old result self.new }
+        ensures in_order { IfOk result (λ names. names_of names ≡ keys (folder_of sub (files_of self.new))) }
+        ensures script { SameScript self.old self.new }
+
+        // while the script has no line
+        ensures alone { IsQuiet self.old → CalledQuietly (Listing sub) (files_of self.old) result (files_of self.new) }
+        ensures names { IsQuiet self.old → IfOk result (λ names. IsPermutation (names_of names)
             (keys (folder_of sub (files_of self.old)))) }
-        ensures in_order { IfOk result (λ names. names_of names ≡ keys (folder_of sub (files_of self.old))) }
+        ensures err { IsQuiet self.old → OnErr result (files_of self.new ≡ files_of self.old) }
+        ensures refused { IsUndisturbed self.old → IfErr result (λ fault. fault ≡ FolderFault.OutOfMemory) }
 
         ensures counted { GoesUp (all_call_count self.old) (all_call_count self.new) }
         ensures cause { CountsFailure result (failure_count self.old) (failure_count self.new) }
         ensures told { CountsCall self.old self.new }
         ensures not_absent { IsNotAbsent result }
-        ensures refused { IfErr result (λ fault. fault ≡ FolderFault.OutOfMemory) }
-        ensures err { OnErr result (files_of self.new ≡ files_of self.old) }
     {
-        self.begin_call();
-        Ok(self.names(sub)?)
+        let mode = self.begin_call()?;
+        let answer = self.files.list_in(mode, sub);
+        self.counted(answer)
     }
 
     fn write(&mut self, name: &str, bytes: &[u8]) -> Result<(), FolderFault>
         ensures called { Called (Writing name.now bytes.now) (files_of self.old) result (files_of self.new) }
-        ensures alone { CalledQuietly (Writing name.now bytes.now)
+        ensures scripted { FollowsScript (Writing name.now bytes.now) self.old result self.new }
+        ensures script { SameScript self.old self.new }
+
+        // while the script has no line
+        ensures alone { IsQuiet self.old → CalledQuietly (Writing name.now bytes.now)
             (files_of self.old) result (files_of self.new) }
+        ensures err { IsQuiet self.old → OnErr result (files_of self.new ≡ files_of self.old) }
+        ensures refused { IsUndisturbed self.old → IfErr result (λ fault. fault ≡ FolderFault.OutOfMemory) }
 
         ensures counted { GoesUp (all_call_count self.old) (all_call_count self.new) }
         ensures cause { CountsFailure result (failure_count self.old) (failure_count self.new) }
         ensures told { CountsCall self.old self.new }
         ensures not_absent { IsNotAbsent result }
-        ensures refused { IfErr result (λ fault. fault ≡ FolderFault.OutOfMemory) }
-        ensures err { OnErr result (files_of self.new ≡ files_of self.old) }
     {
-        self.begin_call();
-        self.set_tmp(name, bytes)?;
-        Ok(())
+        let mode = self.begin_call()?;
+        let answer = self.files.write_in(mode, name, bytes);
+        self.counted(answer)
     }
 
     fn place(&mut self, name: &str, place: Place, target: &str) -> Result<(), FolderFault>
         ensures called { Called (Placing name.now place target.now)
             (files_of self.old) result (files_of self.new) }
-        ensures alone { CalledQuietly (Placing name.now place target.now)
+        ensures scripted { FollowsScript (Placing name.now place target.now) self.old result self.new }
+        ensures script { SameScript self.old self.new }
+
+        // while the script has no line
+        ensures alone { IsQuiet self.old → CalledQuietly (Placing name.now place target.now)
             (files_of self.old) result (files_of self.new) }
+        ensures err { IsQuiet self.old → OnErr result (files_of self.new ≡ files_of self.old) }
+        ensures absent { IsUndisturbed self.old →
+            (IsErrOf result FolderFault.Absent ↔ (get (files_of self.old).tmp name.now ≡ None)) }
+        ensures not_failed { IsUndisturbed self.old → IsErrOf result FolderFault.Failed → ⊥ }
 
         ensures counted { GoesUp (all_call_count self.old) (all_call_count self.new) }
         ensures cause { CountsFailure result (failure_count self.old) (failure_count self.new) }
         ensures told { CountsCall self.old self.new }
-        ensures absent { IsErrOf result FolderFault.Absent ↔ (get (files_of self.old).tmp name.now
-            ≡ None) }
-        ensures not_failed { IsErrOf result FolderFault.Failed → ⊥ }
-        ensures err { OnErr result (files_of self.new ≡ files_of self.old) }
     {
-        self.begin_call();
-        if self.rename(name, place, target)? {
-            Ok(())
-        } else {
-            self.count_failure();
-            Err(FolderFault::Absent)
-        }
+        let mode = self.begin_call()?;
+        let answer = self.files.place_in(mode, name, place, target);
+        self.counted(answer)
     }
 
     fn remove(&mut self, name: &str) -> Result<(), FolderFault>
         ensures called { Called (Removing name.now) (files_of self.old) result (files_of self.new) }
-        ensures alone { CalledQuietly (Removing name.now) (files_of self.old) result (files_of self.new) }
+        ensures scripted { FollowsScript (Removing name.now) self.old result self.new }
+        ensures script { SameScript self.old self.new }
+
+        // while the script has no line
+        ensures alone { IsQuiet self.old → CalledQuietly (Removing name.now) (files_of self.old) result (files_of self.new) }
+        ensures err { IsQuiet self.old → OnErr result (files_of self.new ≡ files_of self.old) }
+        ensures ok { IsUndisturbed self.old → IsOk result }
 
         ensures counted { GoesUp (all_call_count self.old) (all_call_count self.new) }
         ensures cause { CountsFailure result (failure_count self.old) (failure_count self.new) }
         ensures told { CountsCall self.old self.new }
         ensures not_absent { IsNotAbsent result }
-        ensures ok { IsOk result }
     {
-        self.begin_call();
-        self.in_tmp.remove(name);
-        Ok(())
+        let mode = self.begin_call()?;
+        let answer = self.files.remove_in(mode, name);
+        self.counted(answer)
     }
 }

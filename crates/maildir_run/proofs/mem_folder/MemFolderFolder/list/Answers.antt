@@ -1,12 +1,21 @@
-use Rattle.std.proofs.Common.{ap, ◌∙◌}
-use Rattle.std.specs.FinMap.{keys}
-use Rattle.maildir_run.specs.Calls.{folder_of, names_of}
-use Rattle.maildir_run.specs.MemFolder.{files_of}
-use Rattle.maildir_run.proofs.Quiet.{listed_once}
+use Rattle.std.proofs.Common.{◌≡◌, rules}
+use Rattle.maildir_run.specs.Calls.{Listing}
+use Rattle.maildir_run.specs.MemFolder.{files_of, FollowsScript}
+use Rattle.maildir_run.proofs.Followed.{follows_listed, never_cut}
 use Rattle.maildir_run.proofs.mem_folder.MemFolderFolder.list.Goals as goal
+
+pub returns-in_err-mode-clause-called : goal.returns-in_err-mode-clause-called
+returns-in_err-mode-clause-called c =
+    let follows : FollowsScript (Listing c.args.sub) c.args.self.now c.from_residual.result c.begin_call.new.self = search rules in
+    follows_listed c.args.sub c.args.self.now c.begin_call.new.self c.from_residual.result follows (search rules)
 
 pub returns-clause-called : goal.returns-clause-called
 returns-clause-called c =
-    listed_once c.args.sub (files_of c.args.self.now) (names_of c.in_ok-names.field-0) (files_of c.begin_call.new.self)
-    (c.in_ok-names.ensures ∙ ap (λ s. keys (folder_of c.args.sub s)) c.begin_call.ensures.files)
-    c.begin_call.ensures.files
+    let follows : FollowsScript (Listing c.args.sub) c.args.self.now c.counted.result c.counted.new.self = search rules in
+    follows_listed c.args.sub c.args.self.now c.counted.new.self c.counted.result follows (search rules)
+
+pub returns-in_err-mode-clause-alone : goal.returns-in_err-mode-clause-alone
+returns-in_err-mode-clause-alone c = λ quiet. absurd (never_cut c.args.self.now _ _ quiet c.in_err-mode.ensures.err)
+
+pub returns-in_err-mode-clause-err : goal.returns-in_err-mode-clause-err
+returns-in_err-mode-clause-err c = λ quiet. absurd (never_cut c.args.self.now _ _ quiet c.in_err-mode.ensures.err)

@@ -1,12 +1,24 @@
-use Rattle.std.proofs.Common.{subst, ap, ◌∙◌}
-use Rattle.maildir_run.specs.Calls.{effect, Placing, IsReady}
-use Rattle.maildir_run.specs.MemFolder.{files_of}
-use Rattle.maildir_run.proofs.Quiet.{once}
+use Rattle.std.proofs.Common.{◌≡◌, rules}
+use Rattle.maildir_run.specs.Calls.{Placing}
+use Rattle.maildir_run.specs.MemFolder.{files_of, FollowsScript}
+use Rattle.maildir_run.proofs.Followed.{follows_called, never_cut}
 use Rattle.maildir_run.proofs.mem_folder.MemFolderFolder.place.Goals as goal
 
-pub returns-then-branch-clause-called : goal.returns-then-branch-clause-called
-returns-then-branch-clause-called c =
-    let call = Placing c.args.name.now c.args.place c.args.target.now in
-    once call (files_of c.args.self.now) (files_of c.rename.new.self)
-    (subst (IsReady call) c.begin_call.ensures.files (c.in_ok-rename.ensures.found c.if-branch.true))
-    (c.in_ok-rename.ensures.done ∙ ap (effect call) c.begin_call.ensures.files)
+pub returns-in_err-mode-clause-called : goal.returns-in_err-mode-clause-called
+returns-in_err-mode-clause-called c =
+    let follows : FollowsScript (Placing c.args.name.now c.args.place c.args.target.now) c.args.self.now c.from_residual.result c.begin_call.new.self = search rules in
+    follows_called (Placing c.args.name.now c.args.place c.args.target.now) c.args.self.now c.begin_call.new.self c.from_residual.result follows
+
+pub returns-clause-called : goal.returns-clause-called
+returns-clause-called c =
+    let follows : FollowsScript (Placing c.args.name.now c.args.place c.args.target.now) c.args.self.now c.counted.result c.counted.new.self = search rules in
+    follows_called (Placing c.args.name.now c.args.place c.args.target.now) c.args.self.now c.counted.new.self c.counted.result follows
+
+pub returns-in_err-mode-clause-alone : goal.returns-in_err-mode-clause-alone
+returns-in_err-mode-clause-alone c = λ quiet. absurd (never_cut c.args.self.now _ _ quiet c.in_err-mode.ensures.err)
+
+pub returns-in_err-mode-clause-err : goal.returns-in_err-mode-clause-err
+returns-in_err-mode-clause-err c = λ quiet. absurd (never_cut c.args.self.now _ _ quiet c.in_err-mode.ensures.err)
+
+pub returns-in_err-mode-clause-absent : goal.returns-in_err-mode-clause-absent
+returns-in_err-mode-clause-absent c = λ u. absurd (never_cut c.args.self.now _ _ u.quiet c.in_err-mode.ensures.err)

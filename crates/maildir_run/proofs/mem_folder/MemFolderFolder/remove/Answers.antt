@@ -1,12 +1,24 @@
-use Rattle.std.proofs.Common.{ap, ◌∙◌}
-use Rattle.maildir_run.specs.Calls.{effect, Removing}
-use Rattle.maildir_run.specs.MemFolder.{files_of}
-use Rattle.maildir_run.proofs.Quiet.{once}
+use Rattle.std.proofs.Common.{◌≡◌, rules}
+use Rattle.maildir_run.specs.Calls.{Removing}
+use Rattle.maildir_run.specs.MemFolder.{files_of, FollowsScript}
+use Rattle.maildir_run.proofs.Followed.{follows_called, never_cut}
 use Rattle.maildir_run.proofs.mem_folder.MemFolderFolder.remove.Goals as goal
+
+pub returns-in_err-mode-clause-called : goal.returns-in_err-mode-clause-called
+returns-in_err-mode-clause-called c =
+    let follows : FollowsScript (Removing c.args.name.now) c.args.self.now c.from_residual.result c.begin_call.new.self = search rules in
+    follows_called (Removing c.args.name.now) c.args.self.now c.begin_call.new.self c.from_residual.result follows
 
 pub returns-clause-called : goal.returns-clause-called
 returns-clause-called c =
-    let call = Removing c.args.name.now in
-    let s = files_of c.begin_call.new.self in
-    once call (files_of c.args.self.now) (record s { tmp = c.remove.new.self }) tt
-    (ap (λ m. record s { tmp = m }) c.remove.ensures ∙ ap (effect call) c.begin_call.ensures.files)
+    let follows : FollowsScript (Removing c.args.name.now) c.args.self.now c.counted.result c.counted.new.self = search rules in
+    follows_called (Removing c.args.name.now) c.args.self.now c.counted.new.self c.counted.result follows
+
+pub returns-in_err-mode-clause-alone : goal.returns-in_err-mode-clause-alone
+returns-in_err-mode-clause-alone c = λ quiet. absurd (never_cut c.args.self.now _ _ quiet c.in_err-mode.ensures.err)
+
+pub returns-in_err-mode-clause-err : goal.returns-in_err-mode-clause-err
+returns-in_err-mode-clause-err c = λ quiet. absurd (never_cut c.args.self.now _ _ quiet c.in_err-mode.ensures.err)
+
+pub returns-in_err-mode-clause-ok : goal.returns-in_err-mode-clause-ok
+returns-in_err-mode-clause-ok c = λ u. absurd (never_cut c.args.self.now _ _ u.quiet c.in_err-mode.ensures.err)

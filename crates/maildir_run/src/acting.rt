@@ -1,0 +1,107 @@
+// The acts of a script, as other programs would make them.
+ghost use Rattle.std.specs.Prelude.{◌≡◌, OnOk, OnErr};
+ghost use Rattle.maildir_run.specs.Files.{acted, may_take};
+ghost use Rattle.maildir_run.specs.Files.Action.{ToCur, Reflag};
+ghost use Rattle.maildir_run.specs.MemFiles.{files_in};
+ghost use Rattle.maildir_run.specs.Script.{acts_at, performed, all_performed, IsCutShort};
+
+use crate::file_tree::FileTree;
+use crate::folder::Sub;
+use crate::mem_files::MemFiles;
+use crate::script::{Act, ScriptLine};
+use maildir_name::{base_of, is_converter_name};
+use std::alloc::AllocError;
+
+impl MemFiles {
+    /// Makes the acts of each line with this number, in order. A refused growth ends them.
+    pub(crate) fn act_before(&mut self, call: u64, lines: &[ScriptLine]) -> Result<(), AllocError>
+        ensures ok { OnOk result (files_in self.new ≡ all_performed (acts_at call lines.now) (files_in self.old)) }
+        ensures err { OnErr result (IsCutShort (acts_at call lines.now) (files_in self.old) (files_in self.new)) }
+    {
+        for line in lines {
+            if line.call == call {
+                self.perform_all(&line.acts)?;
+            }
+        }
+        Ok(())
+    }
+
+    fn perform_all(&mut self, acts: &[Act]) -> Result<(), AllocError>
+        ensures ok { OnOk result (files_in self.new ≡ all_performed acts.now (files_in self.old)) }
+        ensures err { OnErr result (IsCutShort acts.now (files_in self.old) (files_in self.new)) }
+    {
+        for act in acts {
+            self.perform(act)?;
+        }
+        Ok(())
+    }
+
+    fn perform(&mut self, act: &Act) -> Result<(), AllocError>
+        ensures ok { OnOk result (files_in self.new ≡ performed act.now (files_in self.old)) }
+        ensures err { OnErr result (files_in self.new ≡ files_in self.old) }
+    {
+        match act {
+            Act::ToCur(name, target) => self.move_to_cur(name.as_str(), target.as_str()),
+            Act::Reflag(name, target) => self.reflag(name.as_str(), target.as_str()),
+            Act::DropTmp(name) => {
+                if is_converter_name(name.as_str()) {
+                    self.remove(Sub::Tmp, name.as_str());
+                }
+                Ok(())
+            }
+            Act::PutOther(sub, name, bytes) => {
+                if is_converter_name(name.as_str()) {
+                    return Ok(());
+                }
+                self.put(*sub, name.clone()?, bytes.clone()?)
+            }
+            Act::DropOther(sub, name) => {
+                if !is_converter_name(name.as_str()) {
+                    self.remove(*sub, name.as_str());
+                }
+                Ok(())
+            }
+        }
+    }
+
+    fn move_to_cur(&mut self, name: &str, target: &str) -> Result<(), AllocError>
+        ensures ok { OnOk result (files_in self.new ≡ acted (ToCur name.now target.now) (files_in self.old)) }
+        ensures err { OnErr result (files_in self.new ≡ files_in self.old) }
+    {
+        let Some(bytes) = self.in_new.get(name) else {
+            return Ok(());
+        };
+        if !is_free(&self.in_cur, name, target) {
+            return Ok(());
+        }
+        let bytes = Vec::from_slice(self.alloc, bytes)?;
+        self.in_cur
+            .set(String::from_str(self.alloc, target)?, bytes)?;
+        self.in_new.remove(name);
+        Ok(())
+    }
+
+    fn reflag(&mut self, name: &str, target: &str) -> Result<(), AllocError>
+        ensures ok { OnOk result (files_in self.new ≡ acted (Reflag name.now target.now) (files_in self.old)) }
+        ensures err { OnErr result (files_in self.new ≡ files_in self.old) }
+    {
+        let Some(bytes) = self.in_cur.get(name) else {
+            return Ok(());
+        };
+        if !is_free(&self.in_cur, name, target) {
+            return Ok(());
+        }
+        let bytes = Vec::from_slice(self.alloc, bytes)?;
+        self.in_cur
+            .set(String::from_str(self.alloc, target)?, bytes)?;
+        self.in_cur.remove(name);
+        Ok(())
+    }
+}
+
+/// Whether a file of this name may be moved to the target: it is free, and has the same base.
+fn is_free(there: &FileTree, name: &str, target: &str) -> bool
+    ensures { result ≡ may_take there.now name.now target.now }
+{
+    there.get(target).is_none() && base_of(name) == base_of(target)
+}
