@@ -1,0 +1,164 @@
+// Runs that are broken off and disturbed at random, and one undisturbed run after them.
+ghost use Rattle.std.specs.Prelude.{◌<◌};
+
+use super::runs::{EMPTY_TWO, THREE, run_over};
+use super::scripts::{line, put_other, reflag, to_cur};
+use maildir_name::{Namer, Target, base_of, is_converter_name};
+use maildir_run::{Act, Folder, MemFolder, Mode, RunFault, ScriptLine, Sub};
+use mbox_text::{Entry, split_all};
+use std::alloc::{AllocError, Global};
+use std::test::Fail;
+
+// Numbers that look random: a linear congruential generator (Knuth's, for 64 bits).
+#[derive(Drop)]
+struct Dice {
+    state: u64,
+}
+
+impl Dice {
+    fn below(&mut self, sides: usize) -> usize
+        requires { 0 < sides }
+        ensures { result < sides }
+    {
+        self.state = self
+            .state
+            .wrapping_mul(6_364_136_223_846_793_005)
+            .wrapping_add(1_442_695_040_888_963_407);
+        (self.state >> 33) as usize % sides
+    }
+}
+
+fn any_act(alloc: Global, dice: &mut Dice, targets: &[Target]) -> Result<Act, AllocError> {
+    let infos = ["", ":2,", ":2,F", ":2,FRS", ":2,S"];
+    let foreign = ["1700000000.M1.host", "note", "note:2,S"];
+    let base = match targets.get(dice.below(4)) {
+        Some(target) => target.base.as_str(),
+        None => EMPTY_TWO,
+    };
+    let sub = [Sub::Tmp, Sub::New, Sub::Cur][dice.below(3)];
+    match dice.below(8) {
+        0 | 1 | 2 => to_cur(alloc, base, infos[dice.below(5)]),
+        3 | 4 => reflag(alloc, base, infos[dice.below(5)], infos[dice.below(5)]),
+        5 => Ok(Act::DropTmp(String::from_str(alloc, base)?)),
+        6 => put_other(alloc, sub, foreign[dice.below(3)]),
+        _ => Ok(Act::DropOther(sub, String::from_str(alloc, foreign[dice.below(3)])?)),
+    }
+}
+
+fn any_script(
+    alloc: Global,
+    dice: &mut Dice,
+    targets: &[Target],
+) -> Result<Vec<ScriptLine>, AllocError> {
+    let modes = [
+        Mode::Plain,
+        Mode::Plain,
+        Mode::FailBefore,
+        Mode::FailAfter,
+        Mode::Half,
+        Mode::Twice,
+    ];
+    let mut lines = Vec::new(alloc);
+    for _ in 0..dice.below(6) {
+        let mut acts = Vec::new(alloc);
+        for _ in 0..dice.below(4) {
+            acts.push(any_act(alloc, dice, targets)?)?;
+        }
+        lines.push(line(1 + dice.below(12) as u64, acts, modes[dice.below(6)]))?;
+    }
+    Ok(lines)
+}
+
+// How many homes a base has in one folder, if each holds this body.
+fn homes_in(
+    folder: &MemFolder,
+    sub: Sub,
+    names: &[String],
+    base: &str,
+    body: &[u8],
+) -> Option<u64> {
+    let mut homes = 0u64;
+    for name in names {
+        if base_of(name.as_str()) == base {
+            if folder.bytes_of(sub, name.as_str()) != Some(body) {
+                return None;
+            }
+            homes = homes.saturating_add(1);
+        }
+    }
+    Some(homes)
+}
+
+// Each message has exactly one home, which holds its body, and no converter's name is left in `tmp`.
+fn is_delivered(
+    folder: &mut MemFolder,
+    targets: &[Target],
+    messages: &[Entry],
+) -> Result<bool, Fail> {
+    let tmp = folder.list(Sub::Tmp)?;
+    let new = folder.list(Sub::New)?;
+    let cur = folder.list(Sub::Cur)?;
+    for (target, message) in targets.iter().zip(messages) {
+        let base = target.base.as_str();
+        let body = message.body.as_slice();
+        let in_new = homes_in(folder, Sub::New, &new, base, body);
+        let in_cur = homes_in(folder, Sub::Cur, &cur, base, body);
+        if !matches!((in_new, in_cur), (Some(1), Some(0)) | (Some(0), Some(1))) {
+            return Ok(false);
+        }
+    }
+    for name in &tmp {
+        if is_converter_name(name.as_str()) {
+            return Ok(false);
+        }
+    }
+    Ok(true)
+}
+
+#[test]
+fn any_broken_and_disturbed_runs(rt: HostRuntime) -> Result<(), Fail> {
+    let alloc = rt.alloc();
+    let texts: [&[u8]; 4] = [
+        THREE,
+        b"From a\nx\n\nFrom b\nx\n\nFrom c\n>From y\n\n",
+        b"From a\nStatus: RO\nX-Status: AF\n\nhi\n\nFrom b\n>>From z\nFrom c\nStatus: RO\nX-Status: AF\n\nhi\n",
+        b"From a\nX-Status: D\n\nFrom b\n\nFrom c\n\n\nFrom d\nX-Status: D\n\n",
+    ];
+    let mut stopped = 0u64;
+    let mut absent = 0u64;
+    for seed in 0..500u64 {
+        let text = texts[(seed % 4) as usize];
+        let messages = split_all(alloc, text)?;
+        let mut namer = Namer::new(alloc);
+        let mut targets = Vec::new(alloc);
+        for message in &messages {
+            targets.push(namer.target(message.body.as_slice())?)?;
+        }
+        let mut dice = Dice { state: seed };
+        let mut folder = MemFolder::new(alloc);
+        for _ in 0..dice.below(7) {
+            let lines = any_script(alloc, &mut dice, &targets)?;
+            let fail_from = match dice.below(3) {
+                0 => Some(1 + dice.below(12) as u64),
+                _ => None,
+            };
+            folder.script(lines, fail_from);
+            match run_over(alloc, &mut folder, text) {
+                Ok(_) => {}
+                Err(RunFault::FolderFailed(_)) => stopped = stopped.saturating_add(1),
+                Err(RunFault::FolderAbsent) => absent = absent.saturating_add(1),
+                Err(fault) => assert!(rt; false, "seed {seed}: {fault}"),
+            }
+        }
+        folder.script(Vec::new(alloc), None);
+        assert!(rt; run_over(alloc, &mut folder, text).is_ok(), "seed {seed}");
+        assert!(rt;
+            is_delivered(&mut folder, &targets, &messages)?,
+            "seed {seed}"
+        );
+    }
+    // the scripts did break runs
+    assert!(rt; stopped > 500);
+    assert!(rt; absent > 0);
+    Ok(())
+}

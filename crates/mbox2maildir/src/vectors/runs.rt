@@ -1,0 +1,53 @@
+// What the rows on runs share. The digests are those of other programs.
+use super::streams::{Cut, Then};
+use maildir_run::{MemFolder, Report, RunFault, Sub, convert};
+use std::alloc::Global;
+use std::test::Fail;
+
+pub(super) const LIMIT: u64 = 1_099_511_627_776;
+
+pub(super) const EMPTY_ONE: &str =
+    "e3b0c44298fc1c149afbf4c8996fb92427ae41e4649b934ca495991b7852b855.1";
+
+pub(super) const EMPTY_TWO: &str =
+    "e3b0c44298fc1c149afbf4c8996fb92427ae41e4649b934ca495991b7852b855.2";
+
+pub(super) const ABC: &str = "ba7816bf8f01cfea414140de5dae2223b00361a396177a9cb410ff61f20015ad.1";
+
+pub(super) const UNENDED: &[u8] = b"From x\nabc";
+
+pub(super) const TWO_EMPTY: &[u8] = b"From a\n\nFrom b\n\n";
+
+pub(super) const THREE: &[u8] = b"From a\n\nFrom b\n\nFrom c\nabc";
+
+// A run over a text that comes whole.
+pub(super) fn run_over(
+    alloc: Global,
+    folder: &mut MemFolder,
+    text: &[u8],
+) -> Result<Report, RunFault> {
+    let mut source = Cut::new(text, 65_536, Then::Ends);
+    convert(alloc, folder, &mut source, LIMIT)
+}
+
+pub(super) fn report(messages: u64, there: u64, placed: u64, swept: u64) -> Report {
+    Report {
+        messages,
+        there,
+        placed,
+        swept,
+    }
+}
+
+pub(super) fn put(
+    alloc: Global,
+    folder: &mut MemFolder,
+    sub: Sub,
+    name: &str,
+    bytes: &[u8],
+) -> Result<(), Fail> {
+    let name = String::from_str(alloc, name)?;
+    let bytes = Vec::from_slice(alloc, bytes)?;
+    folder.put(sub, name, bytes)?;
+    Ok(())
+}

@@ -1,0 +1,32 @@
+// Lines of scripts, and the acts of other programs in them.
+use maildir_run::{Act, Mode, ScriptLine, Sub};
+use std::alloc::{AllocError, Global};
+
+pub(super) fn named(alloc: Global, base: &str, info: &str) -> Result<String, AllocError> {
+    format!(in alloc; "{base}{info}")
+}
+
+pub(super) fn to_cur(alloc: Global, base: &str, info: &str) -> Result<Act, AllocError> {
+    Ok(Act::ToCur(String::from_str(alloc, base)?, named(alloc, base, info)?))
+}
+
+pub(super) fn reflag(
+    alloc: Global,
+    base: &str,
+    info: &str,
+    other: &str,
+) -> Result<Act, AllocError> {
+    Ok(Act::Reflag(named(alloc, base, info)?, named(alloc, base, other)?))
+}
+
+pub(super) fn put_other(alloc: Global, sub: Sub, name: &str) -> Result<Act, AllocError> {
+    Ok(Act::PutOther(
+        sub,
+        String::from_str(alloc, name)?,
+        Vec::from_slice(alloc, b"z")?,
+    ))
+}
+
+pub(super) fn line(call: u64, acts: Vec<Act>, mode: Mode) -> ScriptLine {
+    ScriptLine { call, acts, mode }
+}
