@@ -1,5 +1,5 @@
 # make            prove the crates and build build/mbox2maildir
-# make run        deliver the example mailbox to a fresh Maildir under build/, and show what it holds
+# make run        deliver the example mailboxes to a fresh Maildir under build/, and show what it holds
 # make test       prove and test everything from nothing: the gate of the repository
 # make install    copy the program, and its page where there is one, below PREFIX
 # make bench      time the program on generated mail beside cat, sha256sum and a plain C program (SIZE=megabytes)
@@ -14,7 +14,7 @@ CRATE = crates/mbox2maildir
 SOURCES = crates.txt $(shell find crates -name out -prune -o \( -name '*.rt' -o -name '*.antt' \) -print)
 PAGE = $(wildcard docs/mbox2maildir.1)
 
-MAILBOX = examples/archive.mbox
+MAILBOXES = examples/archive.mbox examples/inbox.mbox
 MAILDIR = build/example
 
 all: $(PROGRAM)
@@ -26,11 +26,11 @@ $(PROGRAM): $(SOURCES)
 	cp $(CRATE)/out/mbox2maildir $@
 
 run: $(PROGRAM)
-	$(PROGRAM) list $(MAILBOX)
+	for mailbox in $(MAILBOXES); do $(PROGRAM) list $$mailbox || exit; done
 	rm -rf $(MAILDIR)
-	$(PROGRAM) convert $(MAILDIR) $(MAILBOX)
+	$(PROGRAM) convert $(MAILDIR) $(MAILBOXES)
 	cd $(MAILDIR) && ls -l new cur
-	$(PROGRAM) convert $(MAILDIR) $(MAILBOX)
+	$(PROGRAM) convert $(MAILDIR) $(MAILBOXES)
 
 # The documents, the gate, and then the tests that run the built program.
 test:

@@ -45,6 +45,10 @@ other_number b x j k lt few is e =
     let same = same-number b b (j + 1) (k + 1) (omega (arith, lt, few)) (omega (arith, few)) (e ∙ is) in
     absurd (omega (arith, same, lt))
 
+-- a message whose number is among those that are there is at home
+pub home_level : (ms : List Message) (s : Files) → AreNumbered ms → (i : ℕ) (d : Message) → i < length ms → (level : Level (get_or ms i d).body s) → with_digest (get_or ms i d).body (take i ms) < level.n → IsHome s (get_or ms i d)
+home_level ms s nums i d below level lt = ap (homes s) (nums i d below) ∙ level.there.up_to (with_digest (get_or ms i d).body (take i ms)) lt
+
 -- a message whose body is there so often is sound
 pub sound_level : (ms : List Message) (s : Files) → AreNumbered ms → length ms ≤ 2 ^ 63 → AreNamed ms → (i : ℕ) (d : Message) → i < length ms → Level (get_or ms i d).body s → IsSoundAt s (get_or ms i d)
 sound_level ms s nums few named i d below level =
@@ -53,7 +57,7 @@ sound_level ms s nums few named i d below level =
     let is : m.target.base ≡ numbered m.body (k + 1) = nums i d below in
     let most : k ≤ length ms = few_with_digest m.body ms i in
     elim (cases_lt k level.n) as (λ _. IsSoundAt s m) [
-      | inl lt ↦ inr (ap (homes s) is ∙ level.there.up_to k lt)
+      | inl lt ↦ inr (home_level ms s nums i d below level lt)
       | inr ge ↦ inl (level.there.no_other m.target.base (named i d below) (ap (take 64) is ∙ numbered-digits m.body (k + 1)) (λ j lt. other_number m.body m.target.base j k (omega (arith, lt, ge)) (omega (arith, most, few)) is))
     ]
 

@@ -1,5 +1,5 @@
 -- What runs over any of several texts, and actions of other programs, leave.
-use Rattle.std.proofs.Common.{◌≡◌, ℕ, ◌+◌, ◌<◌, ◌≤◌, ◌^◌, ◌&&◌, ◌⊎◌, max, Bool, true, false, cond, List, [], ◌∷◌, length, get_or, count_by, bytes_eq, All, Contains, IsTrue, IsPermutation, Result, Ok, Err, refl, sym, ap, subst, ◌∙◌, inl, inr, arith}
+use Rattle.std.proofs.Common.{◌≡◌, ℕ, zero, suc, ◌+◌, ◌<◌, ◌≤◌, ◌^◌, ◌&&◌, ◌⊎◌, max, Bool, true, false, cond, List, [], ◌∷◌, length, get_or, count_by, bytes_eq, All, Contains, IsTrue, IsPermutation, Result, Ok, Err, refl, sym, ap, subst, ◌∙◌, inl, inr, arith}
 use Rattle.std.specs.List.{list_any}
 use Rattle.std.specs.Cmp.Lexicographic.{nat_list_eq_equiv, bytes_decides}
 use Rattle.std.proofs.lemmas.Bool.{cases_Bool, false_from_ne_true}
@@ -15,15 +15,15 @@ use Rattle.maildir_name.proofs.BaseLemmas.{numbered-converter}
 use Rattle.maildir_run.specs.declared.fault.RunFault.{RunFault}
 use Rattle.maildir_run.specs.declared.report.Report.{Report}
 use Rattle.maildir_run.specs.Files.{Files, Action, acted, homes, is_name}
-use Rattle.maildir_run.specs.Delivery.{Message, IsMissing, IsSoundAt, Sound, is_base_of}
+use Rattle.maildir_run.specs.Delivery.{Message, IsMissing, IsHome, IsSoundAt, Sound, is_base_of}
 use Rattle.maildir_run.specs.Runs.{Run}
-use Rattle.maildir_run.specs.Several.{Text, IsText, OfEach, is_base_of_any, HoldsGiven, SoundForAll, LinkOver, RanOver, ActedOver, RunsOver, HaveOwnDigests, IsUnknown, count_in, most_delivered, most_tried, StandsAfter}
+use Rattle.maildir_run.specs.Several.{Text, IsText, OfEach, is_base_of_any, HoldsGiven, SoundForAll, LinkOver, RanOver, ActedOver, LinkedOver, RunsOver, HaveOwnDigests, IsUnknown, count_in, most_delivered, most_tried, StandsAfter}
 use Rattle.maildir_run.proofs.Maps.{is_name-refl}
 use Rattle.maildir_run.proofs.Homes.{acted_kept}
 use Rattle.maildir_run.proofs.Moves.{homes_none, homes_one}
 use Rattle.maildir_run.proofs.MessageLemmas.{text_named}
-use Rattle.maildir_run.proofs.Numbers.{has_digest_of, with_digest, count-cons, text_numbered, text_few}
-use Rattle.maildir_run.proofs.Levels.{Level, Rise, sound_level, rise}
+use Rattle.maildir_run.proofs.Numbers.{has_digest_of, with_digest, count-cons, count-front, text_numbered, text_few}
+use Rattle.maildir_run.proofs.Levels.{Level, Rise, home_level, sound_level, rise}
 
 -- ---- a count of bodies is one of digests
 same_test : (b : List ℕ) (m : Message) → (digest_text m.body ≡ digest_text b → m.body ≡ b) → same_digest b m.body ≡ bytes_eq b m.body
@@ -98,6 +98,15 @@ home_given texts k d below i e inside s (inr home) =
     })
 
 -- ---- texts whose distinct bodies have distinct digests
+-- a text of which a run answered Ok is among those whose counts are taken
+delivered_count : (b : List ℕ) (links : List LinkOver) (text : Text) (report : Report) → Contains links (RanOver text (Ok report)) → count_in b text ≤ most_delivered b links
+delivered_count b [] text report (k, below, is) = absurd (omega (arith, below))
+delivered_count b (link ∷ links) text report (zero, below, is) = subst (λ l. count_in b text ≤ most_delivered b (l ∷ links)) (sym is) (omega arith)
+delivered_count b (RanOver other (Ok _) ∷ links) text report (suc k, below, is) =
+    let before = delivered_count b links text report (k, omega (arith, below), is) in omega (arith, before)
+delivered_count b (RanOver other (Err _) ∷ links) text report (suc k, below, is) = delivered_count b links text report (k, omega (arith, below), is)
+delivered_count b (ActedOver action ∷ links) text report (suc k, below, is) = delivered_count b links text report (k, omega (arith, below), is)
+
 module _ (texts : List Text) (are : All IsText texts) (own : HaveOwnDigests texts) where
   -- each body of the texts is there so often
   abbrev pub AreLevel : Files → Type 0
@@ -208,6 +217,26 @@ module _ (texts : List Text) (are : All IsText texts) (own : HaveOwnDigests text
       let start = levels_at_start old unknown in
       let g = chain_grown links old new start runs b is (levels_at_start old unknown b is) in
       record { n = g.level.n; there = g.level.there; at_least = g.at_least; at_most = omega (arith, g.at_most) }
+
+  ran_among : (links : List LinkOver) (old new : Files) (text : Text) (answer : Result Report RunFault) → RunsOver texts links old new → Contains links (RanOver text answer) → Contains texts text
+  ran_among [] old new text answer runs (k, below, is) = absurd (omega (arith, below))
+  ran_among (link ∷ links) old new text answer (mid, linked, rest) (zero, below, is) =
+      let ran : LinkedOver texts (RanOver text answer) old mid = subst (λ l. LinkedOver texts l old mid) is linked in ran.0
+  ran_among (link ∷ links) old new text answer (mid, linked, rest) (suc k, below, is) = ran_among links mid new text answer rest (k, omega (arith, below), is)
+
+  pub chain_whole : (links : List LinkOver) (old new : Files) (text : Text) (report : Report) → OfEach (λ m. IsUnknown old m.body) texts → RunsOver texts links old new → Contains links (RanOver text (Ok report)) → All (IsHome new) text.messages
+  chain_whole links old new text report unknown runs ran i d below =
+      let ms = text.messages in
+      let b = (get_or ms i d).body in
+      let among = ran_among links old new text (Ok report) runs ran in
+      let t = text_at text among in
+      let is : IsBodyOf texts b = record { text = text; among = among; m = get_or ms i d; inside = Contains-get_or ms i d below; is = refl } in
+      let start = levels_at_start old unknown in
+      let g = chain_grown links old new start runs b is (start b is) in
+      let count = delivered_count b links text report ran in
+      let alike = counts_alike b ms (own_in text among b is) in
+      let before = count-front (has_digest_of b) ms i d below (same_digest-refl b) in
+      home_level ms new (text_numbered text.bytes ms t.are) i d below g.level (omega (arith, count, alike, before, g.at_least))
 
   pub chain_sound : (links : List LinkOver) (old new : Files) → OfEach (λ m. IsUnknown old m.body) texts → RunsOver texts links old new → SoundForAll texts old new
   chain_sound links old new unknown runs =

@@ -1,5 +1,5 @@
 //! Laws over the definitions alone. Each law is the contract of a function, and no function here does anything.
-ghost use Rattle.std.specs.Prelude.{◌≡◌, ◌↔◌, ℕ, map, ◌<◌, ◌≤◌, ◌^◌, length, List, [], ◌∷◌, ◌++◌, Some, Ok, All, IsTrue, IsFalse, IsPermutation};
+ghost use Rattle.std.specs.Prelude.{◌≡◌, ◌↔◌, ℕ, map, ◌<◌, ◌≤◌, ◌^◌, length, List, [], ◌∷◌, ◌++◌, Some, Ok, All, Contains, IsTrue, IsFalse, IsPermutation};
 ghost use Rattle.std.specs.List.{list_any};
 ghost use Rattle.std.specs.FinMap.{get};
 ghost use Rattle.maildir_name.specs.declared.target.Place.{Place};
@@ -11,10 +11,11 @@ ghost use Rattle.maildir_run.specs.Files.{Files, Action, LeavesConverters, acted
 ghost use Rattle.maildir_run.specs.Files.Action.{Outside};
 ghost use Rattle.maildir_run.specs.Calls.{Call, Move, after, Lists, Succeeded, PlacesElsewhere, WritesElsewhere, StaysOrGoes, NoneOrOne};
 ghost use Rattle.maildir_run.specs.Calls.Call.{Placing};
-ghost use Rattle.maildir_run.specs.Delivery.{Message, leftover_count, IsMissing, AreNamed, AreDistinct, Sound, Delivered};
+ghost use Rattle.maildir_run.specs.Delivery.{Message, leftover_count, IsMissing, IsHome, AreNamed, AreDistinct, Sound, Delivered};
 ghost use Rattle.maildir_run.specs.Texts.{MessagesOf};
 ghost use Rattle.maildir_run.specs.Runs.{Link, Run, Runs};
 ghost use Rattle.maildir_run.specs.Several.{Text, IsText, OfEach, SoundForAll, LinkOver, RunsOver, link_over, link_of, HaveOwnDigests, IsUnknown, StandsAfter};
+ghost use Rattle.maildir_run.specs.Several.LinkOver.{RanOver};
 ghost use Rattle.maildir_run.specs.Alone.{alone};
 ghost use Rattle.maildir_run.specs.Plan.{planned, each_alone};
 
@@ -100,7 +101,8 @@ pub fn after_any_runs()
 /// Whatever runs over any of several texts, with any answers, and other programs' actions follow one another: a folder
 /// in which no converter's base had the digest of a body of theirs is sound for all of them, and each body has the
 /// numbers 1 to n, and no others. It is there at least as often as in each text of which a run answered Ok, and at most
-/// as often as in one of which a run was made. Distinct bodies are to have distinct digests.
+/// as often as in one of which a run was made; and each message of a text of which a run answered Ok is at home. Distinct
+/// bodies are to have distinct digests.
 pub fn several_texts()
     ensures sound { (texts : List Text) (links : List LinkOver) (old new : Files) →
         All IsText texts → HaveOwnDigests texts → OfEach (λ m. IsUnknown old m.body) texts →
@@ -108,6 +110,10 @@ pub fn several_texts()
     ensures counted { (texts : List Text) (links : List LinkOver) (old new : Files) →
         All IsText texts → HaveOwnDigests texts → OfEach (λ m. IsUnknown old m.body) texts →
         RunsOver texts links old new → OfEach (λ m. StandsAfter links m.body new) texts }
+    ensures whole { (texts : List Text) (links : List LinkOver) (old new : Files) (text : Text) (report : Report) →
+        All IsText texts → HaveOwnDigests texts → OfEach (λ m. IsUnknown old m.body) texts →
+        RunsOver texts links old new → Contains links (RanOver text (Ok report)) →
+        All (IsHome new) text.messages }
 {}
 
 /// For a list of one text these are the words for one text: the same folders are sound, and the same chains lead from

@@ -1,10 +1,10 @@
 -- The words of the command line.
 use Rattle.std.specs.Prelude.{◌≡◌, ◌≤◌, ◌⊎◌, ℕ, List, [], ◌∷◌, length, codes}
 
--- words of one of the forms: none at all, `rewrite [FILE]`, `list [FILE]`, or `convert MAILDIR [FILE]` (this project's own rule)
+-- words of one of the forms: none at all, `rewrite [FILE]`, `list [FILE]`, or `convert MAILDIR [FILE]...` (this project's own rule)
 abbrev pub AreOfAForm : List (List ℕ) → Type 0
 AreOfAForm [] = Unit {0}
 AreOfAForm (word ∷ rest) =
     ((word ≡ codes "rewrite") × (length rest ≤ 1))
     ⊎ ((word ≡ codes "list") × (length rest ≤ 1))
-    ⊎ ((word ≡ codes "convert") × (1 ≤ length rest) × (length rest ≤ 2))
+    ⊎ ((word ≡ codes "convert") × (1 ≤ length rest))

@@ -3,14 +3,14 @@ ghost use Rattle.std.specs.Prelude.{◌↔◌, map, string_bytes, IsSome};
 ghost use Rattle.mbox2maildir.specs.Words.{AreOfAForm};
 
 /// A command. Without FILE it reads standard input.
-#[derive(Clone, Copy, Debug, PartialEq, Eq)]
+#[derive(Clone, Copy, Debug)]
 pub enum Command<'a> {
     /// `rewrite [FILE]`, or no words at all: write the text in its regular spelling.
     Rewrite(Option<&'a str>),
     /// `list [FILE]`: write a line for each message.
     List(Option<&'a str>),
-    /// `convert MAILDIR [FILE]`: deliver the messages.
-    Convert(&'a str, Option<&'a str>),
+    /// `convert MAILDIR [FILE]...`: deliver the messages of each file, in the order of the words.
+    Convert(&'a str, &'a [String]),
 }
 
 impl<'a> Command<'a> {
@@ -26,19 +26,8 @@ impl<'a> Command<'a> {
             ("rewrite", [file]) => Some(Command::Rewrite(Some(file.as_str()))),
             ("list", []) => Some(Command::List(None)),
             ("list", [file]) => Some(Command::List(Some(file.as_str()))),
-            ("convert", [maildir]) => Some(Command::Convert(maildir.as_str(), None)),
-            ("convert", [maildir, file]) => Some(Command::Convert(
-                maildir.as_str(),
-                Some(file.as_str()),
-            )),
+            ("convert", [maildir, files @ ..]) => Some(Command::Convert(maildir.as_str(), files)),
             _ => None,
-        }
-    }
-
-    /// The file that is read, where one is named.
-    pub fn file(&self) -> Option<&'a str> {
-        match self {
-            Command::Rewrite(file) | Command::List(file) | Command::Convert(_, file) => *file,
         }
     }
 }

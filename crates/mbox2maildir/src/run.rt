@@ -50,7 +50,7 @@ pub fn tell<E: Write>(fault: impl Display + Drop, err: &mut E) {
     let _ = writeln!(err, "mbox2maildir: {fault}");
 }
 
-// Opens the source of a command and then does its work.
+// Does the work of a command, and writes what it gives through a buffer.
 fn perform<R: Files + Clock, I: Read, W: Write>(
     rt: &R,
     alloc: Global,
@@ -58,55 +58,82 @@ fn perform<R: Files + Clock, I: Read, W: Write>(
     input: &mut I,
     out: &mut W,
 ) -> Result<(), Fault> {
-    match command.file() {
-        None => work(rt, alloc, command, input, out),
-        Some(path) => {
-            let mut source = fs::open(rt, path).map_err(|error| Fault::of_source(&error))?;
-            work(rt, alloc, command, &mut source, out)
-        }
-    }
-}
-
-// Does the work of a command on its source, and writes what it gives through a buffer.
-fn work<R: Files + Clock, I: Read, W: Write>(
-    rt: &R,
-    alloc: Global,
-    command: Command<'_>,
-    source: &mut I,
-    out: &mut W,
-) -> Result<(), Fault> {
     let mut out = BufWriter::with_capacity(alloc, OUTPUT_BYTES, out).map_err(
         |_| RunFault::OutOfMemory,
     )?;
     match command {
-        Command::Rewrite(_) => {
-            rewrite(alloc, source, &mut out, READS)?;
+        Command::Rewrite(None) => {
+            rewrite(alloc, input, &mut out, READS)?;
         }
-        Command::List(_) => {
-            list_text(alloc, source, &mut out, READS)?;
+        Command::Rewrite(Some(path)) => {
+            rewrite(alloc, &mut open(rt, path)?, &mut out, READS)?;
         }
-        Command::Convert(maildir, _) => {
-            let report = deliver(rt, alloc, maildir, source)?;
-            print_report(report, &mut out)?;
+        Command::List(None) => {
+            list_text(alloc, input, &mut out, READS)?;
+        }
+        Command::List(Some(path)) => {
+            list_text(alloc, &mut open(rt, path)?, &mut out, READS)?;
+        }
+        Command::Convert(maildir, []) => {
+            let mut folder = open_folder(rt, alloc, maildir)?;
+            deliver(alloc, &mut folder, input, &mut out)?;
+        }
+        Command::Convert(maildir, [first, rest @ ..]) => {
+            let mut folder = deliver_first(rt, alloc, maildir, first.as_str(), &mut out)?;
+            for path in rest {
+                deliver(alloc, &mut folder, &mut open(rt, path.as_str())?, &mut out)?;
+            }
         }
     }
-    out.flush().map_err(|_| RunFault::OutputFault)?;
-    Ok(())
+    flush(&mut out)
 }
 
-// Delivers the messages of the source into the Maildir, and syncs it.
-fn deliver<R: Files + Clock, I: Read>(
-    rt: &R,
+fn open<R: Files>(rt: &R, path: &str) -> Result<R::File, Fault> {
+    fs::open(rt, path).map_err(|error| Fault::of_source(&error))
+}
+
+fn open_folder<'a, R: Files + Clock>(
+    rt: &'a R,
     alloc: Global,
     maildir: &str,
+) -> Result<DiskFolder<'a, R>, Fault> {
+    DiskFolder::open_at(rt, alloc, maildir).map_err(Fault::of_folder)
+}
+
+// Opens the first file and then the Maildir, so that a file that cannot be opened leaves no folder behind, and delivers
+// the messages of the file.
+fn deliver_first<'a, R: Files + Clock, W: Write>(
+    rt: &'a R,
+    alloc: Global,
+    maildir: &str,
+    path: &str,
+    out: &mut W,
+) -> Result<DiskFolder<'a, R>, Fault> {
+    let mut source = open(rt, path)?;
+    let mut folder = open_folder(rt, alloc, maildir)?;
+    deliver(alloc, &mut folder, &mut source, out)?;
+    Ok(folder)
+}
+
+// Delivers the messages of one source, by a run of its own, syncs the Maildir and then prints the run's line at once:
+// each line that was printed stays true, whatever becomes of the next source.
+fn deliver<R: Files + Clock, I: Read, W: Write>(
+    alloc: Global,
+    folder: &mut DiskFolder<'_, R>,
     source: &mut I,
-) -> Result<Report, Fault> {
-    let mut folder = DiskFolder::open_at(rt, alloc, maildir).map_err(Fault::of_folder)?;
-    let report = convert(alloc, &mut folder, source, READS)?;
+    out: &mut W,
+) -> Result<(), Fault> {
+    let report = convert(alloc, folder, source, READS)?;
     folder
         .sync()
         .map_err(|fault| Fault::of_sync(fault, calls_of(report)))?;
-    Ok(report)
+    print_report(report, out)?;
+    flush(out)
+}
+
+fn flush<W: Write>(out: &mut W) -> Result<(), Fault> {
+    out.flush().map_err(|_| RunFault::OutputFault)?;
+    Ok(())
 }
 
 // How many calls of the folder a run made that gave this report: three listings, a removal for each file that was
