@@ -103,4 +103,8 @@ fn read_first<R: Read>(
 }
 
 #[cfg(test)]
+mod disturbed;
+#[cfg(test)]
+mod stops;
+#[cfg(test)]
 mod tests;

@@ -2,54 +2,16 @@
 use super::*;
 use crate::folder::Sub;
 use crate::mem_folder::MemFolder;
-use crate::testing::{Cut, Then};
+use crate::testing::{
+    ABC, Cut, EMPTY_ONE, EMPTY_TWO, LIMIT, THREE, TWO_EMPTY, Then, UNENDED, put, report, run_over,
+};
 use std::test::Fail;
-
-const LIMIT: u64 = 1_099_511_627_776;
-
-const EMPTY_ONE: &str = "e3b0c44298fc1c149afbf4c8996fb92427ae41e4649b934ca495991b7852b855.1";
-
-const EMPTY_TWO: &str = "e3b0c44298fc1c149afbf4c8996fb92427ae41e4649b934ca495991b7852b855.2";
-
-const ABC: &str = "ba7816bf8f01cfea414140de5dae2223b00361a396177a9cb410ff61f20015ad.1";
 
 const ABC_LINE: &str = "edeaaff3f1774ad2888673770c6d64097e391bc362d7d6fb34982ddf0efd18cb.1";
 
 const HELLO_LINE: &str = "5891b5b522d5df086d0ff0b110fbd9d21bb4fc7163af34d08286a2e846f6be03.1";
 
 const FLAGGED: &str = "6e10782762e5fa1e91d5bfce9779c600776be9832f251fd48a19b758b735a824.1:2,FRS";
-
-const UNENDED: &[u8] = b"From x\nabc";
-
-const TWO_EMPTY: &[u8] = b"From a\n\nFrom b\n\n";
-
-// A run over a text that comes whole.
-fn run_over(alloc: Global, folder: &mut MemFolder, text: &[u8]) -> Result<Report, RunFault> {
-    let mut source = Cut::new(text, 65_536, Then::Ends);
-    convert(alloc, folder, &mut source, LIMIT)
-}
-
-fn report(messages: u64, there: u64, placed: u64, swept: u64) -> Report {
-    Report {
-        messages,
-        there,
-        placed,
-        swept,
-    }
-}
-
-fn put(
-    alloc: Global,
-    folder: &mut MemFolder,
-    sub: Sub,
-    name: &str,
-    bytes: &[u8],
-) -> Result<(), Fail> {
-    let name = String::from_str(alloc, name)?;
-    let bytes = Vec::from_slice(alloc, bytes)?;
-    folder.put(sub, name, bytes)?;
-    Ok(())
-}
 
 #[test]
 fn undisturbed_runs(rt: HostRuntime) -> Result<(), Fail> {
@@ -145,16 +107,15 @@ fn source_fails(rt: HostRuntime) {
 
 #[test]
 fn every_front_of_a_text(rt: HostRuntime) {
-    let whole: &[u8] = b"From a\n\nFrom b\n\nFrom c\nabc";
-    for k in 0..whole.len() {
+    for k in 0..THREE.len() {
         let mut folder = MemFolder::new(rt.alloc());
-        let mut source = Cut::new(&whole[..k], 1, Then::Fails);
+        let mut source = Cut::new(&THREE[..k], 1, Then::Fails);
         assert!(rt;
             convert(rt.alloc(), &mut folder, &mut source, LIMIT) == Err(RunFault::ReadFault),
             "{k} bytes"
         );
         assert!(rt;
-            run_over(rt.alloc(), &mut folder, whole).is_ok(),
+            run_over(rt.alloc(), &mut folder, THREE).is_ok(),
             "{k} bytes"
         );
         assert_eq!(rt; folder.count(Sub::New), 3, "{k} bytes");

@@ -1,0 +1,174 @@
+// Runs that are broken off at a call of the folder, and the run after them.
+use super::*;
+use crate::folder::Sub;
+use crate::mem_folder::MemFolder;
+use crate::script::{Act, Mode, ScriptLine};
+use crate::testing::{ABC, EMPTY_ONE, EMPTY_TWO, THREE, UNENDED, report, run_over};
+use std::test::Fail;
+
+// A script with one line and no acts.
+fn stop_at(alloc: Global, folder: &mut MemFolder, call: u64, mode: Mode) -> Result<(), Fail> {
+    let mut lines = Vec::new(alloc);
+    lines.push(ScriptLine {
+        call,
+        acts: Vec::new(alloc),
+        mode,
+    })?;
+    folder.script(lines, None);
+    Ok(())
+}
+
+// The three messages are there, and nothing else is.
+fn holds_three(folder: &MemFolder) -> bool {
+    folder.count(Sub::Tmp) == 0
+        && folder.count(Sub::New) == 3
+        && folder.count(Sub::Cur) == 0
+        && folder.bytes_of(Sub::New, EMPTY_ONE) == Some(b"".as_slice())
+        && folder.bytes_of(Sub::New, EMPTY_TWO) == Some(b"".as_slice())
+        && folder.bytes_of(Sub::New, ABC) == Some(b"abc".as_slice())
+}
+
+// An undisturbed run answers this, and leaves the three messages.
+fn run_repairs(alloc: Global, folder: &mut MemFolder, there: u64, swept: u64) -> bool {
+    folder.script(Vec::new(alloc), None);
+    run_over(alloc, folder, THREE) == Ok(report(3, there, 3u64.saturating_sub(there), swept))
+        && holds_three(folder)
+}
+
+#[test]
+fn a_stop_at_each_call(rt: HostRuntime) -> Result<(), Fail> {
+    let alloc = rt.alloc();
+    // the call, and for each mode what the next run finds there and sweeps
+    let rows: [(u64, (u64, u64), (u64, u64), (u64, u64)); 9] = [
+        (1, (0, 0), (0, 0), (0, 0)),
+        (2, (0, 0), (0, 0), (0, 0)),
+        (3, (0, 0), (0, 0), (0, 0)),
+        (4, (0, 0), (0, 1), (0, 1)),
+        (5, (0, 1), (1, 0), (0, 1)),
+        (6, (1, 0), (1, 1), (1, 1)),
+        (7, (1, 1), (2, 0), (1, 1)),
+        (8, (2, 0), (2, 1), (2, 1)),
+        (9, (2, 1), (3, 0), (2, 1)),
+    ];
+    for (call, before, after, half) in rows {
+        let modes = [
+            (Mode::FailBefore, before),
+            (Mode::FailAfter, after),
+            (Mode::Half, half),
+        ];
+        for (mode, (there, swept)) in modes {
+            let mut folder = MemFolder::new(alloc);
+            stop_at(alloc, &mut folder, call, mode)?;
+            assert!(rt;
+                run_over(alloc, &mut folder, THREE) == Err(RunFault::FolderFailed(call)),
+                "{mode:?} at {call}"
+            );
+            assert_eq!(rt; folder.calls(), call, "{mode:?} at {call}");
+            assert!(rt;
+                run_repairs(alloc, &mut folder, there, swept),
+                "{mode:?} at {call}"
+            );
+        }
+        let (there, swept) = before;
+        let mut folder = MemFolder::new(alloc);
+        folder.script(Vec::new(alloc), Some(call));
+        assert!(rt;
+            run_over(alloc, &mut folder, THREE) == Err(RunFault::FolderFailed(call)),
+            "from {call} on"
+        );
+        assert!(rt;
+            run_repairs(alloc, &mut folder, there, swept),
+            "from {call} on"
+        );
+    }
+    Ok(())
+}
+
+#[test]
+fn a_call_comes_twice(rt: HostRuntime) -> Result<(), Fail> {
+    let alloc = rt.alloc();
+    for call in 1..10u64 {
+        let mut folder = MemFolder::new(alloc);
+        stop_at(alloc, &mut folder, call, Mode::Twice)?;
+        assert!(rt;
+            run_over(alloc, &mut folder, THREE) == Ok(report(3, 0, 3, 0)),
+            "call {call}"
+        );
+        assert_eq!(rt; folder.calls(), 9, "call {call}");
+        assert!(rt; holds_three(&folder), "call {call}");
+    }
+    Ok(())
+}
+
+#[test]
+fn fails_after_the_effect(rt: HostRuntime) -> Result<(), Fail> {
+    let alloc = rt.alloc();
+    let mut folder = MemFolder::new(alloc);
+    stop_at(alloc, &mut folder, 7, Mode::FailAfter)?;
+    assert!(rt; run_over(alloc, &mut folder, THREE) == Err(RunFault::FolderFailed(7)));
+    assert_eq!(rt; folder.count(Sub::New), 2);
+    assert!(rt; folder.bytes_of(Sub::New, EMPTY_ONE) == Some(b"".as_slice()));
+    assert!(rt; folder.bytes_of(Sub::New, EMPTY_TWO) == Some(b"".as_slice()));
+    assert!(rt; run_repairs(alloc, &mut folder, 2, 0));
+    assert_eq!(rt; folder.calls(), 5);
+    Ok(())
+}
+
+#[test]
+fn half_written(rt: HostRuntime) -> Result<(), Fail> {
+    let alloc = rt.alloc();
+    let mut folder = MemFolder::new(alloc);
+    stop_at(alloc, &mut folder, 8, Mode::Half)?;
+    assert!(rt; run_over(alloc, &mut folder, THREE) == Err(RunFault::FolderFailed(8)));
+    assert_eq!(rt; folder.count(Sub::Tmp), 1);
+    assert!(rt; folder.bytes_of(Sub::Tmp, ABC) == Some(b"a".as_slice()));
+    assert!(rt; run_repairs(alloc, &mut folder, 2, 1));
+    assert_eq!(rt; folder.calls(), 6);
+    Ok(())
+}
+
+#[test]
+fn a_stop_in_the_sweep(rt: HostRuntime) -> Result<(), Fail> {
+    let alloc = rt.alloc();
+    let mut folder = MemFolder::new(alloc);
+    stop_at(alloc, &mut folder, 8, Mode::FailAfter)?;
+    assert!(rt; run_over(alloc, &mut folder, THREE) == Err(RunFault::FolderFailed(8)));
+    assert!(rt; folder.bytes_of(Sub::Tmp, ABC) == Some(b"abc".as_slice()));
+    stop_at(alloc, &mut folder, 4, Mode::FailAfter)?;
+    assert!(rt; run_over(alloc, &mut folder, THREE) == Err(RunFault::FolderFailed(4)));
+    assert_eq!(rt; folder.count(Sub::Tmp), 0);
+    assert!(rt; run_repairs(alloc, &mut folder, 2, 0));
+    assert_eq!(rt; folder.calls(), 5);
+    Ok(())
+}
+
+// What a placement answers for a file that is not in `tmp`, by its mode.
+#[test]
+fn nothing_to_place(rt: HostRuntime) -> Result<(), Fail> {
+    let alloc = rt.alloc();
+    let rows = [
+        (Mode::Plain, RunFault::FolderAbsent),
+        (Mode::FailBefore, RunFault::FolderFailed(5)),
+        (Mode::FailAfter, RunFault::FolderFailed(5)),
+        (Mode::Half, RunFault::FolderFailed(5)),
+        (Mode::Twice, RunFault::FolderAbsent),
+    ];
+    for (mode, fault) in rows {
+        let mut folder = MemFolder::new(alloc);
+        let mut acts = Vec::new(alloc);
+        acts.push(Act::DropTmp(String::from_str(alloc, ABC)?))?;
+        let mut lines = Vec::new(alloc);
+        lines.push(ScriptLine {
+            call: 5,
+            acts,
+            mode,
+        })?;
+        folder.script(lines, None);
+        assert!(rt;
+            run_over(alloc, &mut folder, UNENDED) == Err(fault),
+            "{mode:?}"
+        );
+        assert_eq!(rt; folder.count(Sub::New), 0, "{mode:?}");
+    }
+    Ok(())
+}
