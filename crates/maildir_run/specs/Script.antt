@@ -12,7 +12,7 @@ use Rattle.maildir_run.specs.Files.{Files, ToCur, Reflag, DropTmp, acted}
 use Rattle.maildir_run.specs.Calls.{Call, Writing, Listing, Placing, Removing, effect, torn, IsReady}
 use Rattle.maildir_run.specs.MemFiles.{with_file, without_file}
 
--- the files after an act; one whose condition fails changes nothing
+-- the files after an act; one whose condition fails changes nothing (maildir(5), and this project's own rule)
 abbrev pub performed : Act → Files → Files
 performed (act.ToCur name target) s = acted (ToCur (string_bytes name) (string_bytes target)) s
 performed (act.Reflag name target) s = acted (Reflag (string_bytes name) (string_bytes target)) s
@@ -23,7 +23,7 @@ performed (act.DropOther sub name) s = if is_converter_name (string_bytes name) 
 -- the files after some acts, one after the other
 abbrev pub all_performed : List Act → Files → Files
 all_performed [] s = s
-all_performed (act ∷ acts) s = all_performed acts (performed act s)
+all_performed (first ∷ acts) s = all_performed acts (performed first s)
 
 -- the acts before a call: those of each line for it
 abbrev pub acts_at : ℕ → List ScriptLine → List Act
@@ -59,7 +59,7 @@ halved (Listing _) s = s
 halved (Placing _ _ _) s = s
 halved (Removing _) s = s
 
--- the files after a call in a mode
+-- the files after a call in a mode (this project's own rule)
 abbrev pub done : Mode → Call → Files → Files
 done Plain call s = effect call s
 done FailBefore call s = s
