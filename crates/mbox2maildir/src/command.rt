@@ -1,6 +1,7 @@
 // What the words of the command line ask for.
-ghost use Rattle.std.specs.Prelude.{◌↔◌, map, string_bytes, IsSome};
-ghost use Rattle.mbox2maildir.specs.Words.{AreOfAForm};
+ghost use Rattle.std.specs.Prelude.{◌≡◌, ◌↔◌, map, string_bytes, IsSome};
+ghost use Rattle.std.specs.Option.{option_map};
+ghost use Rattle.mbox2maildir.specs.Words.{AreOfAForm, file_of};
 
 /// A command. Without FILE it reads standard input.
 #[derive(Clone, Copy, Debug, PartialEq, Eq)]
@@ -36,7 +37,9 @@ impl<'a> Command<'a> {
     }
 
     /// The file that is read, where one is named.
-    pub fn file(&self) -> Option<&'a str> {
+    pub fn file(&self) -> Option<&'a str>
+        ensures { option_map (λ word. word.now) result ≡ file_of self.now }
+    {
         match self {
             Command::Rewrite(file) | Command::List(file) | Command::Convert(_, file) => *file,
         }

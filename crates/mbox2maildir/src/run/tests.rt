@@ -1,7 +1,6 @@
 // The program's work by its words: texts and statuses, and what is left on the disk.
 use super::*;
 use std::alloc::AllocError;
-use std::io;
 
 mod failures;
 mod files;
