@@ -1,1 +1,4 @@
+pub mod Faults
+pub mod Paths
+pub mod Report
 pub mod Words

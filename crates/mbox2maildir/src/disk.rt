@@ -1,4 +1,7 @@
 // What is asked of the file system, a step each.
+ghost use Rattle.std.specs.Prelude.{◌↔◌, IsTrue};
+ghost use Rattle.mbox2maildir.specs.Faults.{IsRefusedGrowth};
+
 use std::fs::{DirBuilder, OpenFile, OpenOptions};
 use std::io::{ErrorKind, Write};
 use std::os::unix::fs::{DirBuilderExt, OpenOptionsExt};
@@ -70,6 +73,8 @@ pub(crate) fn sync_folder_if_allowed(files: &impl Files, path: &str) -> io::Resu
 }
 
 /// Whether the error is a growth of ours that was refused: it has no number of the system's.
-pub(crate) fn is_refused_growth(error: &io::Error) -> bool {
+pub(crate) fn is_refused_growth(error: &io::Error) -> bool
+    ensures { IsTrue result ↔ IsRefusedGrowth error.now }
+{
     error.kind() == ErrorKind::OutOfMemory && error.raw_os_error().is_none()
 }

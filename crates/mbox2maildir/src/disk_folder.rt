@@ -1,6 +1,8 @@
 // A Maildir on the disk, as a folder of the engine.
-ghost use Rattle.std.specs.Prelude.{◌≡◌, IfOk};
+ghost use Rattle.std.specs.Prelude.{◌≡◌, ◌++◌, ◌∷◌, IfErr, IfOk, string_bytes};
 ghost use Rattle.maildir_run.specs.Calls.{CountsFailure, GoesUp, IsNotAbsent};
+ghost use Rattle.mbox2maildir.specs.Faults.{IsRefusedGrowth};
+ghost use Rattle.mbox2maildir.specs.Paths.{folder_name, folder_of_place};
 
 use crate::{disk, listing};
 use maildir_name::Place;
@@ -30,6 +32,7 @@ impl<'a, R: Files + Clock> DiskFolder<'a, R> {
     /// [`FolderFault::OutOfMemory`] where a growth was refused.
     pub fn open_at(rt: &'a R, alloc: Global, path: &str) -> Result<Self, FolderFault>
         ensures fresh { IfOk result (λ folder. (folder.calls ≡ 0) × (folder.failures ≡ 0)) }
+        ensures path { IfOk result (λ folder. string_bytes folder.root ≡ path.now) }
         ensures not_absent { IsNotAbsent result }
     {
         let folder = DiskFolder {
@@ -102,13 +105,17 @@ impl<'a, R: Files + Clock> DiskFolder<'a, R> {
     }
 
     // The path of one of the three folders.
-    fn path_of(&self, sub: Sub) -> Result<String, AllocError> {
+    fn path_of(&self, sub: Sub) -> Result<String, AllocError>
+        ensures { IfOk result (λ path. string_bytes path ≡ string_bytes self.now.root ++ 47 ∷ folder_name sub) }
+    {
         let (root, sub) = (self.root.as_str(), name_of(sub));
         format!(in self.alloc; "{root}/{sub}")
     }
 
     // The path of a file in one of the three folders.
-    fn path_in(&self, sub: Sub, name: &str) -> Result<String, AllocError> {
+    fn path_in(&self, sub: Sub, name: &str) -> Result<String, AllocError>
+        ensures { IfOk result (λ path. string_bytes path ≡ string_bytes self.now.root ++ 47 ∷ (folder_name sub ++ 47 ∷ name.now)) }
+    {
         let (root, sub) = (self.root.as_str(), name_of(sub));
         format!(in self.alloc; "{root}/{sub}/{name}")
     }
@@ -169,7 +176,10 @@ impl<'a, R: Files + Clock> Folder for DiskFolder<'a, R> {
 
 // An error without a number of the system's comes from our own growth.
 fn answer_of<T>(outcome: io::Result<T>) -> Result<T, FolderFault>
-    ensures { IsNotAbsent result }
+    ensures ok { IfOk outcome (λ value. result ≡ Ok value) }
+    ensures growth { IfErr outcome (λ error. IsRefusedGrowth error → result ≡ Err FolderFault.OutOfMemory) }
+    ensures others { IfErr outcome (λ error. ¬ IsRefusedGrowth error → result ≡ Err FolderFault.Failed) }
+    ensures not_absent { IsNotAbsent result }
 {
     match outcome {
         Ok(value) => Ok(value),
@@ -178,7 +188,9 @@ fn answer_of<T>(outcome: io::Result<T>) -> Result<T, FolderFault>
     }
 }
 
-fn name_of(sub: Sub) -> &'static str {
+fn name_of(sub: Sub) -> &'static str
+    ensures { result.now ≡ folder_name sub }
+{
     match sub {
         Sub::Tmp => "tmp",
         Sub::New => "new",
@@ -186,7 +198,9 @@ fn name_of(sub: Sub) -> &'static str {
     }
 }
 
-fn sub_of(place: Place) -> Sub {
+fn sub_of(place: Place) -> Sub
+    ensures { result ≡ folder_of_place place }
+{
     match place {
         Place::New => Sub::New,
         Place::Cur => Sub::Cur,

@@ -1,4 +1,7 @@
 // Why a command was not done.
+ghost use Rattle.std.specs.Prelude.{◌≡◌, ◌+◌, ◌-◌, ◌^◌, min};
+ghost use Rattle.mbox2maildir.specs.Faults.{IsRefusedGrowth, fault_or};
+
 use crate::disk;
 use maildir_run::{FolderFault, RunFault};
 use std::alloc::AllocError;
@@ -33,7 +36,10 @@ impl From<AllocError> for Fault {
 
 impl Fault {
     /// What it is that a source could not be opened.
-    pub fn of_source(error: &io::Error) -> Fault {
+    pub fn of_source(error: &io::Error) -> Fault
+        ensures growth { IsRefusedGrowth error.now → result ≡ Fault.Run RunFault.OutOfMemory }
+        ensures others { ¬ IsRefusedGrowth error.now → result ≡ Fault.Source }
+    {
         if disk::is_refused_growth(error) {
             return Fault::Run(RunFault::OutOfMemory);
         }
@@ -41,7 +47,9 @@ impl Fault {
     }
 
     /// What it is that a folder could not be opened.
-    pub fn of_folder(fault: FolderFault) -> Fault {
+    pub fn of_folder(fault: FolderFault) -> Fault
+        ensures { result ≡ fault_or fault Fault.Folder }
+    {
         match fault {
             FolderFault::OutOfMemory => Fault::Run(RunFault::OutOfMemory),
             FolderFault::Absent | FolderFault::Failed => Fault::Folder,
@@ -49,7 +57,9 @@ impl Fault {
     }
 
     /// What it is that a folder could not be synced, after a run that made this many calls of it.
-    pub fn of_sync(fault: FolderFault, calls: u64) -> Fault {
+    pub fn of_sync(fault: FolderFault, calls: u64) -> Fault
+        ensures { result ≡ fault_or fault (Fault.Run (RunFault.FolderFailed (min (calls + 1) (2 ^ 64 - 1)))) }
+    {
         match fault {
             FolderFault::OutOfMemory => Fault::Run(RunFault::OutOfMemory),
             FolderFault::Absent | FolderFault::Failed => {

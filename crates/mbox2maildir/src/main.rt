@@ -11,8 +11,6 @@ mod listing;
 mod run;
 #[cfg(test)]
 mod scratch;
-#[cfg(test)]
-mod vectors;
 
 use crate::run::{run, tell};
 use maildir_run::RunFault;
@@ -32,11 +30,11 @@ fn main(rt: HostRuntime) -> ExitCode {
             &mut err,
         ),
         Err(error) if disk::is_refused_growth(&error) => {
-            tell(RunFault::OutOfMemory, &mut err);
+            let _ = tell(RunFault::OutOfMemory, &mut err);
             1
         }
         Err(_) => {
-            tell("wrong words", &mut err);
+            let _ = tell("wrong words", &mut err);
             2
         }
     };

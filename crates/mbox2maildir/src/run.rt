@@ -1,6 +1,7 @@
 // The program's work: its words, its streams and its status.
-ghost use Rattle.std.specs.Prelude.{◌≡◌, ◌↔◌, map, string_bytes};
-ghost use Rattle.std.specs.Io.KnownBytes.{Keeps};
+ghost use Rattle.std.specs.Prelude.{◌≡◌, ◌↔◌, ◌++◌, ◌+◌, ◌*◌, ◌-◌, ◌^◌, min, map, codes, string_bytes, IfSome, OnOk};
+ghost use Rattle.std.specs.Io.KnownBytes.{Appends, Keeps};
+ghost use Rattle.mbox2maildir.specs.Report.{report_line};
 ghost use Rattle.mbox2maildir.specs.Words.{AreOfAForm};
 
 use crate::command::Command;
@@ -9,9 +10,9 @@ use crate::fault::Fault;
 use maildir_run::{Report, RunFault, convert, list_text, rewrite};
 use std::alloc::Global;
 use std::fmt::Display;
-use std::fs;
 use std::io::{BufWriter, Read, Write};
 use std::rt::{Clock, Files};
+use std::{fs, io};
 
 // How many reads a run makes at most.
 const READS: u64 = 1 << 40;
@@ -33,21 +34,24 @@ pub fn run<R: Files + Clock, I: Read, W: Write, E: Write>(
     ensures untouched { result ≡ 2 → Keeps (W.contents out.old) (W.contents out.new) }
 {
     let Some(command) = Command::of(words) else {
-        tell("wrong words", err);
+        let _ = tell("wrong words", err);
         return 2;
     };
     match perform(rt, alloc, command, input, out) {
         Ok(()) => 0,
         Err(fault) => {
-            tell(fault, err);
+            let _ = tell(fault, err);
             1
         }
     }
 }
 
 /// Writes the line of a fault to standard error.
-pub fn tell<E: Write>(fault: impl Display + Drop, err: &mut E) {
-    let _ = writeln!(err, "mbox2maildir: {fault}");
+pub fn tell<D: Display + Drop, E: Write>(fault: D, err: &mut E) -> io::Result<()>
+    ensures { OnOk result (IfSome (D.output fault) (λ text.
+        Appends (E.contents err.old) (E.contents err.new) (codes "mbox2maildir: " ++ text ++ codes "\n"))) }
+{
+    writeln!(err, "mbox2maildir: {fault}")
 }
 
 // Does the work of a command, and writes what it gives through a buffer.
@@ -138,7 +142,9 @@ fn flush<W: Write>(out: &mut W) -> Result<(), Fault> {
 
 // How many calls of the folder a run made that gave this report: three listings, a removal for each file that was
 // swept, and a write and a placement for each message that was placed.
-fn calls_of(report: Report) -> u64 {
+fn calls_of(report: Report) -> u64
+    ensures { result ≡ min (3 + report.swept + 2 * report.placed) (2 ^ 64 - 1) }
+{
     report
         .placed
         .saturating_mul(2)
@@ -146,7 +152,9 @@ fn calls_of(report: Report) -> u64 {
         .saturating_add(3)
 }
 
-fn print_report<W: Write>(report: Report, out: &mut W) -> Result<(), RunFault> {
+fn print_report<W: Write>(report: Report, out: &mut W) -> Result<(), RunFault>
+    ensures { OnOk result (Appends (W.contents out.old) (W.contents out.new) (report_line report)) }
+{
     let Report {
         messages,
         there,

@@ -1,5 +1,5 @@
 // Worked texts as they are listed, and refusals. The digests are those of other programs.
-use super::streams::{Cut, Narrow, Then};
+use crate::streams::{Cut, Narrow, Then};
 use maildir_run::{RunFault, list_text};
 use std::test::Fail;
 

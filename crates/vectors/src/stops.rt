@@ -1,6 +1,6 @@
 // Runs that are broken off at a call of the folder, and the run after them.
-use super::runs::{ABC, EMPTY_ONE, EMPTY_TWO, THREE, UNENDED, put, report, run_over};
-use super::scripts::line;
+use crate::runs::{ABC, EMPTY_ONE, EMPTY_TWO, THREE, UNENDED, put, report, run_over};
+use crate::scripts::line;
 use maildir_run::{Act, MemFolder, Mode, RunFault, Sub};
 use std::alloc::Global;
 use std::test::Fail;

@@ -2,15 +2,15 @@
 use maildir_run::{Act, Mode, ScriptLine, Sub};
 use std::alloc::{AllocError, Global};
 
-pub(super) fn named(alloc: Global, base: &str, info: &str) -> Result<String, AllocError> {
+pub(crate) fn named(alloc: Global, base: &str, info: &str) -> Result<String, AllocError> {
     format!(in alloc; "{base}{info}")
 }
 
-pub(super) fn to_cur(alloc: Global, base: &str, info: &str) -> Result<Act, AllocError> {
+pub(crate) fn to_cur(alloc: Global, base: &str, info: &str) -> Result<Act, AllocError> {
     Ok(Act::ToCur(String::from_str(alloc, base)?, named(alloc, base, info)?))
 }
 
-pub(super) fn reflag(
+pub(crate) fn reflag(
     alloc: Global,
     base: &str,
     info: &str,
@@ -19,7 +19,7 @@ pub(super) fn reflag(
     Ok(Act::Reflag(named(alloc, base, info)?, named(alloc, base, other)?))
 }
 
-pub(super) fn put_other(alloc: Global, sub: Sub, name: &str) -> Result<Act, AllocError> {
+pub(crate) fn put_other(alloc: Global, sub: Sub, name: &str) -> Result<Act, AllocError> {
     Ok(Act::PutOther(
         sub,
         String::from_str(alloc, name)?,
@@ -27,6 +27,6 @@ pub(super) fn put_other(alloc: Global, sub: Sub, name: &str) -> Result<Act, Allo
     ))
 }
 
-pub(super) fn line(call: u64, acts: Vec<Act>, mode: Mode) -> ScriptLine {
+pub(crate) fn line(call: u64, acts: Vec<Act>, mode: Mode) -> ScriptLine {
     ScriptLine { call, acts, mode }
 }

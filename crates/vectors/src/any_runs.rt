@@ -1,8 +1,8 @@
 // Runs that are broken off and disturbed at random, and one undisturbed run after them.
 ghost use Rattle.std.specs.Prelude.{◌<◌};
 
-use super::runs::{EMPTY_TWO, THREE, run_over};
-use super::scripts::{line, put_other, reflag, to_cur};
+use crate::runs::{EMPTY_TWO, THREE, run_over};
+use crate::scripts::{line, put_other, reflag, to_cur};
 use maildir_name::{Namer, Target, base_of, is_converter_name};
 use maildir_run::{Act, Folder, MemFolder, Mode, RunFault, ScriptLine, Sub};
 use mbox_text::{Entry, split_all};

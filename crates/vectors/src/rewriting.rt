@@ -1,5 +1,5 @@
 // Worked texts in their regular spelling, and refusals.
-use super::streams::{Cut, Narrow, Then};
+use crate::streams::{Cut, Narrow, Then};
 use maildir_run::{RunFault, rewrite};
 use std::test::Fail;
 

@@ -1,8 +1,8 @@
 // Worked runs over the folder in memory. The digests are those of other programs.
-use super::runs::{
+use crate::runs::{
     ABC, EMPTY_ONE, EMPTY_TWO, LIMIT, THREE, TWO_EMPTY, UNENDED, put, report, run_over,
 };
-use super::streams::{Cut, Then};
+use crate::streams::{Cut, Then};
 use maildir_run::{MemFolder, RunFault, Sub, convert};
 use std::test::Fail;
 

@@ -1,6 +1,6 @@
 // Runs while a mail reader and other programs are at work.
-use super::runs::{ABC, EMPTY_ONE, EMPTY_TWO, THREE, TWO_EMPTY, UNENDED, put, report, run_over};
-use super::scripts::{line, named, put_other, reflag, to_cur};
+use crate::runs::{ABC, EMPTY_ONE, EMPTY_TWO, THREE, TWO_EMPTY, UNENDED, put, report, run_over};
+use crate::scripts::{line, named, put_other, reflag, to_cur};
 use maildir_run::{Act, MemFolder, Mode, RunFault, Sub};
 use std::test::Fail;
 

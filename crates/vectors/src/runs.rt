@@ -1,27 +1,27 @@
 // What the rows on runs share. The digests are those of other programs.
-use super::streams::{Cut, Then};
+use crate::streams::{Cut, Then};
 use maildir_run::{MemFolder, Report, RunFault, Sub, convert};
 use std::alloc::Global;
 use std::test::Fail;
 
-pub(super) const LIMIT: u64 = 1_099_511_627_776;
+pub(crate) const LIMIT: u64 = 1_099_511_627_776;
 
-pub(super) const EMPTY_ONE: &str =
+pub(crate) const EMPTY_ONE: &str =
     "e3b0c44298fc1c149afbf4c8996fb92427ae41e4649b934ca495991b7852b855.1";
 
-pub(super) const EMPTY_TWO: &str =
+pub(crate) const EMPTY_TWO: &str =
     "e3b0c44298fc1c149afbf4c8996fb92427ae41e4649b934ca495991b7852b855.2";
 
-pub(super) const ABC: &str = "ba7816bf8f01cfea414140de5dae2223b00361a396177a9cb410ff61f20015ad.1";
+pub(crate) const ABC: &str = "ba7816bf8f01cfea414140de5dae2223b00361a396177a9cb410ff61f20015ad.1";
 
-pub(super) const UNENDED: &[u8] = b"From x\nabc";
+pub(crate) const UNENDED: &[u8] = b"From x\nabc";
 
-pub(super) const TWO_EMPTY: &[u8] = b"From a\n\nFrom b\n\n";
+pub(crate) const TWO_EMPTY: &[u8] = b"From a\n\nFrom b\n\n";
 
-pub(super) const THREE: &[u8] = b"From a\n\nFrom b\n\nFrom c\nabc";
+pub(crate) const THREE: &[u8] = b"From a\n\nFrom b\n\nFrom c\nabc";
 
 // A run over a text that comes whole.
-pub(super) fn run_over(
+pub(crate) fn run_over(
     alloc: Global,
     folder: &mut MemFolder,
     text: &[u8],
@@ -30,7 +30,7 @@ pub(super) fn run_over(
     convert(alloc, folder, &mut source, LIMIT)
 }
 
-pub(super) fn report(messages: u64, there: u64, placed: u64, swept: u64) -> Report {
+pub(crate) fn report(messages: u64, there: u64, placed: u64, swept: u64) -> Report {
     Report {
         messages,
         there,
@@ -39,7 +39,7 @@ pub(super) fn report(messages: u64, there: u64, placed: u64, swept: u64) -> Repo
     }
 }
 
-pub(super) fn put(
+pub(crate) fn put(
     alloc: Global,
     folder: &mut MemFolder,
     sub: Sub,

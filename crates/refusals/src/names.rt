@@ -1,0 +1,49 @@
+// Targets of bodies. The digests are another program's.
+use crate::{ABC, EMPTY_ONE, EMPTY_TWO};
+use maildir_name::{NameFault, Namer, Place};
+use std::test::Fail;
+
+#[test]
+fn namer_again(rt: HostRuntime) -> Result<(), Fail> {
+    let rows: [(&str, Place, &str); 8] = [
+        ("", Place::New, EMPTY_ONE),
+        ("abc", Place::New, ABC),
+        ("", Place::New, EMPTY_TWO),
+        (
+            "status: O\n\n",
+            Place::Cur,
+            "7e0e86d8ec65e420809e8a72cf9dd0f2afc440013fa6437d56df5ed1c891c331.1:2,",
+        ),
+        (
+            "Status: r\n\n",
+            Place::New,
+            "097e55b3b6d57f506555b678e6a12c2c47023bf58879eb6e1666d85f5efb09b4.1",
+        ),
+        (
+            "X-Status: RD\n",
+            Place::Cur,
+            "2a66991d128f1c4b732a44c32c2af01118d5008d86ab7aa9946dd6d94a0f8da3.1:2,ST",
+        ),
+        (
+            "Status: R\nStatus: O\n\n",
+            Place::Cur,
+            "48b17a9abbac72fd62f0ed41f12c8aa4b50f3150ef954d7277a55286ef12b4a7.1:2,S",
+        ),
+        (
+            "X-Status: RD\n",
+            Place::Cur,
+            "2a66991d128f1c4b732a44c32c2af01118d5008d86ab7aa9946dd6d94a0f8da3.2:2,ST",
+        ),
+    ];
+    let mut namer = Namer::new(rt.alloc());
+    for (body, place, name) in rows {
+        let target = match namer.target(body.as_bytes()) {
+            Err(NameFault::OutOfMemory) => namer.target(body.as_bytes()),
+            answer => answer,
+        }?;
+        assert!(rt; target.place == place, "{body:?}");
+        assert_eq!(rt; target.name.as_str(), name, "{body:?}");
+        assert!(rt; name.starts_with(target.base.as_str()), "{body:?}");
+    }
+    Ok(())
+}

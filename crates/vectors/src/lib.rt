@@ -1,0 +1,30 @@
+//! The worked rows on the calls of `maildir_run`, as tests: texts that are listed and rewritten, plans, and runs over the
+//! folder in memory, undisturbed, broken off at each call, with a mail reader at work, and at random.
+//!
+//! They have a crate of their own, since to build tests is to prove all of their crate once more.
+#![tactic(auto)]
+
+#[cfg(test)]
+mod any_runs;
+#[cfg(test)]
+mod converting;
+#[cfg(test)]
+mod disturbed;
+#[cfg(test)]
+mod fault_texts;
+#[cfg(test)]
+mod listing;
+#[cfg(test)]
+mod mem_folder;
+#[cfg(test)]
+mod planning;
+#[cfg(test)]
+mod rewriting;
+#[cfg(test)]
+mod runs;
+#[cfg(test)]
+mod scripts;
+#[cfg(test)]
+mod stops;
+#[cfg(test)]
+mod streams;
