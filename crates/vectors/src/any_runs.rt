@@ -2,9 +2,9 @@
 ghost use Rattle.std.specs.Prelude.{◌<◌};
 
 use crate::runs::{EMPTY_TWO, THREE, run_over};
-use crate::scripts::{line, put_other, reflag, to_cur};
+use crate::scripts::{drop_other, line, put_other, reflag, to_cur};
 use maildir_name::{Namer, Target, base_of, is_converter_name};
-use maildir_run::{Act, Folder, MemFolder, Mode, RunFault, ScriptLine, Sub};
+use maildir_run::{Act, Folder, MemFolder, Mode, Report, RunFault, ScriptLine, Sub};
 use mbox_text::{Entry, split_all};
 use std::alloc::{AllocError, Global};
 use std::test::Fail;
@@ -41,7 +41,7 @@ fn any_act(alloc: Global, dice: &mut Dice, targets: &[Target]) -> Result<Act, Al
         3 | 4 => reflag(alloc, base, infos[dice.below(5)], infos[dice.below(5)]),
         5 => Ok(Act::DropTmp(String::from_str(alloc, base)?)),
         6 => put_other(alloc, sub, foreign[dice.below(3)]),
-        _ => Ok(Act::DropOther(sub, String::from_str(alloc, foreign[dice.below(3)])?)),
+        _ => drop_other(alloc, sub, foreign[dice.below(3)]),
     }
 }
 
@@ -115,50 +115,85 @@ fn is_delivered(
     Ok(true)
 }
 
+fn targets_of(alloc: Global, messages: &[Entry]) -> Result<Vec<Target>, Fail> {
+    let mut namer = Namer::new(alloc);
+    let mut targets = Vec::new(alloc);
+    for message in messages {
+        targets.push(namer.target(message.body.as_slice())?)?;
+    }
+    Ok(targets)
+}
+
+// What broke runs off.
+#[derive(Drop)]
+struct Stops {
+    failed: u64,
+    absent: u64,
+}
+
+impl Stops {
+    // Counts the answer of a run, and says whether a run over a text may answer so.
+    fn count(&mut self, answer: Result<Report, RunFault>) -> bool {
+        match answer {
+            Ok(_) => {}
+            Err(RunFault::FolderFailed(_)) => self.failed = self.failed.saturating_add(1),
+            Err(RunFault::FolderAbsent) => self.absent = self.absent.saturating_add(1),
+            Err(_) => return false,
+        }
+        true
+    }
+}
+
+// Up to six disturbed runs, and one that is not: whether each message is there once then.
+fn ends_delivered(
+    alloc: Global,
+    dice: &mut Dice,
+    text: &[u8],
+    stops: &mut Stops,
+) -> Result<bool, Fail> {
+    let messages = split_all(alloc, text)?;
+    let targets = targets_of(alloc, &messages)?;
+    let mut folder = MemFolder::new(alloc);
+    for _ in 0..dice.below(7) {
+        let lines = any_script(alloc, dice, &targets)?;
+        let fail_from = match dice.below(3) {
+            0 => Some(1 + dice.below(12) as u64),
+            _ => None,
+        };
+        folder.script(lines, fail_from);
+        if !stops.count(run_over(alloc, &mut folder, text)) {
+            return Ok(false);
+        }
+    }
+    folder.script(Vec::new(alloc), None);
+    if run_over(alloc, &mut folder, text).is_err() {
+        return Ok(false);
+    }
+    is_delivered(&mut folder, &targets, &messages)
+}
+
 #[test]
 fn any_broken_and_disturbed_runs(rt: HostRuntime) -> Result<(), Fail> {
-    let alloc = rt.alloc();
     let texts: [&[u8]; 4] = [
         THREE,
         b"From a\nx\n\nFrom b\nx\n\nFrom c\n>From y\n\n",
         b"From a\nStatus: RO\nX-Status: AF\n\nhi\n\nFrom b\n>>From z\nFrom c\nStatus: RO\nX-Status: AF\n\nhi\n",
         b"From a\nX-Status: D\n\nFrom b\n\nFrom c\n\n\nFrom d\nX-Status: D\n\n",
     ];
-    let mut stopped = 0u64;
-    let mut absent = 0u64;
+    let mut stops = Stops {
+        failed: 0,
+        absent: 0,
+    };
     for seed in 0..500u64 {
         let text = texts[(seed % 4) as usize];
-        let messages = split_all(alloc, text)?;
-        let mut namer = Namer::new(alloc);
-        let mut targets = Vec::new(alloc);
-        for message in &messages {
-            targets.push(namer.target(message.body.as_slice())?)?;
-        }
         let mut dice = Dice { state: seed };
-        let mut folder = MemFolder::new(alloc);
-        for _ in 0..dice.below(7) {
-            let lines = any_script(alloc, &mut dice, &targets)?;
-            let fail_from = match dice.below(3) {
-                0 => Some(1 + dice.below(12) as u64),
-                _ => None,
-            };
-            folder.script(lines, fail_from);
-            match run_over(alloc, &mut folder, text) {
-                Ok(_) => {}
-                Err(RunFault::FolderFailed(_)) => stopped = stopped.saturating_add(1),
-                Err(RunFault::FolderAbsent) => absent = absent.saturating_add(1),
-                Err(fault) => assert!(rt; false, "seed {seed}: {fault}"),
-            }
-        }
-        folder.script(Vec::new(alloc), None);
-        assert!(rt; run_over(alloc, &mut folder, text).is_ok(), "seed {seed}");
         assert!(rt;
-            is_delivered(&mut folder, &targets, &messages)?,
+            ends_delivered(rt.alloc(), &mut dice, text, &mut stops)?,
             "seed {seed}"
         );
     }
     // the scripts did break runs
-    assert!(rt; stopped > 500);
-    assert!(rt; absent > 0);
+    assert!(rt; stops.failed > 500);
+    assert!(rt; stops.absent > 0);
     Ok(())
 }

@@ -1,9 +1,10 @@
 // Worked runs over the folder in memory. The digests are those of other programs.
 use crate::runs::{
-    ABC, EMPTY_ONE, EMPTY_TWO, LIMIT, THREE, TWO_EMPTY, UNENDED, put, report, run_over,
+    ABC, EMPTY_ONE, EMPTY_TWO, LIMIT, THREE, TWO_EMPTY, UNENDED, holds, put, report, run_over,
 };
 use crate::streams::{Cut, Then};
 use maildir_run::{MemFolder, RunFault, Sub, convert};
+use std::alloc::Global;
 use std::test::Fail;
 
 const ABC_LINE: &str = "edeaaff3f1774ad2888673770c6d64097e391bc362d7d6fb34982ddf0efd18cb.1";
@@ -12,45 +13,40 @@ const HELLO_LINE: &str = "5891b5b522d5df086d0ff0b110fbd9d21bb4fc7163af34d08286a2
 
 const FLAGGED: &str = "6e10782762e5fa1e91d5bfce9779c600776be9832f251fd48a19b758b735a824.1:2,FRS";
 
+const ALL_FLAGS: &[u8] =
+    b"From a\tb@c Thu Jan  1 00:00:00 1970\nStatus: RO\nX-Status: AF\n\nhi\n\n";
+
+// A run delivers so many messages by so many calls, and a second one makes three calls and changes nothing.
+fn delivers(
+    alloc: Global,
+    text: &[u8],
+    messages: u64,
+    calls: u64,
+    files: &[(Sub, &str, &str)],
+) -> bool {
+    let mut folder = MemFolder::new(alloc);
+    run_over(alloc, &mut folder, text) == Ok(report(messages, 0, messages, 0))
+        && folder.calls() == calls
+        && holds(&folder, files)
+        && run_over(alloc, &mut folder, text) == Ok(report(messages, messages, 0, 0))
+        && folder.calls() == calls.saturating_add(3)
+        && holds(&folder, files)
+}
+
+// In each row also second_run_changes_nothing.
 #[test]
-fn undisturbed_runs(rt: HostRuntime) -> Result<(), Fail> {
-    let flagged: &[u8] =
-        b"From a\tb@c Thu Jan  1 00:00:00 1970\nStatus: RO\nX-Status: AF\n\nhi\n\n";
-    let rows: [(&str, &[u8], u64, u64, usize, usize); 4] = [
-        ("empty_text", b"", 0, 3, 0, 0),
-        ("unended_line", UNENDED, 1, 5, 1, 0),
-        ("equal_empty_messages", TWO_EMPTY, 2, 7, 2, 0),
-        ("all_flags", flagged, 1, 5, 0, 1),
-    ];
-    for (name, text, messages, calls, in_new, in_cur) in rows {
-        let mut folder = MemFolder::new(rt.alloc());
-        assert!(rt;
-            run_over(rt.alloc(), &mut folder, text) == Ok(report(messages, 0, messages, 0)),
-            "{name}"
-        );
-        assert_eq!(rt; folder.calls(), calls, "{name}");
-        assert_eq!(rt; folder.count(Sub::Tmp), 0, "{name}");
-        assert_eq!(rt; folder.count(Sub::New), in_new, "{name}");
-        assert_eq!(rt; folder.count(Sub::Cur), in_cur, "{name}");
-        // second_run_changes_nothing
-        assert!(rt;
-            run_over(rt.alloc(), &mut folder, text) == Ok(report(messages, messages, 0, 0)),
-            "{name}, again"
-        );
-        assert_eq!(rt; folder.calls(), calls.saturating_add(3), "{name}, again");
-        assert_eq!(rt; folder.count(Sub::New), in_new, "{name}, again");
-    }
-    let mut folder = MemFolder::new(rt.alloc());
-    assert!(rt; run_over(rt.alloc(), &mut folder, TWO_EMPTY).is_ok());
-    assert!(rt; run_over(rt.alloc(), &mut folder, UNENDED).is_ok());
-    assert!(rt; run_over(rt.alloc(), &mut folder, flagged).is_ok());
-    assert!(rt; folder.bytes_of(Sub::New, EMPTY_ONE) == Some(b"".as_slice()));
-    assert!(rt; folder.bytes_of(Sub::New, EMPTY_TWO) == Some(b"".as_slice()));
-    assert!(rt; folder.bytes_of(Sub::New, ABC) == Some(b"abc".as_slice()));
+fn undisturbed_runs(rt: HostRuntime) {
+    let alloc = rt.alloc();
+    assert!(rt; delivers(alloc, b"", 0, 3, &[]), "empty_text");
+    let abc = [(Sub::New, ABC, "abc")];
+    assert!(rt; delivers(alloc, UNENDED, 1, 5, &abc), "unended_line");
+    let two = [(Sub::New, EMPTY_ONE, ""), (Sub::New, EMPTY_TWO, "")];
     assert!(rt;
-        folder.bytes_of(Sub::Cur, FLAGGED) == Some(b"Status: RO\nX-Status: AF\n\nhi\n".as_slice())
+        delivers(alloc, TWO_EMPTY, 2, 7, &two),
+        "equal_empty_messages"
     );
-    Ok(())
+    let flagged = [(Sub::Cur, FLAGGED, "Status: RO\nX-Status: AF\n\nhi\n")];
+    assert!(rt; delivers(alloc, ALL_FLAGS, 1, 5, &flagged), "all_flags");
 }
 
 #[test]
@@ -68,66 +64,65 @@ fn no_from_line(rt: HostRuntime) {
 
 #[test]
 fn leftover_is_swept(rt: HostRuntime) -> Result<(), Fail> {
-    let mut folder = MemFolder::new(rt.alloc());
-    put(rt.alloc(), &mut folder, Sub::Tmp, ABC, b"a")?;
-    put(
-        rt.alloc(),
-        &mut folder,
-        Sub::Tmp,
-        "1700000000.M1.host",
-        b"z",
-    )?;
-    assert!(rt; run_over(rt.alloc(), &mut folder, UNENDED) == Ok(report(1, 0, 1, 1)));
+    let alloc = rt.alloc();
+    let mut folder = MemFolder::new(alloc);
+    put(alloc, &mut folder, Sub::Tmp, ABC, b"a")?;
+    put(alloc, &mut folder, Sub::Tmp, "1700000000.M1.host", b"z")?;
+    assert!(rt; run_over(alloc, &mut folder, UNENDED) == Ok(report(1, 0, 1, 1)));
     assert_eq!(rt; folder.calls(), 6);
-    assert_eq!(rt; folder.count(Sub::Tmp), 1);
-    assert!(rt; folder.bytes_of(Sub::Tmp, "1700000000.M1.host") == Some(b"z".as_slice()));
-    assert!(rt; folder.bytes_of(Sub::New, ABC) == Some(b"abc".as_slice()));
+    let files = [
+        (Sub::Tmp, "1700000000.M1.host", "z"),
+        (Sub::New, ABC, "abc"),
+    ];
+    assert!(rt; holds(&folder, &files));
     Ok(())
+}
+
+// A run over a source that fails behind these bytes, and one over the whole text, which leaves these files.
+fn goes_on(
+    alloc: Global,
+    front: &[u8],
+    piece: usize,
+    whole: &[u8],
+    files: &[(Sub, &str, &str)],
+) -> bool {
+    let mut folder = MemFolder::new(alloc);
+    let mut source = Cut::new(front, piece, Then::Fails);
+    if convert(alloc, &mut folder, &mut source, LIMIT) != Err(RunFault::ReadFault) {
+        return false;
+    }
+    let there = folder.count(Sub::New) as u64;
+    let messages = files.len() as u64;
+    let placed = messages.saturating_sub(there);
+    run_over(alloc, &mut folder, whole) == Ok(report(messages, there, placed, 0))
+        && holds(&folder, files)
 }
 
 #[test]
 fn source_fails(rt: HostRuntime) {
     let whole: &[u8] = b"From x\nabc\n\nFrom y\nhello\n";
+    let files = [
+        (Sub::New, ABC_LINE, "abc\n"),
+        (Sub::New, HELLO_LINE, "hello\n"),
+    ];
     for piece in [1, 65_536] {
-        let mut folder = MemFolder::new(rt.alloc());
-        let mut source = Cut::new(&whole[..22], piece, Then::Fails);
         assert!(rt;
-            convert(rt.alloc(), &mut folder, &mut source, LIMIT) == Err(RunFault::ReadFault)
+            goes_on(rt.alloc(), &whole[..22], piece, whole, &files),
+            "{piece}"
         );
-        let there = folder.count(Sub::New) as u64;
-        assert!(rt; there < 2);
-        assert!(rt; there == 0 || folder.bytes_of(Sub::New, ABC_LINE) == Some(b"abc\n".as_slice()));
-        assert!(rt; run_over(rt.alloc(), &mut folder, whole) == Ok(report(2, there, 2 - there, 0)));
-        assert!(rt; folder.bytes_of(Sub::New, ABC_LINE) == Some(b"abc\n".as_slice()));
-        assert!(rt; folder.bytes_of(Sub::New, HELLO_LINE) == Some(b"hello\n".as_slice()));
-        assert_eq!(rt; folder.count(Sub::New), 2);
     }
 }
 
 #[test]
 fn every_front_of_a_text(rt: HostRuntime) {
+    let files = [
+        (Sub::New, EMPTY_ONE, ""),
+        (Sub::New, EMPTY_TWO, ""),
+        (Sub::New, ABC, "abc"),
+    ];
     for k in 0..=THREE.len() {
-        let mut folder = MemFolder::new(rt.alloc());
-        let mut source = Cut::new(&THREE[..k], 1, Then::Fails);
         assert!(rt;
-            convert(rt.alloc(), &mut folder, &mut source, LIMIT) == Err(RunFault::ReadFault),
-            "{k} bytes"
-        );
-        assert!(rt;
-            run_over(rt.alloc(), &mut folder, THREE).is_ok(),
-            "{k} bytes"
-        );
-        assert_eq!(rt; folder.count(Sub::New), 3, "{k} bytes");
-        assert!(rt;
-            folder.bytes_of(Sub::New, EMPTY_ONE) == Some(b"".as_slice()),
-            "{k} bytes"
-        );
-        assert!(rt;
-            folder.bytes_of(Sub::New, EMPTY_TWO) == Some(b"".as_slice()),
-            "{k} bytes"
-        );
-        assert!(rt;
-            folder.bytes_of(Sub::New, ABC) == Some(b"abc".as_slice()),
+            goes_on(rt.alloc(), &THREE[..k], 1, THREE, &files),
             "{k} bytes"
         );
     }
@@ -198,18 +193,29 @@ fn names_that_are_nearly_ours(rt: HostRuntime) -> Result<(), Fail> {
             "{name}"
         );
     }
+    Ok(())
+}
+
+#[test]
+fn a_colon_and_no_info(rt: HostRuntime) -> Result<(), Fail> {
+    let alloc = rt.alloc();
+    let name = "ba7816bf8f01cfea414140de5dae2223b00361a396177a9cb410ff61f20015ad.1:";
     let mut folder = MemFolder::new(alloc);
-    put(
-        alloc,
-        &mut folder,
-        Sub::Cur,
-        "ba7816bf8f01cfea414140de5dae2223b00361a396177a9cb410ff61f20015ad.1:",
-        b"abc",
-    )?;
+    put(alloc, &mut folder, Sub::Cur, name, b"abc")?;
     assert!(rt; run_over(alloc, &mut folder, UNENDED) == Ok(report(1, 1, 0, 0)));
-    // a folder that is not sound
+    assert!(rt; holds(&folder, &[(Sub::Cur, name, "abc")]));
+    Ok(())
+}
+
+// A folder with two homes of one base: what is there stays.
+#[test]
+fn folder_that_is_not_sound(rt: HostRuntime) -> Result<(), Fail> {
+    let alloc = rt.alloc();
+    let name = "ba7816bf8f01cfea414140de5dae2223b00361a396177a9cb410ff61f20015ad.1:2,";
+    let mut folder = MemFolder::new(alloc);
+    put(alloc, &mut folder, Sub::Cur, name, b"abc")?;
     put(alloc, &mut folder, Sub::New, ABC, b"x")?;
     assert!(rt; run_over(alloc, &mut folder, UNENDED) == Ok(report(1, 1, 0, 0)));
-    assert!(rt; folder.bytes_of(Sub::New, ABC) == Some(b"x".as_slice()));
+    assert!(rt; holds(&folder, &[(Sub::New, ABC, "x"), (Sub::Cur, name, "abc")]));
     Ok(())
 }

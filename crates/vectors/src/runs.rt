@@ -51,3 +51,17 @@ pub(crate) fn put(
     folder.put(sub, name, bytes)?;
     Ok(())
 }
+
+// Whether the folder has these files, each with this text, and no others.
+pub(crate) fn holds(folder: &MemFolder, files: &[(Sub, &str, &str)]) -> bool {
+    for &(sub, name, text) in files {
+        if folder.bytes_of(sub, name) != Some(text.as_bytes()) {
+            return false;
+        }
+    }
+    let in_all = folder
+        .count(Sub::Tmp)
+        .saturating_add(folder.count(Sub::New))
+        .saturating_add(folder.count(Sub::Cur));
+    in_all == files.len()
+}

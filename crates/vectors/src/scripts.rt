@@ -27,6 +27,10 @@ pub(crate) fn put_other(alloc: Global, sub: Sub, name: &str) -> Result<Act, Allo
     ))
 }
 
+pub(crate) fn drop_other(alloc: Global, sub: Sub, name: &str) -> Result<Act, AllocError> {
+    Ok(Act::DropOther(sub, String::from_str(alloc, name)?))
+}
+
 pub(crate) fn line(call: u64, acts: Vec<Act>, mode: Mode) -> ScriptLine {
     ScriptLine { call, acts, mode }
 }

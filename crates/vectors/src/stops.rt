@@ -1,5 +1,7 @@
 // Runs that are broken off at a call of the folder, and the run after them.
-use crate::runs::{ABC, EMPTY_ONE, EMPTY_TWO, THREE, UNENDED, put, report, run_over};
+use crate::runs::{
+    ABC, EMPTY_ONE, EMPTY_TWO, THREE, TWO_EMPTY, UNENDED, holds, put, report, run_over,
+};
 use crate::scripts::line;
 use maildir_run::{Act, MemFolder, Mode, RunFault, Sub};
 use std::alloc::Global;
@@ -11,21 +13,23 @@ fn stop_at(alloc: Global, folder: &mut MemFolder, call: u64, mode: Mode) -> Resu
     Ok(())
 }
 
-// The three messages are there, and nothing else is.
-fn holds_three(folder: &MemFolder) -> bool {
-    folder.count(Sub::Tmp) == 0
-        && folder.count(Sub::New) == 3
-        && folder.count(Sub::Cur) == 0
-        && folder.bytes_of(Sub::New, EMPTY_ONE) == Some(b"".as_slice())
-        && folder.bytes_of(Sub::New, EMPTY_TWO) == Some(b"".as_slice())
-        && folder.bytes_of(Sub::New, ABC) == Some(b"abc".as_slice())
-}
-
-// An undisturbed run answers this, and leaves the three messages.
+// An undisturbed run answers this, and leaves the three messages and nothing else.
 fn run_repairs(alloc: Global, folder: &mut MemFolder, there: u64, swept: u64) -> bool {
     folder.script(Vec::new(alloc), None);
-    run_over(alloc, folder, THREE) == Ok(report(3, there, 3u64.saturating_sub(there), swept))
-        && holds_three(folder)
+    let placed = 3u64.saturating_sub(there);
+    let files = [
+        (Sub::New, EMPTY_ONE, ""),
+        (Sub::New, EMPTY_TWO, ""),
+        (Sub::New, ABC, "abc"),
+    ];
+    run_over(alloc, folder, THREE) == Ok(report(3, there, placed, swept)) && holds(folder, &files)
+}
+
+// A run stops at this call, and the next one finds and sweeps so many.
+fn stops_at(alloc: Global, folder: &mut MemFolder, call: u64, there: u64, swept: u64) -> bool {
+    run_over(alloc, folder, THREE) == Err(RunFault::FolderFailed(call))
+        && folder.calls() == call
+        && run_repairs(alloc, folder, there, swept)
 }
 
 #[test]
@@ -53,12 +57,7 @@ fn a_stop_at_each_call(rt: HostRuntime) -> Result<(), Fail> {
             let mut folder = MemFolder::new(alloc);
             stop_at(alloc, &mut folder, call, mode)?;
             assert!(rt;
-                run_over(alloc, &mut folder, THREE) == Err(RunFault::FolderFailed(call)),
-                "{mode:?} at {call}"
-            );
-            assert_eq!(rt; folder.calls(), call, "{mode:?} at {call}");
-            assert!(rt;
-                run_repairs(alloc, &mut folder, there, swept),
+                stops_at(alloc, &mut folder, call, there, swept),
                 "{mode:?} at {call}"
             );
         }
@@ -66,11 +65,7 @@ fn a_stop_at_each_call(rt: HostRuntime) -> Result<(), Fail> {
         let mut folder = MemFolder::new(alloc);
         folder.script(Vec::new(alloc), Some(call));
         assert!(rt;
-            run_over(alloc, &mut folder, THREE) == Err(RunFault::FolderFailed(call)),
-            "from {call} on"
-        );
-        assert!(rt;
-            run_repairs(alloc, &mut folder, there, swept),
+            stops_at(alloc, &mut folder, call, there, swept),
             "from {call} on"
         );
     }
@@ -85,10 +80,10 @@ fn a_call_comes_twice(rt: HostRuntime) -> Result<(), Fail> {
         stop_at(alloc, &mut folder, call, Mode::Twice)?;
         assert!(rt;
             run_over(alloc, &mut folder, THREE) == Ok(report(3, 0, 3, 0)),
-            "call {call}"
+            "{call}"
         );
-        assert_eq!(rt; folder.calls(), 9, "call {call}");
-        assert!(rt; holds_three(&folder), "call {call}");
+        assert_eq!(rt; folder.calls(), 9, "{call}");
+        assert!(rt; run_repairs(alloc, &mut folder, 3, 0), "{call}");
     }
     Ok(())
 }
@@ -99,9 +94,12 @@ fn fails_after_the_effect(rt: HostRuntime) -> Result<(), Fail> {
     let mut folder = MemFolder::new(alloc);
     stop_at(alloc, &mut folder, 7, Mode::FailAfter)?;
     assert!(rt; run_over(alloc, &mut folder, THREE) == Err(RunFault::FolderFailed(7)));
-    assert_eq!(rt; folder.count(Sub::New), 2);
-    assert!(rt; folder.bytes_of(Sub::New, EMPTY_ONE) == Some(b"".as_slice()));
-    assert!(rt; folder.bytes_of(Sub::New, EMPTY_TWO) == Some(b"".as_slice()));
+    assert!(rt;
+        holds(
+            &folder,
+            &[(Sub::New, EMPTY_ONE, ""), (Sub::New, EMPTY_TWO, "")]
+        )
+    );
     assert!(rt; run_repairs(alloc, &mut folder, 2, 0));
     assert_eq!(rt; folder.calls(), 5);
     Ok(())
@@ -113,8 +111,12 @@ fn half_written(rt: HostRuntime) -> Result<(), Fail> {
     let mut folder = MemFolder::new(alloc);
     stop_at(alloc, &mut folder, 8, Mode::Half)?;
     assert!(rt; run_over(alloc, &mut folder, THREE) == Err(RunFault::FolderFailed(8)));
-    assert_eq!(rt; folder.count(Sub::Tmp), 1);
-    assert!(rt; folder.bytes_of(Sub::Tmp, ABC) == Some(b"a".as_slice()));
+    let files = [
+        (Sub::Tmp, ABC, "a"),
+        (Sub::New, EMPTY_ONE, ""),
+        (Sub::New, EMPTY_TWO, ""),
+    ];
+    assert!(rt; holds(&folder, &files));
     assert!(rt; run_repairs(alloc, &mut folder, 2, 1));
     assert_eq!(rt; folder.calls(), 6);
     Ok(())
@@ -126,10 +128,14 @@ fn a_stop_in_the_sweep(rt: HostRuntime) -> Result<(), Fail> {
     let mut folder = MemFolder::new(alloc);
     stop_at(alloc, &mut folder, 8, Mode::FailAfter)?;
     assert!(rt; run_over(alloc, &mut folder, THREE) == Err(RunFault::FolderFailed(8)));
-    assert!(rt; folder.bytes_of(Sub::Tmp, ABC) == Some(b"abc".as_slice()));
     stop_at(alloc, &mut folder, 4, Mode::FailAfter)?;
     assert!(rt; run_over(alloc, &mut folder, THREE) == Err(RunFault::FolderFailed(4)));
-    assert_eq!(rt; folder.count(Sub::Tmp), 0);
+    assert!(rt;
+        holds(
+            &folder,
+            &[(Sub::New, EMPTY_ONE, ""), (Sub::New, EMPTY_TWO, "")]
+        )
+    );
     assert!(rt; run_repairs(alloc, &mut folder, 2, 0));
     assert_eq!(rt; folder.calls(), 5);
     Ok(())
@@ -154,7 +160,7 @@ fn nothing_to_place(rt: HostRuntime) -> Result<(), Fail> {
             run_over(alloc, &mut folder, UNENDED) == Err(fault),
             "{mode:?}"
         );
-        assert_eq!(rt; folder.count(Sub::New), 0, "{mode:?}");
+        assert!(rt; holds(&folder, &[]), "{mode:?}");
     }
     Ok(())
 }
@@ -170,7 +176,7 @@ fn tmp_is_listed_first(rt: HostRuntime) -> Result<(), Fail> {
         folder.script(vec![in alloc; line(call, acts, Mode::Plain)]?, None);
         assert!(rt;
             run_over(alloc, &mut folder, UNENDED) == Ok(report(1, 0, 1, swept)),
-            "gone before call {call}"
+            "{call}"
         );
     }
     Ok(())
@@ -185,8 +191,25 @@ fn the_sweep_comes_before_the_messages(rt: HostRuntime) -> Result<(), Fail> {
     stop_at(alloc, &mut folder, 5, Mode::Half)?;
     assert!(rt; run_over(alloc, &mut folder, UNENDED) == Err(RunFault::FolderFailed(5)));
     assert_eq!(rt; folder.calls(), 5);
-    assert_eq!(rt; folder.count(Sub::Tmp), 1);
-    assert!(rt; folder.bytes_of(Sub::Tmp, ABC) == Some(b"a".as_slice()));
-    assert_eq!(rt; folder.count(Sub::New), 0);
+    assert!(rt; holds(&folder, &[(Sub::Tmp, ABC, "a")]));
+    Ok(())
+}
+
+// A text whose run broke off, another one that shares a message with it, and the first again.
+#[test]
+fn two_texts(rt: HostRuntime) -> Result<(), Fail> {
+    let alloc = rt.alloc();
+    let mut folder = MemFolder::new(alloc);
+    stop_at(alloc, &mut folder, 5, Mode::FailAfter)?;
+    assert!(rt; run_over(alloc, &mut folder, TWO_EMPTY) == Err(RunFault::FolderFailed(5)));
+    folder.script(Vec::new(alloc), None);
+    assert!(rt; run_over(alloc, &mut folder, b"From c\n\n") == Ok(report(1, 1, 0, 0)));
+    assert!(rt; run_over(alloc, &mut folder, TWO_EMPTY) == Ok(report(2, 1, 1, 0)));
+    assert!(rt;
+        holds(
+            &folder,
+            &[(Sub::New, EMPTY_ONE, ""), (Sub::New, EMPTY_TWO, "")]
+        )
+    );
     Ok(())
 }
