@@ -1,5 +1,5 @@
 // A message in its regular spelling, written to any writer.
-ghost use Rattle.std.specs.Prelude.{◌≡◌, ◌<◌, ◌≤◌, ◌++◌, ◌⊎◌, [], ◌∷◌, length, take, drop, IfErr};
+ghost use Rattle.std.specs.Prelude.{◌≡◌, ◌<◌, ◌≤◌, ◌++◌, ◌⊎◌, [], ◌∷◌, length, take, drop, IfErr, IsOk};
 ghost use Rattle.std.specs.List.{flat_map};
 ghost use Rattle.mbox_text.specs.Lines.{lines, Ended};
 ghost use Rattle.mbox_text.specs.Quoting.{quoted};
@@ -35,7 +35,11 @@ pub fn write_entry<W: Write>(entry: &Entry, out: &mut W) -> Result<(), TextFault
 pub fn write_bytes<W: Write>(bytes: &[u8], out: &mut W) -> Result<(), TextFault>
     ensures written { Writes (W.contents out.old) (W.contents out.new) result bytes.now }
     ensures causes { IfErr result (λ fault. fault ≡ TextFault.WriteFault) }
+    ensures empty { bytes.now ≡ [] → IsOk result }
 {
+    if bytes.is_empty() {
+        return Ok(());
+    }
     let mut at = 0;
     'writes: for _ in 0..u64::MAX {
         if at >= bytes.len() {
