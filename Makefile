@@ -32,11 +32,12 @@ run: $(PROGRAM)
 	cd $(MAILDIR) && ls -l new cur
 	$(PROGRAM) convert $(MAILDIR) $(MAILBOXES)
 
-# The documents, the gate, and then the tests that run the built program.
+# The documents, the gate, and then the tests that run what it has built.
 test:
 	tests/promises.py
 	rt ci
-	$(MAKE) $(PROGRAM)
+	mkdir -p build
+	cp $(CRATE)/out/mbox2maildir $(PROGRAM)
 	tests/run
 
 install: $(PROGRAM)
