@@ -1,7 +1,7 @@
 // Several files into one Maildir, in the order of the words.
-use super::*;
 use super::failures::{NO_OUTPUT, Narrow};
 use super::words::NO_FROM_LINE;
+use super::*;
 use crate::faulty::{Faulty, Script};
 use crate::scratch::fresh;
 use std::rc::Rc;
