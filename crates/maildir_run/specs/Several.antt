@@ -77,6 +77,12 @@ HaveOwnDigests texts = OfEach (λ m. OfEach (λ n. digest_text m.body ≡ digest
 abbrev pub IsUnknown : Files → List ℕ → Type 0
 IsUnknown s body = (b : List ℕ) → IsTrue (is_converter_base b) → take 64 b ≡ digest_text body → homes s b ≡ []
 
+-- What is wanted of several texts and of the folder before any run over them.
+pub record AreFresh (texts : List Text) (s : Files) : Type 0 where
+  pub are : All IsText texts
+  pub own : HaveOwnDigests texts
+  pub unknown : OfEach (λ m. IsUnknown s m.body) texts
+
 -- A body is there n times: its bases with the numbers 1 to n have exactly one home each, which holds the body, and no other converter's base with its digest has a home.
 pub record IsThere (n : ℕ) (body : List ℕ) (s : Files) : Type 0 where
   pub up_to : (k : ℕ) → k < n → homes s (numbered body (k + 1)) ≡ body ∷ []

@@ -14,7 +14,7 @@ ghost use Rattle.maildir_run.specs.Calls.Call.{Placing};
 ghost use Rattle.maildir_run.specs.Delivery.{Message, leftover_count, IsMissing, IsHome, AreNamed, AreDistinct, Sound, Delivered};
 ghost use Rattle.maildir_run.specs.Texts.{MessagesOf};
 ghost use Rattle.maildir_run.specs.Runs.{Link, Run, Runs};
-ghost use Rattle.maildir_run.specs.Several.{Text, IsText, OfEach, SoundForAll, LinkOver, RunsOver, link_over, link_of, HaveOwnDigests, IsUnknown, StandsAfter};
+ghost use Rattle.maildir_run.specs.Several.{Text, IsText, OfEach, SoundForAll, LinkOver, RunsOver, link_over, link_of, AreFresh, StandsAfter};
 ghost use Rattle.maildir_run.specs.Several.LinkOver.{RanOver};
 ghost use Rattle.maildir_run.specs.Alone.{alone};
 ghost use Rattle.maildir_run.specs.Plan.{planned, each_alone};
@@ -105,14 +105,12 @@ pub fn after_any_runs()
 /// bodies are to have distinct digests.
 pub fn several_texts()
     ensures sound { (texts : List Text) (links : List LinkOver) (old new : Files) →
-        All IsText texts → HaveOwnDigests texts → OfEach (λ m. IsUnknown old m.body) texts →
-        RunsOver texts links old new → SoundForAll texts old new }
+        AreFresh texts old → RunsOver texts links old new → SoundForAll texts old new }
     ensures counted { (texts : List Text) (links : List LinkOver) (old new : Files) →
-        All IsText texts → HaveOwnDigests texts → OfEach (λ m. IsUnknown old m.body) texts →
-        RunsOver texts links old new → OfEach (λ m. StandsAfter links m.body new) texts }
+        AreFresh texts old → RunsOver texts links old new →
+        OfEach (λ m. StandsAfter links m.body new) texts }
     ensures whole { (texts : List Text) (links : List LinkOver) (old new : Files) (text : Text) (report : Report) →
-        All IsText texts → HaveOwnDigests texts → OfEach (λ m. IsUnknown old m.body) texts →
-        RunsOver texts links old new → Contains links (RanOver text (Ok report)) →
+        AreFresh texts old → RunsOver texts links old new → Contains links (RanOver text (Ok report)) →
         All (IsHome new) text.messages }
 {}
 
