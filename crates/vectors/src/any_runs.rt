@@ -11,12 +11,12 @@ use std::test::Fail;
 
 // Numbers that look random: a linear congruential generator (Knuth's, for 64 bits).
 #[derive(Drop)]
-struct Dice {
-    state: u64,
+pub(crate) struct Dice {
+    pub state: u64,
 }
 
 impl Dice {
-    fn below(&mut self, sides: usize) -> usize
+    pub(crate) fn below(&mut self, sides: usize) -> usize
         requires { 0 < sides }
         ensures { result < sides }
     {
@@ -45,7 +45,7 @@ fn any_act(alloc: Global, dice: &mut Dice, targets: &[Target]) -> Result<Act, Al
     }
 }
 
-fn any_script(
+pub(crate) fn any_script(
     alloc: Global,
     dice: &mut Dice,
     targets: &[Target],
@@ -90,7 +90,7 @@ fn homes_in(
 }
 
 // Each message has exactly one home, which holds its body, and no converter's name is left in `tmp`.
-fn is_delivered(
+pub(crate) fn is_delivered(
     folder: &mut MemFolder,
     targets: &[Target],
     messages: &[Entry],
@@ -115,7 +115,7 @@ fn is_delivered(
     Ok(true)
 }
 
-fn targets_of(alloc: Global, messages: &[Entry]) -> Result<Vec<Target>, Fail> {
+pub(crate) fn targets_of(alloc: Global, messages: &[Entry]) -> Result<Vec<Target>, Fail> {
     let mut namer = Namer::new(alloc);
     let mut targets = Vec::new(alloc);
     for message in messages {

@@ -7,6 +7,8 @@
 #[cfg(test)]
 mod any_runs;
 #[cfg(test)]
+mod any_texts;
+#[cfg(test)]
 mod converting;
 #[cfg(test)]
 mod disturbed;

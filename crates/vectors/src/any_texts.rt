@@ -1,0 +1,98 @@
+// Lists of texts in any order, with broken and disturbed runs between: they share the messages that are equal.
+use crate::any_runs::{Dice, any_script, is_delivered, targets_of};
+use crate::runs::{THREE, TWO_EMPTY, run_over};
+use maildir_name::{Target, is_converter_name};
+use maildir_run::{Folder, MemFolder, Sub};
+use mbox_text::split_all;
+use std::alloc::Global;
+use std::collections::BTreeSet;
+use std::test::Fail;
+
+// A run over a text in a disturbed folder, whatever it answers.
+fn disturb(
+    alloc: Global,
+    dice: &mut Dice,
+    folder: &mut MemFolder,
+    text: &[u8],
+) -> Result<(), Fail> {
+    let messages = split_all(alloc, text)?;
+    let targets = targets_of(alloc, &messages)?;
+    let lines = any_script(alloc, dice, &targets)?;
+    folder.script(lines, Some(1 + dice.below(12) as u64));
+    let _ = run_over(alloc, folder, text);
+    folder.script(Vec::new(alloc), None);
+    Ok(())
+}
+
+fn add_bases(alloc: Global, bases: &mut BTreeSet<String>, targets: &[Target]) -> Result<(), Fail> {
+    for target in targets {
+        bases.insert(String::from_str(alloc, target.base.as_str())?)?;
+    }
+    Ok(())
+}
+
+// How many of the names in one folder are a converter's.
+fn ours(folder: &mut MemFolder, sub: Sub) -> Result<usize, Fail> {
+    let mut count = 0usize;
+    for name in &folder.list(sub)? {
+        if is_converter_name(name.as_str()) {
+            count = count.saturating_add(1);
+        }
+    }
+    Ok(count)
+}
+
+// A run over each of the texts, with broken runs over any of them before it: whether each message of each text is there
+// once then, and no other name is ours.
+fn ends_shared(alloc: Global, dice: &mut Dice, texts: &[&[u8]]) -> Result<bool, Fail> {
+    let mut folder = MemFolder::new(alloc);
+    for text in texts {
+        for other in texts {
+            if dice.below(2) == 0 {
+                disturb(alloc, dice, &mut folder, other)?;
+            }
+        }
+        if run_over(alloc, &mut folder, text).is_err() {
+            return Ok(false);
+        }
+    }
+    let mut bases = BTreeSet::new(alloc);
+    for text in texts {
+        let messages = split_all(alloc, text)?;
+        let targets = targets_of(alloc, &messages)?;
+        if !is_delivered(&mut folder, &targets, &messages)? {
+            return Ok(false);
+        }
+        add_bases(alloc, &mut bases, &targets)?;
+    }
+    let in_new = ours(&mut folder, Sub::New)?;
+    let in_cur = ours(&mut folder, Sub::Cur)?;
+    Ok(in_new.saturating_add(in_cur) == bases.len())
+}
+
+#[test]
+fn any_texts_in_any_order(rt: HostRuntime) -> Result<(), Fail> {
+    let all: [&[u8]; 6] = [
+        TWO_EMPTY,
+        b"From c\n\n",
+        b"From a\n\nFrom b\n\nFrom d\n\n",
+        THREE,
+        b"From x\nabc\nFrom y\nStatus: O\n\nhi\n\nFrom z\nabc",
+        b"From y\nStatus: O\n\nhi\n\nFrom q\n>From r\n\n",
+    ];
+    for seed in 0..300u64 {
+        let mut dice = Dice { state: seed };
+        let texts: [&[u8]; 4] = [
+            all[dice.below(6)],
+            all[dice.below(6)],
+            all[dice.below(6)],
+            all[dice.below(6)],
+        ];
+        let n = 1 + dice.below(4);
+        assert!(rt;
+            ends_shared(rt.alloc(), &mut dice, &texts[..n])?,
+            "seed {seed}"
+        );
+    }
+    Ok(())
+}
