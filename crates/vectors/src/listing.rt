@@ -72,7 +72,7 @@ fn refusals(rt: HostRuntime) {
     let rows: [(&[u8], Then, u64, RunFault); 5] = [
         (b"Subject: x\n", Then::Ends, LIMIT, RunFault::NoFromLine),
         (b"Fro", Then::Ends, LIMIT, RunFault::NoFromLine),
-        (b"From x\n", Then::GoesOn, 5, RunFault::TooManyReads),
+        (b"From x\n", Then::GoesOn, 12, RunFault::TooManyReads),
         (b"From x\nabc", Then::Fails, LIMIT, RunFault::ReadFault),
         (b"", Then::Ends, 0, RunFault::TooManyReads),
     ];

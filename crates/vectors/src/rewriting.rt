@@ -134,3 +134,22 @@ fn output_fails(rt: HostRuntime) {
         assert!(rt; out.taken.as_slice() == b"From".as_slice());
     }
 }
+
+// A writer that takes one byte each time, and one that takes none.
+#[test]
+fn slow_outputs(rt: HostRuntime) {
+    for (piece, want, taken) in [
+        (1, Ok(1), b"From x\nabc\n\n".as_slice()),
+        (0, Err(RunFault::OutputFault), b"".as_slice()),
+    ] {
+        let mut out = Narrow {
+            taken: Vec::new(rt.alloc()),
+            room: 100,
+            piece,
+            fails: false,
+        };
+        let mut source = Cut::new(b"From x\nabc", 65_536, Then::Ends);
+        assert!(rt; rewrite(rt.alloc(), &mut source, &mut out, LIMIT) == want);
+        assert!(rt; out.taken.as_slice() == taken);
+    }
+}
