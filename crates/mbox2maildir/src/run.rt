@@ -1,5 +1,5 @@
 // The program's work: its words, its streams and its status.
-ghost use Rattle.std.specs.Prelude.{◌≡◌, ◌↔◌, ◌++◌, ◌+◌, ◌*◌, ◌-◌, ◌^◌, min, map, codes, string_bytes, IfSome, OnOk};
+ghost use Rattle.std.specs.Prelude.{◌≡◌, ◌↔◌, ◌++◌, ◌+◌, ◌*◌, ◌-◌, ◌^◌, min, map, codes, string_bytes, IfErr, IfSome, OnOk};
 ghost use Rattle.std.specs.Io.KnownBytes.{Appends, Keeps};
 ghost use Rattle.mbox2maildir.specs.Report.{report_line};
 ghost use Rattle.mbox2maildir.specs.Words.{AreOfAForm};
@@ -153,7 +153,8 @@ fn calls_of(report: Report) -> u64
 }
 
 fn print_report<W: Write>(report: Report, out: &mut W) -> Result<(), RunFault>
-    ensures { OnOk result (Appends (W.contents out.old) (W.contents out.new) (report_line report)) }
+    ensures printed { OnOk result (Appends (W.contents out.old) (W.contents out.new) (report_line report)) }
+    ensures causes { IfErr result (λ fault. fault ≡ RunFault.OutputFault) }
 {
     let Report {
         messages,
