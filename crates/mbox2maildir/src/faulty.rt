@@ -8,54 +8,75 @@ use std::rc::Rc;
 use std::rt::{Clock, Files};
 use std::time::{Duration, UNIX_EPOCH};
 
+// What goes wrong.
+#[derive(Clone, Copy)]
+pub(crate) struct Faults {
+    // the call of the file system that fails, counted from 0, and the kind of its error
+    pub at: u64,
+    pub kind: ErrorKind,
+    // whether the clocks cannot be read
+    pub no_clock: bool,
+    // how many readings of a folder see it change
+    pub changes: u64,
+    // whether every other write is interrupted, and takes one byte at most
+    pub interrupts: bool,
+    // whether what is read begins with a byte that no UTF-8 has
+    pub garbles: bool,
+}
+
+impl Faults {
+    pub(crate) const NONE: Faults = Faults {
+        at: u64::MAX,
+        kind: ErrorKind::Other,
+        no_clock: false,
+        changes: 0,
+        interrupts: false,
+        garbles: false,
+    };
+}
+
 // What a test sets, and what it sees afterwards.
 #[derive(Drop)]
 pub(crate) struct Script {
-    // the call of the file system that fails, counted from 0, the kind of its error, and how many were made
-    pub fails_at: Cell<u64>,
-    pub kind: Cell<ErrorKind>,
+    faults: Cell<Faults>,
+    // how many calls of the file system were made since the faults were set
     pub calls: Cell<u64>,
     // how many files and folders are open
     pub open: Cell<u64>,
-    // the milliseconds that both clocks show, and whether they can be read
+    // the milliseconds that both clocks show: long after any time of modification, if a test sets no other
     pub clock: Cell<u64>,
-    pub clock_fails: Cell<bool>,
-    // how many times a folder was opened to be read, and how many of these readings see it change
+    // how many times a folder was opened to be read
     pub readings: Cell<u64>,
-    pub changes: Cell<u64>,
-    // whether every other write is interrupted, and takes one byte at most
-    pub interrupts: Cell<bool>,
-    // whether what is read begins with a byte that no UTF-8 has
-    pub garbles: Cell<bool>,
 }
 
 impl Script {
-    pub(crate) fn new() -> Script {
+    fn new() -> Script {
         Script {
-            fails_at: Cell::new(u64::MAX),
-            kind: Cell::new(ErrorKind::Other),
+            faults: Cell::new(Faults::NONE),
             calls: Cell::new(0),
             open: Cell::new(0),
-            clock: Cell::new(0),
-            clock_fails: Cell::new(false),
+            clock: Cell::new(u64::MAX / 2),
             readings: Cell::new(0),
-            changes: Cell::new(0),
-            interrupts: Cell::new(false),
-            garbles: Cell::new(false),
         }
     }
 
+    // From here on these faults come.
+    pub(crate) fn begin(&self, faults: Faults) {
+        self.faults.set(faults);
+        self.calls.set(0);
+    }
+
     fn call(&self) -> io::Result<()> {
-        let at = self.calls.get();
+        let (faults, at) = (self.faults.get(), self.calls.get());
         self.calls.set(at.wrapping_add(1));
-        if at == self.fails_at.get() {
-            return Err(io::Error::from(self.kind.get()));
+        if at == faults.at {
+            return Err(io::Error::from(faults.kind));
         }
         Ok(())
     }
 
     fn clock(&self) -> io::Result<Duration> {
-        if self.clock_fails.get() {
+        if self.faults.get().no_clock {
             return Err(io::Error::other("a clock that was to fail"));
         }
         Ok(Duration::from_millis(self.clock.get()))
@@ -102,7 +123,7 @@ impl<T: Read + Drop> Read for Held<T> {
     fn read(&mut self, buf: &mut [u8]) -> io::Result<usize> {
         self.script.call()?;
         let n = self.inner.read(buf)?;
-        if self.script.garbles.get() && n > 0 {
+        if self.script.faults.get().garbles && n > 0 {
             buf[0] = 0xff;
         }
         Ok(n)
@@ -112,7 +133,7 @@ impl<T: Read + Drop> Read for Held<T> {
 impl<T: Write + Drop> Write for Held<T> {
     fn write(&mut self, buf: &[u8]) -> io::Result<usize> {
         self.script.call()?;
-        if !self.script.interrupts.get() {
+        if !self.script.faults.get().interrupts {
             return self.inner.write(buf);
         }
         if self.script.calls.get() % 2 == 0 {
@@ -165,7 +186,7 @@ impl<R: Files> Files for Faulty<R> {
         self.script.call()?;
         let readings = self.script.readings.get();
         self.script.readings.set(readings.wrapping_add(1));
-        if readings < self.script.changes.get() {
+        if readings < self.script.faults.get().changes {
             stamp(&self.rt, path, self.script.clock.get())?;
         }
         self.opened(self.rt.open_dir(path)?)

@@ -1,12 +1,76 @@
 // Folders for tests, in the system's folder for temporary files.
+use std::alloc::AllocError;
+use std::os::unix::fs::PermissionsExt;
 use std::rt::{Env, Files};
 use std::{env, fs, io, process};
 
-// The path of a folder of this name that is not there yet.
-pub(crate) fn fresh(rt: HostRuntime, name: &str) -> io::Result<String> {
-    let temp = env::temp_dir(&rt)?;
-    let (temp, id) = (temp.as_path().as_str(), process::id(rt.process()));
-    let path = format!(in rt.alloc(); "{temp}/mbox2maildir-{id}-{name}")?;
-    let _ = fs::remove_dir_all(&rt, path.as_str());
-    Ok(path)
+// A folder of a test's own, which goes when the test ends. Files and folders in it are named by their path from it.
+pub(crate) struct Scratch {
+    rt: HostRuntime,
+    path: String,
+}
+
+impl Scratch {
+    pub(crate) fn new(rt: HostRuntime, name: &str) -> io::Result<Scratch> {
+        let temp = env::temp_dir(&rt)?;
+        let (temp, id) = (temp.as_path().as_str(), process::id(rt.process()));
+        let path = format!(in rt.alloc(); "{temp}/mbox2maildir-{id}-{name}")?;
+        let _ = fs::remove_dir_all(&rt, path.as_str());
+        fs::create_dir(&rt, path.as_str())?;
+        Ok(Scratch { rt, path })
+    }
+
+    pub(crate) fn path_of(&self, name: &str) -> Result<String, AllocError> {
+        let path = self.path.as_str();
+        format!(in self.rt.alloc(); "{path}/{name}")
+    }
+
+    pub(crate) fn write(&self, name: &str, text: &str) -> io::Result<()> {
+        fs::write(&self.rt, self.path_of(name)?.as_str(), text)
+    }
+
+    pub(crate) fn make_folder(&self, name: &str) -> io::Result<()> {
+        fs::create_dir(&self.rt, self.path_of(name)?.as_str())
+    }
+
+    pub(crate) fn rename(&self, from: &str, to: &str) -> io::Result<()> {
+        let (from, to) = (self.path_of(from)?, self.path_of(to)?);
+        fs::rename(&self.rt, from.as_str(), to.as_str())
+    }
+
+    // Removes a folder and all in it, if it is there.
+    pub(crate) fn clear(&self, name: &str) -> Result<(), AllocError> {
+        let _ = fs::remove_dir_all(&self.rt, self.path_of(name)?.as_str());
+        Ok(())
+    }
+
+    // Whether this file holds this text, and where none is wanted, whether there is no file.
+    pub(crate) fn holds(&self, name: &str, want: Option<&str>) -> Result<bool, AllocError> {
+        let path = self.path_of(name)?;
+        Ok(match (fs::read(&self.rt, path.as_str()), want) {
+            (Ok(bytes), Some(want)) => bytes.as_slice() == want.as_bytes(),
+            (Err(error), None) => error.kind() == io::ErrorKind::NotFound,
+            _ => false,
+        })
+    }
+
+    // How many entries a folder has; `None` where there is no folder.
+    pub(crate) fn count(&self, name: &str) -> Result<Option<usize>, AllocError> {
+        let path = self.path_of(name)?;
+        let names = crate::listing::names(&self.rt, self.rt.alloc(), path.as_str());
+        Ok(names.ok().map(|names| names.len()))
+    }
+
+    // Who may read, write and enter a file or folder.
+    pub(crate) fn mode(&self, name: &str) -> io::Result<u32> {
+        let metadata = fs::metadata(&self.rt, self.path_of(name)?.as_str())?;
+        Ok(metadata.permissions().mode() & 0o777)
+    }
+}
+
+impl Drop for Scratch {
+    fn drop(self) {
+        let Scratch { rt, path } = self;
+        let _ = fs::remove_dir_all(&rt, path.as_str());
+    }
 }

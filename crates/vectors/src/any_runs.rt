@@ -2,9 +2,9 @@
 ghost use Rattle.std.specs.Prelude.{◌<◌};
 
 use crate::runs::{EMPTY_TWO, THREE, run_over};
-use crate::scripts::{drop_other, line, put_other, reflag, to_cur};
+use crate::scripts::Deed;
 use maildir_name::{Namer, Target, base_of, is_converter_name};
-use maildir_run::{Act, Folder, MemFolder, Mode, Report, RunFault, ScriptLine, Sub};
+use maildir_run::{Folder, MemFolder, Mode, Report, RunFault, ScriptLine, Sub};
 use mbox_text::{Entry, split_all};
 use std::alloc::{AllocError, Global};
 use std::test::Fail;
@@ -28,7 +28,7 @@ impl Dice {
     }
 }
 
-fn any_act(alloc: Global, dice: &mut Dice, targets: &[Target]) -> Result<Act, AllocError> {
+fn any_deed<'a>(dice: &mut Dice, targets: &'a [Target]) -> Deed<'a> {
     let infos = ["", ":2,", ":2,F", ":2,FRS", ":2,S"];
     let foreign = ["1700000000.M1.host", "note", "note:2,S"];
     let base = match targets.get(dice.below(4)) {
@@ -37,11 +37,11 @@ fn any_act(alloc: Global, dice: &mut Dice, targets: &[Target]) -> Result<Act, Al
     };
     let sub = [Sub::Tmp, Sub::New, Sub::Cur][dice.below(3)];
     match dice.below(8) {
-        0 | 1 | 2 => to_cur(alloc, base, infos[dice.below(5)]),
-        3 | 4 => reflag(alloc, base, infos[dice.below(5)], infos[dice.below(5)]),
-        5 => Ok(Act::DropTmp(String::from_str(alloc, base)?)),
-        6 => put_other(alloc, sub, foreign[dice.below(3)]),
-        _ => drop_other(alloc, sub, foreign[dice.below(3)]),
+        0 | 1 | 2 => Deed::ToCur(base, infos[dice.below(5)]),
+        3 | 4 => Deed::Reflag(base, infos[dice.below(5)], infos[dice.below(5)]),
+        5 => Deed::DropTmp(base),
+        6 => Deed::PutOther(sub, foreign[dice.below(3)]),
+        _ => Deed::DropOther(sub, foreign[dice.below(3)]),
     }
 }
 
@@ -62,9 +62,10 @@ pub(crate) fn any_script(
     for _ in 0..dice.below(6) {
         let mut acts = Vec::new(alloc);
         for _ in 0..dice.below(4) {
-            acts.push(any_act(alloc, dice, targets)?)?;
+            acts.push(any_deed(dice, targets).act(alloc)?)?;
         }
-        lines.push(line(1 + dice.below(12) as u64, acts, modes[dice.below(6)]))?;
+        let (call, mode) = (1 + dice.below(12) as u64, modes[dice.below(6)]);
+        lines.push(ScriptLine { call, acts, mode })?;
     }
     Ok(lines)
 }

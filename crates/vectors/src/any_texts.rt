@@ -1,7 +1,7 @@
 // Lists of texts in any order, with broken and disturbed runs between: they share the messages that are equal.
 use crate::any_runs::{Dice, any_script, is_delivered, targets_of};
 use crate::runs::{THREE, TWO_EMPTY, run_over};
-use maildir_name::{Target, is_converter_name};
+use maildir_name::is_converter_name;
 use maildir_run::{Folder, MemFolder, Sub};
 use mbox_text::split_all;
 use std::alloc::Global;
@@ -24,13 +24,6 @@ fn disturb(
     Ok(())
 }
 
-fn add_bases(alloc: Global, bases: &mut BTreeSet<String>, targets: &[Target]) -> Result<(), Fail> {
-    for target in targets {
-        bases.insert(String::from_str(alloc, target.base.as_str())?)?;
-    }
-    Ok(())
-}
-
 // How many of the names in one folder are a converter's.
 fn ours(folder: &mut MemFolder, sub: Sub) -> Result<usize, Fail> {
     let mut count = 0usize;
@@ -42,31 +35,51 @@ fn ours(folder: &mut MemFolder, sub: Sub) -> Result<usize, Fail> {
     Ok(count)
 }
 
-// A run over each of the texts, with broken runs over any of them before it: whether each message of each text is there
-// once then, and no other name is ours.
-fn ends_shared(alloc: Global, dice: &mut Dice, texts: &[&[u8]]) -> Result<bool, Fail> {
-    let mut folder = MemFolder::new(alloc);
+// A run over each of the texts, with broken runs over any of them before it: whether each of them answers Ok.
+fn run_over_all(
+    alloc: Global,
+    dice: &mut Dice,
+    folder: &mut MemFolder,
+    texts: &[&[u8]],
+) -> Result<bool, Fail> {
     for text in texts {
         for other in texts {
             if dice.below(2) == 0 {
-                disturb(alloc, dice, &mut folder, other)?;
+                disturb(alloc, dice, folder, other)?;
             }
         }
-        if run_over(alloc, &mut folder, text).is_err() {
+        if run_over(alloc, folder, text).is_err() {
             return Ok(false);
         }
     }
+    Ok(true)
+}
+
+// Whether each message of a text is there once. Its bases are added to the others.
+fn is_at_home(
+    alloc: Global,
+    folder: &mut MemFolder,
+    text: &[u8],
+    bases: &mut BTreeSet<String>,
+) -> Result<bool, Fail> {
+    let messages = split_all(alloc, text)?;
+    let targets = targets_of(alloc, &messages)?;
+    for target in &targets {
+        bases.insert(String::from_str(alloc, target.base.as_str())?)?;
+    }
+    is_delivered(folder, &targets, &messages)
+}
+
+// Whether each message of each text is there once, and no other name is ours.
+fn are_shared(alloc: Global, folder: &mut MemFolder, texts: &[&[u8]]) -> Result<bool, Fail> {
     let mut bases = BTreeSet::new(alloc);
     for text in texts {
-        let messages = split_all(alloc, text)?;
-        let targets = targets_of(alloc, &messages)?;
-        if !is_delivered(&mut folder, &targets, &messages)? {
+        if !is_at_home(alloc, folder, text, &mut bases)? {
             return Ok(false);
         }
-        add_bases(alloc, &mut bases, &targets)?;
     }
-    let in_new = ours(&mut folder, Sub::New)?;
-    let in_cur = ours(&mut folder, Sub::Cur)?;
+    let in_new = ours(folder, Sub::New)?;
+    let in_cur = ours(folder, Sub::Cur)?;
     Ok(in_new.saturating_add(in_cur) == bases.len())
 }
 
@@ -89,8 +102,11 @@ fn any_texts_in_any_order(rt: HostRuntime) -> Result<(), Fail> {
             all[dice.below(6)],
         ];
         let n = 1 + dice.below(4);
+        let texts = &texts[..n];
+        let mut folder = MemFolder::new(rt.alloc());
         assert!(rt;
-            ends_shared(rt.alloc(), &mut dice, &texts[..n])?,
+            run_over_all(rt.alloc(), &mut dice, &mut folder, texts)?
+                && are_shared(rt.alloc(), &mut folder, texts)?,
             "seed {seed}"
         );
     }

@@ -1,15 +1,19 @@
 // Worked runs over the folder in memory. The digests are those of other programs.
+ghost use Rattle.std.specs.Prelude.{◌≤◌, ◌^◌};
+
 use crate::runs::{
-    ABC, EMPTY_ONE, EMPTY_TWO, LIMIT, THREE, TWO_EMPTY, UNENDED, holds, put, report, run_over,
+    ABC, EMPTY_ONE, EMPTY_TWO, LIMIT, THREE, TWO_EMPTY, UNENDED, folder_of, holds, report, run_over,
 };
 use crate::streams::{Cut, Then};
-use maildir_run::{MemFolder, RunFault, Sub, convert};
+use maildir_run::{MemFolder, Report, RunFault, Sub, convert};
 use std::alloc::Global;
 use std::test::Fail;
 
 const ABC_LINE: &str = "edeaaff3f1774ad2888673770c6d64097e391bc362d7d6fb34982ddf0efd18cb.1";
 
 const HELLO_LINE: &str = "5891b5b522d5df086d0ff0b110fbd9d21bb4fc7163af34d08286a2e846f6be03.1";
+
+const ONE_SEEN: &str = "e3b0c44298fc1c149afbf4c8996fb92427ae41e4649b934ca495991b7852b855.1:2,S";
 
 const FLAGGED: &str = "6e10782762e5fa1e91d5bfce9779c600776be9832f251fd48a19b758b735a824.1:2,FRS";
 
@@ -64,17 +68,13 @@ fn no_from_line(rt: HostRuntime) {
 
 #[test]
 fn leftover_is_swept(rt: HostRuntime) -> Result<(), Fail> {
-    let alloc = rt.alloc();
-    let mut folder = MemFolder::new(alloc);
-    put(alloc, &mut folder, Sub::Tmp, ABC, b"a")?;
-    put(alloc, &mut folder, Sub::Tmp, "1700000000.M1.host", b"z")?;
-    assert!(rt; run_over(alloc, &mut folder, UNENDED) == Ok(report(1, 0, 1, 1)));
+    let foreign = (Sub::Tmp, "1700000000.M1.host", "z");
+    let mut folder = folder_of(rt.alloc(), &[(Sub::Tmp, ABC, "a"), foreign])?;
+    assert!(rt;
+        run_over(rt.alloc(), &mut folder, UNENDED) == Ok(report(1, 0, 1, 1))
+            && holds(&folder, &[foreign, (Sub::New, ABC, "abc")])
+    );
     assert_eq!(rt; folder.calls(), 6);
-    let files = [
-        (Sub::Tmp, "1700000000.M1.host", "z"),
-        (Sub::New, ABC, "abc"),
-    ];
-    assert!(rt; holds(&folder, &files));
     Ok(())
 }
 
@@ -128,94 +128,101 @@ fn every_front_of_a_text(rt: HostRuntime) {
     }
 }
 
+// What a run answers that may make so many reads of a source in pieces, and how many reads and calls it made.
+fn budgeted(
+    alloc: Global,
+    text: &[u8],
+    piece: usize,
+    then: Then,
+    reads: u64,
+) -> (Result<Report, RunFault>, u64, u64)
+    requires { reads ≤ 2 ^ 40 }
+{
+    let mut folder = MemFolder::new(alloc);
+    let mut source = Cut::new(text, piece, then);
+    let answer = convert(alloc, &mut folder, &mut source, reads);
+    (answer, source.reads, folder.calls())
+}
+
 #[test]
 fn read_budget(rt: HostRuntime) {
-    let mut folder = MemFolder::new(rt.alloc());
-    let mut source = Cut::new(UNENDED, 1, Then::Ends);
-    assert!(rt; convert(rt.alloc(), &mut folder, &mut source, 3) == Err(RunFault::TooManyReads));
-    assert_eq!(rt; source.reads, 3);
-    assert_eq!(rt; folder.calls(), 0);
-    let mut source = Cut::new(UNENDED, 1, Then::Ends);
-    assert!(rt; convert(rt.alloc(), &mut folder, &mut source, 10) == Err(RunFault::TooManyReads));
-    assert_eq!(rt; folder.count(Sub::New), 0);
-    assert_eq!(rt; folder.count(Sub::Tmp), 0);
-    let mut source = Cut::new(UNENDED, 1, Then::Ends);
-    assert!(rt; convert(rt.alloc(), &mut folder, &mut source, 11) == Ok(report(1, 0, 1, 0)));
-    let mut source = Cut::new(b"From x\n", 65_536, Then::GoesOn);
-    assert!(rt; convert(rt.alloc(), &mut folder, &mut source, 5) == Err(RunFault::TooManyReads));
-    assert_eq!(rt; source.reads, 5);
+    let endless: &[u8] = b"From x\n";
+    let too_many = Err(RunFault::TooManyReads);
+    let rows = [
+        (UNENDED, 1, Then::Ends, 3, (too_many, 3, 0)),
+        (UNENDED, 1, Then::Ends, 10, (too_many, 10, 0)),
+        (UNENDED, 1, Then::Ends, 11, (Ok(report(1, 0, 1, 0)), 11, 5)),
+        (endless, 65_536, Then::GoesOn, 5, (too_many, 5, 0)),
+    ];
+    for (text, piece, then, reads, want) in rows {
+        assert!(rt;
+            budgeted(rt.alloc(), text, piece, then, reads) == want,
+            "{reads} reads"
+        );
+    }
 }
 
 #[test]
 fn many_foreign_names(rt: HostRuntime) -> Result<(), Fail> {
     let alloc = rt.alloc();
-    let mut folder = MemFolder::new(alloc);
+    let mut folder = folder_of(alloc, &[(Sub::Cur, ONE_SEEN, "")])?;
     for i in 1..1001u32 {
-        let name = format!(in alloc; "f{i}")?;
-        folder.put(Sub::Cur, name, Vec::new(alloc))?;
+        folder.put(Sub::Cur, format!(in alloc; "f{i}")?, Vec::new(alloc))?;
     }
-    let mut home = String::from_str(alloc, EMPTY_ONE)?;
-    home.push_str(":2,S")?;
-    folder.put(Sub::Cur, home, Vec::new(alloc))?;
-    assert!(rt; run_over(alloc, &mut folder, TWO_EMPTY) == Ok(report(2, 1, 1, 0)));
-    assert_eq!(rt; folder.calls(), 5);
-    assert_eq!(rt; folder.count(Sub::New), 1);
-    assert!(rt; folder.bytes_of(Sub::New, EMPTY_TWO) == Some(b"".as_slice()));
+    assert!(rt;
+        run_over(alloc, &mut folder, TWO_EMPTY) == Ok(report(2, 1, 1, 0))
+            && folder.calls() == 5
+            && folder.count(Sub::New) == 1
+            && folder.bytes_of(Sub::New, EMPTY_TWO) == Some(b"".as_slice())
+    );
     Ok(())
 }
 
 #[test]
 fn names_that_are_nearly_ours(rt: HostRuntime) -> Result<(), Fail> {
-    let alloc = rt.alloc();
-    let odd: [(Sub, &str); 4] = [
-        (Sub::Cur, ":x"),
+    let odd = [
+        (Sub::Cur, ":x", ""),
         (
             Sub::Cur,
             "ba7816bf8f01cfea414140de5dae2223b00361a396177a9cb410ff61f20015ad.01",
+            "",
         ),
         (
             Sub::Cur,
             "ba7816bf8f01cfea414140de5dae2223b00361a396177a9cb410ff61f20015ad.18446744073709551616:2,",
+            "",
         ),
         (
             Sub::Tmp,
             "ba7816bf8f01cfea414140de5dae2223b00361a396177a9cb410ff61f20015ad.18446744073709551616",
+            "",
         ),
     ];
-    let mut folder = MemFolder::new(alloc);
-    for (sub, name) in odd {
-        put(alloc, &mut folder, sub, name, b"")?;
-    }
-    assert!(rt; run_over(alloc, &mut folder, UNENDED) == Ok(report(1, 0, 1, 0)));
-    for (sub, name) in odd {
+    let mut folder = folder_of(rt.alloc(), &odd)?;
+    let [a, b, c, d] = odd;
+    let files = [a, b, c, d, (Sub::New, ABC, "abc")];
+    assert!(rt;
+        run_over(rt.alloc(), &mut folder, UNENDED) == Ok(report(1, 0, 1, 0))
+            && holds(&folder, &files)
+    );
+    Ok(())
+}
+
+// A folder that has the message, or two homes of its base: what is there stays.
+#[test]
+fn what_is_there_stays(rt: HostRuntime) -> Result<(), Fail> {
+    let colon = "ba7816bf8f01cfea414140de5dae2223b00361a396177a9cb410ff61f20015ad.1:";
+    let info = "ba7816bf8f01cfea414140de5dae2223b00361a396177a9cb410ff61f20015ad.1:2,";
+    let a_colon_and_no_info = [(Sub::Cur, colon, "abc")];
+    let not_sound = [(Sub::New, ABC, "x"), (Sub::Cur, info, "abc")];
+    for files in [a_colon_and_no_info.as_slice(), &not_sound] {
+        let mut folder = folder_of(rt.alloc(), files)?;
         assert!(rt;
-            folder.bytes_of(sub, name) == Some(b"".as_slice()),
-            "{name}"
+            run_over(rt.alloc(), &mut folder, UNENDED) == Ok(report(1, 1, 0, 0))
+                && holds(&folder, files),
+            "{}",
+            files.len()
         );
     }
-    Ok(())
-}
-
-#[test]
-fn a_colon_and_no_info(rt: HostRuntime) -> Result<(), Fail> {
-    let alloc = rt.alloc();
-    let name = "ba7816bf8f01cfea414140de5dae2223b00361a396177a9cb410ff61f20015ad.1:";
-    let mut folder = MemFolder::new(alloc);
-    put(alloc, &mut folder, Sub::Cur, name, b"abc")?;
-    assert!(rt; run_over(alloc, &mut folder, UNENDED) == Ok(report(1, 1, 0, 0)));
-    assert!(rt; holds(&folder, &[(Sub::Cur, name, "abc")]));
-    Ok(())
-}
-
-// A folder with two homes of one base: what is there stays.
-#[test]
-fn folder_that_is_not_sound(rt: HostRuntime) -> Result<(), Fail> {
-    let alloc = rt.alloc();
-    let name = "ba7816bf8f01cfea414140de5dae2223b00361a396177a9cb410ff61f20015ad.1:2,";
-    let mut folder = MemFolder::new(alloc);
-    put(alloc, &mut folder, Sub::Cur, name, b"abc")?;
-    put(alloc, &mut folder, Sub::New, ABC, b"x")?;
-    assert!(rt; run_over(alloc, &mut folder, UNENDED) == Ok(report(1, 1, 0, 0)));
-    assert!(rt; holds(&folder, &[(Sub::New, ABC, "x"), (Sub::Cur, name, "abc")]));
     Ok(())
 }

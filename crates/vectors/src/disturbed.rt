@@ -1,26 +1,31 @@
 // Runs while a mail reader and other programs are at work.
 use crate::runs::{
-    ABC, EMPTY_ONE, EMPTY_TWO, THREE, TWO_EMPTY, UNENDED, holds, put, report, run_over,
+    ABC, EMPTY_ONE, EMPTY_TWO, THREE, TWO_EMPTY, UNENDED, folder_of, holds, report, run_over,
 };
-use crate::scripts::{drop_other, line, named, put_other, reflag, to_cur};
-use maildir_run::{Act, MemFolder, Mode, RunFault, Sub};
-use std::alloc::Global;
-use std::process::Abort;
+use crate::scripts::{Deed, runs, script_of};
+use maildir_run::{Act, MemFolder, Mode, RunFault, ScriptLine, Sub};
+use std::alloc::{AllocError, Global};
 use std::test::Fail;
+
+const ABC_SEEN: &str = "ba7816bf8f01cfea414140de5dae2223b00361a396177a9cb410ff61f20015ad.1:2,S";
+
+const ONE_FLAGGED: &str = "e3b0c44298fc1c149afbf4c8996fb92427ae41e4649b934ca495991b7852b855.1:2,F";
+
+const ONE_FLAGGED_SEEN: &str =
+    "e3b0c44298fc1c149afbf4c8996fb92427ae41e4649b934ca495991b7852b855.1:2,FS";
+
+const TWO_SEEN: &str = "e3b0c44298fc1c149afbf4c8996fb92427ae41e4649b934ca495991b7852b855.2:2,S";
 
 #[test]
 fn moved_between_listings(rt: HostRuntime) -> Result<(), Fail> {
     let alloc = rt.alloc();
     let mut folder = MemFolder::new(alloc);
     assert!(rt; run_over(alloc, &mut folder, UNENDED).is_ok());
-    let acts = vec![in alloc; to_cur(alloc, ABC, ":2,S")?]?;
-    folder.script(vec![in alloc; line(3, acts, Mode::Plain)]?, None);
-    let moved = named(alloc, ABC, ":2,S")?;
-    for _ in 0..2u8 {
-        assert!(rt; run_over(alloc, &mut folder, UNENDED) == Ok(report(1, 1, 0, 0)));
-        assert!(rt; holds(&folder, &[(Sub::Cur, moved.as_str(), "abc")]));
-        folder.script(Vec::new(alloc), None);
-    }
+    let moves = [(3, Some(Deed::ToCur(ABC, ":2,S")), Mode::Plain)];
+    let there = Ok(report(1, 1, 0, 0));
+    let files = [(Sub::Cur, ABC_SEEN, "abc")];
+    assert!(rt; runs(alloc, &mut folder, &moves, UNENDED, there, &files)?);
+    assert!(rt; runs(alloc, &mut folder, &[], UNENDED, there, &files)?);
     Ok(())
 }
 
@@ -28,12 +33,12 @@ fn moved_between_listings(rt: HostRuntime) -> Result<(), Fail> {
 fn dropped_before_it_is_placed(rt: HostRuntime) -> Result<(), Fail> {
     let alloc = rt.alloc();
     let mut folder = MemFolder::new(alloc);
-    let acts = vec![in alloc; Act::DropTmp(String::from_str(alloc, ABC)?)]?;
-    folder.script(vec![in alloc; line(5, acts, Mode::Plain)]?, None);
-    assert!(rt; run_over(alloc, &mut folder, UNENDED) == Err(RunFault::FolderAbsent));
-    assert!(rt; holds(&folder, &[]));
-    folder.script(Vec::new(alloc), None);
-    assert!(rt; run_over(alloc, &mut folder, UNENDED) == Ok(report(1, 0, 1, 0)));
+    let drops = [(5, Some(Deed::DropTmp(ABC)), Mode::Plain)];
+    let absent = Err(RunFault::FolderAbsent);
+    assert!(rt; runs(alloc, &mut folder, &drops, UNENDED, absent, &[])?);
+    let placed = Ok(report(1, 0, 1, 0));
+    let files = [(Sub::New, ABC, "abc")];
+    assert!(rt; runs(alloc, &mut folder, &[], UNENDED, placed, &files)?);
     Ok(())
 }
 
@@ -42,70 +47,68 @@ fn dropped_before_it_is_placed(rt: HostRuntime) -> Result<(), Fail> {
 fn read_and_reflagged(rt: HostRuntime) -> Result<(), Fail> {
     let alloc = rt.alloc();
     let mut folder = MemFolder::new(alloc);
-    let acts = vec![in alloc; to_cur(alloc, EMPTY_ONE, ":2,F")?]?;
-    let stop = line(7, Vec::new(alloc), Mode::FailAfter);
-    folder.script(vec![in alloc; line(6, acts, Mode::Plain), stop]?, None);
-    assert!(rt; run_over(alloc, &mut folder, THREE) == Err(RunFault::FolderFailed(7)));
-    let flagged = named(alloc, EMPTY_ONE, ":2,F")?;
-    assert!(rt;
-        holds(
-            &folder,
-            &[(Sub::New, EMPTY_TWO, ""), (Sub::Cur, flagged.as_str(), "")]
-        )
-    );
-    reflagged_run(&rt, alloc, &mut folder)
-}
-
-fn reflagged_run(rt: &impl Abort, alloc: Global, folder: &mut MemFolder) -> Result<(), Fail> {
-    let moved = to_cur(alloc, EMPTY_TWO, ":2,S")?;
-    let reflagged = reflag(alloc, EMPTY_ONE, ":2,F", ":2,FS")?;
-    let acts = vec![in alloc; moved, reflagged]?;
-    folder.script(vec![in alloc; line(3, acts, Mode::Plain)]?, None);
-    assert!(rt; run_over(alloc, folder, THREE) == Ok(report(3, 2, 1, 0)));
-    assert_eq!(rt; folder.calls(), 5);
-    let (first, second) = (
-        named(alloc, EMPTY_ONE, ":2,FS")?,
-        named(alloc, EMPTY_TWO, ":2,S")?,
-    );
+    let stops = [
+        (6, Some(Deed::ToCur(EMPTY_ONE, ":2,F")), Mode::Plain),
+        (7, None, Mode::FailAfter),
+    ];
+    let failed = Err(RunFault::FolderFailed(7));
+    let files = [(Sub::New, EMPTY_TWO, ""), (Sub::Cur, ONE_FLAGGED, "")];
+    assert!(rt; runs(alloc, &mut folder, &stops, THREE, failed, &files)?);
+    let moves = [
+        (3, Some(Deed::ToCur(EMPTY_TWO, ":2,S")), Mode::Plain),
+        (
+            3,
+            Some(Deed::Reflag(EMPTY_ONE, ":2,F", ":2,FS")),
+            Mode::Plain,
+        ),
+    ];
+    let placed = Ok(report(3, 2, 1, 0));
     let files = [
         (Sub::New, ABC, "abc"),
-        (Sub::Cur, first.as_str(), ""),
-        (Sub::Cur, second.as_str(), ""),
+        (Sub::Cur, ONE_FLAGGED_SEEN, ""),
+        (Sub::Cur, TWO_SEEN, ""),
     ];
-    assert!(rt; holds(folder, &files));
+    assert!(rt; runs(alloc, &mut folder, &moves, THREE, placed, &files)?);
+    assert_eq!(rt; folder.calls(), 5);
     Ok(())
 }
 
-fn acts_whose_conditions_fail(alloc: Global) -> Result<Vec<Act>, Fail> {
+// Several acts in one line, and none of them has its condition.
+fn acts_whose_conditions_fail(alloc: Global) -> Result<Vec<ScriptLine>, AllocError> {
     let onto_another_base = Act::ToCur(
         String::from_str(alloc, EMPTY_ONE)?,
-        named(alloc, EMPTY_TWO, ":2,")?,
+        String::from_str(alloc, TWO_SEEN)?,
     );
-    let acts = vec![in alloc;
-        put_other(alloc, Sub::Tmp, ABC)?,
-        Act::DropTmp(String::from_str(alloc, "x")?),
-        onto_another_base,
-        reflag(alloc, EMPTY_ONE, "", ":2,S")?,
-        drop_other(alloc, Sub::New, EMPTY_ONE)?,
-    ]?;
-    Ok(acts)
+    let mut acts = vec![in alloc; onto_another_base]?;
+    for deed in [
+        Deed::PutOther(Sub::Tmp, ABC),
+        Deed::DropTmp("x"),
+        Deed::Reflag(EMPTY_ONE, "", ":2,S"),
+        Deed::DropOther(Sub::New, EMPTY_ONE),
+    ] {
+        acts.push(deed.act(alloc)?)?;
+    }
+    let line = ScriptLine {
+        call: 1,
+        acts,
+        mode: Mode::Plain,
+    };
+    Ok(vec![in alloc; line]?)
 }
 
 #[test]
 fn acts_that_do_nothing(rt: HostRuntime) -> Result<(), Fail> {
     let alloc = rt.alloc();
-    let mut folder = MemFolder::new(alloc);
-    put(alloc, &mut folder, Sub::Tmp, "x", b"z")?;
-    assert!(rt; run_over(alloc, &mut folder, TWO_EMPTY).is_ok());
-    let acts = acts_whose_conditions_fail(alloc)?;
-    folder.script(vec![in alloc; line(1, acts, Mode::Plain)]?, None);
-    assert!(rt; run_over(alloc, &mut folder, TWO_EMPTY) == Ok(report(2, 2, 0, 0)));
     let files = [
         (Sub::Tmp, "x", "z"),
         (Sub::New, EMPTY_ONE, ""),
         (Sub::New, EMPTY_TWO, ""),
     ];
-    assert!(rt; holds(&folder, &files));
+    let mut folder = folder_of(alloc, &files)?;
+    folder.script(acts_whose_conditions_fail(alloc)?, None);
+    assert!(rt;
+        run_over(alloc, &mut folder, TWO_EMPTY) == Ok(report(2, 2, 0, 0)) && holds(&folder, &files)
+    );
     Ok(())
 }
 
@@ -113,10 +116,10 @@ fn acts_that_do_nothing(rt: HostRuntime) -> Result<(), Fail> {
 fn foreign_file_comes(rt: HostRuntime) -> Result<(), Fail> {
     let alloc = rt.alloc();
     let mut folder = MemFolder::new(alloc);
-    let acts = vec![in alloc; put_other(alloc, Sub::Tmp, "x")?]?;
-    folder.script(vec![in alloc; line(4, acts, Mode::Plain)]?, None);
-    assert!(rt; run_over(alloc, &mut folder, UNENDED) == Ok(report(1, 0, 1, 0)));
-    assert!(rt; holds(&folder, &[(Sub::Tmp, "x", "z"), (Sub::New, ABC, "abc")]));
+    let comes = [(4, Some(Deed::PutOther(Sub::Tmp, "x")), Mode::Plain)];
+    let placed = Ok(report(1, 0, 1, 0));
+    let files = [(Sub::Tmp, "x", "z"), (Sub::New, ABC, "abc")];
+    assert!(rt; runs(alloc, &mut folder, &comes, UNENDED, placed, &files)?);
     Ok(())
 }
 
@@ -124,14 +127,14 @@ fn foreign_file_comes(rt: HostRuntime) -> Result<(), Fail> {
 #[test]
 fn two_lines_for_one_call(rt: HostRuntime) -> Result<(), Fail> {
     let alloc = rt.alloc();
-    let mut folder = MemFolder::new(alloc);
-    put(alloc, &mut folder, Sub::Tmp, "x", b"z")?;
-    let come = vec![in alloc; put_other(alloc, Sub::New, "y")?]?;
-    let go = vec![in alloc; drop_other(alloc, Sub::Tmp, "x")?]?;
-    let lines = vec![in alloc; line(1, come, Mode::FailBefore), line(1, go, Mode::Plain)]?;
-    folder.script(lines, None);
-    assert!(rt; run_over(alloc, &mut folder, UNENDED) == Err(RunFault::FolderFailed(1)));
-    assert!(rt; holds(&folder, &[(Sub::New, "y", "z")]));
+    let mut folder = folder_of(alloc, &[(Sub::Tmp, "x", "z")])?;
+    let both = [
+        (1, Some(Deed::PutOther(Sub::New, "y")), Mode::FailBefore),
+        (1, Some(Deed::DropOther(Sub::Tmp, "x")), Mode::Plain),
+    ];
+    let failed = Err(RunFault::FolderFailed(1));
+    let files = [(Sub::New, "y", "z")];
+    assert!(rt; runs(alloc, &mut folder, &both, UNENDED, failed, &files)?);
     Ok(())
 }
 
@@ -139,11 +142,12 @@ fn two_lines_for_one_call(rt: HostRuntime) -> Result<(), Fail> {
 #[test]
 fn acts_before_a_call_that_fails(rt: HostRuntime) -> Result<(), Fail> {
     let alloc = rt.alloc();
-    let mut folder = MemFolder::new(alloc);
-    put(alloc, &mut folder, Sub::New, "y", b"z")?;
-    let go = vec![in alloc; drop_other(alloc, Sub::New, "y")?]?;
-    folder.script(vec![in alloc; line(2, go, Mode::Twice)]?, Some(2));
-    assert!(rt; run_over(alloc, &mut folder, UNENDED) == Err(RunFault::FolderFailed(2)));
-    assert!(rt; holds(&folder, &[]));
+    let mut folder = folder_of(alloc, &[(Sub::New, "y", "z")])?;
+    let goes = [(2, Some(Deed::DropOther(Sub::New, "y")), Mode::Twice)];
+    folder.script(script_of(alloc, &goes)?, Some(2));
+    assert!(rt;
+        run_over(alloc, &mut folder, UNENDED) == Err(RunFault::FolderFailed(2))
+            && holds(&folder, &[])
+    );
     Ok(())
 }

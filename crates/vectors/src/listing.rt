@@ -1,12 +1,18 @@
 // Worked texts as they are listed, and refusals. The digests are those of other programs.
+use crate::runs::LIMIT;
 use crate::streams::{Cut, Narrow, Then};
 use maildir_run::{RunFault, list_text};
-use std::test::Fail;
+use std::alloc::Global;
 
-const LIMIT: u64 = 1_099_511_627_776;
+// Whether a text that comes in pieces is listed as these lines, of so many messages.
+fn lists(alloc: Global, text: &[u8], piece: usize, lines: &[u8], count: u64) -> bool {
+    let mut out = Vec::new(alloc);
+    let mut source = Cut::new(text, piece, Then::Ends);
+    list_text(alloc, &mut source, &mut out, LIMIT) == Ok(count) && out.as_slice() == lines
+}
 
 #[test]
-fn worked_texts(rt: HostRuntime) -> Result<(), Fail> {
+fn worked_texts(rt: HostRuntime) {
     let rows: [(&str, &[u8], &[u8], u64); 8] = [
         ("empty_text", b"", b"", 0),
         (
@@ -54,17 +60,12 @@ fn worked_texts(rt: HostRuntime) -> Result<(), Fail> {
     ];
     for (name, text, want, count) in rows {
         for piece in [1, 14, 65_536] {
-            let mut out = Vec::new(rt.alloc());
-            let mut source = Cut::new(text, piece, Then::Ends);
-            assert_eq!(rt;
-                list_text(rt.alloc(), &mut source, &mut out, LIMIT)?,
-                count,
+            assert!(rt;
+                lists(rt.alloc(), text, piece, want, count),
                 "{name} in pieces of {piece}"
             );
-            assert!(rt; out.as_slice() == want, "{name} in pieces of {piece}");
         }
     }
-    Ok(())
 }
 
 #[test]

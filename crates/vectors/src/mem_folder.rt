@@ -1,4 +1,5 @@
 // The calls of the folder in memory, by hand and through the trait's bound.
+use crate::runs::{folder_of, holds};
 use maildir_name::Place;
 use maildir_run::{Folder, FolderFault, MemFolder, Sub};
 use std::test::Fail;
@@ -27,28 +28,35 @@ fn folder_calls(rt: HostRuntime) -> Result<(), Fail> {
     Ok(())
 }
 
+// Whether a folder lists these names, in this order.
+fn lists(folder: &mut MemFolder, sub: Sub, want: &[&str]) -> bool {
+    match folder.list(sub) {
+        Ok(names) => names
+            .iter()
+            .map(|name| name.as_str())
+            .eq(want.iter().copied()),
+        Err(_) => false,
+    }
+}
+
 #[test]
 fn files_by_name(rt: HostRuntime) -> Result<(), Fail> {
-    let alloc = rt.alloc();
-    let mut folder = MemFolder::new(alloc);
-    for (name, bytes) in [
-        ("b:2,S", "1"),
-        ("a", "2"),
-        ("b", "3"),
-        ("B", "4"),
-        ("a", "5"),
-    ] {
-        let bytes = Vec::from_slice(alloc, bytes.as_bytes())?;
-        folder.put(Sub::New, String::from_str(alloc, name)?, bytes)?;
-    }
-    let names = folder.list(Sub::New)?;
-    assert_eq!(rt; names.len(), 4);
-    for (i, name) in ["B", "a", "b", "b:2,S"].into_iter().enumerate() {
-        assert_eq!(rt; names[i].as_str(), name);
-    }
-    assert_eq!(rt; folder.bytes_of(Sub::New, "a"), Some(b"5".as_slice()));
-    assert_eq!(rt; folder.bytes_of(Sub::Cur, "a"), None);
-    assert_eq!(rt; folder.count(Sub::New), 4);
+    let files = [
+        (Sub::New, "b:2,S", "1"),
+        (Sub::New, "a", "2"),
+        (Sub::New, "b", "3"),
+        (Sub::New, "B", "4"),
+        (Sub::New, "a", "5"),
+    ];
+    let mut folder = folder_of(rt.alloc(), &files)?;
+    assert!(rt; lists(&mut folder, Sub::New, &["B", "a", "b", "b:2,S"]));
+    let files = [
+        (Sub::New, "B", "4"),
+        (Sub::New, "a", "5"),
+        (Sub::New, "b", "3"),
+        (Sub::New, "b:2,S", "1"),
+    ];
+    assert!(rt; holds(&folder, &files) && folder.bytes_of(Sub::Cur, "a").is_none());
     assert_eq!(rt; folder.calls(), 1);
     Ok(())
 }

@@ -1,12 +1,18 @@
 // Worked texts in their regular spelling, and refusals.
+use crate::runs::LIMIT;
 use crate::streams::{Cut, Narrow, Then};
 use maildir_run::{RunFault, rewrite};
-use std::test::Fail;
+use std::alloc::Global;
 
-const LIMIT: u64 = 1_099_511_627_776;
+// Whether a text that comes in pieces is written so, with so many messages.
+fn rewrites(alloc: Global, text: &[u8], piece: usize, written: &[u8], count: u64) -> bool {
+    let mut out = Vec::new(alloc);
+    let mut source = Cut::new(text, piece, Then::Ends);
+    rewrite(alloc, &mut source, &mut out, LIMIT) == Ok(count) && out.as_slice() == written
+}
 
 #[test]
-fn worked_texts(rt: HostRuntime) -> Result<(), Fail> {
+fn worked_texts(rt: HostRuntime) {
     let quoted: &[u8] = b"From x\n>From a\n>>From b\n> From c\n>From\n\n";
     let twice: &[u8] = b"From a\nx\n\nFrom b\ny\n\n";
     let rows: [(&str, &[u8], &[u8], u64); 8] = [
@@ -31,21 +37,16 @@ fn worked_texts(rt: HostRuntime) -> Result<(), Fail> {
     ];
     for (name, text, want, count) in rows {
         for piece in [1, 14, 65_536] {
-            let mut out = Vec::new(rt.alloc());
-            let mut source = Cut::new(text, piece, Then::Ends);
-            assert_eq!(rt;
-                rewrite(rt.alloc(), &mut source, &mut out, LIMIT)?,
-                count,
+            assert!(rt;
+                rewrites(rt.alloc(), text, piece, want, count),
                 "{name} in pieces of {piece}"
             );
-            assert!(rt; out.as_slice() == want, "{name} in pieces of {piece}");
         }
     }
-    Ok(())
 }
 
 #[test]
-fn read_budget(rt: HostRuntime) -> Result<(), Fail> {
+fn read_budget(rt: HostRuntime) {
     let rows: [(&[u8], Then, u64, Result<u64, RunFault>, &[u8], u64); 8] = [
         (
             b"From x\nabc",
@@ -95,13 +96,12 @@ fn read_budget(rt: HostRuntime) -> Result<(), Fail> {
         let mut out = Vec::new(rt.alloc());
         let mut source = Cut::new(text, 1, then);
         assert!(rt;
-            rewrite(rt.alloc(), &mut source, &mut out, reads) == want,
+            rewrite(rt.alloc(), &mut source, &mut out, reads) == want
+                && out.as_slice() == written
+                && source.reads == made,
             "{reads} reads of {text:?}"
         );
-        assert!(rt; out.as_slice() == written, "{reads} reads of {text:?}");
-        assert_eq!(rt; source.reads, made, "{reads} reads of {text:?}");
     }
-    Ok(())
 }
 
 #[test]

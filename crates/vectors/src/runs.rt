@@ -39,17 +39,14 @@ pub(crate) fn report(messages: u64, there: u64, placed: u64, swept: u64) -> Repo
     }
 }
 
-pub(crate) fn put(
-    alloc: Global,
-    folder: &mut MemFolder,
-    sub: Sub,
-    name: &str,
-    bytes: &[u8],
-) -> Result<(), Fail> {
-    let name = String::from_str(alloc, name)?;
-    let bytes = Vec::from_slice(alloc, bytes)?;
-    folder.put(sub, name, bytes)?;
-    Ok(())
+// A folder with these files, each with this text, put in this order.
+pub(crate) fn folder_of(alloc: Global, files: &[(Sub, &str, &str)]) -> Result<MemFolder, Fail> {
+    let mut folder = MemFolder::new(alloc);
+    for &(sub, name, text) in files {
+        let bytes = Vec::from_slice(alloc, text.as_bytes())?;
+        folder.put(sub, String::from_str(alloc, name)?, bytes)?;
+    }
+    Ok(folder)
 }
 
 // Whether the folder has these files, each with this text, and no others.

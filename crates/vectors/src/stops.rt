@@ -1,17 +1,13 @@
 // Runs that are broken off at a call of the folder, and the run after them.
 use crate::runs::{
-    ABC, EMPTY_ONE, EMPTY_TWO, THREE, TWO_EMPTY, UNENDED, holds, put, report, run_over,
+    ABC, EMPTY_ONE, EMPTY_TWO, THREE, TWO_EMPTY, UNENDED, folder_of, holds, report, run_over,
 };
-use crate::scripts::line;
-use maildir_run::{Act, MemFolder, Mode, RunFault, Sub};
+use crate::scripts::{Deed, runs, script_of};
+use maildir_run::{MemFolder, Mode, RunFault, Sub};
 use std::alloc::Global;
 use std::test::Fail;
 
-// A script with one line and no acts.
-fn stop_at(alloc: Global, folder: &mut MemFolder, call: u64, mode: Mode) -> Result<(), Fail> {
-    folder.script(vec![in alloc; line(call, Vec::new(alloc), mode)]?, None);
-    Ok(())
-}
+const FIRST_TWO: [(Sub, &str, &str); 2] = [(Sub::New, EMPTY_ONE, ""), (Sub::New, EMPTY_TWO, "")];
 
 // An undisturbed run answers this, and leaves the three messages and nothing else.
 fn run_repairs(alloc: Global, folder: &mut MemFolder, there: u64, swept: u64) -> bool {
@@ -55,7 +51,7 @@ fn a_stop_at_each_call(rt: HostRuntime) -> Result<(), Fail> {
         ];
         for (mode, (there, swept)) in modes {
             let mut folder = MemFolder::new(alloc);
-            stop_at(alloc, &mut folder, call, mode)?;
+            folder.script(script_of(alloc, &[(call, None, mode)])?, None);
             assert!(rt;
                 stops_at(alloc, &mut folder, call, there, swept),
                 "{mode:?} at {call}"
@@ -77,13 +73,13 @@ fn a_call_comes_twice(rt: HostRuntime) -> Result<(), Fail> {
     let alloc = rt.alloc();
     for call in 1..10u64 {
         let mut folder = MemFolder::new(alloc);
-        stop_at(alloc, &mut folder, call, Mode::Twice)?;
+        folder.script(script_of(alloc, &[(call, None, Mode::Twice)])?, None);
         assert!(rt;
-            run_over(alloc, &mut folder, THREE) == Ok(report(3, 0, 3, 0)),
+            run_over(alloc, &mut folder, THREE) == Ok(report(3, 0, 3, 0))
+                && folder.calls() == 9
+                && run_repairs(alloc, &mut folder, 3, 0),
             "{call}"
         );
-        assert_eq!(rt; folder.calls(), 9, "{call}");
-        assert!(rt; run_repairs(alloc, &mut folder, 3, 0), "{call}");
     }
     Ok(())
 }
@@ -92,14 +88,9 @@ fn a_call_comes_twice(rt: HostRuntime) -> Result<(), Fail> {
 fn fails_after_the_effect(rt: HostRuntime) -> Result<(), Fail> {
     let alloc = rt.alloc();
     let mut folder = MemFolder::new(alloc);
-    stop_at(alloc, &mut folder, 7, Mode::FailAfter)?;
-    assert!(rt; run_over(alloc, &mut folder, THREE) == Err(RunFault::FolderFailed(7)));
-    assert!(rt;
-        holds(
-            &folder,
-            &[(Sub::New, EMPTY_ONE, ""), (Sub::New, EMPTY_TWO, "")]
-        )
-    );
+    let stop = [(7, None, Mode::FailAfter)];
+    let failed = Err(RunFault::FolderFailed(7));
+    assert!(rt; runs(alloc, &mut folder, &stop, THREE, failed, &FIRST_TWO)?);
     assert!(rt; run_repairs(alloc, &mut folder, 2, 0));
     assert_eq!(rt; folder.calls(), 5);
     Ok(())
@@ -109,14 +100,14 @@ fn fails_after_the_effect(rt: HostRuntime) -> Result<(), Fail> {
 fn half_written(rt: HostRuntime) -> Result<(), Fail> {
     let alloc = rt.alloc();
     let mut folder = MemFolder::new(alloc);
-    stop_at(alloc, &mut folder, 8, Mode::Half)?;
-    assert!(rt; run_over(alloc, &mut folder, THREE) == Err(RunFault::FolderFailed(8)));
+    let stop = [(8, None, Mode::Half)];
+    let failed = Err(RunFault::FolderFailed(8));
     let files = [
         (Sub::Tmp, ABC, "a"),
         (Sub::New, EMPTY_ONE, ""),
         (Sub::New, EMPTY_TWO, ""),
     ];
-    assert!(rt; holds(&folder, &files));
+    assert!(rt; runs(alloc, &mut folder, &stop, THREE, failed, &files)?);
     assert!(rt; run_repairs(alloc, &mut folder, 2, 1));
     assert_eq!(rt; folder.calls(), 6);
     Ok(())
@@ -126,16 +117,19 @@ fn half_written(rt: HostRuntime) -> Result<(), Fail> {
 fn a_stop_in_the_sweep(rt: HostRuntime) -> Result<(), Fail> {
     let alloc = rt.alloc();
     let mut folder = MemFolder::new(alloc);
-    stop_at(alloc, &mut folder, 8, Mode::FailAfter)?;
-    assert!(rt; run_over(alloc, &mut folder, THREE) == Err(RunFault::FolderFailed(8)));
-    stop_at(alloc, &mut folder, 4, Mode::FailAfter)?;
-    assert!(rt; run_over(alloc, &mut folder, THREE) == Err(RunFault::FolderFailed(4)));
-    assert!(rt;
-        holds(
-            &folder,
-            &[(Sub::New, EMPTY_ONE, ""), (Sub::New, EMPTY_TWO, "")]
-        )
-    );
+    let files = [
+        (Sub::Tmp, ABC, "abc"),
+        (Sub::New, EMPTY_ONE, ""),
+        (Sub::New, EMPTY_TWO, ""),
+    ];
+    for (call, files) in [(8, files.as_slice()), (4, &FIRST_TWO)] {
+        let stop = [(call, None, Mode::FailAfter)];
+        let failed = Err(RunFault::FolderFailed(call));
+        assert!(rt;
+            runs(alloc, &mut folder, &stop, THREE, failed, files)?,
+            "{call}"
+        );
+    }
     assert!(rt; run_repairs(alloc, &mut folder, 2, 0));
     assert_eq!(rt; folder.calls(), 5);
     Ok(())
@@ -144,7 +138,6 @@ fn a_stop_in_the_sweep(rt: HostRuntime) -> Result<(), Fail> {
 // What a placement answers for a file that is not in `tmp`, by its mode.
 #[test]
 fn nothing_to_place(rt: HostRuntime) -> Result<(), Fail> {
-    let alloc = rt.alloc();
     let rows = [
         (Mode::Plain, RunFault::FolderAbsent),
         (Mode::FailBefore, RunFault::FolderFailed(5)),
@@ -153,14 +146,12 @@ fn nothing_to_place(rt: HostRuntime) -> Result<(), Fail> {
         (Mode::Twice, RunFault::FolderAbsent),
     ];
     for (mode, fault) in rows {
-        let mut folder = MemFolder::new(alloc);
-        let acts = vec![in alloc; Act::DropTmp(String::from_str(alloc, ABC)?)]?;
-        folder.script(vec![in alloc; line(5, acts, mode)]?, None);
+        let mut folder = MemFolder::new(rt.alloc());
+        let drops = [(5, Some(Deed::DropTmp(ABC)), mode)];
         assert!(rt;
-            run_over(alloc, &mut folder, UNENDED) == Err(fault),
+            runs(rt.alloc(), &mut folder, &drops, UNENDED, Err(fault), &[])?,
             "{mode:?}"
         );
-        assert!(rt; holds(&folder, &[]), "{mode:?}");
     }
     Ok(())
 }
@@ -169,13 +160,13 @@ fn nothing_to_place(rt: HostRuntime) -> Result<(), Fail> {
 #[test]
 fn tmp_is_listed_first(rt: HostRuntime) -> Result<(), Fail> {
     let alloc = rt.alloc();
+    let files = [(Sub::New, ABC, "abc")];
     for (call, swept) in [(1, 0), (2, 1), (3, 1), (4, 1)] {
-        let mut folder = MemFolder::new(alloc);
-        put(alloc, &mut folder, Sub::Tmp, EMPTY_TWO, b"half")?;
-        let acts = vec![in alloc; Act::DropTmp(String::from_str(alloc, EMPTY_TWO)?)]?;
-        folder.script(vec![in alloc; line(call, acts, Mode::Plain)]?, None);
+        let mut folder = folder_of(alloc, &[(Sub::Tmp, EMPTY_TWO, "half")])?;
+        let drops = [(call, Some(Deed::DropTmp(EMPTY_TWO)), Mode::Plain)];
+        let placed = Ok(report(1, 0, 1, swept));
         assert!(rt;
-            run_over(alloc, &mut folder, UNENDED) == Ok(report(1, 0, 1, swept)),
+            runs(alloc, &mut folder, &drops, UNENDED, placed, &files)?,
             "{call}"
         );
     }
@@ -186,12 +177,12 @@ fn tmp_is_listed_first(rt: HostRuntime) -> Result<(), Fail> {
 #[test]
 fn the_sweep_comes_before_the_messages(rt: HostRuntime) -> Result<(), Fail> {
     let alloc = rt.alloc();
-    let mut folder = MemFolder::new(alloc);
-    put(alloc, &mut folder, Sub::Tmp, EMPTY_TWO, b"half")?;
-    stop_at(alloc, &mut folder, 5, Mode::Half)?;
-    assert!(rt; run_over(alloc, &mut folder, UNENDED) == Err(RunFault::FolderFailed(5)));
+    let mut folder = folder_of(alloc, &[(Sub::Tmp, EMPTY_TWO, "half")])?;
+    let stop = [(5, None, Mode::Half)];
+    let failed = Err(RunFault::FolderFailed(5));
+    let files = [(Sub::Tmp, ABC, "a")];
+    assert!(rt; runs(alloc, &mut folder, &stop, UNENDED, failed, &files)?);
     assert_eq!(rt; folder.calls(), 5);
-    assert!(rt; holds(&folder, &[(Sub::Tmp, ABC, "a")]));
     Ok(())
 }
 
@@ -200,16 +191,13 @@ fn the_sweep_comes_before_the_messages(rt: HostRuntime) -> Result<(), Fail> {
 fn two_texts(rt: HostRuntime) -> Result<(), Fail> {
     let alloc = rt.alloc();
     let mut folder = MemFolder::new(alloc);
-    stop_at(alloc, &mut folder, 5, Mode::FailAfter)?;
-    assert!(rt; run_over(alloc, &mut folder, TWO_EMPTY) == Err(RunFault::FolderFailed(5)));
-    folder.script(Vec::new(alloc), None);
-    assert!(rt; run_over(alloc, &mut folder, b"From c\n\n") == Ok(report(1, 1, 0, 0)));
-    assert!(rt; run_over(alloc, &mut folder, TWO_EMPTY) == Ok(report(2, 1, 1, 0)));
-    assert!(rt;
-        holds(
-            &folder,
-            &[(Sub::New, EMPTY_ONE, ""), (Sub::New, EMPTY_TWO, "")]
-        )
-    );
+    let stop = [(5, None, Mode::FailAfter)];
+    let failed = Err(RunFault::FolderFailed(5));
+    let one = [(Sub::New, EMPTY_ONE, "")];
+    assert!(rt; runs(alloc, &mut folder, &stop, TWO_EMPTY, failed, &one)?);
+    let there = Ok(report(1, 1, 0, 0));
+    assert!(rt; runs(alloc, &mut folder, &[], b"From c\n\n", there, &one)?);
+    let placed = Ok(report(2, 1, 1, 0));
+    assert!(rt; runs(alloc, &mut folder, &[], TWO_EMPTY, placed, &FIRST_TWO)?);
     Ok(())
 }

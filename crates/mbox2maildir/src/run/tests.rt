@@ -1,11 +1,15 @@
 // The program's work by its words: texts and statuses, and what is left on the disk.
 use super::*;
+use crate::scratch::Scratch;
 use std::alloc::AllocError;
 
 mod failures;
 mod files;
 mod several;
 mod words;
+
+// How a run ends: its status, and what it writes to its output and to standard error.
+type End = (u8, &'static str, &'static str);
 
 const EMPTY_ONE: &str = "e3b0c44298fc1c149afbf4c8996fb92427ae41e4649b934ca495991b7852b855.1";
 
@@ -19,23 +23,37 @@ const ONE: &str = "From x\nabc";
 
 const PLACED_ONE: &str = "messages 1, there 0, placed 1, swept 0\n";
 
-fn strings(alloc: Global, words: &[&str]) -> Result<Vec<String>, AllocError> {
-    let mut all = Vec::new(alloc);
-    for word in words {
-        all.push(String::from_str(alloc, word)?)?;
+const PLACED_TWO: &str = "messages 2, there 0, placed 2, swept 0\n";
+
+const NO_FROM_LINE: &str = "mbox2maildir: no From line at the start\n";
+
+const NO_SOURCE: &str = "mbox2maildir: cannot open the source\n";
+
+const NO_OUTPUT: &str = "mbox2maildir: the output could not be written\n";
+
+// The words of a text, which are ended by spaces, and the last by the text's end. One that begins with @/ is a path in the
+// test's folder.
+fn words_of(alloc: Global, scratch: &Scratch, text: &str) -> Result<Vec<String>, AllocError> {
+    let mut words = Vec::new(alloc);
+    for word in text.split_terminator(' ') {
+        words.push(match word.strip_prefix("@/") {
+            Some(name) => scratch.path_of(name)?,
+            None => String::from_str(alloc, word)?,
+        })?;
     }
-    Ok(all)
+    Ok(words)
 }
 
 // Whether a run with these words and this standard input ends so.
 fn ends<R: Files + Clock>(
     rt: &R,
     alloc: Global,
-    words: &[&str],
+    scratch: &Scratch,
+    words: &str,
     input: &str,
-    want: (u8, &str, &str),
+    want: End,
 ) -> Result<bool, AllocError> {
-    let words = strings(alloc, words)?;
+    let words = words_of(alloc, scratch, words)?;
     let mut input = input.as_bytes();
     let (mut out, mut err) = (Vec::new(alloc), Vec::new(alloc));
     let status = run(rt, alloc, words.as_slice(), &mut input, &mut out, &mut err);
@@ -45,25 +63,4 @@ fn ends<R: Files + Clock>(
             && out.as_slice() == want_out.as_bytes()
             && err.as_slice() == want_err.as_bytes(),
     )
-}
-
-// Whether a file of the Maildir is there and holds this.
-fn holds<R: Files>(
-    rt: &R,
-    alloc: Global,
-    maildir: &str,
-    name: &str,
-    want: &str,
-) -> Result<bool, AllocError> {
-    let path = format!(in alloc; "{maildir}/{name}")?;
-    Ok(match fs::read(&(rt, alloc), path.as_str()) {
-        Ok(bytes) => bytes.as_slice() == want.as_bytes(),
-        Err(_) => false,
-    })
-}
-
-// How many entries a folder of the Maildir has.
-fn count<R: Files>(rt: &R, alloc: Global, maildir: &str, sub: &str) -> io::Result<usize> {
-    let path = format!(in alloc; "{maildir}/{sub}")?;
-    Ok(crate::listing::names(rt, alloc, path.as_str())?.len())
 }

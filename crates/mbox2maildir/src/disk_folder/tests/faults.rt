@@ -1,197 +1,216 @@
 // The folder on the disk where calls of the system fail.
 use super::*;
-use crate::faulty::Faulty;
+use crate::faulty::{Faults, Faulty};
 
 // What the file of `tmp` holds before each call.
 const BEFORE: &str = "longer before";
 
-// A call of a folder, over the same name.
-#[derive(Clone, Copy, Debug)]
-enum Asked {
-    List(Sub),
-    Write,
-    Place,
-    Remove,
+// The two kinds of error, and what a folder's call answers to each.
+const KINDS: [(ErrorKind, FolderFault); 2] = [
+    (ErrorKind::Other, FolderFault::Failed),
+    (ErrorKind::OutOfMemory, FolderFault::OutOfMemory),
+];
+
+// Each call of a folder, over the same name, and how many calls of the system it makes.
+const CALLS: [(Asked, u64); 6] = [
+    (Asked::List(Sub::Tmp), 3),
+    (Asked::List(Sub::New), 3),
+    (Asked::List(Sub::Cur), 5),
+    (Asked::Write("u", "ab"), 3),
+    (Asked::Place("u", Place::New, "u"), 1),
+    (Asked::Remove("u"), 1),
+];
+
+// One call of the system fails.
+fn failing(at: u64, kind: ErrorKind) -> Faults {
+    Faults {
+        at,
+        kind,
+        ..Faults::NONE
+    }
 }
 
-impl Asked {
-    fn ask<R: Files + Clock>(self, folder: &mut DiskFolder<'_, R>) -> Result<(), FolderFault> {
-        match self {
-            Asked::List(sub) => folder.list(sub).map(|_| ()),
-            Asked::Write => folder.write("u", b"ab"),
-            Asked::Place => folder.place("u", Place::New, "u"),
-            Asked::Remove => folder.remove("u"),
+// What `tmp` and `new` hold under the name once this many calls of the system were made; `None` for no file.
+fn left(call: Asked, made: u64) -> (Option<&'static str>, Option<&'static str>) {
+    match (call, made) {
+        (Asked::Write(..), 1) => (Some(""), None),
+        (Asked::Write(..), 2..) => (Some("ab"), None),
+        (Asked::Place(..), 1..) => (None, Some(BEFORE)),
+        (Asked::Remove(_), 1..) => (None, None),
+        _ => (Some(BEFORE), None),
+    }
+}
+
+// Whether a folder's call answers this where these faults come, counts it as a
+// failure only where it answers `Failed`, and leaves nothing open.
+fn answers(
+    rt: HostRuntime,
+    root: &str,
+    call: Asked,
+    faults: Faults,
+    want: Result<(), FolderFault>,
+) -> Result<bool, Fail> {
+    let faulty = Faulty::of(rt, rt.alloc())?;
+    let mut folder = DiskFolder::open_at(&faulty, rt.alloc(), root)?;
+    folder.write("u", BEFORE.as_bytes())?;
+    faulty.script.begin(faults);
+    let answer = call.answer(&mut folder);
+    let failures = u128::from(want == Err(FolderFault::Failed));
+    Ok(
+        answer == want
+            && folder.calls == 2
+            && folder.failures == failures
+            && faulty.script.open.get() == 0,
+    )
+}
+
+// At which call of the system the folder's call does something else than it should, if at any. It tells want of memory as
+// such and answers `Failed` for anything else; what is left is as far as the calls went.
+fn wrong_at(
+    rt: HostRuntime,
+    scratch: &Scratch,
+    call: Asked,
+    steps: u64,
+    kind: ErrorKind,
+    fault: FolderFault,
+) -> Result<Option<u64>, Fail> {
+    let root = scratch.path_of("maildir")?;
+    for fails_at in 0..=steps {
+        scratch.clear("maildir")?;
+        let want = if fails_at < steps { Err(fault) } else { Ok(()) };
+        let (in_tmp, in_new) = left(call, fails_at);
+        let faults = failing(fails_at, kind);
+        if !answers(rt, root.as_str(), call, faults, want)?
+            || !scratch.holds("maildir/tmp/u", in_tmp)?
+            || !scratch.holds("maildir/new/u", in_new)?
+        {
+            return Ok(Some(fails_at));
         }
     }
-
-    // What `tmp` holds under the name, once this many calls of the system were made; `None` for no file.
-    fn leaves(self, made: u64) -> Option<&'static str> {
-        match (self, made) {
-            (Asked::List(_), _) | (_, 0) => Some(BEFORE),
-            (Asked::Write, 1) => Some(""),
-            (Asked::Write, _) => Some("ab"),
-            (Asked::Place | Asked::Remove, _) => None,
-        }
-    }
+    Ok(None)
 }
 
-// Whether a file of the Maildir holds this; `None` for no file.
-fn holds<R: Files>(rt: &R, alloc: Global, root: &str, name: &str, want: Option<&str>) -> bool {
-    match (held(rt, alloc, root, name), want) {
-        (Ok(bytes), Some(want)) => bytes.as_slice() == want.as_bytes(),
-        (Err(error), None) => error.kind() == ErrorKind::NotFound,
-        _ => false,
-    }
-}
-
-// Each call of the system fails in turn, until none is left to fail. The folder call tells want of memory as such and
-// answers `Failed` for anything else, which alone is counted as a failure; nothing stays open, and what is left is as
-// far as the calls went.
+// Each call of the system fails in turn, until none is left to fail.
 #[test]
 fn each_call_fails_in_turn(rt: HostRuntime) -> Result<(), Fail> {
-    let root = fresh(rt, "each_call_fails")?;
-    let (alloc, root) = (rt.alloc(), root.as_str());
-    let asked = [
-        (Asked::List(Sub::Tmp), 3),
-        (Asked::List(Sub::New), 3),
-        (Asked::List(Sub::Cur), 5),
-        (Asked::Write, 3),
-        (Asked::Place, 1),
-        (Asked::Remove, 1),
-    ];
-    let kinds = [
-        (ErrorKind::Other, FolderFault::Failed),
-        (ErrorKind::OutOfMemory, FolderFault::OutOfMemory),
-    ];
-    for (kind, fault) in kinds {
-        let _ = fs::remove_dir_all(&rt, root);
-        for (call, steps) in asked {
-            for fails_at in 0..=steps {
-                let faulty = Faulty::of(rt, alloc)?;
-                let script = &faulty.script;
-                script.clock.set(u64::MAX / 2);
-                script.kind.set(kind);
-                let mut folder = DiskFolder::open_at(&faulty, alloc, root)?;
-                folder.write("u", BEFORE.as_bytes())?;
-                script.calls.set(0);
-                script.fails_at.set(fails_at);
-                let answer = call.ask(&mut folder);
-                let fails = fails_at < steps;
-                let want = if fails { Err(fault) } else { Ok(()) };
-                let case = (call, kind, fails_at);
-                assert_eq!(rt; answer, want, "{case:?}");
-                let counted = fails && fault == FolderFault::Failed;
-                assert!(rt;
-                    folder.calls == 2 && folder.failures == u128::from(counted),
-                    "{case:?}"
-                );
-                assert_eq!(rt; script.open.get(), 0, "{case:?}");
-                assert!(rt;
-                    holds(&rt, alloc, root, "tmp/u", call.leaves(fails_at)),
-                    "{case:?}"
-                );
-                if let Asked::Place = call {
-                    let placed = if fails { None } else { Some(BEFORE) };
-                    assert!(rt; holds(&rt, alloc, root, "new/u", placed), "{case:?}");
-                }
-            }
+    let scratch = Scratch::new(rt, "each_call_fails")?;
+    for (kind, fault) in KINDS {
+        for (call, steps) in CALLS {
+            let wrong = wrong_at(rt, &scratch, call, steps, kind, fault)?;
+            assert_eq!(rt; wrong, None, "{call:?}, {kind:?}");
         }
     }
-    fs::remove_dir_all(&rt, root)?;
     Ok(())
 }
 
-// The same of opening a folder: what was made stays.
+// Whether opening a folder answers this where one call of the system fails, leaves what was made before, and nothing
+// open.
+fn opens(
+    rt: HostRuntime,
+    scratch: &Scratch,
+    fails_at: u64,
+    kind: ErrorKind,
+    want: Result<(), FolderFault>,
+) -> Result<bool, Fail> {
+    scratch.clear("maildir")?;
+    let root = scratch.path_of("maildir")?;
+    let faulty = Faulty::of(rt, rt.alloc())?;
+    faulty.script.begin(failing(fails_at, kind));
+    let answer = DiskFolder::open_at(&faulty, rt.alloc(), root.as_str()).map(|_| ());
+    let mut good = answer == want && faulty.script.open.get() == 0;
+    let folders = ["maildir", "maildir/tmp", "maildir/new", "maildir/cur"];
+    for (makes, name) in (1..).zip(folders) {
+        good = good && scratch.count(name)?.is_some() == (makes <= fails_at);
+    }
+    Ok(good)
+}
+
 #[test]
 fn opening_fails_in_turn(rt: HostRuntime) -> Result<(), Fail> {
-    let root = fresh(rt, "opening")?;
-    let (alloc, root) = (rt.alloc(), root.as_str());
-    let kinds = [
-        (ErrorKind::Other, FolderFault::Failed),
-        (ErrorKind::OutOfMemory, FolderFault::OutOfMemory),
-    ];
-    for (kind, fault) in kinds {
+    let scratch = Scratch::new(rt, "opening")?;
+    for (kind, fault) in KINDS {
         for fails_at in 0..=4 {
-            let _ = fs::remove_dir_all(&rt, root);
-            let faulty = Faulty::of(rt, alloc)?;
-            faulty.script.fails_at.set(fails_at);
-            faulty.script.kind.set(kind);
-            match DiskFolder::open_at(&faulty, alloc, root) {
-                Ok(_) => assert_eq!(rt; fails_at, 4),
-                Err(answer) => assert!(rt; answer == fault && fails_at < 4, "{fails_at}"),
-            }
-            assert_eq!(rt; faulty.script.open.get(), 0, "{fails_at}");
-            for (name, makes) in [("", 1), ("/tmp", 2), ("/new", 3), ("/cur", 4)] {
-                let path = format!(in alloc; "{root}{name}")?;
-                let is_there = fs::metadata(&rt, path.as_str()).is_ok();
-                assert!(rt; is_there == (makes <= fails_at), "{fails_at}, {name}");
-            }
+            let want = if fails_at < 4 { Err(fault) } else { Ok(()) };
+            assert!(rt;
+                opens(rt, &scratch, fails_at, kind, want)?,
+                "{kind:?} at {fails_at}"
+            );
         }
     }
-    fs::remove_dir_all(&rt, root)?;
     Ok(())
 }
 
-// The same of syncing it. A parent that may not be opened is left out.
+// Each call of the system fails in turn as a folder is synced. A parent that may not be opened is left out.
 #[test]
 fn syncing_fails_in_turn(rt: HostRuntime) -> Result<(), Fail> {
-    let root = fresh(rt, "syncing")?;
-    let kinds = [
-        ErrorKind::Other,
-        ErrorKind::PermissionDenied,
-        ErrorKind::OutOfMemory,
-    ];
-    let faulty = Faulty::of(rt, rt.alloc())?;
-    let script = &faulty.script;
-    let folder = DiskFolder::open_at(&faulty, rt.alloc(), root.as_str())?;
-    for fails_at in 0..=8 {
-        script.fails_at.set(fails_at);
-        for kind in kinds {
-            script.calls.set(0);
-            script.kind.set(kind);
-            let want = match kind {
-                _ if fails_at == 8 => Ok(()),
-                ErrorKind::PermissionDenied if fails_at == 6 => Ok(()),
-                ErrorKind::OutOfMemory => Err(FolderFault::OutOfMemory),
-                _ => Err(FolderFault::Failed),
+    let scratch = Scratch::new(rt, "syncing")?;
+    let root = scratch.path_of("maildir")?;
+    let denied = (ErrorKind::PermissionDenied, FolderFault::Failed);
+    let [other, no_memory] = KINDS;
+    for (kind, fault) in [other, no_memory, denied] {
+        for fails_at in 0..=8 {
+            let is_left_out = fails_at == 6 && kind == ErrorKind::PermissionDenied;
+            let want = match fails_at {
+                8 => Ok(()),
+                _ if is_left_out => Ok(()),
+                _ => Err(fault),
             };
-            assert_eq!(rt; folder.sync(), want, "{kind:?} at {fails_at}");
-            assert_eq!(rt; script.open.get(), 0, "{kind:?} at {fails_at}");
+            assert!(rt;
+                syncs(rt, root.as_str(), fails_at, kind, want)?,
+                "{kind:?} at {fails_at}"
+            );
         }
     }
-    fs::remove_dir_all(&rt, root.as_str())?;
     Ok(())
+}
+
+fn syncs(
+    rt: HostRuntime,
+    root: &str,
+    fails_at: u64,
+    kind: ErrorKind,
+    want: Result<(), FolderFault>,
+) -> Result<bool, Fail> {
+    let faulty = Faulty::of(rt, rt.alloc())?;
+    let folder = DiskFolder::open_at(&faulty, rt.alloc(), root)?;
+    faulty.script.begin(failing(fails_at, kind));
+    Ok(folder.sync() == want && faulty.script.open.get() == 0)
 }
 
 #[test]
 fn short_and_interrupted_writes(rt: HostRuntime) -> Result<(), Fail> {
-    let root = fresh(rt, "short_writes")?;
-    let faulty = Faulty::of(rt, rt.alloc())?;
-    let script = &faulty.script;
-    script.interrupts.set(true);
-    let mut folder = DiskFolder::open_at(&faulty, rt.alloc(), root.as_str())?;
-    folder.write("u", b"longer before")?;
-    folder.write("u", b"abc")?;
-    assert!(rt; held(&rt, rt.alloc(), root.as_str(), "tmp/u")?.as_slice() == b"abc".as_slice());
-    fs::remove_dir_all(&rt, root.as_str())?;
+    let scratch = Scratch::new(rt, "short_writes")?;
+    let root = scratch.path_of("maildir")?;
+    let faults = Faults {
+        interrupts: true,
+        ..Faults::NONE
+    };
+    for text in ["abc", "longer than before"] {
+        let call = Asked::Write("u", text);
+        assert!(rt;
+            answers(rt, root.as_str(), call, faults, Ok(()))?
+                && scratch.holds("maildir/tmp/u", Some(text))?,
+            "{text}"
+        );
+    }
     Ok(())
 }
 
 // A name that is not UTF-8 is no name that could be listed.
 #[test]
 fn garbled_names(rt: HostRuntime) -> Result<(), Fail> {
-    let root = fresh(rt, "garbled_names")?;
-    let faulty = Faulty::of(rt, rt.alloc())?;
-    let script = &faulty.script;
-    let mut folder = DiskFolder::open_at(&faulty, rt.alloc(), root.as_str())?;
-    script.garbles.set(true);
+    let scratch = Scratch::new(rt, "garbled_names")?;
+    let root = scratch.path_of("maildir")?;
+    let faults = Faults {
+        garbles: true,
+        ..Faults::NONE
+    };
+    let want = Err(FolderFault::Failed);
     for sub in [Sub::Tmp, Sub::New] {
         assert!(rt;
-            matches!(folder.list(sub), Err(FolderFault::Failed)),
+            answers(rt, root.as_str(), Asked::List(sub), faults, want)?,
             "{sub:?}"
         );
-        assert_eq!(rt; script.open.get(), 0, "{sub:?}");
     }
-    fs::remove_dir_all(&rt, root.as_str())?;
     Ok(())
 }

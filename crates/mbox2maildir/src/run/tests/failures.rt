@@ -1,21 +1,28 @@
 // Outputs that fail, and calls of the system that fail.
 use super::*;
-use crate::faulty::Faulty;
-use crate::scratch::fresh;
+use crate::faulty::{Faults, Faulty};
 use std::io::ErrorKind;
 use std::test::Fail;
 
-pub(super) const NO_OUTPUT: &str = "mbox2maildir: the output could not be written\n";
+const NO_MEMORY: &str = "mbox2maildir: out of memory\n";
+
+const NO_FOLDER: &str = "mbox2maildir: cannot open the folder\n";
+
+const CALL_1: &str = "mbox2maildir: folder call 1 failed\n";
+
+const CALL_3: &str = "mbox2maildir: folder call 3 failed\n";
+
+const CALL_4: &str = "mbox2maildir: folder call 4 failed\n";
 
 // A writer that takes so many bytes and then fails.
 #[derive(Drop)]
-pub(super) struct Narrow {
-    pub taken: Vec<u8>,
+struct Narrow {
+    taken: Vec<u8>,
     room: usize,
 }
 
 impl Narrow {
-    pub(super) fn of(alloc: Global, room: usize) -> Narrow {
+    fn of(alloc: Global, room: usize) -> Narrow {
         Narrow {
             taken: Vec::new(alloc),
             room,
@@ -39,44 +46,64 @@ impl Write for Narrow {
     }
 }
 
+// Whether a run into an output with this room ends with status 1, once its room is taken, and says so on an error
+// output with room.
+fn fails_with(
+    rt: HostRuntime,
+    scratch: &Scratch,
+    words: &str,
+    room: usize,
+    taken: &str,
+    told: &str,
+) -> Result<bool, AllocError> {
+    let words = words_of(rt.alloc(), scratch, words)?;
+    let mut input = ONE.as_bytes();
+    let (mut out, mut err) = (
+        Narrow::of(rt.alloc(), room),
+        Narrow::of(rt.alloc(), told.len()),
+    );
+    let status = run(
+        &rt,
+        rt.alloc(),
+        words.as_slice(),
+        &mut input,
+        &mut out,
+        &mut err,
+    );
+    Ok(
+        status == 1
+            && out.taken.as_slice() == taken.as_bytes()
+            && err.taken.as_slice() == told.as_bytes(),
+    )
+}
+
 #[test]
 fn output_fails(rt: HostRuntime) -> Result<(), Fail> {
-    let (alloc, maildir) = (rt.alloc(), fresh(rt, "output_fails")?);
-    let maildir = maildir.as_str();
-    let rewrite: &[&str] = &["rewrite"];
-    let convert: &[&str] = &["convert", maildir];
-    for (words, room, taken) in [(rewrite, 4, "From"), (convert, 0, "")] {
-        let words = strings(alloc, words)?;
-        let (mut out, mut err) = (Narrow::of(alloc, room), Vec::new(alloc));
-        assert_eq!(rt;
-            run(
-                &rt,
-                alloc,
-                words.as_slice(),
-                &mut ONE.as_bytes(),
-                &mut out,
-                &mut err
-            ),
-            1
-        );
-        assert!(rt; out.taken.as_slice() == taken.as_bytes());
-        assert!(rt; err.as_slice() == NO_OUTPUT.as_bytes());
-        let (mut out, mut err) = (Narrow::of(alloc, 0), Narrow::of(alloc, 0));
-        assert_eq!(rt;
-            run(
-                &rt,
-                alloc,
-                words.as_slice(),
-                &mut ONE.as_bytes(),
-                &mut out,
-                &mut err
-            ),
-            1
+    let scratch = Scratch::new(rt, "output_fails")?;
+    for (file, text) in [("one", ONE), ("empty", "From c\n\n"), ("two", TWO_EMPTY)] {
+        scratch.write(file, text)?;
+    }
+    let rows = [
+        ("rewrite", 4, "From", NO_OUTPUT),
+        ("rewrite", 4, "From", ""),
+        ("convert @/maildir", 0, "", NO_OUTPUT),
+        ("convert @/maildir", 0, "", ""),
+        (
+            "convert @/several @/one @/empty @/two",
+            PLACED_ONE.len(),
+            PLACED_ONE,
+            NO_OUTPUT,
+        ),
+    ];
+    for (words, room, taken, told) in rows {
+        assert!(rt;
+            fails_with(rt, &scratch, words, room, taken, told)?,
+            "{words}"
         );
     }
-    let placed = format!(in alloc; "new/{ABC}")?;
-    assert!(rt; holds(&rt, alloc, maildir, placed.as_str(), "abc")?);
-    fs::remove_dir_all(&rt, maildir)?;
+    let placed = format!(in rt.alloc(); "maildir/new/{ABC}")?;
+    assert!(rt; scratch.holds(placed.as_str(), Some("abc"))?);
+    assert_eq!(rt; scratch.count("several/new")?, Some(2));
     Ok(())
 }
 
@@ -84,79 +111,33 @@ fn output_fails(rt: HostRuntime) -> Result<(), Fail> {
 // the run, whose number follows that of the run's last folder call.
 #[test]
 fn system_fails(rt: HostRuntime) -> Result<(), Fail> {
-    let (alloc, maildir) = (rt.alloc(), fresh(rt, "system_fails")?);
-    let maildir = maildir.as_str();
-    let stdin: &[&str] = &["convert", maildir];
-    let file: &[&str] = &["convert", maildir, maildir];
+    let scratch = Scratch::new(rt, "system_fails")?;
+    let stdin = "convert @/maildir";
+    let file = "convert @/maildir @/source";
     let rows = [
-        (
-            file,
-            0,
-            ErrorKind::Other,
-            "mbox2maildir: cannot open the source\n",
-        ),
-        (
-            file,
-            0,
-            ErrorKind::OutOfMemory,
-            "mbox2maildir: out of memory\n",
-        ),
-        (
-            stdin,
-            0,
-            ErrorKind::Other,
-            "mbox2maildir: cannot open the folder\n",
-        ),
-        (
-            stdin,
-            3,
-            ErrorKind::OutOfMemory,
-            "mbox2maildir: out of memory\n",
-        ),
-        (
-            stdin,
-            4,
-            ErrorKind::Other,
-            "mbox2maildir: folder call 1 failed\n",
-        ),
-        (
-            stdin,
-            14,
-            ErrorKind::Other,
-            "mbox2maildir: folder call 3 failed\n",
-        ),
-        (
-            stdin,
-            15,
-            ErrorKind::Other,
-            "mbox2maildir: folder call 4 failed\n",
-        ),
-        (
-            stdin,
-            22,
-            ErrorKind::Other,
-            "mbox2maildir: folder call 4 failed\n",
-        ),
-        (
-            stdin,
-            22,
-            ErrorKind::OutOfMemory,
-            "mbox2maildir: out of memory\n",
-        ),
+        (file, 0, ErrorKind::Other, NO_SOURCE),
+        (file, 0, ErrorKind::OutOfMemory, NO_MEMORY),
+        (stdin, 0, ErrorKind::Other, NO_FOLDER),
+        (stdin, 3, ErrorKind::OutOfMemory, NO_MEMORY),
+        (stdin, 4, ErrorKind::Other, CALL_1),
+        (stdin, 14, ErrorKind::Other, CALL_3),
+        (stdin, 15, ErrorKind::Other, CALL_4),
+        (stdin, 22, ErrorKind::Other, CALL_4),
+        (stdin, 22, ErrorKind::OutOfMemory, NO_MEMORY),
     ];
     for (words, fails_at, kind, text) in rows {
-        let _ = fs::remove_dir_all(&rt, maildir);
+        scratch.clear("maildir")?;
         let faulty = Faulty::of(rt, rt.alloc())?;
-        let script = &faulty.script;
-        script.clock.set(u64::MAX / 2);
-        script.fails_at.set(fails_at);
-        script.kind.set(kind);
+        faulty.script.begin(Faults {
+            at: fails_at,
+            kind,
+            ..Faults::NONE
+        });
         assert!(rt;
-            ends(&faulty, alloc, words, "", (1, "", text))?,
-            "failure {fails_at}"
+            ends(&faulty, rt.alloc(), &scratch, words, "", (1, "", text))?
+                && faulty.script.open.get() == 0,
+            "{kind:?} at {fails_at}"
         );
-        assert_eq!(rt; script.open.get(), 0, "failure {fails_at}");
     }
-    fs::remove_dir_all(&rt, maildir)?;
     Ok(())
 }

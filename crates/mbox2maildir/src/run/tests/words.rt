@@ -1,68 +1,60 @@
 // The words of the command line, and texts that are no mbox text.
 use super::*;
-use crate::scratch::fresh;
 use std::test::Fail;
 
-pub(super) const NO_FROM_LINE: &str = "mbox2maildir: no From line at the start\n";
+const LISTED_TWO: &str =
+    "1 e3b0c44298fc1c149afbf4c8996fb92427ae41e4649b934ca495991b7852b855.1 new - 0 a\n\
+     2 e3b0c44298fc1c149afbf4c8996fb92427ae41e4649b934ca495991b7852b855.2 new - 0 b\n";
 
-const WRONG_WORDS: &str = "mbox2maildir: wrong words\n";
+const UNOPENED: End = (1, "", NO_SOURCE);
+
+const WRONG_WORDS: End = (2, "", "mbox2maildir: wrong words\n");
 
 #[test]
 fn no_from_line(rt: HostRuntime) -> Result<(), Fail> {
-    let maildir = fresh(rt, "no_from_line")?;
-    let maildir = maildir.as_str();
+    let scratch = Scratch::new(rt, "no_from_line")?;
     for input in ["Subject: x\n", "Fro", "\nFrom a\n"] {
-        let want = (1, "", NO_FROM_LINE);
-        assert!(rt; ends(&rt, rt.alloc(), &[], input, want)?, "{input:?}");
-        assert!(rt;
-            ends(&rt, rt.alloc(), &["rewrite"], input, want)?,
-            "{input:?}"
-        );
-        assert!(rt; ends(&rt, rt.alloc(), &["list"], input, want)?, "{input:?}");
-        assert!(rt;
-            ends(&rt, rt.alloc(), &["convert", maildir], input, want)?,
-            "{input:?}"
-        );
-        for sub in ["tmp", "new", "cur"] {
-            assert_eq!(rt; count(&rt, rt.alloc(), maildir, sub)?, 0);
+        for words in ["", "rewrite", "list", "convert @/maildir"] {
+            let want = (1, "", NO_FROM_LINE);
+            assert!(rt;
+                ends(&rt, rt.alloc(), &scratch, words, input, want)?,
+                "{words}: {input:?}"
+            );
         }
     }
-    fs::remove_dir_all(&rt, maildir)?;
+    for sub in ["maildir/tmp", "maildir/new", "maildir/cur"] {
+        assert_eq!(rt; scratch.count(sub)?, Some(0), "{sub}");
+    }
     Ok(())
 }
 
 #[test]
 fn command_line(rt: HostRuntime) -> Result<(), Fail> {
-    let (maildir, missing) = (fresh(rt, "command_line")?, fresh(rt, "missing")?);
-    let (maildir, missing) = (maildir.as_str(), missing.as_str());
-    let no_source = "mbox2maildir: cannot open the source\n";
-    let listed = format!(in rt.alloc(); "1 {EMPTY_ONE} new - 0 a\n2 {EMPTY_TWO} new - 0 b\n")?;
-    let (alloc, input) = (rt.alloc(), TWO_EMPTY);
-    let placed = "messages 2, there 0, placed 2, swept 0\n";
+    let scratch = Scratch::new(rt, "command_line")?;
     let there = "messages 2, there 2, placed 0, swept 0\n";
-    let (unopened, wrong) = ((1, "", no_source), (2, "", WRONG_WORDS));
-    assert!(rt; ends(&rt, alloc, &["convert", maildir], input, (0, placed, ""))?);
-    assert!(rt; ends(&rt, alloc, &["convert", maildir], input, (0, there, ""))?);
-    assert!(rt; ends(&rt, alloc, &["list"], input, (0, listed.as_str(), ""))?);
-    assert!(rt; ends(&rt, alloc, &["rewrite"], input, (0, TWO_EMPTY, ""))?);
-    assert!(rt; ends(&rt, alloc, &[], input, (0, TWO_EMPTY, ""))?);
-    assert!(rt; ends(&rt, alloc, &["list", missing], input, unopened)?);
-    assert!(rt; ends(&rt, alloc, &["rewrite", missing], input, unopened)?);
-    assert!(rt; ends(&rt, alloc, &["convert", missing, missing], input, unopened)?);
-    assert!(rt; ends(&rt, alloc, &["convert"], input, wrong)?);
-    assert!(rt; ends(&rt, alloc, &["frobnicate"], input, wrong)?);
-    assert!(rt; ends(&rt, alloc, &[""], input, wrong)?);
-    assert!(rt; ends(&rt, alloc, &["rewrite", missing, missing], input, wrong)?);
-    assert!(rt;
-        ends(
-            &rt,
-            alloc,
-            &["convert", maildir, missing, missing],
-            input,
-            unopened
-        )?
-    );
-    assert!(rt; count(&rt, rt.alloc(), maildir, "new")? == 2);
-    fs::remove_dir_all(&rt, maildir)?;
+    let rows = [
+        ("convert @/maildir", (0, PLACED_TWO, "")),
+        ("convert @/maildir", (0, there, "")),
+        ("list", (0, LISTED_TWO, "")),
+        ("rewrite", (0, TWO_EMPTY, "")),
+        ("", (0, TWO_EMPTY, "")),
+        ("list @/missing", UNOPENED),
+        ("rewrite @/missing", UNOPENED),
+        ("convert @/missing @/missing", UNOPENED),
+        ("convert @/maildir @/missing @/missing", UNOPENED),
+        ("convert", WRONG_WORDS),
+        ("frobnicate", WRONG_WORDS),
+        (" ", WRONG_WORDS),
+        ("rewrite @/missing @/missing", WRONG_WORDS),
+    ];
+    for (words, want) in rows {
+        assert!(rt;
+            ends(&rt, rt.alloc(), &scratch, words, TWO_EMPTY, want)?,
+            "{words}"
+        );
+    }
+    for (name, count) in [("missing", None), ("maildir/new", Some(2))] {
+        assert_eq!(rt; scratch.count(name)?, count, "{name}");
+    }
     Ok(())
 }
