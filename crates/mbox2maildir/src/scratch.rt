@@ -54,11 +54,14 @@ impl Scratch {
         })
     }
 
-    // How many entries a folder has; `None` where there is no folder.
-    pub(crate) fn count(&self, name: &str) -> Result<Option<usize>, AllocError> {
+    // Whether a folder has so many entries, and where none is wanted, whether there is no folder.
+    pub(crate) fn counts(&self, name: &str, want: Option<usize>) -> Result<bool, AllocError> {
         let path = self.path_of(name)?;
         let names = crate::listing::names(&self.rt, self.rt.alloc(), path.as_str());
-        Ok(names.ok().map(|names| names.len()))
+        Ok(match names {
+            Ok(names) => want == Some(names.len()),
+            Err(_) => want.is_none(),
+        })
     }
 
     // Who may read, write and enter a file or folder.

@@ -12,7 +12,6 @@ enum Asked {
     Write(&'static str, &'static str),
     Place(&'static str, Place, &'static str),
     Remove(&'static str),
-    Sync,
 }
 
 impl Asked {
@@ -22,7 +21,6 @@ impl Asked {
             Asked::Write(name, text) => folder.write(name, text.as_bytes()),
             Asked::Place(name, place, target) => folder.place(name, place, target),
             Asked::Remove(name) => folder.remove(name),
-            Asked::Sync => folder.sync(),
         }
     }
 }
@@ -37,6 +35,15 @@ fn lists<R: Files + Clock>(folder: &mut DiskFolder<'_, R>, sub: Sub, want: Optio
         [name] => want == Some(name.as_str()),
         _ => false,
     }
+}
+
+// Whether the one file of `tmp` is listed, and in `cur` alone once it is placed there.
+fn is_listed_where_it_is<R: Files + Clock>(folder: &mut DiskFolder<'_, R>) -> bool {
+    lists(folder, Sub::Tmp, Some("u"))
+        && folder.place("u", Place::Cur, "u:2,") == Ok(())
+        && lists(folder, Sub::Tmp, None)
+        && lists(folder, Sub::New, None)
+        && lists(folder, Sub::Cur, Some("u:2,"))
 }
 
 #[test]
@@ -54,20 +61,26 @@ fn folder_calls(rt: HostRuntime) -> Result<(), Fail> {
     for (call, want) in rows {
         assert_eq!(rt; call.answer(&mut folder), want, "{call:?}");
     }
-    assert!(rt; lists(&mut folder, Sub::Tmp, Some("u")));
-    assert_eq!(rt; folder.place("u", Place::Cur, "u:2,"), Ok(()));
-    for (sub, want) in [(Sub::Tmp, None), (Sub::New, None), (Sub::Cur, Some("u:2,"))] {
-        assert!(rt; lists(&mut folder, sub, want), "{sub:?}");
-    }
-    assert_eq!(rt; folder.sync(), Ok(()));
+    assert!(rt; is_listed_where_it_is(&mut folder) && folder.sync() == Ok(()));
     assert!(rt; folder.calls == 10 && folder.failures == 1);
     assert!(rt; scratch.holds("maildir/cur/u:2,", Some("ab"))?);
-    let modes = [
+    Ok(())
+}
+
+// Mail is private.
+#[test]
+fn modes(rt: HostRuntime) -> Result<(), Fail> {
+    let scratch = Scratch::new(rt, "modes")?;
+    let root = scratch.path_of("maildir")?;
+    let mut folder = DiskFolder::open_at(&rt, rt.alloc(), root.as_str())?;
+    folder.write("u", b"ab")?;
+    for (name, mode) in [
         ("maildir", 0o700),
+        ("maildir/tmp", 0o700),
+        ("maildir/new", 0o700),
         ("maildir/cur", 0o700),
-        ("maildir/cur/u:2,", 0o600),
-    ];
-    for (name, mode) in modes {
+        ("maildir/tmp/u", 0o600),
+    ] {
         assert_eq!(rt; scratch.mode(name)?, mode, "{name}");
     }
     Ok(())

@@ -11,11 +11,15 @@ mod words;
 // How a run ends: its status, and what it writes to its output and to standard error.
 type End = (u8, &'static str, &'static str);
 
-const EMPTY_ONE: &str = "e3b0c44298fc1c149afbf4c8996fb92427ae41e4649b934ca495991b7852b855.1";
+// Where the empty messages and `abc` are placed.
+const NEW_EMPTY: [&str; 3] = [
+    "maildir/new/e3b0c44298fc1c149afbf4c8996fb92427ae41e4649b934ca495991b7852b855.1",
+    "maildir/new/e3b0c44298fc1c149afbf4c8996fb92427ae41e4649b934ca495991b7852b855.2",
+    "maildir/new/e3b0c44298fc1c149afbf4c8996fb92427ae41e4649b934ca495991b7852b855.3",
+];
 
-const EMPTY_TWO: &str = "e3b0c44298fc1c149afbf4c8996fb92427ae41e4649b934ca495991b7852b855.2";
-
-const ABC: &str = "ba7816bf8f01cfea414140de5dae2223b00361a396177a9cb410ff61f20015ad.1";
+const NEW_ABC: &str =
+    "maildir/new/ba7816bf8f01cfea414140de5dae2223b00361a396177a9cb410ff61f20015ad.1";
 
 const TWO_EMPTY: &str = "From a\n\nFrom b\n\n";
 

@@ -64,30 +64,23 @@ fn answers(
     )
 }
 
-// At which call of the system the folder's call does something else than it should, if at any. It tells want of memory as
+// Whether a folder's call answers as it should where one of its calls of the system fails: it tells want of memory as
 // such and answers `Failed` for anything else; what is left is as far as the calls went.
-fn wrong_at(
+fn fails_well(
     rt: HostRuntime,
     scratch: &Scratch,
     call: Asked,
-    steps: u64,
-    kind: ErrorKind,
-    fault: FolderFault,
-) -> Result<Option<u64>, Fail> {
+    faults: Faults,
+    want: Result<(), FolderFault>,
+) -> Result<bool, Fail> {
+    scratch.clear("maildir")?;
     let root = scratch.path_of("maildir")?;
-    for fails_at in 0..=steps {
-        scratch.clear("maildir")?;
-        let want = if fails_at < steps { Err(fault) } else { Ok(()) };
-        let (in_tmp, in_new) = left(call, fails_at);
-        let faults = failing(fails_at, kind);
-        if !answers(rt, root.as_str(), call, faults, want)?
-            || !scratch.holds("maildir/tmp/u", in_tmp)?
-            || !scratch.holds("maildir/new/u", in_new)?
-        {
-            return Ok(Some(fails_at));
-        }
-    }
-    Ok(None)
+    let (in_tmp, in_new) = left(call, faults.at);
+    Ok(
+        answers(rt, root.as_str(), call, faults, want)?
+            && scratch.holds("maildir/tmp/u", in_tmp)?
+            && scratch.holds("maildir/new/u", in_new)?,
+    )
 }
 
 // Each call of the system fails in turn, until none is left to fail.
@@ -96,8 +89,13 @@ fn each_call_fails_in_turn(rt: HostRuntime) -> Result<(), Fail> {
     let scratch = Scratch::new(rt, "each_call_fails")?;
     for (kind, fault) in KINDS {
         for (call, steps) in CALLS {
-            let wrong = wrong_at(rt, &scratch, call, steps, kind, fault)?;
-            assert_eq!(rt; wrong, None, "{call:?}, {kind:?}");
+            for fails_at in 0..=steps {
+                let want = if fails_at < steps { Err(fault) } else { Ok(()) };
+                assert!(rt;
+                    fails_well(rt, &scratch, call, failing(fails_at, kind), want)?,
+                    "{call:?}, {kind:?} at {fails_at}"
+                );
+            }
         }
     }
     Ok(())
@@ -118,9 +116,9 @@ fn opens(
     faulty.script.begin(failing(fails_at, kind));
     let answer = DiskFolder::open_at(&faulty, rt.alloc(), root.as_str()).map(|_| ());
     let mut good = answer == want && faulty.script.open.get() == 0;
-    let folders = ["maildir", "maildir/tmp", "maildir/new", "maildir/cur"];
-    for (makes, name) in (1..).zip(folders) {
-        good = good && scratch.count(name)?.is_some() == (makes <= fails_at);
+    for (makes, name) in (2..).zip(["maildir/tmp", "maildir/new", "maildir/cur"]) {
+        let want = if makes <= fails_at { Some(0) } else { None };
+        good = good && scratch.counts(name, want)?;
     }
     Ok(good)
 }

@@ -101,10 +101,24 @@ fn output_fails(rt: HostRuntime) -> Result<(), Fail> {
             "{words}"
         );
     }
-    let placed = format!(in rt.alloc(); "maildir/new/{ABC}")?;
-    assert!(rt; scratch.holds(placed.as_str(), Some("abc"))?);
-    assert_eq!(rt; scratch.count("several/new")?, Some(2));
+    assert!(rt; scratch.holds(NEW_ABC, Some("abc"))?);
+    assert!(rt; scratch.counts("several/new", Some(2))?);
     Ok(())
+}
+
+// Whether a run ends with status 1 and this text where a call of the system fails, and leaves nothing open.
+fn tells(
+    rt: HostRuntime,
+    scratch: &Scratch,
+    words: &str,
+    faults: Faults,
+    text: &'static str,
+) -> Result<bool, AllocError> {
+    scratch.clear("maildir")?;
+    let faulty = Faulty::of(rt, rt.alloc())?;
+    faulty.script.begin(faults);
+    let is_told = ends(&faulty, rt.alloc(), scratch, words, "", (1, "", text))?;
+    Ok(is_told && faulty.script.open.get() == 0)
 }
 
 // What is told where a call of the system fails: the source, the folder, a call of the folder, and the sync after
@@ -125,18 +139,15 @@ fn system_fails(rt: HostRuntime) -> Result<(), Fail> {
         (stdin, 22, ErrorKind::Other, CALL_4),
         (stdin, 22, ErrorKind::OutOfMemory, NO_MEMORY),
     ];
-    for (words, fails_at, kind, text) in rows {
-        scratch.clear("maildir")?;
-        let faulty = Faulty::of(rt, rt.alloc())?;
-        faulty.script.begin(Faults {
-            at: fails_at,
+    for (words, at, kind, text) in rows {
+        let faults = Faults {
+            at,
             kind,
             ..Faults::NONE
-        });
+        };
         assert!(rt;
-            ends(&faulty, rt.alloc(), &scratch, words, "", (1, "", text))?
-                && faulty.script.open.get() == 0,
-            "{kind:?} at {fails_at}"
+            tells(rt, &scratch, words, faults, text)?,
+            "{kind:?} at {at}"
         );
     }
     Ok(())

@@ -7,6 +7,12 @@ const FLAGGED: &str =
 
 const ALL_FLAGS: &str = "From a\tb@c Thu Jan  1 00:00:00 1970\nStatus: RO\nX-Status: AF\n\nhi\n\n";
 
+const SEEN: &str =
+    "maildir/cur/e3b0c44298fc1c149afbf4c8996fb92427ae41e4649b934ca495991b7852b855.1:2,S";
+
+const TMP_ABC: &str =
+    "maildir/tmp/ba7816bf8f01cfea414140de5dae2223b00361a396177a9cb410ff61f20015ad.1";
+
 const FOREIGN: &str = "maildir/tmp/1700000000.M1.host";
 
 #[test]
@@ -34,8 +40,7 @@ fn files_and_folders(rt: HostRuntime) -> Result<(), Fail> {
             "{words}"
         );
     }
-    let placed = format!(in rt.alloc(); "maildir/new/{ABC}")?;
-    for (name, text) in [(FOREIGN, "z"), (placed.as_str(), "abc")] {
+    for (name, text) in [(FOREIGN, "z"), (NEW_ABC, "abc")] {
         assert!(rt; scratch.holds(name, Some(text))?, "{name}");
     }
     Ok(())
@@ -58,7 +63,7 @@ fn all_flags(rt: HostRuntime) -> Result<(), Fail> {
     let body = "Status: RO\nX-Status: AF\n\nhi\n";
     assert!(rt; scratch.holds(FLAGGED, Some(body))?);
     for sub in ["maildir/tmp", "maildir/new"] {
-        assert_eq!(rt; scratch.count(sub)?, Some(0), "{sub}");
+        assert!(rt; scratch.counts(sub, Some(0))?, "{sub}");
     }
     Ok(())
 }
@@ -67,8 +72,6 @@ fn all_flags(rt: HostRuntime) -> Result<(), Fail> {
 #[test]
 fn moved_by_a_reader(rt: HostRuntime) -> Result<(), Fail> {
     let scratch = Scratch::new(rt, "moved")?;
-    let from = format!(in rt.alloc(); "maildir/new/{EMPTY_ONE}")?;
-    let to = format!(in rt.alloc(); "maildir/cur/{EMPTY_ONE}:2,S")?;
     let there = "messages 2, there 2, placed 0, swept 0\n";
     for report in [PLACED_TWO, there] {
         let want = (0, report, "");
@@ -83,10 +86,10 @@ fn moved_by_a_reader(rt: HostRuntime) -> Result<(), Fail> {
             )?,
             "{report}"
         );
-        let _ = scratch.rename(from.as_str(), to.as_str());
+        let _ = scratch.rename(NEW_EMPTY[0], SEEN);
     }
     for sub in ["maildir/new", "maildir/cur"] {
-        assert_eq!(rt; scratch.count(sub)?, Some(1), "{sub}");
+        assert!(rt; scratch.counts(sub, Some(1))?, "{sub}");
     }
     Ok(())
 }
@@ -95,8 +98,7 @@ fn moved_by_a_reader(rt: HostRuntime) -> Result<(), Fail> {
 #[test]
 fn directory_in_the_sweep(rt: HostRuntime) -> Result<(), Fail> {
     let scratch = Scratch::new(rt, "directory")?;
-    let directory = format!(in rt.alloc(); "maildir/tmp/{ABC}")?;
-    for name in ["maildir", "maildir/tmp", directory.as_str()] {
+    for name in ["maildir", "maildir/tmp", TMP_ABC] {
         scratch.make_folder(name)?;
     }
     for want in [
@@ -107,7 +109,7 @@ fn directory_in_the_sweep(rt: HostRuntime) -> Result<(), Fail> {
             ends(&rt, rt.alloc(), &scratch, "convert @/maildir", ONE, want)?,
             "{want:?}"
         );
-        scratch.clear(directory.as_str())?;
+        scratch.clear(TMP_ABC)?;
     }
     Ok(())
 }

@@ -4,8 +4,6 @@ use crate::faulty::{Faulty, Script};
 use std::rc::Rc;
 use std::test::Fail;
 
-const EMPTY_THREE: &str = "e3b0c44298fc1c149afbf4c8996fb92427ae41e4649b934ca495991b7852b855.3";
-
 const TWO_AND_ONE: &str =
     "messages 2, there 0, placed 2, swept 0\nmessages 1, there 1, placed 0, swept 0\n";
 
@@ -36,14 +34,10 @@ fn texts(rt: HostRuntime, name: &str) -> io::Result<Scratch> {
 }
 
 // Whether the Maildir has so many empty messages and nothing else in `new`; `None` where there is no Maildir.
-fn has_empty(alloc: Global, scratch: &Scratch, count: Option<usize>) -> Result<bool, AllocError> {
-    let mut good = scratch.count("maildir/new")? == count;
-    for base in [EMPTY_ONE, EMPTY_TWO, EMPTY_THREE]
-        .iter()
-        .take(count.unwrap_or(0))
-    {
-        let placed = format!(in alloc; "maildir/new/{base}")?;
-        good = good && scratch.holds(placed.as_str(), Some(""))?;
+fn has_empty(scratch: &Scratch, count: Option<usize>) -> Result<bool, AllocError> {
+    let mut good = scratch.counts("maildir/new", count)?;
+    for placed in NEW_EMPTY.iter().take(count.unwrap_or(0)) {
+        good = good && scratch.holds(placed, Some(""))?;
     }
     Ok(good)
 }
@@ -68,7 +62,7 @@ fn two_texts(rt: HostRuntime) -> Result<(), Fail> {
         let words = format!(in rt.alloc(); "convert @/maildir {files}")?;
         assert!(rt;
             ends(&rt, rt.alloc(), &scratch, words.as_str(), "", want)?
-                && has_empty(rt.alloc(), &scratch, count)?,
+                && has_empty(&scratch, count)?,
             "{files}"
         );
     }
