@@ -1,7 +1,6 @@
 // The targets of bodies. Digests are FIPS 180-4's examples or another program's.
 use super::*;
 use crate::target::Place;
-use std::test::Fail;
 
 const EMPTY: &str = "e3b0c44298fc1c149afbf4c8996fb92427ae41e4649b934ca495991b7852b855";
 
@@ -18,8 +17,25 @@ fn next(namer: &mut Namer, body: &str) -> Result<Target, NameFault> {
     }
 }
 
+// Whether the next target has these digits, this number and place, and this name behind the digits.
+fn targets(
+    namer: &mut Namer,
+    body: &str,
+    digits: &str,
+    number: &str,
+    place: Place,
+    rest: &str,
+) -> bool {
+    let Ok(target) = next(namer, body) else {
+        return false;
+    };
+    target.base.as_str().strip_prefix(digits) == Some(number)
+        && target.place == place
+        && target.name.as_str().strip_prefix(digits) == Some(rest)
+}
+
 #[test]
-fn one_body(rt: HostRuntime) -> Result<(), Fail> {
+fn one_body(rt: HostRuntime) {
     for (body, digits, place, rest) in [
         ("", EMPTY, Place::New, ".1"),
         ("abc", ABC, Place::New, ".1"),
@@ -78,36 +94,28 @@ fn one_body(rt: HostRuntime) -> Result<(), Fail> {
             ".1:2,FRST",
         ),
     ] {
-        let target = next(&mut Namer::new(rt.alloc()), body)?;
-        assert_eq!(rt;
-            target.base.as_str().strip_prefix(digits),
-            Some(".1"),
-            "of {body:?}"
-        );
-        assert_eq!(rt; target.place, place, "of {body:?}");
-        assert_eq!(rt;
-            target.name.as_str().strip_prefix(digits),
-            Some(rest),
+        let mut namer = Namer::new(rt.alloc());
+        assert!(rt;
+            targets(&mut namer, body, digits, ".1", place, rest),
             "of {body:?}"
         );
     }
-    Ok(())
 }
 
 #[test]
-fn equal_bodies(rt: HostRuntime) -> Result<(), Fail> {
+fn equal_bodies(rt: HostRuntime) {
     let mut namer = Namer::new(rt.alloc());
-    for (body, digits, number, rest) in [
-        ("", EMPTY, ".1", ".1"),
-        ("abc", ABC, ".1", ".1"),
-        ("", EMPTY, ".2", ".2"),
-        ("Status: O\n", OLD, ".1", ".1:2,"),
-        ("Status: O\n", OLD, ".2", ".2:2,"),
-        ("", EMPTY, ".3", ".3"),
+    for (body, digits, number, place, rest) in [
+        ("", EMPTY, ".1", Place::New, ".1"),
+        ("abc", ABC, ".1", Place::New, ".1"),
+        ("", EMPTY, ".2", Place::New, ".2"),
+        ("Status: O\n", OLD, ".1", Place::Cur, ".1:2,"),
+        ("Status: O\n", OLD, ".2", Place::Cur, ".2:2,"),
+        ("", EMPTY, ".3", Place::New, ".3"),
     ] {
-        let target = next(&mut namer, body)?;
-        assert_eq!(rt; target.base.as_str().strip_prefix(digits), Some(number));
-        assert_eq!(rt; target.name.as_str().strip_prefix(digits), Some(rest));
+        assert!(rt;
+            targets(&mut namer, body, digits, number, place, rest),
+            "{number} of {body:?}"
+        );
     }
-    Ok(())
 }

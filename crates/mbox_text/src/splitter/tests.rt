@@ -1,9 +1,10 @@
 // Texts in pieces, and what a refusal leaves.
-ghost use Rattle.std.specs.Prelude.{◌<◌};
+ghost use Rattle.std.specs.Prelude.{◌<◌, ◌≤◌};
 
 use super::*;
+use crate::entry::tests::are;
 use crate::split::split_all;
-use std::process::Abort;
+use std::alloc::AllocError;
 use std::test::Fail;
 
 // The messages of a text that is fed in pieces of this size.
@@ -21,65 +22,70 @@ fn split_pieces(alloc: Global, text: &[u8], size: usize) -> Result<Vec<Entry>, T
     Ok(entries)
 }
 
-// The text has the same messages in pieces of this size as the plain program finds.
-fn assert_pieces(rt: &(impl Abort + AllocGlobal), text: &[u8], size: usize) -> Result<(), Fail>
+// Whether the text has the same messages in pieces of this size as the plain program finds.
+fn is_the_same(alloc: Global, text: &[u8], size: usize) -> Result<bool, TextFault>
     requires { 0 < size }
 {
-    let want = split_all(rt.alloc(), text)?;
-    let got = split_pieces(rt.alloc(), text, size)?;
-    assert_eq!(rt; got.len(), want.len(), "pieces of {size}");
+    let want = split_all(alloc, text)?;
+    let got = split_pieces(alloc, text, size)?;
     for (got, want) in got.iter().zip(want.iter()) {
-        assert!(rt;
-            got.from_line.as_slice() == want.from_line.as_slice(),
-            "pieces of {size}"
-        );
-        assert!(rt;
-            got.body.as_slice() == want.body.as_slice(),
-            "pieces of {size}"
-        );
+        if got.from_line.as_slice() != want.from_line.as_slice()
+            || got.body.as_slice() != want.body.as_slice()
+        {
+            return Ok(false);
+        }
     }
-    Ok(())
+    Ok(got.len() == want.len())
 }
 
 // Every kind of line, and every kind of end of a message.
 const LINES: &[u8] =
     b"From a\n>From b\n>>From c\n> From d\n>From\nFrom\n\nFrom e\nx\r\n\n\nFrom f\n\n\nFrom  g h\nFrom \n>\n>Fro\n\nFrom i\nlast";
 
+// The messages of a text that is fed in two pieces.
+fn split_at(alloc: Global, text: &[u8], cut: usize) -> Result<Vec<Entry>, TextFault> {
+    let (front, rest) = text.split_at(cut.min(text.len()));
+    let mut splitter = Splitter::new(alloc);
+    let mut entries = Vec::new(alloc);
+    splitter.feed(front, &mut entries)?;
+    splitter.feed(rest, &mut entries)?;
+    if let Some(last) = splitter.finish()? {
+        entries.push(last)?;
+    }
+    Ok(entries)
+}
+
 #[test]
 fn any_pieces(rt: HostRuntime) -> Result<(), Fail> {
-    let text: &[u8] = b"From x\n>From a\n>>From b\n> From c\n>From\n\n";
-    let from_line: &[u8] = b"From x";
-    let body: &[u8] = b"From a\n>From b\n> From c\n>From\n";
-    let bytes = split_pieces(rt.alloc(), text, 1)?;
-    let mut halves = Vec::new(rt.alloc());
-    let mut splitter = Splitter::new(rt.alloc());
-    splitter.feed(&text[..11], &mut halves)?;
-    splitter.feed(&text[11..], &mut halves)?;
-    if let Some(last) = splitter.finish()? {
-        halves.push(last)?;
-    }
-    for entries in [bytes, halves] {
-        assert_eq!(rt; entries.len(), 1);
-        for entry in entries.iter() {
-            assert!(rt; entry.from_line.as_slice() == from_line);
-            assert!(rt; entry.body.as_slice() == body);
-        }
-    }
+    let text = b"From x\n>From a\n>>From b\n> From c\n>From\n\n";
+    let want = [(
+        b"From x".as_slice(),
+        b"From a\n>From b\n> From c\n>From\n".as_slice(),
+    )];
+    assert!(rt; are(&split_pieces(rt.alloc(), text, 1)?, &want));
+    assert!(rt; are(&split_at(rt.alloc(), text, 11)?, &want));
     Ok(())
+}
+
+// A first message that puts the byte with this index in the lines at the end of a piece of 65,536 bytes.
+fn text_before_lines(alloc: Global, before: usize) -> Result<Vec<u8>, AllocError>
+    requires { before ≤ 65536 }
+{
+    let mut text = Vec::from_slice(alloc, b"From x\n")?;
+    text.resize(65_536 - before, b'a')?;
+    text.push(b'\n')?;
+    text.extend_from_slice(LINES)?;
+    Ok(text)
 }
 
 #[test]
 fn pieces_cut_every_line(rt: HostRuntime) -> Result<(), Fail> {
     for size in [1, 2, 3, 5, 7] {
-        assert_pieces(&rt, LINES, size)?;
+        assert!(rt; is_the_same(rt.alloc(), LINES, size)?, "pieces of {size}");
     }
-    // a first message that puts each byte of the lines at the end of a piece of 65,536 bytes
     for before in 0..LINES.len() {
-        let mut text = Vec::from_slice(rt.alloc(), b"From x\n")?;
-        text.resize(65_536 - before, b'a')?;
-        text.push(b'\n')?;
-        text.extend_from_slice(LINES)?;
-        assert_pieces(&rt, &text, 65_536)?;
+        let text = text_before_lines(rt.alloc(), before)?;
+        assert!(rt; is_the_same(rt.alloc(), &text, 65_536)?, "{before}");
     }
     Ok(())
 }
@@ -88,19 +94,15 @@ fn pieces_cut_every_line(rt: HostRuntime) -> Result<(), Fail> {
 fn message_ends_with_the_next_from_line(rt: HostRuntime) -> Result<(), Fail> {
     let mut out = Vec::new(rt.alloc());
     let mut splitter = Splitter::new(rt.alloc());
-    splitter.feed(b"From a\nx\n", &mut out)?;
-    splitter.feed(b"From", &mut out)?;
-    assert_eq!(rt; out.len(), 0);
-    splitter.feed(b" ", &mut out)?;
-    if let Some(last) = splitter.finish()? {
-        out.push(last)?;
+    for (piece, count) in [("From a\nx\n", 0), ("From", 0), (" ", 1)] {
+        splitter.feed(piece.as_bytes(), &mut out)?;
+        assert_eq!(rt; out.len(), count, "{piece}");
     }
-    let want: [(&[u8], &[u8]); 2] = [(b"From a", b"x\n"), (b"From ", b"")];
-    assert_eq!(rt; out.len(), want.len());
-    for (entry, (from_line, body)) in out.iter().zip(want.iter()) {
-        assert!(rt; entry.from_line.as_slice() == *from_line);
-        assert!(rt; entry.body.as_slice() == *body);
-    }
+    let ended = [(b"From a".as_slice(), b"x\n".as_slice())];
+    assert!(rt; are(&out, &ended));
+    let last = [(b"From ".as_slice(), b"".as_slice())];
+    let entries: Vec<Entry> = splitter.finish()?.into_iter().collect(rt.alloc())?;
+    assert!(rt; are(&entries, &last));
     Ok(())
 }
 

@@ -37,6 +37,25 @@ fn entry(alloc: Global, from_line: &[u8], body: &[u8]) -> Result<Entry, AllocErr
     })
 }
 
+// Whether a message is written so, by a writer that takes so many bytes at a time.
+fn spells(
+    alloc: Global,
+    from_line: &[u8],
+    body: &[u8],
+    piece: usize,
+    want: &[u8],
+) -> Result<bool, Fail> {
+    let message = entry(alloc, from_line, body)?;
+    let mut narrow = Narrow {
+        taken: Vec::new(alloc),
+        room: 1000,
+        piece,
+        fails: true,
+    };
+    write_entry(&message, &mut narrow)?;
+    Ok(narrow.taken.as_slice() == want)
+}
+
 #[test]
 fn spellings(rt: HostRuntime) -> Result<(), Fail> {
     let rows: [(&str, &[u8], &[u8], &[u8]); 5] = [
@@ -57,18 +76,12 @@ fn spellings(rt: HostRuntime) -> Result<(), Fail> {
         ),
     ];
     for (name, from_line, body, want) in rows {
-        let message = entry(rt.alloc(), from_line, body)?;
-        let mut whole = Vec::new(rt.alloc());
-        write_entry(&message, &mut whole)?;
-        assert!(rt; whole.as_slice() == want, "{name}");
-        let mut narrow = Narrow {
-            taken: Vec::new(rt.alloc()),
-            room: 1000,
-            piece: 1,
-            fails: true,
-        };
-        write_entry(&message, &mut narrow)?;
-        assert!(rt; narrow.taken.as_slice() == want, "{name}, byte by byte");
+        for piece in [1, 1000] {
+            assert!(rt;
+                spells(rt.alloc(), from_line, body, piece, want)?,
+                "{name}, {piece} at a time"
+            );
+        }
     }
     Ok(())
 }

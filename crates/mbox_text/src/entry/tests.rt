@@ -1,0 +1,12 @@
+// What the tests of this crate ask of messages.
+use super::*;
+
+/// Whether these are the messages, each with its From_ line before its body.
+pub(crate) fn are(entries: &[Entry], want: &[(&[u8], &[u8])]) -> bool {
+    for (entry, (from_line, body)) in entries.iter().zip(want) {
+        if entry.from_line.as_slice() != *from_line || entry.body.as_slice() != *body {
+            return false;
+        }
+    }
+    entries.len() == want.len()
+}
