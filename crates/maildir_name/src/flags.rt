@@ -2,9 +2,6 @@
 ghost use Rattle.std.specs.Prelude.{◌≡◌, ◌==◌, ◌||◌, ◌<◌, ◌≤◌, ◌∷◌, length, take, drop, position};
 ghost use Rattle.maildir_name.specs.Flags.{flags, field, header, lines, stands_in as stands, is_blank as blank, begins_with_name as begins};
 
-#[cfg(test)]
-mod tests;
-
 /// What the header of a message says about it: a flag for each letter of the fields Status and X-Status.
 #[derive(Clone, Copy, Debug, PartialEq, Eq)]
 pub struct Flags {

@@ -5,9 +5,6 @@ ghost use Rattle.maildir_name.specs.Names.{base, is_converter_name as converter_
 
 use std::marker::Model;
 
-#[cfg(test)]
-mod tests;
-
 /// The name of a file. Contracts see it as the list of its bytes.
 #[derive(Debug, Drop)]
 pub struct Name {

@@ -15,9 +15,6 @@ use std::alloc::{AllocError, Global};
 use std::collections::BTreeMap;
 use std::marker::Model;
 
-#[cfg(test)]
-mod tests;
-
 /// Gives the bodies of a text their targets, in order. It keeps one entry for each distinct digest.
 /// Contracts see it as the digests with their counts.
 #[derive(Drop)]

@@ -57,6 +57,3 @@ fn hyphen_for(byte: u8) -> u8
         _ => byte,
     }
 }
-
-#[cfg(test)]
-mod tests;

@@ -9,6 +9,3 @@ pub struct Entry {
     /// The lines after it, unquoted, without the blank line that ends the message.
     pub body: Bytes,
 }
-
-#[cfg(test)]
-pub(crate) mod tests;

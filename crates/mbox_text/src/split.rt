@@ -96,6 +96,3 @@ fn first_body(alloc: Global, text: &[u8]) -> Result<FirstBody, AllocError>
     drop_blank(&mut bytes);
     Ok(FirstBody { bytes, len })
 }
-
-#[cfg(test)]
-mod tests;

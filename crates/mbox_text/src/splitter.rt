@@ -216,6 +216,3 @@ impl Splitter {
         }
     }
 }
-
-#[cfg(test)]
-mod tests;

@@ -124,6 +124,3 @@ fn missing_end(body: &[u8]) -> &'static [u8]
     }
     b"\n"
 }
-
-#[cfg(test)]
-mod tests;

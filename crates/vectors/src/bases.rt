@@ -1,5 +1,5 @@
 // Bases, and which names are this converter's.
-use super::*;
+use maildir_name::{base_of, is_converter_name};
 
 // A name that begins with the digits of the SHA-256 of `abc` (FIPS 180-4).
 macro_rules! abc {

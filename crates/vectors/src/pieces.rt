@@ -1,10 +1,9 @@
 // Texts in pieces, and what a refusal leaves.
 ghost use Rattle.std.specs.Prelude.{◌<◌, ◌≤◌};
 
-use super::*;
-use crate::entry::tests::are;
-use crate::split::split_all;
-use std::alloc::AllocError;
+use crate::messages::are;
+use mbox_text::{Entry, Splitter, TextFault, split_all};
+use std::alloc::{AllocError, Global};
 use std::test::Fail;
 
 // The messages of a text that is fed in pieces of this size.

@@ -1,21 +1,11 @@
 // The targets of bodies. Digests are FIPS 180-4's examples or another program's.
-use super::*;
-use crate::target::Place;
+use maildir_name::{Namer, Place};
 
 const EMPTY: &str = "e3b0c44298fc1c149afbf4c8996fb92427ae41e4649b934ca495991b7852b855";
 
 const ABC: &str = "ba7816bf8f01cfea414140de5dae2223b00361a396177a9cb410ff61f20015ad";
 
 const OLD: &str = "918baf65b8d8809bb29fe7f8c5ba96d0bb3fafca806accd54d5db6f9be7196e4";
-
-// The next target of a namer; the same call again, where a growth was refused. Nothing else in these
-// tests takes memory, so they pass with any one growth refused.
-fn next(namer: &mut Namer, body: &str) -> Result<Target, NameFault> {
-    match namer.target(body.as_bytes()) {
-        Ok(target) => Ok(target),
-        Err(NameFault::OutOfMemory) => namer.target(body.as_bytes()),
-    }
-}
 
 // Whether the next target has these digits, this number and place, and this name behind the digits.
 fn targets(
@@ -26,7 +16,7 @@ fn targets(
     place: Place,
     rest: &str,
 ) -> bool {
-    let Ok(target) = next(namer, body) else {
+    let Ok(target) = namer.target(body.as_bytes()) else {
         return false;
     };
     target.base.as_str().strip_prefix(digits) == Some(number)

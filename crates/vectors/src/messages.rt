@@ -1,5 +1,5 @@
-// What the tests of this crate ask of messages.
-use super::*;
+// What the rows on texts ask of messages.
+use mbox_text::Entry;
 
 /// Whether these are the messages, each with its From_ line before its body.
 pub(crate) fn are(entries: &[Entry], want: &[(&[u8], &[u8])]) -> bool {

@@ -1,5 +1,5 @@
 // Headers and the flags that they set.
-use super::*;
+use maildir_name::{Flags, flags_of};
 
 // The flags of these letters.
 fn letters(text: &str) -> Flags {

@@ -1,13 +1,12 @@
 // From_ lines that are built, and texts that are taken apart.
 ghost use Rattle.std.specs.Prelude.{◌<◌};
 
+use crate::runs::THREE;
 use mbox_text::{Entry, Splitter, TextFault, build_from, split_all};
 use std::process::Abort;
 use std::test::Fail;
 
 const QUOTED: &[u8] = b"From x\n>From a\n>>From b\n> From c\n>From\n\n";
-
-const THREE: &[u8] = b"From a\n\nFrom b\n\nFrom c\nabc";
 
 // A From_ line and a body.
 type Message<'a> = (&'a [u8], &'a [u8]);

@@ -1,34 +1,8 @@
 // What is written of a message, and a writer that fails.
-use super::*;
-use crate::bytes::Bytes;
+use crate::streams::Narrow;
+use mbox_text::{Bytes, Entry, TextFault, write_entry};
 use std::alloc::{AllocError, Global};
-use std::io;
 use std::test::Fail;
-
-// A writer that takes so many bytes, at most one piece a call, and then fails or takes none.
-#[derive(Drop)]
-struct Narrow {
-    taken: Vec<u8>,
-    room: usize,
-    piece: usize,
-    fails: bool,
-}
-
-impl Write for Narrow {
-    fn write(&mut self, buf: &[u8]) -> io::Result<usize> {
-        let n = self.room.min(self.piece).min(buf.len());
-        if n == 0 && self.fails {
-            return Err(io::Error::from(ErrorKind::StorageFull));
-        }
-        self.taken.extend_from_slice(&buf[..n])?;
-        self.room -= n;
-        Ok(n)
-    }
-
-    fn flush(&mut self) -> io::Result<()> {
-        Ok(())
-    }
-}
 
 fn entry(alloc: Global, from_line: &[u8], body: &[u8]) -> Result<Entry, AllocError> {
     Ok(Entry {

@@ -1,6 +1,7 @@
 // The worked texts: which messages they have.
-use super::*;
-use crate::entry::tests::are;
+use crate::messages::are;
+use mbox_text::{TextFault, split_all};
+use std::alloc::Global;
 
 // Whether a text has these messages, each with its From_ line before its body.
 fn splits(alloc: Global, text: &[u8], want: &[(&[u8], &[u8])]) -> bool {

@@ -1,7 +1,5 @@
 // From_ lines that are built and taken apart.
-use super::*;
-use crate::from_line::is_from_line;
-use crate::sender::{rest_of, sender_of};
+use mbox_text::{TextFault, build_from, is_from_line, rest_of, sender_of};
 use std::process::Abort;
 use std::test::Fail;
 

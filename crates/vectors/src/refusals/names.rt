@@ -1,5 +1,5 @@
 // Targets of bodies. The digests are another program's.
-use crate::{ABC, EMPTY_ONE, EMPTY_TWO};
+use crate::runs::{ABC, EMPTY_ONE, EMPTY_TWO};
 use maildir_name::{NameFault, Namer, Place};
 use std::test::Fail;
 

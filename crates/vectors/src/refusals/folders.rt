@@ -1,5 +1,5 @@
 // The calls of the folder in memory, and a plan.
-use crate::{ABC, EMPTY_ONE};
+use crate::runs::{ABC, EMPTY_ONE};
 use maildir_name::{Namer, Place};
 use maildir_run::{Folder, FolderFault, MemFolder, RunFault, Step, Sub, plan};
 use std::alloc::Global;
