@@ -41,8 +41,8 @@ fn left(call: Asked, made: u64) -> (Option<&'static str>, Option<&'static str>) 
     }
 }
 
-// Whether a folder's call answers this where these faults come, counts it as a
-// failure only where it answers `Failed`, and leaves nothing open.
+// Whether a folder's call answers this where these faults come, counts it as a failure only where it answers `Failed`,
+// and leaves nothing open.
 fn answers(
     rt: HostRuntime,
     root: &str,
@@ -120,7 +120,11 @@ fn opens(
         let want = if makes <= fails_at { Some(0) } else { None };
         good = good && scratch.counts(name, want)?;
     }
-    Ok(good)
+    let made = match fails_at {
+        0 => None,
+        folders => Some(folders as usize - 1),
+    };
+    Ok(good && scratch.counts("maildir", made)?)
 }
 
 #[test]
