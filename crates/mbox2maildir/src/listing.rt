@@ -1,5 +1,6 @@
 // The names in a folder.
 use std::alloc::Global;
+use std::fs::{DirEntry, ReadDir};
 use std::io::ErrorKind;
 use std::rt::{Clock, Files};
 use std::time::{Duration, Instant, SystemTime};
@@ -17,13 +18,22 @@ const PAUSE_MILLIS: u64 = 1;
 
 /// The names of all entries of a folder, read once. A name that is not UTF-8 is an error.
 pub(crate) fn names(files: &impl Files, alloc: Global, path: &str) -> io::Result<Vec<String>> {
+    take_all(alloc, fs::read_dir(&(files, alloc), path)?)
+}
+
+fn take_all<R: Files + Clone + Drop>(
+    alloc: Global,
+    entries: ReadDir<R>,
+) -> io::Result<Vec<String>> {
     let mut names = Vec::new(alloc);
-    for entry in fs::read_dir(&(files, alloc), path)? {
-        let entry = entry?;
-        let name = String::from_str(alloc, entry.file_name())?;
-        names.push(name)?;
+    for entry in entries {
+        names.push(name_of(alloc, entry)?)?;
     }
     Ok(names)
+}
+
+fn name_of<R: Files + Drop>(alloc: Global, entry: io::Result<DirEntry<R>>) -> io::Result<String> {
+    Ok(String::from_str(alloc, entry?.file_name())?)
 }
 
 /// The names of all entries of a folder as of one moment, though files in it are renamed meanwhile. A folder is read in

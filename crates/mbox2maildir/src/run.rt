@@ -66,30 +66,43 @@ fn perform<R: Files + Clock, I: Read, W: Write>(
         |_| RunFault::OutOfMemory,
     )?;
     match command {
-        Command::Rewrite(None) => {
-            rewrite(alloc, input, &mut out, READS)?;
-        }
-        Command::Rewrite(Some(path)) => {
-            rewrite(alloc, &mut open(rt, path)?, &mut out, READS)?;
-        }
-        Command::List(None) => {
-            list_text(alloc, input, &mut out, READS)?;
-        }
-        Command::List(Some(path)) => {
-            list_text(alloc, &mut open(rt, path)?, &mut out, READS)?;
-        }
-        Command::Convert(maildir, []) => {
-            let mut folder = open_folder(rt, alloc, maildir)?;
-            deliver(alloc, &mut folder, input, &mut out)?;
-        }
-        Command::Convert(maildir, [first, rest @ ..]) => {
-            let mut folder = deliver_first(rt, alloc, maildir, first.as_str(), &mut out)?;
-            for path in rest {
-                deliver(alloc, &mut folder, &mut open(rt, path.as_str())?, &mut out)?;
-            }
+        Command::Rewrite(file) => write_regular(rt, alloc, file, input, &mut out)?,
+        Command::List(file) => write_list(rt, alloc, file, input, &mut out)?,
+        Command::Convert(maildir, files) => {
+            deliver_all(rt, alloc, maildir, files, input, &mut out)?
         }
     }
     flush(&mut out)
+}
+
+// Writes the text of the file, or of standard input where none is named, in its regular spelling.
+fn write_regular<R: Files, I: Read, W: Write>(
+    rt: &R,
+    alloc: Global,
+    file: Option<&str>,
+    input: &mut I,
+    out: &mut W,
+) -> Result<(), Fault> {
+    match file {
+        None => rewrite(alloc, input, out, READS)?,
+        Some(path) => rewrite(alloc, &mut open(rt, path)?, out, READS)?,
+    };
+    Ok(())
+}
+
+// Writes a line for each message of the file, or of standard input where none is named.
+fn write_list<R: Files, I: Read, W: Write>(
+    rt: &R,
+    alloc: Global,
+    file: Option<&str>,
+    input: &mut I,
+    out: &mut W,
+) -> Result<(), Fault> {
+    match file {
+        None => list_text(alloc, input, out, READS)?,
+        Some(path) => list_text(alloc, &mut open(rt, path)?, out, READS)?,
+    };
+    Ok(())
 }
 
 fn open<R: Files>(rt: &R, path: &str) -> Result<R::File, Fault> {
@@ -117,6 +130,25 @@ fn deliver_first<'a, R: Files + Clock, W: Write>(
     let mut folder = open_folder(rt, alloc, maildir)?;
     deliver(alloc, &mut folder, &mut source, out)?;
     Ok(folder)
+}
+
+// Delivers the messages of standard input, or of each file where files are named.
+fn deliver_all<R: Files + Clock, I: Read, W: Write>(
+    rt: &R,
+    alloc: Global,
+    maildir: &str,
+    files: &[String],
+    input: &mut I,
+    out: &mut W,
+) -> Result<(), Fault> {
+    let Some((first, rest)) = files.split_first() else {
+        return deliver(alloc, &mut open_folder(rt, alloc, maildir)?, input, out);
+    };
+    let mut folder = deliver_first(rt, alloc, maildir, first.as_str(), out)?;
+    for path in rest {
+        deliver(alloc, &mut folder, &mut open(rt, path.as_str())?, out)?;
+    }
+    Ok(())
 }
 
 // Delivers the messages of one source, by a run of its own, syncs the Maildir and then prints the run's line at once:
