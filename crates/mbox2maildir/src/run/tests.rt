@@ -9,7 +9,12 @@ mod several;
 mod words;
 
 // How a run ends: its status, and what it writes to its output and to standard error.
-type End = (u8, &'static str, &'static str);
+#[derive(Clone, Copy)]
+struct End(u8, &'static str, &'static str);
+
+// A run: its words, its standard input, and how it ends.
+#[derive(Clone, Copy)]
+struct Row(&'static str, &'static str, End);
 
 // Where the empty messages and `abc` are placed.
 const NEW_EMPTY: [&str; 3] = [
@@ -61,10 +66,20 @@ fn ends<R: Files + Clock>(
     let mut input = input.as_bytes();
     let (mut out, mut err) = (Vec::new(alloc), Vec::new(alloc));
     let status = run(rt, alloc, words.as_slice(), &mut input, &mut out, &mut err);
-    let (want_status, want_out, want_err) = want;
+    let End(want_status, want_out, want_err) = want;
     Ok(
         status == want_status
             && out.as_slice() == want_out.as_bytes()
             && err.as_slice() == want_err.as_bytes(),
     )
+}
+
+// Whether each of these runs ends so, in this order.
+fn all_end(rt: HostRuntime, scratch: &Scratch, rows: &[Row]) -> Result<bool, AllocError> {
+    for &Row(words, input, want) in rows {
+        if !ends(&rt, rt.alloc(), scratch, words, input, want)? {
+            return Ok(false);
+        }
+    }
+    Ok(true)
 }

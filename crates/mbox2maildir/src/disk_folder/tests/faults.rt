@@ -5,21 +5,44 @@ use crate::faulty::{Faults, Faulty};
 // What the file of `tmp` holds before each call.
 const BEFORE: &str = "longer before";
 
-// The two kinds of error, and what a folder's call answers to each.
-const KINDS: [(ErrorKind, FolderFault); 2] = [
-    (ErrorKind::Other, FolderFault::Failed),
-    (ErrorKind::OutOfMemory, FolderFault::OutOfMemory),
+// The kinds of error.
+const KINDS: [ErrorKind; 3] = [
+    ErrorKind::Other,
+    ErrorKind::OutOfMemory,
+    ErrorKind::PermissionDenied,
 ];
 
 // Each call of a folder, over the same name, and how many calls of the system it makes.
-const CALLS: [(Asked, u64); 6] = [
+const CALLS: [(Asked, u64); 7] = [
     (Asked::List(Sub::Tmp), 3),
     (Asked::List(Sub::New), 3),
     (Asked::List(Sub::Cur), 5),
     (Asked::Write("u", "ab"), 3),
     (Asked::Place("u", Place::New, "u"), 1),
     (Asked::Remove("u"), 1),
+    (Asked::Sync, 8),
 ];
+
+// The call of the system by which a sync opens the parent.
+const OPENS_PARENT: u64 = 6;
+
+// What is answered where a call of the system fails so: want of memory is told as such.
+fn fault_of(kind: ErrorKind) -> FolderFault {
+    match kind {
+        ErrorKind::OutOfMemory => FolderFault::OutOfMemory,
+        _ => FolderFault::Failed,
+    }
+}
+
+// What a folder's call answers where this call of the system fails, and where none is left to fail. A sync leaves out a
+// parent that may not be opened.
+fn answer_where(call: Asked, steps: u64, faults: Faults) -> Answer {
+    match (call, faults.kind) {
+        (Asked::Sync, ErrorKind::PermissionDenied) if faults.at == OPENS_PARENT => Ok(()),
+        _ if faults.at == steps => Ok(()),
+        _ => Err(fault_of(faults.kind)),
+    }
+}
 
 // One call of the system fails.
 fn failing(at: u64, kind: ErrorKind) -> Faults {
@@ -42,40 +65,42 @@ fn left(call: Asked, made: u64) -> (Option<&'static str>, Option<&'static str>) 
 }
 
 // Whether a folder's call answers this where these faults come, counts it as a failure only where it answers `Failed`,
-// and leaves nothing open.
+// and leaves nothing open. A sync is not counted.
 fn answers(
     rt: HostRuntime,
     root: &str,
     call: Asked,
     faults: Faults,
-    want: Result<(), FolderFault>,
+    want: Answer,
 ) -> Result<bool, Fail> {
     let faulty = Faulty::of(rt, rt.alloc())?;
     let mut folder = DiskFolder::open_at(&faulty, rt.alloc(), root)?;
     folder.write("u", BEFORE.as_bytes())?;
     faulty.script.begin(faults);
     let answer = call.answer(&mut folder);
-    let failures = u128::from(want == Err(FolderFault::Failed));
+    let is_counted = !matches!(call, Asked::Sync);
+    let has_failed = is_counted && want == Err(FolderFault::Failed);
     Ok(
         answer == want
-            && folder.calls == 2
-            && folder.failures == failures
+            && folder.calls == 1 + u128::from(is_counted)
+            && folder.failures == u128::from(has_failed)
             && faulty.script.open.get() == 0,
     )
 }
 
-// Whether a folder's call answers as it should where one of its calls of the system fails: it tells want of memory as
-// such and answers `Failed` for anything else; what is left is as far as the calls went.
+// Whether a folder's call answers as it should where one of its calls of the system fails, and leaves what it should: as
+// much as the calls did before that one.
 fn fails_well(
     rt: HostRuntime,
     scratch: &Scratch,
     call: Asked,
+    steps: u64,
     faults: Faults,
-    want: Result<(), FolderFault>,
 ) -> Result<bool, Fail> {
     scratch.clear("maildir")?;
     let root = scratch.path_of("maildir")?;
     let (in_tmp, in_new) = left(call, faults.at);
+    let want = answer_where(call, steps, faults);
     Ok(
         answers(rt, root.as_str(), call, faults, want)?
             && scratch.holds("maildir/tmp/u", in_tmp)?
@@ -87,13 +112,12 @@ fn fails_well(
 #[test]
 fn each_call_fails_in_turn(rt: HostRuntime) -> Result<(), Fail> {
     let scratch = Scratch::new(rt, "each_call_fails")?;
-    for (kind, fault) in KINDS {
+    for kind in KINDS {
         for (call, steps) in CALLS {
-            for fails_at in 0..=steps {
-                let want = if fails_at < steps { Err(fault) } else { Ok(()) };
+            for at in 0..=steps {
                 assert!(rt;
-                    fails_well(rt, &scratch, call, failing(fails_at, kind), want)?,
-                    "{call:?}, {kind:?} at {fails_at}"
+                    fails_well(rt, &scratch, call, steps, failing(at, kind))?,
+                    "{call:?}, {kind:?} at {at}"
                 );
             }
         }
@@ -101,82 +125,48 @@ fn each_call_fails_in_turn(rt: HostRuntime) -> Result<(), Fail> {
     Ok(())
 }
 
-// Whether opening a folder answers this where one call of the system fails, leaves what was made before, and nothing
-// open.
-fn opens(
-    rt: HostRuntime,
-    scratch: &Scratch,
-    fails_at: u64,
-    kind: ErrorKind,
-    want: Result<(), FolderFault>,
-) -> Result<bool, Fail> {
-    scratch.clear("maildir")?;
-    let root = scratch.path_of("maildir")?;
-    let faulty = Faulty::of(rt, rt.alloc())?;
-    faulty.script.begin(failing(fails_at, kind));
-    let answer = DiskFolder::open_at(&faulty, rt.alloc(), root.as_str()).map(|_| ());
-    let mut good = answer == want && faulty.script.open.get() == 0;
-    for (makes, name) in (2..).zip(["maildir/tmp", "maildir/new", "maildir/cur"]) {
-        let want = if makes <= fails_at { Some(0) } else { None };
-        good = good && scratch.counts(name, want)?;
+// The folders in the Maildir, and by which call of the system each is made.
+const FOLDERS: [(&str, u64); 3] = [("maildir/tmp", 1), ("maildir/new", 2), ("maildir/cur", 3)];
+
+// Whether the Maildir has those of its folders that were made before this call of the system, and nothing else.
+fn has_made(scratch: &Scratch, at: u64) -> Result<bool, AllocError> {
+    for (name, call) in FOLDERS {
+        let want = if call < at { Some(0) } else { None };
+        if !scratch.counts(name, want)? {
+            return Ok(false);
+        }
     }
-    let made = match fails_at {
+    let folders = match at {
         0 => None,
-        folders => Some(folders as usize - 1),
+        calls => Some(calls as usize - 1),
     };
-    Ok(good && scratch.counts("maildir", made)?)
+    scratch.counts("maildir", folders)
 }
 
+// Whether opening a folder answers this where one call of the system fails, and leaves nothing open.
+fn opens(rt: HostRuntime, root: &str, faults: Faults, want: Answer) -> Result<bool, AllocError> {
+    let faulty = Faulty::of(rt, rt.alloc())?;
+    faulty.script.begin(faults);
+    let answer = DiskFolder::open_at(&faulty, rt.alloc(), root).map(|_| ());
+    Ok(answer == want && faulty.script.open.get() == 0)
+}
+
+// Each call of the system fails in turn as a folder is opened, and what was made before stays.
 #[test]
 fn opening_fails_in_turn(rt: HostRuntime) -> Result<(), Fail> {
     let scratch = Scratch::new(rt, "opening")?;
-    for (kind, fault) in KINDS {
-        for fails_at in 0..=4 {
-            let want = if fails_at < 4 { Err(fault) } else { Ok(()) };
-            assert!(rt;
-                opens(rt, &scratch, fails_at, kind, want)?,
-                "{kind:?} at {fails_at}"
-            );
-        }
-    }
-    Ok(())
-}
-
-// Each call of the system fails in turn as a folder is synced. A parent that may not be opened is left out.
-#[test]
-fn syncing_fails_in_turn(rt: HostRuntime) -> Result<(), Fail> {
-    let scratch = Scratch::new(rt, "syncing")?;
     let root = scratch.path_of("maildir")?;
-    let denied = (ErrorKind::PermissionDenied, FolderFault::Failed);
-    let [other, no_memory] = KINDS;
-    for (kind, fault) in [other, no_memory, denied] {
-        for fails_at in 0..=8 {
-            let is_left_out = fails_at == 6 && kind == ErrorKind::PermissionDenied;
-            let want = match fails_at {
-                8 => Ok(()),
-                _ if is_left_out => Ok(()),
-                _ => Err(fault),
-            };
+    for kind in KINDS {
+        for at in 0..=4 {
+            let want = if at < 4 { Err(fault_of(kind)) } else { Ok(()) };
+            scratch.clear("maildir")?;
             assert!(rt;
-                syncs(rt, root.as_str(), fails_at, kind, want)?,
-                "{kind:?} at {fails_at}"
+                opens(rt, root.as_str(), failing(at, kind), want)? && has_made(&scratch, at)?,
+                "{kind:?} at {at}"
             );
         }
     }
     Ok(())
-}
-
-fn syncs(
-    rt: HostRuntime,
-    root: &str,
-    fails_at: u64,
-    kind: ErrorKind,
-    want: Result<(), FolderFault>,
-) -> Result<bool, Fail> {
-    let faulty = Faulty::of(rt, rt.alloc())?;
-    let folder = DiskFolder::open_at(&faulty, rt.alloc(), root)?;
-    faulty.script.begin(failing(fails_at, kind));
-    Ok(folder.sync() == want && faulty.script.open.get() == 0)
 }
 
 #[test]

@@ -77,32 +77,36 @@ fn fails_with(
     )
 }
 
+// Words, how many bytes the output takes and which these are, and what is told of it where the error output has room.
+#[derive(Clone, Copy)]
+struct Output(&'static str, usize, &'static str, &'static str);
+
+const OUTPUTS: [Output; 5] = [
+    Output("rewrite", 4, "From", NO_OUTPUT),
+    Output("rewrite", 4, "From", ""),
+    Output("convert @/maildir", 0, "", NO_OUTPUT),
+    Output("convert @/maildir", 0, "", ""),
+    Output(
+        "convert @/several @/one @/empty @/two",
+        PLACED_ONE.len(),
+        PLACED_ONE,
+        NO_OUTPUT,
+    ),
+];
+
 #[test]
 fn output_fails(rt: HostRuntime) -> Result<(), Fail> {
     let scratch = Scratch::new(rt, "output_fails")?;
     for (file, text) in [("one", ONE), ("empty", "From c\n\n"), ("two", TWO_EMPTY)] {
         scratch.write(file, text)?;
     }
-    let rows = [
-        ("rewrite", 4, "From", NO_OUTPUT),
-        ("rewrite", 4, "From", ""),
-        ("convert @/maildir", 0, "", NO_OUTPUT),
-        ("convert @/maildir", 0, "", ""),
-        (
-            "convert @/several @/one @/empty @/two",
-            PLACED_ONE.len(),
-            PLACED_ONE,
-            NO_OUTPUT,
-        ),
-    ];
-    for (words, room, taken, told) in rows {
+    for Output(words, room, taken, told) in OUTPUTS {
         assert!(rt;
             fails_with(rt, &scratch, words, room, taken, told)?,
             "{words}"
         );
     }
-    assert!(rt; scratch.holds(NEW_ABC, Some("abc"))?);
-    assert!(rt; scratch.counts("several/new", Some(2))?);
+    assert!(rt; scratch.holds(NEW_ABC, Some("abc"))? && scratch.counts("several/new", Some(2))?);
     Ok(())
 }
 
@@ -117,29 +121,35 @@ fn tells(
     scratch.clear("maildir")?;
     let faulty = Faulty::of(rt, rt.alloc())?;
     faulty.script.begin(faults);
-    let is_told = ends(&faulty, rt.alloc(), scratch, words, "", (1, "", text))?;
+    let is_told = ends(&faulty, rt.alloc(), scratch, words, "", End(1, "", text))?;
     Ok(is_told && faulty.script.open.get() == 0)
 }
 
+const FROM_STDIN: &str = "convert @/maildir";
+
+const FROM_FILE: &str = "convert @/maildir @/source";
+
 // What is told where a call of the system fails: the source, the folder, a call of the folder, and the sync after
 // the run, whose number follows that of the run's last folder call.
+#[derive(Clone, Copy)]
+struct Told(&'static str, u64, ErrorKind, &'static str);
+
+const SYSTEM_CALLS: [Told; 9] = [
+    Told(FROM_FILE, 0, ErrorKind::Other, NO_SOURCE),
+    Told(FROM_FILE, 0, ErrorKind::OutOfMemory, NO_MEMORY),
+    Told(FROM_STDIN, 0, ErrorKind::Other, NO_FOLDER),
+    Told(FROM_STDIN, 3, ErrorKind::OutOfMemory, NO_MEMORY),
+    Told(FROM_STDIN, 4, ErrorKind::Other, CALL_1),
+    Told(FROM_STDIN, 14, ErrorKind::Other, CALL_3),
+    Told(FROM_STDIN, 15, ErrorKind::Other, CALL_4),
+    Told(FROM_STDIN, 22, ErrorKind::Other, CALL_4),
+    Told(FROM_STDIN, 22, ErrorKind::OutOfMemory, NO_MEMORY),
+];
+
 #[test]
 fn system_fails(rt: HostRuntime) -> Result<(), Fail> {
     let scratch = Scratch::new(rt, "system_fails")?;
-    let stdin = "convert @/maildir";
-    let file = "convert @/maildir @/source";
-    let rows = [
-        (file, 0, ErrorKind::Other, NO_SOURCE),
-        (file, 0, ErrorKind::OutOfMemory, NO_MEMORY),
-        (stdin, 0, ErrorKind::Other, NO_FOLDER),
-        (stdin, 3, ErrorKind::OutOfMemory, NO_MEMORY),
-        (stdin, 4, ErrorKind::Other, CALL_1),
-        (stdin, 14, ErrorKind::Other, CALL_3),
-        (stdin, 15, ErrorKind::Other, CALL_4),
-        (stdin, 22, ErrorKind::Other, CALL_4),
-        (stdin, 22, ErrorKind::OutOfMemory, NO_MEMORY),
-    ];
-    for (words, at, kind, text) in rows {
+    for Told(words, at, kind, text) in SYSTEM_CALLS {
         let faults = Faults {
             at,
             kind,

@@ -15,6 +15,35 @@ const TMP_ABC: &str =
 
 const FOREIGN: &str = "maildir/tmp/1700000000.M1.host";
 
+const NOTHING: &str = "messages 0, there 0, placed 0, swept 0\n";
+
+const THERE: &str = "messages 2, there 2, placed 0, swept 0\n";
+
+const NO_FOLDER: &str = "mbox2maildir: cannot open the folder\n";
+
+const NO_SWEEP: &str = "mbox2maildir: folder call 4 failed\n";
+
+const FILES_AND_FOLDERS: [Row; 4] = [
+    Row(
+        "rewrite @/source",
+        "",
+        End(0, "From a\nx\n\nFrom b\ny\n\n", ""),
+    ),
+    Row("convert @/missing/maildir", ONE, End(1, "", NO_FOLDER)),
+    Row("convert @/maildir", "", End(0, NOTHING, "")),
+    PLACES_ONE,
+];
+
+const PLACES_ONE: Row = Row("convert @/maildir", ONE, End(0, PLACED_ONE, ""));
+
+const PLACES_FLAGGED: Row = Row("convert @/maildir", ALL_FLAGS, End(0, PLACED_ONE, ""));
+
+const PLACES_TWO: Row = Row("convert @/maildir", TWO_EMPTY, End(0, PLACED_TWO, ""));
+
+const FINDS_TWO: Row = Row("convert @/maildir", TWO_EMPTY, End(0, THERE, ""));
+
+const CANNOT_SWEEP: Row = Row("convert @/maildir", ONE, End(1, "", NO_SWEEP));
+
 #[test]
 fn files_and_folders(rt: HostRuntime) -> Result<(), Fail> {
     let scratch = Scratch::new(rt, "files")?;
@@ -22,49 +51,17 @@ fn files_and_folders(rt: HostRuntime) -> Result<(), Fail> {
     scratch.make_folder("maildir")?;
     scratch.make_folder("maildir/tmp")?;
     scratch.write(FOREIGN, "z")?;
-    let nothing = "messages 0, there 0, placed 0, swept 0\n";
-    let no_folder = "mbox2maildir: cannot open the folder\n";
-    let rows = [
-        (
-            "rewrite @/source",
-            "",
-            (0, "From a\nx\n\nFrom b\ny\n\n", ""),
-        ),
-        ("convert @/missing/maildir", ONE, (1, "", no_folder)),
-        ("convert @/maildir", "", (0, nothing, "")),
-        ("convert @/maildir", ONE, (0, PLACED_ONE, "")),
-    ];
-    for (words, input, want) in rows {
-        assert!(rt;
-            ends(&rt, rt.alloc(), &scratch, words, input, want)?,
-            "{words}"
-        );
-    }
-    for (name, text) in [(FOREIGN, "z"), (NEW_ABC, "abc")] {
-        assert!(rt; scratch.holds(name, Some(text))?, "{name}");
-    }
+    assert!(rt; all_end(rt, &scratch, &FILES_AND_FOLDERS)?);
+    assert!(rt; scratch.holds(FOREIGN, Some("z"))? && scratch.holds(NEW_ABC, Some("abc"))?);
     Ok(())
 }
 
 #[test]
 fn all_flags(rt: HostRuntime) -> Result<(), Fail> {
     let scratch = Scratch::new(rt, "all_flags")?;
-    let want = (0, PLACED_ONE, "");
-    assert!(rt;
-        ends(
-            &rt,
-            rt.alloc(),
-            &scratch,
-            "convert @/maildir",
-            ALL_FLAGS,
-            want
-        )?
-    );
-    let body = "Status: RO\nX-Status: AF\n\nhi\n";
-    assert!(rt; scratch.holds(FLAGGED, Some(body))?);
-    for sub in ["maildir/tmp", "maildir/new"] {
-        assert!(rt; scratch.counts(sub, Some(0))?, "{sub}");
-    }
+    assert!(rt; all_end(rt, &scratch, &[PLACES_FLAGGED])?);
+    assert!(rt; scratch.holds(FLAGGED, Some("Status: RO\nX-Status: AF\n\nhi\n"))?);
+    assert!(rt; scratch.counts("maildir/tmp", Some(0))? && scratch.counts("maildir/new", Some(0))?);
     Ok(())
 }
 
@@ -72,25 +69,10 @@ fn all_flags(rt: HostRuntime) -> Result<(), Fail> {
 #[test]
 fn moved_by_a_reader(rt: HostRuntime) -> Result<(), Fail> {
     let scratch = Scratch::new(rt, "moved")?;
-    let there = "messages 2, there 2, placed 0, swept 0\n";
-    for report in [PLACED_TWO, there] {
-        let want = (0, report, "");
-        assert!(rt;
-            ends(
-                &rt,
-                rt.alloc(),
-                &scratch,
-                "convert @/maildir",
-                TWO_EMPTY,
-                want
-            )?,
-            "{report}"
-        );
-        let _ = scratch.rename(NEW_EMPTY[0], SEEN);
-    }
-    for sub in ["maildir/new", "maildir/cur"] {
-        assert!(rt; scratch.counts(sub, Some(1))?, "{sub}");
-    }
+    assert!(rt; all_end(rt, &scratch, &[PLACES_TWO])?);
+    scratch.rename(NEW_EMPTY[0], SEEN)?;
+    assert!(rt; all_end(rt, &scratch, &[FINDS_TWO])?);
+    assert!(rt; scratch.counts("maildir/new", Some(1))? && scratch.counts("maildir/cur", Some(1))?);
     Ok(())
 }
 
@@ -101,15 +83,8 @@ fn directory_in_the_sweep(rt: HostRuntime) -> Result<(), Fail> {
     for name in ["maildir", "maildir/tmp", TMP_ABC] {
         scratch.make_folder(name)?;
     }
-    for want in [
-        (1, "", "mbox2maildir: folder call 4 failed\n"),
-        (0, PLACED_ONE, ""),
-    ] {
-        assert!(rt;
-            ends(&rt, rt.alloc(), &scratch, "convert @/maildir", ONE, want)?,
-            "{want:?}"
-        );
-        scratch.clear(TMP_ABC)?;
-    }
+    assert!(rt; all_end(rt, &scratch, &[CANNOT_SWEEP])?);
+    scratch.clear(TMP_ABC)?;
+    assert!(rt; all_end(rt, &scratch, &[PLACES_ONE])?);
     Ok(())
 }

@@ -19,15 +19,63 @@ const ONE_AND_THREE: &str =
 const UNREAD: &str = "mbox2maildir: the source could not be read\n";
 
 // The texts of the rows, each in a file.
+const TEXTS: [(&str, &str); 4] = [
+    ("one", "From c\n\n"),
+    ("two", TWO_EMPTY),
+    ("three", "From a\n\nFrom b\n\nFrom d\n\n"),
+    ("no_text", "Subject: x\n"),
+];
+
+// Words over a fresh Maildir, how the run ends, and how many empty messages are there then; `None` for no Maildir.
+#[derive(Clone, Copy)]
+struct Several(&'static str, End, Option<usize>);
+
+const SEVERAL: [Several; 8] = [
+    Several(
+        "convert @/maildir @/two @/one",
+        End(0, TWO_AND_ONE, ""),
+        Some(2),
+    ),
+    Several(
+        "convert @/maildir @/one @/two",
+        End(0, ONE_AND_TWO, ""),
+        Some(2),
+    ),
+    Several(
+        "convert @/maildir @/two @/two",
+        End(0, TWO_AND_TWO, ""),
+        Some(2),
+    ),
+    Several(
+        "convert @/maildir @/one @/three",
+        End(0, ONE_AND_THREE, ""),
+        Some(3),
+    ),
+    Several(
+        "convert @/maildir @/two @/no_text",
+        End(1, PLACED_TWO, NO_FROM_LINE),
+        Some(2),
+    ),
+    Several(
+        "convert @/maildir @/two @/maildir",
+        End(1, PLACED_TWO, UNREAD),
+        Some(2),
+    ),
+    Several(
+        "convert @/maildir @/two @/missing @/one",
+        End(1, PLACED_TWO, NO_SOURCE),
+        Some(2),
+    ),
+    Several(
+        "convert @/maildir @/missing @/two",
+        End(1, "", NO_SOURCE),
+        None,
+    ),
+];
+
 fn texts(rt: HostRuntime, name: &str) -> io::Result<Scratch> {
     let scratch = Scratch::new(rt, name)?;
-    let files = [
-        ("one", "From c\n\n"),
-        ("two", TWO_EMPTY),
-        ("three", "From a\n\nFrom b\n\nFrom d\n\n"),
-        ("no_text", "Subject: x\n"),
-    ];
-    for (name, text) in files {
+    for (name, text) in TEXTS {
         scratch.write(name, text)?;
     }
     Ok(scratch)
@@ -47,23 +95,11 @@ fn has_empty(scratch: &Scratch, count: Option<usize>) -> Result<bool, AllocError
 #[test]
 fn two_texts(rt: HostRuntime) -> Result<(), Fail> {
     let scratch = texts(rt, "two_texts")?;
-    let rows = [
-        ("@/two @/one", (0, TWO_AND_ONE, ""), Some(2)),
-        ("@/one @/two", (0, ONE_AND_TWO, ""), Some(2)),
-        ("@/two @/two", (0, TWO_AND_TWO, ""), Some(2)),
-        ("@/one @/three", (0, ONE_AND_THREE, ""), Some(3)),
-        ("@/two @/no_text", (1, PLACED_TWO, NO_FROM_LINE), Some(2)),
-        ("@/two @/maildir", (1, PLACED_TWO, UNREAD), Some(2)),
-        ("@/two @/missing @/one", (1, PLACED_TWO, NO_SOURCE), Some(2)),
-        ("@/missing @/two", (1, "", NO_SOURCE), None),
-    ];
-    for (files, want, count) in rows {
+    for Several(words, want, count) in SEVERAL {
         scratch.clear("maildir")?;
-        let words = format!(in rt.alloc(); "convert @/maildir {files}")?;
         assert!(rt;
-            ends(&rt, rt.alloc(), &scratch, words.as_str(), "", want)?
-                && has_empty(&scratch, count)?,
-            "{files}"
+            ends(&rt, rt.alloc(), &scratch, words, "", want)? && has_empty(&scratch, count)?,
+            "{words}"
         );
     }
     Ok(())
