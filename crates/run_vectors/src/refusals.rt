@@ -1,4 +1,6 @@
-// The calls of the folder in memory, and a plan.
+// Want of memory: the calls of the folder in memory, and a plan, made again where a growth was refused. So each test
+// passes whichever single growth of its calls is refused, and where none is. `tests/refusals` runs them with each
+// growth refused in turn. What a test takes for itself it hands on, and so ends as refused.
 use crate::runs::{ABC, EMPTY_ONE};
 use maildir_name::{Namer, Place};
 use maildir_run::{Folder, FolderFault, MemFolder, RunFault, Step, Sub, plan};

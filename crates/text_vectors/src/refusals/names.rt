@@ -1,14 +1,25 @@
 // Targets of bodies. The digests are another program's.
-use crate::runs::{ABC, EMPTY_ONE, EMPTY_TWO};
 use maildir_name::{NameFault, Namer, Place};
 use std::test::Fail;
 
 #[test]
 fn namer_again(rt: HostRuntime) -> Result<(), Fail> {
     let rows: [(&str, Place, &str); 8] = [
-        ("", Place::New, EMPTY_ONE),
-        ("abc", Place::New, ABC),
-        ("", Place::New, EMPTY_TWO),
+        (
+            "",
+            Place::New,
+            "e3b0c44298fc1c149afbf4c8996fb92427ae41e4649b934ca495991b7852b855.1",
+        ),
+        (
+            "abc",
+            Place::New,
+            "ba7816bf8f01cfea414140de5dae2223b00361a396177a9cb410ff61f20015ad.1",
+        ),
+        (
+            "",
+            Place::New,
+            "e3b0c44298fc1c149afbf4c8996fb92427ae41e4649b934ca495991b7852b855.2",
+        ),
         (
             "status: O\n\n",
             Place::Cur,

@@ -1,7 +1,6 @@
 // From_ lines that are built, and texts that are taken apart.
 ghost use Rattle.std.specs.Prelude.{◌<◌};
 
-use crate::runs::THREE;
 use mbox_text::{Entry, Splitter, TextFault, build_from, split_all};
 use std::process::Abort;
 use std::test::Fail;
@@ -101,7 +100,10 @@ fn comes_whole(
 fn splitter_again(rt: HostRuntime) -> Result<(), Fail> {
     let quoted: &[Message<'_>] = &[(b"From x", b"From a\n>From b\n> From c\n>From\n")];
     let three: &[Message<'_>] = &[(b"From a", b""), (b"From b", b""), (b"From c", b"abc")];
-    for (text, want) in [(QUOTED, quoted), (THREE, three)] {
+    for (text, want) in [
+        (QUOTED, quoted),
+        (b"From a\n\nFrom b\n\nFrom c\nabc", three),
+    ] {
         for size in [1, 11] {
             if !comes_whole(&rt, text, size, want)? {
                 assert!(rt; comes_whole(&rt, text, size, want)?);
