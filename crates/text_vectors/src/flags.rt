@@ -3,12 +3,13 @@ use maildir_name::{Flags, flags_of};
 
 // The flags of these letters.
 fn letters(text: &str) -> Flags {
+    let text = text.as_bytes();
     Flags {
-        is_old: text.contains('O'),
-        flagged: text.contains('F'),
-        replied: text.contains('A'),
-        seen: text.contains('R'),
-        trashed: text.contains('D'),
+        is_old: text.contains(&b'O'),
+        flagged: text.contains(&b'F'),
+        replied: text.contains(&b'A'),
+        seen: text.contains(&b'R'),
+        trashed: text.contains(&b'D'),
     }
 }
 

@@ -1,7 +1,7 @@
 // Texts in pieces, and what a refusal leaves.
 ghost use Rattle.std.specs.Prelude.{◌<◌, ◌≤◌};
 
-use crate::messages::are;
+use crate::messages::{are, feed_pieces, finish_into};
 use mbox_text::{Entry, Splitter, TextFault, split_all};
 use std::alloc::{AllocError, Global};
 use std::test::Fail;
@@ -12,13 +12,20 @@ fn split_pieces(alloc: Global, text: &[u8], size: usize) -> Result<Vec<Entry>, T
 {
     let mut splitter = Splitter::new(alloc);
     let mut entries = Vec::new(alloc);
-    for piece in text.chunks(size) {
-        splitter.feed(piece, &mut entries)?;
-    }
-    if let Some(last) = splitter.finish()? {
-        entries.push(last)?;
-    }
+    feed_pieces(&mut splitter, text, size, &mut entries)?;
+    finish_into(splitter, &mut entries)?;
     Ok(entries)
+}
+
+fn are_equal(entries: &[Entry], others: &[Entry]) -> bool {
+    for (entry, other) in entries.iter().zip(others) {
+        if entry.from_line.as_slice() != other.from_line.as_slice()
+            || entry.body.as_slice() != other.body.as_slice()
+        {
+            return false;
+        }
+    }
+    entries.len() == others.len()
 }
 
 // Whether the text has the same messages in pieces of this size as the plain program finds.
@@ -27,14 +34,7 @@ fn is_the_same(alloc: Global, text: &[u8], size: usize) -> Result<bool, TextFaul
 {
     let want = split_all(alloc, text)?;
     let got = split_pieces(alloc, text, size)?;
-    for (got, want) in got.iter().zip(want.iter()) {
-        if got.from_line.as_slice() != want.from_line.as_slice()
-            || got.body.as_slice() != want.body.as_slice()
-        {
-            return Ok(false);
-        }
-    }
-    Ok(got.len() == want.len())
+    Ok(are_equal(&got, &want))
 }
 
 // Every kind of line, and every kind of end of a message.
@@ -48,9 +48,7 @@ fn split_at(alloc: Global, text: &[u8], cut: usize) -> Result<Vec<Entry>, TextFa
     let mut entries = Vec::new(alloc);
     splitter.feed(front, &mut entries)?;
     splitter.feed(rest, &mut entries)?;
-    if let Some(last) = splitter.finish()? {
-        entries.push(last)?;
-    }
+    finish_into(splitter, &mut entries)?;
     Ok(entries)
 }
 
@@ -97,28 +95,36 @@ fn message_ends_with_the_next_from_line(rt: HostRuntime) -> Result<(), Fail> {
         splitter.feed(piece.as_bytes(), &mut out)?;
         assert_eq!(rt; out.len(), count, "{piece}");
     }
-    let ended = [(b"From a".as_slice(), b"x\n".as_slice())];
+    let ended = [(b"From a".as_slice(), b"x\n".as_slice()), (b"From ", b"")];
+    assert!(rt; are(&out, &ended[..1]));
+    finish_into(splitter, &mut out)?;
     assert!(rt; are(&out, &ended));
-    let last = [(b"From ".as_slice(), b"".as_slice())];
-    let entries: Vec<Entry> = splitter.finish()?.into_iter().collect(rt.alloc())?;
-    assert!(rt; are(&entries, &last));
     Ok(())
 }
 
+// Whether a splitter answers so to each piece, ends so, and gives no message.
+fn gives_nothing(
+    alloc: Global,
+    pieces: &[(&[u8], Result<(), TextFault>)],
+    end: Result<(), TextFault>,
+) -> bool {
+    let mut splitter = Splitter::new(alloc);
+    let mut out = Vec::new(alloc);
+    for (piece, answer) in pieces {
+        if splitter.feed(piece, &mut out) != *answer {
+            return false;
+        }
+    }
+    finish_into(splitter, &mut out) == end && out.is_empty()
+}
+
 #[test]
-fn refused_splitter(rt: HostRuntime) -> Result<(), Fail> {
-    let mut out = Vec::new(rt.alloc());
-    let mut refused = Splitter::new(rt.alloc());
-    assert!(rt; matches!(refused.feed(b"Fx", &mut out), Err(TextFault::NoFromLine)));
-    assert!(rt; matches!(refused.feed(b"", &mut out), Err(TextFault::Failed)));
-    assert!(rt; matches!(refused.finish(), Err(TextFault::Failed)));
-    assert_eq!(rt; out.len(), 0);
-
-    let mut short = Splitter::new(rt.alloc());
-    short.feed(b"Fro", &mut out)?;
-    assert!(rt; matches!(short.finish(), Err(TextFault::NoFromLine)));
-    assert_eq!(rt; out.len(), 0);
-
-    assert!(rt; matches!(Splitter::new(rt.alloc()).finish(), Ok(None)));
-    Ok(())
+fn refused_splitter(rt: HostRuntime) {
+    let no_line = Err(TextFault::NoFromLine);
+    let failed = Err(TextFault::Failed);
+    let refused: &[(&[u8], Result<(), TextFault>)] = &[(b"Fx", no_line), (b"", failed)];
+    let short: &[(&[u8], Result<(), TextFault>)] = &[(b"Fro", Ok(()))];
+    for (pieces, end) in [(refused, failed), (short, no_line), (&[], Ok(()))] {
+        assert!(rt; gives_nothing(rt.alloc(), pieces, end), "{end:?}");
+    }
 }

@@ -1,10 +1,10 @@
 // The worked texts: which messages they have.
-use crate::messages::are;
+use crate::messages::{Message, are};
 use mbox_text::{TextFault, split_all};
 use std::alloc::Global;
 
-// Whether a text has these messages, each with its From_ line before its body.
-fn splits(alloc: Global, text: &[u8], want: &[(&[u8], &[u8])]) -> bool {
+// Whether a text has these messages.
+fn splits(alloc: Global, text: &[u8], want: &[Message<'_>]) -> bool {
     match split_all(alloc, text) {
         Ok(entries) => are(&entries, want),
         Err(_) => false,
@@ -13,39 +13,43 @@ fn splits(alloc: Global, text: &[u8], want: &[(&[u8], &[u8])]) -> bool {
 
 #[test]
 fn worked_texts(rt: HostRuntime) {
-    let alloc = rt.alloc();
-    assert!(rt; splits(alloc, b"", &[]), "empty_text");
-    let unended = [(b"From x".as_slice(), b"abc".as_slice())];
-    assert!(rt; splits(alloc, b"From x\nabc", &unended), "unended_line");
-    let text = b"From x\n>From a\n>>From b\n> From c\n>From\n\n";
-    let quoting = [(
-        b"From x".as_slice(),
-        b"From a\n>From b\n> From c\n>From\n".as_slice(),
-    )];
-    assert!(rt; splits(alloc, text, &quoting), "quoting");
-    let text = b"From a\nx\nFrom b\ny\n";
-    let two = [
-        (b"From a".as_slice(), b"x\n".as_slice()),
-        (b"From b", b"y\n"),
+    let rows: [(&str, &[u8], &[Message<'_>]); 8] = [
+        ("empty_text", b"", &[]),
+        ("unended_line", b"From x\nabc", &[(b"From x", b"abc")]),
+        (
+            "quoting",
+            b"From x\n>From a\n>>From b\n> From c\n>From\n\n",
+            &[(b"From x", b"From a\n>From b\n> From c\n>From\n")],
+        ),
+        (
+            "no_blank_line_between",
+            b"From a\nx\nFrom b\ny\n",
+            &[(b"From a", b"x\n"), (b"From b", b"y\n")],
+        ),
+        (
+            "equal_empty_messages",
+            b"From a\n\nFrom b\n\n",
+            &[(b"From a", b""), (b"From b", b"")],
+        ),
+        (
+            "body_of_one_line_end",
+            b"From a\n\n\n",
+            &[(b"From a", b"\n")],
+        ),
+        (
+            "carriage_returns",
+            b"From a\r\nx\r\n\r\n",
+            &[(b"From a\r", b"x\r\n\r\n")],
+        ),
+        (
+            "odd bytes",
+            b"From \0\xff\n\0\x80",
+            &[(b"From \0\xff", b"\0\x80")],
+        ),
     ];
-    assert!(rt; splits(alloc, text, &two), "no_blank_line_between");
-    let empty = [(b"From a".as_slice(), b"".as_slice()), (b"From b", b"")];
-    assert!(rt;
-        splits(alloc, b"From a\n\nFrom b\n\n", &empty),
-        "equal_empty_messages"
-    );
-    let line_end = [(b"From a".as_slice(), b"\n".as_slice())];
-    assert!(rt;
-        splits(alloc, b"From a\n\n\n", &line_end),
-        "body_of_one_line_end"
-    );
-    let returns = [(b"From a\r".as_slice(), b"x\r\n\r\n".as_slice())];
-    assert!(rt;
-        splits(alloc, b"From a\r\nx\r\n\r\n", &returns),
-        "carriage_returns"
-    );
-    let odd = [(b"From \0\xff".as_slice(), b"\0\x80".as_slice())];
-    assert!(rt; splits(alloc, b"From \0\xff\n\0\x80", &odd), "odd bytes");
+    for (name, text, want) in rows {
+        assert!(rt; splits(rt.alloc(), text, want), "{name}");
+    }
 }
 
 #[test]

@@ -7,6 +7,10 @@ const ABC: &str = "ba7816bf8f01cfea414140de5dae2223b00361a396177a9cb410ff61f2001
 
 const OLD: &str = "918baf65b8d8809bb29fe7f8c5ba96d0bb3fafca806accd54d5db6f9be7196e4";
 
+fn is_made_of(name: &str, digits: &str, rest: &str) -> bool {
+    name.strip_prefix(digits) == Some(rest)
+}
+
 // Whether the next target has these digits, this number and place, and this name behind the digits.
 fn targets(
     namer: &mut Namer,
@@ -19,9 +23,9 @@ fn targets(
     let Ok(target) = namer.target(body.as_bytes()) else {
         return false;
     };
-    target.base.as_str().strip_prefix(digits) == Some(number)
-        && target.place == place
-        && target.name.as_str().strip_prefix(digits) == Some(rest)
+    target.place == place
+        && is_made_of(target.base.as_str(), digits, number)
+        && is_made_of(target.name.as_str(), digits, rest)
 }
 
 #[test]

@@ -1,9 +1,24 @@
 // Targets of bodies. The digests are another program's.
 use maildir_name::{NameFault, Namer, Place};
-use std::test::Fail;
+
+// Whether the next target has this place and name.
+fn names(namer: &mut Namer, body: &str, place: Place, name: &str) -> bool {
+    let answer = match namer.target(body.as_bytes()) {
+        Err(NameFault::OutOfMemory) => namer.target(body.as_bytes()),
+        answer => answer,
+    };
+    match answer {
+        Ok(target) => {
+            target.place == place
+                && target.name.as_str() == name
+                && name.starts_with(target.base.as_str())
+        }
+        Err(_) => false,
+    }
+}
 
 #[test]
-fn namer_again(rt: HostRuntime) -> Result<(), Fail> {
+fn namer_again(rt: HostRuntime) {
     let rows: [(&str, Place, &str); 8] = [
         (
             "",
@@ -48,13 +63,6 @@ fn namer_again(rt: HostRuntime) -> Result<(), Fail> {
     ];
     let mut namer = Namer::new(rt.alloc());
     for (body, place, name) in rows {
-        let target = match namer.target(body.as_bytes()) {
-            Err(NameFault::OutOfMemory) => namer.target(body.as_bytes()),
-            answer => answer,
-        }?;
-        assert!(rt; target.place == place, "{body:?}");
-        assert_eq!(rt; target.name.as_str(), name, "{body:?}");
-        assert!(rt; name.starts_with(target.base.as_str()), "{body:?}");
+        assert!(rt; names(&mut namer, body, place, name), "{body:?}");
     }
-    Ok(())
 }

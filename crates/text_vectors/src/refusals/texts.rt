@@ -1,26 +1,28 @@
 // From_ lines that are built, and texts that are taken apart.
 ghost use Rattle.std.specs.Prelude.{◌<◌};
 
-use mbox_text::{Entry, Splitter, TextFault, build_from, split_all};
-use std::process::Abort;
-use std::test::Fail;
+use crate::messages::{Message, are, are_first, feed_pieces, finish_into};
+use mbox_text::{Splitter, TextFault, build_from, split_all};
+use std::alloc::Global;
 
 const QUOTED: &[u8] = b"From x\n>From a\n>>From b\n> From c\n>From\n\n";
 
-// A From_ line and a body.
-type Message<'a> = (&'a [u8], &'a [u8]);
+const UNQUOTED: &[Message<'_>] = &[(b"From x", b"From a\n>From b\n> From c\n>From\n")];
 
-// These are the first of the wanted messages.
-fn assert_front(rt: &impl Abort, entries: &[Entry], want: &[Message<'_>]) {
-    assert!(rt; entries.len() <= want.len());
-    for (entry, (from_line, body)) in entries.iter().zip(want.iter()) {
-        assert!(rt; entry.from_line.as_slice() == *from_line);
-        assert!(rt; entry.body.as_slice() == *body);
+// Whether this From_ line is built.
+fn builds(alloc: Global, sender: &[u8], rest: &[u8], want: &[u8]) -> bool {
+    let answer = match build_from(alloc, sender, rest) {
+        Err(TextFault::OutOfMemory) => build_from(alloc, sender, rest),
+        answer => answer,
+    };
+    match answer {
+        Ok(line) => line.as_slice() == want,
+        Err(_) => false,
     }
 }
 
 #[test]
-fn build_from_again(rt: HostRuntime) -> Result<(), Fail> {
+fn build_from_again(rt: HostRuntime) {
     let rows: [(&[u8], &[u8], &[u8]); 2] = [
         (
             b"",
@@ -30,85 +32,67 @@ fn build_from_again(rt: HostRuntime) -> Result<(), Fail> {
         (b"a b", b"", b"From a-b"),
     ];
     for (sender, rest, want) in rows {
-        let line = match build_from(rt.alloc(), sender, rest) {
-            Err(TextFault::OutOfMemory) => build_from(rt.alloc(), sender, rest),
-            answer => answer,
-        }?;
-        assert!(rt; line.as_slice() == want, "{want:?}");
+        assert!(rt; builds(rt.alloc(), sender, rest, want), "{want:?}");
     }
     let refused = build_from(rt.alloc(), b"a", b"x\ny");
     assert!(rt; matches!(refused, Err(TextFault::LineEndInRest)));
-    Ok(())
+}
+
+// Whether a text has these messages.
+fn splits(alloc: Global, text: &[u8], want: &[Message<'_>]) -> bool {
+    let answer = match split_all(alloc, text) {
+        Err(TextFault::OutOfMemory) => split_all(alloc, text),
+        answer => answer,
+    };
+    match answer {
+        Ok(entries) => are(&entries, want),
+        Err(_) => false,
+    }
 }
 
 #[test]
-fn split_all_again(rt: HostRuntime) -> Result<(), Fail> {
-    let entries = match split_all(rt.alloc(), QUOTED) {
-        Err(TextFault::OutOfMemory) => split_all(rt.alloc(), QUOTED),
-        answer => answer,
-    }?;
-    assert_eq!(rt; entries.len(), 1);
-    assert_front(
-        &rt,
-        &entries,
-        &[(b"From x", b"From a\n>From b\n> From c\n>From\n")],
-    );
+fn split_all_again(rt: HostRuntime) {
+    assert!(rt; splits(rt.alloc(), QUOTED, UNQUOTED));
     let refused = split_all(rt.alloc(), b"Subject: x\n");
     assert!(rt; matches!(refused, Err(TextFault::NoFromLine)));
-    Ok(())
 }
 
-// Whether all messages of the text come by pieces of this size. Otherwise a growth was refused: the splitter then
-// answers `Failed`, and gave out a front of the messages.
-fn comes_whole(
-    rt: &(impl Abort + AllocGlobal),
-    text: &[u8],
-    size: usize,
-    want: &[Message<'_>],
-) -> Result<bool, Fail>
+// Whether the messages come by pieces of this size. `OutOfMemory` says that a growth was refused, that a splitter which
+// was refused answers `Failed` then, and that a front of the messages came.
+fn comes(alloc: Global, text: &[u8], size: usize, want: &[Message<'_>]) -> Result<bool, TextFault>
     requires { 0 < size }
 {
-    let mut splitter = Splitter::new(rt.alloc());
-    let mut out = Vec::new(rt.alloc());
-    for piece in text.chunks(size) {
-        match splitter.feed(piece, &mut out) {
-            Ok(()) => {}
-            Err(TextFault::OutOfMemory) => {
-                assert!(rt; matches!(splitter.feed(piece, &mut out), Err(TextFault::Failed)));
-                assert!(rt; matches!(splitter.finish(), Err(TextFault::Failed)));
-                assert_front(rt, &out, want);
-                return Ok(false);
-            }
-            Err(fault) => return Err(Fail::from(fault)),
-        }
+    let mut splitter = Splitter::new(alloc);
+    let mut out = Vec::new(alloc);
+    let fed = feed_pieces(&mut splitter, text, size, &mut out);
+    let again = match fed {
+        Ok(()) => Ok(()),
+        Err(_) => splitter.feed(text, &mut out),
+    };
+    let end = finish_into(splitter, &mut out);
+    let refused = Err(TextFault::OutOfMemory);
+    let failed = Err(TextFault::Failed);
+    let is_refused = (fed, again, end) == (refused, failed, failed)
+        || (fed, end) == (Ok(()), refused);
+    if is_refused && are_first(&out, want) {
+        return Err(TextFault::OutOfMemory);
     }
-    match splitter.finish() {
-        Ok(Some(last)) => out.push(last)?,
-        Ok(None) => {}
-        Err(TextFault::OutOfMemory) => {
-            assert_front(rt, &out, want);
-            return Ok(false);
-        }
-        Err(fault) => return Err(Fail::from(fault)),
-    }
-    assert_eq!(rt; out.len(), want.len());
-    assert_front(rt, &out, want);
-    Ok(true)
+    Ok(fed.is_ok() && end.is_ok() && are(&out, want))
 }
 
 #[test]
-fn splitter_again(rt: HostRuntime) -> Result<(), Fail> {
-    let quoted: &[Message<'_>] = &[(b"From x", b"From a\n>From b\n> From c\n>From\n")];
+fn splitter_again(rt: HostRuntime) {
     let three: &[Message<'_>] = &[(b"From a", b""), (b"From b", b""), (b"From c", b"abc")];
     for (text, want) in [
-        (QUOTED, quoted),
+        (QUOTED, UNQUOTED),
         (b"From a\n\nFrom b\n\nFrom c\nabc", three),
     ] {
         for size in [1, 11] {
-            if !comes_whole(&rt, text, size, want)? {
-                assert!(rt; comes_whole(&rt, text, size, want)?);
-            }
+            let answer = match comes(rt.alloc(), text, size, want) {
+                Err(TextFault::OutOfMemory) => comes(rt.alloc(), text, size, want),
+                answer => answer,
+            };
+            assert!(rt; answer == Ok(true), "pieces of {size}");
         }
     }
-    Ok(())
 }
