@@ -4,7 +4,7 @@ ghost use Rattle.std.specs.Prelude.{◌<◌};
 use crate::runs::{EMPTY_TWO, THREE, run_over};
 use crate::scripts::Deed;
 use maildir_name::{Namer, Target, base_of, is_converter_name};
-use maildir_run::{Folder, MemFolder, Mode, Report, RunFault, ScriptLine, Sub};
+use maildir_run::{Act, Folder, FolderFault, MemFolder, Mode, Report, RunFault, ScriptLine, Sub};
 use mbox_text::{Entry, split_all};
 use std::alloc::{AllocError, Global};
 use std::test::Fail;
@@ -28,21 +28,44 @@ impl Dice {
     }
 }
 
-fn any_deed<'a>(dice: &mut Dice, targets: &'a [Target]) -> Deed<'a> {
-    let infos = ["", ":2,", ":2,F", ":2,FRS", ":2,S"];
-    let foreign = ["1700000000.M1.host", "note", "note:2,S"];
-    let base = match targets.get(dice.below(4)) {
+const INFOS: [&str; 5] = ["", ":2,", ":2,F", ":2,FRS", ":2,S"];
+
+const OTHERS: [&str; 3] = ["1700000000.M1.host", "note", "note:2,S"];
+
+fn any_base<'a>(dice: &mut Dice, targets: &'a [Target]) -> &'a str {
+    match targets.get(dice.below(4)) {
         Some(target) => target.base.as_str(),
         None => EMPTY_TWO,
-    };
+    }
+}
+
+fn any_deed<'a>(dice: &mut Dice, targets: &'a [Target]) -> Deed<'a> {
+    let base = any_base(dice, targets);
     let sub = [Sub::Tmp, Sub::New, Sub::Cur][dice.below(3)];
     match dice.below(8) {
-        0 | 1 | 2 => Deed::ToCur(base, infos[dice.below(5)]),
-        3 | 4 => Deed::Reflag(base, infos[dice.below(5)], infos[dice.below(5)]),
+        0 | 1 | 2 => Deed::ToCur(base, INFOS[dice.below(5)]),
+        3 | 4 => Deed::Reflag(base, INFOS[dice.below(5)], INFOS[dice.below(5)]),
         5 => Deed::DropTmp(base),
-        6 => Deed::PutOther(sub, foreign[dice.below(3)]),
-        _ => Deed::DropOther(sub, foreign[dice.below(3)]),
+        6 => Deed::PutOther(sub, OTHERS[dice.below(3)]),
+        _ => Deed::DropOther(sub, OTHERS[dice.below(3)]),
     }
+}
+
+const MODES: [Mode; 6] = [
+    Mode::Plain,
+    Mode::Plain,
+    Mode::FailBefore,
+    Mode::FailAfter,
+    Mode::Half,
+    Mode::Twice,
+];
+
+fn any_acts(alloc: Global, dice: &mut Dice, targets: &[Target]) -> Result<Vec<Act>, AllocError> {
+    let mut acts = Vec::new(alloc);
+    for _ in 0..dice.below(4) {
+        acts.push(any_deed(dice, targets).act(alloc)?)?;
+    }
+    Ok(acts)
 }
 
 pub(crate) fn any_script(
@@ -50,21 +73,10 @@ pub(crate) fn any_script(
     dice: &mut Dice,
     targets: &[Target],
 ) -> Result<Vec<ScriptLine>, AllocError> {
-    let modes = [
-        Mode::Plain,
-        Mode::Plain,
-        Mode::FailBefore,
-        Mode::FailAfter,
-        Mode::Half,
-        Mode::Twice,
-    ];
     let mut lines = Vec::new(alloc);
     for _ in 0..dice.below(6) {
-        let mut acts = Vec::new(alloc);
-        for _ in 0..dice.below(4) {
-            acts.push(any_deed(dice, targets).act(alloc)?)?;
-        }
-        let (call, mode) = (1 + dice.below(12) as u64, modes[dice.below(6)]);
+        let acts = any_acts(alloc, dice, targets)?;
+        let (call, mode) = (1 + dice.below(12) as u64, MODES[dice.below(6)]);
         lines.push(ScriptLine { call, acts, mode })?;
     }
     Ok(lines)
@@ -90,33 +102,50 @@ fn homes_in(
     Some(homes)
 }
 
-// Each message has exactly one home, which holds its body, and no converter's name is left in `tmp`.
+// Whether each message has exactly one home, which holds its body.
+fn are_home(
+    folder: &MemFolder,
+    new: &[String],
+    cur: &[String],
+    targets: &[Target],
+    messages: &[Entry],
+) -> bool {
+    for (target, message) in targets.iter().zip(messages) {
+        let base = target.base.as_str();
+        let body = message.body.as_slice();
+        let in_new = homes_in(folder, Sub::New, new, base, body);
+        let in_cur = homes_in(folder, Sub::Cur, cur, base, body);
+        if !matches!((in_new, in_cur), (Some(1), Some(0)) | (Some(0), Some(1))) {
+            return false;
+        }
+    }
+    true
+}
+
+/// How many of the names in one folder are a converter's.
+pub(crate) fn ours(folder: &mut MemFolder, sub: Sub) -> Result<usize, FolderFault> {
+    let mut count = 0usize;
+    for name in &folder.list(sub)? {
+        if is_converter_name(name.as_str()) {
+            count = count.saturating_add(1);
+        }
+    }
+    Ok(count)
+}
+
+/// Whether each message has exactly one home, which holds its body, and no converter's name is left in `tmp`.
 pub(crate) fn is_delivered(
     folder: &mut MemFolder,
     targets: &[Target],
     messages: &[Entry],
-) -> Result<bool, Fail> {
-    let tmp = folder.list(Sub::Tmp)?;
+) -> Result<bool, FolderFault> {
+    let in_tmp = ours(folder, Sub::Tmp)?;
     let new = folder.list(Sub::New)?;
     let cur = folder.list(Sub::Cur)?;
-    for (target, message) in targets.iter().zip(messages) {
-        let base = target.base.as_str();
-        let body = message.body.as_slice();
-        let in_new = homes_in(folder, Sub::New, &new, base, body);
-        let in_cur = homes_in(folder, Sub::Cur, &cur, base, body);
-        if !matches!((in_new, in_cur), (Some(1), Some(0)) | (Some(0), Some(1))) {
-            return Ok(false);
-        }
-    }
-    for name in &tmp {
-        if is_converter_name(name.as_str()) {
-            return Ok(false);
-        }
-    }
-    Ok(true)
+    Ok(in_tmp == 0 && are_home(folder, &new, &cur, targets, messages))
 }
 
-pub(crate) fn targets_of(alloc: Global, messages: &[Entry]) -> Result<Vec<Target>, Fail> {
+pub(crate) fn targets_of(alloc: Global, messages: &[Entry]) -> Result<Vec<Target>, RunFault> {
     let mut namer = Namer::new(alloc);
     let mut targets = Vec::new(alloc);
     for message in messages {
@@ -145,32 +174,39 @@ impl Stops {
     }
 }
 
-// Up to six disturbed runs, and one that is not: whether each message is there once then.
-fn ends_delivered(
+// A run under a script at random.
+fn run_disturbed(
     alloc: Global,
     dice: &mut Dice,
+    folder: &mut MemFolder,
+    targets: &[Target],
     text: &[u8],
-    stops: &mut Stops,
-) -> Result<bool, Fail> {
+) -> Result<Result<Report, RunFault>, AllocError> {
+    let lines = any_script(alloc, dice, targets)?;
+    let fail_from = match dice.below(3) {
+        0 => Some(1 + dice.below(12) as u64),
+        _ => None,
+    };
+    folder.script(lines, fail_from);
+    Ok(run_over(alloc, folder, text))
+}
+
+// Up to six disturbed runs, and one that is not: whether each message is there once then.
+fn ends_delivered(alloc: Global, seed: u64, text: &[u8], stops: &mut Stops) -> Result<bool, Fail> {
+    let mut dice = Dice { state: seed };
     let messages = split_all(alloc, text)?;
     let targets = targets_of(alloc, &messages)?;
     let mut folder = MemFolder::new(alloc);
     for _ in 0..dice.below(7) {
-        let lines = any_script(alloc, dice, &targets)?;
-        let fail_from = match dice.below(3) {
-            0 => Some(1 + dice.below(12) as u64),
-            _ => None,
-        };
-        folder.script(lines, fail_from);
-        if !stops.count(run_over(alloc, &mut folder, text)) {
+        if !stops.count(run_disturbed(alloc, &mut dice, &mut folder, &targets, text)?) {
             return Ok(false);
         }
     }
     folder.script(Vec::new(alloc), None);
-    if run_over(alloc, &mut folder, text).is_err() {
-        return Ok(false);
-    }
-    is_delivered(&mut folder, &targets, &messages)
+    Ok(
+        run_over(alloc, &mut folder, text).is_ok()
+            && is_delivered(&mut folder, &targets, &messages)?,
+    )
 }
 
 #[test]
@@ -187,9 +223,8 @@ fn any_broken_and_disturbed_runs(rt: HostRuntime) -> Result<(), Fail> {
     };
     for seed in 0..500u64 {
         let text = texts[(seed % 4) as usize];
-        let mut dice = Dice { state: seed };
         assert!(rt;
-            ends_delivered(rt.alloc(), &mut dice, text, &mut stops)?,
+            ends_delivered(rt.alloc(), seed, text, &mut stops)?,
             "seed {seed}"
         );
     }

@@ -1,10 +1,10 @@
 // Lists of texts in any order, with broken and disturbed runs between: they share the messages that are equal.
-use crate::any_runs::{Dice, any_script, is_delivered, targets_of};
+use crate::any_runs::{Dice, any_script, is_delivered, ours, targets_of};
 use crate::runs::{THREE, TWO_EMPTY, run_over};
-use maildir_name::is_converter_name;
-use maildir_run::{Folder, MemFolder, Sub};
+use maildir_name::Target;
+use maildir_run::{MemFolder, Sub};
 use mbox_text::split_all;
-use std::alloc::Global;
+use std::alloc::{AllocError, Global};
 use std::collections::BTreeSet;
 use std::test::Fail;
 
@@ -22,17 +22,6 @@ fn disturb(
     let _ = run_over(alloc, folder, text);
     folder.script(Vec::new(alloc), None);
     Ok(())
-}
-
-// How many of the names in one folder are a converter's.
-fn ours(folder: &mut MemFolder, sub: Sub) -> Result<usize, Fail> {
-    let mut count = 0usize;
-    for name in &folder.list(sub)? {
-        if is_converter_name(name.as_str()) {
-            count = count.saturating_add(1);
-        }
-    }
-    Ok(count)
 }
 
 // A run over each of the texts, with broken runs over any of them before it: whether each of them answers Ok.
@@ -55,6 +44,17 @@ fn run_over_all(
     Ok(true)
 }
 
+fn add_bases(
+    alloc: Global,
+    targets: &[Target],
+    bases: &mut BTreeSet<String>,
+) -> Result<(), AllocError> {
+    for target in targets {
+        bases.insert(String::from_str(alloc, target.base.as_str())?)?;
+    }
+    Ok(())
+}
+
 // Whether each message of a text is there once. Its bases are added to the others.
 fn is_at_home(
     alloc: Global,
@@ -64,10 +64,8 @@ fn is_at_home(
 ) -> Result<bool, Fail> {
     let messages = split_all(alloc, text)?;
     let targets = targets_of(alloc, &messages)?;
-    for target in &targets {
-        bases.insert(String::from_str(alloc, target.base.as_str())?)?;
-    }
-    is_delivered(folder, &targets, &messages)
+    add_bases(alloc, &targets, bases)?;
+    Ok(is_delivered(folder, &targets, &messages)?)
 }
 
 // Whether each message of each text is there once, and no other name is ours.
@@ -83,6 +81,23 @@ fn are_shared(alloc: Global, folder: &mut MemFolder, texts: &[&[u8]]) -> Result<
     Ok(in_new.saturating_add(in_cur) == bases.len())
 }
 
+// Runs over a list of some of the texts: whether each message is there once then.
+fn end_shared(alloc: Global, seed: u64, all: &[&[u8]; 6]) -> Result<bool, Fail> {
+    let mut dice = Dice { state: seed };
+    let texts = [
+        all[dice.below(6)],
+        all[dice.below(6)],
+        all[dice.below(6)],
+        all[dice.below(6)],
+    ];
+    let texts = &texts[..1 + dice.below(4)];
+    let mut folder = MemFolder::new(alloc);
+    Ok(
+        run_over_all(alloc, &mut dice, &mut folder, texts)?
+            && are_shared(alloc, &mut folder, texts)?,
+    )
+}
+
 #[test]
 fn any_texts_in_any_order(rt: HostRuntime) -> Result<(), Fail> {
     let all: [&[u8]; 6] = [
@@ -94,21 +109,7 @@ fn any_texts_in_any_order(rt: HostRuntime) -> Result<(), Fail> {
         b"From y\nStatus: O\n\nhi\n\nFrom q\n>From r\n\n",
     ];
     for seed in 0..300u64 {
-        let mut dice = Dice { state: seed };
-        let texts: [&[u8]; 4] = [
-            all[dice.below(6)],
-            all[dice.below(6)],
-            all[dice.below(6)],
-            all[dice.below(6)],
-        ];
-        let n = 1 + dice.below(4);
-        let texts = &texts[..n];
-        let mut folder = MemFolder::new(rt.alloc());
-        assert!(rt;
-            run_over_all(rt.alloc(), &mut dice, &mut folder, texts)?
-                && are_shared(rt.alloc(), &mut folder, texts)?,
-            "seed {seed}"
-        );
+        assert!(rt; end_shared(rt.alloc(), seed, &all)?, "seed {seed}");
     }
     Ok(())
 }

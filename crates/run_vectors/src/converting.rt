@@ -2,10 +2,12 @@
 ghost use Rattle.std.specs.Prelude.{◌≤◌, ◌^◌};
 
 use crate::runs::{
-    ABC, EMPTY_ONE, EMPTY_TWO, LIMIT, THREE, TWO_EMPTY, UNENDED, folder_of, holds, report, run_over,
+    ABC, EMPTY_ONE, EMPTY_TWO, File, LIMIT, ONE_SEEN, THREE, TWO_EMPTY, UNENDED, folder_of, holds,
+    report, run_over,
 };
+use crate::scripts::go;
 use crate::streams::{Cut, Then};
-use maildir_run::{MemFolder, Report, RunFault, Sub, convert};
+use maildir_run::{FolderFault, MemFolder, Report, RunFault, Sub, convert};
 use std::alloc::Global;
 use std::test::Fail;
 
@@ -13,21 +15,13 @@ const ABC_LINE: &str = "edeaaff3f1774ad2888673770c6d64097e391bc362d7d6fb34982ddf
 
 const HELLO_LINE: &str = "5891b5b522d5df086d0ff0b110fbd9d21bb4fc7163af34d08286a2e846f6be03.1";
 
-const ONE_SEEN: &str = "e3b0c44298fc1c149afbf4c8996fb92427ae41e4649b934ca495991b7852b855.1:2,S";
-
 const FLAGGED: &str = "6e10782762e5fa1e91d5bfce9779c600776be9832f251fd48a19b758b735a824.1:2,FRS";
 
 const ALL_FLAGS: &[u8] =
     b"From a\tb@c Thu Jan  1 00:00:00 1970\nStatus: RO\nX-Status: AF\n\nhi\n\n";
 
 // A run delivers so many messages by so many calls, and a second one makes three calls and changes nothing.
-fn delivers(
-    alloc: Global,
-    text: &[u8],
-    messages: u64,
-    calls: u64,
-    files: &[(Sub, &str, &str)],
-) -> bool {
+fn delivers(alloc: Global, text: &[u8], messages: u64, calls: u64, files: &[File<'_>]) -> bool {
     let mut folder = MemFolder::new(alloc);
     run_over(alloc, &mut folder, text) == Ok(report(messages, 0, messages, 0))
         && folder.calls() == calls
@@ -67,25 +61,21 @@ fn no_from_line(rt: HostRuntime) {
 }
 
 #[test]
-fn leftover_is_swept(rt: HostRuntime) -> Result<(), Fail> {
+fn leftover_is_swept(rt: HostRuntime) {
     let foreign = (Sub::Tmp, "1700000000.M1.host", "z");
-    let mut folder = folder_of(rt.alloc(), &[(Sub::Tmp, ABC, "a"), foreign])?;
+    let swept = Ok(report(1, 0, 1, 1));
+    let files = [foreign, (Sub::New, ABC, "abc")];
     assert!(rt;
-        run_over(rt.alloc(), &mut folder, UNENDED) == Ok(report(1, 0, 1, 1))
-            && holds(&folder, &[foreign, (Sub::New, ABC, "abc")])
+        go(
+            rt.alloc(),
+            &[(Sub::Tmp, ABC, "a"), foreign],
+            &[(&[], UNENDED, swept, 6, &files)]
+        )
     );
-    assert_eq!(rt; folder.calls(), 6);
-    Ok(())
 }
 
 // A run over a source that fails behind these bytes, and one over the whole text, which leaves these files.
-fn goes_on(
-    alloc: Global,
-    front: &[u8],
-    piece: usize,
-    whole: &[u8],
-    files: &[(Sub, &str, &str)],
-) -> bool {
+fn goes_on(alloc: Global, front: &[u8], piece: usize, whole: &[u8], files: &[File<'_>]) -> bool {
     let mut folder = MemFolder::new(alloc);
     let mut source = Cut::new(front, piece, Then::Fails);
     if convert(alloc, &mut folder, &mut source, LIMIT) != Err(RunFault::ReadFault) {
@@ -162,13 +152,19 @@ fn read_budget(rt: HostRuntime) {
     }
 }
 
+// Puts so many other files in `cur`.
+fn put_others(alloc: Global, folder: &mut MemFolder, count: u32) -> Result<(), FolderFault> {
+    for i in 1..=count {
+        folder.put(Sub::Cur, format!(in alloc; "f{i}")?, Vec::new(alloc))?;
+    }
+    Ok(())
+}
+
 #[test]
 fn many_foreign_names(rt: HostRuntime) -> Result<(), Fail> {
     let alloc = rt.alloc();
     let mut folder = folder_of(alloc, &[(Sub::Cur, ONE_SEEN, "")])?;
-    for i in 1..1001u32 {
-        folder.put(Sub::Cur, format!(in alloc; "f{i}")?, Vec::new(alloc))?;
-    }
+    put_others(alloc, &mut folder, 1000)?;
     assert!(rt;
         run_over(alloc, &mut folder, TWO_EMPTY) == Ok(report(2, 1, 1, 0))
             && folder.calls() == 5
@@ -179,7 +175,7 @@ fn many_foreign_names(rt: HostRuntime) -> Result<(), Fail> {
 }
 
 #[test]
-fn names_that_are_nearly_ours(rt: HostRuntime) -> Result<(), Fail> {
+fn names_that_are_nearly_ours(rt: HostRuntime) {
     let odd = [
         (Sub::Cur, ":x", ""),
         (
@@ -198,31 +194,25 @@ fn names_that_are_nearly_ours(rt: HostRuntime) -> Result<(), Fail> {
             "",
         ),
     ];
-    let mut folder = folder_of(rt.alloc(), &odd)?;
     let [a, b, c, d] = odd;
     let files = [a, b, c, d, (Sub::New, ABC, "abc")];
-    assert!(rt;
-        run_over(rt.alloc(), &mut folder, UNENDED) == Ok(report(1, 0, 1, 0))
-            && holds(&folder, &files)
-    );
-    Ok(())
+    let placed = Ok(report(1, 0, 1, 0));
+    assert!(rt; go(rt.alloc(), &odd, &[(&[], UNENDED, placed, 5, &files)]));
 }
 
 // A folder that has the message, or two homes of its base: what is there stays.
 #[test]
-fn what_is_there_stays(rt: HostRuntime) -> Result<(), Fail> {
+fn what_is_there_stays(rt: HostRuntime) {
     let colon = "ba7816bf8f01cfea414140de5dae2223b00361a396177a9cb410ff61f20015ad.1:";
     let info = "ba7816bf8f01cfea414140de5dae2223b00361a396177a9cb410ff61f20015ad.1:2,";
     let a_colon_and_no_info = [(Sub::Cur, colon, "abc")];
     let not_sound = [(Sub::New, ABC, "x"), (Sub::Cur, info, "abc")];
+    let there = Ok(report(1, 1, 0, 0));
     for files in [a_colon_and_no_info.as_slice(), &not_sound] {
-        let mut folder = folder_of(rt.alloc(), files)?;
         assert!(rt;
-            run_over(rt.alloc(), &mut folder, UNENDED) == Ok(report(1, 1, 0, 0))
-                && holds(&folder, files),
+            go(rt.alloc(), files, &[(&[], UNENDED, there, 3, files)]),
             "{}",
             files.len()
         );
     }
-    Ok(())
 }

@@ -1,15 +1,38 @@
 // The plan of three lists. The digests are FIPS 180-4's examples.
-use maildir_name::Namer;
-use maildir_run::{Step, plan};
+use crate::runs::{ABC, ONE_SEEN};
+use maildir_name::{Namer, Target};
+use maildir_run::{RunFault, Step, plan};
 use std::alloc::{AllocError, Global};
 use std::test::Fail;
 
-// The SHA-256 of no bytes, and of `abc`, each with the number 1.
-const EMPTY: &str = "e3b0c44298fc1c149afbf4c8996fb92427ae41e4649b934ca495991b7852b855.1";
+/// A step as it is wanted.
+#[derive(Clone, Copy)]
+pub(crate) enum Want<'a> {
+    Remove(&'a str),
+    Write(usize),
+    Place(usize),
+}
 
-const ABC: &str = "ba7816bf8f01cfea414140de5dae2223b00361a396177a9cb410ff61f20015ad.1";
+fn is_wanted(step: &Step, want: Want<'_>) -> bool {
+    match (step, want) {
+        (Step::Remove(name), Want::Remove(other)) => name.as_str() == other,
+        (Step::Write(i), Want::Write(j)) | (Step::Place(i), Want::Place(j)) => *i == j,
+        _ => false,
+    }
+}
 
-fn names(alloc: Global, texts: &[&str]) -> Result<Vec<String>, AllocError> {
+/// Whether these are the steps, in this order.
+pub(crate) fn are_wanted(steps: &[Step], wants: &[Want<'_>]) -> bool {
+    for (step, want) in steps.iter().zip(wants) {
+        if !is_wanted(step, *want) {
+            return false;
+        }
+    }
+    steps.len() == wants.len()
+}
+
+/// The names of a list.
+pub(crate) fn names(alloc: Global, texts: &[&str]) -> Result<Vec<String>, AllocError> {
     let mut names = Vec::new(alloc);
     for text in texts {
         names.push(String::from_str(alloc, text)?)?;
@@ -17,38 +40,56 @@ fn names(alloc: Global, texts: &[&str]) -> Result<Vec<String>, AllocError> {
     Ok(names)
 }
 
-// The steps in words, with a semicolon behind each.
-fn in_words(alloc: Global, steps: &[Step]) -> Result<String, Fail> {
-    let mut words = String::new(alloc);
-    for step in steps {
-        let word = match step {
-            Step::Remove(name) => format!(in alloc; "remove {};", name.as_str())?,
-            Step::Write(i) => format!(in alloc; "write {i};")?,
-            Step::Place(i) => format!(in alloc; "place {i};")?,
-        };
-        words.push_str(&word)?;
-    }
-    Ok(words)
-}
-
-#[test]
-fn plan_of_three_lists(rt: HostRuntime) -> Result<(), Fail> {
-    let alloc = rt.alloc();
+/// The targets of no bytes and of `abc`.
+pub(crate) fn two_targets(alloc: Global) -> Result<Vec<Target>, RunFault> {
     let mut namer = Namer::new(alloc);
     let mut targets = Vec::new(alloc);
     targets.push(namer.target(b"")?)?;
     targets.push(namer.target(b"abc")?)?;
-    let flagged = format!(in alloc; "{EMPTY}:2,S")?;
-    let tmp = names(alloc, &[ABC, "1700000000.M1.host"])?;
-    let new = names(alloc, &[])?;
-    let cur = names(alloc, &[flagged.as_str()])?;
+    Ok(targets)
+}
+
+// Whether three lists lead to these steps.
+fn plans(
+    alloc: Global,
+    tmp: &[&str],
+    new: &[&str],
+    cur: &[&str],
+    wants: &[Want<'_>],
+) -> Result<bool, RunFault> {
+    let targets = two_targets(alloc)?;
+    let tmp = names(alloc, tmp)?;
+    let new = names(alloc, new)?;
+    let cur = names(alloc, cur)?;
     let steps = plan(alloc, &tmp, &new, &cur, &targets)?;
-    let want = format!(in alloc; "remove {ABC};write 1;place 1;")?;
-    assert_eq!(rt; in_words(alloc, &steps)?.as_str(), want.as_str());
-    let steps = plan(alloc, &new, &tmp, &new, &targets)?;
-    assert_eq!(rt; in_words(alloc, &steps)?.as_str(), "write 0;place 0;");
-    let steps = plan(alloc, &new, &new, &new, &targets)?;
-    let all = in_words(alloc, &steps)?;
-    assert_eq!(rt; all.as_str(), "write 0;place 0;write 1;place 1;");
+    Ok(are_wanted(&steps, wants))
+}
+
+#[test]
+fn plan_of_three_lists(rt: HostRuntime) -> Result<(), Fail> {
+    let tmp: &[&str] = &[ABC, "1700000000.M1.host"];
+    let rows: [(&[&str], &[&str], &[&str], &[Want<'_>]); 3] = [
+        (
+            tmp,
+            &[],
+            &[ONE_SEEN],
+            &[Want::Remove(ABC), Want::Write(1), Want::Place(1)],
+        ),
+        (&[], tmp, &[], &[Want::Write(0), Want::Place(0)]),
+        (
+            &[],
+            &[],
+            &[],
+            &[
+                Want::Write(0),
+                Want::Place(0),
+                Want::Write(1),
+                Want::Place(1),
+            ],
+        ),
+    ];
+    for (tmp, new, cur, wants) in rows {
+        assert!(rt; plans(rt.alloc(), tmp, new, cur, wants)?);
+    }
     Ok(())
 }

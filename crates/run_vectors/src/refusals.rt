@@ -1,19 +1,25 @@
 // Want of memory: the calls of the folder in memory, and a plan, made again where a growth was refused. So each test
 // passes whichever single growth of its calls is refused, and where none is. `tests/refusals` runs them with each
 // growth refused in turn. What a test takes for itself it hands on, and so ends as refused.
-use crate::runs::{ABC, EMPTY_ONE};
-use maildir_name::{Namer, Place};
-use maildir_run::{Folder, FolderFault, MemFolder, RunFault, Step, Sub, plan};
-use std::alloc::Global;
-use std::process::Abort;
+use crate::mem_folder::are_named;
+use crate::planning::{Want, are_wanted, names, two_targets};
+use crate::runs::{ABC, ONE_SEEN, holds, put};
+use maildir_name::Place;
+use maildir_run::{Folder, FolderFault, MemFolder, RunFault, Sub, plan};
+use std::alloc::{AllocError, Global};
 use std::test::Fail;
 
 const FOREIGN: &str = "1700000000.M1.host";
 
-fn list<F: Folder>(folder: &mut F, sub: Sub) -> Result<Vec<String>, FolderFault> {
-    match folder.list(sub) {
+// Whether a folder lists these names.
+fn lists<F: Folder>(folder: &mut F, sub: Sub, want: &[&str]) -> bool {
+    let answer = match folder.list(sub) {
         Err(FolderFault::OutOfMemory) => folder.list(sub),
         answer => answer,
+    };
+    match answer {
+        Ok(names) => are_named(&names, want),
+        Err(_) => false,
     }
 }
 
@@ -43,92 +49,69 @@ fn remove<F: Folder>(folder: &mut F, name: &str) -> Result<(), FolderFault> {
     }
 }
 
-// The calls of a folder that is empty.
-fn assert_calls<F: Folder>(rt: &impl Abort, folder: &mut F) -> Result<(), FolderFault> {
-    assert_eq!(rt;
-        place(folder, "u", Place::New, "u"),
-        Err(FolderFault::Absent)
-    );
-    remove(folder, "u")?;
-    write(folder, "u", b"ab")?;
-    let names = list(folder, Sub::Tmp)?;
-    assert!(rt; names.len() == 1);
-    assert!(rt; names[0].as_str() == "u");
-    place(folder, "u", Place::Cur, "u:2,")?;
-    assert!(rt; list(folder, Sub::Tmp)?.is_empty());
-    assert!(rt; list(folder, Sub::New)?.is_empty());
-    let names = list(folder, Sub::Cur)?;
-    assert!(rt; names.len() == 1);
-    assert!(rt; names[0].as_str() == "u:2,");
-    Ok(())
+// Whether a file of a folder that is empty comes, is listed and goes to `cur`.
+fn answers<F: Folder>(folder: &mut F) -> bool {
+    place(folder, "u", Place::New, "u") == Err(FolderFault::Absent)
+        && remove(folder, "u") == Ok(())
+        && write(folder, "u", b"ab") == Ok(())
+        && lists(folder, Sub::Tmp, &["u"])
+        && place(folder, "u", Place::Cur, "u:2,") == Ok(())
 }
 
 #[test]
-fn memory_folder_again(rt: HostRuntime) -> Result<(), Fail> {
+fn memory_folder_again(rt: HostRuntime) {
     let mut folder = MemFolder::new(rt.alloc());
-    assert_calls(&rt, &mut folder)?;
-    assert!(rt; folder.bytes_of(Sub::Cur, "u:2,") == Some(b"ab".as_slice()));
-    Ok(())
+    assert!(rt;
+        answers(&mut folder)
+            && lists(&mut folder, Sub::Tmp, &[])
+            && lists(&mut folder, Sub::New, &[])
+            && lists(&mut folder, Sub::Cur, &["u:2,"])
+            && holds(&folder, &[(Sub::Cur, "u:2,", "ab")])
+    );
 }
 
-// Sets a file of `tmp`; where a growth was refused, all is as before.
-fn put(
-    rt: &(impl Abort + AllocGlobal),
+// Whether a file of `tmp` is set; where a growth was refused, all is as before.
+fn is_put(
+    alloc: Global,
     folder: &mut MemFolder,
     name: &str,
     bytes: &[u8],
-) -> Result<(), Fail> {
+) -> Result<bool, AllocError> {
     let count = folder.count(Sub::Tmp);
-    for _ in 0..2 {
-        let (taken, held) = (
-            String::from_str(rt.alloc(), name)?,
-            Vec::from_slice(rt.alloc(), bytes)?,
-        );
-        match folder.put(Sub::Tmp, taken, held) {
-            Err(FolderFault::OutOfMemory) => {}
-            answer => return Ok(answer?),
-        }
-        assert_eq!(rt; folder.count(Sub::Tmp), count, "{name}");
-        assert!(rt; folder.bytes_of(Sub::Tmp, name).is_none(), "{name}");
+    match put(alloc, folder, Sub::Tmp, name, bytes)? {
+        Err(FolderFault::OutOfMemory) => {}
+        answer => return Ok(answer.is_ok()),
     }
-    Err(Fail::new("refused again"))
+    let is_as_before = folder.count(Sub::Tmp) == count && folder.bytes_of(Sub::Tmp, name).is_none();
+    let again = put(alloc, folder, Sub::Tmp, name, bytes)?;
+    Ok(is_as_before && again.is_ok())
 }
 
 #[test]
 fn put_again(rt: HostRuntime) -> Result<(), Fail> {
     let mut folder = MemFolder::new(rt.alloc());
-    put(&rt, &mut folder, ABC, b"a")?;
-    put(&rt, &mut folder, FOREIGN, b"z")?;
-    assert_eq!(rt; folder.count(Sub::Tmp), 2);
-    assert!(rt; folder.bytes_of(Sub::Tmp, ABC) == Some(b"a".as_slice()));
-    assert!(rt; folder.bytes_of(Sub::Tmp, FOREIGN) == Some(b"z".as_slice()));
+    assert!(rt; is_put(rt.alloc(), &mut folder, ABC, b"a")?);
+    assert!(rt; is_put(rt.alloc(), &mut folder, FOREIGN, b"z")?);
+    let files = [(Sub::Tmp, ABC, "a"), (Sub::Tmp, FOREIGN, "z")];
+    assert!(rt; holds(&folder, &files));
     Ok(())
 }
 
-fn names(alloc: Global, texts: &[&str]) -> Result<Vec<String>, Fail> {
-    let mut names = Vec::new(alloc);
-    for text in texts {
-        names.push(String::from_str(alloc, text)?)?;
-    }
-    Ok(names)
+// Whether one message is there, with a flag, and of the other a leftover is swept before it is delivered.
+fn plans(alloc: Global) -> Result<bool, RunFault> {
+    let targets = two_targets(alloc)?;
+    let tmp = names(alloc, &[ABC, FOREIGN])?;
+    let cur = names(alloc, &[ONE_SEEN])?;
+    let steps = match plan(alloc, &tmp, &[], &cur, &targets) {
+        Err(RunFault::OutOfMemory) => plan(alloc, &tmp, &[], &cur, &targets),
+        answer => answer,
+    }?;
+    let wants = [Want::Remove(ABC), Want::Write(1), Want::Place(1)];
+    Ok(are_wanted(&steps, &wants))
 }
 
 #[test]
 fn plan_again(rt: HostRuntime) -> Result<(), Fail> {
-    let alloc = rt.alloc();
-    let (mut namer, mut targets) = (Namer::new(alloc), Vec::new(alloc));
-    targets.push(namer.target(b"")?)?;
-    targets.push(namer.target(b"abc")?)?;
-    let flagged = format!(in alloc; "{EMPTY_ONE}:2,S")?;
-    let tmp = names(alloc, &[ABC, FOREIGN])?;
-    let (new, cur) = (names(alloc, &[])?, names(alloc, &[flagged.as_str()])?);
-    let steps = match plan(alloc, &tmp, &new, &cur, &targets) {
-        Err(RunFault::OutOfMemory) => plan(alloc, &tmp, &new, &cur, &targets),
-        answer => answer,
-    }?;
-    assert!(rt; steps.len() == 3);
-    assert!(rt; matches!(&steps[0], Step::Remove(name) if name.as_str() == ABC));
-    assert!(rt; matches!(steps[1], Step::Write(1)));
-    assert!(rt; matches!(steps[2], Step::Place(1)));
+    assert!(rt; plans(rt.alloc())?);
     Ok(())
 }

@@ -1,8 +1,7 @@
 // What the rows on runs share. The digests are those of other programs.
 use crate::streams::{Cut, Then};
-use maildir_run::{MemFolder, Report, RunFault, Sub, convert};
-use std::alloc::Global;
-use std::test::Fail;
+use maildir_run::{FolderFault, MemFolder, Report, RunFault, Sub, convert};
+use std::alloc::{AllocError, Global};
 
 pub(crate) const LIMIT: u64 = 1_099_511_627_776;
 
@@ -12,6 +11,9 @@ pub(crate) const EMPTY_ONE: &str =
 pub(crate) const EMPTY_TWO: &str =
     "e3b0c44298fc1c149afbf4c8996fb92427ae41e4649b934ca495991b7852b855.2";
 
+pub(crate) const ONE_SEEN: &str =
+    "e3b0c44298fc1c149afbf4c8996fb92427ae41e4649b934ca495991b7852b855.1:2,S";
+
 pub(crate) const ABC: &str = "ba7816bf8f01cfea414140de5dae2223b00361a396177a9cb410ff61f20015ad.1";
 
 pub(crate) const UNENDED: &[u8] = b"From x\nabc";
@@ -20,7 +22,10 @@ pub(crate) const TWO_EMPTY: &[u8] = b"From a\n\nFrom b\n\n";
 
 pub(crate) const THREE: &[u8] = b"From a\n\nFrom b\n\nFrom c\nabc";
 
-// A run over a text that comes whole.
+/// A file: its folder, its name and its text.
+pub(crate) type File<'a> = (Sub, &'a str, &'a str);
+
+/// A run over a text that comes whole.
 pub(crate) fn run_over(
     alloc: Global,
     folder: &mut MemFolder,
@@ -39,18 +44,30 @@ pub(crate) fn report(messages: u64, there: u64, placed: u64, swept: u64) -> Repo
     }
 }
 
-// A folder with these files, each with this text, put in this order.
-pub(crate) fn folder_of(alloc: Global, files: &[(Sub, &str, &str)]) -> Result<MemFolder, Fail> {
+/// What a folder answers where this file is put.
+pub(crate) fn put(
+    alloc: Global,
+    folder: &mut MemFolder,
+    sub: Sub,
+    name: &str,
+    bytes: &[u8],
+) -> Result<Result<(), FolderFault>, AllocError> {
+    let name = String::from_str(alloc, name)?;
+    let bytes = Vec::from_slice(alloc, bytes)?;
+    Ok(folder.put(sub, name, bytes))
+}
+
+/// A folder with these files, each with this text, put in this order.
+pub(crate) fn folder_of(alloc: Global, files: &[File<'_>]) -> Result<MemFolder, FolderFault> {
     let mut folder = MemFolder::new(alloc);
     for &(sub, name, text) in files {
-        let bytes = Vec::from_slice(alloc, text.as_bytes())?;
-        folder.put(sub, String::from_str(alloc, name)?, bytes)?;
+        put(alloc, &mut folder, sub, name, text.as_bytes())??;
     }
     Ok(folder)
 }
 
-// Whether the folder has these files, each with this text, and no others.
-pub(crate) fn holds(folder: &MemFolder, files: &[(Sub, &str, &str)]) -> bool {
+/// Whether the folder has these files, each with this text, and no others.
+pub(crate) fn holds(folder: &MemFolder, files: &[File<'_>]) -> bool {
     for &(sub, name, text) in files {
         if folder.bytes_of(sub, name) != Some(text.as_bytes()) {
             return false;

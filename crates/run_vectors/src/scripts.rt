@@ -1,5 +1,5 @@
 // Scripts by rows: what other programs do before a call, and how the call goes.
-use crate::runs::{holds, run_over};
+use crate::runs::{File, folder_of, holds, run_over};
 use maildir_run::{Act, MemFolder, Mode, Report, RunFault, ScriptLine, Sub};
 use std::alloc::{AllocError, Global};
 
@@ -51,15 +51,35 @@ pub(crate) fn script_of(alloc: Global, rows: &[Row<'_>]) -> Result<Vec<ScriptLin
     Ok(lines)
 }
 
-/// Whether a run under a script answers this, and leaves these files and no others.
-pub(crate) fn runs(
-    alloc: Global,
-    folder: &mut MemFolder,
-    rows: &[Row<'_>],
-    text: &[u8],
-    want: Result<Report, RunFault>,
-    files: &[(Sub, &str, &str)],
-) -> Result<bool, AllocError> {
-    folder.script(script_of(alloc, rows)?, None);
-    Ok(run_over(alloc, folder, text) == want && holds(folder, files))
+/// A run under a script: the rows of the script, the text, what the run answers, how many calls it makes, and the files
+/// that it leaves.
+pub(crate) type Run<'a> = (
+    &'a [Row<'a>],
+    &'a [u8],
+    Result<Report, RunFault>,
+    u64,
+    &'a [File<'a>],
+);
+
+/// Whether a run over a folder goes so, and leaves no other file.
+pub(crate) fn goes(alloc: Global, folder: &mut MemFolder, run: Run<'_>) -> bool {
+    let (rows, text, want, calls, files) = run;
+    let Ok(lines) = script_of(alloc, rows) else {
+        return false;
+    };
+    folder.script(lines, None);
+    run_over(alloc, folder, text) == want && folder.calls() == calls && holds(folder, files)
+}
+
+/// Whether runs go so one after the other, the first of them over a folder with these files.
+pub(crate) fn go(alloc: Global, files: &[File<'_>], runs: &[Run<'_>]) -> bool {
+    let Ok(mut folder) = folder_of(alloc, files) else {
+        return false;
+    };
+    for run in runs {
+        if !goes(alloc, &mut folder, *run) {
+            return false;
+        }
+    }
+    true
 }
