@@ -44,8 +44,9 @@ pub(crate) fn names(alloc: Global, texts: &[&str]) -> Result<Vec<String>, AllocE
 pub(crate) fn two_targets(alloc: Global) -> Result<Vec<Target>, RunFault> {
     let mut namer = Namer::new(alloc);
     let mut targets = Vec::new(alloc);
-    targets.push(namer.target(b"")?)?;
-    targets.push(namer.target(b"abc")?)?;
+    for body in ["", "abc"] {
+        targets.push(namer.target(body.as_bytes())?)?;
+    }
     Ok(targets)
 }
 
