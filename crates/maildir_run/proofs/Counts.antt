@@ -6,11 +6,12 @@ use Rattle.maildir_run.specs.declared.folder.FolderFault.{FolderFault}
 use Rattle.maildir_run.specs.declared.folder.FolderFault.TheVariants.{Absent, Failed}
 use Rattle.maildir_run.specs.declared.folder.FolderFault.TheVariants as folder
 use Rattle.maildir_run.specs.declared.fault.RunFault.{RunFault}
+use Rattle.maildir_run.specs.declared.fault.RunFault.TheVariants.{FolderAbsent, FolderFailed, OutOfMemory}
 use Rattle.maildir_run.specs.declared.report.Report.{Report}
 use Rattle.maildir_run.specs.Runs.{CountsRun}
 use Rattle.maildir_run.specs.Reading.{IsReading}
 use Rattle.maildir_run.specs.Calls.{GoesUp, CountsFailure}
-use Rattle.maildir_run.specs.Counting.{raised, capped, answered, IsNumbered, Makes, MakesUpTo, Numbers}
+use Rattle.maildir_run.specs.Counting.{raised, capped, answered, IsNumbered, CountsFault, Makes, MakesUpTo, Numbers}
 use Rattle.maildir_run.specs.Progress.{Places}
 
 pub answered_ok : {A : Type 0} (number : ℕ) (r : Result A FolderFault) (v : A) → Ok v ≡ answered number r → r ≡ Ok v
@@ -48,6 +49,14 @@ more_up_to m most all a b c x y z le first then =
 
 pub no_failure : {A : Type 0} (number : ℕ) (r : Result A FolderFault) (v : A) (old new : ℕ) → Ok v ≡ answered number r → CountsFailure r old new → new ≡ old
 no_failure number r v old new e h = subst (λ x. CountsFailure x old new) (answered_ok number r v e) h
+
+-- a call that failed, by the fault that the run gives for it
+pub counts_fault : {A T : Type 0} (number : ℕ) (r : Result A FolderFault) (fault : RunFault) (answer : Result T RunFault) (old new : ℕ) → Err fault ≡ answered number r → IsErrAnd answer (λ e. e ≡ fault) → CountsFailure r old new → CountsFault answer old new
+counts_fault number r fault (Ok x) old new e is h = absurd is
+counts_fault number (Ok v) fault (Err f) old new e is h = absurd (cc)
+counts_fault number (Err Absent) fault (Err f) old new e is h = let same : f ≡ FolderAbsent = cc in rw same h
+counts_fault number (Err Failed) fault (Err f) old new e is h = let same : f ≡ FolderFailed number = cc in rw same h
+counts_fault number (Err folder.OutOfMemory) fault (Err f) old new e is h = let same : f ≡ OutOfMemory = cc in rw same h
 
 pub up_to_then : (most more all a b c x y z : ℕ) → most + more ≤ all → MakesUpTo most a b x y → MakesUpTo more b c y z → MakesUpTo all a c x z
 up_to_then most more all a b c x y z le first then =

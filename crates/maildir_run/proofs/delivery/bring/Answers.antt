@@ -1,7 +1,8 @@
-use Rattle.std.proofs.Common.{IsTrue, refl, sym, ap, ◌∙◌, arith}
+use Rattle.std.proofs.Common.{IsTrue, refl, sym, ap, subst, ◌∙◌, arith}
+use Rattle.maildir_run.specs.Counting.{CountsFault}
 use Rattle.maildir_run.specs.Files.{has_base}
 use Rattle.maildir_run.specs.Progress.{message_at}
-use Rattle.maildir_run.proofs.Counts.{one_call, more_calls, up_to}
+use Rattle.maildir_run.proofs.Counts.{one_call, more_calls, up_to, no_failure, counts_fault}
 use Rattle.maildir_run.proofs.Steps.{write_brings, write_ok, place_brings, place_home, some_moves}
 use Rattle.maildir_run.proofs.Sweeps.{told_called}
 use Rattle.maildir_run.specs.Calls.{Writing, Placing}
@@ -88,3 +89,15 @@ returns-clause-others g c = λ q.
     let theirs : IsTrue (is_converter_name c.as_str.result.now) =
     ap is_converter_name c.as_str.ensures ∙ ap is_converter_base (sym (is_name-true t.base (base t.name) c.requires.under)) ∙ c.requires.named in
     others_then _ _ _ (quiet_others (Writing c.as_str-base.result.now c.args.body.now) ours (g.F.Folder.files c.args.folder.now) c.write.result (g.F.Folder.files c.write.new.self) (c.write.ensures.alone q)) (quiet_others (Placing c.as_str-base.result.now t.place c.as_str.result.now) (ours, theirs) (g.F.Folder.files c.write.new.self) c.place.result (g.F.Folder.files c.place.new.self) (c.place.ensures.alone (c.write.ensures.quiet q)))
+
+pub returns-in_err-answered-clause-cause : goal.returns-in_err-answered-clause-cause
+returns-in_err-answered-clause-cause g c =
+    counts_fault _ c.write.result c.in_err-answered.field-0.0 c.from_residual.result _ _ c.in_err-answered.ensures.is c.from_residual.ensures.1 c.write.ensures.cause
+
+pub returns-in_err-answered-2-clause-cause : goal.returns-in_err-answered-2-clause-cause
+returns-in_err-answered-2-clause-cause g c =
+    subst (λ n. CountsFault c.from_residual-in_err-answered-2.result n (g.F.Folder.failures c.place.new.self)) (no_failure _ _ _ _ _ c.in_ok-answered.ensures.is c.write.ensures.cause)
+    (counts_fault _ c.place.result c.in_err-answered-2.field-0.0 c.from_residual-in_err-answered-2.result _ _ c.in_err-answered-2.ensures.is c.from_residual-in_err-answered-2.ensures.1 c.place.ensures.cause)
+
+pub returns-clause-cause : goal.returns-clause-cause
+returns-clause-cause g c = no_failure _ _ _ _ _ c.in_ok-answered-2.ensures.is c.place.ensures.cause ∙ no_failure _ _ _ _ _ c.in_ok-answered.ensures.is c.write.ensures.cause

@@ -1,3 +1,4 @@
+use Rattle.std.proofs.Common.{rules}
 use Rattle.maildir_run.proofs.calls.Calls.answered.Goals as goal
 
 pub returns-in-Ok-clause-made : goal.returns-in-Ok-clause-made
@@ -11,3 +12,6 @@ returns-in-Err-Failed-clause-made g c = c.saturating_add-self.ensures
 
 pub returns-in-Err-OutOfMemory-clause-made : goal.returns-in-Err-OutOfMemory-clause-made
 returns-in-Err-OutOfMemory-clause-made g c = c.saturating_add-self.ensures
+
+pub returns-in-Err-OutOfMemory-clause-is : goal.returns-in-Err-OutOfMemory-clause-is
+returns-in-Err-OutOfMemory-clause-is g c = search rules
