@@ -34,9 +34,13 @@ const PLACED_ONE: &str = "messages 1, there 0, placed 1, swept 0\n";
 
 const PLACED_TWO: &str = "messages 2, there 0, placed 2, swept 0\n";
 
+const THERE_TWO: &str = "messages 2, there 2, placed 0, swept 0\n";
+
 const NO_FROM_LINE: &str = "mbox2maildir: no From line at the start\n";
 
 const NO_SOURCE: &str = "mbox2maildir: cannot open the source\n";
+
+const NO_FOLDER: &str = "mbox2maildir: cannot open the folder\n";
 
 const NO_OUTPUT: &str = "mbox2maildir: the output could not be written\n";
 

@@ -6,8 +6,6 @@ use std::test::Fail;
 
 const NO_MEMORY: &str = "mbox2maildir: out of memory\n";
 
-const NO_FOLDER: &str = "mbox2maildir: cannot open the folder\n";
-
 const CALL_1: &str = "mbox2maildir: folder call 1 failed\n";
 
 const CALL_3: &str = "mbox2maildir: folder call 3 failed\n";

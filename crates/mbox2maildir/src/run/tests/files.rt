@@ -17,11 +17,9 @@ const FOREIGN: &str = "maildir/tmp/1700000000.M1.host";
 
 const NOTHING: &str = "messages 0, there 0, placed 0, swept 0\n";
 
-const THERE: &str = "messages 2, there 2, placed 0, swept 0\n";
-
-const NO_FOLDER: &str = "mbox2maildir: cannot open the folder\n";
-
 const NO_SWEEP: &str = "mbox2maildir: folder call 4 failed\n";
+
+const PLACES_ONE: Row = Row("convert @/maildir", ONE, End(0, PLACED_ONE, ""));
 
 const FILES_AND_FOLDERS: [Row; 4] = [
     Row(
@@ -34,13 +32,11 @@ const FILES_AND_FOLDERS: [Row; 4] = [
     PLACES_ONE,
 ];
 
-const PLACES_ONE: Row = Row("convert @/maildir", ONE, End(0, PLACED_ONE, ""));
-
 const PLACES_FLAGGED: Row = Row("convert @/maildir", ALL_FLAGS, End(0, PLACED_ONE, ""));
 
 const PLACES_TWO: Row = Row("convert @/maildir", TWO_EMPTY, End(0, PLACED_TWO, ""));
 
-const FINDS_TWO: Row = Row("convert @/maildir", TWO_EMPTY, End(0, THERE, ""));
+const FINDS_TWO: Row = Row("convert @/maildir", TWO_EMPTY, End(0, THERE_TWO, ""));
 
 const CANNOT_SWEEP: Row = Row("convert @/maildir", ONE, End(1, "", NO_SWEEP));
 
