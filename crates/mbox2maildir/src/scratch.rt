@@ -33,11 +33,6 @@ impl Scratch {
         fs::create_dir(&self.rt, self.path_of(name)?.as_str())
     }
 
-    pub(crate) fn rename(&self, from: &str, to: &str) -> io::Result<()> {
-        let (from, to) = (self.path_of(from)?, self.path_of(to)?);
-        fs::rename(&self.rt, from.as_str(), to.as_str())
-    }
-
     // Removes a folder and all in it, if it is there.
     pub(crate) fn clear(&self, name: &str) -> Result<(), AllocError> {
         let _ = fs::remove_dir_all(&self.rt, self.path_of(name)?.as_str());

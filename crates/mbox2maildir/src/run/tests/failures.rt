@@ -4,6 +4,19 @@ use crate::faulty::{Faults, Faulty};
 use std::io::ErrorKind;
 use std::test::Fail;
 
+const NEW_ABC: &str =
+    "maildir/new/ba7816bf8f01cfea414140de5dae2223b00361a396177a9cb410ff61f20015ad.1";
+
+const ONE: &str = "From x\nabc";
+
+const PLACED_ONE: &str = "messages 1, there 0, placed 1, swept 0\n";
+
+const NO_SOURCE: &str = "mbox2maildir: cannot open the source\n";
+
+const NO_FOLDER: &str = "mbox2maildir: cannot open the folder\n";
+
+const NO_OUTPUT: &str = "mbox2maildir: the output could not be written\n";
+
 const NO_MEMORY: &str = "mbox2maildir: out of memory\n";
 
 const CALL_1: &str = "mbox2maildir: folder call 1 failed\n";
@@ -114,13 +127,28 @@ fn tells(
     scratch: &Scratch,
     words: &str,
     faults: Faults,
-    text: &'static str,
+    text: &str,
 ) -> Result<bool, AllocError> {
     scratch.clear("maildir")?;
     let faulty = Faulty::of(rt, rt.alloc())?;
     faulty.script.begin(faults);
-    let is_told = ends(&faulty, rt.alloc(), scratch, words, "", End(1, "", text))?;
-    Ok(is_told && faulty.script.open.get() == 0)
+    let words = words_of(rt.alloc(), scratch, words)?;
+    let mut input = "".as_bytes();
+    let (mut out, mut err) = (Vec::new(rt.alloc()), Vec::new(rt.alloc()));
+    let status = run(
+        &faulty,
+        rt.alloc(),
+        words.as_slice(),
+        &mut input,
+        &mut out,
+        &mut err,
+    );
+    Ok(
+        status == 1
+            && out.is_empty()
+            && err.as_slice() == text.as_bytes()
+            && faulty.script.open.get() == 0,
+    )
 }
 
 const FROM_STDIN: &str = "convert @/maildir";

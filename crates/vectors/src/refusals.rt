@@ -2,5 +2,6 @@
 // passes whichever single growth of its calls is refused, and where none is. `tests/refusals` runs them with each
 // growth refused in turn. What a test takes for itself it hands on, and so ends as refused. What the program calls, the
 // script tries in the program itself.
+mod folders;
 mod names;
 mod texts;

@@ -1,6 +1,6 @@
-//! The worked rows on the calls of `maildir_run`, as tests: texts that are written, listed and rewritten, and plans; runs
-//! over the folder in memory, undisturbed, broken off at each call, with a mail reader at work, and at random; and calls
-//! that are made again after a growth that was refused.
+//! The worked rows on the calls of the three libraries, as tests: texts that are split, written, listed and rewritten,
+//! From_ lines, flags, names and plans; runs over the folder in memory, undisturbed, broken off at each call, with a mail
+//! reader at work, and at random; and each call again after a growth that was refused.
 //!
 //! They have a crate of their own, since to build tests is to prove all of their crate once more.
 #![tactic(auto)]
@@ -10,15 +10,25 @@ mod any_runs;
 #[cfg(test)]
 mod any_texts;
 #[cfg(test)]
+mod bases;
+#[cfg(test)]
 mod converting;
 #[cfg(test)]
 mod disturbed;
 #[cfg(test)]
 mod fault_texts;
 #[cfg(test)]
+mod flags;
+#[cfg(test)]
+mod from_lines;
+#[cfg(test)]
 mod listing;
 #[cfg(test)]
 mod mem_folder;
+#[cfg(test)]
+mod messages;
+#[cfg(test)]
+mod pieces;
 #[cfg(test)]
 mod planning;
 #[cfg(test)]
@@ -32,6 +42,10 @@ mod scripts;
 #[cfg(test)]
 mod spelling;
 #[cfg(test)]
+mod splitting;
+#[cfg(test)]
 mod stops;
 #[cfg(test)]
 mod streams;
+#[cfg(test)]
+mod targets;

@@ -1,6 +1,4 @@
-// Want of memory: the calls of the folder in memory, and a plan, made again where a growth was refused. So each test
-// passes whichever single growth of its calls is refused, and where none is. `tests/refusals` runs them with each
-// growth refused in turn. What a test takes for itself it hands on, and so ends as refused.
+// The calls of the folder in memory, and a plan.
 use crate::mem_folder::are_named;
 use crate::planning::{Want, are_wanted, names, two_targets};
 use crate::runs::{ABC, ONE_SEEN, holds, put};
