@@ -91,6 +91,3 @@ fn unsettled_for(clock: &impl Clock, stamp: SystemTime) -> io::Result<Duration> 
         Err(_) => Ok(settled),
     }
 }
-
-#[cfg(test)]
-mod tests;

@@ -5,12 +5,8 @@ mod command;
 mod disk;
 mod disk_folder;
 mod fault;
-#[cfg(test)]
-mod faulty;
 mod listing;
 mod run;
-#[cfg(test)]
-mod scratch;
 
 use crate::run::{run, tell};
 use maildir_run::RunFault;

@@ -200,6 +200,3 @@ fn print_report<W: Write>(report: Report, out: &mut W) -> Result<(), RunFault>
     )
     .map_err(|_| RunFault::OutputFault)
 }
-
-#[cfg(test)]
-mod tests;

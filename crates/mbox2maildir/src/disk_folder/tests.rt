@@ -1,32 +1,17 @@
-// The folder on the disk: its calls, its counts, and what is no folder.
+// The calls of a folder on the disk one by one, as no words of the program make them. What becomes of them where calls of
+// the system fail is in `tests/calls`.
 use super::*;
-use crate::scratch::Scratch;
+use std::rt::Env;
 use std::test::Fail;
+use std::{env, fs, process};
 
-mod faults;
-
-type Answer = Result<(), FolderFault>;
-
-// A call of a folder, or its sync.
-#[derive(Clone, Copy, Debug)]
-enum Asked {
-    List(Sub),
-    Write(&'static str, &'static str),
-    Place(&'static str, Place, &'static str),
-    Remove(&'static str),
-    Sync,
-}
-
-impl Asked {
-    fn answer<R: Files + Clock>(self, folder: &mut DiskFolder<'_, R>) -> Answer {
-        match self {
-            Asked::List(sub) => folder.list(sub).map(|_| ()),
-            Asked::Write(name, text) => folder.write(name, text.as_bytes()),
-            Asked::Place(name, place, target) => folder.place(name, place, target),
-            Asked::Remove(name) => folder.remove(name),
-            Asked::Sync => folder.sync(),
-        }
-    }
+// A path of a test's own where nothing is.
+fn fresh_path(rt: HostRuntime, name: &str) -> io::Result<String> {
+    let temp = env::temp_dir(&rt)?;
+    let (temp, id) = (temp.as_path().as_str(), process::id(rt.process()));
+    let path = format!(in rt.alloc(); "{temp}/mbox2maildir-{id}-{name}")?;
+    let _ = fs::remove_dir_all(&rt, path.as_str());
+    Ok(path)
 }
 
 // Whether a folder lists this name alone, and where none is wanted, whether it lists none.
@@ -41,6 +26,15 @@ fn lists<R: Files + Clock>(folder: &mut DiskFolder<'_, R>, sub: Sub, want: Optio
     }
 }
 
+// Whether a fresh folder misses a file that is not there, and takes two and gives one up.
+fn takes_files<R: Files + Clock>(folder: &mut DiskFolder<'_, R>) -> bool {
+    folder.place("u", Place::New, "u") == Err(FolderFault::Absent)
+        && folder.remove("u") == Ok(())
+        && folder.write("u", b"ab") == Ok(())
+        && folder.write("v", b"c") == Ok(())
+        && folder.remove("v") == Ok(())
+}
+
 // Whether the one file of `tmp` is listed, and in `cur` alone once it is placed there.
 fn is_listed_where_it_is<R: Files + Clock>(folder: &mut DiskFolder<'_, R>) -> bool {
     lists(folder, Sub::Tmp, Some("u"))
@@ -50,87 +44,32 @@ fn is_listed_where_it_is<R: Files + Clock>(folder: &mut DiskFolder<'_, R>) -> bo
         && lists(folder, Sub::Cur, Some("u:2,"))
 }
 
-// Whether a folder's calls answer so, in this order.
-fn answer_so<R: Files + Clock>(folder: &mut DiskFolder<'_, R>, rows: &[(Asked, Answer)]) -> bool {
-    for &(call, want) in rows {
-        if call.answer(folder) != want {
-            return false;
-        }
-    }
-    true
-}
-
-// What a fresh folder answers.
-const FRESH: [(Asked, Answer); 5] = [
-    (Asked::Place("u", Place::New, "u"), Err(FolderFault::Absent)),
-    (Asked::Remove("u"), Ok(())),
-    (Asked::Write("u", "ab"), Ok(())),
-    (Asked::Write("v", "c"), Ok(())),
-    (Asked::Remove("v"), Ok(())),
-];
-
-// Mail is private.
-const MODES: [(&str, u32); 5] = [
-    ("maildir", 0o700),
-    ("maildir/tmp", 0o700),
-    ("maildir/new", 0o700),
-    ("maildir/cur", 0o700),
-    ("maildir/cur/u:2,", 0o600),
-];
-
-fn is_private(scratch: &Scratch) -> io::Result<bool> {
-    for (name, mode) in MODES {
-        if scratch.mode(name)? != mode {
-            return Ok(false);
-        }
-    }
-    Ok(true)
-}
-
 #[test]
 fn folder_calls(rt: HostRuntime) -> Result<(), Fail> {
-    let scratch = Scratch::new(rt, "folder_calls")?;
-    let root = scratch.path_of("maildir")?;
+    let root = fresh_path(rt, "folder_calls")?;
     let mut folder = DiskFolder::open_at(&rt, rt.alloc(), root.as_str())?;
-    assert!(rt; answer_so(&mut folder, &FRESH));
-    assert!(rt; is_listed_where_it_is(&mut folder) && folder.sync() == Ok(()));
-    assert!(rt; folder.calls == 10 && folder.failures == 1);
-    assert!(rt; scratch.holds("maildir/cur/u:2,", Some("ab"))? && is_private(&scratch)?);
+    assert!(rt; takes_files(&mut folder) && is_listed_where_it_is(&mut folder));
+    assert!(rt; folder.sync() == Ok(()) && folder.calls == 10 && folder.failures == 1);
+    let file = folder.path_in(Sub::Cur, "u:2,")?;
+    assert!(rt; fs::read(&rt, file.as_str())?.as_slice() == "ab".as_bytes());
+    fs::remove_dir_all(&rt, root.as_str())?;
     Ok(())
 }
 
-fn cannot_be_opened(rt: HostRuntime, path: &str) -> bool {
-    let opened = DiskFolder::open_at(&rt, rt.alloc(), path);
-    matches!(opened, Err(FolderFault::Failed))
+// Whether a placement tells a file that is gone from a folder that is gone.
+fn tells_what_is_gone<R: Files + Clock>(folder: &mut DiskFolder<'_, R>) -> bool {
+    folder.write("u", b"ab") == Ok(())
+        && folder.place("u", Place::New, "u") == Err(FolderFault::Failed)
+        && folder.place("v", Place::New, "v") == Err(FolderFault::Absent)
 }
-
-#[test]
-fn what_is_no_folder(rt: HostRuntime) -> Result<(), Fail> {
-    let scratch = Scratch::new(rt, "no_folder")?;
-    scratch.make_folder("maildir")?;
-    scratch.write("maildir/tmp", "x")?;
-    for name in ["maildir", "maildir/tmp", "missing/maildir"] {
-        let path = scratch.path_of(name)?;
-        assert!(rt; cannot_be_opened(rt, path.as_str()), "{name}");
-    }
-    assert!(rt; cannot_be_opened(rt, ""));
-    Ok(())
-}
-
-// A placement tells a file that is gone from a folder that is gone.
-const WITHOUT_NEW: [(Asked, Answer); 3] = [
-    (Asked::Write("u", "ab"), Ok(())),
-    (Asked::Place("u", Place::New, "u"), Err(FolderFault::Failed)),
-    (Asked::Place("v", Place::New, "v"), Err(FolderFault::Absent)),
-];
 
 #[test]
 fn gone_folder(rt: HostRuntime) -> Result<(), Fail> {
-    let scratch = Scratch::new(rt, "gone_folder")?;
-    let root = scratch.path_of("maildir")?;
+    let root = fresh_path(rt, "gone_folder")?;
     let mut folder = DiskFolder::open_at(&rt, rt.alloc(), root.as_str())?;
-    scratch.clear("maildir/new")?;
-    assert!(rt; answer_so(&mut folder, &WITHOUT_NEW));
-    assert!(rt; folder.calls == 3 && folder.failures == 2);
+    let new = folder.path_of(Sub::New)?;
+    fs::remove_dir(&rt, new.as_str())?;
+    assert!(rt; tells_what_is_gone(&mut folder) && folder.calls == 3 && folder.failures == 2);
+    fs::remove_dir_all(&rt, root.as_str())?;
     Ok(())
 }

@@ -1,0 +1,177 @@
+/* Stands before the calls of the system that the program makes which it is loaded into (LD_PRELOAD). It tells each on the
+   file 3, a line each, by the path that was opened or by the name of the stream, and lets go wrong what the environment
+   says. FAIL is the number of a call that fails, counted from 1, with ERROR as its error's number; a `close` or a `sleep`
+   has no number. CLOCK is what the clocks show, in milliseconds since 1970, and each sleep moves it on at once. CHANGES
+   is how many readings of `cur` see the folder change. OUTPUT is how many bytes standard output takes. Where SHORT is
+   set, a read and a write move one byte at most and every other write is interrupted; where GONE is set, what is to be
+   moved is removed before. It needs no headers, so that any C compiler makes it. */
+typedef unsigned long size_t;
+typedef long ssize_t;
+
+struct moment {
+    long seconds, nanos;
+};
+
+char *getenv(const char *);
+void *dlsym(void *, const char *);
+int *__errno_location(void);
+int snprintf(char *, size_t, const char *, ...);
+int utimensat(int, const char *, const struct moment *, int);
+
+enum { NOT_THERE = 2, INTERRUPTED = 4, NO_SPACE = 28, HERE = -100, CREATE = 0100, STREAMS = 3, OPEN = 64 };
+
+/* The function that stands behind this one. */
+#define REAL(name) ((__typeof__(&name))dlsym((void *)-1, #name))
+
+static char names[OPEN][512] = {"standard input", "standard output", "standard error"};
+static long made, slept;
+
+static long number(const char *name, long otherwise) {
+    const char *at = getenv(name);
+    long found = 0;
+    if (!at)
+        return otherwise;
+    while (*at >= '0' && *at <= '9')
+        found = 10 * found + (*at++ - '0');
+    return found;
+}
+
+static int failed(int error) {
+    *__errno_location() = error;
+    return -1;
+}
+
+static const char *name_of(int file) {
+    return file >= 0 && file < OPEN ? names[file] : "a file of a great number";
+}
+
+ssize_t write(int file, const void *bytes, size_t size);
+
+static void tell(const char *what, const char *name) {
+    char line[1024];
+    int length = snprintf(line, sizeof line, "%s%s%s\n", what, *name ? " " : "", name);
+    REAL(write)(STREAMS, line, (size_t)length);
+}
+
+/* Tells a call, and answers whether it is to fail. */
+static int is_to_fail(const char *what, const char *name) {
+    tell(what, name);
+    made++;
+    return made == number("FAIL", 0) && failed((int)number("ERROR", 0));
+}
+
+static struct moment now(void) {
+    long millis = number("CLOCK", 0) + slept;
+    return (struct moment){millis / 1000, millis % 1000 * 1000000};
+}
+
+static int is_reading_of_cur(const char *path) {
+    int i = 0;
+    while (path[i])
+        i++;
+    return i > 4 && path[i - 4] == 'c' && path[i - 3] == 'u' && path[i - 2] == 'r' && path[i - 1] == '/';
+}
+
+static int opened(int file, const char *path) {
+    static long readings;
+    if (file >= 0 && file < OPEN)
+        snprintf(names[file], sizeof names[file], "%s", path);
+    if (file >= 0 && is_reading_of_cur(path) && readings++ < number("CHANGES", 0)) {
+        struct moment stamp = now();
+        utimensat(HERE, path, (struct moment[]){stamp, stamp}, 0);
+    }
+    return file;
+}
+
+int openat(int folder, const char *path, int flags, ...) {
+    __builtin_va_list rest;
+    __builtin_va_start(rest, flags);
+    unsigned mode = flags & CREATE ? __builtin_va_arg(rest, unsigned) : 0;
+    __builtin_va_end(rest);
+    return is_to_fail("open", path) ? -1 : opened(REAL(openat)(folder, path, flags, mode), path);
+}
+
+int open(const char *path, int flags, ...) {
+    __builtin_va_list rest;
+    __builtin_va_start(rest, flags);
+    unsigned mode = flags & CREATE ? __builtin_va_arg(rest, unsigned) : 0;
+    __builtin_va_end(rest);
+    return openat(HERE, path, flags, mode);
+}
+
+int close(int file) {
+    tell("close", name_of(file));
+    return REAL(close)(file);
+}
+
+ssize_t read(int file, void *bytes, size_t size) {
+    if (is_to_fail("read", name_of(file)))
+        return -1;
+    return REAL(read)(file, bytes, getenv("SHORT") && size > 1 ? 1 : size);
+}
+
+ssize_t write(int file, const void *bytes, size_t size) {
+    static int was_interrupted;
+    static size_t taken;
+    if (file == STREAMS - 1)
+        return REAL(write)(file, bytes, size);
+    if (is_to_fail("write", name_of(file)))
+        return -1;
+    if (getenv("SHORT")) {
+        was_interrupted = !was_interrupted;
+        if (was_interrupted)
+            return failed(INTERRUPTED);
+        size = size > 1 ? 1 : size;
+    }
+    if (file == 1 && getenv("OUTPUT")) {
+        size_t room = (size_t)number("OUTPUT", 0) - taken;
+        size = size > room ? room : size;
+        taken += size;
+        if (size == 0)
+            return failed(NO_SPACE);
+    }
+    return REAL(write)(file, bytes, size);
+}
+
+ssize_t getdents64(int file, void *entries, size_t size) {
+    return is_to_fail("list", name_of(file)) ? -1 : REAL(getdents64)(file, entries, size);
+}
+
+int fsync(int file) {
+    return is_to_fail("sync", name_of(file)) ? -1 : REAL(fsync)(file);
+}
+
+int mkdir(const char *path, unsigned mode) {
+    return is_to_fail("make", path) ? -1 : REAL(mkdir)(path, mode);
+}
+
+int statx(int folder, const char *path, int flags, unsigned mask, void *found) {
+    return is_to_fail("look at", path) ? -1 : REAL(statx)(folder, path, flags, mask, found);
+}
+
+int unlink(const char *path) {
+    return is_to_fail("remove", path) ? -1 : REAL(unlink)(path);
+}
+
+int rename(const char *from, const char *to) {
+    if (is_to_fail("move", from))
+        return -1;
+    if (getenv("GONE"))
+        REAL(unlink)(from);
+    return REAL(rename)(from, to);
+}
+
+int clock_gettime(int clock, struct moment *shown) {
+    (void)clock;
+    *shown = now();
+    return is_to_fail("clock", "") ? -1 : 0;
+}
+
+int nanosleep(const struct moment *asked, struct moment *left) {
+    char millis[32];
+    (void)left;
+    snprintf(millis, sizeof millis, "%ld", asked->seconds * 1000 + asked->nanos / 1000000);
+    tell("sleep", millis);
+    slept += asked->seconds * 1000 + asked->nanos / 1000000;
+    return 0;
+}
