@@ -1,8 +1,9 @@
-use Rattle.std.proofs.Common.{rules}
+use Rattle.std.proofs.Common.{rules, refl}
+use Rattle.std.proofs.KnownBytes.{Keeps-refl}
 use Rattle.mbox2maildir.proofs.run.run.Goals as goal
 
 pub returns-in_default-clause-wrong : goal.returns-in_default-clause-wrong
-returns-in_default-clause-wrong c = search rules
+returns-in_default-clause-wrong c c' = (λ two. search rules, λ no. refl)
 
 pub returns-in_default-clause-untouched : goal.returns-in_default-clause-untouched
-returns-in_default-clause-untouched c = search rules
+returns-in_default-clause-untouched c _ _ = Keeps-refl _
