@@ -1,10 +1,10 @@
 // Runs that are broken off and disturbed at random, and one undisturbed run after them.
 ghost use Rattle.std.specs.Prelude.{◌<◌};
 
-use crate::runs::{EMPTY_TWO, THREE, run_over};
+use crate::runs::{Answer, EMPTY_TWO, THREE, run_over};
 use crate::scripts::Deed;
 use maildir_name::{Namer, Target, base_of, is_converter_name};
-use maildir_run::{Act, Folder, FolderFault, MemFolder, Mode, Report, RunFault, ScriptLine, Sub};
+use maildir_run::{Act, Folder, FolderFault, MemFolder, Mode, RunFault, ScriptLine, Sub};
 use mbox_text::{Entry, split_all};
 use std::alloc::{AllocError, Global};
 use std::test::Fail;
@@ -163,7 +163,7 @@ struct Stops {
 
 impl Stops {
     // Counts the answer of a run, and says whether a run over a text may answer so.
-    fn count(&mut self, answer: Result<Report, RunFault>) -> bool {
+    fn count(&mut self, answer: Answer) -> bool {
         match answer {
             Ok(_) => {}
             Err(RunFault::FolderFailed(_)) => self.failed = self.failed.saturating_add(1),
@@ -181,7 +181,7 @@ fn run_disturbed(
     folder: &mut MemFolder,
     targets: &[Target],
     text: &[u8],
-) -> Result<Result<Report, RunFault>, AllocError> {
+) -> Result<Answer, AllocError> {
     let lines = any_script(alloc, dice, targets)?;
     let fail_from = match dice.below(3) {
         0 => Some(1 + dice.below(12) as u64),
@@ -191,38 +191,65 @@ fn run_disturbed(
     Ok(run_over(alloc, folder, text))
 }
 
+// Up to six disturbed runs: whether each answers as a run over a text may.
+fn are_disturbed(
+    alloc: Global,
+    dice: &mut Dice,
+    folder: &mut MemFolder,
+    targets: &[Target],
+    text: &[u8],
+    stops: &mut Stops,
+) -> Result<bool, AllocError> {
+    for _ in 0..dice.below(7) {
+        if !stops.count(run_disturbed(alloc, dice, folder, targets, text)?) {
+            return Ok(false);
+        }
+    }
+    Ok(true)
+}
+
+// A run that is not disturbed: whether each message is there once then.
+fn is_repaired(
+    alloc: Global,
+    folder: &mut MemFolder,
+    text: &[u8],
+    targets: &[Target],
+    messages: &[Entry],
+) -> Result<bool, FolderFault> {
+    folder.script(Vec::new(alloc), None);
+    if run_over(alloc, folder, text).is_err() {
+        return Ok(false);
+    }
+    is_delivered(folder, targets, messages)
+}
+
 // Up to six disturbed runs, and one that is not: whether each message is there once then.
 fn ends_delivered(alloc: Global, seed: u64, text: &[u8], stops: &mut Stops) -> Result<bool, Fail> {
     let mut dice = Dice { state: seed };
     let messages = split_all(alloc, text)?;
     let targets = targets_of(alloc, &messages)?;
     let mut folder = MemFolder::new(alloc);
-    for _ in 0..dice.below(7) {
-        if !stops.count(run_disturbed(alloc, &mut dice, &mut folder, &targets, text)?) {
-            return Ok(false);
-        }
-    }
-    folder.script(Vec::new(alloc), None);
     Ok(
-        run_over(alloc, &mut folder, text).is_ok()
-            && is_delivered(&mut folder, &targets, &messages)?,
+        are_disturbed(alloc, &mut dice, &mut folder, &targets, text, stops)?
+            && is_repaired(alloc, &mut folder, text, &targets, &messages)?,
     )
 }
 
+const TEXTS: &[&[u8]; 4] = &[
+    THREE,
+    b"From a\nx\n\nFrom b\nx\n\nFrom c\n>From y\n\n",
+    b"From a\nStatus: RO\nX-Status: AF\n\nhi\n\nFrom b\n>>From z\nFrom c\nStatus: RO\nX-Status: AF\n\nhi\n",
+    b"From a\nX-Status: D\n\nFrom b\n\nFrom c\n\n\nFrom d\nX-Status: D\n\n",
+];
+
 #[test]
 fn any_broken_and_disturbed_runs(rt: HostRuntime) -> Result<(), Fail> {
-    let texts: [&[u8]; 4] = [
-        THREE,
-        b"From a\nx\n\nFrom b\nx\n\nFrom c\n>From y\n\n",
-        b"From a\nStatus: RO\nX-Status: AF\n\nhi\n\nFrom b\n>>From z\nFrom c\nStatus: RO\nX-Status: AF\n\nhi\n",
-        b"From a\nX-Status: D\n\nFrom b\n\nFrom c\n\n\nFrom d\nX-Status: D\n\n",
-    ];
     let mut stops = Stops {
         failed: 0,
         absent: 0,
     };
     for seed in 0..500u64 {
-        let text = texts[(seed % 4) as usize];
+        let text = TEXTS[(seed % 4) as usize];
         assert!(rt;
             ends_delivered(rt.alloc(), seed, text, &mut stops)?,
             "seed {seed}"

@@ -81,35 +81,42 @@ fn are_shared(alloc: Global, folder: &mut MemFolder, texts: &[&[u8]]) -> Result<
     Ok(in_new.saturating_add(in_cur) == bases.len())
 }
 
+const TEXTS: &[&[u8]; 6] = &[
+    TWO_EMPTY,
+    b"From c\n\n",
+    b"From a\n\nFrom b\n\nFrom d\n\n",
+    THREE,
+    b"From x\nabc\nFrom y\nStatus: O\n\nhi\n\nFrom z\nabc",
+    b"From y\nStatus: O\n\nhi\n\nFrom q\n>From r\n\n",
+];
+
+fn any_text(dice: &mut Dice) -> &'static [u8] {
+    TEXTS[dice.below(6)]
+}
+
+// Runs over texts: whether each message is there once then.
+fn are_delivered(alloc: Global, dice: &mut Dice, texts: &[&[u8]]) -> Result<bool, Fail> {
+    let mut folder = MemFolder::new(alloc);
+    Ok(run_over_all(alloc, dice, &mut folder, texts)? && are_shared(alloc, &mut folder, texts)?)
+}
+
 // Runs over a list of some of the texts: whether each message is there once then.
-fn end_shared(alloc: Global, seed: u64, all: &[&[u8]; 6]) -> Result<bool, Fail> {
+fn end_shared(alloc: Global, seed: u64) -> Result<bool, Fail> {
     let mut dice = Dice { state: seed };
     let texts = [
-        all[dice.below(6)],
-        all[dice.below(6)],
-        all[dice.below(6)],
-        all[dice.below(6)],
+        any_text(&mut dice),
+        any_text(&mut dice),
+        any_text(&mut dice),
+        any_text(&mut dice),
     ];
-    let texts = &texts[..1 + dice.below(4)];
-    let mut folder = MemFolder::new(alloc);
-    Ok(
-        run_over_all(alloc, &mut dice, &mut folder, texts)?
-            && are_shared(alloc, &mut folder, texts)?,
-    )
+    let count = 1 + dice.below(4);
+    are_delivered(alloc, &mut dice, &texts[..count])
 }
 
 #[test]
 fn any_texts_in_any_order(rt: HostRuntime) -> Result<(), Fail> {
-    let all: [&[u8]; 6] = [
-        TWO_EMPTY,
-        b"From c\n\n",
-        b"From a\n\nFrom b\n\nFrom d\n\n",
-        THREE,
-        b"From x\nabc\nFrom y\nStatus: O\n\nhi\n\nFrom z\nabc",
-        b"From y\nStatus: O\n\nhi\n\nFrom q\n>From r\n\n",
-    ];
     for seed in 0..300u64 {
-        assert!(rt; end_shared(rt.alloc(), seed, &all)?, "seed {seed}");
+        assert!(rt; end_shared(rt.alloc(), seed)?, "seed {seed}");
     }
     Ok(())
 }

@@ -13,7 +13,7 @@ macro_rules! abc {
 
 #[test]
 fn converter_names(rt: HostRuntime) {
-    for (name, is_ours) in [
+    const ROWS: &[(&str, bool)] = &[
         (abc!(".1"), true),
         (abc!(".1:2,S"), true),
         (abc!(".1:"), true),
@@ -39,19 +39,21 @@ fn converter_names(rt: HostRuntime) {
             false,
         ),
         ("1700000000.M1.host", false),
-    ] {
-        assert_eq!(rt; is_converter_name(name), is_ours, "at {name}");
+    ];
+    for &(name, is_ours) in ROWS {
+        assert!(rt; is_converter_name(name) == is_ours, "at {name}");
     }
 }
 
 #[test]
 fn bases(rt: HostRuntime) {
-    for (name, base) in [
+    const ROWS: &[(&str, &str)] = &[
         (abc!(".1:2,S:x"), abc!(".1")),
         (":x", ""),
         ("é:2,S", "é"),
         ("u", "u"),
-    ] {
-        assert_eq!(rt; base_of(name), base);
+    ];
+    for &(name, base) in ROWS {
+        assert!(rt; base_of(name) == base, "of {name}");
     }
 }

@@ -1,15 +1,12 @@
 // Worked runs over the folder in memory. The digests are those of other programs.
-ghost use Rattle.std.specs.Prelude.{◌≤◌, ◌^◌};
-
 use crate::runs::{
-    ABC, EMPTY_ONE, EMPTY_TWO, File, LIMIT, ONE_SEEN, THREE, TWO_EMPTY, UNENDED, folder_of, holds,
-    report, run_over,
+    ABC, Answer, EMPTY_ONE, EMPTY_TWO, File, LIMIT, ONE_SEEN, THREE, TWO_EMPTY, UNENDED, folder_of,
+    holds, run_from, run_over,
 };
-use crate::scripts::go;
+use crate::scripts::{Run, go};
 use crate::streams::{Cut, Then};
-use maildir_run::{FolderFault, MemFolder, Report, RunFault, Sub, convert};
+use maildir_run::{FolderFault, MemFolder, RunFault, Sub};
 use std::alloc::Global;
-use std::test::Fail;
 
 const ABC_LINE: &str = "edeaaff3f1774ad2888673770c6d64097e391bc362d7d6fb34982ddf0efd18cb.1";
 
@@ -23,10 +20,10 @@ const ALL_FLAGS: &[u8] =
 // A run delivers so many messages by so many calls, and a second one makes three calls and changes nothing.
 fn delivers(alloc: Global, text: &[u8], messages: u64, calls: u64, files: &[File<'_>]) -> bool {
     let mut folder = MemFolder::new(alloc);
-    run_over(alloc, &mut folder, text) == Ok(report(messages, 0, messages, 0))
+    run_over(alloc, &mut folder, text) == Ok((messages, 0, messages, 0))
         && folder.calls() == calls
         && holds(&folder, files)
-        && run_over(alloc, &mut folder, text) == Ok(report(messages, messages, 0, 0))
+        && run_over(alloc, &mut folder, text) == Ok((messages, messages, 0, 0))
         && folder.calls() == calls.saturating_add(3)
         && holds(&folder, files)
 }
@@ -34,86 +31,93 @@ fn delivers(alloc: Global, text: &[u8], messages: u64, calls: u64, files: &[File
 // In each row also second_run_changes_nothing.
 #[test]
 fn undisturbed_runs(rt: HostRuntime) {
-    let alloc = rt.alloc();
-    assert!(rt; delivers(alloc, b"", 0, 3, &[]), "empty_text");
-    let abc = [(Sub::New, ABC, "abc")];
-    assert!(rt; delivers(alloc, UNENDED, 1, 5, &abc), "unended_line");
-    let two = [(Sub::New, EMPTY_ONE, ""), (Sub::New, EMPTY_TWO, "")];
-    assert!(rt;
-        delivers(alloc, TWO_EMPTY, 2, 7, &two),
-        "equal_empty_messages"
-    );
-    let flagged = [(Sub::Cur, FLAGGED, "Status: RO\nX-Status: AF\n\nhi\n")];
-    assert!(rt; delivers(alloc, ALL_FLAGS, 1, 5, &flagged), "all_flags");
+    const ROWS: &[(&str, &[u8], u64, u64, &[File<'_>])] = &[
+        ("empty_text", b"", 0, 3, &[]),
+        ("unended_line", UNENDED, 1, 5, &[(Sub::New, ABC, "abc")]),
+        (
+            "equal_empty_messages",
+            TWO_EMPTY,
+            2,
+            7,
+            &[(Sub::New, EMPTY_ONE, ""), (Sub::New, EMPTY_TWO, "")],
+        ),
+        (
+            "all_flags",
+            ALL_FLAGS,
+            1,
+            5,
+            &[(Sub::Cur, FLAGGED, "Status: RO\nX-Status: AF\n\nhi\n")],
+        ),
+    ];
+    for &(name, text, messages, calls, files) in ROWS {
+        assert!(rt;
+            delivers(rt.alloc(), text, messages, calls, files),
+            "{name}"
+        );
+    }
+}
+
+// Whether a text is refused before any call.
+fn is_refused(alloc: Global, text: &[u8]) -> bool {
+    let mut folder = MemFolder::new(alloc);
+    run_over(alloc, &mut folder, text) == Err(RunFault::NoFromLine) && folder.calls() == 0
 }
 
 #[test]
 fn no_from_line(rt: HostRuntime) {
-    let texts: [&[u8]; 3] = [b"Subject: x\n", b"Fro", b"\nFrom a\n"];
-    for text in texts {
-        let mut folder = MemFolder::new(rt.alloc());
-        assert!(rt;
-            run_over(rt.alloc(), &mut folder, text) == Err(RunFault::NoFromLine),
-            "{text:?}"
-        );
-        assert_eq!(rt; folder.calls(), 0, "{text:?}");
+    const TEXTS: &[&[u8]] = &[b"Subject: x\n", b"Fro", b"\nFrom a\n"];
+    for text in TEXTS {
+        assert!(rt; is_refused(rt.alloc(), text), "{text:?}");
     }
 }
 
+const FOREIGN: File<'_> = (Sub::Tmp, "1700000000.M1.host", "z");
+
 #[test]
 fn leftover_is_swept(rt: HostRuntime) {
-    let foreign = (Sub::Tmp, "1700000000.M1.host", "z");
-    let swept = Ok(report(1, 0, 1, 1));
-    let files = [foreign, (Sub::New, ABC, "abc")];
-    assert!(rt;
-        go(
-            rt.alloc(),
-            &[(Sub::Tmp, ABC, "a"), foreign],
-            &[(&[], UNENDED, swept, 6, &files)]
-        )
-    );
+    const BEFORE: &[File<'_>] = &[(Sub::Tmp, ABC, "a"), FOREIGN];
+    const AFTER: &[File<'_>] = &[FOREIGN, (Sub::New, ABC, "abc")];
+    const RUNS: &[Run<'_>] = &[(&[], UNENDED, Ok((1, 0, 1, 1)), 6, AFTER)];
+    assert!(rt; go(rt.alloc(), BEFORE, RUNS));
 }
 
-// A run over a source that fails behind these bytes, and one over the whole text, which leaves these files.
-fn goes_on(alloc: Global, front: &[u8], piece: usize, whole: &[u8], files: &[File<'_>]) -> bool {
+// A run over a source that fails behind so many bytes, and one over the whole text, which leaves these files.
+fn goes_on(alloc: Global, text: &[u8], bytes: usize, piece: usize, files: &[File<'_>]) -> bool {
     let mut folder = MemFolder::new(alloc);
+    let (front, _) = text.split_at(bytes.min(text.len()));
     let mut source = Cut::new(front, piece, Then::Fails);
-    if convert(alloc, &mut folder, &mut source, LIMIT) != Err(RunFault::ReadFault) {
+    if run_from(alloc, &mut folder, &mut source, LIMIT) != Err(RunFault::ReadFault) {
         return false;
     }
     let there = folder.count(Sub::New) as u64;
     let messages = files.len() as u64;
     let placed = messages.saturating_sub(there);
-    run_over(alloc, &mut folder, whole) == Ok(report(messages, there, placed, 0))
-        && holds(&folder, files)
+    run_over(alloc, &mut folder, text) == Ok((messages, there, placed, 0)) && holds(&folder, files)
 }
 
 #[test]
 fn source_fails(rt: HostRuntime) {
-    let whole: &[u8] = b"From x\nabc\n\nFrom y\nhello\n";
-    let files = [
+    const TEXT: &[u8] = b"From x\nabc\n\nFrom y\nhello\n";
+    const FILES: &[File<'_>] = &[
         (Sub::New, ABC_LINE, "abc\n"),
         (Sub::New, HELLO_LINE, "hello\n"),
     ];
     for piece in [1, 65_536] {
-        assert!(rt;
-            goes_on(rt.alloc(), &whole[..22], piece, whole, &files),
-            "{piece}"
-        );
+        assert!(rt; goes_on(rt.alloc(), TEXT, 22, piece, FILES), "{piece}");
     }
 }
 
 #[test]
 fn every_front_of_a_text(rt: HostRuntime) {
-    let files = [
+    const FILES: &[File<'_>] = &[
         (Sub::New, EMPTY_ONE, ""),
         (Sub::New, EMPTY_TWO, ""),
         (Sub::New, ABC, "abc"),
     ];
-    for k in 0..=THREE.len() {
+    for bytes in 0..=THREE.len() {
         assert!(rt;
-            goes_on(rt.alloc(), &THREE[..k], 1, THREE, &files),
-            "{k} bytes"
+            goes_on(rt.alloc(), THREE, bytes, 1, FILES),
+            "{bytes} bytes"
         );
     }
 }
@@ -125,26 +129,24 @@ fn budgeted(
     piece: usize,
     then: Then,
     reads: u64,
-) -> (Result<Report, RunFault>, u64, u64)
-    requires { reads ≤ 2 ^ 40 }
-{
+) -> (Answer, u64, u64) {
     let mut folder = MemFolder::new(alloc);
     let mut source = Cut::new(text, piece, then);
-    let answer = convert(alloc, &mut folder, &mut source, reads);
+    let answer = run_from(alloc, &mut folder, &mut source, reads);
     (answer, source.reads, folder.calls())
 }
 
 #[test]
 fn read_budget(rt: HostRuntime) {
-    let endless: &[u8] = b"From x\n";
-    let too_many = Err(RunFault::TooManyReads);
-    let rows = [
-        (UNENDED, 1, Then::Ends, 3, (too_many, 3, 0)),
-        (UNENDED, 1, Then::Ends, 10, (too_many, 10, 0)),
-        (UNENDED, 1, Then::Ends, 11, (Ok(report(1, 0, 1, 0)), 11, 5)),
-        (endless, 65_536, Then::GoesOn, 5, (too_many, 5, 0)),
+    const ENDLESS: &[u8] = b"From x\n";
+    const TOO_MANY: Answer = Err(RunFault::TooManyReads);
+    const ROWS: &[(&[u8], usize, Then, u64, (Answer, u64, u64))] = &[
+        (UNENDED, 1, Then::Ends, 3, (TOO_MANY, 3, 0)),
+        (UNENDED, 1, Then::Ends, 10, (TOO_MANY, 10, 0)),
+        (UNENDED, 1, Then::Ends, 11, (Ok((1, 0, 1, 0)), 11, 5)),
+        (ENDLESS, 65_536, Then::GoesOn, 5, (TOO_MANY, 5, 0)),
     ];
-    for (text, piece, then, reads, want) in rows {
+    for &(text, piece, then, reads, want) in ROWS {
         assert!(rt;
             budgeted(rt.alloc(), text, piece, then, reads) == want,
             "{reads} reads"
@@ -152,67 +154,89 @@ fn read_budget(rt: HostRuntime) {
     }
 }
 
-// Puts so many other files in `cur`.
-fn put_others(alloc: Global, folder: &mut MemFolder, count: u32) -> Result<(), FolderFault> {
-    for i in 1..=count {
-        folder.put(Sub::Cur, format!(in alloc; "f{i}")?, Vec::new(alloc))?;
+fn put_numbered(alloc: Global, folder: &mut MemFolder, number: u32) -> Result<(), FolderFault> {
+    folder.put(Sub::Cur, format!(in alloc; "f{number}")?, Vec::new(alloc))
+}
+
+// A folder with the first empty message, and so many other files in `cur`.
+fn crowded(alloc: Global, count: u32) -> Result<MemFolder, FolderFault> {
+    let mut folder = folder_of(alloc, &[(Sub::Cur, ONE_SEEN, "")])?;
+    for number in 1..=count {
+        put_numbered(alloc, &mut folder, number)?;
     }
-    Ok(())
+    Ok(folder)
+}
+
+// Whether a run finds the first empty message there and delivers the second.
+fn finds_one(alloc: Global, folder: &mut MemFolder) -> bool {
+    run_over(alloc, folder, TWO_EMPTY) == Ok((2, 1, 1, 0))
+        && folder.calls() == 5
+        && folder.count(Sub::New) == 1
+        && folder.bytes_of(Sub::New, EMPTY_TWO) == Some(b"".as_slice())
+}
+
+fn finds_one_among(alloc: Global, count: u32) -> bool {
+    match crowded(alloc, count) {
+        Ok(mut folder) => finds_one(alloc, &mut folder),
+        Err(_) => false,
+    }
 }
 
 #[test]
-fn many_foreign_names(rt: HostRuntime) -> Result<(), Fail> {
-    let alloc = rt.alloc();
-    let mut folder = folder_of(alloc, &[(Sub::Cur, ONE_SEEN, "")])?;
-    put_others(alloc, &mut folder, 1000)?;
-    assert!(rt;
-        run_over(alloc, &mut folder, TWO_EMPTY) == Ok(report(2, 1, 1, 0))
-            && folder.calls() == 5
-            && folder.count(Sub::New) == 1
-            && folder.bytes_of(Sub::New, EMPTY_TWO) == Some(b"".as_slice())
-    );
-    Ok(())
+fn many_foreign_names(rt: HostRuntime) {
+    assert!(rt; finds_one_among(rt.alloc(), 1000));
 }
 
 #[test]
 fn names_that_are_nearly_ours(rt: HostRuntime) {
-    let odd = [
-        (Sub::Cur, ":x", ""),
-        (
-            Sub::Cur,
-            "ba7816bf8f01cfea414140de5dae2223b00361a396177a9cb410ff61f20015ad.01",
-            "",
-        ),
-        (
-            Sub::Cur,
-            "ba7816bf8f01cfea414140de5dae2223b00361a396177a9cb410ff61f20015ad.18446744073709551616:2,",
-            "",
-        ),
-        (
-            Sub::Tmp,
-            "ba7816bf8f01cfea414140de5dae2223b00361a396177a9cb410ff61f20015ad.18446744073709551616",
-            "",
-        ),
+    const NO_BASE: File<'_> = (Sub::Cur, ":x", "");
+    const ZERO_FIRST: File<'_> = (
+        Sub::Cur,
+        "ba7816bf8f01cfea414140de5dae2223b00361a396177a9cb410ff61f20015ad.01",
+        "",
+    );
+    const TOO_LARGE: File<'_> = (
+        Sub::Cur,
+        "ba7816bf8f01cfea414140de5dae2223b00361a396177a9cb410ff61f20015ad.18446744073709551616:2,",
+        "",
+    );
+    const TOO_LARGE_IN_TMP: File<'_> = (
+        Sub::Tmp,
+        "ba7816bf8f01cfea414140de5dae2223b00361a396177a9cb410ff61f20015ad.18446744073709551616",
+        "",
+    );
+    const BEFORE: &[File<'_>] = &[NO_BASE, ZERO_FIRST, TOO_LARGE, TOO_LARGE_IN_TMP];
+    const AFTER: &[File<'_>] = &[
+        NO_BASE,
+        ZERO_FIRST,
+        TOO_LARGE,
+        TOO_LARGE_IN_TMP,
+        (Sub::New, ABC, "abc"),
     ];
-    let [a, b, c, d] = odd;
-    let files = [a, b, c, d, (Sub::New, ABC, "abc")];
-    let placed = Ok(report(1, 0, 1, 0));
-    assert!(rt; go(rt.alloc(), &odd, &[(&[], UNENDED, placed, 5, &files)]));
+    const RUNS: &[Run<'_>] = &[(&[], UNENDED, Ok((1, 0, 1, 0)), 5, AFTER)];
+    assert!(rt; go(rt.alloc(), BEFORE, RUNS));
 }
 
 // A folder that has the message, or two homes of its base: what is there stays.
 #[test]
 fn what_is_there_stays(rt: HostRuntime) {
-    let colon = "ba7816bf8f01cfea414140de5dae2223b00361a396177a9cb410ff61f20015ad.1:";
-    let info = "ba7816bf8f01cfea414140de5dae2223b00361a396177a9cb410ff61f20015ad.1:2,";
-    let a_colon_and_no_info = [(Sub::Cur, colon, "abc")];
-    let not_sound = [(Sub::New, ABC, "x"), (Sub::Cur, info, "abc")];
-    let there = Ok(report(1, 1, 0, 0));
-    for files in [a_colon_and_no_info.as_slice(), &not_sound] {
+    const COLON: &str = "ba7816bf8f01cfea414140de5dae2223b00361a396177a9cb410ff61f20015ad.1:";
+    const INFO: &str = "ba7816bf8f01cfea414140de5dae2223b00361a396177a9cb410ff61f20015ad.1:2,";
+    const ROWS: &[(&str, &[File<'_>])] = &[
+        ("a_colon_and_no_info", &[(Sub::Cur, COLON, "abc")]),
+        (
+            "not_sound",
+            &[(Sub::New, ABC, "x"), (Sub::Cur, INFO, "abc")],
+        ),
+    ];
+    for &(name, files) in ROWS {
         assert!(rt;
-            go(rt.alloc(), files, &[(&[], UNENDED, there, 3, files)]),
-            "{}",
-            files.len()
+            go(
+                rt.alloc(),
+                files,
+                &[(&[], UNENDED, Ok((1, 1, 0, 0)), 3, files)]
+            ),
+            "{name}"
         );
     }
 }

@@ -15,7 +15,7 @@ fn letters(text: &str) -> Flags {
 
 #[test]
 fn flag_headers(rt: HostRuntime) {
-    for (body, set) in [
+    const ROWS: &[(&str, &str)] = &[
         ("status: O\n\n", "O"),
         ("Subject: s\n\nStatus: R\n", ""),
         ("Status: r\n\n", ""),
@@ -31,7 +31,8 @@ fn flag_headers(rt: HostRuntime) {
         ("Subject: s\nx-status: D\nSTATUS:R\n\n", "DR"),
         ("X-Status: F\nX-Status: A\n\n", "F"),
         ("Status: RO\nX-Status: AF\n\nhi\n", "ROAF"),
-    ] {
-        assert_eq!(rt; flags_of(body.as_bytes()), letters(set), "in {body:?}");
+    ];
+    for &(body, set) in ROWS {
+        assert!(rt; flags_of(body.as_bytes()) == letters(set), "in {body:?}");
     }
 }

@@ -13,7 +13,7 @@ fn lists(alloc: Global, text: &[u8], piece: usize, lines: &[u8], count: u64) -> 
 
 #[test]
 fn worked_texts(rt: HostRuntime) {
-    let rows: [(&str, &[u8], &[u8], u64); 8] = [
+    const ROWS: &[(&str, &[u8], &[u8], u64)] = &[
         ("empty_text", b"", b"", 0),
         (
             "unended_line",
@@ -58,7 +58,7 @@ fn worked_texts(rt: HostRuntime) {
             1,
         ),
     ];
-    for (name, text, want, count) in rows {
+    for &(name, text, want, count) in ROWS {
         for piece in [1, 14, 65_536] {
             assert!(rt;
                 lists(rt.alloc(), text, piece, want, count),
@@ -68,39 +68,38 @@ fn worked_texts(rt: HostRuntime) {
     }
 }
 
+// Whether a text that comes byte by byte, and of which so many reads may be made, is refused so before anything is written.
+fn is_refused(alloc: Global, text: &[u8], then: Then, reads: u64, want: RunFault) -> bool {
+    let mut out = Vec::new(alloc);
+    let mut source = Cut::new(text, 1, then);
+    list_text(alloc, &mut source, &mut out, reads.min(LIMIT)) == Err(want) && out.is_empty()
+}
+
 #[test]
 fn refusals(rt: HostRuntime) {
-    let rows: [(&[u8], Then, u64, RunFault); 5] = [
+    const ROWS: &[(&[u8], Then, u64, RunFault)] = &[
         (b"Subject: x\n", Then::Ends, LIMIT, RunFault::NoFromLine),
         (b"Fro", Then::Ends, LIMIT, RunFault::NoFromLine),
         (b"From x\n", Then::GoesOn, 12, RunFault::TooManyReads),
         (b"From x\nabc", Then::Fails, LIMIT, RunFault::ReadFault),
         (b"", Then::Ends, 0, RunFault::TooManyReads),
     ];
-    for (text, then, reads, want) in rows {
-        let mut out = Vec::new(rt.alloc());
-        let mut source = Cut::new(text, 1, then);
-        assert!(rt;
-            list_text(rt.alloc(), &mut source, &mut out, reads) == Err(want),
-            "{text:?}"
-        );
-        assert!(rt; out.is_empty(), "{text:?}");
+    for &(text, then, reads, want) in ROWS {
+        assert!(rt; is_refused(rt.alloc(), text, then, reads, want), "{text:?}");
     }
+}
+
+// Whether a listing ends at an output that takes four bytes and then fails or takes none.
+fn is_cut_short(alloc: Global, fails: bool) -> bool {
+    let mut out = Narrow::new(alloc, 4, 4, fails);
+    let mut source = Cut::new(b"From x\nabc", 65_536, Then::Ends);
+    list_text(alloc, &mut source, &mut out, LIMIT) == Err(RunFault::OutputFault)
+        && out.taken.as_slice() == b"1 ba".as_slice()
 }
 
 #[test]
 fn output_fails(rt: HostRuntime) {
     for fails in [true, false] {
-        let mut out = Narrow {
-            taken: Vec::new(rt.alloc()),
-            room: 4,
-            piece: 4,
-            fails,
-        };
-        let mut source = Cut::new(b"From x\nabc", 65_536, Then::Ends);
-        assert!(rt;
-            list_text(rt.alloc(), &mut source, &mut out, LIMIT) == Err(RunFault::OutputFault)
-        );
-        assert!(rt; out.taken.as_slice() == b"1 ba".as_slice());
+        assert!(rt; is_cut_short(rt.alloc(), fails), "fails: {fails}");
     }
 }

@@ -21,6 +21,14 @@ pub(crate) fn are_first(entries: &[Entry], want: &[Message<'_>]) -> bool {
     entries.len() <= want.len()
 }
 
+/// Whether these messages were answered.
+pub(crate) fn gives(answer: Result<Vec<Entry>, TextFault>, want: &[Message<'_>]) -> bool {
+    match answer {
+        Ok(entries) => are(&entries, want),
+        Err(_) => false,
+    }
+}
+
 /// Feeds a text in pieces of this size.
 pub(crate) fn feed_pieces(
     splitter: &mut Splitter,

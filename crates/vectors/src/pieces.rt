@@ -1,10 +1,9 @@
 // Texts in pieces, and what a refusal leaves.
 ghost use Rattle.std.specs.Prelude.{◌<◌, ◌≤◌};
 
-use crate::messages::{are, feed_pieces, finish_into};
+use crate::messages::{Message, are, feed_pieces, finish_into, gives};
 use mbox_text::{Entry, Splitter, TextFault, split_all};
 use std::alloc::{AllocError, Global};
-use std::test::Fail;
 
 // The messages of a text that is fed in pieces of this size.
 fn split_pieces(alloc: Global, text: &[u8], size: usize) -> Result<Vec<Entry>, TextFault>
@@ -53,15 +52,11 @@ fn split_at(alloc: Global, text: &[u8], cut: usize) -> Result<Vec<Entry>, TextFa
 }
 
 #[test]
-fn any_pieces(rt: HostRuntime) -> Result<(), Fail> {
-    let text = b"From x\n>From a\n>>From b\n> From c\n>From\n\n";
-    let want = [(
-        b"From x".as_slice(),
-        b"From a\n>From b\n> From c\n>From\n".as_slice(),
-    )];
-    assert!(rt; are(&split_pieces(rt.alloc(), text, 1)?, &want));
-    assert!(rt; are(&split_at(rt.alloc(), text, 11)?, &want));
-    Ok(())
+fn any_pieces(rt: HostRuntime) {
+    const TEXT: &[u8] = b"From x\n>From a\n>>From b\n> From c\n>From\n\n";
+    const WANT: &[Message<'_>] = &[(b"From x", b"From a\n>From b\n> From c\n>From\n")];
+    assert!(rt; gives(split_pieces(rt.alloc(), TEXT, 1), WANT));
+    assert!(rt; gives(split_at(rt.alloc(), TEXT, 11), WANT));
 }
 
 // A first message that puts the byte with this index in the lines at the end of a piece of 65,536 bytes.
@@ -75,39 +70,64 @@ fn text_before_lines(alloc: Global, before: usize) -> Result<Vec<u8>, AllocError
     Ok(text)
 }
 
+// Whether the lines behind such a first message have the same messages where a piece ends in them.
+fn is_the_same_behind(alloc: Global, before: usize) -> Result<bool, TextFault>
+    requires { before ≤ 65536 }
+{
+    let text = text_before_lines(alloc, before)?;
+    is_the_same(alloc, &text, 65_536)
+}
+
 #[test]
-fn pieces_cut_every_line(rt: HostRuntime) -> Result<(), Fail> {
+fn pieces_cut_every_line(rt: HostRuntime) {
     for size in [1, 2, 3, 5, 7] {
-        assert!(rt; is_the_same(rt.alloc(), LINES, size)?, "pieces of {size}");
+        assert!(rt;
+            is_the_same(rt.alloc(), LINES, size) == Ok(true),
+            "pieces of {size}"
+        );
     }
     for before in 0..LINES.len() {
-        let text = text_before_lines(rt.alloc(), before)?;
-        assert!(rt; is_the_same(rt.alloc(), &text, 65_536)?, "{before}");
+        assert!(rt;
+            is_the_same_behind(rt.alloc(), before) == Ok(true),
+            "{before}"
+        );
     }
-    Ok(())
+}
+
+// Whether the messages are these when the pieces are fed, and these when the text is ended.
+fn ends_with(alloc: Global, pieces: &[&[u8]], fed: &[Message<'_>], ended: &[Message<'_>]) -> bool {
+    let mut out = Vec::new(alloc);
+    let mut splitter = Splitter::new(alloc);
+    for piece in pieces {
+        if splitter.feed(piece, &mut out).is_err() {
+            return false;
+        }
+    }
+    are(&out, fed) && finish_into(splitter, &mut out).is_ok() && are(&out, ended)
 }
 
 #[test]
-fn message_ends_with_the_next_from_line(rt: HostRuntime) -> Result<(), Fail> {
-    let mut out = Vec::new(rt.alloc());
-    let mut splitter = Splitter::new(rt.alloc());
-    for (piece, count) in [("From a\nx\n", 0), ("From", 0), (" ", 1)] {
-        splitter.feed(piece.as_bytes(), &mut out)?;
-        assert_eq!(rt; out.len(), count, "{piece}");
+fn message_ends_with_the_next_from_line(rt: HostRuntime) {
+    const FIRST: Message<'_> = (b"From a", b"x\n");
+    const ROWS: &[(&[&[u8]], &[Message<'_>], &[Message<'_>])] = &[
+        (&[b"From a\nx\n"], &[], &[FIRST]),
+        (&[b"From a\nx\n", b"From"], &[], &[(b"From a", b"x\nFrom")]),
+        (
+            &[b"From a\nx\n", b"From", b" "],
+            &[FIRST],
+            &[FIRST, (b"From ", b"")],
+        ),
+    ];
+    for &(pieces, fed, ended) in ROWS {
+        assert!(rt; ends_with(rt.alloc(), pieces, fed, ended), "{pieces:?}");
     }
-    let ended = [(b"From a".as_slice(), b"x\n".as_slice()), (b"From ", b"")];
-    assert!(rt; are(&out, &ended[..1]));
-    finish_into(splitter, &mut out)?;
-    assert!(rt; are(&out, &ended));
-    Ok(())
 }
 
+// What a splitter answers.
+type Answer = Result<(), TextFault>;
+
 // Whether a splitter answers so to each piece, ends so, and gives no message.
-fn gives_nothing(
-    alloc: Global,
-    pieces: &[(&[u8], Result<(), TextFault>)],
-    end: Result<(), TextFault>,
-) -> bool {
+fn gives_nothing(alloc: Global, pieces: &[(&[u8], Answer)], end: Answer) -> bool {
     let mut splitter = Splitter::new(alloc);
     let mut out = Vec::new(alloc);
     for (piece, answer) in pieces {
@@ -120,11 +140,14 @@ fn gives_nothing(
 
 #[test]
 fn refused_splitter(rt: HostRuntime) {
-    let no_line = Err(TextFault::NoFromLine);
-    let failed = Err(TextFault::Failed);
-    let refused: &[(&[u8], Result<(), TextFault>)] = &[(b"Fx", no_line), (b"", failed)];
-    let short: &[(&[u8], Result<(), TextFault>)] = &[(b"Fro", Ok(()))];
-    for (pieces, end) in [(refused, failed), (short, no_line), (&[], Ok(()))] {
+    const NO_LINE: Answer = Err(TextFault::NoFromLine);
+    const FAILED: Answer = Err(TextFault::Failed);
+    const ROWS: &[(&[(&[u8], Answer)], Answer)] = &[
+        (&[(b"Fx", NO_LINE), (b"", FAILED)], FAILED),
+        (&[(b"Fro", Ok(()))], NO_LINE),
+        (&[], Ok(())),
+    ];
+    for &(pieces, end) in ROWS {
         assert!(rt; gives_nothing(rt.alloc(), pieces, end), "{end:?}");
     }
 }

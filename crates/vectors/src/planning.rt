@@ -68,15 +68,15 @@ fn plans(
 
 #[test]
 fn plan_of_three_lists(rt: HostRuntime) -> Result<(), Fail> {
-    let tmp: &[&str] = &[ABC, "1700000000.M1.host"];
-    let rows: [(&[&str], &[&str], &[&str], &[Want<'_>]); 3] = [
+    const NAMES: &[&str] = &[ABC, "1700000000.M1.host"];
+    const ROWS: &[(&[&str], &[&str], &[&str], &[Want<'_>])] = &[
         (
-            tmp,
+            NAMES,
             &[],
             &[ONE_SEEN],
             &[Want::Remove(ABC), Want::Write(1), Want::Place(1)],
         ),
-        (&[], tmp, &[], &[Want::Write(0), Want::Place(0)]),
+        (&[], NAMES, &[], &[Want::Write(0), Want::Place(0)]),
         (
             &[],
             &[],
@@ -89,8 +89,11 @@ fn plan_of_three_lists(rt: HostRuntime) -> Result<(), Fail> {
             ],
         ),
     ];
-    for (tmp, new, cur, wants) in rows {
-        assert!(rt; plans(rt.alloc(), tmp, new, cur, wants)?);
+    for &(tmp, new, cur, wants) in ROWS {
+        assert!(rt;
+            plans(rt.alloc(), tmp, new, cur, wants)?,
+            "{tmp:?} {new:?} {cur:?}"
+        );
     }
     Ok(())
 }

@@ -13,14 +13,14 @@ fn rewrites(alloc: Global, text: &[u8], piece: usize, written: &[u8], count: u64
 
 #[test]
 fn worked_texts(rt: HostRuntime) {
-    let quoted: &[u8] = b"From x\n>From a\n>>From b\n> From c\n>From\n\n";
-    let twice: &[u8] = b"From a\nx\n\nFrom b\ny\n\n";
-    let rows: [(&str, &[u8], &[u8], u64); 8] = [
+    const QUOTED: &[u8] = b"From x\n>From a\n>>From b\n> From c\n>From\n\n";
+    const TWICE: &[u8] = b"From a\nx\n\nFrom b\ny\n\n";
+    const ROWS: &[(&str, &[u8], &[u8], u64)] = &[
         ("empty_text", b"", b"", 0),
         ("unended_line", b"From x\nabc", b"From x\nabc\n\n", 1),
-        ("quoting", quoted, quoted, 1),
-        ("no_blank_line_between", b"From a\nx\nFrom b\ny\n", twice, 2),
-        ("no_blank_line_between, again", twice, twice, 2),
+        ("quoting", QUOTED, QUOTED, 1),
+        ("no_blank_line_between", b"From a\nx\nFrom b\ny\n", TWICE, 2),
+        ("no_blank_line_between, again", TWICE, TWICE, 2),
         (
             "equal_empty_messages",
             b"From a\n\nFrom b\n\n",
@@ -35,7 +35,7 @@ fn worked_texts(rt: HostRuntime) {
             1,
         ),
     ];
-    for (name, text, want, count) in rows {
+    for &(name, text, want, count) in ROWS {
         for piece in [1, 14, 65_536] {
             assert!(rt;
                 rewrites(rt.alloc(), text, piece, want, count),
@@ -45,9 +45,24 @@ fn worked_texts(rt: HostRuntime) {
     }
 }
 
+// Whether so many reads may be made of a source, one byte each, so many are made, and so much is written.
+fn reads(
+    alloc: Global,
+    source: &mut Cut<'_>,
+    limit: u64,
+    want: Result<u64, RunFault>,
+    written: &[u8],
+    made: u64,
+) -> bool {
+    let mut out = Vec::new(alloc);
+    rewrite(alloc, source, &mut out, limit.min(LIMIT)) == want
+        && out.as_slice() == written
+        && source.reads == made
+}
+
 #[test]
 fn read_budget(rt: HostRuntime) {
-    let rows: [(&[u8], Then, u64, Result<u64, RunFault>, &[u8], u64); 8] = [
+    const ROWS: &[(&[u8], Then, u64, Result<u64, RunFault>, &[u8], u64)] = &[
         (
             b"From x\nabc",
             Then::Ends,
@@ -92,64 +107,59 @@ fn read_budget(rt: HostRuntime) {
             18,
         ),
     ];
-    for (text, then, reads, want, written, made) in rows {
-        let mut out = Vec::new(rt.alloc());
+    for &(text, then, limit, want, written, made) in ROWS {
         let mut source = Cut::new(text, 1, then);
         assert!(rt;
-            rewrite(rt.alloc(), &mut source, &mut out, reads) == want
-                && out.as_slice() == written
-                && source.reads == made,
-            "{reads} reads of {text:?}"
+            reads(rt.alloc(), &mut source, limit, want, written, made),
+            "{limit} reads of {text:?}"
         );
     }
 }
 
+// Whether a text is refused before anything is written.
+fn is_refused(alloc: Global, text: &[u8]) -> bool {
+    let mut out = Vec::new(alloc);
+    let mut source = Cut::new(text, 65_536, Then::Ends);
+    rewrite(alloc, &mut source, &mut out, LIMIT) == Err(RunFault::NoFromLine) && out.is_empty()
+}
+
 #[test]
 fn no_from_line(rt: HostRuntime) {
-    let texts: [&[u8]; 3] = [b"Subject: x\n", b"Fro", b"\nFrom a\n"];
-    for text in texts {
-        let mut out = Vec::new(rt.alloc());
-        let mut source = Cut::new(text, 65_536, Then::Ends);
-        assert!(rt;
-            rewrite(rt.alloc(), &mut source, &mut out, LIMIT) == Err(RunFault::NoFromLine),
-            "{text:?}"
-        );
-        assert!(rt; out.is_empty(), "{text:?}");
+    const TEXTS: &[&[u8]] = &[b"Subject: x\n", b"Fro", b"\nFrom a\n"];
+    for text in TEXTS {
+        assert!(rt; is_refused(rt.alloc(), text), "{text:?}");
     }
+}
+
+// Whether a message that is written to this output gets this answer, and the output has taken so much.
+fn writes(alloc: Global, out: &mut Narrow, want: Result<u64, RunFault>, taken: &[u8]) -> bool {
+    let mut source = Cut::new(b"From x\nabc", 65_536, Then::Ends);
+    rewrite(alloc, &mut source, out, LIMIT) == want && out.taken.as_slice() == taken
 }
 
 #[test]
 fn output_fails(rt: HostRuntime) {
     for fails in [true, false] {
-        let mut out = Narrow {
-            taken: Vec::new(rt.alloc()),
-            room: 4,
-            piece: 4,
-            fails,
-        };
-        let mut source = Cut::new(b"From x\nabc", 65_536, Then::Ends);
+        let mut out = Narrow::new(rt.alloc(), 4, 4, fails);
         assert!(rt;
-            rewrite(rt.alloc(), &mut source, &mut out, LIMIT) == Err(RunFault::OutputFault)
+            writes(rt.alloc(), &mut out, Err(RunFault::OutputFault), b"From"),
+            "fails: {fails}"
         );
-        assert!(rt; out.taken.as_slice() == b"From".as_slice());
     }
 }
 
 // A writer that takes one byte each time, and one that takes none.
 #[test]
 fn slow_outputs(rt: HostRuntime) {
-    for (piece, want, taken) in [
-        (1, Ok(1), b"From x\nabc\n\n".as_slice()),
-        (0, Err(RunFault::OutputFault), b"".as_slice()),
-    ] {
-        let mut out = Narrow {
-            taken: Vec::new(rt.alloc()),
-            room: 100,
-            piece,
-            fails: false,
-        };
-        let mut source = Cut::new(b"From x\nabc", 65_536, Then::Ends);
-        assert!(rt; rewrite(rt.alloc(), &mut source, &mut out, LIMIT) == want);
-        assert!(rt; out.taken.as_slice() == taken);
+    const ROWS: &[(usize, Result<u64, RunFault>, &[u8])] = &[
+        (1, Ok(1), b"From x\nabc\n\n"),
+        (0, Err(RunFault::OutputFault), b""),
+    ];
+    for &(piece, want, taken) in ROWS {
+        let mut out = Narrow::new(rt.alloc(), 100, piece, false);
+        assert!(rt;
+            writes(rt.alloc(), &mut out, want, taken),
+            "{piece} at a time"
+        );
     }
 }

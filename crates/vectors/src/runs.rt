@@ -25,23 +25,29 @@ pub(crate) const THREE: &[u8] = b"From a\n\nFrom b\n\nFrom c\nabc";
 /// A file: its folder, its name and its text.
 pub(crate) type File<'a> = (Sub, &'a str, &'a str);
 
-/// A run over a text that comes whole.
-pub(crate) fn run_over(
+/// What a run answers: a report, as how many messages there are, were there, were placed and were swept, or its fault.
+pub(crate) type Answer = Result<(u64, u64, u64, u64), RunFault>;
+
+/// A run over a source that may make so many reads of it.
+pub(crate) fn run_from(
     alloc: Global,
     folder: &mut MemFolder,
-    text: &[u8],
-) -> Result<Report, RunFault> {
-    let mut source = Cut::new(text, 65_536, Then::Ends);
-    convert(alloc, folder, &mut source, LIMIT)
-}
-
-pub(crate) fn report(messages: u64, there: u64, placed: u64, swept: u64) -> Report {
-    Report {
+    source: &mut Cut<'_>,
+    reads: u64,
+) -> Answer {
+    let Report {
         messages,
         there,
         placed,
         swept,
-    }
+    } = convert(alloc, folder, source, reads.min(LIMIT))?;
+    Ok((messages, there, placed, swept))
+}
+
+/// A run over a text that comes whole.
+pub(crate) fn run_over(alloc: Global, folder: &mut MemFolder, text: &[u8]) -> Answer {
+    let mut source = Cut::new(text, 65_536, Then::Ends);
+    run_from(alloc, folder, &mut source, LIMIT)
 }
 
 /// What a folder answers where this file is put.
@@ -57,12 +63,17 @@ pub(crate) fn put(
     Ok(folder.put(sub, name, bytes))
 }
 
+fn put_all(alloc: Global, folder: &mut MemFolder, files: &[File<'_>]) -> Result<(), FolderFault> {
+    for &(sub, name, text) in files {
+        put(alloc, folder, sub, name, text.as_bytes())??;
+    }
+    Ok(())
+}
+
 /// A folder with these files, each with this text, put in this order.
 pub(crate) fn folder_of(alloc: Global, files: &[File<'_>]) -> Result<MemFolder, FolderFault> {
     let mut folder = MemFolder::new(alloc);
-    for &(sub, name, text) in files {
-        put(alloc, &mut folder, sub, name, text.as_bytes())??;
-    }
+    put_all(alloc, &mut folder, files)?;
     Ok(folder)
 }
 

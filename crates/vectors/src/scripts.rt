@@ -1,6 +1,6 @@
 // Scripts by rows: what other programs do before a call, and how the call goes.
-use crate::runs::{File, folder_of, holds, run_over};
-use maildir_run::{Act, MemFolder, Mode, Report, RunFault, ScriptLine, Sub};
+use crate::runs::{Answer, File, folder_of, holds, run_over};
+use maildir_run::{Act, MemFolder, Mode, ScriptLine, Sub};
 use std::alloc::{AllocError, Global};
 
 /// What another program does. A message is named by its base and an info, any other file by its name; what is put holds
@@ -8,6 +8,7 @@ use std::alloc::{AllocError, Global};
 #[derive(Clone, Copy)]
 pub(crate) enum Deed<'a> {
     ToCur(&'a str, &'a str),
+    ToCurAs(&'a str, &'a str),
     Reflag(&'a str, &'a str, &'a str),
     DropTmp(&'a str),
     PutOther(Sub, &'a str),
@@ -18,34 +19,49 @@ fn named(alloc: Global, base: &str, info: &str) -> Result<String, AllocError> {
     format!(in alloc; "{base}{info}")
 }
 
+fn to_cur(alloc: Global, name: &str, base: &str, info: &str) -> Result<Act, AllocError> {
+    let name = named(alloc, name, "")?;
+    Ok(Act::ToCur(name, named(alloc, base, info)?))
+}
+
+fn reflag(alloc: Global, base: &str, info: &str, other: &str) -> Result<Act, AllocError> {
+    let name = named(alloc, base, info)?;
+    Ok(Act::Reflag(name, named(alloc, base, other)?))
+}
+
+fn put_other(alloc: Global, sub: Sub, name: &str) -> Result<Act, AllocError> {
+    let name = named(alloc, name, "")?;
+    Ok(Act::PutOther(sub, name, Vec::from_slice(alloc, b"z")?))
+}
+
 impl Deed<'_> {
     pub(crate) fn act(self, alloc: Global) -> Result<Act, AllocError> {
-        Ok(match self {
-            Deed::ToCur(base, info) => {
-                Act::ToCur(named(alloc, base, "")?, named(alloc, base, info)?)
-            }
-            Deed::Reflag(base, info, other) => {
-                Act::Reflag(named(alloc, base, info)?, named(alloc, base, other)?)
-            }
-            Deed::DropTmp(name) => Act::DropTmp(named(alloc, name, "")?),
-            Deed::PutOther(sub, name) => {
-                Act::PutOther(sub, named(alloc, name, "")?, Vec::from_slice(alloc, b"z")?)
-            }
-            Deed::DropOther(sub, name) => Act::DropOther(sub, named(alloc, name, "")?),
-        })
+        match self {
+            Deed::ToCur(base, info) => to_cur(alloc, base, base, info),
+            Deed::ToCurAs(base, name) => to_cur(alloc, base, name, ""),
+            Deed::Reflag(base, info, other) => reflag(alloc, base, info, other),
+            Deed::DropTmp(name) => Ok(Act::DropTmp(named(alloc, name, "")?)),
+            Deed::PutOther(sub, name) => put_other(alloc, sub, name),
+            Deed::DropOther(sub, name) => Ok(Act::DropOther(sub, named(alloc, name, "")?)),
+        }
     }
 }
 
-/// A script by rows: before this call another program may do something, and the call goes so.
-pub(crate) type Row<'a> = (u64, Option<Deed<'a>>, Mode);
+fn acts_of(alloc: Global, deeds: &[Deed<'_>]) -> Result<Vec<Act>, AllocError> {
+    let mut acts = Vec::new(alloc);
+    for deed in deeds {
+        acts.push(deed.act(alloc)?)?;
+    }
+    Ok(acts)
+}
+
+/// A script by rows: before this call other programs do this, and the call goes so.
+pub(crate) type Row<'a> = (u64, &'a [Deed<'a>], Mode);
 
 pub(crate) fn script_of(alloc: Global, rows: &[Row<'_>]) -> Result<Vec<ScriptLine>, AllocError> {
     let mut lines = Vec::new(alloc);
-    for &(call, deed, mode) in rows {
-        let mut acts = Vec::new(alloc);
-        if let Some(deed) = deed {
-            acts.push(deed.act(alloc)?)?;
-        }
+    for &(call, deeds, mode) in rows {
+        let acts = acts_of(alloc, deeds)?;
         lines.push(ScriptLine { call, acts, mode })?;
     }
     Ok(lines)
@@ -53,22 +69,26 @@ pub(crate) fn script_of(alloc: Global, rows: &[Row<'_>]) -> Result<Vec<ScriptLin
 
 /// A run under a script: the rows of the script, the text, what the run answers, how many calls it makes, and the files
 /// that it leaves.
-pub(crate) type Run<'a> = (
-    &'a [Row<'a>],
-    &'a [u8],
-    Result<Report, RunFault>,
-    u64,
-    &'a [File<'a>],
-);
+pub(crate) type Run<'a> = (&'a [Row<'a>], &'a [u8], Answer, u64, &'a [File<'a>]);
 
-/// Whether a run over a folder goes so, and leaves no other file.
-pub(crate) fn goes(alloc: Global, folder: &mut MemFolder, run: Run<'_>) -> bool {
+/// Whether a run over a folder goes so, where all calls fail from one on if it is named, and leaves no other file.
+pub(crate) fn goes_under(
+    alloc: Global,
+    folder: &mut MemFolder,
+    run: Run<'_>,
+    fail_from: Option<u64>,
+) -> bool {
     let (rows, text, want, calls, files) = run;
     let Ok(lines) = script_of(alloc, rows) else {
         return false;
     };
-    folder.script(lines, None);
+    folder.script(lines, fail_from);
     run_over(alloc, folder, text) == want && folder.calls() == calls && holds(folder, files)
+}
+
+/// Whether a run over a folder goes so, and leaves no other file.
+pub(crate) fn goes(alloc: Global, folder: &mut MemFolder, run: Run<'_>) -> bool {
+    goes_under(alloc, folder, run, None)
 }
 
 /// Whether runs go so one after the other, the first of them over a folder with these files.

@@ -2,7 +2,6 @@
 use crate::streams::Narrow;
 use mbox_text::{Bytes, Entry, TextFault, write_entry};
 use std::alloc::{AllocError, Global};
-use std::test::Fail;
 
 fn entry(alloc: Global, from_line: &[u8], body: &[u8]) -> Result<Entry, AllocError> {
     Ok(Entry {
@@ -11,28 +10,24 @@ fn entry(alloc: Global, from_line: &[u8], body: &[u8]) -> Result<Entry, AllocErr
     })
 }
 
-// Whether a message is written so, by a writer that takes so many bytes at a time.
-fn spells(
+// Whether a writer that is handed a message answers so, and has taken so much.
+fn writes(
     alloc: Global,
     from_line: &[u8],
     body: &[u8],
-    piece: usize,
-    want: &[u8],
-) -> Result<bool, Fail> {
-    let message = entry(alloc, from_line, body)?;
-    let mut narrow = Narrow {
-        taken: Vec::new(alloc),
-        room: 1000,
-        piece,
-        fails: true,
-    };
-    write_entry(&message, &mut narrow)?;
-    Ok(narrow.taken.as_slice() == want)
+    narrow: &mut Narrow,
+    answer: Result<(), TextFault>,
+    taken: &[u8],
+) -> bool {
+    match entry(alloc, from_line, body) {
+        Ok(message) => write_entry(&message, narrow) == answer && narrow.taken.as_slice() == taken,
+        Err(_) => false,
+    }
 }
 
 #[test]
-fn spellings(rt: HostRuntime) -> Result<(), Fail> {
-    let rows: [(&str, &[u8], &[u8], &[u8]); 5] = [
+fn spellings(rt: HostRuntime) {
+    const ROWS: &[(&str, &[u8], &[u8], &[u8])] = &[
         (
             "quoting",
             b"From x",
@@ -49,29 +44,25 @@ fn spellings(rt: HostRuntime) -> Result<(), Fail> {
             b"From a\nx\n>>>From \n\n",
         ),
     ];
-    for (name, from_line, body, want) in rows {
+    for &(name, from_line, body, want) in ROWS {
         for piece in [1, 1000] {
+            let mut narrow = Narrow::new(rt.alloc(), 1000, piece, true);
             assert!(rt;
-                spells(rt.alloc(), from_line, body, piece, want)?,
+                writes(rt.alloc(), from_line, body, &mut narrow, Ok(()), want),
                 "{name}, {piece} at a time"
             );
         }
     }
-    Ok(())
 }
 
 #[test]
-fn output_fails(rt: HostRuntime) -> Result<(), Fail> {
-    let message = entry(rt.alloc(), b"From x", b"abc")?;
+fn output_fails(rt: HostRuntime) {
+    const FAULT: Result<(), TextFault> = Err(TextFault::WriteFault);
     for fails in [true, false] {
-        let mut narrow = Narrow {
-            taken: Vec::new(rt.alloc()),
-            room: 4,
-            piece: 4,
-            fails,
-        };
-        assert!(rt; write_entry(&message, &mut narrow) == Err(TextFault::WriteFault));
-        assert!(rt; narrow.taken.as_slice() == b"From".as_slice());
+        let mut narrow = Narrow::new(rt.alloc(), 4, 4, fails);
+        assert!(rt;
+            writes(rt.alloc(), b"From x", b"abc", &mut narrow, FAULT, b"From"),
+            "fails: {fails}"
+        );
     }
-    Ok(())
 }

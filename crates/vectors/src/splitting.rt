@@ -1,19 +1,11 @@
 // The worked texts: which messages they have.
-use crate::messages::{Message, are};
+use crate::messages::{Message, gives};
 use mbox_text::{TextFault, split_all};
 use std::alloc::Global;
 
-// Whether a text has these messages.
-fn splits(alloc: Global, text: &[u8], want: &[Message<'_>]) -> bool {
-    match split_all(alloc, text) {
-        Ok(entries) => are(&entries, want),
-        Err(_) => false,
-    }
-}
-
 #[test]
 fn worked_texts(rt: HostRuntime) {
-    let rows: [(&str, &[u8], &[Message<'_>]); 8] = [
+    const ROWS: &[(&str, &[u8], &[Message<'_>])] = &[
         ("empty_text", b"", &[]),
         ("unended_line", b"From x\nabc", &[(b"From x", b"abc")]),
         (
@@ -47,16 +39,20 @@ fn worked_texts(rt: HostRuntime) {
             &[(b"From \0\xff", b"\0\x80")],
         ),
     ];
-    for (name, text, want) in rows {
-        assert!(rt; splits(rt.alloc(), text, want), "{name}");
+    for &(name, text, want) in ROWS {
+        assert!(rt; gives(split_all(rt.alloc(), text), want), "{name}");
     }
+}
+
+/// Whether a text is refused, since no message owns its first bytes.
+pub(crate) fn is_refused(alloc: Global, text: &[u8]) -> bool {
+    matches!(split_all(alloc, text), Err(TextFault::NoFromLine))
 }
 
 #[test]
 fn no_from_line(rt: HostRuntime) {
-    let texts: [&[u8]; 3] = [b"Subject: x\n", b"Fro", b"\nFrom a\n"];
-    for text in texts {
-        let refused = split_all(rt.alloc(), text);
-        assert!(rt; matches!(refused, Err(TextFault::NoFromLine)), "{text:?}");
+    const TEXTS: &[&[u8]] = &[b"Subject: x\n", b"Fro", b"\nFrom a\n"];
+    for text in TEXTS {
+        assert!(rt; is_refused(rt.alloc(), text), "{text:?}");
     }
 }

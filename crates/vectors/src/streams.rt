@@ -1,4 +1,5 @@
 // Sources and writers for tests: they cut, fail, end or never end.
+use std::alloc::Global;
 use std::io;
 use std::io::{ErrorKind, Read, Write};
 
@@ -61,6 +62,17 @@ pub(crate) struct Narrow {
     pub room: usize,
     pub piece: usize,
     pub fails: bool,
+}
+
+impl Narrow {
+    pub(crate) fn new(alloc: Global, room: usize, piece: usize, fails: bool) -> Narrow {
+        Narrow {
+            taken: Vec::new(alloc),
+            room,
+            piece,
+            fails,
+        }
+    }
 }
 
 impl Write for Narrow {

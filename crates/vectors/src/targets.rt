@@ -30,7 +30,7 @@ fn targets(
 
 #[test]
 fn one_body(rt: HostRuntime) {
-    for (body, digits, place, rest) in [
+    const ROWS: &[(&str, &str, Place, &str)] = &[
         ("", EMPTY, Place::New, ".1"),
         ("abc", ABC, Place::New, ".1"),
         (
@@ -87,7 +87,8 @@ fn one_body(rt: HostRuntime) {
             Place::Cur,
             ".1:2,FRST",
         ),
-    ] {
+    ];
+    for &(body, digits, place, rest) in ROWS {
         let mut namer = Namer::new(rt.alloc());
         assert!(rt;
             targets(&mut namer, body, digits, ".1", place, rest),
@@ -98,15 +99,16 @@ fn one_body(rt: HostRuntime) {
 
 #[test]
 fn equal_bodies(rt: HostRuntime) {
-    let mut namer = Namer::new(rt.alloc());
-    for (body, digits, number, place, rest) in [
+    const ROWS: &[(&str, &str, &str, Place, &str)] = &[
         ("", EMPTY, ".1", Place::New, ".1"),
         ("abc", ABC, ".1", Place::New, ".1"),
         ("", EMPTY, ".2", Place::New, ".2"),
         ("Status: O\n", OLD, ".1", Place::Cur, ".1:2,"),
         ("Status: O\n", OLD, ".2", Place::Cur, ".2:2,"),
         ("", EMPTY, ".3", Place::New, ".3"),
-    ] {
+    ];
+    let mut namer = Namer::new(rt.alloc());
+    for &(body, digits, number, place, rest) in ROWS {
         assert!(rt;
             targets(&mut namer, body, digits, number, place, rest),
             "{number} of {body:?}"

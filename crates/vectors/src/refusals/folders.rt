@@ -1,7 +1,7 @@
 // The calls of the folder in memory, and a plan.
 use crate::mem_folder::are_named;
 use crate::planning::{Want, are_wanted, names, two_targets};
-use crate::runs::{ABC, ONE_SEEN, holds, put};
+use crate::runs::{ABC, File, ONE_SEEN, holds, put};
 use maildir_name::Place;
 use maildir_run::{Folder, FolderFault, MemFolder, RunFault, Sub, plan};
 use std::alloc::{AllocError, Global};
@@ -56,15 +56,18 @@ fn answers<F: Folder>(folder: &mut F) -> bool {
         && place(folder, "u", Place::Cur, "u:2,") == Ok(())
 }
 
+// Whether that file is listed, and no other one.
+fn lists_it<F: Folder>(folder: &mut F) -> bool {
+    lists(folder, Sub::Tmp, &[])
+        && lists(folder, Sub::New, &[])
+        && lists(folder, Sub::Cur, &["u:2,"])
+}
+
 #[test]
 fn memory_folder_again(rt: HostRuntime) {
     let mut folder = MemFolder::new(rt.alloc());
     assert!(rt;
-        answers(&mut folder)
-            && lists(&mut folder, Sub::Tmp, &[])
-            && lists(&mut folder, Sub::New, &[])
-            && lists(&mut folder, Sub::Cur, &["u:2,"])
-            && holds(&folder, &[(Sub::Cur, "u:2,", "ab")])
+        answers(&mut folder) && lists_it(&mut folder) && holds(&folder, &[(Sub::Cur, "u:2,", "ab")])
     );
 }
 
@@ -85,13 +88,21 @@ fn is_put(
     Ok(is_as_before && again.is_ok())
 }
 
+// Whether files of `tmp` are set, and there are no others.
+fn are_put(alloc: Global, files: &[File<'_>]) -> Result<bool, AllocError> {
+    let mut folder = MemFolder::new(alloc);
+    for (_, name, text) in files {
+        if !is_put(alloc, &mut folder, name, text.as_bytes())? {
+            return Ok(false);
+        }
+    }
+    Ok(holds(&folder, files))
+}
+
 #[test]
 fn put_again(rt: HostRuntime) -> Result<(), Fail> {
-    let mut folder = MemFolder::new(rt.alloc());
-    assert!(rt; is_put(rt.alloc(), &mut folder, ABC, b"a")?);
-    assert!(rt; is_put(rt.alloc(), &mut folder, FOREIGN, b"z")?);
-    let files = [(Sub::Tmp, ABC, "a"), (Sub::Tmp, FOREIGN, "z")];
-    assert!(rt; holds(&folder, &files));
+    const FILES: &[File<'_>] = &[(Sub::Tmp, ABC, "a"), (Sub::Tmp, FOREIGN, "z")];
+    assert!(rt; are_put(rt.alloc(), FILES)?);
     Ok(())
 }
 

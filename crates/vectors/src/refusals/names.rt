@@ -19,7 +19,7 @@ fn names(namer: &mut Namer, body: &str, place: Place, name: &str) -> bool {
 
 #[test]
 fn namer_again(rt: HostRuntime) {
-    let rows: [(&str, Place, &str); 8] = [
+    const ROWS: &[(&str, Place, &str)] = &[
         (
             "",
             Place::New,
@@ -62,7 +62,7 @@ fn namer_again(rt: HostRuntime) {
         ),
     ];
     let mut namer = Namer::new(rt.alloc());
-    for (body, place, name) in rows {
+    for &(body, place, name) in ROWS {
         assert!(rt; names(&mut namer, body, place, name), "{body:?}");
     }
 }

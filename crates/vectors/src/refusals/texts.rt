@@ -1,7 +1,8 @@
 // From_ lines that are built, and texts that are taken apart.
 ghost use Rattle.std.specs.Prelude.{◌<◌};
 
-use crate::messages::{Message, are, are_first, feed_pieces, finish_into};
+use crate::messages::{Message, are, are_first, feed_pieces, finish_into, gives};
+use crate::{from_lines, splitting};
 use mbox_text::{Splitter, TextFault, build_from, split_all};
 use std::alloc::Global;
 
@@ -23,7 +24,7 @@ fn builds(alloc: Global, sender: &[u8], rest: &[u8], want: &[u8]) -> bool {
 
 #[test]
 fn build_from_again(rt: HostRuntime) {
-    let rows: [(&[u8], &[u8], &[u8]); 2] = [
+    const ROWS: &[(&[u8], &[u8], &[u8])] = &[
         (
             b"",
             b"Thu Jan  1 00:00:00 1970",
@@ -31,11 +32,10 @@ fn build_from_again(rt: HostRuntime) {
         ),
         (b"a b", b"", b"From a-b"),
     ];
-    for (sender, rest, want) in rows {
+    for &(sender, rest, want) in ROWS {
         assert!(rt; builds(rt.alloc(), sender, rest, want), "{want:?}");
     }
-    let refused = build_from(rt.alloc(), b"a", b"x\ny");
-    assert!(rt; matches!(refused, Err(TextFault::LineEndInRest)));
+    assert!(rt; from_lines::is_refused(rt.alloc(), b"x\ny"));
 }
 
 // Whether a text has these messages.
@@ -44,17 +44,13 @@ fn splits(alloc: Global, text: &[u8], want: &[Message<'_>]) -> bool {
         Err(TextFault::OutOfMemory) => split_all(alloc, text),
         answer => answer,
     };
-    match answer {
-        Ok(entries) => are(&entries, want),
-        Err(_) => false,
-    }
+    gives(answer, want)
 }
 
 #[test]
 fn split_all_again(rt: HostRuntime) {
     assert!(rt; splits(rt.alloc(), QUOTED, UNQUOTED));
-    let refused = split_all(rt.alloc(), b"Subject: x\n");
-    assert!(rt; matches!(refused, Err(TextFault::NoFromLine)));
+    assert!(rt; splitting::is_refused(rt.alloc(), b"Subject: x\n"));
 }
 
 // Whether the messages come by pieces of this size. `OutOfMemory` says that a growth was refused, that a splitter which
@@ -80,19 +76,32 @@ fn comes(alloc: Global, text: &[u8], size: usize, want: &[Message<'_>]) -> Resul
     Ok(fed.is_ok() && end.is_ok() && are(&out, want))
 }
 
+// Whether the messages come, and once more where a growth was refused.
+fn comes_again(alloc: Global, text: &[u8], size: usize, want: &[Message<'_>]) -> bool
+    requires { 0 < size }
+{
+    let answer = match comes(alloc, text, size, want) {
+        Err(TextFault::OutOfMemory) => comes(alloc, text, size, want),
+        answer => answer,
+    };
+    answer == Ok(true)
+}
+
 #[test]
 fn splitter_again(rt: HostRuntime) {
-    let three: &[Message<'_>] = &[(b"From a", b""), (b"From b", b""), (b"From c", b"abc")];
-    for (text, want) in [
+    const ROWS: &[(&[u8], &[Message<'_>])] = &[
         (QUOTED, UNQUOTED),
-        (b"From a\n\nFrom b\n\nFrom c\nabc", three),
-    ] {
+        (
+            b"From a\n\nFrom b\n\nFrom c\nabc",
+            &[(b"From a", b""), (b"From b", b""), (b"From c", b"abc")],
+        ),
+    ];
+    for &(text, want) in ROWS {
         for size in [1, 11] {
-            let answer = match comes(rt.alloc(), text, size, want) {
-                Err(TextFault::OutOfMemory) => comes(rt.alloc(), text, size, want),
-                answer => answer,
-            };
-            assert!(rt; answer == Ok(true), "pieces of {size}");
+            assert!(rt;
+                comes_again(rt.alloc(), text, size, want),
+                "{text:?} in pieces of {size}"
+            );
         }
     }
 }
