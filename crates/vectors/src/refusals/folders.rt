@@ -1,9 +1,9 @@
 // The calls of the folder in memory, and a plan.
 use crate::mem_folder::are_named;
-use crate::planning::{Want, are_wanted, names, two_targets};
+use crate::planning::{Want, plans};
 use crate::runs::{ABC, File, ONE_SEEN, holds, put};
 use maildir_name::Place;
-use maildir_run::{Folder, FolderFault, MemFolder, RunFault, Sub, plan};
+use maildir_run::{Folder, FolderFault, MemFolder, Sub};
 use std::alloc::{AllocError, Global};
 use std::test::Fail;
 
@@ -106,21 +106,10 @@ fn put_again(rt: HostRuntime) -> Result<(), Fail> {
     Ok(())
 }
 
-// Whether one message is there, with a flag, and of the other a leftover is swept before it is delivered.
-fn plans(alloc: Global) -> Result<bool, RunFault> {
-    let targets = two_targets(alloc)?;
-    let tmp = names(alloc, &[ABC, FOREIGN])?;
-    let cur = names(alloc, &[ONE_SEEN])?;
-    let steps = match plan(alloc, &tmp, &[], &cur, &targets) {
-        Err(RunFault::OutOfMemory) => plan(alloc, &tmp, &[], &cur, &targets),
-        answer => answer,
-    }?;
-    let wants = [Want::Remove(ABC), Want::Write(1), Want::Place(1)];
-    Ok(are_wanted(&steps, &wants))
-}
-
+// One message is there, with a flag, and of the other a leftover is swept before it is delivered.
 #[test]
 fn plan_again(rt: HostRuntime) -> Result<(), Fail> {
-    assert!(rt; plans(rt.alloc())?);
+    const WANTS: &[Want<'_>] = &[Want::Remove(ABC), Want::Write(1), Want::Place(1)];
+    assert!(rt; plans(rt.alloc(), true, &[ABC, FOREIGN], &[], &[ONE_SEEN], WANTS)?);
     Ok(())
 }
