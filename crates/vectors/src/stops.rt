@@ -109,7 +109,7 @@ fn a_call_comes_twice(rt: HostRuntime) {
     }
 }
 
-// The run after each of these finds what was placed, and sweeps what was not.
+// The runs that place the last message after a stop: it is missing, or left over in `tmp`.
 const LAST_IS_MISSING: Run<'_> = (&[], THREE, Ok((3, 2, 1, 0)), 5, ALL_THREE);
 
 const LAST_IS_LEFT_OVER: Run<'_> = (&[], THREE, Ok((3, 2, 1, 1)), 6, ALL_THREE);
