@@ -15,6 +15,7 @@ pub mod Reach
 pub mod Batches
 pub mod Givens
 pub mod Converts
+pub mod Exits
 pub mod Progress
 pub mod Unread
 pub mod Trees

@@ -1,4 +1,4 @@
-use Rattle.std.proofs.Common.{◌≡◌, ◌+◌, ◌*◌, ◌<◌, ◌≤◌, ◌^◌, [], ◌++◌, map, string_bytes, All, length, refl, sym, ap, subst, ◌∙◌, arith, length-append, inr}
+use Rattle.std.proofs.Common.{◌≡◌, ◌+◌, ◌*◌, ◌<◌, ◌≤◌, ◌^◌, [], ◌++◌, map, string_bytes, All, length, refl, sym, ap, subst, ◌∙◌, arith, length-append, inl, inr}
 use Rattle.std.specs.FinMap.{contains_key}
 use Rattle.maildir_run.specs.declared.calls.Calls.{Calls}
 use Rattle.maildir_run.specs.Counting.{Makes}
@@ -19,6 +19,9 @@ use Rattle.maildir_run.specs.Quietly.{Filled, LeavesOthers}
 use Rattle.maildir_run.proofs.Converts.{filled_none, alone_run}
 use Rattle.maildir_run.proofs.Surveys.{filter-length}
 use Rattle.maildir_run.proofs.QuietRuns.{others_same, others_then}
+use Rattle.maildir_run.specs.declared.fault.RunFault.TheVariants.{OutOfMemory}
+use Rattle.maildir_run.proofs.Givens.{if_err, never_again}
+use Rattle.maildir_run.proofs.Exits.{unless_ok, ok_is_none, not_begun, not_spent, cause_then, cause_read, read_nothing, given_within, begins_within, refused_of, leaves_same, none_few}
 use Rattle.maildir_run.proofs.converting.convert.Goals as goal
 
 pub returns-in_err-ended-clause-numbered : goal.returns-in_err-ended-clause-numbered
@@ -304,3 +307,280 @@ returns-then-ended-clause-alone g c = λ q t ms p of.
           (at_end c.pieces.ended _ _ _ _ _ i.text (i.given ++ whole) c.if-ended.true i.gave) filled t ms p of,
       c.report.ensures.swept ∙ c.in_ok-swept.ensures.count ∙ filter-length is_converter_name (map string_bytes c.deref.result.now) (keys start.tmp) listed,
     )
+
+pub returns-in_err-messages-clause-honest : goal.returns-in_err-messages-clause-honest
+returns-in_err-messages-clause-honest g c = λ h. h
+
+pub returns-in_err-messages-clause-run : goal.returns-in_err-messages-clause-run
+returns-in_err-messages-clause-run g c = λ honest t small p.
+    run_err t _ _ c.from_residual.result c.from_residual.ensures.0 (λ fault. untouched_run t _ _ fault (leaves_same (g.F.Folder.files c.args.folder.now)) small)
+
+pub returns-in_err-messages-clause-end : goal.returns-in_err-messages-clause-end
+returns-in_err-messages-clause-end g c = unless_ok _ c.from_residual.result c.from_residual.ensures.0
+
+pub returns-in_err-messages-clause-quiet : goal.returns-in_err-messages-clause-quiet
+returns-in_err-messages-clause-quiet g c = λ h. h
+
+pub returns-in_err-messages-clause-alone : goal.returns-in_err-messages-clause-alone
+returns-in_err-messages-clause-alone g c = λ q t ms p of. unless_ok _ c.from_residual.result c.from_residual.ensures.0
+
+pub returns-in_err-messages-clause-others : goal.returns-in_err-messages-clause-others
+returns-in_err-messages-clause-others g c = λ q. others_same (g.F.Folder.files c.args.folder.now)
+
+pub returns-in_err-messages-clause-calls : goal.returns-in_err-messages-clause-calls
+returns-in_err-messages-clause-calls g c = unless_ok _ c.from_residual.result c.from_residual.ensures.0
+
+pub returns-in_err-messages-clause-cause : goal.returns-in_err-messages-clause-cause
+returns-in_err-messages-clause-cause g c = cause_read c.from_residual.result OutOfMemory _ _ c.from_residual.ensures.1 (inr (inr (inr refl))) refl
+
+pub returns-in_err-messages-clause-numbered : goal.returns-in_err-messages-clause-numbered
+returns-in_err-messages-clause-numbered g c = numbers_read c.from_residual.result OutOfMemory 0 _ _ c.from_residual.ensures.1 none_few refl (inr (inr (inr refl)))
+
+pub returns-in_err-messages-clause-untouched : goal.returns-in_err-messages-clause-untouched
+returns-in_err-messages-clause-untouched g c = λ e. refl
+
+pub returns-in_err-messages-clause-no_from_line : goal.returns-in_err-messages-clause-no_from_line
+returns-in_err-messages-clause-no_from_line g c = λ e. absurd (not_begun OutOfMemory tt (fault_is c.from_residual.result OutOfMemory _ c.from_residual.ensures.1 e))
+
+pub returns-in_err-messages-clause-spent : goal.returns-in_err-messages-clause-spent
+returns-in_err-messages-clause-spent g c = λ e. absurd (not_spent OutOfMemory tt (fault_is c.from_residual.result OutOfMemory _ c.from_residual.ensures.1 e))
+
+pub returns-in_err-messages-clause-budget : goal.returns-in_err-messages-clause-budget
+returns-in_err-messages-clause-budget g c = read_nothing (g.R.Read.remaining c.args.source.now) (65536 * c.args.reads)
+
+pub returns-in_err-messages-clause-causes : goal.returns-in_err-messages-clause-causes
+returns-in_err-messages-clause-causes g c = if_err _ c.from_residual.result OutOfMemory c.from_residual.ensures.1 (inr tt)
+
+pub returns-in_err-ended-clause-honest : goal.returns-in_err-ended-clause-honest
+returns-in_err-ended-clause-honest g c = λ h. h
+
+pub returns-in_err-ended-clause-run : goal.returns-in_err-ended-clause-run
+returns-in_err-ended-clause-run g c = λ honest t small p.
+    run_err t _ _ c.from_residual-in_err-ended.result c.from_residual-in_err-ended.ensures.0 (λ fault. untouched_run t _ _ fault (leaves_same (g.F.Folder.files c.args.folder.now)) small)
+
+pub returns-in_err-ended-clause-end : goal.returns-in_err-ended-clause-end
+returns-in_err-ended-clause-end g c = unless_ok _ c.from_residual-in_err-ended.result c.from_residual-in_err-ended.ensures.0
+
+pub returns-in_err-ended-clause-quiet : goal.returns-in_err-ended-clause-quiet
+returns-in_err-ended-clause-quiet g c = λ h. h
+
+pub returns-in_err-ended-clause-alone : goal.returns-in_err-ended-clause-alone
+returns-in_err-ended-clause-alone g c = λ q t ms p of. unless_ok _ c.from_residual-in_err-ended.result c.from_residual-in_err-ended.ensures.0
+
+pub returns-in_err-ended-clause-others : goal.returns-in_err-ended-clause-others
+returns-in_err-ended-clause-others g c = λ q. others_same (g.F.Folder.files c.args.folder.now)
+
+pub returns-in_err-ended-clause-calls : goal.returns-in_err-ended-clause-calls
+returns-in_err-ended-clause-calls g c = unless_ok _ c.from_residual-in_err-ended.result c.from_residual-in_err-ended.ensures.0
+
+pub returns-in_err-ended-clause-cause : goal.returns-in_err-ended-clause-cause
+returns-in_err-ended-clause-cause g c = cause_read c.from_residual-in_err-ended.result c.in_err-ended.field-0.0 _ _ c.from_residual-in_err-ended.ensures.1 c.in_err-ended.ensures.causes refl
+
+pub returns-in_err-ended-clause-untouched : goal.returns-in_err-ended-clause-untouched
+returns-in_err-ended-clause-untouched g c = λ e. refl
+
+pub returns-in_err-ended-clause-no_from_line : goal.returns-in_err-ended-clause-no_from_line
+returns-in_err-ended-clause-no_from_line g c = λ e. (refused_of _ _ _ c.args.reads c.in_err-ended.field-0.0 c.in_ok-messages.ensures.1 c.in_err-ended.ensures.refused).unreadable (fault_is c.from_residual-in_err-ended.result c.in_err-ended.field-0.0 _ c.from_residual-in_err-ended.ensures.1 e)
+
+pub returns-in_err-ended-clause-spent : goal.returns-in_err-ended-clause-spent
+returns-in_err-ended-clause-spent g c = λ e. (refused_of _ _ _ c.args.reads c.in_err-ended.field-0.0 c.in_ok-messages.ensures.1 c.in_err-ended.ensures.refused).spent (fault_is c.from_residual-in_err-ended.result c.in_err-ended.field-0.0 _ c.from_residual-in_err-ended.ensures.1 e)
+
+pub returns-in_err-ended-clause-budget : goal.returns-in_err-ended-clause-budget
+returns-in_err-ended-clause-budget g c = (refused_of _ _ _ c.args.reads c.in_err-ended.field-0.0 c.in_ok-messages.ensures.1 c.in_err-ended.ensures.refused).budget
+
+pub returns-in_err-ended-clause-causes : goal.returns-in_err-ended-clause-causes
+returns-in_err-ended-clause-causes g c = if_err _ c.from_residual-in_err-ended.result c.in_err-ended.field-0.0 c.from_residual-in_err-ended.ensures.1 (inl c.in_err-ended.ensures.causes)
+
+pub returns-in_err-found-clause-honest : goal.returns-in_err-found-clause-honest
+returns-in_err-found-clause-honest g c = λ h. c.in_err-found.ensures.honest h
+
+pub returns-in_err-found-clause-end : goal.returns-in_err-found-clause-end
+returns-in_err-found-clause-end g c = unless_ok _ c.from_residual-in_err-found.result c.from_residual-in_err-found.ensures.0
+
+pub returns-in_err-found-clause-quiet : goal.returns-in_err-found-clause-quiet
+returns-in_err-found-clause-quiet g c = λ h. c.in_err-found.ensures.quiet h
+
+pub returns-in_err-found-clause-alone : goal.returns-in_err-found-clause-alone
+returns-in_err-found-clause-alone g c = λ q t ms p of. unless_ok _ c.from_residual-in_err-found.result c.from_residual-in_err-found.ensures.0
+
+pub returns-in_err-found-clause-calls : goal.returns-in_err-found-clause-calls
+returns-in_err-found-clause-calls g c = unless_ok _ c.from_residual-in_err-found.result c.from_residual-in_err-found.ensures.0
+
+pub returns-in_err-found-clause-cause : goal.returns-in_err-found-clause-cause
+returns-in_err-found-clause-cause g c = cause_then c.from_residual-in_err-found.result c.in_err-found.field-0.0 _ _ _ c.from_residual-in_err-found.ensures.1 refl c.in_err-found.ensures.cause
+
+pub returns-in_err-found-clause-untouched : goal.returns-in_err-found-clause-untouched
+returns-in_err-found-clause-untouched g c = λ e. absurd (not_begun c.in_err-found.field-0.0 c.in_err-found.ensures.causes (fault_is c.from_residual-in_err-found.result c.in_err-found.field-0.0 _ c.from_residual-in_err-found.ensures.1 e))
+
+pub returns-in_err-found-clause-no_from_line : goal.returns-in_err-found-clause-no_from_line
+returns-in_err-found-clause-no_from_line g c = λ e. absurd (not_begun c.in_err-found.field-0.0 c.in_err-found.ensures.causes (fault_is c.from_residual-in_err-found.result c.in_err-found.field-0.0 _ c.from_residual-in_err-found.ensures.1 e))
+
+pub returns-in_err-found-clause-spent : goal.returns-in_err-found-clause-spent
+returns-in_err-found-clause-spent g c = λ e. absurd (not_spent c.in_err-found.field-0.0 c.in_err-found.ensures.causes (fault_is c.from_residual-in_err-found.result c.in_err-found.field-0.0 _ c.from_residual-in_err-found.ensures.1 e))
+
+pub returns-in_err-found-clause-causes : goal.returns-in_err-found-clause-causes
+returns-in_err-found-clause-causes g c = if_err _ c.from_residual-in_err-found.result c.in_err-found.field-0.0 c.from_residual-in_err-found.ensures.1 (inr c.in_err-found.ensures.causes)
+
+pub returns-in_err-found-clause-budget : goal.returns-in_err-found-clause-budget
+returns-in_err-found-clause-budget g c = begins_within c.in_ok-ended.ended _ _ _ _ _ c.args.reads _ c.in_ok-messages.ensures.1 c.in_ok-ended.ensures.begins
+
+pub returns-in_err-swept-clause-honest : goal.returns-in_err-swept-clause-honest
+returns-in_err-swept-clause-honest g c = λ h. c.in_err-swept.ensures.honest (c.in_ok-found.ensures.honest h)
+
+pub returns-in_err-swept-clause-end : goal.returns-in_err-swept-clause-end
+returns-in_err-swept-clause-end g c = unless_ok _ c.from_residual-in_err-swept.result c.from_residual-in_err-swept.ensures.0
+
+pub returns-in_err-swept-clause-quiet : goal.returns-in_err-swept-clause-quiet
+returns-in_err-swept-clause-quiet g c = λ h. c.in_err-swept.ensures.quiet (c.in_ok-found.ensures.quiet h)
+
+pub returns-in_err-swept-clause-alone : goal.returns-in_err-swept-clause-alone
+returns-in_err-swept-clause-alone g c = λ q t ms p of. unless_ok _ c.from_residual-in_err-swept.result c.from_residual-in_err-swept.ensures.0
+
+pub returns-in_err-swept-clause-calls : goal.returns-in_err-swept-clause-calls
+returns-in_err-swept-clause-calls g c = unless_ok _ c.from_residual-in_err-swept.result c.from_residual-in_err-swept.ensures.0
+
+pub returns-in_err-swept-clause-cause : goal.returns-in_err-swept-clause-cause
+returns-in_err-swept-clause-cause g c = cause_then c.from_residual-in_err-swept.result c.in_err-swept.field-0.0 _ _ _ c.from_residual-in_err-swept.ensures.1 c.in_ok-found.ensures.cause c.in_err-swept.ensures.cause
+
+pub returns-in_err-swept-clause-untouched : goal.returns-in_err-swept-clause-untouched
+returns-in_err-swept-clause-untouched g c = λ e. absurd (not_begun c.in_err-swept.field-0.0 c.in_err-swept.ensures.causes (fault_is c.from_residual-in_err-swept.result c.in_err-swept.field-0.0 _ c.from_residual-in_err-swept.ensures.1 e))
+
+pub returns-in_err-swept-clause-no_from_line : goal.returns-in_err-swept-clause-no_from_line
+returns-in_err-swept-clause-no_from_line g c = λ e. absurd (not_begun c.in_err-swept.field-0.0 c.in_err-swept.ensures.causes (fault_is c.from_residual-in_err-swept.result c.in_err-swept.field-0.0 _ c.from_residual-in_err-swept.ensures.1 e))
+
+pub returns-in_err-swept-clause-spent : goal.returns-in_err-swept-clause-spent
+returns-in_err-swept-clause-spent g c = λ e. absurd (not_spent c.in_err-swept.field-0.0 c.in_err-swept.ensures.causes (fault_is c.from_residual-in_err-swept.result c.in_err-swept.field-0.0 _ c.from_residual-in_err-swept.ensures.1 e))
+
+pub returns-in_err-swept-clause-causes : goal.returns-in_err-swept-clause-causes
+returns-in_err-swept-clause-causes g c = if_err _ c.from_residual-in_err-swept.result c.in_err-swept.field-0.0 c.from_residual-in_err-swept.ensures.1 (inr c.in_err-swept.ensures.causes)
+
+pub returns-in_err-swept-clause-budget : goal.returns-in_err-swept-clause-budget
+returns-in_err-swept-clause-budget g c = begins_within c.in_ok-ended.ended _ _ _ _ _ c.args.reads _ c.in_ok-messages.ensures.1 c.in_ok-ended.ensures.begins
+
+pub returns-in_err-there-clause-honest : goal.returns-in_err-there-clause-honest
+returns-in_err-there-clause-honest g c = λ h. c.in_ok-swept.ensures.honest (c.in_ok-found.ensures.honest h)
+
+pub returns-in_err-there-clause-end : goal.returns-in_err-there-clause-end
+returns-in_err-there-clause-end g c = unless_ok _ c.from_residual-in_err-there.result c.from_residual-in_err-there.ensures.0
+
+pub returns-in_err-there-clause-quiet : goal.returns-in_err-there-clause-quiet
+returns-in_err-there-clause-quiet g c = λ h. c.in_ok-swept.ensures.quiet (c.in_ok-found.ensures.quiet h)
+
+pub returns-in_err-there-clause-alone : goal.returns-in_err-there-clause-alone
+returns-in_err-there-clause-alone g c = λ q t ms p of. unless_ok _ c.from_residual-in_err-there.result c.from_residual-in_err-there.ensures.0
+
+pub returns-in_err-there-clause-calls : goal.returns-in_err-there-clause-calls
+returns-in_err-there-clause-calls g c = unless_ok _ c.from_residual-in_err-there.result c.from_residual-in_err-there.ensures.0
+
+pub returns-in_err-there-clause-cause : goal.returns-in_err-there-clause-cause
+returns-in_err-there-clause-cause g c = cause_read c.from_residual-in_err-there.result OutOfMemory _ _ c.from_residual-in_err-there.ensures.1 (inr (inr (inr refl))) (c.in_ok-swept.ensures.cause ∙ c.in_ok-found.ensures.cause)
+
+pub returns-in_err-there-clause-untouched : goal.returns-in_err-there-clause-untouched
+returns-in_err-there-clause-untouched g c = λ e. absurd (not_begun OutOfMemory tt (fault_is c.from_residual-in_err-there.result OutOfMemory _ c.from_residual-in_err-there.ensures.1 e))
+
+pub returns-in_err-there-clause-no_from_line : goal.returns-in_err-there-clause-no_from_line
+returns-in_err-there-clause-no_from_line g c = λ e. absurd (not_begun OutOfMemory tt (fault_is c.from_residual-in_err-there.result OutOfMemory _ c.from_residual-in_err-there.ensures.1 e))
+
+pub returns-in_err-there-clause-spent : goal.returns-in_err-there-clause-spent
+returns-in_err-there-clause-spent g c = λ e. absurd (not_spent OutOfMemory tt (fault_is c.from_residual-in_err-there.result OutOfMemory _ c.from_residual-in_err-there.ensures.1 e))
+
+pub returns-in_err-there-clause-causes : goal.returns-in_err-there-clause-causes
+returns-in_err-there-clause-causes g c = if_err _ c.from_residual-in_err-there.result OutOfMemory c.from_residual-in_err-there.ensures.1 (inr tt)
+
+pub returns-in_err-there-clause-budget : goal.returns-in_err-there-clause-budget
+returns-in_err-there-clause-budget g c = begins_within c.in_ok-ended.ended _ _ _ _ _ c.args.reads _ c.in_ok-messages.ensures.1 c.in_ok-ended.ensures.begins
+
+pub returns-in_err-deliver_all-clause-honest : goal.returns-in_err-deliver_all-clause-honest
+returns-in_err-deliver_all-clause-honest g c = λ h. c.in_err-deliver_all.ensures.honest (c.pieces.invariant.honest h)
+
+pub returns-in_err-deliver_all-clause-end : goal.returns-in_err-deliver_all-clause-end
+returns-in_err-deliver_all-clause-end g c = unless_ok _ c.from_residual-in_err-deliver_all.result c.from_residual-in_err-deliver_all.ensures.0
+
+pub returns-in_err-deliver_all-clause-quiet : goal.returns-in_err-deliver_all-clause-quiet
+returns-in_err-deliver_all-clause-quiet g c = λ h. c.in_err-deliver_all.ensures.quiet (c.pieces.invariant.quiet h)
+
+pub returns-in_err-deliver_all-clause-alone : goal.returns-in_err-deliver_all-clause-alone
+returns-in_err-deliver_all-clause-alone g c = λ q t ms p of. unless_ok _ c.from_residual-in_err-deliver_all.result c.from_residual-in_err-deliver_all.ensures.0
+
+pub returns-in_err-deliver_all-clause-calls : goal.returns-in_err-deliver_all-clause-calls
+returns-in_err-deliver_all-clause-calls g c = unless_ok _ c.from_residual-in_err-deliver_all.result c.from_residual-in_err-deliver_all.ensures.0
+
+pub returns-in_err-deliver_all-clause-cause : goal.returns-in_err-deliver_all-clause-cause
+returns-in_err-deliver_all-clause-cause g c = cause_then c.from_residual-in_err-deliver_all.result c.in_err-deliver_all.field-0.0 _ _ _ c.from_residual-in_err-deliver_all.ensures.1 c.pieces.invariant.failures c.in_err-deliver_all.ensures.cause
+
+pub returns-in_err-deliver_all-clause-untouched : goal.returns-in_err-deliver_all-clause-untouched
+returns-in_err-deliver_all-clause-untouched g c = λ e. absurd (not_begun c.in_err-deliver_all.field-0.0 c.in_err-deliver_all.ensures.causes (fault_is c.from_residual-in_err-deliver_all.result c.in_err-deliver_all.field-0.0 _ c.from_residual-in_err-deliver_all.ensures.1 e))
+
+pub returns-in_err-deliver_all-clause-no_from_line : goal.returns-in_err-deliver_all-clause-no_from_line
+returns-in_err-deliver_all-clause-no_from_line g c = λ e. absurd (not_begun c.in_err-deliver_all.field-0.0 c.in_err-deliver_all.ensures.causes (fault_is c.from_residual-in_err-deliver_all.result c.in_err-deliver_all.field-0.0 _ c.from_residual-in_err-deliver_all.ensures.1 e))
+
+pub returns-in_err-deliver_all-clause-spent : goal.returns-in_err-deliver_all-clause-spent
+returns-in_err-deliver_all-clause-spent g c = λ e. absurd (not_spent c.in_err-deliver_all.field-0.0 c.in_err-deliver_all.ensures.causes (fault_is c.from_residual-in_err-deliver_all.result c.in_err-deliver_all.field-0.0 _ c.from_residual-in_err-deliver_all.ensures.1 e))
+
+pub returns-in_err-deliver_all-clause-causes : goal.returns-in_err-deliver_all-clause-causes
+returns-in_err-deliver_all-clause-causes g c = if_err _ c.from_residual-in_err-deliver_all.result c.in_err-deliver_all.field-0.0 c.from_residual-in_err-deliver_all.ensures.1 (inr c.in_err-deliver_all.ensures.causes)
+
+pub returns-in_err-deliver_all-clause-budget : goal.returns-in_err-deliver_all-clause-budget
+returns-in_err-deliver_all-clause-budget g c = 
+    let i = c.pieces.invariant in
+    given_within c.pieces.ended _ _ _ _ _ i.text (i.given ++ c.pieces.whole.items) i.gave
+
+pub returns-in_err-ended-2-clause-honest : goal.returns-in_err-ended-2-clause-honest
+returns-in_err-ended-2-clause-honest g c = λ h. c.in_ok-deliver_all.ensures.honest (c.pieces.invariant.honest h)
+
+pub returns-in_err-ended-2-clause-end : goal.returns-in_err-ended-2-clause-end
+returns-in_err-ended-2-clause-end g c = unless_ok _ c.from_residual-in_err-ended-2.result c.from_residual-in_err-ended-2.ensures.0
+
+pub returns-in_err-ended-2-clause-quiet : goal.returns-in_err-ended-2-clause-quiet
+returns-in_err-ended-2-clause-quiet g c = λ h. c.in_ok-deliver_all.ensures.quiet (c.pieces.invariant.quiet h)
+
+pub returns-in_err-ended-2-clause-alone : goal.returns-in_err-ended-2-clause-alone
+returns-in_err-ended-2-clause-alone g c = λ q t ms p of. unless_ok _ c.from_residual-in_err-ended-2.result c.from_residual-in_err-ended-2.ensures.0
+
+pub returns-in_err-ended-2-clause-calls : goal.returns-in_err-ended-2-clause-calls
+returns-in_err-ended-2-clause-calls g c = unless_ok _ c.from_residual-in_err-ended-2.result c.from_residual-in_err-ended-2.ensures.0
+
+pub returns-in_err-ended-2-clause-cause : goal.returns-in_err-ended-2-clause-cause
+returns-in_err-ended-2-clause-cause g c = cause_read c.from_residual-in_err-ended-2.result c.in_err-ended-2.field-0.0 _ _ c.from_residual-in_err-ended-2.ensures.1 c.in_err-ended-2.ensures.causes (c.in_ok-deliver_all.ensures.cause ∙ c.pieces.invariant.failures)
+
+pub returns-in_err-ended-2-clause-untouched : goal.returns-in_err-ended-2-clause-untouched
+returns-in_err-ended-2-clause-untouched g c = λ e. let i = c.pieces.invariant in absurd (never_again _ _ c.pieces.messages i.text (i.given ++ c.pieces.whole.items) c.in_err-ended-2.field-0.0
+    (not_ended c.pieces.ended _ _ _ _ _ i.text (i.given ++ c.pieces.whole.items) c.if-ended.false i.gave).fed (i.begun c.if-ended.false) c.in_err-ended-2.ensures.went (fault_is c.from_residual-in_err-ended-2.result c.in_err-ended-2.field-0.0 _ c.from_residual-in_err-ended-2.ensures.1 e))
+
+pub returns-in_err-ended-2-clause-no_from_line : goal.returns-in_err-ended-2-clause-no_from_line
+returns-in_err-ended-2-clause-no_from_line g c = λ e. let i = c.pieces.invariant in absurd (never_again _ _ c.pieces.messages i.text (i.given ++ c.pieces.whole.items) c.in_err-ended-2.field-0.0
+    (not_ended c.pieces.ended _ _ _ _ _ i.text (i.given ++ c.pieces.whole.items) c.if-ended.false i.gave).fed (i.begun c.if-ended.false) c.in_err-ended-2.ensures.went (fault_is c.from_residual-in_err-ended-2.result c.in_err-ended-2.field-0.0 _ c.from_residual-in_err-ended-2.ensures.1 e))
+
+pub returns-in_err-ended-2-clause-causes : goal.returns-in_err-ended-2-clause-causes
+returns-in_err-ended-2-clause-causes g c = if_err _ c.from_residual-in_err-ended-2.result c.in_err-ended-2.field-0.0 c.from_residual-in_err-ended-2.ensures.1 (inl c.in_err-ended-2.ensures.causes)
+
+pub returns-then-ended-clause-honest : goal.returns-then-ended-clause-honest
+returns-then-ended-clause-honest g c = λ h. c.in_ok-deliver_all.ensures.honest (c.pieces.invariant.honest h)
+
+pub returns-then-ended-clause-quiet : goal.returns-then-ended-clause-quiet
+returns-then-ended-clause-quiet g c = λ h. c.in_ok-deliver_all.ensures.quiet (c.pieces.invariant.quiet h)
+
+pub returns-then-ended-clause-end : goal.returns-then-ended-clause-end
+returns-then-ended-clause-end g c = 
+    let i = c.pieces.invariant in
+    (at_end c.pieces.ended _ _ _ _ _ i.text (i.given ++ c.pieces.whole.items) c.if-ended.true i.gave).end
+
+pub returns-then-ended-clause-cause : goal.returns-then-ended-clause-cause
+returns-then-ended-clause-cause g c = c.in_ok-deliver_all.ensures.cause ∙ c.pieces.invariant.failures
+
+pub returns-then-ended-clause-untouched : goal.returns-then-ended-clause-untouched
+returns-then-ended-clause-untouched g c = λ e. absurd (ok_is_none _ _ e)
+
+pub returns-then-ended-clause-no_from_line : goal.returns-then-ended-clause-no_from_line
+returns-then-ended-clause-no_from_line g c = λ e. absurd (ok_is_none _ _ e)
+
+pub returns-then-ended-clause-spent : goal.returns-then-ended-clause-spent
+returns-then-ended-clause-spent g c = λ e. absurd (ok_is_none _ _ e)
+
+pub returns-then-ended-clause-causes : goal.returns-then-ended-clause-causes
+returns-then-ended-clause-causes g c = tt
+
+pub returns-then-ended-clause-budget : goal.returns-then-ended-clause-budget
+returns-then-ended-clause-budget g c = 
+    let i = c.pieces.invariant in
+    given_within c.pieces.ended _ _ _ _ _ i.text (i.given ++ c.pieces.whole.items) i.gave

@@ -1,0 +1,64 @@
+-- What a run has kept at an exit that gives no report, by its fault.
+use Rattle.std.proofs.Common.{◌≡◌, ℕ, ◌*◌, ◌<◌, ◌≤◌, ◌^◌, Bool, false, true, Option, Result, Ok, Err, List, [], length, refl, sym, subst, ◌∙◌, inl, inr, arith}
+use Rattle.std.specs.Prelude.{IsErr, IsErrAnd, IfOk}
+use Rattle.std.proofs.KnownBytes.{Consumes-nil}
+use Rattle.std.proofs.lemmas.List.Sorted.{IsPermutation-refl}
+use Rattle.mbox_text.specs.declared.entry.Entry.{Entry}
+use Rattle.mbox_text.specs.declared.splitter.Splitter.{Splitter}
+use Rattle.maildir_run.specs.declared.fault.RunFault.{RunFault}
+use Rattle.maildir_run.specs.declared.fault.RunFault.TheVariants.{NoFromLine, TooManyReads}
+use Rattle.maildir_run.specs.Counting.{CountsFault, IsOfFolder}
+use Rattle.maildir_run.specs.Files.{Files, homes}
+use Rattle.maildir_run.specs.Given.{IsGiven, Begins, Refused}
+use Rattle.maildir_run.specs.Progress.{LeavesHomes}
+use Rattle.maildir_run.specs.Reading.{IsReading, ReadsAtMost}
+use Rattle.maildir_run.proofs.Givens.{given_read, given_budget}
+
+-- ---- no report
+pub unless_ok : {A E : Type 0} (P : A → Type 0) (r : Result A E) → IsErr r → IfOk r P
+unless_ok P (Ok x) is = let off : false ≡ true = is in cc
+unless_ok P (Err e) is = tt
+
+pub ok_is_none : {A : Type 0} (x : A) (fault : RunFault) → Ok x ≡ Err fault → ⊥
+ok_is_none x fault e = cc
+
+-- ---- the folder's faults are not those of reading
+pub not_begun : (fault : RunFault) → IsOfFolder fault → fault ≡ NoFromLine → ⊥
+not_begun fault of e = subst IsOfFolder e of
+
+pub not_spent : (fault : RunFault) → IsOfFolder fault → fault ≡ TooManyReads → ⊥
+not_spent fault of e = subst IsOfFolder e of
+
+-- ---- the count of failures
+pub cause_then : {B : Type 0} (r : Result B RunFault) (fault : RunFault) (old mid new : ℕ) → IsErrAnd r (λ e. e ≡ fault) → mid ≡ old → CountsFault {A = B} (Err fault) mid new → CountsFault r old new
+cause_then {B} (Ok x) fault old mid new is e h = absurd is
+cause_then {B} (Err f) fault old mid new is e h = subst (λ k. CountsFault {A = B} (Err f) k new) e (subst (λ g. CountsFault {A = B} (Err g) mid new) (sym is) h)
+
+still : (A : Type 0) (fault : RunFault) (old new : ℕ) → IsReading fault → new ≡ old → CountsFault {A = A} (Err fault) old new
+still A fault old new (inl e) same = subst (λ f. CountsFault {A = A} (Err f) old new) (sym e) same
+still A fault old new (inr (inl e)) same = subst (λ f. CountsFault {A = A} (Err f) old new) (sym e) same
+still A fault old new (inr (inr (inl e))) same = subst (λ f. CountsFault {A = A} (Err f) old new) (sym e) same
+still A fault old new (inr (inr (inr e))) same = subst (λ f. CountsFault {A = A} (Err f) old new) (sym e) same
+
+pub cause_read : {B : Type 0} (r : Result B RunFault) (fault : RunFault) (old new : ℕ) → IsErrAnd r (λ e. e ≡ fault) → IsReading fault → new ≡ old → CountsFault r old new
+cause_read {B} r fault old new is reading same = cause_then r fault old old new is refl (still B fault old new reading same)
+
+-- ---- what was read
+pub read_nothing : (source : Option (List ℕ)) (most : ℕ) → ReadsAtMost source source most
+read_nothing source most = ([], Consumes-nil source, omega arith)
+
+pub given_within : (ended : Bool) (before now : Option (List ℕ)) (splitter : Splitter) (left reads : ℕ) (text : List ℕ) (given : List Entry) → IsGiven ended before now splitter left reads text given → ReadsAtMost before now (65536 * reads)
+given_within ended before now splitter left reads text given p = (text, given_read ended before now splitter left reads text given p, given_budget ended before now splitter left reads text given p)
+
+pub begins_within : (ended : Bool) (before now : Option (List ℕ)) (splitter : Splitter) (left n reads : ℕ) (whole : List Entry) → n ≡ reads → Begins ended before now splitter left n whole → ReadsAtMost before now (65536 * reads)
+begins_within ended before now splitter left n reads whole e b = subst (λ k. ReadsAtMost before now (65536 * k)) e (given_within ended before now splitter left n b.text whole b.gave)
+
+pub refused_of : (before now : Option (List ℕ)) (n reads : ℕ) (fault : RunFault) → n ≡ reads → Refused before now n fault → Refused before now reads fault
+refused_of before now n reads fault e h = subst (λ k. Refused before now k fault) e h
+
+-- ---- nothing was done
+pub leaves_same : (s : Files) → LeavesHomes s s
+leaves_same s = record { kept = λ b named. IsPermutation-refl (homes s b) }
+
+pub none_few : 0 < 2 ^ 66
+none_few = omega arith
