@@ -1,5 +1,5 @@
 -- What a run has kept at an exit that gives no report, by its fault.
-use Rattle.std.proofs.Common.{◌≡◌, ℕ, ◌*◌, ◌<◌, ◌≤◌, ◌^◌, Bool, false, true, Option, Result, Ok, Err, List, [], length, refl, sym, subst, ◌∙◌, inl, inr, arith}
+use Rattle.std.proofs.Common.{◌≡◌, ℕ, ◌+◌, ◌*◌, ◌<◌, ◌≤◌, ◌^◌, Bool, false, true, Option, Result, Ok, Err, List, [], ◌++◌, length, filter, refl, sym, ap, subst, ◌∙◌, inl, inr, arith, length-append}
 use Rattle.std.specs.Prelude.{IsErr, IsErrAnd, IfOk}
 use Rattle.std.proofs.KnownBytes.{Consumes-nil}
 use Rattle.std.proofs.lemmas.List.Sorted.{IsPermutation-refl}
@@ -62,3 +62,42 @@ leaves_same s = record { kept = λ b named. IsPermutation-refl (homes s b) }
 
 pub none_few : 0 < 2 ^ 66
 none_few = omega arith
+
+-- ---- the numbers of a run
+pub three_few : 3 < 2 ^ 66
+three_few = omega arith
+
+pub most_few : 3 + 2 ^ 64 < 2 ^ 66
+most_few = omega arith
+
+pub itself : (n : ℕ) → n ≤ n
+itself n = omega arith
+
+pub swept_few : (swept : ℕ) → swept < 2 ^ 64 → 3 + swept < 2 ^ 66
+swept_few swept h = omega arith
+
+pub none_placed : (swept placed : ℕ) → placed ≡ 0 → 3 + swept ≡ 3 + swept + 2 * placed
+none_placed swept placed e = omega arith
+
+pub all_placed : (swept placed n all : ℕ) → all ≡ placed + n → 3 + swept + 2 * placed + 2 * n ≡ 3 + swept + 2 * all
+all_placed swept placed n all e = omega arith
+
+pub swept_within : (f : List ℕ → Bool) (report swept most : ℕ) (listed found : List (List ℕ)) → report ≡ swept → swept ≡ length (filter f listed) → listed ≡ found → length (filter f found) ≤ most → report ≤ most
+swept_within f report swept most listed found e count same few = rw (e, count, same) few
+
+-- one more batch
+pub batch_fits : (messages reads : ℕ) (given whole entries : List Entry) → messages ≡ length given → length (given ++ whole) ≤ 65536 * reads → reads ≤ 2 ^ 40 → entries ≡ whole → messages + length entries < 2 ^ 63
+batch_fits messages reads given whole entries count few most e = omega (arith, length-append given whole, ap length e)
+
+pub batch_count : (messages all : ℕ) (given whole entries : List Entry) → messages ≡ length given → all ≡ messages + length entries → entries ≡ whole → all ≡ length (given ++ whole)
+batch_count messages all given whole entries count more e = omega (arith, length-append given whole, ap length e)
+
+pub batch_begun : (given more : List Entry) → 0 < length given → 0 < length (given ++ more)
+batch_begun given more h = omega (arith, length-append given more)
+
+-- the calls before a batch and the most that it makes, and those with a batch
+pub calls_few : (swept placed messages reads : ℕ) (given whole entries : List Entry) → swept < 2 ^ 64 → placed ≤ messages → messages ≡ length given → length (given ++ whole) ≤ 65536 * reads → reads ≤ 2 ^ 40 → entries ≡ whole → 3 + swept + 2 * placed + 2 * length entries < 2 ^ 66
+calls_few swept placed messages reads given whole entries low within count few most e = omega (arith, length-append given whole, ap length e)
+
+pub all_calls_few : (swept placed n all messages messages' reads : ℕ) (given whole entries : List Entry) → swept < 2 ^ 64 → all ≡ placed + n → all ≤ messages' → messages' ≡ messages + length entries → messages ≡ length given → length (given ++ whole) ≤ 65536 * reads → reads ≤ 2 ^ 40 → entries ≡ whole → 3 + swept + 2 * placed + 2 * n < 2 ^ 66
+all_calls_few swept placed n all messages messages' reads given whole entries low is within more count few most e = omega (arith, length-append given whole, ap length e)

@@ -21,12 +21,12 @@ use Rattle.maildir_run.proofs.Surveys.{filter-length}
 use Rattle.maildir_run.proofs.QuietRuns.{others_same, others_then}
 use Rattle.maildir_run.specs.declared.fault.RunFault.TheVariants.{OutOfMemory}
 use Rattle.maildir_run.proofs.Givens.{if_err, never_again}
-use Rattle.maildir_run.proofs.Exits.{unless_ok, ok_is_none, not_begun, not_spent, cause_then, cause_read, read_nothing, given_within, begins_within, refused_of, leaves_same, none_few}
+use Rattle.maildir_run.proofs.Exits.{unless_ok, ok_is_none, not_begun, not_spent, cause_then, cause_read, read_nothing, given_within, begins_within, refused_of, leaves_same, none_few, three_few, most_few, itself, swept_few, none_placed, all_placed, swept_within, batch_fits, batch_count, batch_begun, calls_few, all_calls_few}
 use Rattle.maildir_run.proofs.converting.convert.Goals as goal
 
 pub returns-in_err-ended-clause-numbered : goal.returns-in_err-ended-clause-numbered
 returns-in_err-ended-clause-numbered g c =
-    numbers_read c.from_residual-in_err-ended.result c.in_err-ended.field-0.0 0 _ _ c.from_residual-in_err-ended.ensures.1 (omega arith) refl c.in_err-ended.ensures.causes
+    numbers_read c.from_residual-in_err-ended.result c.in_err-ended.field-0.0 0 _ _ c.from_residual-in_err-ended.ensures.1 none_few refl c.in_err-ended.ensures.causes
 
 pub returns-in_err-found-clause-run : goal.returns-in_err-found-clause-run
 returns-in_err-found-clause-run g c = λ honest t small p.
@@ -34,7 +34,7 @@ returns-in_err-found-clause-run g c = λ honest t small p.
 
 pub returns-in_err-found-clause-numbered : goal.returns-in_err-found-clause-numbered
 returns-in_err-found-clause-numbered g c =
-    numbers_call c.from_residual-in_err-found.result c.in_err-found.field-0.0 3 _ _ _ _ c.from_residual-in_err-found.ensures.1 c.new-calls.ensures (omega arith) c.in_err-found.ensures.most c.in_err-found.ensures.numbered
+    numbers_call c.from_residual-in_err-found.result c.in_err-found.field-0.0 3 _ _ _ _ c.from_residual-in_err-found.ensures.1 c.new-calls.ensures three_few c.in_err-found.ensures.most c.in_err-found.ensures.numbered
 
 pub returns-in_err-swept-clause-run : goal.returns-in_err-swept-clause-run
 returns-in_err-swept-clause-run g c = λ honest t small p.
@@ -43,8 +43,8 @@ returns-in_err-swept-clause-run g c = λ honest t small p.
 
 pub returns-in_err-swept-clause-numbered : goal.returns-in_err-swept-clause-numbered
 returns-in_err-swept-clause-numbered g c =
-    numbers_call c.from_residual-in_err-swept.result c.in_err-swept.field-0.0 (3 + 2 ^ 64) _ _ _ _ c.from_residual-in_err-swept.ensures.1 c.new-calls.ensures (omega arith)
-    (more_up_to 3 (2 ^ 64) (3 + 2 ^ 64) _ _ _ _ _ _ (omega arith) c.in_ok-found.ensures.made c.in_err-swept.ensures.most) c.in_err-swept.ensures.numbered
+    numbers_call c.from_residual-in_err-swept.result c.in_err-swept.field-0.0 (3 + 2 ^ 64) _ _ _ _ c.from_residual-in_err-swept.ensures.1 c.new-calls.ensures most_few
+    (more_up_to 3 (2 ^ 64) (3 + 2 ^ 64) _ _ _ _ _ _ (itself (3 + 2 ^ 64)) c.in_ok-found.ensures.made c.in_err-swept.ensures.most) c.in_err-swept.ensures.numbered
 
 pub returns-in_err-there-clause-run : goal.returns-in_err-there-clause-run
 returns-in_err-there-clause-run g c = λ honest t small p.
@@ -53,9 +53,7 @@ returns-in_err-there-clause-run g c = λ honest t small p.
 
 pub returns-in_err-there-clause-numbered : goal.returns-in_err-there-clause-numbered
 returns-in_err-there-clause-numbered g c =
-    let swept = c.in_ok-swept.ensures.few in
-    let few : 3 + c.in_ok-swept.swept < 2 ^ 66 = omega arith in
-    numbers_read c.from_residual-in_err-there.result _ (3 + c.in_ok-swept.swept) _ _ c.from_residual-in_err-there.ensures.1 few
+    numbers_read c.from_residual-in_err-there.result _ (3 + c.in_ok-swept.swept) _ _ c.from_residual-in_err-there.ensures.1 (swept_few c.in_ok-swept.swept c.in_ok-swept.ensures.few)
     (more_calls 3 c.in_ok-swept.swept _ _ _ _ _ _ c.in_ok-found.ensures.made c.in_ok-swept.ensures.made).counted (inr (inr (inr refl)))
 
 pub pieces-init : goal.pieces-init
@@ -97,9 +95,8 @@ pieces-init g c =
           filled_none start (g.F.Folder.files c.look.new.folder) (g.F.Folder.files c.sweep.new.folder) _ _ same (c.in_ok-swept.ensures.all q1 listed) knows c.new-engine.ensures.namer;
       others = λ q. subst (λ s. LeavesOthers s (g.F.Folder.files c.sweep.new.folder)) (c.in_ok-found.ensures.same q) (c.in_ok-swept.ensures.others (c.in_ok-found.ensures.quiet q));
       made =
-          let placed = c.new-engine.ensures.placed in
           let same : c.sweep.new.calls.made ≡ engine.calls.made = ap (λ (x : Calls). x.made) (sym c.new-engine.ensures.calls) in
-          subst (λ k. Makes k 0 engine.calls.made (g.F.Folder.calls c.args.folder.now) (g.F.Folder.calls c.sweep.new.folder)) (omega arith)
+          subst (λ k. Makes k 0 engine.calls.made (g.F.Folder.calls c.args.folder.now) (g.F.Folder.calls c.sweep.new.folder)) (none_placed c.in_ok-swept.swept engine.placed c.new-engine.ensures.placed)
           (subst (λ m. Makes (3 + c.in_ok-swept.swept) 0 m (g.F.Folder.calls c.args.folder.now) (g.F.Folder.calls c.sweep.new.folder)) same made);
       failures = c.in_ok-swept.ensures.cause ∙ c.in_ok-found.ensures.cause;
     }
@@ -108,8 +105,7 @@ pub deliver_all-requires : goal.deliver_all-requires
 deliver_all-requires g c =
     let i = c.pieces.invariant in
     let few = given_few c.pieces.ended _ _ _ _ _ i.text (i.given ++ c.pieces.whole.items) i.gave in
-    let count = i.count in
-    omega (arith, few, count, length-append i.given c.pieces.whole.items, ap length c.deref-in-pieces.ensures.value, c.requires)
+    batch_fits c.pieces.engine.messages c.args.reads i.given c.pieces.whole.items c.deref-in-pieces.result.now i.count few c.requires c.deref-in-pieces.ensures.value
 
 pub returns-in_err-deliver_all-clause-run : goal.returns-in_err-deliver_all-clause-run
 returns-in_err-deliver_all-clause-run g c = λ honest t small p.
@@ -133,13 +129,10 @@ returns-in_err-deliver_all-clause-numbered g c =
     let whole = c.pieces.whole.items in
     let entries = c.deref-in-pieces.result.now in
     let few = given_few c.pieces.ended _ _ _ _ _ i.text (i.given ++ whole) i.gave in
-    let count = i.count in
-    let placed = c.pieces.engine.within in
-    let swept = c.in_ok-swept.ensures.few in
     let before = 3 + c.in_ok-swept.swept + 2 * c.pieces.engine.placed in
-    let most : before + 2 * length entries < 2 ^ 66 = omega (arith, few, count, placed, swept, length-append i.given whole, ap length c.deref-in-pieces.ensures.value, c.requires) in
+    let most = calls_few c.in_ok-swept.swept c.pieces.engine.placed c.pieces.engine.messages c.args.reads i.given whole entries c.in_ok-swept.ensures.few c.pieces.engine.within i.count few c.requires c.deref-in-pieces.ensures.value in
     numbers_call c.from_residual-in_err-deliver_all.result c.in_err-deliver_all.field-0.0 (before + 2 * length entries) 0 _ _ _ c.from_residual-in_err-deliver_all.ensures.1 refl most
-    (more_up_to before (2 * length entries) (before + 2 * length entries) _ _ _ _ _ _ (omega arith) i.made c.in_err-deliver_all.ensures.most) c.in_err-deliver_all.ensures.numbered
+    (more_up_to before (2 * length entries) (before + 2 * length entries) _ _ _ _ _ _ (itself (before + 2 * length entries)) i.made c.in_err-deliver_all.ensures.most) c.in_err-deliver_all.ensures.numbered
 
 pub returns-then-ended-clause-run : goal.returns-then-ended-clause-run
 returns-then-ended-clause-run g c = λ honest t small p.
@@ -155,9 +148,8 @@ returns-then-ended-clause-run g c = λ honest t small p.
     subst (λ bs. Reached bs start engine.there engine.namer engine.messages engine.placed now) (batch_bodies i.given whole entries is)
     (c.in_ok-deliver_all.ensures.done (i.honest honest) (bodies_of i.given) start (i.reached honest (given_sound start i.given whole sound))
     (batch_few i.given whole entries c.args.reads is few c.requires) (batch_sound start i.given whole entries is sound)) in
-    let count = c.in_ok-swept.ensures.count in
-    let listed = c.in_ok-found.ensures.few honest in
-    let swept : c.report.result.swept ≤ leftover_count start = omega (arith, c.report.ensures.swept, count, listed, ap (λ l. length (filter is_converter_name (map string_bytes l))) c.deref.ensures.value) in
+    let swept = swept_within is_converter_name c.report.result.swept c.in_ok-swept.swept (leftover_count start) (map string_bytes c.deref.result.now) (map string_bytes c.in_ok-found.found.tmp.items)
+    c.report.ensures.swept c.in_ok-swept.ensures.count (ap (map string_bytes) c.deref.ensures.value) (c.in_ok-found.ensures.few honest) in
     reached_run _ _ c.args.reads i.text (i.given ++ whole) start now engine.there engine.namer engine.messages engine.placed c.report.result
     (at_end c.pieces.ended _ _ _ _ _ i.text (i.given ++ whole) c.if-ended.true i.gave) come c.report.ensures.messages c.report.ensures.there c.report.ensures.placed swept t small p
 
@@ -165,8 +157,7 @@ pub returns-then-ended-clause-calls : goal.returns-then-ended-clause-calls
 returns-then-ended-clause-calls g c =
     let places = c.in_ok-deliver_all.ensures.made in
     let made = more_calls (3 + c.in_ok-swept.swept + 2 * c.pieces.engine.placed) (2 * places.n) _ _ _ _ _ _ c.pieces.invariant.made places.makes in
-    let placed = places.is in
-    let total : 3 + c.in_ok-swept.swept + 2 * c.pieces.engine.placed + 2 * places.n ≡ 3 + c.in_ok-swept.swept + 2 * c.deliver_all.new.self.placed = omega arith in
+    let total = all_placed c.in_ok-swept.swept c.pieces.engine.placed places.n c.deliver_all.new.self.placed places.is in
     run_counts c.report.result c.in_ok-swept.swept c.deliver_all.new.self.placed 0 c.deliver_all.new.self.calls.made _ _ c.report.ensures.swept c.report.ensures.placed
     (subst (λ n. Makes n 0 c.deliver_all.new.self.calls.made (g.F.Folder.calls c.args.folder.now) (g.F.Folder.calls c.deliver_all.new.folder)) total made)
 
@@ -175,15 +166,11 @@ returns-then-ended-clause-numbered g c =
     let i = c.pieces.invariant in
     let whole = c.pieces.whole.items in
     let places = c.in_ok-deliver_all.ensures.made in
-    let placed = places.is in
     let made = more_calls (3 + c.in_ok-swept.swept + 2 * c.pieces.engine.placed) (2 * places.n) _ _ _ _ _ _ i.made places.makes in
     let few = given_few c.pieces.ended _ _ _ _ _ i.text (i.given ++ whole) i.gave in
-    let count = i.count in
-    let all = c.in_ok-deliver_all.ensures.all in
-    let within = c.deliver_all.new.self.within in
-    let swept = c.in_ok-swept.ensures.few in
     numbers_ok c.report.result (3 + c.in_ok-swept.swept + 2 * c.pieces.engine.placed + 2 * places.n) _ _
-    (omega (arith, few, count, all, within, placed, swept, length-append i.given whole, ap length c.deref-in-pieces.ensures.value, c.requires)) made.counted
+    (all_calls_few c.in_ok-swept.swept c.pieces.engine.placed places.n c.deliver_all.new.self.placed c.pieces.engine.messages c.deliver_all.new.self.messages c.args.reads i.given whole c.deref-in-pieces.result.now
+    c.in_ok-swept.ensures.few places.is c.deliver_all.new.self.within c.in_ok-deliver_all.ensures.all i.count few c.requires c.deref-in-pieces.ensures.value) made.counted
 
 pub returns-in_err-ended-2-clause-run : goal.returns-in_err-ended-2-clause-run
 returns-in_err-ended-2-clause-run g c = λ honest t small p.
@@ -207,15 +194,11 @@ returns-in_err-ended-2-clause-numbered g c =
     let i = c.pieces.invariant in
     let whole = c.pieces.whole.items in
     let places = c.in_ok-deliver_all.ensures.made in
-    let placed = places.is in
     let made = more_calls (3 + c.in_ok-swept.swept + 2 * c.pieces.engine.placed) (2 * places.n) _ _ _ _ _ _ i.made places.makes in
     let few = given_few c.pieces.ended _ _ _ _ _ i.text (i.given ++ whole) i.gave in
-    let count = i.count in
-    let all = c.in_ok-deliver_all.ensures.all in
-    let within = c.deliver_all.new.self.within in
-    let swept = c.in_ok-swept.ensures.few in
     numbers_read c.from_residual-in_err-ended-2.result c.in_err-ended-2.field-0.0 (3 + c.in_ok-swept.swept + 2 * c.pieces.engine.placed + 2 * places.n) _ _ c.from_residual-in_err-ended-2.ensures.1
-    (omega (arith, few, count, all, within, placed, swept, length-append i.given whole, ap length c.deref-in-pieces.ensures.value, c.requires)) made.counted c.in_err-ended-2.ensures.causes
+    (all_calls_few c.in_ok-swept.swept c.pieces.engine.placed places.n c.deliver_all.new.self.placed c.pieces.engine.messages c.deliver_all.new.self.messages c.args.reads i.given whole c.deref-in-pieces.result.now
+    c.in_ok-swept.ensures.few places.is c.deliver_all.new.self.within c.in_ok-deliver_all.ensures.all i.count few c.requires c.deref-in-pieces.ensures.value) made.counted c.in_err-ended-2.ensures.causes
 
 pub returns-in_err-ended-2-clause-budget : goal.returns-in_err-ended-2-clause-budget
 returns-in_err-ended-2-clause-budget g c =
@@ -242,17 +225,13 @@ pieces-preserved g c =
     let more = gave_more c.in_ok-ended-2.ended _ _ _ c.pieces.messages _ _ _ i.text (i.given ++ whole) c.clear.new.self.items c.read.new.out.items c.clear.ensures.items
     (not_ended c.pieces.ended _ _ _ _ _ i.text (i.given ++ whole) c.if-ended.false i.gave) c.in_ok-ended-2.ensures.went in
     let places = c.in_ok-deliver_all.ensures.made in
-    let placed = places.is in
-    let total : 3 + c.in_ok-swept.swept + 2 * c.pieces.engine.placed + 2 * places.n ≡ 3 + c.in_ok-swept.swept + 2 * engine.placed = omega arith in
-    let count = i.count in
-    let all = c.in_ok-deliver_all.ensures.all in
-    let begun = i.begun c.if-ended.false in
+    let total = all_placed c.in_ok-swept.swept c.pieces.engine.placed places.n engine.placed places.is in
     record {
       text = more.text;
       given = i.given ++ whole;
       gave = more.gave;
-      begun = λ e. omega (arith, begun, length-append (i.given ++ whole) c.read.new.out.items);
-      count = omega (arith, count, all, length-append i.given whole, ap length c.deref-in-pieces.ensures.value);
+      begun = λ e. batch_begun (i.given ++ whole) c.read.new.out.items (i.begun c.if-ended.false);
+      count = batch_count c.pieces.engine.messages engine.messages i.given whole entries i.count c.in_ok-deliver_all.ensures.all is;
       honest = λ h. c.in_ok-deliver_all.ensures.honest (i.honest h);
       reached = λ h sound.
           subst (λ bs. Reached bs start engine.there engine.namer engine.messages engine.placed now) (batch_bodies i.given whole entries is)
