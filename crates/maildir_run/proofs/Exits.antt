@@ -1,17 +1,20 @@
--- What a run has kept at an exit that gives no report, by its fault.
-use Rattle.std.proofs.Common.{◌≡◌, ℕ, ◌+◌, ◌*◌, ◌<◌, ◌≤◌, ◌^◌, Bool, false, true, Option, Result, Ok, Err, List, [], ◌++◌, length, filter, refl, sym, ap, subst, ◌∙◌, inl, inr, arith, length-append}
+-- What a call has kept where it ends, by its fault, and the numbers of its calls and messages.
+use Rattle.std.proofs.Common.{◌≡◌, ℕ, suc, ◌+◌, ◌*◌, ◌<◌, ◌≤◌, ◌^◌, ◌⊎◌, Bool, false, true, cond, Option, Result, Ok, Err, List, [], ◌++◌, length, filter, refl, sym, ap, subst, ◌∙◌, inl, inr, arith, length-append}
 use Rattle.std.specs.Prelude.{IsErr, IsErrAnd, IfOk}
-use Rattle.std.proofs.KnownBytes.{Consumes-nil}
+use Rattle.std.specs.Io.KnownBytes.{IsAtEnd}
+use Rattle.std.proofs.KnownBytes.{Consumes-nil, Appends-nil}
 use Rattle.std.proofs.lemmas.List.Sorted.{IsPermutation-refl}
 use Rattle.mbox_text.specs.declared.entry.Entry.{Entry}
 use Rattle.mbox_text.specs.declared.splitter.Splitter.{Splitter}
 use Rattle.maildir_run.specs.declared.fault.RunFault.{RunFault}
-use Rattle.maildir_run.specs.declared.fault.RunFault.TheVariants.{NoFromLine, TooManyReads}
+use Rattle.maildir_run.specs.declared.fault.RunFault.TheVariants.{NoFromLine, TooManyReads, OutputFault, OutOfMemory}
+use Rattle.maildir_run.specs.declared.messages.Messages.{Messages}
 use Rattle.maildir_run.specs.Counting.{CountsFault, IsOfFolder}
 use Rattle.maildir_run.specs.Files.{Files, homes}
 use Rattle.maildir_run.specs.Given.{IsGiven, Begins, Refused}
 use Rattle.maildir_run.specs.Progress.{LeavesHomes}
-use Rattle.maildir_run.specs.Reading.{IsReading, ReadsAtMost}
+use Rattle.maildir_run.specs.Reading.{IsReading, ReadsAtMost, Went}
+use Rattle.maildir_run.specs.Output.{GivesFront}
 use Rattle.maildir_run.proofs.Givens.{given_read, given_budget}
 
 -- ---- no report
@@ -101,3 +104,34 @@ calls_few swept placed messages reads given whole entries low within count few m
 
 pub all_calls_few : (swept placed n all messages messages' reads : ℕ) (given whole entries : List Entry) → swept < 2 ^ 64 → all ≡ placed + n → all ≤ messages' → messages' ≡ messages + length entries → messages ≡ length given → length (given ++ whole) ≤ 65536 * reads → reads ≤ 2 ^ 40 → entries ≡ whole → 3 + swept + 2 * placed + 2 * n < 2 ^ 66
 all_calls_few swept placed n all messages messages' reads given whole entries low is within more count few most e = omega (arith, length-append given whole, ap length e)
+
+-- ---- a call that writes as it reads
+pub front_nothing : (output : List Entry → List ℕ) (source was : Option (List ℕ)) → GivesFront output source source was was
+front_nothing output source was = λ t entries p m. ([], output entries, refl, Appends-nil was)
+
+-- the writer's faults are not those of reading
+pub output_not_begun : (fault : RunFault) → (fault ≡ OutputFault) ⊎ (fault ≡ OutOfMemory) → fault ≡ NoFromLine → ⊥
+output_not_begun fault (inl e) f = cc
+output_not_begun fault (inr e) f = cc
+
+pub output_not_spent : (fault : RunFault) → (fault ≡ OutputFault) ⊎ (fault ≡ OutOfMemory) → fault ≡ TooManyReads → ⊥
+output_not_spent fault (inl e) f = cc
+output_not_spent fault (inr e) f = cc
+
+pub output_causes : (fault : RunFault) → (fault ≡ OutputFault) ⊎ (fault ≡ OutOfMemory) → IsReading fault ⊎ (fault ≡ OutputFault)
+output_causes fault (inl e) = inr e
+output_causes fault (inr e) = inl (inr (inr (inr e)))
+
+-- ---- one more read
+pub went_to_end : (ended : Bool) (before after : Option (List ℕ)) (old : Messages) (splitter : Splitter) (left : ℕ) (out out' : List Entry) → ended ≡ true → Went old before after out out' splitter left (Ok ended) → IsAtEnd after
+went_to_end true before after old splitter left out out' e w = w.2
+went_to_end false before after old splitter left out out' e w = absurd (cc)
+
+pub went_on : (ended : Bool) (before after : Option (List ℕ)) (old : Messages) (splitter : Splitter) (left : ℕ) (out out' : List Entry) → ended ≡ false → Went old before after out out' splitter left (Ok ended) → left < old.reads
+went_on true before after old splitter left out out' e w = absurd (cc)
+went_on false before after old splitter left out out' e w = omega (arith, w.4)
+
+pub went_down : (was ended : Bool) (before after : Option (List ℕ)) (old : Messages) (splitter : Splitter) (left : ℕ) (out out' : List Entry) → was ≡ false → Went old before after out out' splitter left (Ok ended) → cond ended 0 (suc left) < cond was 0 (suc old.reads)
+went_down true ended before after old splitter left out out' e w = absurd (cc)
+went_down false true before after old splitter left out out' e w = omega arith
+went_down false false before after old splitter left out out' e w = omega (arith, w.4)

@@ -21,7 +21,7 @@ use Rattle.maildir_run.proofs.Surveys.{filter-length}
 use Rattle.maildir_run.proofs.QuietRuns.{others_same, others_then}
 use Rattle.maildir_run.specs.declared.fault.RunFault.TheVariants.{OutOfMemory}
 use Rattle.maildir_run.proofs.Givens.{if_err, never_again}
-use Rattle.maildir_run.proofs.Exits.{unless_ok, ok_is_none, not_begun, not_spent, cause_then, cause_read, read_nothing, given_within, begins_within, refused_of, leaves_same, none_few, three_few, most_few, itself, swept_few, none_placed, all_placed, swept_within, batch_fits, batch_count, batch_begun, calls_few, all_calls_few}
+use Rattle.maildir_run.proofs.Exits.{unless_ok, ok_is_none, not_begun, not_spent, cause_then, cause_read, read_nothing, given_within, begins_within, refused_of, leaves_same, none_few, three_few, most_few, itself, swept_few, none_placed, all_placed, swept_within, batch_fits, batch_count, batch_begun, calls_few, all_calls_few, went_down}
 use Rattle.maildir_run.proofs.converting.convert.Goals as goal
 
 pub returns-in_err-ended-clause-numbered : goal.returns-in_err-ended-clause-numbered
@@ -563,3 +563,6 @@ pub returns-then-ended-clause-budget : goal.returns-then-ended-clause-budget
 returns-then-ended-clause-budget g c = 
     let i = c.pieces.invariant in
     given_within c.pieces.ended _ _ _ _ _ i.text (i.given ++ c.pieces.whole.items) i.gave
+
+pub pieces-smaller : goal.pieces-smaller
+pieces-smaller g c = went_down c.pieces.ended c.in_ok-ended-2.ended _ _ c.pieces.messages _ _ _ _ c.if-ended.false c.in_ok-ended-2.ensures.went
