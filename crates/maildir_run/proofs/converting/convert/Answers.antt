@@ -24,37 +24,91 @@ use Rattle.maildir_run.proofs.Givens.{if_err, never_again}
 use Rattle.maildir_run.proofs.Exits.{unless_ok, ok_is_none, not_begun, not_spent, cause_then, cause_read, read_nothing, given_within, begins_within, refused_of, leaves_same, none_few, three_few, most_few, itself, swept_few, none_placed, all_placed, swept_within, batch_fits, batch_count, batch_begun, calls_few, all_calls_few, went_down}
 use Rattle.maildir_run.proofs.converting.convert.Goals as goal
 
-pub returns-in_err-ended-clause-numbered : goal.returns-in_err-ended-clause-numbered
-returns-in_err-ended-clause-numbered g c =
-    numbers_read c.from_residual-in_err-ended.result c.in_err-ended.field-0.0 0 _ _ c.from_residual-in_err-ended.ensures.1 none_few refl c.in_err-ended.ensures.causes
+pub returns-in_err-ended : goal.returns-in_err-ended
+returns-in_err-ended g c = record {
+  honest = λ h. h;
+  run = λ honest t small p.
+        run_err t _ _ c.from_residual-in_err-ended.result c.from_residual-in_err-ended.ensures.0 (λ fault. untouched_run t _ _ fault (leaves_same (g.F.Folder.files c.args.folder.now)) small);
+  end = unless_ok _ c.from_residual-in_err-ended.result c.from_residual-in_err-ended.ensures.0;
+  quiet = λ h. h;
+  alone = λ q t ms p of. unless_ok _ c.from_residual-in_err-ended.result c.from_residual-in_err-ended.ensures.0;
+  others = λ q. others_same (g.F.Folder.files c.args.folder.now);
+  calls = unless_ok _ c.from_residual-in_err-ended.result c.from_residual-in_err-ended.ensures.0;
+  cause = cause_read c.from_residual-in_err-ended.result c.in_err-ended.field-0.0 _ _ c.from_residual-in_err-ended.ensures.1 c.in_err-ended.ensures.causes refl;
+  numbered =
+        numbers_read c.from_residual-in_err-ended.result c.in_err-ended.field-0.0 0 _ _ c.from_residual-in_err-ended.ensures.1 none_few refl c.in_err-ended.ensures.causes;
+  untouched = λ e. refl;
+  no_from_line = λ e. (refused_of _ _ _ c.args.reads c.in_err-ended.field-0.0 c.in_ok-messages.ensures.1 c.in_err-ended.ensures.refused).unreadable (fault_is c.from_residual-in_err-ended.result c.in_err-ended.field-0.0 _ c.from_residual-in_err-ended.ensures.1 e);
+  spent = λ e. (refused_of _ _ _ c.args.reads c.in_err-ended.field-0.0 c.in_ok-messages.ensures.1 c.in_err-ended.ensures.refused).spent (fault_is c.from_residual-in_err-ended.result c.in_err-ended.field-0.0 _ c.from_residual-in_err-ended.ensures.1 e);
+  causes = if_err _ c.from_residual-in_err-ended.result c.in_err-ended.field-0.0 c.from_residual-in_err-ended.ensures.1 (inl c.in_err-ended.ensures.causes);
+  budget = (refused_of _ _ _ c.args.reads c.in_err-ended.field-0.0 c.in_ok-messages.ensures.1 c.in_err-ended.ensures.refused).budget;
+}
 
-pub returns-in_err-found-clause-run : goal.returns-in_err-found-clause-run
-returns-in_err-found-clause-run g c = λ honest t small p.
-    run_err t _ _ c.from_residual-in_err-found.result c.from_residual-in_err-found.ensures.0 (λ fault. untouched_run t _ _ fault (c.in_err-found.ensures.leaves honest) small)
+pub returns-in_err-found : goal.returns-in_err-found
+returns-in_err-found g c = record {
+  honest = λ h. c.in_err-found.ensures.honest h;
+  run = λ honest t small p.
+        run_err t _ _ c.from_residual-in_err-found.result c.from_residual-in_err-found.ensures.0 (λ fault. untouched_run t _ _ fault (c.in_err-found.ensures.leaves honest) small);
+  end = unless_ok _ c.from_residual-in_err-found.result c.from_residual-in_err-found.ensures.0;
+  quiet = λ h. c.in_err-found.ensures.quiet h;
+  alone = λ q t ms p of. unless_ok _ c.from_residual-in_err-found.result c.from_residual-in_err-found.ensures.0;
+  others = λ q. subst (LeavesOthers (g.F.Folder.files c.args.folder.now)) (sym (c.in_err-found.ensures.same q)) (others_same (g.F.Folder.files c.args.folder.now));
+  calls = unless_ok _ c.from_residual-in_err-found.result c.from_residual-in_err-found.ensures.0;
+  cause = cause_then c.from_residual-in_err-found.result c.in_err-found.field-0.0 _ _ _ c.from_residual-in_err-found.ensures.1 refl c.in_err-found.ensures.cause;
+  numbered =
+        numbers_call c.from_residual-in_err-found.result c.in_err-found.field-0.0 3 _ _ _ _ c.from_residual-in_err-found.ensures.1 c.new-calls.ensures three_few c.in_err-found.ensures.most c.in_err-found.ensures.numbered;
+  untouched = λ e. absurd (not_begun c.in_err-found.field-0.0 c.in_err-found.ensures.causes (fault_is c.from_residual-in_err-found.result c.in_err-found.field-0.0 _ c.from_residual-in_err-found.ensures.1 e));
+  no_from_line = λ e. absurd (not_begun c.in_err-found.field-0.0 c.in_err-found.ensures.causes (fault_is c.from_residual-in_err-found.result c.in_err-found.field-0.0 _ c.from_residual-in_err-found.ensures.1 e));
+  spent = λ e. absurd (not_spent c.in_err-found.field-0.0 c.in_err-found.ensures.causes (fault_is c.from_residual-in_err-found.result c.in_err-found.field-0.0 _ c.from_residual-in_err-found.ensures.1 e));
+  causes = if_err _ c.from_residual-in_err-found.result c.in_err-found.field-0.0 c.from_residual-in_err-found.ensures.1 (inr c.in_err-found.ensures.causes);
+  budget = begins_within c.in_ok-ended.ended _ _ _ _ _ c.args.reads _ c.in_ok-messages.ensures.1 c.in_ok-ended.ensures.begins;
+}
 
-pub returns-in_err-found-clause-numbered : goal.returns-in_err-found-clause-numbered
-returns-in_err-found-clause-numbered g c =
-    numbers_call c.from_residual-in_err-found.result c.in_err-found.field-0.0 3 _ _ _ _ c.from_residual-in_err-found.ensures.1 c.new-calls.ensures three_few c.in_err-found.ensures.most c.in_err-found.ensures.numbered
+pub returns-in_err-swept : goal.returns-in_err-swept
+returns-in_err-swept g c = record {
+  honest = λ h. c.in_err-swept.ensures.honest (c.in_ok-found.ensures.honest h);
+  run = λ honest t small p.
+        run_err t _ _ c.from_residual-in_err-swept.result c.from_residual-in_err-swept.ensures.0
+        (λ fault. untouched_run t _ _ fault (leaves_trans _ _ _ (c.in_ok-found.ensures.leaves honest) (c.in_err-swept.ensures.leaves (c.in_ok-found.ensures.honest honest))) small);
+  end = unless_ok _ c.from_residual-in_err-swept.result c.from_residual-in_err-swept.ensures.0;
+  quiet = λ h. c.in_err-swept.ensures.quiet (c.in_ok-found.ensures.quiet h);
+  alone = λ q t ms p of. unless_ok _ c.from_residual-in_err-swept.result c.from_residual-in_err-swept.ensures.0;
+  others = λ q.
+        subst (λ s. LeavesOthers s (g.F.Folder.files c.sweep.new.folder)) (c.in_ok-found.ensures.same q) (c.in_err-swept.ensures.others (c.in_ok-found.ensures.quiet q));
+  calls = unless_ok _ c.from_residual-in_err-swept.result c.from_residual-in_err-swept.ensures.0;
+  cause = cause_then c.from_residual-in_err-swept.result c.in_err-swept.field-0.0 _ _ _ c.from_residual-in_err-swept.ensures.1 c.in_ok-found.ensures.cause c.in_err-swept.ensures.cause;
+  numbered =
+        numbers_call c.from_residual-in_err-swept.result c.in_err-swept.field-0.0 (3 + 2 ^ 64) _ _ _ _ c.from_residual-in_err-swept.ensures.1 c.new-calls.ensures most_few
+        (more_up_to 3 (2 ^ 64) (3 + 2 ^ 64) _ _ _ _ _ _ (itself (3 + 2 ^ 64)) c.in_ok-found.ensures.made c.in_err-swept.ensures.most) c.in_err-swept.ensures.numbered;
+  untouched = λ e. absurd (not_begun c.in_err-swept.field-0.0 c.in_err-swept.ensures.causes (fault_is c.from_residual-in_err-swept.result c.in_err-swept.field-0.0 _ c.from_residual-in_err-swept.ensures.1 e));
+  no_from_line = λ e. absurd (not_begun c.in_err-swept.field-0.0 c.in_err-swept.ensures.causes (fault_is c.from_residual-in_err-swept.result c.in_err-swept.field-0.0 _ c.from_residual-in_err-swept.ensures.1 e));
+  spent = λ e. absurd (not_spent c.in_err-swept.field-0.0 c.in_err-swept.ensures.causes (fault_is c.from_residual-in_err-swept.result c.in_err-swept.field-0.0 _ c.from_residual-in_err-swept.ensures.1 e));
+  causes = if_err _ c.from_residual-in_err-swept.result c.in_err-swept.field-0.0 c.from_residual-in_err-swept.ensures.1 (inr c.in_err-swept.ensures.causes);
+  budget = begins_within c.in_ok-ended.ended _ _ _ _ _ c.args.reads _ c.in_ok-messages.ensures.1 c.in_ok-ended.ensures.begins;
+}
 
-pub returns-in_err-swept-clause-run : goal.returns-in_err-swept-clause-run
-returns-in_err-swept-clause-run g c = λ honest t small p.
-    run_err t _ _ c.from_residual-in_err-swept.result c.from_residual-in_err-swept.ensures.0
-    (λ fault. untouched_run t _ _ fault (leaves_trans _ _ _ (c.in_ok-found.ensures.leaves honest) (c.in_err-swept.ensures.leaves (c.in_ok-found.ensures.honest honest))) small)
-
-pub returns-in_err-swept-clause-numbered : goal.returns-in_err-swept-clause-numbered
-returns-in_err-swept-clause-numbered g c =
-    numbers_call c.from_residual-in_err-swept.result c.in_err-swept.field-0.0 (3 + 2 ^ 64) _ _ _ _ c.from_residual-in_err-swept.ensures.1 c.new-calls.ensures most_few
-    (more_up_to 3 (2 ^ 64) (3 + 2 ^ 64) _ _ _ _ _ _ (itself (3 + 2 ^ 64)) c.in_ok-found.ensures.made c.in_err-swept.ensures.most) c.in_err-swept.ensures.numbered
-
-pub returns-in_err-there-clause-run : goal.returns-in_err-there-clause-run
-returns-in_err-there-clause-run g c = λ honest t small p.
-    run_err t _ _ c.from_residual-in_err-there.result c.from_residual-in_err-there.ensures.0
-    (λ fault. untouched_run t _ _ fault (leaves_trans _ _ _ (c.in_ok-found.ensures.leaves honest) (c.in_ok-swept.ensures.leaves (c.in_ok-found.ensures.honest honest))) small)
-
-pub returns-in_err-there-clause-numbered : goal.returns-in_err-there-clause-numbered
-returns-in_err-there-clause-numbered g c =
-    numbers_read c.from_residual-in_err-there.result _ (3 + c.in_ok-swept.swept) _ _ c.from_residual-in_err-there.ensures.1 (swept_few c.in_ok-swept.swept c.in_ok-swept.ensures.few)
-    (more_calls 3 c.in_ok-swept.swept _ _ _ _ _ _ c.in_ok-found.ensures.made c.in_ok-swept.ensures.made).counted (inr (inr (inr refl)))
+pub returns-in_err-there : goal.returns-in_err-there
+returns-in_err-there g c = record {
+  honest = λ h. c.in_ok-swept.ensures.honest (c.in_ok-found.ensures.honest h);
+  run = λ honest t small p.
+        run_err t _ _ c.from_residual-in_err-there.result c.from_residual-in_err-there.ensures.0
+        (λ fault. untouched_run t _ _ fault (leaves_trans _ _ _ (c.in_ok-found.ensures.leaves honest) (c.in_ok-swept.ensures.leaves (c.in_ok-found.ensures.honest honest))) small);
+  end = unless_ok _ c.from_residual-in_err-there.result c.from_residual-in_err-there.ensures.0;
+  quiet = λ h. c.in_ok-swept.ensures.quiet (c.in_ok-found.ensures.quiet h);
+  alone = λ q t ms p of. unless_ok _ c.from_residual-in_err-there.result c.from_residual-in_err-there.ensures.0;
+  others = λ q.
+        subst (λ s. LeavesOthers s (g.F.Folder.files c.sweep.new.folder)) (c.in_ok-found.ensures.same q) (c.in_ok-swept.ensures.others (c.in_ok-found.ensures.quiet q));
+  calls = unless_ok _ c.from_residual-in_err-there.result c.from_residual-in_err-there.ensures.0;
+  cause = cause_read c.from_residual-in_err-there.result OutOfMemory _ _ c.from_residual-in_err-there.ensures.1 (inr (inr (inr refl))) (c.in_ok-swept.ensures.cause ∙ c.in_ok-found.ensures.cause);
+  numbered =
+        numbers_read c.from_residual-in_err-there.result _ (3 + c.in_ok-swept.swept) _ _ c.from_residual-in_err-there.ensures.1 (swept_few c.in_ok-swept.swept c.in_ok-swept.ensures.few)
+        (more_calls 3 c.in_ok-swept.swept _ _ _ _ _ _ c.in_ok-found.ensures.made c.in_ok-swept.ensures.made).counted (inr (inr (inr refl)));
+  untouched = λ e. absurd (not_begun OutOfMemory tt (fault_is c.from_residual-in_err-there.result OutOfMemory _ c.from_residual-in_err-there.ensures.1 e));
+  no_from_line = λ e. absurd (not_begun OutOfMemory tt (fault_is c.from_residual-in_err-there.result OutOfMemory _ c.from_residual-in_err-there.ensures.1 e));
+  spent = λ e. absurd (not_spent OutOfMemory tt (fault_is c.from_residual-in_err-there.result OutOfMemory _ c.from_residual-in_err-there.ensures.1 e));
+  causes = if_err _ c.from_residual-in_err-there.result OutOfMemory c.from_residual-in_err-there.ensures.1 (inr tt);
+  budget = begins_within c.in_ok-ended.ended _ _ _ _ _ c.args.reads _ c.in_ok-messages.ensures.1 c.in_ok-ended.ensures.begins;
+}
 
 pub pieces-init : goal.pieces-init
 pieces-init g c =
@@ -107,110 +161,162 @@ deliver_all-requires g c =
     let few = given_few c.pieces.ended _ _ _ _ _ i.text (i.given ++ c.pieces.whole.items) i.gave in
     batch_fits c.pieces.engine.messages c.args.reads i.given c.pieces.whole.items c.deref-in-pieces.result.now i.count few c.requires c.deref-in-pieces.ensures.value
 
-pub returns-in_err-deliver_all-clause-run : goal.returns-in_err-deliver_all-clause-run
-returns-in_err-deliver_all-clause-run g c = λ honest t small p.
-    let i = c.pieces.invariant in
-    let whole = c.pieces.whole.items in
-    let start = g.F.Folder.files c.args.folder.now in
-    let now = g.F.Folder.files c.deliver_all.new.folder in
-    let entries = c.deref-in-pieces.result.now in
-    let is : entries ≡ whole = c.deref-in-pieces.ensures.value in
-    let few = given_few c.pieces.ended _ _ _ _ _ i.text (i.given ++ whole) i.gave in
-    let come : All (IsSoundAt start) (messages_of (bodies_of (i.given ++ whole))) → Came (bodies_of (i.given ++ whole)) start now = λ sound.
-    subst (λ bs. Came bs start now) (batch_bodies i.given whole entries is)
-    (c.in_err-deliver_all.ensures.came (i.honest honest) (bodies_of i.given) start (i.reached honest (given_sound start i.given whole sound))
-    (batch_few i.given whole entries c.args.reads is few c.requires) (batch_sound start i.given whole entries is sound)) in
-    run_err t start now c.from_residual-in_err-deliver_all.result c.from_residual-in_err-deliver_all.ensures.0
-    (λ fault. came_run _ _ i.text (i.given ++ whole) start now fault (given_read c.pieces.ended _ _ _ _ _ i.text (i.given ++ whole) i.gave) (given_first c.pieces.ended _ _ _ _ _ i.text (i.given ++ whole) i.gave) come t small p)
+pub returns-in_err-deliver_all : goal.returns-in_err-deliver_all
+returns-in_err-deliver_all g c = record {
+  honest = λ h. c.in_err-deliver_all.ensures.honest (c.pieces.invariant.honest h);
+  run = λ honest t small p.
+        let i = c.pieces.invariant in
+        let whole = c.pieces.whole.items in
+        let start = g.F.Folder.files c.args.folder.now in
+        let now = g.F.Folder.files c.deliver_all.new.folder in
+        let entries = c.deref-in-pieces.result.now in
+        let is : entries ≡ whole = c.deref-in-pieces.ensures.value in
+        let few = given_few c.pieces.ended _ _ _ _ _ i.text (i.given ++ whole) i.gave in
+        let come : All (IsSoundAt start) (messages_of (bodies_of (i.given ++ whole))) → Came (bodies_of (i.given ++ whole)) start now = λ sound.
+        subst (λ bs. Came bs start now) (batch_bodies i.given whole entries is)
+        (c.in_err-deliver_all.ensures.came (i.honest honest) (bodies_of i.given) start (i.reached honest (given_sound start i.given whole sound))
+        (batch_few i.given whole entries c.args.reads is few c.requires) (batch_sound start i.given whole entries is sound)) in
+        run_err t start now c.from_residual-in_err-deliver_all.result c.from_residual-in_err-deliver_all.ensures.0
+        (λ fault. came_run _ _ i.text (i.given ++ whole) start now fault (given_read c.pieces.ended _ _ _ _ _ i.text (i.given ++ whole) i.gave) (given_first c.pieces.ended _ _ _ _ _ i.text (i.given ++ whole) i.gave) come t small p);
+  end = unless_ok _ c.from_residual-in_err-deliver_all.result c.from_residual-in_err-deliver_all.ensures.0;
+  quiet = λ h. c.in_err-deliver_all.ensures.quiet (c.pieces.invariant.quiet h);
+  alone = λ q t ms p of. unless_ok _ c.from_residual-in_err-deliver_all.result c.from_residual-in_err-deliver_all.ensures.0;
+  others = λ q. others_then _ _ _ (c.pieces.invariant.others q) (c.in_err-deliver_all.ensures.others (c.pieces.invariant.quiet q));
+  calls = unless_ok _ c.from_residual-in_err-deliver_all.result c.from_residual-in_err-deliver_all.ensures.0;
+  cause = cause_then c.from_residual-in_err-deliver_all.result c.in_err-deliver_all.field-0.0 _ _ _ c.from_residual-in_err-deliver_all.ensures.1 c.pieces.invariant.failures c.in_err-deliver_all.ensures.cause;
+  numbered =
+        let i = c.pieces.invariant in
+        let whole = c.pieces.whole.items in
+        let entries = c.deref-in-pieces.result.now in
+        let few = given_few c.pieces.ended _ _ _ _ _ i.text (i.given ++ whole) i.gave in
+        let before = 3 + c.in_ok-swept.swept + 2 * c.pieces.engine.placed in
+        let most = calls_few c.in_ok-swept.swept c.pieces.engine.placed c.pieces.engine.messages c.args.reads i.given whole entries c.in_ok-swept.ensures.few c.pieces.engine.within i.count few c.requires c.deref-in-pieces.ensures.value in
+        numbers_call c.from_residual-in_err-deliver_all.result c.in_err-deliver_all.field-0.0 (before + 2 * length entries) 0 _ _ _ c.from_residual-in_err-deliver_all.ensures.1 refl most
+        (more_up_to before (2 * length entries) (before + 2 * length entries) _ _ _ _ _ _ (itself (before + 2 * length entries)) i.made c.in_err-deliver_all.ensures.most) c.in_err-deliver_all.ensures.numbered;
+  untouched = λ e. absurd (not_begun c.in_err-deliver_all.field-0.0 c.in_err-deliver_all.ensures.causes (fault_is c.from_residual-in_err-deliver_all.result c.in_err-deliver_all.field-0.0 _ c.from_residual-in_err-deliver_all.ensures.1 e));
+  no_from_line = λ e. absurd (not_begun c.in_err-deliver_all.field-0.0 c.in_err-deliver_all.ensures.causes (fault_is c.from_residual-in_err-deliver_all.result c.in_err-deliver_all.field-0.0 _ c.from_residual-in_err-deliver_all.ensures.1 e));
+  spent = λ e. absurd (not_spent c.in_err-deliver_all.field-0.0 c.in_err-deliver_all.ensures.causes (fault_is c.from_residual-in_err-deliver_all.result c.in_err-deliver_all.field-0.0 _ c.from_residual-in_err-deliver_all.ensures.1 e));
+  causes = if_err _ c.from_residual-in_err-deliver_all.result c.in_err-deliver_all.field-0.0 c.from_residual-in_err-deliver_all.ensures.1 (inr c.in_err-deliver_all.ensures.causes);
+  budget =
+        let i = c.pieces.invariant in
+        given_within c.pieces.ended _ _ _ _ _ i.text (i.given ++ c.pieces.whole.items) i.gave;
+}
 
-pub returns-in_err-deliver_all-clause-numbered : goal.returns-in_err-deliver_all-clause-numbered
-returns-in_err-deliver_all-clause-numbered g c =
-    let i = c.pieces.invariant in
-    let whole = c.pieces.whole.items in
-    let entries = c.deref-in-pieces.result.now in
-    let few = given_few c.pieces.ended _ _ _ _ _ i.text (i.given ++ whole) i.gave in
-    let before = 3 + c.in_ok-swept.swept + 2 * c.pieces.engine.placed in
-    let most = calls_few c.in_ok-swept.swept c.pieces.engine.placed c.pieces.engine.messages c.args.reads i.given whole entries c.in_ok-swept.ensures.few c.pieces.engine.within i.count few c.requires c.deref-in-pieces.ensures.value in
-    numbers_call c.from_residual-in_err-deliver_all.result c.in_err-deliver_all.field-0.0 (before + 2 * length entries) 0 _ _ _ c.from_residual-in_err-deliver_all.ensures.1 refl most
-    (more_up_to before (2 * length entries) (before + 2 * length entries) _ _ _ _ _ _ (itself (before + 2 * length entries)) i.made c.in_err-deliver_all.ensures.most) c.in_err-deliver_all.ensures.numbered
+pub returns-then-ended : goal.returns-then-ended
+returns-then-ended g c = record {
+  honest = λ h. c.in_ok-deliver_all.ensures.honest (c.pieces.invariant.honest h);
+  run = λ honest t small p.
+        let i = c.pieces.invariant in
+        let whole = c.pieces.whole.items in
+        let start = g.F.Folder.files c.args.folder.now in
+        let now = g.F.Folder.files c.deliver_all.new.folder in
+        let entries = c.deref-in-pieces.result.now in
+        let engine = c.deliver_all.new.self in
+        let is : entries ≡ whole = c.deref-in-pieces.ensures.value in
+        let few = given_few c.pieces.ended _ _ _ _ _ i.text (i.given ++ whole) i.gave in
+        let come : All (IsSoundAt start) (messages_of (bodies_of (i.given ++ whole))) → Reached (bodies_of (i.given ++ whole)) start engine.there engine.namer engine.messages engine.placed now = λ sound.
+        subst (λ bs. Reached bs start engine.there engine.namer engine.messages engine.placed now) (batch_bodies i.given whole entries is)
+        (c.in_ok-deliver_all.ensures.done (i.honest honest) (bodies_of i.given) start (i.reached honest (given_sound start i.given whole sound))
+        (batch_few i.given whole entries c.args.reads is few c.requires) (batch_sound start i.given whole entries is sound)) in
+        let swept = swept_within is_converter_name c.report.result.swept c.in_ok-swept.swept (leftover_count start) (map string_bytes c.deref.result.now) (map string_bytes c.in_ok-found.found.tmp.items)
+        c.report.ensures.swept c.in_ok-swept.ensures.count (ap (map string_bytes) c.deref.ensures.value) (c.in_ok-found.ensures.few honest) in
+        reached_run _ _ c.args.reads i.text (i.given ++ whole) start now engine.there engine.namer engine.messages engine.placed c.report.result
+        (at_end c.pieces.ended _ _ _ _ _ i.text (i.given ++ whole) c.if-ended.true i.gave) come c.report.ensures.messages c.report.ensures.there c.report.ensures.placed swept t small p;
+  end =
+        let i = c.pieces.invariant in
+        (at_end c.pieces.ended _ _ _ _ _ i.text (i.given ++ c.pieces.whole.items) c.if-ended.true i.gave).end;
+  quiet = λ h. c.in_ok-deliver_all.ensures.quiet (c.pieces.invariant.quiet h);
+  alone = λ q t ms p of.
+        let i = c.pieces.invariant in
+        let whole = c.pieces.whole.items in
+        let start = g.F.Folder.files c.args.folder.now in
+        let now = g.F.Folder.files c.deliver_all.new.folder in
+        let entries = c.deref-in-pieces.result.now in
+        let engine = c.deliver_all.new.self in
+        let is : entries ≡ whole = c.deref-in-pieces.ensures.value in
+        let few = given_few c.pieces.ended _ _ _ _ _ i.text (i.given ++ whole) i.gave in
+        let filled : Filled (bodies_of (i.given ++ whole)) start engine.there engine.namer now =
+        subst (λ bs. Filled bs start engine.there engine.namer now) (batch_bodies i.given whole entries is)
+        (c.in_ok-deliver_all.ensures.exact (i.quiet q) (bodies_of i.given) start (i.filled q) (batch_few i.given whole entries c.args.reads is few c.requires)) in
+        let listed : IsPermutation (map string_bytes c.deref.result.now) (keys start.tmp) =
+        subst (λ l. IsPermutation (map string_bytes l) (keys start.tmp)) (sym c.deref.ensures.value) (c.in_ok-found.ensures.listed q) in (
+          alone_run _ _ c.args.reads i.text (i.given ++ whole) start now engine.there engine.namer
+              (at_end c.pieces.ended _ _ _ _ _ i.text (i.given ++ whole) c.if-ended.true i.gave) filled t ms p of,
+          c.report.ensures.swept ∙ c.in_ok-swept.ensures.count ∙ filter-length is_converter_name (map string_bytes c.deref.result.now) (keys start.tmp) listed,
+        );
+  others = λ q. others_then _ _ _ (c.pieces.invariant.others q) (c.in_ok-deliver_all.ensures.others (c.pieces.invariant.quiet q));
+  calls =
+        let places = c.in_ok-deliver_all.ensures.made in
+        let made = more_calls (3 + c.in_ok-swept.swept + 2 * c.pieces.engine.placed) (2 * places.n) _ _ _ _ _ _ c.pieces.invariant.made places.makes in
+        let total = all_placed c.in_ok-swept.swept c.pieces.engine.placed places.n c.deliver_all.new.self.placed places.is in
+        run_counts c.report.result c.in_ok-swept.swept c.deliver_all.new.self.placed 0 c.deliver_all.new.self.calls.made _ _ c.report.ensures.swept c.report.ensures.placed
+        (subst (λ n. Makes n 0 c.deliver_all.new.self.calls.made (g.F.Folder.calls c.args.folder.now) (g.F.Folder.calls c.deliver_all.new.folder)) total made);
+  cause = c.in_ok-deliver_all.ensures.cause ∙ c.pieces.invariant.failures;
+  numbered =
+        let i = c.pieces.invariant in
+        let whole = c.pieces.whole.items in
+        let places = c.in_ok-deliver_all.ensures.made in
+        let made = more_calls (3 + c.in_ok-swept.swept + 2 * c.pieces.engine.placed) (2 * places.n) _ _ _ _ _ _ i.made places.makes in
+        let few = given_few c.pieces.ended _ _ _ _ _ i.text (i.given ++ whole) i.gave in
+        numbers_ok c.report.result (3 + c.in_ok-swept.swept + 2 * c.pieces.engine.placed + 2 * places.n) _ _
+        (all_calls_few c.in_ok-swept.swept c.pieces.engine.placed places.n c.deliver_all.new.self.placed c.pieces.engine.messages c.deliver_all.new.self.messages c.args.reads i.given whole c.deref-in-pieces.result.now
+        c.in_ok-swept.ensures.few places.is c.deliver_all.new.self.within c.in_ok-deliver_all.ensures.all i.count few c.requires c.deref-in-pieces.ensures.value) made.counted;
+  untouched = λ e. absurd (ok_is_none _ _ e);
+  no_from_line = λ e. absurd (ok_is_none _ _ e);
+  spent = λ e. absurd (ok_is_none _ _ e);
+  causes = tt;
+  budget =
+        let i = c.pieces.invariant in
+        given_within c.pieces.ended _ _ _ _ _ i.text (i.given ++ c.pieces.whole.items) i.gave;
+}
 
-pub returns-then-ended-clause-run : goal.returns-then-ended-clause-run
-returns-then-ended-clause-run g c = λ honest t small p.
-    let i = c.pieces.invariant in
-    let whole = c.pieces.whole.items in
-    let start = g.F.Folder.files c.args.folder.now in
-    let now = g.F.Folder.files c.deliver_all.new.folder in
-    let entries = c.deref-in-pieces.result.now in
-    let engine = c.deliver_all.new.self in
-    let is : entries ≡ whole = c.deref-in-pieces.ensures.value in
-    let few = given_few c.pieces.ended _ _ _ _ _ i.text (i.given ++ whole) i.gave in
-    let come : All (IsSoundAt start) (messages_of (bodies_of (i.given ++ whole))) → Reached (bodies_of (i.given ++ whole)) start engine.there engine.namer engine.messages engine.placed now = λ sound.
-    subst (λ bs. Reached bs start engine.there engine.namer engine.messages engine.placed now) (batch_bodies i.given whole entries is)
-    (c.in_ok-deliver_all.ensures.done (i.honest honest) (bodies_of i.given) start (i.reached honest (given_sound start i.given whole sound))
-    (batch_few i.given whole entries c.args.reads is few c.requires) (batch_sound start i.given whole entries is sound)) in
-    let swept = swept_within is_converter_name c.report.result.swept c.in_ok-swept.swept (leftover_count start) (map string_bytes c.deref.result.now) (map string_bytes c.in_ok-found.found.tmp.items)
-    c.report.ensures.swept c.in_ok-swept.ensures.count (ap (map string_bytes) c.deref.ensures.value) (c.in_ok-found.ensures.few honest) in
-    reached_run _ _ c.args.reads i.text (i.given ++ whole) start now engine.there engine.namer engine.messages engine.placed c.report.result
-    (at_end c.pieces.ended _ _ _ _ _ i.text (i.given ++ whole) c.if-ended.true i.gave) come c.report.ensures.messages c.report.ensures.there c.report.ensures.placed swept t small p
-
-pub returns-then-ended-clause-calls : goal.returns-then-ended-clause-calls
-returns-then-ended-clause-calls g c =
-    let places = c.in_ok-deliver_all.ensures.made in
-    let made = more_calls (3 + c.in_ok-swept.swept + 2 * c.pieces.engine.placed) (2 * places.n) _ _ _ _ _ _ c.pieces.invariant.made places.makes in
-    let total = all_placed c.in_ok-swept.swept c.pieces.engine.placed places.n c.deliver_all.new.self.placed places.is in
-    run_counts c.report.result c.in_ok-swept.swept c.deliver_all.new.self.placed 0 c.deliver_all.new.self.calls.made _ _ c.report.ensures.swept c.report.ensures.placed
-    (subst (λ n. Makes n 0 c.deliver_all.new.self.calls.made (g.F.Folder.calls c.args.folder.now) (g.F.Folder.calls c.deliver_all.new.folder)) total made)
-
-pub returns-then-ended-clause-numbered : goal.returns-then-ended-clause-numbered
-returns-then-ended-clause-numbered g c =
-    let i = c.pieces.invariant in
-    let whole = c.pieces.whole.items in
-    let places = c.in_ok-deliver_all.ensures.made in
-    let made = more_calls (3 + c.in_ok-swept.swept + 2 * c.pieces.engine.placed) (2 * places.n) _ _ _ _ _ _ i.made places.makes in
-    let few = given_few c.pieces.ended _ _ _ _ _ i.text (i.given ++ whole) i.gave in
-    numbers_ok c.report.result (3 + c.in_ok-swept.swept + 2 * c.pieces.engine.placed + 2 * places.n) _ _
-    (all_calls_few c.in_ok-swept.swept c.pieces.engine.placed places.n c.deliver_all.new.self.placed c.pieces.engine.messages c.deliver_all.new.self.messages c.args.reads i.given whole c.deref-in-pieces.result.now
-    c.in_ok-swept.ensures.few places.is c.deliver_all.new.self.within c.in_ok-deliver_all.ensures.all i.count few c.requires c.deref-in-pieces.ensures.value) made.counted
-
-pub returns-in_err-ended-2-clause-run : goal.returns-in_err-ended-2-clause-run
-returns-in_err-ended-2-clause-run g c = λ honest t small p.
-    let i = c.pieces.invariant in
-    let whole = c.pieces.whole.items in
-    let start = g.F.Folder.files c.args.folder.now in
-    let now = g.F.Folder.files c.deliver_all.new.folder in
-    let entries = c.deref-in-pieces.result.now in
-    let is : entries ≡ whole = c.deref-in-pieces.ensures.value in
-    let few = given_few c.pieces.ended _ _ _ _ _ i.text (i.given ++ whole) i.gave in
-    let come : All (IsSoundAt start) (messages_of (bodies_of (i.given ++ whole))) → Came (bodies_of (i.given ++ whole)) start now = λ sound.
-    subst (λ bs. Came bs start now) (batch_bodies i.given whole entries is)
-    (c.in_ok-deliver_all.ensures.came (i.honest honest) (bodies_of i.given) start (i.reached honest (given_sound start i.given whole sound))
-    (batch_few i.given whole entries c.args.reads is few c.requires) (batch_sound start i.given whole entries is sound)) in
-    let broken = broken_off _ _ _ c.pieces.messages c.args.reads i.text (i.given ++ whole) c.in_err-ended-2.field-0.0 (not_ended c.pieces.ended _ _ _ _ _ i.text (i.given ++ whole) c.if-ended.false i.gave) c.in_err-ended-2.ensures.went in
-    run_err t start now c.from_residual-in_err-ended-2.result c.from_residual-in_err-ended-2.ensures.0
-    (λ fault. came_run _ _ broken.text (i.given ++ whole) start now fault broken.read broken.first come t small p)
-
-pub returns-in_err-ended-2-clause-numbered : goal.returns-in_err-ended-2-clause-numbered
-returns-in_err-ended-2-clause-numbered g c =
-    let i = c.pieces.invariant in
-    let whole = c.pieces.whole.items in
-    let places = c.in_ok-deliver_all.ensures.made in
-    let made = more_calls (3 + c.in_ok-swept.swept + 2 * c.pieces.engine.placed) (2 * places.n) _ _ _ _ _ _ i.made places.makes in
-    let few = given_few c.pieces.ended _ _ _ _ _ i.text (i.given ++ whole) i.gave in
-    numbers_read c.from_residual-in_err-ended-2.result c.in_err-ended-2.field-0.0 (3 + c.in_ok-swept.swept + 2 * c.pieces.engine.placed + 2 * places.n) _ _ c.from_residual-in_err-ended-2.ensures.1
-    (all_calls_few c.in_ok-swept.swept c.pieces.engine.placed places.n c.deliver_all.new.self.placed c.pieces.engine.messages c.deliver_all.new.self.messages c.args.reads i.given whole c.deref-in-pieces.result.now
-    c.in_ok-swept.ensures.few places.is c.deliver_all.new.self.within c.in_ok-deliver_all.ensures.all i.count few c.requires c.deref-in-pieces.ensures.value) made.counted c.in_err-ended-2.ensures.causes
-
-pub returns-in_err-ended-2-clause-budget : goal.returns-in_err-ended-2-clause-budget
-returns-in_err-ended-2-clause-budget g c =
-    let i = c.pieces.invariant in
-    let whole = c.pieces.whole.items in
-    (gave_refused _ _ _ c.pieces.messages c.args.reads i.text (i.given ++ whole) c.in_err-ended-2.field-0.0 (not_ended c.pieces.ended _ _ _ _ _ i.text (i.given ++ whole) c.if-ended.false i.gave) c.in_err-ended-2.ensures.went).budget
-
-pub returns-in_err-ended-2-clause-spent : goal.returns-in_err-ended-2-clause-spent
-returns-in_err-ended-2-clause-spent g c = λ e.
-    let i = c.pieces.invariant in
-    let whole = c.pieces.whole.items in
-    (gave_refused _ _ _ c.pieces.messages c.args.reads i.text (i.given ++ whole) c.in_err-ended-2.field-0.0 (not_ended c.pieces.ended _ _ _ _ _ i.text (i.given ++ whole) c.if-ended.false i.gave) c.in_err-ended-2.ensures.went).spent (fault_is c.from_residual-in_err-ended-2.result c.in_err-ended-2.field-0.0 _ c.from_residual-in_err-ended-2.ensures.1 e)
+pub returns-in_err-ended-2 : goal.returns-in_err-ended-2
+returns-in_err-ended-2 g c = record {
+  honest = λ h. c.in_ok-deliver_all.ensures.honest (c.pieces.invariant.honest h);
+  run = λ honest t small p.
+        let i = c.pieces.invariant in
+        let whole = c.pieces.whole.items in
+        let start = g.F.Folder.files c.args.folder.now in
+        let now = g.F.Folder.files c.deliver_all.new.folder in
+        let entries = c.deref-in-pieces.result.now in
+        let is : entries ≡ whole = c.deref-in-pieces.ensures.value in
+        let few = given_few c.pieces.ended _ _ _ _ _ i.text (i.given ++ whole) i.gave in
+        let come : All (IsSoundAt start) (messages_of (bodies_of (i.given ++ whole))) → Came (bodies_of (i.given ++ whole)) start now = λ sound.
+        subst (λ bs. Came bs start now) (batch_bodies i.given whole entries is)
+        (c.in_ok-deliver_all.ensures.came (i.honest honest) (bodies_of i.given) start (i.reached honest (given_sound start i.given whole sound))
+        (batch_few i.given whole entries c.args.reads is few c.requires) (batch_sound start i.given whole entries is sound)) in
+        let broken = broken_off _ _ _ c.pieces.messages c.args.reads i.text (i.given ++ whole) c.in_err-ended-2.field-0.0 (not_ended c.pieces.ended _ _ _ _ _ i.text (i.given ++ whole) c.if-ended.false i.gave) c.in_err-ended-2.ensures.went in
+        run_err t start now c.from_residual-in_err-ended-2.result c.from_residual-in_err-ended-2.ensures.0
+        (λ fault. came_run _ _ broken.text (i.given ++ whole) start now fault broken.read broken.first come t small p);
+  end = unless_ok _ c.from_residual-in_err-ended-2.result c.from_residual-in_err-ended-2.ensures.0;
+  quiet = λ h. c.in_ok-deliver_all.ensures.quiet (c.pieces.invariant.quiet h);
+  alone = λ q t ms p of. unless_ok _ c.from_residual-in_err-ended-2.result c.from_residual-in_err-ended-2.ensures.0;
+  others = λ q. others_then _ _ _ (c.pieces.invariant.others q) (c.in_ok-deliver_all.ensures.others (c.pieces.invariant.quiet q));
+  calls = unless_ok _ c.from_residual-in_err-ended-2.result c.from_residual-in_err-ended-2.ensures.0;
+  cause = cause_read c.from_residual-in_err-ended-2.result c.in_err-ended-2.field-0.0 _ _ c.from_residual-in_err-ended-2.ensures.1 c.in_err-ended-2.ensures.causes (c.in_ok-deliver_all.ensures.cause ∙ c.pieces.invariant.failures);
+  numbered =
+        let i = c.pieces.invariant in
+        let whole = c.pieces.whole.items in
+        let places = c.in_ok-deliver_all.ensures.made in
+        let made = more_calls (3 + c.in_ok-swept.swept + 2 * c.pieces.engine.placed) (2 * places.n) _ _ _ _ _ _ i.made places.makes in
+        let few = given_few c.pieces.ended _ _ _ _ _ i.text (i.given ++ whole) i.gave in
+        numbers_read c.from_residual-in_err-ended-2.result c.in_err-ended-2.field-0.0 (3 + c.in_ok-swept.swept + 2 * c.pieces.engine.placed + 2 * places.n) _ _ c.from_residual-in_err-ended-2.ensures.1
+        (all_calls_few c.in_ok-swept.swept c.pieces.engine.placed places.n c.deliver_all.new.self.placed c.pieces.engine.messages c.deliver_all.new.self.messages c.args.reads i.given whole c.deref-in-pieces.result.now
+        c.in_ok-swept.ensures.few places.is c.deliver_all.new.self.within c.in_ok-deliver_all.ensures.all i.count few c.requires c.deref-in-pieces.ensures.value) made.counted c.in_err-ended-2.ensures.causes;
+  untouched = λ e. let i = c.pieces.invariant in absurd (never_again _ _ c.pieces.messages i.text (i.given ++ c.pieces.whole.items) c.in_err-ended-2.field-0.0
+        (not_ended c.pieces.ended _ _ _ _ _ i.text (i.given ++ c.pieces.whole.items) c.if-ended.false i.gave).fed (i.begun c.if-ended.false) c.in_err-ended-2.ensures.went (fault_is c.from_residual-in_err-ended-2.result c.in_err-ended-2.field-0.0 _ c.from_residual-in_err-ended-2.ensures.1 e));
+  no_from_line = λ e. let i = c.pieces.invariant in absurd (never_again _ _ c.pieces.messages i.text (i.given ++ c.pieces.whole.items) c.in_err-ended-2.field-0.0
+        (not_ended c.pieces.ended _ _ _ _ _ i.text (i.given ++ c.pieces.whole.items) c.if-ended.false i.gave).fed (i.begun c.if-ended.false) c.in_err-ended-2.ensures.went (fault_is c.from_residual-in_err-ended-2.result c.in_err-ended-2.field-0.0 _ c.from_residual-in_err-ended-2.ensures.1 e));
+  spent = λ e.
+        let i = c.pieces.invariant in
+        let whole = c.pieces.whole.items in
+        (gave_refused _ _ _ c.pieces.messages c.args.reads i.text (i.given ++ whole) c.in_err-ended-2.field-0.0 (not_ended c.pieces.ended _ _ _ _ _ i.text (i.given ++ whole) c.if-ended.false i.gave) c.in_err-ended-2.ensures.went).spent (fault_is c.from_residual-in_err-ended-2.result c.in_err-ended-2.field-0.0 _ c.from_residual-in_err-ended-2.ensures.1 e);
+  causes = if_err _ c.from_residual-in_err-ended-2.result c.in_err-ended-2.field-0.0 c.from_residual-in_err-ended-2.ensures.1 (inl c.in_err-ended-2.ensures.causes);
+  budget =
+        let i = c.pieces.invariant in
+        let whole = c.pieces.whole.items in
+        (gave_refused _ _ _ c.pieces.messages c.args.reads i.text (i.given ++ whole) c.in_err-ended-2.field-0.0 (not_ended c.pieces.ended _ _ _ _ _ i.text (i.given ++ whole) c.if-ended.false i.gave) c.in_err-ended-2.ensures.went).budget;
+}
 
 pub pieces-preserved : goal.pieces-preserved
 pieces-preserved g c =
@@ -247,322 +353,24 @@ pieces-preserved g c =
       failures = c.in_ok-deliver_all.ensures.cause ∙ i.failures;
     }
 
-pub returns-in_err-found-clause-others : goal.returns-in_err-found-clause-others
-returns-in_err-found-clause-others g c = λ q. subst (LeavesOthers (g.F.Folder.files c.args.folder.now)) (sym (c.in_err-found.ensures.same q)) (others_same (g.F.Folder.files c.args.folder.now))
-
-pub returns-in_err-swept-clause-others : goal.returns-in_err-swept-clause-others
-returns-in_err-swept-clause-others g c = λ q.
-    subst (λ s. LeavesOthers s (g.F.Folder.files c.sweep.new.folder)) (c.in_ok-found.ensures.same q) (c.in_err-swept.ensures.others (c.in_ok-found.ensures.quiet q))
-
-pub returns-in_err-there-clause-others : goal.returns-in_err-there-clause-others
-returns-in_err-there-clause-others g c = λ q.
-    subst (λ s. LeavesOthers s (g.F.Folder.files c.sweep.new.folder)) (c.in_ok-found.ensures.same q) (c.in_ok-swept.ensures.others (c.in_ok-found.ensures.quiet q))
-
-pub returns-in_err-deliver_all-clause-others : goal.returns-in_err-deliver_all-clause-others
-returns-in_err-deliver_all-clause-others g c = λ q. others_then _ _ _ (c.pieces.invariant.others q) (c.in_err-deliver_all.ensures.others (c.pieces.invariant.quiet q))
-
-pub returns-in_err-ended-2-clause-others : goal.returns-in_err-ended-2-clause-others
-returns-in_err-ended-2-clause-others g c = λ q. others_then _ _ _ (c.pieces.invariant.others q) (c.in_ok-deliver_all.ensures.others (c.pieces.invariant.quiet q))
-
-pub returns-then-ended-clause-others : goal.returns-then-ended-clause-others
-returns-then-ended-clause-others g c = λ q. others_then _ _ _ (c.pieces.invariant.others q) (c.in_ok-deliver_all.ensures.others (c.pieces.invariant.quiet q))
-
-pub returns-then-ended-clause-alone : goal.returns-then-ended-clause-alone
-returns-then-ended-clause-alone g c = λ q t ms p of.
-    let i = c.pieces.invariant in
-    let whole = c.pieces.whole.items in
-    let start = g.F.Folder.files c.args.folder.now in
-    let now = g.F.Folder.files c.deliver_all.new.folder in
-    let entries = c.deref-in-pieces.result.now in
-    let engine = c.deliver_all.new.self in
-    let is : entries ≡ whole = c.deref-in-pieces.ensures.value in
-    let few = given_few c.pieces.ended _ _ _ _ _ i.text (i.given ++ whole) i.gave in
-    let filled : Filled (bodies_of (i.given ++ whole)) start engine.there engine.namer now =
-    subst (λ bs. Filled bs start engine.there engine.namer now) (batch_bodies i.given whole entries is)
-    (c.in_ok-deliver_all.ensures.exact (i.quiet q) (bodies_of i.given) start (i.filled q) (batch_few i.given whole entries c.args.reads is few c.requires)) in
-    let listed : IsPermutation (map string_bytes c.deref.result.now) (keys start.tmp) =
-    subst (λ l. IsPermutation (map string_bytes l) (keys start.tmp)) (sym c.deref.ensures.value) (c.in_ok-found.ensures.listed q) in (
-      alone_run _ _ c.args.reads i.text (i.given ++ whole) start now engine.there engine.namer
-          (at_end c.pieces.ended _ _ _ _ _ i.text (i.given ++ whole) c.if-ended.true i.gave) filled t ms p of,
-      c.report.ensures.swept ∙ c.in_ok-swept.ensures.count ∙ filter-length is_converter_name (map string_bytes c.deref.result.now) (keys start.tmp) listed,
-    )
-
-pub returns-in_err-messages-clause-honest : goal.returns-in_err-messages-clause-honest
-returns-in_err-messages-clause-honest g c = λ h. h
-
-pub returns-in_err-messages-clause-run : goal.returns-in_err-messages-clause-run
-returns-in_err-messages-clause-run g c = λ honest t small p.
-    run_err t _ _ c.from_residual.result c.from_residual.ensures.0 (λ fault. untouched_run t _ _ fault (leaves_same (g.F.Folder.files c.args.folder.now)) small)
-
-pub returns-in_err-messages-clause-end : goal.returns-in_err-messages-clause-end
-returns-in_err-messages-clause-end g c = unless_ok _ c.from_residual.result c.from_residual.ensures.0
-
-pub returns-in_err-messages-clause-quiet : goal.returns-in_err-messages-clause-quiet
-returns-in_err-messages-clause-quiet g c = λ h. h
-
-pub returns-in_err-messages-clause-alone : goal.returns-in_err-messages-clause-alone
-returns-in_err-messages-clause-alone g c = λ q t ms p of. unless_ok _ c.from_residual.result c.from_residual.ensures.0
-
-pub returns-in_err-messages-clause-others : goal.returns-in_err-messages-clause-others
-returns-in_err-messages-clause-others g c = λ q. others_same (g.F.Folder.files c.args.folder.now)
-
-pub returns-in_err-messages-clause-calls : goal.returns-in_err-messages-clause-calls
-returns-in_err-messages-clause-calls g c = unless_ok _ c.from_residual.result c.from_residual.ensures.0
-
-pub returns-in_err-messages-clause-cause : goal.returns-in_err-messages-clause-cause
-returns-in_err-messages-clause-cause g c = cause_read c.from_residual.result OutOfMemory _ _ c.from_residual.ensures.1 (inr (inr (inr refl))) refl
-
-pub returns-in_err-messages-clause-numbered : goal.returns-in_err-messages-clause-numbered
-returns-in_err-messages-clause-numbered g c = numbers_read c.from_residual.result OutOfMemory 0 _ _ c.from_residual.ensures.1 none_few refl (inr (inr (inr refl)))
-
-pub returns-in_err-messages-clause-untouched : goal.returns-in_err-messages-clause-untouched
-returns-in_err-messages-clause-untouched g c = λ e. refl
-
-pub returns-in_err-messages-clause-no_from_line : goal.returns-in_err-messages-clause-no_from_line
-returns-in_err-messages-clause-no_from_line g c = λ e. absurd (not_begun OutOfMemory tt (fault_is c.from_residual.result OutOfMemory _ c.from_residual.ensures.1 e))
-
-pub returns-in_err-messages-clause-spent : goal.returns-in_err-messages-clause-spent
-returns-in_err-messages-clause-spent g c = λ e. absurd (not_spent OutOfMemory tt (fault_is c.from_residual.result OutOfMemory _ c.from_residual.ensures.1 e))
-
-pub returns-in_err-messages-clause-budget : goal.returns-in_err-messages-clause-budget
-returns-in_err-messages-clause-budget g c = read_nothing (g.R.Read.remaining c.args.source.now) (65536 * c.args.reads)
-
-pub returns-in_err-messages-clause-causes : goal.returns-in_err-messages-clause-causes
-returns-in_err-messages-clause-causes g c = if_err _ c.from_residual.result OutOfMemory c.from_residual.ensures.1 (inr tt)
-
-pub returns-in_err-ended-clause-honest : goal.returns-in_err-ended-clause-honest
-returns-in_err-ended-clause-honest g c = λ h. h
-
-pub returns-in_err-ended-clause-run : goal.returns-in_err-ended-clause-run
-returns-in_err-ended-clause-run g c = λ honest t small p.
-    run_err t _ _ c.from_residual-in_err-ended.result c.from_residual-in_err-ended.ensures.0 (λ fault. untouched_run t _ _ fault (leaves_same (g.F.Folder.files c.args.folder.now)) small)
-
-pub returns-in_err-ended-clause-end : goal.returns-in_err-ended-clause-end
-returns-in_err-ended-clause-end g c = unless_ok _ c.from_residual-in_err-ended.result c.from_residual-in_err-ended.ensures.0
-
-pub returns-in_err-ended-clause-quiet : goal.returns-in_err-ended-clause-quiet
-returns-in_err-ended-clause-quiet g c = λ h. h
-
-pub returns-in_err-ended-clause-alone : goal.returns-in_err-ended-clause-alone
-returns-in_err-ended-clause-alone g c = λ q t ms p of. unless_ok _ c.from_residual-in_err-ended.result c.from_residual-in_err-ended.ensures.0
-
-pub returns-in_err-ended-clause-others : goal.returns-in_err-ended-clause-others
-returns-in_err-ended-clause-others g c = λ q. others_same (g.F.Folder.files c.args.folder.now)
-
-pub returns-in_err-ended-clause-calls : goal.returns-in_err-ended-clause-calls
-returns-in_err-ended-clause-calls g c = unless_ok _ c.from_residual-in_err-ended.result c.from_residual-in_err-ended.ensures.0
-
-pub returns-in_err-ended-clause-cause : goal.returns-in_err-ended-clause-cause
-returns-in_err-ended-clause-cause g c = cause_read c.from_residual-in_err-ended.result c.in_err-ended.field-0.0 _ _ c.from_residual-in_err-ended.ensures.1 c.in_err-ended.ensures.causes refl
-
-pub returns-in_err-ended-clause-untouched : goal.returns-in_err-ended-clause-untouched
-returns-in_err-ended-clause-untouched g c = λ e. refl
-
-pub returns-in_err-ended-clause-no_from_line : goal.returns-in_err-ended-clause-no_from_line
-returns-in_err-ended-clause-no_from_line g c = λ e. (refused_of _ _ _ c.args.reads c.in_err-ended.field-0.0 c.in_ok-messages.ensures.1 c.in_err-ended.ensures.refused).unreadable (fault_is c.from_residual-in_err-ended.result c.in_err-ended.field-0.0 _ c.from_residual-in_err-ended.ensures.1 e)
-
-pub returns-in_err-ended-clause-spent : goal.returns-in_err-ended-clause-spent
-returns-in_err-ended-clause-spent g c = λ e. (refused_of _ _ _ c.args.reads c.in_err-ended.field-0.0 c.in_ok-messages.ensures.1 c.in_err-ended.ensures.refused).spent (fault_is c.from_residual-in_err-ended.result c.in_err-ended.field-0.0 _ c.from_residual-in_err-ended.ensures.1 e)
-
-pub returns-in_err-ended-clause-budget : goal.returns-in_err-ended-clause-budget
-returns-in_err-ended-clause-budget g c = (refused_of _ _ _ c.args.reads c.in_err-ended.field-0.0 c.in_ok-messages.ensures.1 c.in_err-ended.ensures.refused).budget
-
-pub returns-in_err-ended-clause-causes : goal.returns-in_err-ended-clause-causes
-returns-in_err-ended-clause-causes g c = if_err _ c.from_residual-in_err-ended.result c.in_err-ended.field-0.0 c.from_residual-in_err-ended.ensures.1 (inl c.in_err-ended.ensures.causes)
-
-pub returns-in_err-found-clause-honest : goal.returns-in_err-found-clause-honest
-returns-in_err-found-clause-honest g c = λ h. c.in_err-found.ensures.honest h
-
-pub returns-in_err-found-clause-end : goal.returns-in_err-found-clause-end
-returns-in_err-found-clause-end g c = unless_ok _ c.from_residual-in_err-found.result c.from_residual-in_err-found.ensures.0
-
-pub returns-in_err-found-clause-quiet : goal.returns-in_err-found-clause-quiet
-returns-in_err-found-clause-quiet g c = λ h. c.in_err-found.ensures.quiet h
-
-pub returns-in_err-found-clause-alone : goal.returns-in_err-found-clause-alone
-returns-in_err-found-clause-alone g c = λ q t ms p of. unless_ok _ c.from_residual-in_err-found.result c.from_residual-in_err-found.ensures.0
-
-pub returns-in_err-found-clause-calls : goal.returns-in_err-found-clause-calls
-returns-in_err-found-clause-calls g c = unless_ok _ c.from_residual-in_err-found.result c.from_residual-in_err-found.ensures.0
-
-pub returns-in_err-found-clause-cause : goal.returns-in_err-found-clause-cause
-returns-in_err-found-clause-cause g c = cause_then c.from_residual-in_err-found.result c.in_err-found.field-0.0 _ _ _ c.from_residual-in_err-found.ensures.1 refl c.in_err-found.ensures.cause
-
-pub returns-in_err-found-clause-untouched : goal.returns-in_err-found-clause-untouched
-returns-in_err-found-clause-untouched g c = λ e. absurd (not_begun c.in_err-found.field-0.0 c.in_err-found.ensures.causes (fault_is c.from_residual-in_err-found.result c.in_err-found.field-0.0 _ c.from_residual-in_err-found.ensures.1 e))
-
-pub returns-in_err-found-clause-no_from_line : goal.returns-in_err-found-clause-no_from_line
-returns-in_err-found-clause-no_from_line g c = λ e. absurd (not_begun c.in_err-found.field-0.0 c.in_err-found.ensures.causes (fault_is c.from_residual-in_err-found.result c.in_err-found.field-0.0 _ c.from_residual-in_err-found.ensures.1 e))
-
-pub returns-in_err-found-clause-spent : goal.returns-in_err-found-clause-spent
-returns-in_err-found-clause-spent g c = λ e. absurd (not_spent c.in_err-found.field-0.0 c.in_err-found.ensures.causes (fault_is c.from_residual-in_err-found.result c.in_err-found.field-0.0 _ c.from_residual-in_err-found.ensures.1 e))
-
-pub returns-in_err-found-clause-causes : goal.returns-in_err-found-clause-causes
-returns-in_err-found-clause-causes g c = if_err _ c.from_residual-in_err-found.result c.in_err-found.field-0.0 c.from_residual-in_err-found.ensures.1 (inr c.in_err-found.ensures.causes)
-
-pub returns-in_err-found-clause-budget : goal.returns-in_err-found-clause-budget
-returns-in_err-found-clause-budget g c = begins_within c.in_ok-ended.ended _ _ _ _ _ c.args.reads _ c.in_ok-messages.ensures.1 c.in_ok-ended.ensures.begins
-
-pub returns-in_err-swept-clause-honest : goal.returns-in_err-swept-clause-honest
-returns-in_err-swept-clause-honest g c = λ h. c.in_err-swept.ensures.honest (c.in_ok-found.ensures.honest h)
-
-pub returns-in_err-swept-clause-end : goal.returns-in_err-swept-clause-end
-returns-in_err-swept-clause-end g c = unless_ok _ c.from_residual-in_err-swept.result c.from_residual-in_err-swept.ensures.0
-
-pub returns-in_err-swept-clause-quiet : goal.returns-in_err-swept-clause-quiet
-returns-in_err-swept-clause-quiet g c = λ h. c.in_err-swept.ensures.quiet (c.in_ok-found.ensures.quiet h)
-
-pub returns-in_err-swept-clause-alone : goal.returns-in_err-swept-clause-alone
-returns-in_err-swept-clause-alone g c = λ q t ms p of. unless_ok _ c.from_residual-in_err-swept.result c.from_residual-in_err-swept.ensures.0
-
-pub returns-in_err-swept-clause-calls : goal.returns-in_err-swept-clause-calls
-returns-in_err-swept-clause-calls g c = unless_ok _ c.from_residual-in_err-swept.result c.from_residual-in_err-swept.ensures.0
-
-pub returns-in_err-swept-clause-cause : goal.returns-in_err-swept-clause-cause
-returns-in_err-swept-clause-cause g c = cause_then c.from_residual-in_err-swept.result c.in_err-swept.field-0.0 _ _ _ c.from_residual-in_err-swept.ensures.1 c.in_ok-found.ensures.cause c.in_err-swept.ensures.cause
-
-pub returns-in_err-swept-clause-untouched : goal.returns-in_err-swept-clause-untouched
-returns-in_err-swept-clause-untouched g c = λ e. absurd (not_begun c.in_err-swept.field-0.0 c.in_err-swept.ensures.causes (fault_is c.from_residual-in_err-swept.result c.in_err-swept.field-0.0 _ c.from_residual-in_err-swept.ensures.1 e))
-
-pub returns-in_err-swept-clause-no_from_line : goal.returns-in_err-swept-clause-no_from_line
-returns-in_err-swept-clause-no_from_line g c = λ e. absurd (not_begun c.in_err-swept.field-0.0 c.in_err-swept.ensures.causes (fault_is c.from_residual-in_err-swept.result c.in_err-swept.field-0.0 _ c.from_residual-in_err-swept.ensures.1 e))
-
-pub returns-in_err-swept-clause-spent : goal.returns-in_err-swept-clause-spent
-returns-in_err-swept-clause-spent g c = λ e. absurd (not_spent c.in_err-swept.field-0.0 c.in_err-swept.ensures.causes (fault_is c.from_residual-in_err-swept.result c.in_err-swept.field-0.0 _ c.from_residual-in_err-swept.ensures.1 e))
-
-pub returns-in_err-swept-clause-causes : goal.returns-in_err-swept-clause-causes
-returns-in_err-swept-clause-causes g c = if_err _ c.from_residual-in_err-swept.result c.in_err-swept.field-0.0 c.from_residual-in_err-swept.ensures.1 (inr c.in_err-swept.ensures.causes)
-
-pub returns-in_err-swept-clause-budget : goal.returns-in_err-swept-clause-budget
-returns-in_err-swept-clause-budget g c = begins_within c.in_ok-ended.ended _ _ _ _ _ c.args.reads _ c.in_ok-messages.ensures.1 c.in_ok-ended.ensures.begins
-
-pub returns-in_err-there-clause-honest : goal.returns-in_err-there-clause-honest
-returns-in_err-there-clause-honest g c = λ h. c.in_ok-swept.ensures.honest (c.in_ok-found.ensures.honest h)
-
-pub returns-in_err-there-clause-end : goal.returns-in_err-there-clause-end
-returns-in_err-there-clause-end g c = unless_ok _ c.from_residual-in_err-there.result c.from_residual-in_err-there.ensures.0
-
-pub returns-in_err-there-clause-quiet : goal.returns-in_err-there-clause-quiet
-returns-in_err-there-clause-quiet g c = λ h. c.in_ok-swept.ensures.quiet (c.in_ok-found.ensures.quiet h)
-
-pub returns-in_err-there-clause-alone : goal.returns-in_err-there-clause-alone
-returns-in_err-there-clause-alone g c = λ q t ms p of. unless_ok _ c.from_residual-in_err-there.result c.from_residual-in_err-there.ensures.0
-
-pub returns-in_err-there-clause-calls : goal.returns-in_err-there-clause-calls
-returns-in_err-there-clause-calls g c = unless_ok _ c.from_residual-in_err-there.result c.from_residual-in_err-there.ensures.0
-
-pub returns-in_err-there-clause-cause : goal.returns-in_err-there-clause-cause
-returns-in_err-there-clause-cause g c = cause_read c.from_residual-in_err-there.result OutOfMemory _ _ c.from_residual-in_err-there.ensures.1 (inr (inr (inr refl))) (c.in_ok-swept.ensures.cause ∙ c.in_ok-found.ensures.cause)
-
-pub returns-in_err-there-clause-untouched : goal.returns-in_err-there-clause-untouched
-returns-in_err-there-clause-untouched g c = λ e. absurd (not_begun OutOfMemory tt (fault_is c.from_residual-in_err-there.result OutOfMemory _ c.from_residual-in_err-there.ensures.1 e))
-
-pub returns-in_err-there-clause-no_from_line : goal.returns-in_err-there-clause-no_from_line
-returns-in_err-there-clause-no_from_line g c = λ e. absurd (not_begun OutOfMemory tt (fault_is c.from_residual-in_err-there.result OutOfMemory _ c.from_residual-in_err-there.ensures.1 e))
-
-pub returns-in_err-there-clause-spent : goal.returns-in_err-there-clause-spent
-returns-in_err-there-clause-spent g c = λ e. absurd (not_spent OutOfMemory tt (fault_is c.from_residual-in_err-there.result OutOfMemory _ c.from_residual-in_err-there.ensures.1 e))
-
-pub returns-in_err-there-clause-causes : goal.returns-in_err-there-clause-causes
-returns-in_err-there-clause-causes g c = if_err _ c.from_residual-in_err-there.result OutOfMemory c.from_residual-in_err-there.ensures.1 (inr tt)
-
-pub returns-in_err-there-clause-budget : goal.returns-in_err-there-clause-budget
-returns-in_err-there-clause-budget g c = begins_within c.in_ok-ended.ended _ _ _ _ _ c.args.reads _ c.in_ok-messages.ensures.1 c.in_ok-ended.ensures.begins
-
-pub returns-in_err-deliver_all-clause-honest : goal.returns-in_err-deliver_all-clause-honest
-returns-in_err-deliver_all-clause-honest g c = λ h. c.in_err-deliver_all.ensures.honest (c.pieces.invariant.honest h)
-
-pub returns-in_err-deliver_all-clause-end : goal.returns-in_err-deliver_all-clause-end
-returns-in_err-deliver_all-clause-end g c = unless_ok _ c.from_residual-in_err-deliver_all.result c.from_residual-in_err-deliver_all.ensures.0
-
-pub returns-in_err-deliver_all-clause-quiet : goal.returns-in_err-deliver_all-clause-quiet
-returns-in_err-deliver_all-clause-quiet g c = λ h. c.in_err-deliver_all.ensures.quiet (c.pieces.invariant.quiet h)
-
-pub returns-in_err-deliver_all-clause-alone : goal.returns-in_err-deliver_all-clause-alone
-returns-in_err-deliver_all-clause-alone g c = λ q t ms p of. unless_ok _ c.from_residual-in_err-deliver_all.result c.from_residual-in_err-deliver_all.ensures.0
-
-pub returns-in_err-deliver_all-clause-calls : goal.returns-in_err-deliver_all-clause-calls
-returns-in_err-deliver_all-clause-calls g c = unless_ok _ c.from_residual-in_err-deliver_all.result c.from_residual-in_err-deliver_all.ensures.0
-
-pub returns-in_err-deliver_all-clause-cause : goal.returns-in_err-deliver_all-clause-cause
-returns-in_err-deliver_all-clause-cause g c = cause_then c.from_residual-in_err-deliver_all.result c.in_err-deliver_all.field-0.0 _ _ _ c.from_residual-in_err-deliver_all.ensures.1 c.pieces.invariant.failures c.in_err-deliver_all.ensures.cause
-
-pub returns-in_err-deliver_all-clause-untouched : goal.returns-in_err-deliver_all-clause-untouched
-returns-in_err-deliver_all-clause-untouched g c = λ e. absurd (not_begun c.in_err-deliver_all.field-0.0 c.in_err-deliver_all.ensures.causes (fault_is c.from_residual-in_err-deliver_all.result c.in_err-deliver_all.field-0.0 _ c.from_residual-in_err-deliver_all.ensures.1 e))
-
-pub returns-in_err-deliver_all-clause-no_from_line : goal.returns-in_err-deliver_all-clause-no_from_line
-returns-in_err-deliver_all-clause-no_from_line g c = λ e. absurd (not_begun c.in_err-deliver_all.field-0.0 c.in_err-deliver_all.ensures.causes (fault_is c.from_residual-in_err-deliver_all.result c.in_err-deliver_all.field-0.0 _ c.from_residual-in_err-deliver_all.ensures.1 e))
-
-pub returns-in_err-deliver_all-clause-spent : goal.returns-in_err-deliver_all-clause-spent
-returns-in_err-deliver_all-clause-spent g c = λ e. absurd (not_spent c.in_err-deliver_all.field-0.0 c.in_err-deliver_all.ensures.causes (fault_is c.from_residual-in_err-deliver_all.result c.in_err-deliver_all.field-0.0 _ c.from_residual-in_err-deliver_all.ensures.1 e))
-
-pub returns-in_err-deliver_all-clause-causes : goal.returns-in_err-deliver_all-clause-causes
-returns-in_err-deliver_all-clause-causes g c = if_err _ c.from_residual-in_err-deliver_all.result c.in_err-deliver_all.field-0.0 c.from_residual-in_err-deliver_all.ensures.1 (inr c.in_err-deliver_all.ensures.causes)
-
-pub returns-in_err-deliver_all-clause-budget : goal.returns-in_err-deliver_all-clause-budget
-returns-in_err-deliver_all-clause-budget g c = 
-    let i = c.pieces.invariant in
-    given_within c.pieces.ended _ _ _ _ _ i.text (i.given ++ c.pieces.whole.items) i.gave
-
-pub returns-in_err-ended-2-clause-honest : goal.returns-in_err-ended-2-clause-honest
-returns-in_err-ended-2-clause-honest g c = λ h. c.in_ok-deliver_all.ensures.honest (c.pieces.invariant.honest h)
-
-pub returns-in_err-ended-2-clause-end : goal.returns-in_err-ended-2-clause-end
-returns-in_err-ended-2-clause-end g c = unless_ok _ c.from_residual-in_err-ended-2.result c.from_residual-in_err-ended-2.ensures.0
-
-pub returns-in_err-ended-2-clause-quiet : goal.returns-in_err-ended-2-clause-quiet
-returns-in_err-ended-2-clause-quiet g c = λ h. c.in_ok-deliver_all.ensures.quiet (c.pieces.invariant.quiet h)
-
-pub returns-in_err-ended-2-clause-alone : goal.returns-in_err-ended-2-clause-alone
-returns-in_err-ended-2-clause-alone g c = λ q t ms p of. unless_ok _ c.from_residual-in_err-ended-2.result c.from_residual-in_err-ended-2.ensures.0
-
-pub returns-in_err-ended-2-clause-calls : goal.returns-in_err-ended-2-clause-calls
-returns-in_err-ended-2-clause-calls g c = unless_ok _ c.from_residual-in_err-ended-2.result c.from_residual-in_err-ended-2.ensures.0
-
-pub returns-in_err-ended-2-clause-cause : goal.returns-in_err-ended-2-clause-cause
-returns-in_err-ended-2-clause-cause g c = cause_read c.from_residual-in_err-ended-2.result c.in_err-ended-2.field-0.0 _ _ c.from_residual-in_err-ended-2.ensures.1 c.in_err-ended-2.ensures.causes (c.in_ok-deliver_all.ensures.cause ∙ c.pieces.invariant.failures)
-
-pub returns-in_err-ended-2-clause-untouched : goal.returns-in_err-ended-2-clause-untouched
-returns-in_err-ended-2-clause-untouched g c = λ e. let i = c.pieces.invariant in absurd (never_again _ _ c.pieces.messages i.text (i.given ++ c.pieces.whole.items) c.in_err-ended-2.field-0.0
-    (not_ended c.pieces.ended _ _ _ _ _ i.text (i.given ++ c.pieces.whole.items) c.if-ended.false i.gave).fed (i.begun c.if-ended.false) c.in_err-ended-2.ensures.went (fault_is c.from_residual-in_err-ended-2.result c.in_err-ended-2.field-0.0 _ c.from_residual-in_err-ended-2.ensures.1 e))
-
-pub returns-in_err-ended-2-clause-no_from_line : goal.returns-in_err-ended-2-clause-no_from_line
-returns-in_err-ended-2-clause-no_from_line g c = λ e. let i = c.pieces.invariant in absurd (never_again _ _ c.pieces.messages i.text (i.given ++ c.pieces.whole.items) c.in_err-ended-2.field-0.0
-    (not_ended c.pieces.ended _ _ _ _ _ i.text (i.given ++ c.pieces.whole.items) c.if-ended.false i.gave).fed (i.begun c.if-ended.false) c.in_err-ended-2.ensures.went (fault_is c.from_residual-in_err-ended-2.result c.in_err-ended-2.field-0.0 _ c.from_residual-in_err-ended-2.ensures.1 e))
-
-pub returns-in_err-ended-2-clause-causes : goal.returns-in_err-ended-2-clause-causes
-returns-in_err-ended-2-clause-causes g c = if_err _ c.from_residual-in_err-ended-2.result c.in_err-ended-2.field-0.0 c.from_residual-in_err-ended-2.ensures.1 (inl c.in_err-ended-2.ensures.causes)
-
-pub returns-then-ended-clause-honest : goal.returns-then-ended-clause-honest
-returns-then-ended-clause-honest g c = λ h. c.in_ok-deliver_all.ensures.honest (c.pieces.invariant.honest h)
-
-pub returns-then-ended-clause-quiet : goal.returns-then-ended-clause-quiet
-returns-then-ended-clause-quiet g c = λ h. c.in_ok-deliver_all.ensures.quiet (c.pieces.invariant.quiet h)
-
-pub returns-then-ended-clause-end : goal.returns-then-ended-clause-end
-returns-then-ended-clause-end g c = 
-    let i = c.pieces.invariant in
-    (at_end c.pieces.ended _ _ _ _ _ i.text (i.given ++ c.pieces.whole.items) c.if-ended.true i.gave).end
-
-pub returns-then-ended-clause-cause : goal.returns-then-ended-clause-cause
-returns-then-ended-clause-cause g c = c.in_ok-deliver_all.ensures.cause ∙ c.pieces.invariant.failures
-
-pub returns-then-ended-clause-untouched : goal.returns-then-ended-clause-untouched
-returns-then-ended-clause-untouched g c = λ e. absurd (ok_is_none _ _ e)
-
-pub returns-then-ended-clause-no_from_line : goal.returns-then-ended-clause-no_from_line
-returns-then-ended-clause-no_from_line g c = λ e. absurd (ok_is_none _ _ e)
-
-pub returns-then-ended-clause-spent : goal.returns-then-ended-clause-spent
-returns-then-ended-clause-spent g c = λ e. absurd (ok_is_none _ _ e)
-
-pub returns-then-ended-clause-causes : goal.returns-then-ended-clause-causes
-returns-then-ended-clause-causes g c = tt
-
-pub returns-then-ended-clause-budget : goal.returns-then-ended-clause-budget
-returns-then-ended-clause-budget g c = 
-    let i = c.pieces.invariant in
-    given_within c.pieces.ended _ _ _ _ _ i.text (i.given ++ c.pieces.whole.items) i.gave
+pub returns-in_err-messages : goal.returns-in_err-messages
+returns-in_err-messages g c = record {
+  honest = λ h. h;
+  run = λ honest t small p.
+        run_err t _ _ c.from_residual.result c.from_residual.ensures.0 (λ fault. untouched_run t _ _ fault (leaves_same (g.F.Folder.files c.args.folder.now)) small);
+  end = unless_ok _ c.from_residual.result c.from_residual.ensures.0;
+  quiet = λ h. h;
+  alone = λ q t ms p of. unless_ok _ c.from_residual.result c.from_residual.ensures.0;
+  others = λ q. others_same (g.F.Folder.files c.args.folder.now);
+  calls = unless_ok _ c.from_residual.result c.from_residual.ensures.0;
+  cause = cause_read c.from_residual.result OutOfMemory _ _ c.from_residual.ensures.1 (inr (inr (inr refl))) refl;
+  numbered = numbers_read c.from_residual.result OutOfMemory 0 _ _ c.from_residual.ensures.1 none_few refl (inr (inr (inr refl)));
+  untouched = λ e. refl;
+  no_from_line = λ e. absurd (not_begun OutOfMemory tt (fault_is c.from_residual.result OutOfMemory _ c.from_residual.ensures.1 e));
+  spent = λ e. absurd (not_spent OutOfMemory tt (fault_is c.from_residual.result OutOfMemory _ c.from_residual.ensures.1 e));
+  causes = if_err _ c.from_residual.result OutOfMemory c.from_residual.ensures.1 (inr tt);
+  budget = read_nothing (g.R.Read.remaining c.args.source.now) (65536 * c.args.reads);
+}
 
 pub pieces-smaller : goal.pieces-smaller
 pieces-smaller g c = went_down c.pieces.ended c.in_ok-ended-2.ended _ _ c.pieces.messages _ _ _ _ c.if-ended.false c.in_ok-ended-2.ensures.went

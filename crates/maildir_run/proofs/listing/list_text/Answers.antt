@@ -15,25 +15,24 @@ pieces-init g c =
     let none = c.new-lister.ensures in
     ([], rw none.counted (poured_none listing _ _ c.in_ok-messages.messages.splitter c.args.reads c.in_ok-messages.messages.reads c.new-whole.result.items listing_output c.in_ok-messages.ensures.0 c.in_ok-messages.ensures.1 c.new-whole.ensures.items), none)
 
-pub returns-in_err-ended-clause-front : goal.returns-in_err-ended-clause-front
-returns-in_err-ended-clause-front g c =
-    let b = read_broken listing c.pieces.invariant.0 _ _ _ _ _ c.pieces.messages c.pieces.whole.items c.args.reads c.pieces.lister.count c.in_err-ended.field-0.0 listing_output c.pieces.invariant.1 c.in_err-ended.ensures.went in
-    on_err c.from_residual-in_err-ended.result _ b.front
-
-pub returns-in_err-ended-clause-no_from_line : goal.returns-in_err-ended-clause-no_from_line
-returns-in_err-ended-clause-no_from_line g c = λ e.
-    let b = read_broken listing c.pieces.invariant.0 _ _ _ _ _ c.pieces.messages c.pieces.whole.items c.args.reads c.pieces.lister.count c.in_err-ended.field-0.0 listing_output c.pieces.invariant.1 c.in_err-ended.ensures.went in
-    b.nothing (fault_is c.from_residual-in_err-ended.result c.in_err-ended.field-0.0 _ c.from_residual-in_err-ended.ensures.1 e)
-
-pub returns-in_err-ended-clause-budget : goal.returns-in_err-ended-clause-budget
-returns-in_err-ended-clause-budget g c =
-    let b = read_broken listing c.pieces.invariant.0 _ _ _ _ _ c.pieces.messages c.pieces.whole.items c.args.reads c.pieces.lister.count c.in_err-ended.field-0.0 listing_output c.pieces.invariant.1 c.in_err-ended.ensures.went in
-    b.budget
-
-pub returns-in_err-ended-clause-spent : goal.returns-in_err-ended-clause-spent
-returns-in_err-ended-clause-spent g c = λ e.
-    let b = read_broken listing c.pieces.invariant.0 _ _ _ _ _ c.pieces.messages c.pieces.whole.items c.args.reads c.pieces.lister.count c.in_err-ended.field-0.0 listing_output c.pieces.invariant.1 c.in_err-ended.ensures.went in
-    b.spent (fault_is c.from_residual-in_err-ended.result c.in_err-ended.field-0.0 _ c.from_residual-in_err-ended.ensures.1 e)
+pub returns-in_err-ended : goal.returns-in_err-ended
+returns-in_err-ended g c = record {
+  all = unless_ok _ c.from_residual-in_err-ended.result c.from_residual-in_err-ended.ensures.0;
+  end = unless_ok _ c.from_residual-in_err-ended.result c.from_residual-in_err-ended.ensures.0;
+  front =
+        let b = read_broken listing c.pieces.invariant.0 _ _ _ _ _ c.pieces.messages c.pieces.whole.items c.args.reads c.pieces.lister.count c.in_err-ended.field-0.0 listing_output c.pieces.invariant.1 c.in_err-ended.ensures.went in
+        on_err c.from_residual-in_err-ended.result _ b.front;
+  no_from_line = λ e.
+        let b = read_broken listing c.pieces.invariant.0 _ _ _ _ _ c.pieces.messages c.pieces.whole.items c.args.reads c.pieces.lister.count c.in_err-ended.field-0.0 listing_output c.pieces.invariant.1 c.in_err-ended.ensures.went in
+        b.nothing (fault_is c.from_residual-in_err-ended.result c.in_err-ended.field-0.0 _ c.from_residual-in_err-ended.ensures.1 e);
+  spent = λ e.
+        let b = read_broken listing c.pieces.invariant.0 _ _ _ _ _ c.pieces.messages c.pieces.whole.items c.args.reads c.pieces.lister.count c.in_err-ended.field-0.0 listing_output c.pieces.invariant.1 c.in_err-ended.ensures.went in
+        b.spent (fault_is c.from_residual-in_err-ended.result c.in_err-ended.field-0.0 _ c.from_residual-in_err-ended.ensures.1 e);
+  causes = if_err _ c.from_residual-in_err-ended.result c.in_err-ended.field-0.0 c.from_residual-in_err-ended.ensures.1 (inl c.in_err-ended.ensures.causes);
+  budget =
+        let b = read_broken listing c.pieces.invariant.0 _ _ _ _ _ c.pieces.messages c.pieces.whole.items c.args.reads c.pieces.lister.count c.in_err-ended.field-0.0 listing_output c.pieces.invariant.1 c.in_err-ended.ensures.went in
+        b.budget;
+}
 
 pub list-requires : goal.list-requires
 list-requires g c =
@@ -41,33 +40,49 @@ list-requires g c =
     c.pieces.invariant.1 c.in_ok-ended.ensures.went in
     rw c.deref.ensures.value b.from_lines
 
-pub returns-in_err-list-clause-front : goal.returns-in_err-list-clause-front
-returns-in_err-list-clause-front g c =
-    let given : List Entry = c.pieces.invariant.0 in
-    let b = batch listing given _ _ _ _ _ c.pieces.messages c.read.new.self.splitter c.read.new.self.reads c.pieces.whole.items c.read.new.out.items c.args.reads c.pieces.lister.count c.in_ok-ended.ended
-    c.pieces.invariant.1 c.in_ok-ended.ensures.went in
-    let fit = names_fit listing given _ _ _ _ c.read.new.out.items c.args.reads c.pieces.lister.count b c.requires in
-    let s = rw c.deref.ensures.value at (c.in_err-list.ensures.lists given c.pieces.invariant.2 (rw c.deref.ensures.value fit)) in
-    let w = batch_broken listing given _ _ _ _ _ c.read.new.out.items c.args.reads c.pieces.lister.count s.0 listing_output b s.1 s.2 in
-    on_err c.from_residual-in_err-list.result _ w.0
+pub returns-in_err-list : goal.returns-in_err-list
+returns-in_err-list g c = record {
+  all = unless_ok _ c.from_residual-in_err-list.result c.from_residual-in_err-list.ensures.0;
+  end = unless_ok _ c.from_residual-in_err-list.result c.from_residual-in_err-list.ensures.0;
+  front =
+        let given : List Entry = c.pieces.invariant.0 in
+        let b = batch listing given _ _ _ _ _ c.pieces.messages c.read.new.self.splitter c.read.new.self.reads c.pieces.whole.items c.read.new.out.items c.args.reads c.pieces.lister.count c.in_ok-ended.ended
+        c.pieces.invariant.1 c.in_ok-ended.ensures.went in
+        let fit = names_fit listing given _ _ _ _ c.read.new.out.items c.args.reads c.pieces.lister.count b c.requires in
+        let s = rw c.deref.ensures.value at (c.in_err-list.ensures.lists given c.pieces.invariant.2 (rw c.deref.ensures.value fit)) in
+        let w = batch_broken listing given _ _ _ _ _ c.read.new.out.items c.args.reads c.pieces.lister.count s.0 listing_output b s.1 s.2 in
+        on_err c.from_residual-in_err-list.result _ w.0;
+  no_from_line = λ e. absurd (output_not_begun c.in_err-list.field-0.0 c.in_err-list.ensures.causes (fault_is c.from_residual-in_err-list.result c.in_err-list.field-0.0 _ c.from_residual-in_err-list.ensures.1 e));
+  spent = λ e. absurd (output_not_spent c.in_err-list.field-0.0 c.in_err-list.ensures.causes (fault_is c.from_residual-in_err-list.result c.in_err-list.field-0.0 _ c.from_residual-in_err-list.ensures.1 e));
+  causes = if_err _ c.from_residual-in_err-list.result c.in_err-list.field-0.0 c.from_residual-in_err-list.ensures.1 (output_causes c.in_err-list.field-0.0 c.in_err-list.ensures.causes);
+  budget =
+        let b = batch listing c.pieces.invariant.0 _ _ _ _ _ c.pieces.messages c.read.new.self.splitter c.read.new.self.reads c.pieces.whole.items c.read.new.out.items c.args.reads c.pieces.lister.count c.in_ok-ended.ended
+        c.pieces.invariant.1 c.in_ok-ended.ensures.went in
+        (b.text, b.read, b.budget);
+}
 
-pub returns-in_err-list-clause-budget : goal.returns-in_err-list-clause-budget
-returns-in_err-list-clause-budget g c =
-    let b = batch listing c.pieces.invariant.0 _ _ _ _ _ c.pieces.messages c.read.new.self.splitter c.read.new.self.reads c.pieces.whole.items c.read.new.out.items c.args.reads c.pieces.lister.count c.in_ok-ended.ended
-    c.pieces.invariant.1 c.in_ok-ended.ensures.went in
-    (b.text, b.read, b.budget)
-
-pub returns-then-ended-clause-all : goal.returns-then-ended-clause-all
-returns-then-ended-clause-all g c =
-    let given : List Entry = c.pieces.invariant.0 in
-    let b = batch listing given _ _ _ _ _ c.pieces.messages c.read.new.self.splitter c.read.new.self.reads c.pieces.whole.items c.read.new.out.items c.args.reads c.pieces.lister.count c.in_ok-ended.ended
-    c.pieces.invariant.1 c.in_ok-ended.ensures.went in
-    let fit = names_fit listing given _ _ _ _ c.read.new.out.items c.args.reads c.pieces.lister.count b c.requires in
-    let s = rw c.deref.ensures.value at (c.in_ok-list.ensures.lists given c.pieces.invariant.2 (rw c.deref.ensures.value fit)) in
-    let all = poured_all listing given _ _ _ _ _ _ c.pieces.messages c.read.new.self.splitter c.read.new.self.reads c.pieces.whole.items c.read.new.out.items c.args.reads c.pieces.lister.count
-    s.0 c.pieces.invariant.1 (rw c.if-ended.true at c.in_ok-ended.ensures.went) s.1 s.2 in
-    let count : c.list.new.self.count ≡ c.pieces.lister.count + length c.read.new.out.items = omega (arith, s.3.counted, c.pieces.invariant.2.counted, length-append given c.read.new.out.items) in
-    rw count all.0
+pub returns-then-ended : goal.returns-then-ended
+returns-then-ended g c = record {
+  all =
+        let given : List Entry = c.pieces.invariant.0 in
+        let b = batch listing given _ _ _ _ _ c.pieces.messages c.read.new.self.splitter c.read.new.self.reads c.pieces.whole.items c.read.new.out.items c.args.reads c.pieces.lister.count c.in_ok-ended.ended
+        c.pieces.invariant.1 c.in_ok-ended.ensures.went in
+        let fit = names_fit listing given _ _ _ _ c.read.new.out.items c.args.reads c.pieces.lister.count b c.requires in
+        let s = rw c.deref.ensures.value at (c.in_ok-list.ensures.lists given c.pieces.invariant.2 (rw c.deref.ensures.value fit)) in
+        let all = poured_all listing given _ _ _ _ _ _ c.pieces.messages c.read.new.self.splitter c.read.new.self.reads c.pieces.whole.items c.read.new.out.items c.args.reads c.pieces.lister.count
+        s.0 c.pieces.invariant.1 (rw c.if-ended.true at c.in_ok-ended.ensures.went) s.1 s.2 in
+        let count : c.list.new.self.count ≡ c.pieces.lister.count + length c.read.new.out.items = omega (arith, s.3.counted, c.pieces.invariant.2.counted, length-append given c.read.new.out.items) in
+        rw count all.0;
+  end = went_to_end c.in_ok-ended.ended _ _ c.pieces.messages _ _ _ _ c.if-ended.true c.in_ok-ended.ensures.went;
+  front = tt;
+  no_from_line = λ e. absurd (ok_is_none _ _ e);
+  spent = λ e. absurd (ok_is_none _ _ e);
+  causes = tt;
+  budget =
+        let b = batch listing c.pieces.invariant.0 _ _ _ _ _ c.pieces.messages c.read.new.self.splitter c.read.new.self.reads c.pieces.whole.items c.read.new.out.items c.args.reads c.pieces.lister.count c.in_ok-ended.ended
+        c.pieces.invariant.1 c.in_ok-ended.ensures.went in
+        (b.text, b.read, b.budget);
+}
 
 pub pieces-preserved : goal.pieces-preserved
 pieces-preserved g c =
@@ -81,71 +96,16 @@ pieces-preserved g c =
     let count : c.list.new.self.count ≡ c.pieces.lister.count + length c.read.new.out.items = omega (arith, s.3.counted, c.pieces.invariant.2.counted, length-append given c.read.new.out.items) in
     (given ++ c.read.new.out.items, rw count more, s.3)
 
-pub returns-in_err-messages-clause-all : goal.returns-in_err-messages-clause-all
-returns-in_err-messages-clause-all g c = unless_ok _ c.from_residual.result c.from_residual.ensures.0
-
-pub returns-in_err-messages-clause-end : goal.returns-in_err-messages-clause-end
-returns-in_err-messages-clause-end g c = unless_ok _ c.from_residual.result c.from_residual.ensures.0
-
-pub returns-in_err-messages-clause-front : goal.returns-in_err-messages-clause-front
-returns-in_err-messages-clause-front g c = on_err c.from_residual.result _ (front_nothing listing (g.R.Read.remaining c.args.source.now) (g.W.Write.contents c.args.out.now))
-
-pub returns-in_err-messages-clause-no_from_line : goal.returns-in_err-messages-clause-no_from_line
-returns-in_err-messages-clause-no_from_line g c = λ e. absurd (not_begun OutOfMemory tt (fault_is c.from_residual.result OutOfMemory _ c.from_residual.ensures.1 e))
-
-pub returns-in_err-messages-clause-spent : goal.returns-in_err-messages-clause-spent
-returns-in_err-messages-clause-spent g c = λ e. absurd (not_spent OutOfMemory tt (fault_is c.from_residual.result OutOfMemory _ c.from_residual.ensures.1 e))
-
-pub returns-in_err-messages-clause-causes : goal.returns-in_err-messages-clause-causes
-returns-in_err-messages-clause-causes g c = if_err _ c.from_residual.result OutOfMemory c.from_residual.ensures.1 (inl (inr (inr (inr refl))))
-
-pub returns-in_err-messages-clause-budget : goal.returns-in_err-messages-clause-budget
-returns-in_err-messages-clause-budget g c = read_nothing (g.R.Read.remaining c.args.source.now) (65536 * c.args.reads)
-
-pub returns-in_err-ended-clause-all : goal.returns-in_err-ended-clause-all
-returns-in_err-ended-clause-all g c = unless_ok _ c.from_residual-in_err-ended.result c.from_residual-in_err-ended.ensures.0
-
-pub returns-in_err-ended-clause-end : goal.returns-in_err-ended-clause-end
-returns-in_err-ended-clause-end g c = unless_ok _ c.from_residual-in_err-ended.result c.from_residual-in_err-ended.ensures.0
-
-pub returns-in_err-ended-clause-causes : goal.returns-in_err-ended-clause-causes
-returns-in_err-ended-clause-causes g c = if_err _ c.from_residual-in_err-ended.result c.in_err-ended.field-0.0 c.from_residual-in_err-ended.ensures.1 (inl c.in_err-ended.ensures.causes)
-
-pub returns-in_err-list-clause-all : goal.returns-in_err-list-clause-all
-returns-in_err-list-clause-all g c = unless_ok _ c.from_residual-in_err-list.result c.from_residual-in_err-list.ensures.0
-
-pub returns-in_err-list-clause-end : goal.returns-in_err-list-clause-end
-returns-in_err-list-clause-end g c = unless_ok _ c.from_residual-in_err-list.result c.from_residual-in_err-list.ensures.0
-
-pub returns-in_err-list-clause-no_from_line : goal.returns-in_err-list-clause-no_from_line
-returns-in_err-list-clause-no_from_line g c = λ e. absurd (output_not_begun c.in_err-list.field-0.0 c.in_err-list.ensures.causes (fault_is c.from_residual-in_err-list.result c.in_err-list.field-0.0 _ c.from_residual-in_err-list.ensures.1 e))
-
-pub returns-in_err-list-clause-spent : goal.returns-in_err-list-clause-spent
-returns-in_err-list-clause-spent g c = λ e. absurd (output_not_spent c.in_err-list.field-0.0 c.in_err-list.ensures.causes (fault_is c.from_residual-in_err-list.result c.in_err-list.field-0.0 _ c.from_residual-in_err-list.ensures.1 e))
-
-pub returns-in_err-list-clause-causes : goal.returns-in_err-list-clause-causes
-returns-in_err-list-clause-causes g c = if_err _ c.from_residual-in_err-list.result c.in_err-list.field-0.0 c.from_residual-in_err-list.ensures.1 (output_causes c.in_err-list.field-0.0 c.in_err-list.ensures.causes)
-
-pub returns-then-ended-clause-end : goal.returns-then-ended-clause-end
-returns-then-ended-clause-end g c = went_to_end c.in_ok-ended.ended _ _ c.pieces.messages _ _ _ _ c.if-ended.true c.in_ok-ended.ensures.went
-
-pub returns-then-ended-clause-front : goal.returns-then-ended-clause-front
-returns-then-ended-clause-front g c = tt
-
-pub returns-then-ended-clause-no_from_line : goal.returns-then-ended-clause-no_from_line
-returns-then-ended-clause-no_from_line g c = λ e. absurd (ok_is_none _ _ e)
-
-pub returns-then-ended-clause-spent : goal.returns-then-ended-clause-spent
-returns-then-ended-clause-spent g c = λ e. absurd (ok_is_none _ _ e)
-
-pub returns-then-ended-clause-causes : goal.returns-then-ended-clause-causes
-returns-then-ended-clause-causes g c = tt
-
-pub returns-then-ended-clause-budget : goal.returns-then-ended-clause-budget
-returns-then-ended-clause-budget g c = 
-    let b = batch listing c.pieces.invariant.0 _ _ _ _ _ c.pieces.messages c.read.new.self.splitter c.read.new.self.reads c.pieces.whole.items c.read.new.out.items c.args.reads c.pieces.lister.count c.in_ok-ended.ended
-    c.pieces.invariant.1 c.in_ok-ended.ensures.went in
-    (b.text, b.read, b.budget)
+pub returns-in_err-messages : goal.returns-in_err-messages
+returns-in_err-messages g c = record {
+  all = unless_ok _ c.from_residual.result c.from_residual.ensures.0;
+  end = unless_ok _ c.from_residual.result c.from_residual.ensures.0;
+  front = on_err c.from_residual.result _ (front_nothing listing (g.R.Read.remaining c.args.source.now) (g.W.Write.contents c.args.out.now));
+  no_from_line = λ e. absurd (not_begun OutOfMemory tt (fault_is c.from_residual.result OutOfMemory _ c.from_residual.ensures.1 e));
+  spent = λ e. absurd (not_spent OutOfMemory tt (fault_is c.from_residual.result OutOfMemory _ c.from_residual.ensures.1 e));
+  causes = if_err _ c.from_residual.result OutOfMemory c.from_residual.ensures.1 (inl (inr (inr (inr refl))));
+  budget = read_nothing (g.R.Read.remaining c.args.source.now) (65536 * c.args.reads);
+}
 
 pub pieces-smaller : goal.pieces-smaller
 pieces-smaller g c = went_on c.in_ok-ended.ended _ _ c.pieces.messages _ _ _ _ c.if-ended.false c.in_ok-ended.ensures.went

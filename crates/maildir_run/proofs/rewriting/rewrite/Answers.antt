@@ -8,39 +8,43 @@ use Rattle.maildir_run.proofs.Givens.{if_err}
 use Rattle.maildir_run.proofs.Exits.{unless_ok, ok_is_none, not_begun, not_spent, read_nothing, front_nothing, output_not_begun, output_not_spent, output_causes, went_to_end, went_on}
 use Rattle.maildir_run.proofs.rewriting.rewrite.Goals as goal
 
-pub returns-in_err-ended-clause-front : goal.returns-in_err-ended-clause-front
-returns-in_err-ended-clause-front g c =
-    let b = read_broken (flat_map spelling) c.pieces.invariant.0 _ _ _ _ _ c.pieces.messages c.pieces.whole.items c.args.reads c.pieces.count c.in_err-ended.field-0.0 flat_output c.pieces.invariant.1 c.in_err-ended.ensures.went in
-    on_err c.from_residual-in_err-ended.result _ b.front
+pub returns-in_err-ended : goal.returns-in_err-ended
+returns-in_err-ended g c = record {
+  all = unless_ok _ c.from_residual-in_err-ended.result c.from_residual-in_err-ended.ensures.0;
+  end = unless_ok _ c.from_residual-in_err-ended.result c.from_residual-in_err-ended.ensures.0;
+  front =
+        let b = read_broken (flat_map spelling) c.pieces.invariant.0 _ _ _ _ _ c.pieces.messages c.pieces.whole.items c.args.reads c.pieces.count c.in_err-ended.field-0.0 flat_output c.pieces.invariant.1 c.in_err-ended.ensures.went in
+        on_err c.from_residual-in_err-ended.result _ b.front;
+  no_from_line = λ e.
+        let b = read_broken (flat_map spelling) c.pieces.invariant.0 _ _ _ _ _ c.pieces.messages c.pieces.whole.items c.args.reads c.pieces.count c.in_err-ended.field-0.0 flat_output c.pieces.invariant.1 c.in_err-ended.ensures.went in
+        b.nothing (fault_is c.from_residual-in_err-ended.result c.in_err-ended.field-0.0 _ c.from_residual-in_err-ended.ensures.1 e);
+  spent = λ e.
+        let b = read_broken (flat_map spelling) c.pieces.invariant.0 _ _ _ _ _ c.pieces.messages c.pieces.whole.items c.args.reads c.pieces.count c.in_err-ended.field-0.0 flat_output c.pieces.invariant.1 c.in_err-ended.ensures.went in
+        b.spent (fault_is c.from_residual-in_err-ended.result c.in_err-ended.field-0.0 _ c.from_residual-in_err-ended.ensures.1 e);
+  causes = if_err _ c.from_residual-in_err-ended.result c.in_err-ended.field-0.0 c.from_residual-in_err-ended.ensures.1 (inl c.in_err-ended.ensures.causes);
+  budget =
+        let b = read_broken (flat_map spelling) c.pieces.invariant.0 _ _ _ _ _ c.pieces.messages c.pieces.whole.items c.args.reads c.pieces.count c.in_err-ended.field-0.0 flat_output c.pieces.invariant.1 c.in_err-ended.ensures.went in
+        b.budget;
+}
 
-pub returns-in_err-ended-clause-no_from_line : goal.returns-in_err-ended-clause-no_from_line
-returns-in_err-ended-clause-no_from_line g c = λ e.
-    let b = read_broken (flat_map spelling) c.pieces.invariant.0 _ _ _ _ _ c.pieces.messages c.pieces.whole.items c.args.reads c.pieces.count c.in_err-ended.field-0.0 flat_output c.pieces.invariant.1 c.in_err-ended.ensures.went in
-    b.nothing (fault_is c.from_residual-in_err-ended.result c.in_err-ended.field-0.0 _ c.from_residual-in_err-ended.ensures.1 e)
-
-pub returns-in_err-ended-clause-budget : goal.returns-in_err-ended-clause-budget
-returns-in_err-ended-clause-budget g c =
-    let b = read_broken (flat_map spelling) c.pieces.invariant.0 _ _ _ _ _ c.pieces.messages c.pieces.whole.items c.args.reads c.pieces.count c.in_err-ended.field-0.0 flat_output c.pieces.invariant.1 c.in_err-ended.ensures.went in
-    b.budget
-
-pub returns-in_err-ended-clause-spent : goal.returns-in_err-ended-clause-spent
-returns-in_err-ended-clause-spent g c = λ e.
-    let b = read_broken (flat_map spelling) c.pieces.invariant.0 _ _ _ _ _ c.pieces.messages c.pieces.whole.items c.args.reads c.pieces.count c.in_err-ended.field-0.0 flat_output c.pieces.invariant.1 c.in_err-ended.ensures.went in
-    b.spent (fault_is c.from_residual-in_err-ended.result c.in_err-ended.field-0.0 _ c.from_residual-in_err-ended.ensures.1 e)
-
-pub returns-in_err-write_entries-clause-front : goal.returns-in_err-write_entries-clause-front
-returns-in_err-write_entries-clause-front g c =
-    let b = batch (flat_map spelling) c.pieces.invariant.0 _ _ _ _ _ c.pieces.messages c.read.new.self.splitter c.read.new.self.reads c.pieces.whole.items c.read.new.out.items c.args.reads c.pieces.count c.in_ok-ended.ended
-    c.pieces.invariant.1 c.in_ok-ended.ensures.went in
-    let w = batch_broken (flat_map spelling) c.pieces.invariant.0 _ _ _ _ _ c.read.new.out.items c.args.reads c.pieces.count (flat_map spelling c.deref.result.now) flat_output b
-    (flat_more c.pieces.invariant.0 c.read.new.out.items c.deref.result.now c.deref.ensures.value) c.in_err-write_entries.ensures.written in
-    on_err c.from_residual-in_err-write_entries.result _ w.0
-
-pub returns-in_err-write_entries-clause-budget : goal.returns-in_err-write_entries-clause-budget
-returns-in_err-write_entries-clause-budget g c =
-    let b = batch (flat_map spelling) c.pieces.invariant.0 _ _ _ _ _ c.pieces.messages c.read.new.self.splitter c.read.new.self.reads c.pieces.whole.items c.read.new.out.items c.args.reads c.pieces.count c.in_ok-ended.ended
-    c.pieces.invariant.1 c.in_ok-ended.ensures.went in
-    (b.text, b.read, b.budget)
+pub returns-in_err-write_entries : goal.returns-in_err-write_entries
+returns-in_err-write_entries g c = record {
+  all = unless_ok _ c.from_residual-in_err-write_entries.result c.from_residual-in_err-write_entries.ensures.0;
+  end = unless_ok _ c.from_residual-in_err-write_entries.result c.from_residual-in_err-write_entries.ensures.0;
+  front =
+        let b = batch (flat_map spelling) c.pieces.invariant.0 _ _ _ _ _ c.pieces.messages c.read.new.self.splitter c.read.new.self.reads c.pieces.whole.items c.read.new.out.items c.args.reads c.pieces.count c.in_ok-ended.ended
+        c.pieces.invariant.1 c.in_ok-ended.ensures.went in
+        let w = batch_broken (flat_map spelling) c.pieces.invariant.0 _ _ _ _ _ c.read.new.out.items c.args.reads c.pieces.count (flat_map spelling c.deref.result.now) flat_output b
+        (flat_more c.pieces.invariant.0 c.read.new.out.items c.deref.result.now c.deref.ensures.value) c.in_err-write_entries.ensures.written in
+        on_err c.from_residual-in_err-write_entries.result _ w.0;
+  no_from_line = λ e. absurd (output_not_begun c.in_err-write_entries.field-0.0 (inl c.in_err-write_entries.ensures.causes) (fault_is c.from_residual-in_err-write_entries.result c.in_err-write_entries.field-0.0 _ c.from_residual-in_err-write_entries.ensures.1 e));
+  spent = λ e. absurd (output_not_spent c.in_err-write_entries.field-0.0 (inl c.in_err-write_entries.ensures.causes) (fault_is c.from_residual-in_err-write_entries.result c.in_err-write_entries.field-0.0 _ c.from_residual-in_err-write_entries.ensures.1 e));
+  causes = if_err _ c.from_residual-in_err-write_entries.result c.in_err-write_entries.field-0.0 c.from_residual-in_err-write_entries.ensures.1 (output_causes c.in_err-write_entries.field-0.0 (inl c.in_err-write_entries.ensures.causes));
+  budget =
+        let b = batch (flat_map spelling) c.pieces.invariant.0 _ _ _ _ _ c.pieces.messages c.read.new.self.splitter c.read.new.self.reads c.pieces.whole.items c.read.new.out.items c.args.reads c.pieces.count c.in_ok-ended.ended
+        c.pieces.invariant.1 c.in_ok-ended.ensures.went in
+        (b.text, b.read, b.budget);
+}
 
 pub overflow_add-count : goal.overflow_add-count
 overflow_add-count g c =
@@ -50,14 +54,25 @@ overflow_add-count g c =
     let len : c.len.result ≡ length c.read.new.out.items = omega (arith, c.len.ensures, c.read.new.out.ok.0) in
     omega (arith, fits, len)
 
-pub returns-then-ended-clause-all : goal.returns-then-ended-clause-all
-returns-then-ended-clause-all g c =
-    let p = c.pieces.invariant.1 in
-    let all = poured_all (flat_map spelling) c.pieces.invariant.0 _ _ _ _ _ _ c.pieces.messages c.read.new.self.splitter c.read.new.self.reads c.pieces.whole.items c.read.new.out.items c.args.reads c.pieces.count
-    (flat_map spelling c.deref.result.now) p (rw c.if-ended.true at c.in_ok-ended.ensures.went) (flat_more c.pieces.invariant.0 c.read.new.out.items c.deref.result.now c.deref.ensures.value)
-    c.in_ok-write_entries.ensures.written in
-    let len : c.len.result ≡ length c.read.new.out.items = omega (arith, c.len.ensures, c.read.new.out.ok.0) in
-    rw len all.0
+pub returns-then-ended : goal.returns-then-ended
+returns-then-ended g c = record {
+  all =
+        let p = c.pieces.invariant.1 in
+        let all = poured_all (flat_map spelling) c.pieces.invariant.0 _ _ _ _ _ _ c.pieces.messages c.read.new.self.splitter c.read.new.self.reads c.pieces.whole.items c.read.new.out.items c.args.reads c.pieces.count
+        (flat_map spelling c.deref.result.now) p (rw c.if-ended.true at c.in_ok-ended.ensures.went) (flat_more c.pieces.invariant.0 c.read.new.out.items c.deref.result.now c.deref.ensures.value)
+        c.in_ok-write_entries.ensures.written in
+        let len : c.len.result ≡ length c.read.new.out.items = omega (arith, c.len.ensures, c.read.new.out.ok.0) in
+        rw len all.0;
+  end = went_to_end c.in_ok-ended.ended _ _ c.pieces.messages _ _ _ _ c.if-ended.true c.in_ok-ended.ensures.went;
+  front = tt;
+  no_from_line = λ e. absurd (ok_is_none _ _ e);
+  spent = λ e. absurd (ok_is_none _ _ e);
+  causes = tt;
+  budget =
+        let b = batch (flat_map spelling) c.pieces.invariant.0 _ _ _ _ _ c.pieces.messages c.read.new.self.splitter c.read.new.self.reads c.pieces.whole.items c.read.new.out.items c.args.reads c.pieces.count c.in_ok-ended.ended
+        c.pieces.invariant.1 c.in_ok-ended.ensures.went in
+        (b.text, b.read, b.budget);
+}
 
 pub pieces-preserved : goal.pieces-preserved
 pieces-preserved g c =
@@ -68,71 +83,16 @@ pieces-preserved g c =
     let len : c.len.result ≡ length c.read.new.out.items = omega (arith, c.len.ensures, c.read.new.out.ok.0) in
     (c.pieces.invariant.0 ++ c.read.new.out.items, rw len more)
 
-pub returns-in_err-messages-clause-all : goal.returns-in_err-messages-clause-all
-returns-in_err-messages-clause-all g c = unless_ok _ c.from_residual.result c.from_residual.ensures.0
-
-pub returns-in_err-messages-clause-end : goal.returns-in_err-messages-clause-end
-returns-in_err-messages-clause-end g c = unless_ok _ c.from_residual.result c.from_residual.ensures.0
-
-pub returns-in_err-messages-clause-front : goal.returns-in_err-messages-clause-front
-returns-in_err-messages-clause-front g c = on_err c.from_residual.result _ (front_nothing (flat_map spelling) (g.R.Read.remaining c.args.source.now) (g.W.Write.contents c.args.out.now))
-
-pub returns-in_err-messages-clause-no_from_line : goal.returns-in_err-messages-clause-no_from_line
-returns-in_err-messages-clause-no_from_line g c = λ e. absurd (not_begun OutOfMemory tt (fault_is c.from_residual.result OutOfMemory _ c.from_residual.ensures.1 e))
-
-pub returns-in_err-messages-clause-spent : goal.returns-in_err-messages-clause-spent
-returns-in_err-messages-clause-spent g c = λ e. absurd (not_spent OutOfMemory tt (fault_is c.from_residual.result OutOfMemory _ c.from_residual.ensures.1 e))
-
-pub returns-in_err-messages-clause-causes : goal.returns-in_err-messages-clause-causes
-returns-in_err-messages-clause-causes g c = if_err _ c.from_residual.result OutOfMemory c.from_residual.ensures.1 (inl (inr (inr (inr refl))))
-
-pub returns-in_err-messages-clause-budget : goal.returns-in_err-messages-clause-budget
-returns-in_err-messages-clause-budget g c = read_nothing (g.R.Read.remaining c.args.source.now) (65536 * c.args.reads)
-
-pub returns-in_err-ended-clause-all : goal.returns-in_err-ended-clause-all
-returns-in_err-ended-clause-all g c = unless_ok _ c.from_residual-in_err-ended.result c.from_residual-in_err-ended.ensures.0
-
-pub returns-in_err-ended-clause-end : goal.returns-in_err-ended-clause-end
-returns-in_err-ended-clause-end g c = unless_ok _ c.from_residual-in_err-ended.result c.from_residual-in_err-ended.ensures.0
-
-pub returns-in_err-ended-clause-causes : goal.returns-in_err-ended-clause-causes
-returns-in_err-ended-clause-causes g c = if_err _ c.from_residual-in_err-ended.result c.in_err-ended.field-0.0 c.from_residual-in_err-ended.ensures.1 (inl c.in_err-ended.ensures.causes)
-
-pub returns-in_err-write_entries-clause-all : goal.returns-in_err-write_entries-clause-all
-returns-in_err-write_entries-clause-all g c = unless_ok _ c.from_residual-in_err-write_entries.result c.from_residual-in_err-write_entries.ensures.0
-
-pub returns-in_err-write_entries-clause-end : goal.returns-in_err-write_entries-clause-end
-returns-in_err-write_entries-clause-end g c = unless_ok _ c.from_residual-in_err-write_entries.result c.from_residual-in_err-write_entries.ensures.0
-
-pub returns-in_err-write_entries-clause-no_from_line : goal.returns-in_err-write_entries-clause-no_from_line
-returns-in_err-write_entries-clause-no_from_line g c = λ e. absurd (output_not_begun c.in_err-write_entries.field-0.0 (inl c.in_err-write_entries.ensures.causes) (fault_is c.from_residual-in_err-write_entries.result c.in_err-write_entries.field-0.0 _ c.from_residual-in_err-write_entries.ensures.1 e))
-
-pub returns-in_err-write_entries-clause-spent : goal.returns-in_err-write_entries-clause-spent
-returns-in_err-write_entries-clause-spent g c = λ e. absurd (output_not_spent c.in_err-write_entries.field-0.0 (inl c.in_err-write_entries.ensures.causes) (fault_is c.from_residual-in_err-write_entries.result c.in_err-write_entries.field-0.0 _ c.from_residual-in_err-write_entries.ensures.1 e))
-
-pub returns-in_err-write_entries-clause-causes : goal.returns-in_err-write_entries-clause-causes
-returns-in_err-write_entries-clause-causes g c = if_err _ c.from_residual-in_err-write_entries.result c.in_err-write_entries.field-0.0 c.from_residual-in_err-write_entries.ensures.1 (output_causes c.in_err-write_entries.field-0.0 (inl c.in_err-write_entries.ensures.causes))
-
-pub returns-then-ended-clause-end : goal.returns-then-ended-clause-end
-returns-then-ended-clause-end g c = went_to_end c.in_ok-ended.ended _ _ c.pieces.messages _ _ _ _ c.if-ended.true c.in_ok-ended.ensures.went
-
-pub returns-then-ended-clause-front : goal.returns-then-ended-clause-front
-returns-then-ended-clause-front g c = tt
-
-pub returns-then-ended-clause-no_from_line : goal.returns-then-ended-clause-no_from_line
-returns-then-ended-clause-no_from_line g c = λ e. absurd (ok_is_none _ _ e)
-
-pub returns-then-ended-clause-spent : goal.returns-then-ended-clause-spent
-returns-then-ended-clause-spent g c = λ e. absurd (ok_is_none _ _ e)
-
-pub returns-then-ended-clause-causes : goal.returns-then-ended-clause-causes
-returns-then-ended-clause-causes g c = tt
-
-pub returns-then-ended-clause-budget : goal.returns-then-ended-clause-budget
-returns-then-ended-clause-budget g c = 
-    let b = batch (flat_map spelling) c.pieces.invariant.0 _ _ _ _ _ c.pieces.messages c.read.new.self.splitter c.read.new.self.reads c.pieces.whole.items c.read.new.out.items c.args.reads c.pieces.count c.in_ok-ended.ended
-    c.pieces.invariant.1 c.in_ok-ended.ensures.went in
-    (b.text, b.read, b.budget)
+pub returns-in_err-messages : goal.returns-in_err-messages
+returns-in_err-messages g c = record {
+  all = unless_ok _ c.from_residual.result c.from_residual.ensures.0;
+  end = unless_ok _ c.from_residual.result c.from_residual.ensures.0;
+  front = on_err c.from_residual.result _ (front_nothing (flat_map spelling) (g.R.Read.remaining c.args.source.now) (g.W.Write.contents c.args.out.now));
+  no_from_line = λ e. absurd (not_begun OutOfMemory tt (fault_is c.from_residual.result OutOfMemory _ c.from_residual.ensures.1 e));
+  spent = λ e. absurd (not_spent OutOfMemory tt (fault_is c.from_residual.result OutOfMemory _ c.from_residual.ensures.1 e));
+  causes = if_err _ c.from_residual.result OutOfMemory c.from_residual.ensures.1 (inl (inr (inr (inr refl))));
+  budget = read_nothing (g.R.Read.remaining c.args.source.now) (65536 * c.args.reads);
+}
 
 pub pieces-smaller : goal.pieces-smaller
 pieces-smaller g c = went_on c.in_ok-ended.ended _ _ c.pieces.messages _ _ _ _ c.if-ended.false c.in_ok-ended.ensures.went
