@@ -1,50 +1,18 @@
--- What a call has kept where it ends, by its fault, and the numbers of its calls and messages.
-use Rattle.std.proofs.Common.{◌≡◌, ℕ, suc, ◌+◌, ◌*◌, ◌<◌, ◌≤◌, ◌^◌, ◌⊎◌, Bool, false, true, cond, Option, Result, Ok, Err, List, [], ◌++◌, length, filter, refl, sym, ap, subst, ◌∙◌, inl, inr, arith, length-append}
-use Rattle.std.specs.Prelude.{IsErr, IsErrAnd, IfOk}
+-- What a call has read where it ends, and the numbers of its calls and messages.
+use Rattle.std.proofs.Common.{◌≡◌, ℕ, suc, ◌+◌, ◌*◌, ◌<◌, ◌≤◌, ◌^◌, Bool, false, true, cond, Option, Ok, List, [], ◌++◌, length, filter, refl, ap, subst, arith, length-append}
 use Rattle.std.specs.Io.KnownBytes.{IsAtEnd}
 use Rattle.std.proofs.KnownBytes.{Consumes-nil, Appends-nil}
 use Rattle.std.proofs.lemmas.List.Sorted.{IsPermutation-refl}
 use Rattle.mbox_text.specs.declared.entry.Entry.{Entry}
 use Rattle.mbox_text.specs.declared.splitter.Splitter.{Splitter}
 use Rattle.maildir_run.specs.declared.fault.RunFault.{RunFault}
-use Rattle.maildir_run.specs.declared.fault.RunFault.TheVariants.{NoFromLine, TooManyReads, OutputFault, OutOfMemory}
 use Rattle.maildir_run.specs.declared.messages.Messages.{Messages}
-use Rattle.maildir_run.specs.Counting.{CountsFault, IsOfFolder}
 use Rattle.maildir_run.specs.Files.{Files, homes}
 use Rattle.maildir_run.specs.Given.{IsGiven, Begins, Refused}
 use Rattle.maildir_run.specs.Progress.{LeavesHomes}
-use Rattle.maildir_run.specs.Reading.{IsReading, ReadsAtMost, Went}
+use Rattle.maildir_run.specs.Reading.{ReadsAtMost, Went}
 use Rattle.maildir_run.specs.Output.{GivesFront}
 use Rattle.maildir_run.proofs.Givens.{given_read, given_budget}
-
--- ---- no report
-pub unless_ok : {A E : Type 0} (P : A → Type 0) (r : Result A E) → IsErr r → IfOk r P
-unless_ok P (Ok x) is = let off : false ≡ true = is in cc
-unless_ok P (Err e) is = tt
-
-pub ok_is_none : {A : Type 0} (x : A) (fault : RunFault) → Ok x ≡ Err fault → ⊥
-ok_is_none x fault e = cc
-
--- ---- the folder's faults are not those of reading
-pub not_begun : (fault : RunFault) → IsOfFolder fault → fault ≡ NoFromLine → ⊥
-not_begun fault of e = subst IsOfFolder e of
-
-pub not_spent : (fault : RunFault) → IsOfFolder fault → fault ≡ TooManyReads → ⊥
-not_spent fault of e = subst IsOfFolder e of
-
--- ---- the count of failures
-pub cause_then : {B : Type 0} (r : Result B RunFault) (fault : RunFault) (old mid new : ℕ) → IsErrAnd r (λ e. e ≡ fault) → mid ≡ old → CountsFault {A = B} (Err fault) mid new → CountsFault r old new
-cause_then {B} (Ok x) fault old mid new is e h = absurd is
-cause_then {B} (Err f) fault old mid new is e h = subst (λ k. CountsFault {A = B} (Err f) k new) e (subst (λ g. CountsFault {A = B} (Err g) mid new) (sym is) h)
-
-still : (A : Type 0) (fault : RunFault) (old new : ℕ) → IsReading fault → new ≡ old → CountsFault {A = A} (Err fault) old new
-still A fault old new (inl e) same = subst (λ f. CountsFault {A = A} (Err f) old new) (sym e) same
-still A fault old new (inr (inl e)) same = subst (λ f. CountsFault {A = A} (Err f) old new) (sym e) same
-still A fault old new (inr (inr (inl e))) same = subst (λ f. CountsFault {A = A} (Err f) old new) (sym e) same
-still A fault old new (inr (inr (inr e))) same = subst (λ f. CountsFault {A = A} (Err f) old new) (sym e) same
-
-pub cause_read : {B : Type 0} (r : Result B RunFault) (fault : RunFault) (old new : ℕ) → IsErrAnd r (λ e. e ≡ fault) → IsReading fault → new ≡ old → CountsFault r old new
-cause_read {B} r fault old new is reading same = cause_then r fault old old new is refl (still B fault old new reading same)
 
 -- ---- what was read
 pub read_nothing : (source : Option (List ℕ)) (most : ℕ) → ReadsAtMost source source most
@@ -108,19 +76,6 @@ all_calls_few swept placed n all messages messages' reads given whole entries lo
 -- ---- a call that writes as it reads
 pub front_nothing : (output : List Entry → List ℕ) (source was : Option (List ℕ)) → GivesFront output source source was was
 front_nothing output source was = λ t entries p m. ([], output entries, refl, Appends-nil was)
-
--- the writer's faults are not those of reading
-pub output_not_begun : (fault : RunFault) → (fault ≡ OutputFault) ⊎ (fault ≡ OutOfMemory) → fault ≡ NoFromLine → ⊥
-output_not_begun fault (inl e) f = cc
-output_not_begun fault (inr e) f = cc
-
-pub output_not_spent : (fault : RunFault) → (fault ≡ OutputFault) ⊎ (fault ≡ OutOfMemory) → fault ≡ TooManyReads → ⊥
-output_not_spent fault (inl e) f = cc
-output_not_spent fault (inr e) f = cc
-
-pub output_causes : (fault : RunFault) → (fault ≡ OutputFault) ⊎ (fault ≡ OutOfMemory) → IsReading fault ⊎ (fault ≡ OutputFault)
-output_causes fault (inl e) = inr e
-output_causes fault (inr e) = inl (inr (inr (inr e)))
 
 -- ---- one more read
 pub went_to_end : (ended : Bool) (before after : Option (List ℕ)) (old : Messages) (splitter : Splitter) (left : ℕ) (out out' : List Entry) → ended ≡ true → Went old before after out out' splitter left (Ok ended) → IsAtEnd after

@@ -121,11 +121,6 @@ given_few true before now splitter left reads text given p = let within = p.budg
 pub gave_on : (ended : Bool) (before now : Option (List ℕ)) (splitter : Splitter) (left reads : ℕ) (given : List Entry) → ended ≡ false → GaveMore ended before now splitter left reads given → GaveMore false before now splitter left reads given
 gave_on ended before now splitter left reads given e more = subst (λ b. GaveMore b before now splitter left reads given) e more
 
--- the fault of a refused call
-pub if_err : {A E : Type 0} (P : E → Type 0) (r : Result A E) (fault : E) → IsErrAnd r (λ e. e ≡ fault) → P fault → IfErr r P
-if_err P (Ok x) fault is p = tt
-if_err P (Err e) fault is p = subst P (sym is) p
-
 -- whether a list is empty, by its length
 pub none_left : (items : List Entry) (n : ℕ) (b : Bool) → b ≡ (n == 0) → b ≡ true → n ≡ length items → items ≡ []
 none_left [] n b is on e = refl

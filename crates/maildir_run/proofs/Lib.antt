@@ -16,6 +16,7 @@ pub mod Batches
 pub mod Givens
 pub mod Converts
 pub mod Exits
+pub mod Faults
 pub mod Progress
 pub mod Unread
 pub mod Trees

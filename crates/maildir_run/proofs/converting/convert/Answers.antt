@@ -20,15 +20,16 @@ use Rattle.maildir_run.proofs.Converts.{filled_none, alone_run}
 use Rattle.maildir_run.proofs.Surveys.{filter-length}
 use Rattle.maildir_run.proofs.QuietRuns.{others_same, others_then}
 use Rattle.maildir_run.specs.declared.fault.RunFault.TheVariants.{OutOfMemory}
-use Rattle.maildir_run.proofs.Givens.{if_err, never_again}
-use Rattle.maildir_run.proofs.Exits.{unless_ok, ok_is_none, not_begun, not_spent, cause_then, cause_read, read_nothing, given_within, begins_within, refused_of, leaves_same, none_few, three_few, most_few, itself, swept_few, none_placed, all_placed, swept_within, batch_fits, batch_count, batch_begun, calls_few, all_calls_few, went_down}
+use Rattle.maildir_run.proofs.Givens.{never_again}
+use Rattle.maildir_run.proofs.Faults.{if_err, unless_ok, ok_is_none, not_begun, not_spent, cause_then, cause_read}
+use Rattle.maildir_run.proofs.Exits.{read_nothing, given_within, begins_within, refused_of, leaves_same, none_few, three_few, most_few, itself, swept_few, none_placed, all_placed, swept_within, batch_fits, batch_count, batch_begun, calls_few, all_calls_few, went_down}
 use Rattle.maildir_run.proofs.converting.convert.Goals as goal
 
 pub returns-in_err-ended : goal.returns-in_err-ended
 returns-in_err-ended g c = record {
   honest = λ h. h;
   run = λ honest t small p.
-        run_err t _ _ c.from_residual-in_err-ended.result c.from_residual-in_err-ended.ensures.0 (λ fault. untouched_run t _ _ fault (leaves_same (g.F.Folder.files c.args.folder.now)) small);
+      run_err t _ _ c.from_residual-in_err-ended.result c.from_residual-in_err-ended.ensures.0 (λ fault. untouched_run t _ _ fault (leaves_same (g.F.Folder.files c.args.folder.now)) small);
   end = unless_ok _ c.from_residual-in_err-ended.result c.from_residual-in_err-ended.ensures.0;
   quiet = λ h. h;
   alone = λ q t ms p of. unless_ok _ c.from_residual-in_err-ended.result c.from_residual-in_err-ended.ensures.0;
@@ -36,7 +37,7 @@ returns-in_err-ended g c = record {
   calls = unless_ok _ c.from_residual-in_err-ended.result c.from_residual-in_err-ended.ensures.0;
   cause = cause_read c.from_residual-in_err-ended.result c.in_err-ended.field-0.0 _ _ c.from_residual-in_err-ended.ensures.1 c.in_err-ended.ensures.causes refl;
   numbered =
-        numbers_read c.from_residual-in_err-ended.result c.in_err-ended.field-0.0 0 _ _ c.from_residual-in_err-ended.ensures.1 none_few refl c.in_err-ended.ensures.causes;
+      numbers_read c.from_residual-in_err-ended.result c.in_err-ended.field-0.0 0 _ _ c.from_residual-in_err-ended.ensures.1 none_few refl c.in_err-ended.ensures.causes;
   untouched = λ e. refl;
   no_from_line = λ e. (refused_of _ _ _ c.args.reads c.in_err-ended.field-0.0 c.in_ok-messages.ensures.1 c.in_err-ended.ensures.refused).unreadable (fault_is c.from_residual-in_err-ended.result c.in_err-ended.field-0.0 _ c.from_residual-in_err-ended.ensures.1 e);
   spent = λ e. (refused_of _ _ _ c.args.reads c.in_err-ended.field-0.0 c.in_ok-messages.ensures.1 c.in_err-ended.ensures.refused).spent (fault_is c.from_residual-in_err-ended.result c.in_err-ended.field-0.0 _ c.from_residual-in_err-ended.ensures.1 e);
@@ -48,7 +49,7 @@ pub returns-in_err-found : goal.returns-in_err-found
 returns-in_err-found g c = record {
   honest = λ h. c.in_err-found.ensures.honest h;
   run = λ honest t small p.
-        run_err t _ _ c.from_residual-in_err-found.result c.from_residual-in_err-found.ensures.0 (λ fault. untouched_run t _ _ fault (c.in_err-found.ensures.leaves honest) small);
+      run_err t _ _ c.from_residual-in_err-found.result c.from_residual-in_err-found.ensures.0 (λ fault. untouched_run t _ _ fault (c.in_err-found.ensures.leaves honest) small);
   end = unless_ok _ c.from_residual-in_err-found.result c.from_residual-in_err-found.ensures.0;
   quiet = λ h. c.in_err-found.ensures.quiet h;
   alone = λ q t ms p of. unless_ok _ c.from_residual-in_err-found.result c.from_residual-in_err-found.ensures.0;
@@ -56,7 +57,7 @@ returns-in_err-found g c = record {
   calls = unless_ok _ c.from_residual-in_err-found.result c.from_residual-in_err-found.ensures.0;
   cause = cause_then c.from_residual-in_err-found.result c.in_err-found.field-0.0 _ _ _ c.from_residual-in_err-found.ensures.1 refl c.in_err-found.ensures.cause;
   numbered =
-        numbers_call c.from_residual-in_err-found.result c.in_err-found.field-0.0 3 _ _ _ _ c.from_residual-in_err-found.ensures.1 c.new-calls.ensures three_few c.in_err-found.ensures.most c.in_err-found.ensures.numbered;
+      numbers_call c.from_residual-in_err-found.result c.in_err-found.field-0.0 3 _ _ _ _ c.from_residual-in_err-found.ensures.1 c.new-calls.ensures three_few c.in_err-found.ensures.most c.in_err-found.ensures.numbered;
   untouched = λ e. absurd (not_begun c.in_err-found.field-0.0 c.in_err-found.ensures.causes (fault_is c.from_residual-in_err-found.result c.in_err-found.field-0.0 _ c.from_residual-in_err-found.ensures.1 e));
   no_from_line = λ e. absurd (not_begun c.in_err-found.field-0.0 c.in_err-found.ensures.causes (fault_is c.from_residual-in_err-found.result c.in_err-found.field-0.0 _ c.from_residual-in_err-found.ensures.1 e));
   spent = λ e. absurd (not_spent c.in_err-found.field-0.0 c.in_err-found.ensures.causes (fault_is c.from_residual-in_err-found.result c.in_err-found.field-0.0 _ c.from_residual-in_err-found.ensures.1 e));
@@ -68,18 +69,18 @@ pub returns-in_err-swept : goal.returns-in_err-swept
 returns-in_err-swept g c = record {
   honest = λ h. c.in_err-swept.ensures.honest (c.in_ok-found.ensures.honest h);
   run = λ honest t small p.
-        run_err t _ _ c.from_residual-in_err-swept.result c.from_residual-in_err-swept.ensures.0
-        (λ fault. untouched_run t _ _ fault (leaves_trans _ _ _ (c.in_ok-found.ensures.leaves honest) (c.in_err-swept.ensures.leaves (c.in_ok-found.ensures.honest honest))) small);
+      run_err t _ _ c.from_residual-in_err-swept.result c.from_residual-in_err-swept.ensures.0
+      (λ fault. untouched_run t _ _ fault (leaves_trans _ _ _ (c.in_ok-found.ensures.leaves honest) (c.in_err-swept.ensures.leaves (c.in_ok-found.ensures.honest honest))) small);
   end = unless_ok _ c.from_residual-in_err-swept.result c.from_residual-in_err-swept.ensures.0;
   quiet = λ h. c.in_err-swept.ensures.quiet (c.in_ok-found.ensures.quiet h);
   alone = λ q t ms p of. unless_ok _ c.from_residual-in_err-swept.result c.from_residual-in_err-swept.ensures.0;
   others = λ q.
-        subst (λ s. LeavesOthers s (g.F.Folder.files c.sweep.new.folder)) (c.in_ok-found.ensures.same q) (c.in_err-swept.ensures.others (c.in_ok-found.ensures.quiet q));
+      subst (λ s. LeavesOthers s (g.F.Folder.files c.sweep.new.folder)) (c.in_ok-found.ensures.same q) (c.in_err-swept.ensures.others (c.in_ok-found.ensures.quiet q));
   calls = unless_ok _ c.from_residual-in_err-swept.result c.from_residual-in_err-swept.ensures.0;
   cause = cause_then c.from_residual-in_err-swept.result c.in_err-swept.field-0.0 _ _ _ c.from_residual-in_err-swept.ensures.1 c.in_ok-found.ensures.cause c.in_err-swept.ensures.cause;
   numbered =
-        numbers_call c.from_residual-in_err-swept.result c.in_err-swept.field-0.0 (3 + 2 ^ 64) _ _ _ _ c.from_residual-in_err-swept.ensures.1 c.new-calls.ensures most_few
-        (more_up_to 3 (2 ^ 64) (3 + 2 ^ 64) _ _ _ _ _ _ (itself (3 + 2 ^ 64)) c.in_ok-found.ensures.made c.in_err-swept.ensures.most) c.in_err-swept.ensures.numbered;
+      numbers_call c.from_residual-in_err-swept.result c.in_err-swept.field-0.0 (3 + 2 ^ 64) _ _ _ _ c.from_residual-in_err-swept.ensures.1 c.new-calls.ensures most_few
+      (more_up_to 3 (2 ^ 64) (3 + 2 ^ 64) _ _ _ _ _ _ (itself (3 + 2 ^ 64)) c.in_ok-found.ensures.made c.in_err-swept.ensures.most) c.in_err-swept.ensures.numbered;
   untouched = λ e. absurd (not_begun c.in_err-swept.field-0.0 c.in_err-swept.ensures.causes (fault_is c.from_residual-in_err-swept.result c.in_err-swept.field-0.0 _ c.from_residual-in_err-swept.ensures.1 e));
   no_from_line = λ e. absurd (not_begun c.in_err-swept.field-0.0 c.in_err-swept.ensures.causes (fault_is c.from_residual-in_err-swept.result c.in_err-swept.field-0.0 _ c.from_residual-in_err-swept.ensures.1 e));
   spent = λ e. absurd (not_spent c.in_err-swept.field-0.0 c.in_err-swept.ensures.causes (fault_is c.from_residual-in_err-swept.result c.in_err-swept.field-0.0 _ c.from_residual-in_err-swept.ensures.1 e));
@@ -91,18 +92,18 @@ pub returns-in_err-there : goal.returns-in_err-there
 returns-in_err-there g c = record {
   honest = λ h. c.in_ok-swept.ensures.honest (c.in_ok-found.ensures.honest h);
   run = λ honest t small p.
-        run_err t _ _ c.from_residual-in_err-there.result c.from_residual-in_err-there.ensures.0
-        (λ fault. untouched_run t _ _ fault (leaves_trans _ _ _ (c.in_ok-found.ensures.leaves honest) (c.in_ok-swept.ensures.leaves (c.in_ok-found.ensures.honest honest))) small);
+      run_err t _ _ c.from_residual-in_err-there.result c.from_residual-in_err-there.ensures.0
+      (λ fault. untouched_run t _ _ fault (leaves_trans _ _ _ (c.in_ok-found.ensures.leaves honest) (c.in_ok-swept.ensures.leaves (c.in_ok-found.ensures.honest honest))) small);
   end = unless_ok _ c.from_residual-in_err-there.result c.from_residual-in_err-there.ensures.0;
   quiet = λ h. c.in_ok-swept.ensures.quiet (c.in_ok-found.ensures.quiet h);
   alone = λ q t ms p of. unless_ok _ c.from_residual-in_err-there.result c.from_residual-in_err-there.ensures.0;
   others = λ q.
-        subst (λ s. LeavesOthers s (g.F.Folder.files c.sweep.new.folder)) (c.in_ok-found.ensures.same q) (c.in_ok-swept.ensures.others (c.in_ok-found.ensures.quiet q));
+      subst (λ s. LeavesOthers s (g.F.Folder.files c.sweep.new.folder)) (c.in_ok-found.ensures.same q) (c.in_ok-swept.ensures.others (c.in_ok-found.ensures.quiet q));
   calls = unless_ok _ c.from_residual-in_err-there.result c.from_residual-in_err-there.ensures.0;
   cause = cause_read c.from_residual-in_err-there.result OutOfMemory _ _ c.from_residual-in_err-there.ensures.1 (inr (inr (inr refl))) (c.in_ok-swept.ensures.cause ∙ c.in_ok-found.ensures.cause);
   numbered =
-        numbers_read c.from_residual-in_err-there.result _ (3 + c.in_ok-swept.swept) _ _ c.from_residual-in_err-there.ensures.1 (swept_few c.in_ok-swept.swept c.in_ok-swept.ensures.few)
-        (more_calls 3 c.in_ok-swept.swept _ _ _ _ _ _ c.in_ok-found.ensures.made c.in_ok-swept.ensures.made).counted (inr (inr (inr refl)));
+      numbers_read c.from_residual-in_err-there.result _ (3 + c.in_ok-swept.swept) _ _ c.from_residual-in_err-there.ensures.1 (swept_few c.in_ok-swept.swept c.in_ok-swept.ensures.few)
+      (more_calls 3 c.in_ok-swept.swept _ _ _ _ _ _ c.in_ok-found.ensures.made c.in_ok-swept.ensures.made).counted (inr (inr (inr refl)));
   untouched = λ e. absurd (not_begun OutOfMemory tt (fault_is c.from_residual-in_err-there.result OutOfMemory _ c.from_residual-in_err-there.ensures.1 e));
   no_from_line = λ e. absurd (not_begun OutOfMemory tt (fault_is c.from_residual-in_err-there.result OutOfMemory _ c.from_residual-in_err-there.ensures.1 e));
   spent = λ e. absurd (not_spent OutOfMemory tt (fault_is c.from_residual-in_err-there.result OutOfMemory _ c.from_residual-in_err-there.ensures.1 e));
@@ -165,19 +166,19 @@ pub returns-in_err-deliver_all : goal.returns-in_err-deliver_all
 returns-in_err-deliver_all g c = record {
   honest = λ h. c.in_err-deliver_all.ensures.honest (c.pieces.invariant.honest h);
   run = λ honest t small p.
-        let i = c.pieces.invariant in
-        let whole = c.pieces.whole.items in
-        let start = g.F.Folder.files c.args.folder.now in
-        let now = g.F.Folder.files c.deliver_all.new.folder in
-        let entries = c.deref-in-pieces.result.now in
-        let is : entries ≡ whole = c.deref-in-pieces.ensures.value in
-        let few = given_few c.pieces.ended _ _ _ _ _ i.text (i.given ++ whole) i.gave in
-        let come : All (IsSoundAt start) (messages_of (bodies_of (i.given ++ whole))) → Came (bodies_of (i.given ++ whole)) start now = λ sound.
-        subst (λ bs. Came bs start now) (batch_bodies i.given whole entries is)
-        (c.in_err-deliver_all.ensures.came (i.honest honest) (bodies_of i.given) start (i.reached honest (given_sound start i.given whole sound))
-        (batch_few i.given whole entries c.args.reads is few c.requires) (batch_sound start i.given whole entries is sound)) in
-        run_err t start now c.from_residual-in_err-deliver_all.result c.from_residual-in_err-deliver_all.ensures.0
-        (λ fault. came_run _ _ i.text (i.given ++ whole) start now fault (given_read c.pieces.ended _ _ _ _ _ i.text (i.given ++ whole) i.gave) (given_first c.pieces.ended _ _ _ _ _ i.text (i.given ++ whole) i.gave) come t small p);
+      let i = c.pieces.invariant in
+      let whole = c.pieces.whole.items in
+      let start = g.F.Folder.files c.args.folder.now in
+      let now = g.F.Folder.files c.deliver_all.new.folder in
+      let entries = c.deref-in-pieces.result.now in
+      let is : entries ≡ whole = c.deref-in-pieces.ensures.value in
+      let few = given_few c.pieces.ended _ _ _ _ _ i.text (i.given ++ whole) i.gave in
+      let come : All (IsSoundAt start) (messages_of (bodies_of (i.given ++ whole))) → Came (bodies_of (i.given ++ whole)) start now = λ sound.
+      subst (λ bs. Came bs start now) (batch_bodies i.given whole entries is)
+      (c.in_err-deliver_all.ensures.came (i.honest honest) (bodies_of i.given) start (i.reached honest (given_sound start i.given whole sound))
+      (batch_few i.given whole entries c.args.reads is few c.requires) (batch_sound start i.given whole entries is sound)) in
+      run_err t start now c.from_residual-in_err-deliver_all.result c.from_residual-in_err-deliver_all.ensures.0
+      (λ fault. came_run _ _ i.text (i.given ++ whole) start now fault (given_read c.pieces.ended _ _ _ _ _ i.text (i.given ++ whole) i.gave) (given_first c.pieces.ended _ _ _ _ _ i.text (i.given ++ whole) i.gave) come t small p);
   end = unless_ok _ c.from_residual-in_err-deliver_all.result c.from_residual-in_err-deliver_all.ensures.0;
   quiet = λ h. c.in_err-deliver_all.ensures.quiet (c.pieces.invariant.quiet h);
   alone = λ q t ms p of. unless_ok _ c.from_residual-in_err-deliver_all.result c.from_residual-in_err-deliver_all.ensures.0;
@@ -185,109 +186,109 @@ returns-in_err-deliver_all g c = record {
   calls = unless_ok _ c.from_residual-in_err-deliver_all.result c.from_residual-in_err-deliver_all.ensures.0;
   cause = cause_then c.from_residual-in_err-deliver_all.result c.in_err-deliver_all.field-0.0 _ _ _ c.from_residual-in_err-deliver_all.ensures.1 c.pieces.invariant.failures c.in_err-deliver_all.ensures.cause;
   numbered =
-        let i = c.pieces.invariant in
-        let whole = c.pieces.whole.items in
-        let entries = c.deref-in-pieces.result.now in
-        let few = given_few c.pieces.ended _ _ _ _ _ i.text (i.given ++ whole) i.gave in
-        let before = 3 + c.in_ok-swept.swept + 2 * c.pieces.engine.placed in
-        let most = calls_few c.in_ok-swept.swept c.pieces.engine.placed c.pieces.engine.messages c.args.reads i.given whole entries c.in_ok-swept.ensures.few c.pieces.engine.within i.count few c.requires c.deref-in-pieces.ensures.value in
-        numbers_call c.from_residual-in_err-deliver_all.result c.in_err-deliver_all.field-0.0 (before + 2 * length entries) 0 _ _ _ c.from_residual-in_err-deliver_all.ensures.1 refl most
-        (more_up_to before (2 * length entries) (before + 2 * length entries) _ _ _ _ _ _ (itself (before + 2 * length entries)) i.made c.in_err-deliver_all.ensures.most) c.in_err-deliver_all.ensures.numbered;
+      let i = c.pieces.invariant in
+      let whole = c.pieces.whole.items in
+      let entries = c.deref-in-pieces.result.now in
+      let few = given_few c.pieces.ended _ _ _ _ _ i.text (i.given ++ whole) i.gave in
+      let before = 3 + c.in_ok-swept.swept + 2 * c.pieces.engine.placed in
+      let most = calls_few c.in_ok-swept.swept c.pieces.engine.placed c.pieces.engine.messages c.args.reads i.given whole entries c.in_ok-swept.ensures.few c.pieces.engine.within i.count few c.requires c.deref-in-pieces.ensures.value in
+      numbers_call c.from_residual-in_err-deliver_all.result c.in_err-deliver_all.field-0.0 (before + 2 * length entries) 0 _ _ _ c.from_residual-in_err-deliver_all.ensures.1 refl most
+      (more_up_to before (2 * length entries) (before + 2 * length entries) _ _ _ _ _ _ (itself (before + 2 * length entries)) i.made c.in_err-deliver_all.ensures.most) c.in_err-deliver_all.ensures.numbered;
   untouched = λ e. absurd (not_begun c.in_err-deliver_all.field-0.0 c.in_err-deliver_all.ensures.causes (fault_is c.from_residual-in_err-deliver_all.result c.in_err-deliver_all.field-0.0 _ c.from_residual-in_err-deliver_all.ensures.1 e));
   no_from_line = λ e. absurd (not_begun c.in_err-deliver_all.field-0.0 c.in_err-deliver_all.ensures.causes (fault_is c.from_residual-in_err-deliver_all.result c.in_err-deliver_all.field-0.0 _ c.from_residual-in_err-deliver_all.ensures.1 e));
   spent = λ e. absurd (not_spent c.in_err-deliver_all.field-0.0 c.in_err-deliver_all.ensures.causes (fault_is c.from_residual-in_err-deliver_all.result c.in_err-deliver_all.field-0.0 _ c.from_residual-in_err-deliver_all.ensures.1 e));
   causes = if_err _ c.from_residual-in_err-deliver_all.result c.in_err-deliver_all.field-0.0 c.from_residual-in_err-deliver_all.ensures.1 (inr c.in_err-deliver_all.ensures.causes);
   budget =
-        let i = c.pieces.invariant in
-        given_within c.pieces.ended _ _ _ _ _ i.text (i.given ++ c.pieces.whole.items) i.gave;
+      let i = c.pieces.invariant in
+      given_within c.pieces.ended _ _ _ _ _ i.text (i.given ++ c.pieces.whole.items) i.gave;
 }
 
 pub returns-then-ended : goal.returns-then-ended
 returns-then-ended g c = record {
   honest = λ h. c.in_ok-deliver_all.ensures.honest (c.pieces.invariant.honest h);
   run = λ honest t small p.
-        let i = c.pieces.invariant in
-        let whole = c.pieces.whole.items in
-        let start = g.F.Folder.files c.args.folder.now in
-        let now = g.F.Folder.files c.deliver_all.new.folder in
-        let entries = c.deref-in-pieces.result.now in
-        let engine = c.deliver_all.new.self in
-        let is : entries ≡ whole = c.deref-in-pieces.ensures.value in
-        let few = given_few c.pieces.ended _ _ _ _ _ i.text (i.given ++ whole) i.gave in
-        let come : All (IsSoundAt start) (messages_of (bodies_of (i.given ++ whole))) → Reached (bodies_of (i.given ++ whole)) start engine.there engine.namer engine.messages engine.placed now = λ sound.
-        subst (λ bs. Reached bs start engine.there engine.namer engine.messages engine.placed now) (batch_bodies i.given whole entries is)
-        (c.in_ok-deliver_all.ensures.done (i.honest honest) (bodies_of i.given) start (i.reached honest (given_sound start i.given whole sound))
-        (batch_few i.given whole entries c.args.reads is few c.requires) (batch_sound start i.given whole entries is sound)) in
-        let swept = swept_within is_converter_name c.report.result.swept c.in_ok-swept.swept (leftover_count start) (map string_bytes c.deref.result.now) (map string_bytes c.in_ok-found.found.tmp.items)
-        c.report.ensures.swept c.in_ok-swept.ensures.count (ap (map string_bytes) c.deref.ensures.value) (c.in_ok-found.ensures.few honest) in
-        reached_run _ _ c.args.reads i.text (i.given ++ whole) start now engine.there engine.namer engine.messages engine.placed c.report.result
-        (at_end c.pieces.ended _ _ _ _ _ i.text (i.given ++ whole) c.if-ended.true i.gave) come c.report.ensures.messages c.report.ensures.there c.report.ensures.placed swept t small p;
+      let i = c.pieces.invariant in
+      let whole = c.pieces.whole.items in
+      let start = g.F.Folder.files c.args.folder.now in
+      let now = g.F.Folder.files c.deliver_all.new.folder in
+      let entries = c.deref-in-pieces.result.now in
+      let engine = c.deliver_all.new.self in
+      let is : entries ≡ whole = c.deref-in-pieces.ensures.value in
+      let few = given_few c.pieces.ended _ _ _ _ _ i.text (i.given ++ whole) i.gave in
+      let come : All (IsSoundAt start) (messages_of (bodies_of (i.given ++ whole))) → Reached (bodies_of (i.given ++ whole)) start engine.there engine.namer engine.messages engine.placed now = λ sound.
+      subst (λ bs. Reached bs start engine.there engine.namer engine.messages engine.placed now) (batch_bodies i.given whole entries is)
+      (c.in_ok-deliver_all.ensures.done (i.honest honest) (bodies_of i.given) start (i.reached honest (given_sound start i.given whole sound))
+      (batch_few i.given whole entries c.args.reads is few c.requires) (batch_sound start i.given whole entries is sound)) in
+      let swept = swept_within is_converter_name c.report.result.swept c.in_ok-swept.swept (leftover_count start) (map string_bytes c.deref.result.now) (map string_bytes c.in_ok-found.found.tmp.items)
+      c.report.ensures.swept c.in_ok-swept.ensures.count (ap (map string_bytes) c.deref.ensures.value) (c.in_ok-found.ensures.few honest) in
+      reached_run _ _ c.args.reads i.text (i.given ++ whole) start now engine.there engine.namer engine.messages engine.placed c.report.result
+      (at_end c.pieces.ended _ _ _ _ _ i.text (i.given ++ whole) c.if-ended.true i.gave) come c.report.ensures.messages c.report.ensures.there c.report.ensures.placed swept t small p;
   end =
-        let i = c.pieces.invariant in
-        (at_end c.pieces.ended _ _ _ _ _ i.text (i.given ++ c.pieces.whole.items) c.if-ended.true i.gave).end;
+      let i = c.pieces.invariant in
+      (at_end c.pieces.ended _ _ _ _ _ i.text (i.given ++ c.pieces.whole.items) c.if-ended.true i.gave).end;
   quiet = λ h. c.in_ok-deliver_all.ensures.quiet (c.pieces.invariant.quiet h);
   alone = λ q t ms p of.
-        let i = c.pieces.invariant in
-        let whole = c.pieces.whole.items in
-        let start = g.F.Folder.files c.args.folder.now in
-        let now = g.F.Folder.files c.deliver_all.new.folder in
-        let entries = c.deref-in-pieces.result.now in
-        let engine = c.deliver_all.new.self in
-        let is : entries ≡ whole = c.deref-in-pieces.ensures.value in
-        let few = given_few c.pieces.ended _ _ _ _ _ i.text (i.given ++ whole) i.gave in
-        let filled : Filled (bodies_of (i.given ++ whole)) start engine.there engine.namer now =
-        subst (λ bs. Filled bs start engine.there engine.namer now) (batch_bodies i.given whole entries is)
-        (c.in_ok-deliver_all.ensures.exact (i.quiet q) (bodies_of i.given) start (i.filled q) (batch_few i.given whole entries c.args.reads is few c.requires)) in
-        let listed : IsPermutation (map string_bytes c.deref.result.now) (keys start.tmp) =
-        subst (λ l. IsPermutation (map string_bytes l) (keys start.tmp)) (sym c.deref.ensures.value) (c.in_ok-found.ensures.listed q) in (
-          alone_run _ _ c.args.reads i.text (i.given ++ whole) start now engine.there engine.namer
-              (at_end c.pieces.ended _ _ _ _ _ i.text (i.given ++ whole) c.if-ended.true i.gave) filled t ms p of,
-          c.report.ensures.swept ∙ c.in_ok-swept.ensures.count ∙ filter-length is_converter_name (map string_bytes c.deref.result.now) (keys start.tmp) listed,
-        );
+      let i = c.pieces.invariant in
+      let whole = c.pieces.whole.items in
+      let start = g.F.Folder.files c.args.folder.now in
+      let now = g.F.Folder.files c.deliver_all.new.folder in
+      let entries = c.deref-in-pieces.result.now in
+      let engine = c.deliver_all.new.self in
+      let is : entries ≡ whole = c.deref-in-pieces.ensures.value in
+      let few = given_few c.pieces.ended _ _ _ _ _ i.text (i.given ++ whole) i.gave in
+      let filled : Filled (bodies_of (i.given ++ whole)) start engine.there engine.namer now =
+      subst (λ bs. Filled bs start engine.there engine.namer now) (batch_bodies i.given whole entries is)
+      (c.in_ok-deliver_all.ensures.exact (i.quiet q) (bodies_of i.given) start (i.filled q) (batch_few i.given whole entries c.args.reads is few c.requires)) in
+      let listed : IsPermutation (map string_bytes c.deref.result.now) (keys start.tmp) =
+      subst (λ l. IsPermutation (map string_bytes l) (keys start.tmp)) (sym c.deref.ensures.value) (c.in_ok-found.ensures.listed q) in (
+        alone_run _ _ c.args.reads i.text (i.given ++ whole) start now engine.there engine.namer
+            (at_end c.pieces.ended _ _ _ _ _ i.text (i.given ++ whole) c.if-ended.true i.gave) filled t ms p of,
+        c.report.ensures.swept ∙ c.in_ok-swept.ensures.count ∙ filter-length is_converter_name (map string_bytes c.deref.result.now) (keys start.tmp) listed,
+      );
   others = λ q. others_then _ _ _ (c.pieces.invariant.others q) (c.in_ok-deliver_all.ensures.others (c.pieces.invariant.quiet q));
   calls =
-        let places = c.in_ok-deliver_all.ensures.made in
-        let made = more_calls (3 + c.in_ok-swept.swept + 2 * c.pieces.engine.placed) (2 * places.n) _ _ _ _ _ _ c.pieces.invariant.made places.makes in
-        let total = all_placed c.in_ok-swept.swept c.pieces.engine.placed places.n c.deliver_all.new.self.placed places.is in
-        run_counts c.report.result c.in_ok-swept.swept c.deliver_all.new.self.placed 0 c.deliver_all.new.self.calls.made _ _ c.report.ensures.swept c.report.ensures.placed
-        (subst (λ n. Makes n 0 c.deliver_all.new.self.calls.made (g.F.Folder.calls c.args.folder.now) (g.F.Folder.calls c.deliver_all.new.folder)) total made);
+      let places = c.in_ok-deliver_all.ensures.made in
+      let made = more_calls (3 + c.in_ok-swept.swept + 2 * c.pieces.engine.placed) (2 * places.n) _ _ _ _ _ _ c.pieces.invariant.made places.makes in
+      let total = all_placed c.in_ok-swept.swept c.pieces.engine.placed places.n c.deliver_all.new.self.placed places.is in
+      run_counts c.report.result c.in_ok-swept.swept c.deliver_all.new.self.placed 0 c.deliver_all.new.self.calls.made _ _ c.report.ensures.swept c.report.ensures.placed
+      (subst (λ n. Makes n 0 c.deliver_all.new.self.calls.made (g.F.Folder.calls c.args.folder.now) (g.F.Folder.calls c.deliver_all.new.folder)) total made);
   cause = c.in_ok-deliver_all.ensures.cause ∙ c.pieces.invariant.failures;
   numbered =
-        let i = c.pieces.invariant in
-        let whole = c.pieces.whole.items in
-        let places = c.in_ok-deliver_all.ensures.made in
-        let made = more_calls (3 + c.in_ok-swept.swept + 2 * c.pieces.engine.placed) (2 * places.n) _ _ _ _ _ _ i.made places.makes in
-        let few = given_few c.pieces.ended _ _ _ _ _ i.text (i.given ++ whole) i.gave in
-        numbers_ok c.report.result (3 + c.in_ok-swept.swept + 2 * c.pieces.engine.placed + 2 * places.n) _ _
-        (all_calls_few c.in_ok-swept.swept c.pieces.engine.placed places.n c.deliver_all.new.self.placed c.pieces.engine.messages c.deliver_all.new.self.messages c.args.reads i.given whole c.deref-in-pieces.result.now
-        c.in_ok-swept.ensures.few places.is c.deliver_all.new.self.within c.in_ok-deliver_all.ensures.all i.count few c.requires c.deref-in-pieces.ensures.value) made.counted;
+      let i = c.pieces.invariant in
+      let whole = c.pieces.whole.items in
+      let places = c.in_ok-deliver_all.ensures.made in
+      let made = more_calls (3 + c.in_ok-swept.swept + 2 * c.pieces.engine.placed) (2 * places.n) _ _ _ _ _ _ i.made places.makes in
+      let few = given_few c.pieces.ended _ _ _ _ _ i.text (i.given ++ whole) i.gave in
+      numbers_ok c.report.result (3 + c.in_ok-swept.swept + 2 * c.pieces.engine.placed + 2 * places.n) _ _
+      (all_calls_few c.in_ok-swept.swept c.pieces.engine.placed places.n c.deliver_all.new.self.placed c.pieces.engine.messages c.deliver_all.new.self.messages c.args.reads i.given whole c.deref-in-pieces.result.now
+      c.in_ok-swept.ensures.few places.is c.deliver_all.new.self.within c.in_ok-deliver_all.ensures.all i.count few c.requires c.deref-in-pieces.ensures.value) made.counted;
   untouched = λ e. absurd (ok_is_none _ _ e);
   no_from_line = λ e. absurd (ok_is_none _ _ e);
   spent = λ e. absurd (ok_is_none _ _ e);
   causes = tt;
   budget =
-        let i = c.pieces.invariant in
-        given_within c.pieces.ended _ _ _ _ _ i.text (i.given ++ c.pieces.whole.items) i.gave;
+      let i = c.pieces.invariant in
+      given_within c.pieces.ended _ _ _ _ _ i.text (i.given ++ c.pieces.whole.items) i.gave;
 }
 
 pub returns-in_err-ended-2 : goal.returns-in_err-ended-2
 returns-in_err-ended-2 g c = record {
   honest = λ h. c.in_ok-deliver_all.ensures.honest (c.pieces.invariant.honest h);
   run = λ honest t small p.
-        let i = c.pieces.invariant in
-        let whole = c.pieces.whole.items in
-        let start = g.F.Folder.files c.args.folder.now in
-        let now = g.F.Folder.files c.deliver_all.new.folder in
-        let entries = c.deref-in-pieces.result.now in
-        let is : entries ≡ whole = c.deref-in-pieces.ensures.value in
-        let few = given_few c.pieces.ended _ _ _ _ _ i.text (i.given ++ whole) i.gave in
-        let come : All (IsSoundAt start) (messages_of (bodies_of (i.given ++ whole))) → Came (bodies_of (i.given ++ whole)) start now = λ sound.
-        subst (λ bs. Came bs start now) (batch_bodies i.given whole entries is)
-        (c.in_ok-deliver_all.ensures.came (i.honest honest) (bodies_of i.given) start (i.reached honest (given_sound start i.given whole sound))
-        (batch_few i.given whole entries c.args.reads is few c.requires) (batch_sound start i.given whole entries is sound)) in
-        let broken = broken_off _ _ _ c.pieces.messages c.args.reads i.text (i.given ++ whole) c.in_err-ended-2.field-0.0 (not_ended c.pieces.ended _ _ _ _ _ i.text (i.given ++ whole) c.if-ended.false i.gave) c.in_err-ended-2.ensures.went in
-        run_err t start now c.from_residual-in_err-ended-2.result c.from_residual-in_err-ended-2.ensures.0
-        (λ fault. came_run _ _ broken.text (i.given ++ whole) start now fault broken.read broken.first come t small p);
+      let i = c.pieces.invariant in
+      let whole = c.pieces.whole.items in
+      let start = g.F.Folder.files c.args.folder.now in
+      let now = g.F.Folder.files c.deliver_all.new.folder in
+      let entries = c.deref-in-pieces.result.now in
+      let is : entries ≡ whole = c.deref-in-pieces.ensures.value in
+      let few = given_few c.pieces.ended _ _ _ _ _ i.text (i.given ++ whole) i.gave in
+      let come : All (IsSoundAt start) (messages_of (bodies_of (i.given ++ whole))) → Came (bodies_of (i.given ++ whole)) start now = λ sound.
+      subst (λ bs. Came bs start now) (batch_bodies i.given whole entries is)
+      (c.in_ok-deliver_all.ensures.came (i.honest honest) (bodies_of i.given) start (i.reached honest (given_sound start i.given whole sound))
+      (batch_few i.given whole entries c.args.reads is few c.requires) (batch_sound start i.given whole entries is sound)) in
+      let broken = broken_off _ _ _ c.pieces.messages c.args.reads i.text (i.given ++ whole) c.in_err-ended-2.field-0.0 (not_ended c.pieces.ended _ _ _ _ _ i.text (i.given ++ whole) c.if-ended.false i.gave) c.in_err-ended-2.ensures.went in
+      run_err t start now c.from_residual-in_err-ended-2.result c.from_residual-in_err-ended-2.ensures.0
+      (λ fault. came_run _ _ broken.text (i.given ++ whole) start now fault broken.read broken.first come t small p);
   end = unless_ok _ c.from_residual-in_err-ended-2.result c.from_residual-in_err-ended-2.ensures.0;
   quiet = λ h. c.in_ok-deliver_all.ensures.quiet (c.pieces.invariant.quiet h);
   alone = λ q t ms p of. unless_ok _ c.from_residual-in_err-ended-2.result c.from_residual-in_err-ended-2.ensures.0;
@@ -295,27 +296,27 @@ returns-in_err-ended-2 g c = record {
   calls = unless_ok _ c.from_residual-in_err-ended-2.result c.from_residual-in_err-ended-2.ensures.0;
   cause = cause_read c.from_residual-in_err-ended-2.result c.in_err-ended-2.field-0.0 _ _ c.from_residual-in_err-ended-2.ensures.1 c.in_err-ended-2.ensures.causes (c.in_ok-deliver_all.ensures.cause ∙ c.pieces.invariant.failures);
   numbered =
-        let i = c.pieces.invariant in
-        let whole = c.pieces.whole.items in
-        let places = c.in_ok-deliver_all.ensures.made in
-        let made = more_calls (3 + c.in_ok-swept.swept + 2 * c.pieces.engine.placed) (2 * places.n) _ _ _ _ _ _ i.made places.makes in
-        let few = given_few c.pieces.ended _ _ _ _ _ i.text (i.given ++ whole) i.gave in
-        numbers_read c.from_residual-in_err-ended-2.result c.in_err-ended-2.field-0.0 (3 + c.in_ok-swept.swept + 2 * c.pieces.engine.placed + 2 * places.n) _ _ c.from_residual-in_err-ended-2.ensures.1
-        (all_calls_few c.in_ok-swept.swept c.pieces.engine.placed places.n c.deliver_all.new.self.placed c.pieces.engine.messages c.deliver_all.new.self.messages c.args.reads i.given whole c.deref-in-pieces.result.now
-        c.in_ok-swept.ensures.few places.is c.deliver_all.new.self.within c.in_ok-deliver_all.ensures.all i.count few c.requires c.deref-in-pieces.ensures.value) made.counted c.in_err-ended-2.ensures.causes;
+      let i = c.pieces.invariant in
+      let whole = c.pieces.whole.items in
+      let places = c.in_ok-deliver_all.ensures.made in
+      let made = more_calls (3 + c.in_ok-swept.swept + 2 * c.pieces.engine.placed) (2 * places.n) _ _ _ _ _ _ i.made places.makes in
+      let few = given_few c.pieces.ended _ _ _ _ _ i.text (i.given ++ whole) i.gave in
+      numbers_read c.from_residual-in_err-ended-2.result c.in_err-ended-2.field-0.0 (3 + c.in_ok-swept.swept + 2 * c.pieces.engine.placed + 2 * places.n) _ _ c.from_residual-in_err-ended-2.ensures.1
+      (all_calls_few c.in_ok-swept.swept c.pieces.engine.placed places.n c.deliver_all.new.self.placed c.pieces.engine.messages c.deliver_all.new.self.messages c.args.reads i.given whole c.deref-in-pieces.result.now
+      c.in_ok-swept.ensures.few places.is c.deliver_all.new.self.within c.in_ok-deliver_all.ensures.all i.count few c.requires c.deref-in-pieces.ensures.value) made.counted c.in_err-ended-2.ensures.causes;
   untouched = λ e. let i = c.pieces.invariant in absurd (never_again _ _ c.pieces.messages i.text (i.given ++ c.pieces.whole.items) c.in_err-ended-2.field-0.0
-        (not_ended c.pieces.ended _ _ _ _ _ i.text (i.given ++ c.pieces.whole.items) c.if-ended.false i.gave).fed (i.begun c.if-ended.false) c.in_err-ended-2.ensures.went (fault_is c.from_residual-in_err-ended-2.result c.in_err-ended-2.field-0.0 _ c.from_residual-in_err-ended-2.ensures.1 e));
+      (not_ended c.pieces.ended _ _ _ _ _ i.text (i.given ++ c.pieces.whole.items) c.if-ended.false i.gave).fed (i.begun c.if-ended.false) c.in_err-ended-2.ensures.went (fault_is c.from_residual-in_err-ended-2.result c.in_err-ended-2.field-0.0 _ c.from_residual-in_err-ended-2.ensures.1 e));
   no_from_line = λ e. let i = c.pieces.invariant in absurd (never_again _ _ c.pieces.messages i.text (i.given ++ c.pieces.whole.items) c.in_err-ended-2.field-0.0
-        (not_ended c.pieces.ended _ _ _ _ _ i.text (i.given ++ c.pieces.whole.items) c.if-ended.false i.gave).fed (i.begun c.if-ended.false) c.in_err-ended-2.ensures.went (fault_is c.from_residual-in_err-ended-2.result c.in_err-ended-2.field-0.0 _ c.from_residual-in_err-ended-2.ensures.1 e));
+      (not_ended c.pieces.ended _ _ _ _ _ i.text (i.given ++ c.pieces.whole.items) c.if-ended.false i.gave).fed (i.begun c.if-ended.false) c.in_err-ended-2.ensures.went (fault_is c.from_residual-in_err-ended-2.result c.in_err-ended-2.field-0.0 _ c.from_residual-in_err-ended-2.ensures.1 e));
   spent = λ e.
-        let i = c.pieces.invariant in
-        let whole = c.pieces.whole.items in
-        (gave_refused _ _ _ c.pieces.messages c.args.reads i.text (i.given ++ whole) c.in_err-ended-2.field-0.0 (not_ended c.pieces.ended _ _ _ _ _ i.text (i.given ++ whole) c.if-ended.false i.gave) c.in_err-ended-2.ensures.went).spent (fault_is c.from_residual-in_err-ended-2.result c.in_err-ended-2.field-0.0 _ c.from_residual-in_err-ended-2.ensures.1 e);
+      let i = c.pieces.invariant in
+      let whole = c.pieces.whole.items in
+      (gave_refused _ _ _ c.pieces.messages c.args.reads i.text (i.given ++ whole) c.in_err-ended-2.field-0.0 (not_ended c.pieces.ended _ _ _ _ _ i.text (i.given ++ whole) c.if-ended.false i.gave) c.in_err-ended-2.ensures.went).spent (fault_is c.from_residual-in_err-ended-2.result c.in_err-ended-2.field-0.0 _ c.from_residual-in_err-ended-2.ensures.1 e);
   causes = if_err _ c.from_residual-in_err-ended-2.result c.in_err-ended-2.field-0.0 c.from_residual-in_err-ended-2.ensures.1 (inl c.in_err-ended-2.ensures.causes);
   budget =
-        let i = c.pieces.invariant in
-        let whole = c.pieces.whole.items in
-        (gave_refused _ _ _ c.pieces.messages c.args.reads i.text (i.given ++ whole) c.in_err-ended-2.field-0.0 (not_ended c.pieces.ended _ _ _ _ _ i.text (i.given ++ whole) c.if-ended.false i.gave) c.in_err-ended-2.ensures.went).budget;
+      let i = c.pieces.invariant in
+      let whole = c.pieces.whole.items in
+      (gave_refused _ _ _ c.pieces.messages c.args.reads i.text (i.given ++ whole) c.in_err-ended-2.field-0.0 (not_ended c.pieces.ended _ _ _ _ _ i.text (i.given ++ whole) c.if-ended.false i.gave) c.in_err-ended-2.ensures.went).budget;
 }
 
 pub pieces-preserved : goal.pieces-preserved
@@ -357,7 +358,7 @@ pub returns-in_err-messages : goal.returns-in_err-messages
 returns-in_err-messages g c = record {
   honest = λ h. h;
   run = λ honest t small p.
-        run_err t _ _ c.from_residual.result c.from_residual.ensures.0 (λ fault. untouched_run t _ _ fault (leaves_same (g.F.Folder.files c.args.folder.now)) small);
+      run_err t _ _ c.from_residual.result c.from_residual.ensures.0 (λ fault. untouched_run t _ _ fault (leaves_same (g.F.Folder.files c.args.folder.now)) small);
   end = unless_ok _ c.from_residual.result c.from_residual.ensures.0;
   quiet = λ h. h;
   alone = λ q t ms p of. unless_ok _ c.from_residual.result c.from_residual.ensures.0;

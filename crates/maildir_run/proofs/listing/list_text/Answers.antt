@@ -6,8 +6,8 @@ use Rattle.maildir_run.specs.Listing.{listing}
 use Rattle.maildir_run.proofs.Listings.{listing_output}
 use Rattle.maildir_run.proofs.Poured.{fault_is, read_broken, batch, batch_broken, names_fit, poured_none, poured_all, poured_more}
 use Rattle.maildir_run.specs.declared.fault.RunFault.TheVariants.{OutOfMemory}
-use Rattle.maildir_run.proofs.Givens.{if_err}
-use Rattle.maildir_run.proofs.Exits.{unless_ok, ok_is_none, not_begun, not_spent, read_nothing, front_nothing, output_not_begun, output_not_spent, output_causes, went_to_end, went_on}
+use Rattle.maildir_run.proofs.Faults.{if_err, unless_ok, ok_is_none, not_begun, not_spent, output_not_begun, output_not_spent, output_causes}
+use Rattle.maildir_run.proofs.Exits.{read_nothing, front_nothing, went_to_end, went_on}
 use Rattle.maildir_run.proofs.listing.list_text.Goals as goal
 
 pub pieces-init : goal.pieces-init
@@ -20,18 +20,18 @@ returns-in_err-ended g c = record {
   all = unless_ok _ c.from_residual-in_err-ended.result c.from_residual-in_err-ended.ensures.0;
   end = unless_ok _ c.from_residual-in_err-ended.result c.from_residual-in_err-ended.ensures.0;
   front =
-        let b = read_broken listing c.pieces.invariant.0 _ _ _ _ _ c.pieces.messages c.pieces.whole.items c.args.reads c.pieces.lister.count c.in_err-ended.field-0.0 listing_output c.pieces.invariant.1 c.in_err-ended.ensures.went in
-        on_err c.from_residual-in_err-ended.result _ b.front;
+      let b = read_broken listing c.pieces.invariant.0 _ _ _ _ _ c.pieces.messages c.pieces.whole.items c.args.reads c.pieces.lister.count c.in_err-ended.field-0.0 listing_output c.pieces.invariant.1 c.in_err-ended.ensures.went in
+      on_err c.from_residual-in_err-ended.result _ b.front;
   no_from_line = λ e.
-        let b = read_broken listing c.pieces.invariant.0 _ _ _ _ _ c.pieces.messages c.pieces.whole.items c.args.reads c.pieces.lister.count c.in_err-ended.field-0.0 listing_output c.pieces.invariant.1 c.in_err-ended.ensures.went in
-        b.nothing (fault_is c.from_residual-in_err-ended.result c.in_err-ended.field-0.0 _ c.from_residual-in_err-ended.ensures.1 e);
+      let b = read_broken listing c.pieces.invariant.0 _ _ _ _ _ c.pieces.messages c.pieces.whole.items c.args.reads c.pieces.lister.count c.in_err-ended.field-0.0 listing_output c.pieces.invariant.1 c.in_err-ended.ensures.went in
+      b.nothing (fault_is c.from_residual-in_err-ended.result c.in_err-ended.field-0.0 _ c.from_residual-in_err-ended.ensures.1 e);
   spent = λ e.
-        let b = read_broken listing c.pieces.invariant.0 _ _ _ _ _ c.pieces.messages c.pieces.whole.items c.args.reads c.pieces.lister.count c.in_err-ended.field-0.0 listing_output c.pieces.invariant.1 c.in_err-ended.ensures.went in
-        b.spent (fault_is c.from_residual-in_err-ended.result c.in_err-ended.field-0.0 _ c.from_residual-in_err-ended.ensures.1 e);
+      let b = read_broken listing c.pieces.invariant.0 _ _ _ _ _ c.pieces.messages c.pieces.whole.items c.args.reads c.pieces.lister.count c.in_err-ended.field-0.0 listing_output c.pieces.invariant.1 c.in_err-ended.ensures.went in
+      b.spent (fault_is c.from_residual-in_err-ended.result c.in_err-ended.field-0.0 _ c.from_residual-in_err-ended.ensures.1 e);
   causes = if_err _ c.from_residual-in_err-ended.result c.in_err-ended.field-0.0 c.from_residual-in_err-ended.ensures.1 (inl c.in_err-ended.ensures.causes);
   budget =
-        let b = read_broken listing c.pieces.invariant.0 _ _ _ _ _ c.pieces.messages c.pieces.whole.items c.args.reads c.pieces.lister.count c.in_err-ended.field-0.0 listing_output c.pieces.invariant.1 c.in_err-ended.ensures.went in
-        b.budget;
+      let b = read_broken listing c.pieces.invariant.0 _ _ _ _ _ c.pieces.messages c.pieces.whole.items c.args.reads c.pieces.lister.count c.in_err-ended.field-0.0 listing_output c.pieces.invariant.1 c.in_err-ended.ensures.went in
+      b.budget;
 }
 
 pub list-requires : goal.list-requires
@@ -45,43 +45,43 @@ returns-in_err-list g c = record {
   all = unless_ok _ c.from_residual-in_err-list.result c.from_residual-in_err-list.ensures.0;
   end = unless_ok _ c.from_residual-in_err-list.result c.from_residual-in_err-list.ensures.0;
   front =
-        let given : List Entry = c.pieces.invariant.0 in
-        let b = batch listing given _ _ _ _ _ c.pieces.messages c.read.new.self.splitter c.read.new.self.reads c.pieces.whole.items c.read.new.out.items c.args.reads c.pieces.lister.count c.in_ok-ended.ended
-        c.pieces.invariant.1 c.in_ok-ended.ensures.went in
-        let fit = names_fit listing given _ _ _ _ c.read.new.out.items c.args.reads c.pieces.lister.count b c.requires in
-        let s = rw c.deref.ensures.value at (c.in_err-list.ensures.lists given c.pieces.invariant.2 (rw c.deref.ensures.value fit)) in
-        let w = batch_broken listing given _ _ _ _ _ c.read.new.out.items c.args.reads c.pieces.lister.count s.0 listing_output b s.1 s.2 in
-        on_err c.from_residual-in_err-list.result _ w.0;
+      let given : List Entry = c.pieces.invariant.0 in
+      let b = batch listing given _ _ _ _ _ c.pieces.messages c.read.new.self.splitter c.read.new.self.reads c.pieces.whole.items c.read.new.out.items c.args.reads c.pieces.lister.count c.in_ok-ended.ended
+      c.pieces.invariant.1 c.in_ok-ended.ensures.went in
+      let fit = names_fit listing given _ _ _ _ c.read.new.out.items c.args.reads c.pieces.lister.count b c.requires in
+      let s = rw c.deref.ensures.value at (c.in_err-list.ensures.lists given c.pieces.invariant.2 (rw c.deref.ensures.value fit)) in
+      let w = batch_broken listing given _ _ _ _ _ c.read.new.out.items c.args.reads c.pieces.lister.count s.0 listing_output b s.1 s.2 in
+      on_err c.from_residual-in_err-list.result _ w.0;
   no_from_line = λ e. absurd (output_not_begun c.in_err-list.field-0.0 c.in_err-list.ensures.causes (fault_is c.from_residual-in_err-list.result c.in_err-list.field-0.0 _ c.from_residual-in_err-list.ensures.1 e));
   spent = λ e. absurd (output_not_spent c.in_err-list.field-0.0 c.in_err-list.ensures.causes (fault_is c.from_residual-in_err-list.result c.in_err-list.field-0.0 _ c.from_residual-in_err-list.ensures.1 e));
   causes = if_err _ c.from_residual-in_err-list.result c.in_err-list.field-0.0 c.from_residual-in_err-list.ensures.1 (output_causes c.in_err-list.field-0.0 c.in_err-list.ensures.causes);
   budget =
-        let b = batch listing c.pieces.invariant.0 _ _ _ _ _ c.pieces.messages c.read.new.self.splitter c.read.new.self.reads c.pieces.whole.items c.read.new.out.items c.args.reads c.pieces.lister.count c.in_ok-ended.ended
-        c.pieces.invariant.1 c.in_ok-ended.ensures.went in
-        (b.text, b.read, b.budget);
+      let b = batch listing c.pieces.invariant.0 _ _ _ _ _ c.pieces.messages c.read.new.self.splitter c.read.new.self.reads c.pieces.whole.items c.read.new.out.items c.args.reads c.pieces.lister.count c.in_ok-ended.ended
+      c.pieces.invariant.1 c.in_ok-ended.ensures.went in
+      (b.text, b.read, b.budget);
 }
 
 pub returns-then-ended : goal.returns-then-ended
 returns-then-ended g c = record {
   all =
-        let given : List Entry = c.pieces.invariant.0 in
-        let b = batch listing given _ _ _ _ _ c.pieces.messages c.read.new.self.splitter c.read.new.self.reads c.pieces.whole.items c.read.new.out.items c.args.reads c.pieces.lister.count c.in_ok-ended.ended
-        c.pieces.invariant.1 c.in_ok-ended.ensures.went in
-        let fit = names_fit listing given _ _ _ _ c.read.new.out.items c.args.reads c.pieces.lister.count b c.requires in
-        let s = rw c.deref.ensures.value at (c.in_ok-list.ensures.lists given c.pieces.invariant.2 (rw c.deref.ensures.value fit)) in
-        let all = poured_all listing given _ _ _ _ _ _ c.pieces.messages c.read.new.self.splitter c.read.new.self.reads c.pieces.whole.items c.read.new.out.items c.args.reads c.pieces.lister.count
-        s.0 c.pieces.invariant.1 (rw c.if-ended.true at c.in_ok-ended.ensures.went) s.1 s.2 in
-        let count : c.list.new.self.count ≡ c.pieces.lister.count + length c.read.new.out.items = omega (arith, s.3.counted, c.pieces.invariant.2.counted, length-append given c.read.new.out.items) in
-        rw count all.0;
+      let given : List Entry = c.pieces.invariant.0 in
+      let b = batch listing given _ _ _ _ _ c.pieces.messages c.read.new.self.splitter c.read.new.self.reads c.pieces.whole.items c.read.new.out.items c.args.reads c.pieces.lister.count c.in_ok-ended.ended
+      c.pieces.invariant.1 c.in_ok-ended.ensures.went in
+      let fit = names_fit listing given _ _ _ _ c.read.new.out.items c.args.reads c.pieces.lister.count b c.requires in
+      let s = rw c.deref.ensures.value at (c.in_ok-list.ensures.lists given c.pieces.invariant.2 (rw c.deref.ensures.value fit)) in
+      let all = poured_all listing given _ _ _ _ _ _ c.pieces.messages c.read.new.self.splitter c.read.new.self.reads c.pieces.whole.items c.read.new.out.items c.args.reads c.pieces.lister.count
+      s.0 c.pieces.invariant.1 (rw c.if-ended.true at c.in_ok-ended.ensures.went) s.1 s.2 in
+      let count : c.list.new.self.count ≡ c.pieces.lister.count + length c.read.new.out.items = omega (arith, s.3.counted, c.pieces.invariant.2.counted, length-append given c.read.new.out.items) in
+      rw count all.0;
   end = went_to_end c.in_ok-ended.ended _ _ c.pieces.messages _ _ _ _ c.if-ended.true c.in_ok-ended.ensures.went;
   front = tt;
   no_from_line = λ e. absurd (ok_is_none _ _ e);
   spent = λ e. absurd (ok_is_none _ _ e);
   causes = tt;
   budget =
-        let b = batch listing c.pieces.invariant.0 _ _ _ _ _ c.pieces.messages c.read.new.self.splitter c.read.new.self.reads c.pieces.whole.items c.read.new.out.items c.args.reads c.pieces.lister.count c.in_ok-ended.ended
-        c.pieces.invariant.1 c.in_ok-ended.ensures.went in
-        (b.text, b.read, b.budget);
+      let b = batch listing c.pieces.invariant.0 _ _ _ _ _ c.pieces.messages c.read.new.self.splitter c.read.new.self.reads c.pieces.whole.items c.read.new.out.items c.args.reads c.pieces.lister.count c.in_ok-ended.ended
+      c.pieces.invariant.1 c.in_ok-ended.ensures.went in
+      (b.text, b.read, b.budget);
 }
 
 pub pieces-preserved : goal.pieces-preserved

@@ -4,8 +4,8 @@ use Rattle.mbox_text.specs.Spelling.{spelling}
 use Rattle.mbox_text.proofs.Giving.{on_err}
 use Rattle.maildir_run.proofs.Poured.{flat_output, flat_more, fault_is, read_broken, batch, batch_broken, count_fits, poured_all, poured_more}
 use Rattle.maildir_run.specs.declared.fault.RunFault.TheVariants.{OutOfMemory}
-use Rattle.maildir_run.proofs.Givens.{if_err}
-use Rattle.maildir_run.proofs.Exits.{unless_ok, ok_is_none, not_begun, not_spent, read_nothing, front_nothing, output_not_begun, output_not_spent, output_causes, went_to_end, went_on}
+use Rattle.maildir_run.proofs.Faults.{if_err, unless_ok, ok_is_none, not_begun, not_spent, output_not_begun, output_not_spent, output_causes}
+use Rattle.maildir_run.proofs.Exits.{read_nothing, front_nothing, went_to_end, went_on}
 use Rattle.maildir_run.proofs.rewriting.rewrite.Goals as goal
 
 pub returns-in_err-ended : goal.returns-in_err-ended
@@ -13,18 +13,18 @@ returns-in_err-ended g c = record {
   all = unless_ok _ c.from_residual-in_err-ended.result c.from_residual-in_err-ended.ensures.0;
   end = unless_ok _ c.from_residual-in_err-ended.result c.from_residual-in_err-ended.ensures.0;
   front =
-        let b = read_broken (flat_map spelling) c.pieces.invariant.0 _ _ _ _ _ c.pieces.messages c.pieces.whole.items c.args.reads c.pieces.count c.in_err-ended.field-0.0 flat_output c.pieces.invariant.1 c.in_err-ended.ensures.went in
-        on_err c.from_residual-in_err-ended.result _ b.front;
+      let b = read_broken (flat_map spelling) c.pieces.invariant.0 _ _ _ _ _ c.pieces.messages c.pieces.whole.items c.args.reads c.pieces.count c.in_err-ended.field-0.0 flat_output c.pieces.invariant.1 c.in_err-ended.ensures.went in
+      on_err c.from_residual-in_err-ended.result _ b.front;
   no_from_line = λ e.
-        let b = read_broken (flat_map spelling) c.pieces.invariant.0 _ _ _ _ _ c.pieces.messages c.pieces.whole.items c.args.reads c.pieces.count c.in_err-ended.field-0.0 flat_output c.pieces.invariant.1 c.in_err-ended.ensures.went in
-        b.nothing (fault_is c.from_residual-in_err-ended.result c.in_err-ended.field-0.0 _ c.from_residual-in_err-ended.ensures.1 e);
+      let b = read_broken (flat_map spelling) c.pieces.invariant.0 _ _ _ _ _ c.pieces.messages c.pieces.whole.items c.args.reads c.pieces.count c.in_err-ended.field-0.0 flat_output c.pieces.invariant.1 c.in_err-ended.ensures.went in
+      b.nothing (fault_is c.from_residual-in_err-ended.result c.in_err-ended.field-0.0 _ c.from_residual-in_err-ended.ensures.1 e);
   spent = λ e.
-        let b = read_broken (flat_map spelling) c.pieces.invariant.0 _ _ _ _ _ c.pieces.messages c.pieces.whole.items c.args.reads c.pieces.count c.in_err-ended.field-0.0 flat_output c.pieces.invariant.1 c.in_err-ended.ensures.went in
-        b.spent (fault_is c.from_residual-in_err-ended.result c.in_err-ended.field-0.0 _ c.from_residual-in_err-ended.ensures.1 e);
+      let b = read_broken (flat_map spelling) c.pieces.invariant.0 _ _ _ _ _ c.pieces.messages c.pieces.whole.items c.args.reads c.pieces.count c.in_err-ended.field-0.0 flat_output c.pieces.invariant.1 c.in_err-ended.ensures.went in
+      b.spent (fault_is c.from_residual-in_err-ended.result c.in_err-ended.field-0.0 _ c.from_residual-in_err-ended.ensures.1 e);
   causes = if_err _ c.from_residual-in_err-ended.result c.in_err-ended.field-0.0 c.from_residual-in_err-ended.ensures.1 (inl c.in_err-ended.ensures.causes);
   budget =
-        let b = read_broken (flat_map spelling) c.pieces.invariant.0 _ _ _ _ _ c.pieces.messages c.pieces.whole.items c.args.reads c.pieces.count c.in_err-ended.field-0.0 flat_output c.pieces.invariant.1 c.in_err-ended.ensures.went in
-        b.budget;
+      let b = read_broken (flat_map spelling) c.pieces.invariant.0 _ _ _ _ _ c.pieces.messages c.pieces.whole.items c.args.reads c.pieces.count c.in_err-ended.field-0.0 flat_output c.pieces.invariant.1 c.in_err-ended.ensures.went in
+      b.budget;
 }
 
 pub returns-in_err-write_entries : goal.returns-in_err-write_entries
@@ -32,18 +32,18 @@ returns-in_err-write_entries g c = record {
   all = unless_ok _ c.from_residual-in_err-write_entries.result c.from_residual-in_err-write_entries.ensures.0;
   end = unless_ok _ c.from_residual-in_err-write_entries.result c.from_residual-in_err-write_entries.ensures.0;
   front =
-        let b = batch (flat_map spelling) c.pieces.invariant.0 _ _ _ _ _ c.pieces.messages c.read.new.self.splitter c.read.new.self.reads c.pieces.whole.items c.read.new.out.items c.args.reads c.pieces.count c.in_ok-ended.ended
-        c.pieces.invariant.1 c.in_ok-ended.ensures.went in
-        let w = batch_broken (flat_map spelling) c.pieces.invariant.0 _ _ _ _ _ c.read.new.out.items c.args.reads c.pieces.count (flat_map spelling c.deref.result.now) flat_output b
-        (flat_more c.pieces.invariant.0 c.read.new.out.items c.deref.result.now c.deref.ensures.value) c.in_err-write_entries.ensures.written in
-        on_err c.from_residual-in_err-write_entries.result _ w.0;
+      let b = batch (flat_map spelling) c.pieces.invariant.0 _ _ _ _ _ c.pieces.messages c.read.new.self.splitter c.read.new.self.reads c.pieces.whole.items c.read.new.out.items c.args.reads c.pieces.count c.in_ok-ended.ended
+      c.pieces.invariant.1 c.in_ok-ended.ensures.went in
+      let w = batch_broken (flat_map spelling) c.pieces.invariant.0 _ _ _ _ _ c.read.new.out.items c.args.reads c.pieces.count (flat_map spelling c.deref.result.now) flat_output b
+      (flat_more c.pieces.invariant.0 c.read.new.out.items c.deref.result.now c.deref.ensures.value) c.in_err-write_entries.ensures.written in
+      on_err c.from_residual-in_err-write_entries.result _ w.0;
   no_from_line = λ e. absurd (output_not_begun c.in_err-write_entries.field-0.0 (inl c.in_err-write_entries.ensures.causes) (fault_is c.from_residual-in_err-write_entries.result c.in_err-write_entries.field-0.0 _ c.from_residual-in_err-write_entries.ensures.1 e));
   spent = λ e. absurd (output_not_spent c.in_err-write_entries.field-0.0 (inl c.in_err-write_entries.ensures.causes) (fault_is c.from_residual-in_err-write_entries.result c.in_err-write_entries.field-0.0 _ c.from_residual-in_err-write_entries.ensures.1 e));
   causes = if_err _ c.from_residual-in_err-write_entries.result c.in_err-write_entries.field-0.0 c.from_residual-in_err-write_entries.ensures.1 (output_causes c.in_err-write_entries.field-0.0 (inl c.in_err-write_entries.ensures.causes));
   budget =
-        let b = batch (flat_map spelling) c.pieces.invariant.0 _ _ _ _ _ c.pieces.messages c.read.new.self.splitter c.read.new.self.reads c.pieces.whole.items c.read.new.out.items c.args.reads c.pieces.count c.in_ok-ended.ended
-        c.pieces.invariant.1 c.in_ok-ended.ensures.went in
-        (b.text, b.read, b.budget);
+      let b = batch (flat_map spelling) c.pieces.invariant.0 _ _ _ _ _ c.pieces.messages c.read.new.self.splitter c.read.new.self.reads c.pieces.whole.items c.read.new.out.items c.args.reads c.pieces.count c.in_ok-ended.ended
+      c.pieces.invariant.1 c.in_ok-ended.ensures.went in
+      (b.text, b.read, b.budget);
 }
 
 pub overflow_add-count : goal.overflow_add-count
@@ -57,21 +57,21 @@ overflow_add-count g c =
 pub returns-then-ended : goal.returns-then-ended
 returns-then-ended g c = record {
   all =
-        let p = c.pieces.invariant.1 in
-        let all = poured_all (flat_map spelling) c.pieces.invariant.0 _ _ _ _ _ _ c.pieces.messages c.read.new.self.splitter c.read.new.self.reads c.pieces.whole.items c.read.new.out.items c.args.reads c.pieces.count
-        (flat_map spelling c.deref.result.now) p (rw c.if-ended.true at c.in_ok-ended.ensures.went) (flat_more c.pieces.invariant.0 c.read.new.out.items c.deref.result.now c.deref.ensures.value)
-        c.in_ok-write_entries.ensures.written in
-        let len : c.len.result ≡ length c.read.new.out.items = omega (arith, c.len.ensures, c.read.new.out.ok.0) in
-        rw len all.0;
+      let p = c.pieces.invariant.1 in
+      let all = poured_all (flat_map spelling) c.pieces.invariant.0 _ _ _ _ _ _ c.pieces.messages c.read.new.self.splitter c.read.new.self.reads c.pieces.whole.items c.read.new.out.items c.args.reads c.pieces.count
+      (flat_map spelling c.deref.result.now) p (rw c.if-ended.true at c.in_ok-ended.ensures.went) (flat_more c.pieces.invariant.0 c.read.new.out.items c.deref.result.now c.deref.ensures.value)
+      c.in_ok-write_entries.ensures.written in
+      let len : c.len.result ≡ length c.read.new.out.items = omega (arith, c.len.ensures, c.read.new.out.ok.0) in
+      rw len all.0;
   end = went_to_end c.in_ok-ended.ended _ _ c.pieces.messages _ _ _ _ c.if-ended.true c.in_ok-ended.ensures.went;
   front = tt;
   no_from_line = λ e. absurd (ok_is_none _ _ e);
   spent = λ e. absurd (ok_is_none _ _ e);
   causes = tt;
   budget =
-        let b = batch (flat_map spelling) c.pieces.invariant.0 _ _ _ _ _ c.pieces.messages c.read.new.self.splitter c.read.new.self.reads c.pieces.whole.items c.read.new.out.items c.args.reads c.pieces.count c.in_ok-ended.ended
-        c.pieces.invariant.1 c.in_ok-ended.ensures.went in
-        (b.text, b.read, b.budget);
+      let b = batch (flat_map spelling) c.pieces.invariant.0 _ _ _ _ _ c.pieces.messages c.read.new.self.splitter c.read.new.self.reads c.pieces.whole.items c.read.new.out.items c.args.reads c.pieces.count c.in_ok-ended.ended
+      c.pieces.invariant.1 c.in_ok-ended.ensures.went in
+      (b.text, b.read, b.budget);
 }
 
 pub pieces-preserved : goal.pieces-preserved

@@ -1,0 +1,71 @@
+-- What is said of an answer by its fault.
+use Rattle.std.proofs.Common.{◌≡◌, ℕ, ◌⊎◌, false, true, Result, Ok, Err, refl, sym, subst, inl, inr}
+use Rattle.std.specs.Prelude.{IsErr, IsErrAnd, IfOk, IfErr}
+use Rattle.maildir_run.specs.declared.folder.FolderFault.{FolderFault}
+use Rattle.maildir_run.specs.declared.folder.FolderFault.TheVariants.{Absent, Failed}
+use Rattle.maildir_run.specs.declared.folder.FolderFault.TheVariants as folder
+use Rattle.maildir_run.specs.declared.fault.RunFault.{RunFault}
+use Rattle.maildir_run.specs.declared.fault.RunFault.TheVariants.{NoFromLine, TooManyReads, FolderAbsent, FolderFailed, OutputFault, OutOfMemory}
+use Rattle.maildir_run.specs.Counting.{answered, CountsFault, IsNumbered, IsOfFolder}
+use Rattle.maildir_run.specs.Reading.{IsReading}
+
+-- ---- no report
+pub unless_ok : {A E : Type 0} (P : A → Type 0) (r : Result A E) → IsErr r → IfOk r P
+unless_ok P (Ok x) is = let off : false ≡ true = is in cc
+unless_ok P (Err e) is = tt
+
+pub ok_is_none : {A : Type 0} (x : A) (fault : RunFault) → Ok x ≡ Err fault → ⊥
+ok_is_none x fault e = cc
+
+-- the fault of a refused call
+pub if_err : {A E : Type 0} (P : E → Type 0) (r : Result A E) (fault : E) → IsErrAnd r (λ e. e ≡ fault) → P fault → IfErr r P
+if_err P (Ok x) fault is p = tt
+if_err P (Err e) fault is p = subst P (sym is) p
+
+-- ---- the fault of a folder call
+pub numbered_fault : {A T : Type 0} (number : ℕ) (r : Result A FolderFault) (fault : RunFault) (answer : Result T RunFault) → Err fault ≡ answered number r → IsErrAnd answer (λ e. e ≡ fault) → IsNumbered answer number
+numbered_fault number r fault (Ok x) e is = absurd is
+numbered_fault number (Ok v) fault (Err f) e is = absurd (cc)
+numbered_fault number (Err Absent) fault (Err f) e is = let same : f ≡ FolderAbsent = cc in rw same tt
+numbered_fault number (Err Failed) fault (Err f) e is = let same : f ≡ FolderFailed number = cc in rw same refl
+numbered_fault number (Err folder.OutOfMemory) fault (Err f) e is = let same : f ≡ OutOfMemory = cc in rw same tt
+
+pub fault_of_folder : {A : Type 0} (number : ℕ) (r : Result A FolderFault) (fault : RunFault) → Err fault ≡ answered number r → IsOfFolder fault
+fault_of_folder number (Ok v) fault e = absurd (cc)
+fault_of_folder number (Err Absent) fault e = let same : fault ≡ FolderAbsent = cc in rw same tt
+fault_of_folder number (Err Failed) fault e = let same : fault ≡ FolderFailed number = cc in rw same tt
+fault_of_folder number (Err folder.OutOfMemory) fault e = let same : fault ≡ OutOfMemory = cc in rw same tt
+
+-- it is not one of reading
+pub not_begun : (fault : RunFault) → IsOfFolder fault → fault ≡ NoFromLine → ⊥
+not_begun fault of e = subst IsOfFolder e of
+
+pub not_spent : (fault : RunFault) → IsOfFolder fault → fault ≡ TooManyReads → ⊥
+not_spent fault of e = subst IsOfFolder e of
+
+-- ---- the count of failures
+pub cause_then : {B : Type 0} (r : Result B RunFault) (fault : RunFault) (old mid new : ℕ) → IsErrAnd r (λ e. e ≡ fault) → mid ≡ old → CountsFault {A = B} (Err fault) mid new → CountsFault r old new
+cause_then {B} (Ok x) fault old mid new is e h = absurd is
+cause_then {B} (Err f) fault old mid new is e h = subst (λ k. CountsFault {A = B} (Err f) k new) e (subst (λ g. CountsFault {A = B} (Err g) mid new) (sym is) h)
+
+still : (A : Type 0) (fault : RunFault) (old new : ℕ) → IsReading fault → new ≡ old → CountsFault {A = A} (Err fault) old new
+still A fault old new (inl e) same = subst (λ f. CountsFault {A = A} (Err f) old new) (sym e) same
+still A fault old new (inr (inl e)) same = subst (λ f. CountsFault {A = A} (Err f) old new) (sym e) same
+still A fault old new (inr (inr (inl e))) same = subst (λ f. CountsFault {A = A} (Err f) old new) (sym e) same
+still A fault old new (inr (inr (inr e))) same = subst (λ f. CountsFault {A = A} (Err f) old new) (sym e) same
+
+pub cause_read : {B : Type 0} (r : Result B RunFault) (fault : RunFault) (old new : ℕ) → IsErrAnd r (λ e. e ≡ fault) → IsReading fault → new ≡ old → CountsFault r old new
+cause_read {B} r fault old new is reading same = cause_then r fault old old new is refl (still B fault old new reading same)
+
+-- ---- the writer's faults are not those of reading
+pub output_not_begun : (fault : RunFault) → (fault ≡ OutputFault) ⊎ (fault ≡ OutOfMemory) → fault ≡ NoFromLine → ⊥
+output_not_begun fault (inl e) f = cc
+output_not_begun fault (inr e) f = cc
+
+pub output_not_spent : (fault : RunFault) → (fault ≡ OutputFault) ⊎ (fault ≡ OutOfMemory) → fault ≡ TooManyReads → ⊥
+output_not_spent fault (inl e) f = cc
+output_not_spent fault (inr e) f = cc
+
+pub output_causes : (fault : RunFault) → (fault ≡ OutputFault) ⊎ (fault ≡ OutOfMemory) → IsReading fault ⊎ (fault ≡ OutputFault)
+output_causes fault (inl e) = inr e
+output_causes fault (inr e) = inl (inr (inr (inr e)))
