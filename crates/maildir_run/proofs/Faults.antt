@@ -1,5 +1,5 @@
 -- What is said of an answer by its fault.
-use Rattle.std.proofs.Common.{◌≡◌, ℕ, ◌⊎◌, false, true, Result, Ok, Err, refl, sym, subst, inl, inr}
+use Rattle.std.proofs.Common.{◌≡◌, ℕ, ◌⊎◌, false, true, Result, Ok, Err, refl, sym, ◌∙◌, subst, inl, inr}
 use Rattle.std.specs.Prelude.{IsErr, IsErrAnd, IfOk, IfErr}
 use Rattle.maildir_run.specs.declared.folder.FolderFault.{FolderFault}
 use Rattle.maildir_run.specs.declared.folder.FolderFault.TheVariants.{Absent, Failed}
@@ -9,7 +9,7 @@ use Rattle.maildir_run.specs.declared.fault.RunFault.TheVariants.{NoFromLine, To
 use Rattle.maildir_run.specs.Counting.{answered, CountsFault, IsNumbered, IsOfFolder}
 use Rattle.maildir_run.specs.Reading.{IsReading}
 
--- ---- no report
+-- ---- with any fault
 pub unless_ok : {A E : Type 0} (P : A → Type 0) (r : Result A E) → IsErr r → IfOk r P
 unless_ok P (Ok x) is = let off : false ≡ true = is in cc
 unless_ok P (Err e) is = tt
@@ -17,10 +17,14 @@ unless_ok P (Err e) is = tt
 pub ok_is_none : {A : Type 0} (x : A) (fault : RunFault) → Ok x ≡ Err fault → ⊥
 ok_is_none x fault e = cc
 
--- the fault of a refused call
+-- the fault of a refused call, and of an answer
 pub if_err : {A E : Type 0} (P : E → Type 0) (r : Result A E) (fault : E) → IsErrAnd r (λ e. e ≡ fault) → P fault → IfErr r P
 if_err P (Ok x) fault is p = tt
 if_err P (Err e) fault is p = subst P (sym is) p
+
+pub fault_is : {T : Type 0} (r : Result T RunFault) (fault named : RunFault) → IsErrAnd r (λ e. e ≡ fault) → r ≡ Err named → fault ≡ named
+fault_is (Ok x) fault named h e = absurd (cc)
+fault_is (Err x) fault named h e = let same : x ≡ named = cc in sym h ∙ same
 
 -- ---- the fault of a folder call
 pub numbered_fault : {A T : Type 0} (number : ℕ) (r : Result A FolderFault) (fault : RunFault) (answer : Result T RunFault) → Err fault ≡ answered number r → IsErrAnd answer (λ e. e ≡ fault) → IsNumbered answer number
@@ -37,11 +41,11 @@ fault_of_folder number (Err Failed) fault e = let same : fault ≡ FolderFailed 
 fault_of_folder number (Err folder.OutOfMemory) fault e = let same : fault ≡ OutOfMemory = cc in rw same tt
 
 -- it is not one of reading
-pub not_begun : (fault : RunFault) → IsOfFolder fault → fault ≡ NoFromLine → ⊥
-not_begun fault of e = subst IsOfFolder e of
+pub not_begun : {T : Type 0} (r : Result T RunFault) (fault : RunFault) → IsErrAnd r (λ e. e ≡ fault) → IsOfFolder fault → r ≡ Err NoFromLine → ⊥
+not_begun r fault is of e = subst IsOfFolder (fault_is r fault NoFromLine is e) of
 
-pub not_spent : (fault : RunFault) → IsOfFolder fault → fault ≡ TooManyReads → ⊥
-not_spent fault of e = subst IsOfFolder e of
+pub not_spent : {T : Type 0} (r : Result T RunFault) (fault : RunFault) → IsErrAnd r (λ e. e ≡ fault) → IsOfFolder fault → r ≡ Err TooManyReads → ⊥
+not_spent r fault is of e = subst IsOfFolder (fault_is r fault TooManyReads is e) of
 
 -- ---- the count of failures
 pub cause_then : {B : Type 0} (r : Result B RunFault) (fault : RunFault) (old mid new : ℕ) → IsErrAnd r (λ e. e ≡ fault) → mid ≡ old → CountsFault {A = B} (Err fault) mid new → CountsFault r old new
@@ -58,13 +62,13 @@ pub cause_read : {B : Type 0} (r : Result B RunFault) (fault : RunFault) (old ne
 cause_read {B} r fault old new is reading same = cause_then r fault old old new is refl (still B fault old new reading same)
 
 -- ---- the writer's faults are not those of reading
-pub output_not_begun : (fault : RunFault) → (fault ≡ OutputFault) ⊎ (fault ≡ OutOfMemory) → fault ≡ NoFromLine → ⊥
-output_not_begun fault (inl e) f = cc
-output_not_begun fault (inr e) f = cc
+pub output_not_begun : {T : Type 0} (r : Result T RunFault) (fault : RunFault) → IsErrAnd r (λ e. e ≡ fault) → (fault ≡ OutputFault) ⊎ (fault ≡ OutOfMemory) → r ≡ Err NoFromLine → ⊥
+output_not_begun r fault is (inl h) e = let f = fault_is r fault NoFromLine is e in cc
+output_not_begun r fault is (inr h) e = let f = fault_is r fault NoFromLine is e in cc
 
-pub output_not_spent : (fault : RunFault) → (fault ≡ OutputFault) ⊎ (fault ≡ OutOfMemory) → fault ≡ TooManyReads → ⊥
-output_not_spent fault (inl e) f = cc
-output_not_spent fault (inr e) f = cc
+pub output_not_spent : {T : Type 0} (r : Result T RunFault) (fault : RunFault) → IsErrAnd r (λ e. e ≡ fault) → (fault ≡ OutputFault) ⊎ (fault ≡ OutOfMemory) → r ≡ Err TooManyReads → ⊥
+output_not_spent r fault is (inl h) e = let f = fault_is r fault TooManyReads is e in cc
+output_not_spent r fault is (inr h) e = let f = fault_is r fault TooManyReads is e in cc
 
 pub output_causes : (fault : RunFault) → (fault ≡ OutputFault) ⊎ (fault ≡ OutOfMemory) → IsReading fault ⊎ (fault ≡ OutputFault)
 output_causes fault (inl e) = inr e

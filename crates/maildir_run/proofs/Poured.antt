@@ -1,6 +1,5 @@
 -- A source that is read piece by piece while what belongs to its messages is written.
-use Rattle.std.proofs.Common.{◌≡◌, ℕ, ◌+◌, ◌*◌, ◌^◌, ◌<◌, ◌≤◌, Bool, true, false, Option, Some, None, Result, Ok, Err, List, [], ◌∷◌, ◌++◌, length, refl, sym, ◌∙◌, ap, arith, append_assoc, inl, inr}
-use Rattle.std.specs.Prelude.{IsErrAnd}
+use Rattle.std.proofs.Common.{◌≡◌, ℕ, ◌+◌, ◌*◌, ◌^◌, ◌<◌, ◌≤◌, Bool, true, false, Option, Some, None, Ok, List, [], ◌∷◌, ◌++◌, length, refl, sym, ◌∙◌, ap, arith, append_assoc, inl, inr}
 use Rattle.std.specs.List.{flat_map}
 use Rattle.std.proofs.lemmas.List.Concat.{flat_map-append}
 use Rattle.mbox_text.specs.Spelling.{spelling, FromLines}
@@ -251,8 +250,3 @@ flat_output = record { none = refl; front = λ a b. (flat_map spelling b, flat_m
 -- what went out of a batch
 pub flat_more : (given whole entries : List Entry) → entries ≡ whole → flat_map spelling (given ++ whole) ≡ flat_map spelling given ++ flat_map spelling entries
 flat_more given whole entries e = flat_map-append spelling given whole ∙ ap (λ z. flat_map spelling given ++ flat_map spelling z) (sym e)
-
--- the fault of an answer
-pub fault_is : {T : Type 0} (r : Result T RunFault) (fault named : RunFault) → IsErrAnd r (λ e. e ≡ fault) → r ≡ Err named → fault ≡ named
-fault_is (Ok x) fault named h e = absurd (cc)
-fault_is (Err x) fault named h e = let same : x ≡ named = cc in sym h ∙ same

@@ -28,8 +28,7 @@ returns-in_err-answered g c = record {
       quiet_others (Writing c.as_str-base.result.now c.args.body.now) ours (g.F.Folder.files c.args.folder.now) c.write.result (g.F.Folder.files c.write.new.self) (c.write.ensures.alone q);
   made = unless_ok _ c.from_residual.result c.from_residual.ensures.0;
   most = up_to 1 2 _ _ _ _ (omega arith) (one_call _ _ _ _ c.answered.ensures.made c.write.ensures.counted);
-  cause =
-      counts_fault _ c.write.result c.in_err-answered.field-0.0 c.from_residual.result _ _ c.in_err-answered.ensures.is c.from_residual.ensures.1 c.write.ensures.cause;
+  cause = counts_fault _ c.write.result c.in_err-answered.field-0.0 c.from_residual.result _ _ c.in_err-answered.ensures.is c.from_residual.ensures.1 c.write.ensures.cause;
   numbered = numbered_fault _ c.write.result c.in_err-answered.field-0.0 c.from_residual.result c.in_err-answered.ensures.is c.from_residual.ensures.1;
   causes = if_err _ c.from_residual.result c.in_err-answered.field-0.0 c.from_residual.ensures.1 (fault_of_folder _ c.write.result c.in_err-answered.field-0.0 c.in_err-answered.ensures.is);
 }
@@ -95,8 +94,7 @@ returns g c = record {
       let theirs : IsTrue (is_converter_name c.as_str.result.now) =
       ap is_converter_name c.as_str.ensures ∙ ap is_converter_base (sym (is_name-true t.base (base t.name) c.requires.under)) ∙ c.requires.named in
       others_then _ _ _ (quiet_others (Writing c.as_str-base.result.now c.args.body.now) ours (g.F.Folder.files c.args.folder.now) c.write.result (g.F.Folder.files c.write.new.self) (c.write.ensures.alone q)) (quiet_others (Placing c.as_str-base.result.now t.place c.as_str.result.now) (ours, theirs) (g.F.Folder.files c.write.new.self) c.place.result (g.F.Folder.files c.place.new.self) (c.place.ensures.alone (c.write.ensures.quiet q)));
-  made =
-      more_calls 1 1 _ _ _ _ _ _ (one_call _ _ _ _ c.answered.ensures.made c.write.ensures.counted) (one_call _ _ _ _ c.answered-2.ensures.made c.place.ensures.counted);
+  made = more_calls 1 1 _ _ _ _ _ _ (one_call _ _ _ _ c.answered.ensures.made c.write.ensures.counted) (one_call _ _ _ _ c.answered-2.ensures.made c.place.ensures.counted);
   most = up_to 2 2 _ _ _ _ (omega arith) (more_calls 1 1 _ _ _ _ _ _ (one_call _ _ _ _ c.answered.ensures.made c.write.ensures.counted) (one_call _ _ _ _ c.answered-2.ensures.made c.place.ensures.counted));
   cause = no_failure _ _ _ _ _ c.in_ok-answered-2.ensures.is c.place.ensures.cause ∙ no_failure _ _ _ _ _ c.in_ok-answered.ensures.is c.write.ensures.cause;
   numbered = tt;

@@ -4,9 +4,9 @@ use Rattle.mbox_text.specs.declared.entry.Entry.{Entry}
 use Rattle.mbox_text.proofs.Giving.{on_err}
 use Rattle.maildir_run.specs.Listing.{listing}
 use Rattle.maildir_run.proofs.Listings.{listing_output}
-use Rattle.maildir_run.proofs.Poured.{fault_is, read_broken, batch, batch_broken, names_fit, poured_none, poured_all, poured_more}
+use Rattle.maildir_run.proofs.Poured.{read_broken, batch, batch_broken, names_fit, poured_none, poured_all, poured_more}
 use Rattle.maildir_run.specs.declared.fault.RunFault.TheVariants.{OutOfMemory}
-use Rattle.maildir_run.proofs.Faults.{if_err, unless_ok, ok_is_none, not_begun, not_spent, output_not_begun, output_not_spent, output_causes}
+use Rattle.maildir_run.proofs.Faults.{if_err, fault_is, unless_ok, ok_is_none, not_begun, not_spent, output_not_begun, output_not_spent, output_causes}
 use Rattle.maildir_run.proofs.Exits.{read_nothing, front_nothing, went_to_end, went_on}
 use Rattle.maildir_run.proofs.listing.list_text.Goals as goal
 
@@ -16,23 +16,26 @@ pieces-init g c =
     ([], rw none.counted (poured_none listing _ _ c.in_ok-messages.messages.splitter c.args.reads c.in_ok-messages.messages.reads c.new-whole.result.items listing_output c.in_ok-messages.ensures.0 c.in_ok-messages.ensures.1 c.new-whole.ensures.items), none)
 
 pub returns-in_err-ended : goal.returns-in_err-ended
-returns-in_err-ended g c = record {
-  all = unless_ok _ c.from_residual-in_err-ended.result c.from_residual-in_err-ended.ensures.0;
-  end = unless_ok _ c.from_residual-in_err-ended.result c.from_residual-in_err-ended.ensures.0;
-  front =
-      let b = read_broken listing c.pieces.invariant.0 _ _ _ _ _ c.pieces.messages c.pieces.whole.items c.args.reads c.pieces.lister.count c.in_err-ended.field-0.0 listing_output c.pieces.invariant.1 c.in_err-ended.ensures.went in
-      on_err c.from_residual-in_err-ended.result _ b.front;
-  no_from_line = λ e.
-      let b = read_broken listing c.pieces.invariant.0 _ _ _ _ _ c.pieces.messages c.pieces.whole.items c.args.reads c.pieces.lister.count c.in_err-ended.field-0.0 listing_output c.pieces.invariant.1 c.in_err-ended.ensures.went in
-      b.nothing (fault_is c.from_residual-in_err-ended.result c.in_err-ended.field-0.0 _ c.from_residual-in_err-ended.ensures.1 e);
-  spent = λ e.
-      let b = read_broken listing c.pieces.invariant.0 _ _ _ _ _ c.pieces.messages c.pieces.whole.items c.args.reads c.pieces.lister.count c.in_err-ended.field-0.0 listing_output c.pieces.invariant.1 c.in_err-ended.ensures.went in
-      b.spent (fault_is c.from_residual-in_err-ended.result c.in_err-ended.field-0.0 _ c.from_residual-in_err-ended.ensures.1 e);
-  causes = if_err _ c.from_residual-in_err-ended.result c.in_err-ended.field-0.0 c.from_residual-in_err-ended.ensures.1 (inl c.in_err-ended.ensures.causes);
-  budget =
-      let b = read_broken listing c.pieces.invariant.0 _ _ _ _ _ c.pieces.messages c.pieces.whole.items c.args.reads c.pieces.lister.count c.in_err-ended.field-0.0 listing_output c.pieces.invariant.1 c.in_err-ended.ensures.went in
-      b.budget;
-}
+returns-in_err-ended g c =
+    let r = c.from_residual-in_err-ended in
+    let fault = c.in_err-ended.field-0.0 in
+    record {
+      all = unless_ok _ r.result r.ensures.0;
+      end = unless_ok _ r.result r.ensures.0;
+      front =
+          let b = read_broken listing c.pieces.invariant.0 _ _ _ _ _ c.pieces.messages c.pieces.whole.items c.args.reads c.pieces.lister.count fault listing_output c.pieces.invariant.1 c.in_err-ended.ensures.went in
+          on_err r.result _ b.front;
+      no_from_line = λ e.
+          let b = read_broken listing c.pieces.invariant.0 _ _ _ _ _ c.pieces.messages c.pieces.whole.items c.args.reads c.pieces.lister.count fault listing_output c.pieces.invariant.1 c.in_err-ended.ensures.went in
+          b.nothing (fault_is r.result fault _ r.ensures.1 e);
+      spent = λ e.
+          let b = read_broken listing c.pieces.invariant.0 _ _ _ _ _ c.pieces.messages c.pieces.whole.items c.args.reads c.pieces.lister.count fault listing_output c.pieces.invariant.1 c.in_err-ended.ensures.went in
+          b.spent (fault_is r.result fault _ r.ensures.1 e);
+      causes = if_err _ r.result fault r.ensures.1 (inl c.in_err-ended.ensures.causes);
+      budget =
+          let b = read_broken listing c.pieces.invariant.0 _ _ _ _ _ c.pieces.messages c.pieces.whole.items c.args.reads c.pieces.lister.count fault listing_output c.pieces.invariant.1 c.in_err-ended.ensures.went in
+          b.budget;
+    }
 
 pub list-requires : goal.list-requires
 list-requires g c =
@@ -41,25 +44,28 @@ list-requires g c =
     rw c.deref.ensures.value b.from_lines
 
 pub returns-in_err-list : goal.returns-in_err-list
-returns-in_err-list g c = record {
-  all = unless_ok _ c.from_residual-in_err-list.result c.from_residual-in_err-list.ensures.0;
-  end = unless_ok _ c.from_residual-in_err-list.result c.from_residual-in_err-list.ensures.0;
-  front =
-      let given : List Entry = c.pieces.invariant.0 in
-      let b = batch listing given _ _ _ _ _ c.pieces.messages c.read.new.self.splitter c.read.new.self.reads c.pieces.whole.items c.read.new.out.items c.args.reads c.pieces.lister.count c.in_ok-ended.ended
-      c.pieces.invariant.1 c.in_ok-ended.ensures.went in
-      let fit = names_fit listing given _ _ _ _ c.read.new.out.items c.args.reads c.pieces.lister.count b c.requires in
-      let s = rw c.deref.ensures.value at (c.in_err-list.ensures.lists given c.pieces.invariant.2 (rw c.deref.ensures.value fit)) in
-      let w = batch_broken listing given _ _ _ _ _ c.read.new.out.items c.args.reads c.pieces.lister.count s.0 listing_output b s.1 s.2 in
-      on_err c.from_residual-in_err-list.result _ w.0;
-  no_from_line = λ e. absurd (output_not_begun c.in_err-list.field-0.0 c.in_err-list.ensures.causes (fault_is c.from_residual-in_err-list.result c.in_err-list.field-0.0 _ c.from_residual-in_err-list.ensures.1 e));
-  spent = λ e. absurd (output_not_spent c.in_err-list.field-0.0 c.in_err-list.ensures.causes (fault_is c.from_residual-in_err-list.result c.in_err-list.field-0.0 _ c.from_residual-in_err-list.ensures.1 e));
-  causes = if_err _ c.from_residual-in_err-list.result c.in_err-list.field-0.0 c.from_residual-in_err-list.ensures.1 (output_causes c.in_err-list.field-0.0 c.in_err-list.ensures.causes);
-  budget =
-      let b = batch listing c.pieces.invariant.0 _ _ _ _ _ c.pieces.messages c.read.new.self.splitter c.read.new.self.reads c.pieces.whole.items c.read.new.out.items c.args.reads c.pieces.lister.count c.in_ok-ended.ended
-      c.pieces.invariant.1 c.in_ok-ended.ensures.went in
-      (b.text, b.read, b.budget);
-}
+returns-in_err-list g c =
+    let r = c.from_residual-in_err-list in
+    let fault = c.in_err-list.field-0.0 in
+    record {
+      all = unless_ok _ r.result r.ensures.0;
+      end = unless_ok _ r.result r.ensures.0;
+      front =
+          let given : List Entry = c.pieces.invariant.0 in
+          let b = batch listing given _ _ _ _ _ c.pieces.messages c.read.new.self.splitter c.read.new.self.reads c.pieces.whole.items c.read.new.out.items c.args.reads c.pieces.lister.count c.in_ok-ended.ended
+          c.pieces.invariant.1 c.in_ok-ended.ensures.went in
+          let fit = names_fit listing given _ _ _ _ c.read.new.out.items c.args.reads c.pieces.lister.count b c.requires in
+          let s = rw c.deref.ensures.value at (c.in_err-list.ensures.lists given c.pieces.invariant.2 (rw c.deref.ensures.value fit)) in
+          let w = batch_broken listing given _ _ _ _ _ c.read.new.out.items c.args.reads c.pieces.lister.count s.0 listing_output b s.1 s.2 in
+          on_err r.result _ w.0;
+      no_from_line = λ e. absurd (output_not_begun r.result fault r.ensures.1 c.in_err-list.ensures.causes e);
+      spent = λ e. absurd (output_not_spent r.result fault r.ensures.1 c.in_err-list.ensures.causes e);
+      causes = if_err _ r.result fault r.ensures.1 (output_causes fault c.in_err-list.ensures.causes);
+      budget =
+          let b = batch listing c.pieces.invariant.0 _ _ _ _ _ c.pieces.messages c.read.new.self.splitter c.read.new.self.reads c.pieces.whole.items c.read.new.out.items c.args.reads c.pieces.lister.count c.in_ok-ended.ended
+          c.pieces.invariant.1 c.in_ok-ended.ensures.went in
+          (b.text, b.read, b.budget);
+    }
 
 pub returns-then-ended : goal.returns-then-ended
 returns-then-ended g c = record {
@@ -97,15 +103,17 @@ pieces-preserved g c =
     (given ++ c.read.new.out.items, rw count more, s.3)
 
 pub returns-in_err-messages : goal.returns-in_err-messages
-returns-in_err-messages g c = record {
-  all = unless_ok _ c.from_residual.result c.from_residual.ensures.0;
-  end = unless_ok _ c.from_residual.result c.from_residual.ensures.0;
-  front = on_err c.from_residual.result _ (front_nothing listing (g.R.Read.remaining c.args.source.now) (g.W.Write.contents c.args.out.now));
-  no_from_line = λ e. absurd (not_begun OutOfMemory tt (fault_is c.from_residual.result OutOfMemory _ c.from_residual.ensures.1 e));
-  spent = λ e. absurd (not_spent OutOfMemory tt (fault_is c.from_residual.result OutOfMemory _ c.from_residual.ensures.1 e));
-  causes = if_err _ c.from_residual.result OutOfMemory c.from_residual.ensures.1 (inl (inr (inr (inr refl))));
-  budget = read_nothing (g.R.Read.remaining c.args.source.now) (65536 * c.args.reads);
-}
+returns-in_err-messages g c =
+    let r = c.from_residual in
+    record {
+      all = unless_ok _ r.result r.ensures.0;
+      end = unless_ok _ r.result r.ensures.0;
+      front = on_err r.result _ (front_nothing listing (g.R.Read.remaining c.args.source.now) (g.W.Write.contents c.args.out.now));
+      no_from_line = λ e. absurd (not_begun r.result OutOfMemory r.ensures.1 tt e);
+      spent = λ e. absurd (not_spent r.result OutOfMemory r.ensures.1 tt e);
+      causes = if_err _ r.result OutOfMemory r.ensures.1 (inl (inr (inr (inr refl))));
+      budget = read_nothing (g.R.Read.remaining c.args.source.now) (65536 * c.args.reads);
+    }
 
 pub pieces-smaller : goal.pieces-smaller
 pieces-smaller g c = went_on c.in_ok-ended.ended _ _ c.pieces.messages _ _ _ _ c.if-ended.false c.in_ok-ended.ensures.went

@@ -2,49 +2,55 @@ use Rattle.std.proofs.Common.{◌≡◌, ◌*◌, ◌++◌, length, arith, refl,
 use Rattle.std.specs.List.{flat_map}
 use Rattle.mbox_text.specs.Spelling.{spelling}
 use Rattle.mbox_text.proofs.Giving.{on_err}
-use Rattle.maildir_run.proofs.Poured.{flat_output, flat_more, fault_is, read_broken, batch, batch_broken, count_fits, poured_all, poured_more}
+use Rattle.maildir_run.proofs.Poured.{flat_output, flat_more, read_broken, batch, batch_broken, count_fits, poured_all, poured_more}
 use Rattle.maildir_run.specs.declared.fault.RunFault.TheVariants.{OutOfMemory}
-use Rattle.maildir_run.proofs.Faults.{if_err, unless_ok, ok_is_none, not_begun, not_spent, output_not_begun, output_not_spent, output_causes}
+use Rattle.maildir_run.proofs.Faults.{if_err, fault_is, unless_ok, ok_is_none, not_begun, not_spent, output_not_begun, output_not_spent, output_causes}
 use Rattle.maildir_run.proofs.Exits.{read_nothing, front_nothing, went_to_end, went_on}
 use Rattle.maildir_run.proofs.rewriting.rewrite.Goals as goal
 
 pub returns-in_err-ended : goal.returns-in_err-ended
-returns-in_err-ended g c = record {
-  all = unless_ok _ c.from_residual-in_err-ended.result c.from_residual-in_err-ended.ensures.0;
-  end = unless_ok _ c.from_residual-in_err-ended.result c.from_residual-in_err-ended.ensures.0;
-  front =
-      let b = read_broken (flat_map spelling) c.pieces.invariant.0 _ _ _ _ _ c.pieces.messages c.pieces.whole.items c.args.reads c.pieces.count c.in_err-ended.field-0.0 flat_output c.pieces.invariant.1 c.in_err-ended.ensures.went in
-      on_err c.from_residual-in_err-ended.result _ b.front;
-  no_from_line = λ e.
-      let b = read_broken (flat_map spelling) c.pieces.invariant.0 _ _ _ _ _ c.pieces.messages c.pieces.whole.items c.args.reads c.pieces.count c.in_err-ended.field-0.0 flat_output c.pieces.invariant.1 c.in_err-ended.ensures.went in
-      b.nothing (fault_is c.from_residual-in_err-ended.result c.in_err-ended.field-0.0 _ c.from_residual-in_err-ended.ensures.1 e);
-  spent = λ e.
-      let b = read_broken (flat_map spelling) c.pieces.invariant.0 _ _ _ _ _ c.pieces.messages c.pieces.whole.items c.args.reads c.pieces.count c.in_err-ended.field-0.0 flat_output c.pieces.invariant.1 c.in_err-ended.ensures.went in
-      b.spent (fault_is c.from_residual-in_err-ended.result c.in_err-ended.field-0.0 _ c.from_residual-in_err-ended.ensures.1 e);
-  causes = if_err _ c.from_residual-in_err-ended.result c.in_err-ended.field-0.0 c.from_residual-in_err-ended.ensures.1 (inl c.in_err-ended.ensures.causes);
-  budget =
-      let b = read_broken (flat_map spelling) c.pieces.invariant.0 _ _ _ _ _ c.pieces.messages c.pieces.whole.items c.args.reads c.pieces.count c.in_err-ended.field-0.0 flat_output c.pieces.invariant.1 c.in_err-ended.ensures.went in
-      b.budget;
-}
+returns-in_err-ended g c =
+    let r = c.from_residual-in_err-ended in
+    let fault = c.in_err-ended.field-0.0 in
+    record {
+      all = unless_ok _ r.result r.ensures.0;
+      end = unless_ok _ r.result r.ensures.0;
+      front =
+          let b = read_broken (flat_map spelling) c.pieces.invariant.0 _ _ _ _ _ c.pieces.messages c.pieces.whole.items c.args.reads c.pieces.count fault flat_output c.pieces.invariant.1 c.in_err-ended.ensures.went in
+          on_err r.result _ b.front;
+      no_from_line = λ e.
+          let b = read_broken (flat_map spelling) c.pieces.invariant.0 _ _ _ _ _ c.pieces.messages c.pieces.whole.items c.args.reads c.pieces.count fault flat_output c.pieces.invariant.1 c.in_err-ended.ensures.went in
+          b.nothing (fault_is r.result fault _ r.ensures.1 e);
+      spent = λ e.
+          let b = read_broken (flat_map spelling) c.pieces.invariant.0 _ _ _ _ _ c.pieces.messages c.pieces.whole.items c.args.reads c.pieces.count fault flat_output c.pieces.invariant.1 c.in_err-ended.ensures.went in
+          b.spent (fault_is r.result fault _ r.ensures.1 e);
+      causes = if_err _ r.result fault r.ensures.1 (inl c.in_err-ended.ensures.causes);
+      budget =
+          let b = read_broken (flat_map spelling) c.pieces.invariant.0 _ _ _ _ _ c.pieces.messages c.pieces.whole.items c.args.reads c.pieces.count fault flat_output c.pieces.invariant.1 c.in_err-ended.ensures.went in
+          b.budget;
+    }
 
 pub returns-in_err-write_entries : goal.returns-in_err-write_entries
-returns-in_err-write_entries g c = record {
-  all = unless_ok _ c.from_residual-in_err-write_entries.result c.from_residual-in_err-write_entries.ensures.0;
-  end = unless_ok _ c.from_residual-in_err-write_entries.result c.from_residual-in_err-write_entries.ensures.0;
-  front =
-      let b = batch (flat_map spelling) c.pieces.invariant.0 _ _ _ _ _ c.pieces.messages c.read.new.self.splitter c.read.new.self.reads c.pieces.whole.items c.read.new.out.items c.args.reads c.pieces.count c.in_ok-ended.ended
-      c.pieces.invariant.1 c.in_ok-ended.ensures.went in
-      let w = batch_broken (flat_map spelling) c.pieces.invariant.0 _ _ _ _ _ c.read.new.out.items c.args.reads c.pieces.count (flat_map spelling c.deref.result.now) flat_output b
-      (flat_more c.pieces.invariant.0 c.read.new.out.items c.deref.result.now c.deref.ensures.value) c.in_err-write_entries.ensures.written in
-      on_err c.from_residual-in_err-write_entries.result _ w.0;
-  no_from_line = λ e. absurd (output_not_begun c.in_err-write_entries.field-0.0 (inl c.in_err-write_entries.ensures.causes) (fault_is c.from_residual-in_err-write_entries.result c.in_err-write_entries.field-0.0 _ c.from_residual-in_err-write_entries.ensures.1 e));
-  spent = λ e. absurd (output_not_spent c.in_err-write_entries.field-0.0 (inl c.in_err-write_entries.ensures.causes) (fault_is c.from_residual-in_err-write_entries.result c.in_err-write_entries.field-0.0 _ c.from_residual-in_err-write_entries.ensures.1 e));
-  causes = if_err _ c.from_residual-in_err-write_entries.result c.in_err-write_entries.field-0.0 c.from_residual-in_err-write_entries.ensures.1 (output_causes c.in_err-write_entries.field-0.0 (inl c.in_err-write_entries.ensures.causes));
-  budget =
-      let b = batch (flat_map spelling) c.pieces.invariant.0 _ _ _ _ _ c.pieces.messages c.read.new.self.splitter c.read.new.self.reads c.pieces.whole.items c.read.new.out.items c.args.reads c.pieces.count c.in_ok-ended.ended
-      c.pieces.invariant.1 c.in_ok-ended.ensures.went in
-      (b.text, b.read, b.budget);
-}
+returns-in_err-write_entries g c =
+    let r = c.from_residual-in_err-write_entries in
+    let fault = c.in_err-write_entries.field-0.0 in
+    record {
+      all = unless_ok _ r.result r.ensures.0;
+      end = unless_ok _ r.result r.ensures.0;
+      front =
+          let b = batch (flat_map spelling) c.pieces.invariant.0 _ _ _ _ _ c.pieces.messages c.read.new.self.splitter c.read.new.self.reads c.pieces.whole.items c.read.new.out.items c.args.reads c.pieces.count c.in_ok-ended.ended
+          c.pieces.invariant.1 c.in_ok-ended.ensures.went in
+          let w = batch_broken (flat_map spelling) c.pieces.invariant.0 _ _ _ _ _ c.read.new.out.items c.args.reads c.pieces.count (flat_map spelling c.deref.result.now) flat_output b
+          (flat_more c.pieces.invariant.0 c.read.new.out.items c.deref.result.now c.deref.ensures.value) c.in_err-write_entries.ensures.written in
+          on_err r.result _ w.0;
+      no_from_line = λ e. absurd (output_not_begun r.result fault r.ensures.1 (inl c.in_err-write_entries.ensures.causes) e);
+      spent = λ e. absurd (output_not_spent r.result fault r.ensures.1 (inl c.in_err-write_entries.ensures.causes) e);
+      causes = if_err _ r.result fault r.ensures.1 (output_causes fault (inl c.in_err-write_entries.ensures.causes));
+      budget =
+          let b = batch (flat_map spelling) c.pieces.invariant.0 _ _ _ _ _ c.pieces.messages c.read.new.self.splitter c.read.new.self.reads c.pieces.whole.items c.read.new.out.items c.args.reads c.pieces.count c.in_ok-ended.ended
+          c.pieces.invariant.1 c.in_ok-ended.ensures.went in
+          (b.text, b.read, b.budget);
+    }
 
 pub overflow_add-count : goal.overflow_add-count
 overflow_add-count g c =
@@ -84,15 +90,17 @@ pieces-preserved g c =
     (c.pieces.invariant.0 ++ c.read.new.out.items, rw len more)
 
 pub returns-in_err-messages : goal.returns-in_err-messages
-returns-in_err-messages g c = record {
-  all = unless_ok _ c.from_residual.result c.from_residual.ensures.0;
-  end = unless_ok _ c.from_residual.result c.from_residual.ensures.0;
-  front = on_err c.from_residual.result _ (front_nothing (flat_map spelling) (g.R.Read.remaining c.args.source.now) (g.W.Write.contents c.args.out.now));
-  no_from_line = λ e. absurd (not_begun OutOfMemory tt (fault_is c.from_residual.result OutOfMemory _ c.from_residual.ensures.1 e));
-  spent = λ e. absurd (not_spent OutOfMemory tt (fault_is c.from_residual.result OutOfMemory _ c.from_residual.ensures.1 e));
-  causes = if_err _ c.from_residual.result OutOfMemory c.from_residual.ensures.1 (inl (inr (inr (inr refl))));
-  budget = read_nothing (g.R.Read.remaining c.args.source.now) (65536 * c.args.reads);
-}
+returns-in_err-messages g c =
+    let r = c.from_residual in
+    record {
+      all = unless_ok _ r.result r.ensures.0;
+      end = unless_ok _ r.result r.ensures.0;
+      front = on_err r.result _ (front_nothing (flat_map spelling) (g.R.Read.remaining c.args.source.now) (g.W.Write.contents c.args.out.now));
+      no_from_line = λ e. absurd (not_begun r.result OutOfMemory r.ensures.1 tt e);
+      spent = λ e. absurd (not_spent r.result OutOfMemory r.ensures.1 tt e);
+      causes = if_err _ r.result OutOfMemory r.ensures.1 (inl (inr (inr (inr refl))));
+      budget = read_nothing (g.R.Read.remaining c.args.source.now) (65536 * c.args.reads);
+    }
 
 pub pieces-smaller : goal.pieces-smaller
 pieces-smaller g c = went_on c.in_ok-ended.ended _ _ c.pieces.messages _ _ _ _ c.if-ended.false c.in_ok-ended.ensures.went
