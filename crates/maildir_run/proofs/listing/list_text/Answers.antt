@@ -19,21 +19,18 @@ pub returns-in_err-ended : goal.returns-in_err-ended
 returns-in_err-ended g c =
     let r = c.from_residual-in_err-ended in
     let fault = c.in_err-ended.field-0.0 in
+    let b = read_broken listing c.pieces.invariant.0 _ _ _ _ _ c.pieces.messages c.pieces.whole.items c.args.reads c.pieces.lister.count fault listing_output c.pieces.invariant.1 c.in_err-ended.ensures.went in
     record {
       all = unless_ok _ r.result r.ensures.0;
       end = unless_ok _ r.result r.ensures.0;
       front =
-          let b = read_broken listing c.pieces.invariant.0 _ _ _ _ _ c.pieces.messages c.pieces.whole.items c.args.reads c.pieces.lister.count fault listing_output c.pieces.invariant.1 c.in_err-ended.ensures.went in
           on_err r.result _ b.front;
       no_from_line = λ e.
-          let b = read_broken listing c.pieces.invariant.0 _ _ _ _ _ c.pieces.messages c.pieces.whole.items c.args.reads c.pieces.lister.count fault listing_output c.pieces.invariant.1 c.in_err-ended.ensures.went in
           b.nothing (fault_is r.result fault _ r.ensures.1 e);
       spent = λ e.
-          let b = read_broken listing c.pieces.invariant.0 _ _ _ _ _ c.pieces.messages c.pieces.whole.items c.args.reads c.pieces.lister.count fault listing_output c.pieces.invariant.1 c.in_err-ended.ensures.went in
           b.spent (fault_is r.result fault _ r.ensures.1 e);
       causes = if_err _ r.result fault r.ensures.1 (inl c.in_err-ended.ensures.causes);
       budget =
-          let b = read_broken listing c.pieces.invariant.0 _ _ _ _ _ c.pieces.messages c.pieces.whole.items c.args.reads c.pieces.lister.count fault listing_output c.pieces.invariant.1 c.in_err-ended.ensures.went in
           b.budget;
     }
 
@@ -47,13 +44,13 @@ pub returns-in_err-list : goal.returns-in_err-list
 returns-in_err-list g c =
     let r = c.from_residual-in_err-list in
     let fault = c.in_err-list.field-0.0 in
+    let given : List Entry = c.pieces.invariant.0 in
+    let b = batch listing c.pieces.invariant.0 _ _ _ _ _ c.pieces.messages c.read.new.self.splitter c.read.new.self.reads c.pieces.whole.items c.read.new.out.items c.args.reads c.pieces.lister.count c.in_ok-ended.ended
+    c.pieces.invariant.1 c.in_ok-ended.ensures.went in
     record {
       all = unless_ok _ r.result r.ensures.0;
       end = unless_ok _ r.result r.ensures.0;
       front =
-          let given : List Entry = c.pieces.invariant.0 in
-          let b = batch listing given _ _ _ _ _ c.pieces.messages c.read.new.self.splitter c.read.new.self.reads c.pieces.whole.items c.read.new.out.items c.args.reads c.pieces.lister.count c.in_ok-ended.ended
-          c.pieces.invariant.1 c.in_ok-ended.ensures.went in
           let fit = names_fit listing given _ _ _ _ c.read.new.out.items c.args.reads c.pieces.lister.count b c.requires in
           let s = rw c.deref.ensures.value at (c.in_err-list.ensures.lists given c.pieces.invariant.2 (rw c.deref.ensures.value fit)) in
           let w = batch_broken listing given _ _ _ _ _ c.read.new.out.items c.args.reads c.pieces.lister.count s.0 listing_output b s.1 s.2 in
@@ -62,33 +59,30 @@ returns-in_err-list g c =
       spent = λ e. absurd (output_not_spent r.result fault r.ensures.1 c.in_err-list.ensures.causes e);
       causes = if_err _ r.result fault r.ensures.1 (output_causes fault c.in_err-list.ensures.causes);
       budget =
-          let b = batch listing c.pieces.invariant.0 _ _ _ _ _ c.pieces.messages c.read.new.self.splitter c.read.new.self.reads c.pieces.whole.items c.read.new.out.items c.args.reads c.pieces.lister.count c.in_ok-ended.ended
-          c.pieces.invariant.1 c.in_ok-ended.ensures.went in
           (b.text, b.read, b.budget);
     }
 
 pub returns-then-ended : goal.returns-then-ended
-returns-then-ended g c = record {
-  all =
-      let given : List Entry = c.pieces.invariant.0 in
-      let b = batch listing given _ _ _ _ _ c.pieces.messages c.read.new.self.splitter c.read.new.self.reads c.pieces.whole.items c.read.new.out.items c.args.reads c.pieces.lister.count c.in_ok-ended.ended
-      c.pieces.invariant.1 c.in_ok-ended.ensures.went in
-      let fit = names_fit listing given _ _ _ _ c.read.new.out.items c.args.reads c.pieces.lister.count b c.requires in
-      let s = rw c.deref.ensures.value at (c.in_ok-list.ensures.lists given c.pieces.invariant.2 (rw c.deref.ensures.value fit)) in
-      let all = poured_all listing given _ _ _ _ _ _ c.pieces.messages c.read.new.self.splitter c.read.new.self.reads c.pieces.whole.items c.read.new.out.items c.args.reads c.pieces.lister.count
-      s.0 c.pieces.invariant.1 (rw c.if-ended.true at c.in_ok-ended.ensures.went) s.1 s.2 in
-      let count : c.list.new.self.count ≡ c.pieces.lister.count + length c.read.new.out.items = omega (arith, s.3.counted, c.pieces.invariant.2.counted, length-append given c.read.new.out.items) in
-      rw count all.0;
-  end = went_to_end c.in_ok-ended.ended _ _ c.pieces.messages _ _ _ _ c.if-ended.true c.in_ok-ended.ensures.went;
-  front = tt;
-  no_from_line = λ e. absurd (ok_is_none _ _ e);
-  spent = λ e. absurd (ok_is_none _ _ e);
-  causes = tt;
-  budget =
-      let b = batch listing c.pieces.invariant.0 _ _ _ _ _ c.pieces.messages c.read.new.self.splitter c.read.new.self.reads c.pieces.whole.items c.read.new.out.items c.args.reads c.pieces.lister.count c.in_ok-ended.ended
-      c.pieces.invariant.1 c.in_ok-ended.ensures.went in
-      (b.text, b.read, b.budget);
-}
+returns-then-ended g c =
+    let given : List Entry = c.pieces.invariant.0 in
+    let b = batch listing c.pieces.invariant.0 _ _ _ _ _ c.pieces.messages c.read.new.self.splitter c.read.new.self.reads c.pieces.whole.items c.read.new.out.items c.args.reads c.pieces.lister.count c.in_ok-ended.ended
+    c.pieces.invariant.1 c.in_ok-ended.ensures.went in
+    record {
+      all =
+          let fit = names_fit listing given _ _ _ _ c.read.new.out.items c.args.reads c.pieces.lister.count b c.requires in
+          let s = rw c.deref.ensures.value at (c.in_ok-list.ensures.lists given c.pieces.invariant.2 (rw c.deref.ensures.value fit)) in
+          let all = poured_all listing given _ _ _ _ _ _ c.pieces.messages c.read.new.self.splitter c.read.new.self.reads c.pieces.whole.items c.read.new.out.items c.args.reads c.pieces.lister.count
+          s.0 c.pieces.invariant.1 (rw c.if-ended.true at c.in_ok-ended.ensures.went) s.1 s.2 in
+          let count : c.list.new.self.count ≡ c.pieces.lister.count + length c.read.new.out.items = omega (arith, s.3.counted, c.pieces.invariant.2.counted, length-append given c.read.new.out.items) in
+          rw count all.0;
+      end = went_to_end c.in_ok-ended.ended _ _ c.pieces.messages _ _ _ _ c.if-ended.true c.in_ok-ended.ensures.went;
+      front = tt;
+      no_from_line = λ e. absurd (ok_is_none _ _ e);
+      spent = λ e. absurd (ok_is_none _ _ e);
+      causes = tt;
+      budget =
+          (b.text, b.read, b.budget);
+    }
 
 pub pieces-preserved : goal.pieces-preserved
 pieces-preserved g c =

@@ -12,21 +12,18 @@ pub returns-in_err-ended : goal.returns-in_err-ended
 returns-in_err-ended g c =
     let r = c.from_residual-in_err-ended in
     let fault = c.in_err-ended.field-0.0 in
+    let b = read_broken (flat_map spelling) c.pieces.invariant.0 _ _ _ _ _ c.pieces.messages c.pieces.whole.items c.args.reads c.pieces.count fault flat_output c.pieces.invariant.1 c.in_err-ended.ensures.went in
     record {
       all = unless_ok _ r.result r.ensures.0;
       end = unless_ok _ r.result r.ensures.0;
       front =
-          let b = read_broken (flat_map spelling) c.pieces.invariant.0 _ _ _ _ _ c.pieces.messages c.pieces.whole.items c.args.reads c.pieces.count fault flat_output c.pieces.invariant.1 c.in_err-ended.ensures.went in
           on_err r.result _ b.front;
       no_from_line = λ e.
-          let b = read_broken (flat_map spelling) c.pieces.invariant.0 _ _ _ _ _ c.pieces.messages c.pieces.whole.items c.args.reads c.pieces.count fault flat_output c.pieces.invariant.1 c.in_err-ended.ensures.went in
           b.nothing (fault_is r.result fault _ r.ensures.1 e);
       spent = λ e.
-          let b = read_broken (flat_map spelling) c.pieces.invariant.0 _ _ _ _ _ c.pieces.messages c.pieces.whole.items c.args.reads c.pieces.count fault flat_output c.pieces.invariant.1 c.in_err-ended.ensures.went in
           b.spent (fault_is r.result fault _ r.ensures.1 e);
       causes = if_err _ r.result fault r.ensures.1 (inl c.in_err-ended.ensures.causes);
       budget =
-          let b = read_broken (flat_map spelling) c.pieces.invariant.0 _ _ _ _ _ c.pieces.messages c.pieces.whole.items c.args.reads c.pieces.count fault flat_output c.pieces.invariant.1 c.in_err-ended.ensures.went in
           b.budget;
     }
 
@@ -34,12 +31,12 @@ pub returns-in_err-write_entries : goal.returns-in_err-write_entries
 returns-in_err-write_entries g c =
     let r = c.from_residual-in_err-write_entries in
     let fault = c.in_err-write_entries.field-0.0 in
+    let b = batch (flat_map spelling) c.pieces.invariant.0 _ _ _ _ _ c.pieces.messages c.read.new.self.splitter c.read.new.self.reads c.pieces.whole.items c.read.new.out.items c.args.reads c.pieces.count c.in_ok-ended.ended
+    c.pieces.invariant.1 c.in_ok-ended.ensures.went in
     record {
       all = unless_ok _ r.result r.ensures.0;
       end = unless_ok _ r.result r.ensures.0;
       front =
-          let b = batch (flat_map spelling) c.pieces.invariant.0 _ _ _ _ _ c.pieces.messages c.read.new.self.splitter c.read.new.self.reads c.pieces.whole.items c.read.new.out.items c.args.reads c.pieces.count c.in_ok-ended.ended
-          c.pieces.invariant.1 c.in_ok-ended.ensures.went in
           let w = batch_broken (flat_map spelling) c.pieces.invariant.0 _ _ _ _ _ c.read.new.out.items c.args.reads c.pieces.count (flat_map spelling c.deref.result.now) flat_output b
           (flat_more c.pieces.invariant.0 c.read.new.out.items c.deref.result.now c.deref.ensures.value) c.in_err-write_entries.ensures.written in
           on_err r.result _ w.0;
@@ -47,8 +44,6 @@ returns-in_err-write_entries g c =
       spent = λ e. absurd (output_not_spent r.result fault r.ensures.1 (inl c.in_err-write_entries.ensures.causes) e);
       causes = if_err _ r.result fault r.ensures.1 (output_causes fault (inl c.in_err-write_entries.ensures.causes));
       budget =
-          let b = batch (flat_map spelling) c.pieces.invariant.0 _ _ _ _ _ c.pieces.messages c.read.new.self.splitter c.read.new.self.reads c.pieces.whole.items c.read.new.out.items c.args.reads c.pieces.count c.in_ok-ended.ended
-          c.pieces.invariant.1 c.in_ok-ended.ensures.went in
           (b.text, b.read, b.budget);
     }
 
