@@ -1,5 +1,5 @@
 // The messages of a source, read piece by piece under a budget of reads.
-ghost use Rattle.std.specs.Prelude.{◌≡◌, ◌⊎◌, ◌<◌, ◌≤◌, ◌++◌, [], List, ℕ, Option, length, take, vec_len, IfOk, OnOk, IfErr, IsErrOf, MatchResult, option_to_list};
+ghost use Rattle.std.specs.Prelude.{◌≡◌, ◌⊎◌, ◌<◌, ◌≤◌, ◌+◌, ◌++◌, [], List, ℕ, Option, length, take, vec_len, IfOk, OnOk, IfErr, IsErrOf, MatchResult, option_to_list};
 ghost use Rattle.std.specs.Io.KnownBytes.{Consumes, IsAtEnd};
 ghost use Rattle.mbox_text.specs.Fed.{Fed, Takes, NeverBegins, Ends, IsTooShort};
 ghost use Rattle.mbox_text.specs.declared.entry.Entry.{Entry as Given};
@@ -51,10 +51,7 @@ impl Messages {
         ensures went { Went self.old (R.remaining source.old) (R.remaining source.new) out.old.items out.new.items self.new.splitter self.new.reads result }
         ensures causes { IfErr result IsReading }
     {
-        if self.reads == 0 {
-            return Err(RunFault::TooManyReads);
-        }
-        self.reads -= 1;
+        spend(&mut self.reads)?;
         let n = read_piece(source, &mut self.buffer)?;
         if n == 0 {
             let splitter = mem::replace(&mut self.splitter, Splitter::new(self.alloc));
@@ -63,6 +60,20 @@ impl Messages {
         }
         feed(&mut self.splitter, &self.buffer[..n], out)?;
         Ok(false)
+    }
+}
+
+/// Takes one read from a budget.
+fn spend(reads: &mut u64) -> Result<(), RunFault>
+    ensures spent { OnOk result (reads.new + 1 ≡ reads.old) }
+    ensures refused { IfErr result (λ fault. (fault ≡ RunFault.TooManyReads) × (reads.old ≡ 0)) }
+{
+    match reads.checked_sub(1) {
+        Some(left) => {
+            *reads = left;
+            Ok(())
+        }
+        None => Err(RunFault::TooManyReads),
     }
 }
 

@@ -19,7 +19,7 @@ returns-in_err-feed-clause-went g c =
     let roomy = c.args.self.now.roomy in
     breaks_went c.args.self.now _ _ _ _ _ _ c.from_residual-in_err-feed.result c.in_err-feed.field-0.0 c.from_residual-in_err-feed.ensures.0 c.from_residual-in_err-feed.ensures.1
     (feed_breaks c.args.self.now _ _ (take c.in_ok-n.n c.read_piece.new.buffer) c.args.out.now.items c.feed.new.out.items c.in_err-feed.field-0.0 c.in_err-feed.ensures.causes gave.1
-    (omega (arith, size, kept, roomy, gave.0, c.if-self-eq0.false))
+    (omega (arith, size, kept, roomy, gave.0, c.in_ok-spend.ensures.spent))
     (λ e. rw whole at (rw c.deref.ensures.value at (c.in_err-feed.ensures.no_from_line (ap Err e)))))
 
 pub returns-clause-went : goal.returns-clause-went
@@ -29,7 +29,7 @@ returns-clause-went g c =
     let whole = with_items_is c.args.self.now.buffer c.read_piece.new.buffer kept in
     let size : length (take c.in_ok-n.n c.read_piece.new.buffer) ≡ c.in_ok-n.n = length-take-le c.in_ok-n.n c.read_piece.new.buffer gave.0 in
     let roomy = c.args.self.now.roomy in
-    let left = c.if-self-eq0.false in
+    let left = c.in_ok-spend.ensures.spent in
     let some = c.if-n-eq0.false in
     let took = rw whole at (rw c.deref.ensures.value at c.in_ok-feed.ensures.fed) in
     (take c.in_ok-n.n c.read_piece.new.buffer, took.0, gave.1, omega (arith, size, kept, roomy, gave.0), omega (arith, left), took.1, took.2, omega (arith, size, some))
