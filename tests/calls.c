@@ -18,7 +18,8 @@ int *__errno_location(void);
 int snprintf(char *, size_t, const char *, ...);
 int utimensat(int, const char *, const struct moment *, int);
 
-enum { NOT_THERE = 2, INTERRUPTED = 4, NO_SPACE = 28, HERE = -100, CREATE = 0100, STREAMS = 3, OPEN = 64 };
+enum { OUTPUT = 1, ERRORS = 2, CALLS = 3, OPEN = 64 };
+enum { INTERRUPTED = 4, NO_SPACE = 28, HERE = -100, CREATE = 0100 };
 
 /* The function that stands behind this one. */
 #define REAL(name) ((__typeof__(&name))dlsym((void *)-1, #name))
@@ -50,7 +51,7 @@ ssize_t write(int file, const void *bytes, size_t size);
 static void tell(const char *what, const char *name) {
     char line[1024];
     int length = snprintf(line, sizeof line, "%s%s%s\n", what, *name ? " " : "", name);
-    REAL(write)(STREAMS, line, (size_t)length);
+    REAL(write)(CALLS, line, (size_t)length);
 }
 
 /* Tells a call, and answers whether it is to fail. */
@@ -113,7 +114,7 @@ ssize_t read(int file, void *bytes, size_t size) {
 ssize_t write(int file, const void *bytes, size_t size) {
     static int was_interrupted;
     static size_t taken;
-    if (file == STREAMS - 1)
+    if (file == ERRORS)
         return REAL(write)(file, bytes, size);
     if (is_to_fail("write", name_of(file)))
         return -1;
@@ -123,7 +124,7 @@ ssize_t write(int file, const void *bytes, size_t size) {
             return failed(INTERRUPTED);
         size = size > 1 ? 1 : size;
     }
-    if (file == 1 && getenv("OUTPUT")) {
+    if (file == OUTPUT && getenv("OUTPUT")) {
         size_t room = (size_t)number("OUTPUT", 0) - taken;
         size = size > room ? room : size;
         taken += size;
@@ -168,10 +169,11 @@ int clock_gettime(int clock, struct moment *shown) {
 }
 
 int nanosleep(const struct moment *asked, struct moment *left) {
-    char millis[32];
+    long millis = asked->seconds * 1000 + asked->nanos / 1000000;
+    char shown[32];
     (void)left;
-    snprintf(millis, sizeof millis, "%ld", asked->seconds * 1000 + asked->nanos / 1000000);
-    tell("sleep", millis);
-    slept += asked->seconds * 1000 + asked->nanos / 1000000;
+    snprintf(shown, sizeof shown, "%ld", millis);
+    tell("sleep", shown);
+    slept += millis;
     return 0;
 }

@@ -3,8 +3,8 @@ use crate::runs::{Answer, File, folder_of, holds, run_over};
 use maildir_run::{Act, MemFolder, Mode, ScriptLine, Sub};
 use std::alloc::{AllocError, Global};
 
-/// What another program does. A message is named by its base and an info, any other file by its name; what is put holds
-/// `z`.
+/// What another program does. A message is named by its base and an info, where it goes in `ToCurAs` by a whole name, and
+/// any other file by its name; what is put holds `z`.
 #[derive(Clone, Copy)]
 pub(crate) enum Deed<'a> {
     ToCur(&'a str, &'a str),
