@@ -1,10 +1,11 @@
 /* Stands before the calls of the system that the program makes which it is loaded into (LD_PRELOAD). It tells each on the
    file 3, a line each, by the path that was opened or by the name of the stream, and lets go wrong what the environment
    says. FAIL is the number of a call that fails, counted from 1, with ERROR as its error's number; a `close` or a `sleep`
-   has no number. CLOCK is what the clocks show, in milliseconds since 1970, and each sleep moves it on at once. CHANGES
-   is how many readings of `cur` see the folder change. OUTPUT is how many bytes standard output takes. Where SHORT is
-   set, a read and a write move one byte at most and every other write is interrupted; where GONE is set, what is to be
-   moved is removed before. It needs no headers, so that any C compiler makes it. */
+   has no number. CLOCK is what the clocks show, in milliseconds since 1970, and each sleep moves it on at once. FOLDER is
+   the path of a folder with a slash behind it: its first CHANGES readings see it change, and each takes READING
+   milliseconds. OUTPUT is how many bytes standard output takes. Where SHORT is set, a read and a write move one byte at
+   most and every other write is interrupted; where GONE is set, what is to be moved is removed before. It needs no
+   headers, so that any C compiler makes it. */
 typedef unsigned long size_t;
 typedef long ssize_t;
 
@@ -15,6 +16,7 @@ struct moment {
 char *getenv(const char *);
 void *dlsym(void *, const char *);
 int *__errno_location(void);
+int strcmp(const char *, const char *);
 int snprintf(char *, size_t, const char *, ...);
 int utimensat(int, const char *, const struct moment *, int);
 
@@ -25,7 +27,10 @@ enum { INTERRUPTED = 4, NO_SPACE = 28, HERE = -100, CREATE = 0100 };
 #define REAL(name) ((__typeof__(&name))dlsym((void *)-1, #name))
 
 static char names[OPEN][512] = {"standard input", "standard output", "standard error"};
-static long made, slept;
+static long made;
+
+/* How far the clocks have moved on, in milliseconds. */
+static long passed;
 
 static long number(const char *name, long otherwise) {
     const char *at = getenv(name);
@@ -62,24 +67,21 @@ static int is_to_fail(const char *what, const char *name) {
 }
 
 static struct moment now(void) {
-    long millis = number("CLOCK", 0) + slept;
+    long millis = number("CLOCK", 0) + passed;
     return (struct moment){millis / 1000, millis % 1000 * 1000000};
-}
-
-static int is_reading_of_cur(const char *path) {
-    int i = 0;
-    while (path[i])
-        i++;
-    return i > 4 && path[i - 4] == 'c' && path[i - 3] == 'u' && path[i - 2] == 'r' && path[i - 1] == '/';
 }
 
 static int opened(int file, const char *path) {
     static long readings;
+    const char *folder = getenv("FOLDER");
     if (file >= 0 && file < OPEN)
         snprintf(names[file], sizeof names[file], "%s", path);
-    if (file >= 0 && is_reading_of_cur(path) && readings++ < number("CHANGES", 0)) {
-        struct moment stamp = now();
-        utimensat(HERE, path, (struct moment[]){stamp, stamp}, 0);
+    if (file >= 0 && folder && strcmp(path, folder) == 0) {
+        if (readings++ < number("CHANGES", 0)) {
+            struct moment stamp = now();
+            utimensat(HERE, path, (struct moment[]){stamp, stamp}, 0);
+        }
+        passed += number("READING", 0);
     }
     return file;
 }
@@ -174,6 +176,6 @@ int nanosleep(const struct moment *asked, struct moment *left) {
     (void)left;
     snprintf(shown, sizeof shown, "%ld", millis);
     tell("sleep", shown);
-    slept += millis;
+    passed += millis;
     return 0;
 }

@@ -82,10 +82,7 @@ impl<'a, R: Files + Clock> DiskFolder<'a, R> {
 
     fn names(&self, sub: Sub) -> io::Result<Vec<String>> {
         let path = self.path_of(sub)?;
-        match sub {
-            Sub::Tmp | Sub::New => listing::names(self.rt, self.alloc, path.as_str()),
-            Sub::Cur => listing::names_of_one_moment(self.rt, self.alloc, path.as_str()),
-        }
+        listing::names_of_one_moment(self.rt, self.alloc, path.as_str())
     }
 
     fn write_synced(&self, name: &str, bytes: &[u8]) -> io::Result<()> {
