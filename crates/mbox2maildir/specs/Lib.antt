@@ -1,4 +1,3 @@
 pub mod Faults
-pub mod Paths
 pub mod Report
 pub mod Words

@@ -1,8 +1,9 @@
 // Why a command was not done.
 ghost use Rattle.std.specs.Prelude.{◌≡◌, ◌+◌, ◌-◌, ◌^◌, min};
-ghost use Rattle.mbox2maildir.specs.Faults.{IsRefusedGrowth, fault_or};
+ghost use Rattle.maildir_disk.specs.Faults.{IsRefusedGrowth};
+ghost use Rattle.mbox2maildir.specs.Faults.{fault_or};
 
-use crate::disk;
+use maildir_disk::is_refused_growth;
 use maildir_run::{FolderFault, RunFault};
 use std::alloc::AllocError;
 use std::io;
@@ -40,7 +41,7 @@ impl Fault {
         ensures growth { IsRefusedGrowth error.now → result ≡ Fault.Run RunFault.OutOfMemory }
         ensures others { ¬ IsRefusedGrowth error.now → result ≡ Fault.Source }
     {
-        if disk::is_refused_growth(error) {
+        if is_refused_growth(error) {
             return Fault::Run(RunFault::OutOfMemory);
         }
         Fault::Source

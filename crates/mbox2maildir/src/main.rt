@@ -2,13 +2,11 @@
 #![tactic(auto)]
 
 mod command;
-mod disk;
-mod disk_folder;
 mod fault;
-mod listing;
 mod run;
 
 use crate::run::{run, tell};
+use maildir_disk::is_refused_growth;
 use maildir_run::RunFault;
 use std::process::ExitCode;
 use std::rt::Env;
@@ -25,7 +23,7 @@ fn main(rt: HostRuntime) -> ExitCode {
             &mut out,
             &mut err,
         ),
-        Err(error) if disk::is_refused_growth(&error) => {
+        Err(error) if is_refused_growth(&error) => {
             let _ = tell(RunFault::OutOfMemory, &mut err);
             1
         }

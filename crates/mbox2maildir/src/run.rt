@@ -5,8 +5,8 @@ ghost use Rattle.mbox2maildir.specs.Report.{report_line};
 ghost use Rattle.mbox2maildir.specs.Words.{AreOfAForm};
 
 use crate::command::Command;
-use crate::disk_folder::DiskFolder;
 use crate::fault::Fault;
+use maildir_disk::{DiskFolder, Host};
 use maildir_run::{Report, RunFault, convert, list_text, rewrite};
 use std::alloc::Global;
 use std::fmt::Display;
@@ -113,7 +113,7 @@ fn open_folder<'a, R: Files + Clock>(
     rt: &'a R,
     alloc: Global,
     maildir: &str,
-) -> Result<DiskFolder<'a, R>, Fault> {
+) -> Result<DiskFolder<Host<'a, R>>, Fault> {
     DiskFolder::open_at(rt, alloc, maildir).map_err(Fault::of_folder)
 }
 
@@ -125,7 +125,7 @@ fn deliver_first<'a, R: Files + Clock, W: Write>(
     maildir: &str,
     path: &str,
     out: &mut W,
-) -> Result<DiskFolder<'a, R>, Fault> {
+) -> Result<DiskFolder<Host<'a, R>>, Fault> {
     let mut source = open(rt, path)?;
     let mut folder = open_folder(rt, alloc, maildir)?;
     deliver(alloc, &mut folder, &mut source, out)?;
@@ -155,7 +155,7 @@ fn deliver_all<R: Files + Clock, I: Read, W: Write>(
 // each line that was printed stays true, whatever becomes of the next source.
 fn deliver<R: Files + Clock, I: Read, W: Write>(
     alloc: Global,
-    folder: &mut DiskFolder<'_, R>,
+    folder: &mut DiskFolder<Host<'_, R>>,
     source: &mut I,
     out: &mut W,
 ) -> Result<(), Fault> {

@@ -1,0 +1,52 @@
+use Rattle.std.proofs.Common.{subst, sym}
+use Rattle.maildir_run.specs.Calls.{Failed, Listing}
+use Rattle.maildir_disk.proofs.Passing.{acts_on, listed_fault, failed_listing, lists_later}
+use Rattle.maildir_disk.proofs.listing.names_of_one_moment.Goals as goal
+use Rattle.maildir_disk.proofs.listing.names_of_one_moment.Goals.{else-loop-test, then-loop-test+in_ok-names+in-Again+in_ok-instant+then-ge}
+
+pub returns-in_err-start-clause-listed : goal.returns-in_err-start-clause-listed
+returns-in_err-start-clause-listed g c = λ honest.
+    listed_fault c.args.sub _ _ _ c.from_residual.ensures.0 (c.instant.ensures.acts honest)
+
+pub returns-in_err-names-clause-listed : goal.returns-in_err-names-clause-listed
+returns-in_err-names-clause-listed g c = λ honest.
+    let kept = c.loop.invariant (c.instant.ensures.honest honest) in
+    let so_far = acts_on _ _ _ (c.instant.ensures.acts honest) kept.1 in
+    listed_fault c.args.sub _ _ _ c.from_residual-in_err-names.ensures.0 (acts_on _ _ _ so_far (c.in_err-names.ensures.looked kept.0))
+
+pub returns-in-Names-clause-listed : goal.returns-in-Names-clause-listed
+returns-in-Names-clause-listed g c = λ honest.
+    let kept = c.loop.invariant (c.instant.ensures.honest honest) in
+    let so_far = acts_on _ _ _ (c.instant.ensures.acts honest) kept.1 in
+    let looked = rw c.in-Names.is at (c.in_ok-names.ensures.looked kept.0) in
+    lists_later c.args.sub _ _ _ _ so_far looked
+
+pub returns-in_err-instant-clause-listed : goal.returns-in_err-instant-clause-listed
+returns-in_err-instant-clause-listed g c = λ honest.
+    let kept = c.loop.invariant (c.instant.ensures.honest honest) in
+    let so_far = acts_on _ _ _ (c.instant.ensures.acts honest) kept.1 in
+    let looked = rw c.in-Again.is at (c.in_ok-names.ensures.looked kept.0) in
+    let still = c.take_names.ensures.honest kept.0 in
+    listed_fault c.args.sub _ _ _ c.from_residual-in_err-instant.ensures.0 (acts_on _ _ _ (acts_on _ _ _ so_far looked) (c.instant-in-loop.ensures.acts still))
+
+pub loop-preserved : goal.loop-preserved
+loop-preserved g c = λ honest.
+    let kept = c.loop.invariant honest in
+    let looked = rw c.in-Again.is at (c.in_ok-names.ensures.looked kept.0) in
+    let still = c.take_names.ensures.honest kept.0 in
+    let timed = c.instant-in-loop.ensures.honest still in
+    let told = acts_on _ _ _ looked (c.instant-in-loop.ensures.acts still) in
+    (c.sleep.ensures.honest timed, acts_on _ _ _ kept.1 (acts_on _ _ _ told (c.sleep.ensures.acts timed)))
+
+pub returns-clause-listed : goal.returns-clause-listed
+returns-clause-listed g c = λ honest.
+    let kept = c.loop.invariant (c.instant.ensures.honest honest) in
+    let so_far = acts_on _ _ _ (c.instant.ensures.acts honest) kept.1 in
+    elim c.loop-test.branch [
+      | else-loop-test w ↦ subst (λ s. Failed (Listing c.args.sub) (g.S.System.world c.args.system.now).files (g.S.System.world s).files) (sym w.system-is) (failed_listing c.args.sub _ _ so_far)
+      | then-loop-test+in_ok-names+in-Again+in_ok-instant+then-ge w ↦
+          let looked = rw w.in-Again.is at (w.in_ok-names.ensures.looked kept.0) in
+          let still = w.take_names.ensures.honest kept.0 in
+          let told = acts_on _ _ _ looked (w.instant-in-loop.ensures.acts still) in
+          subst (λ s. Failed (Listing c.args.sub) (g.S.System.world c.args.system.now).files (g.S.System.world s).files) (sym w.system-is) (failed_listing c.args.sub _ _ (acts_on _ _ _ so_far told))
+    ]

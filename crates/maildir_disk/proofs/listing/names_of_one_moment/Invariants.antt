@@ -1,0 +1,6 @@
+use Rattle.maildir_disk.specs.World.{Acts}
+use Rattle.maildir_disk.proofs.listing.names_of_one_moment.Given as goal
+
+-- the system stays honest, and nothing but other programs acted
+abbrev pub invariant-loop : goal.invariant-loop
+invariant-loop g l = g.S.System.honest l.initial.system → g.S.System.honest l.system × Acts (g.S.System.world l.initial.system) (g.S.System.world l.system)

@@ -1,0 +1,4 @@
+pub mod World
+pub mod Look
+pub mod Faults
+pub mod Paths

@@ -1,0 +1,64 @@
+-- A Maildir from one system call to the next: its files, the clock, and when each folder was last changed.
+use Rattle.std.specs.Prelude.{◌≡◌, ◌⊎◌, ℕ, ◌+◌, ◌%◌, ◌≤◌, ◌<◌, ◌==◌, List, if◌then◌else◌, IsPermutation}
+use Rattle.std.specs.FinMap.{empty, keys}
+use Rattle.maildir_run.specs.declared.folder.Sub.{Sub}
+use Rattle.maildir_run.specs.Files.{Files, Action, all_acted}
+use Rattle.maildir_run.specs.Calls.{folder_of}
+
+-- one moment of the system; times are nanoseconds since 1970
+pub record World : Type 0 where
+  pub files : Files
+  -- the wall clock
+  pub time : ℕ
+  -- the modification time of each of the three folders
+  pub stamp_of : Sub → ℕ
+
+-- no files, at no time
+abbrev pub no_world : World
+no_world = record { files = record { tmp = empty; new = empty; cur = empty }; time = 0; stamp_of = λ _. 0 }
+
+-- How far a stamp may be from the clock at the change that gave it. A kernel stamps by a clock that ticks each 10 ms or
+-- faster, and may be late by some ticks; where no part of a second is kept, a file system may keep seconds alone, or
+-- pairs of them (FAT).
+abbrev pub margin_of : ℕ → ℕ
+margin_of stamp = if stamp % 1_000_000_000 == 0 then 2_050_000_000 else 50_000_000
+
+-- A change at some time between these two may have given the folder this stamp: the clock was then less than the margin away from it.
+pub record IsOfChange (start end stamp : ℕ) : Type 0 where
+  pub time : ℕ
+  pub no_earlier : start ≤ time
+  pub no_later : time ≤ end
+  pub less_behind : time < stamp + margin_of stamp
+  pub less_ahead : stamp < time + margin_of stamp
+
+-- Other programs acted, or none did.
+pub record Acts (old new : World) : Type 0 where
+  pub actions : List Action
+  pub files_are : new.files ≡ all_acted actions old.files
+
+-- Other programs acted, or none did, while the folder was watched: the clock did not go back, and the folder has the stamp that it had, or one of a change meanwhile.
+pub record Passes (sub : Sub) (old new : World) : Type 0 where
+  pub acts : Acts old new
+  pub later : old.time ≤ new.time
+  pub stamp_is : (new.stamp_of sub ≡ old.stamp_of sub) ⊎ IsOfChange old.time new.time (new.stamp_of sub)
+
+-- The stamp of the folder at some moment of a call.
+pub record Tells (sub : Sub) (old : World) (stamp : ℕ) (new : World) : Type 0 where
+  pub moment : World
+  pub before : Passes sub old moment
+  pub rest : Passes sub moment new
+  pub is : stamp ≡ moment.stamp_of sub
+
+-- The time at some moment of a call.
+pub record IsTimeOf (old : World) (time : ℕ) (new : World) : Type 0 where
+  pub no_earlier : old.time ≤ time
+  pub no_later : time ≤ new.time
+
+-- These are the folder's names, or it has this stamp of a change meanwhile.
+abbrev pub AreUnless : Sub → World → List (List ℕ) → ℕ → ℕ → Type 0
+AreUnless sub old names end stamp = IsPermutation names (keys (folder_of sub old.files)) ⊎ IsOfChange old.time end stamp
+
+-- The names that were read of a folder, in several steps: each of its names once if nothing in it changed meanwhile. They may be
+-- any names if something did, and then the folder has a stamp of a change meanwhile.
+abbrev pub Reads : Sub → World → List (List ℕ) → World → Type 0
+Reads sub old names new = AreUnless sub old names new.time (new.stamp_of sub)

@@ -1,0 +1,110 @@
+// A Maildir on a file system, as a folder of the engine.
+ghost use Rattle.std.specs.Prelude.{◌≡◌};
+ghost use Rattle.maildir_run.specs.Calls.{CountsFailure, GoesUp, IsNotAbsent};
+ghost use Rattle.maildir_disk.specs.World.{Acts};
+
+use crate::faults::answer_of;
+use crate::listing::names_of_one_moment;
+use crate::system::System;
+use maildir_name::Place;
+use maildir_run::{Folder, FolderFault, Sub};
+use std::io;
+use std::io::ErrorKind;
+
+/// A Maildir on a file system (maildir(5)). It takes effect as reported where the system does as assumed.
+#[derive(Drop)]
+pub struct DiskFolder<S> {
+    system: S,
+    calls: u128,
+    failures: u128,
+}
+
+impl<S: System> DiskFolder<S> {
+    /// The Maildir that these system calls reach.
+    pub fn new(system: S) -> Self
+        ensures system { result.system ≡ system }
+        ensures calls { ⟦<DiskFolder<S> as Folder>⟧.calls result ≡ 0 }
+        ensures failures { ⟦<DiskFolder<S> as Folder>⟧.failures result ≡ 0 }
+    {
+        DiskFolder {
+            system,
+            calls: 0,
+            failures: 0,
+        }
+    }
+
+    /// Asks the system to keep what `new`, `cur`, the Maildir and its parent name, so that no power cut undoes a
+    /// placement that was answered. It is no call of the folder, and is not counted.
+    ///
+    /// # Errors
+    ///
+    /// [`FolderFault::Failed`] where one of the four could not be synced, [`FolderFault::OutOfMemory`] where a
+    /// growth was refused.
+    pub fn sync(&mut self) -> Result<(), FolderFault>
+        ensures honest { S.honest self.old.system → S.honest self.new.system }
+        ensures acts { S.honest self.old.system → Acts (S.world self.old.system) (S.world self.new.system) }
+        ensures not_absent { IsNotAbsent result }
+    {
+        answer_of(self.sync_all())
+    }
+
+    fn sync_all(&mut self) -> io::Result<()>
+        ensures honest { S.honest self.old.system → S.honest self.new.system }
+        ensures acts { S.honest self.old.system → Acts (S.world self.old.system) (S.world self.new.system) }
+    {
+        self.system.sync_folder(Place::New)?;
+        self.system.sync_folder(Place::Cur)?;
+        self.system.sync_root()
+    }
+
+    // Counts a call that gave this answer.
+    fn counted<T>(&mut self, answer: Result<T, FolderFault>) -> Result<T, FolderFault>
+        ensures same { result ≡ answer }
+        ensures system { self.new.system ≡ self.old.system }
+        ensures calls { GoesUp self.old.calls self.new.calls }
+        ensures failures { CountsFailure answer self.old.failures self.new.failures }
+    {
+        self.calls = self.calls.wrapping_add(1);
+        if let Err(FolderFault::Absent | FolderFault::Failed) = answer {
+            self.failures = self.failures.wrapping_add(1);
+        }
+        answer
+    }
+}
+
+impl<S: System> Folder for DiskFolder<S> {
+    ghost files = { λ folder. (S.world folder.system).files };
+
+    ghost honest = { λ folder. S.honest folder.system };
+
+    ghost quiet = { λ _. ⊥ };
+
+    ghost calls = { λ folder. folder.calls };
+
+    ghost failures = { λ folder. folder.failures };
+
+    fn list(&mut self, sub: Sub) -> Result<Vec<String>, FolderFault> {
+        let answer = answer_of(names_of_one_moment(&mut self.system, sub));
+        self.counted(answer)
+    }
+
+    fn write(&mut self, name: &str, bytes: &[u8]) -> Result<(), FolderFault> {
+        let answer = answer_of(self.system.write_synced(name, bytes));
+        self.counted(answer)
+    }
+
+    fn place(&mut self, name: &str, place: Place, target: &str) -> Result<(), FolderFault> {
+        let answer = match self.system.rename(name, place, target) {
+            Err(error) if error.kind() == ErrorKind::NotFound => Err(FolderFault::Absent),
+            outcome => answer_of(outcome),
+        };
+        self.counted(answer)
+    }
+
+    fn remove(&mut self, name: &str) -> Result<(), FolderFault> {
+        let answer = answer_of(self.system.unlink(name));
+        self.counted(answer)
+    }
+
+    ghost quiet_is_honest = { λ _ quiet. absurd quiet };
+}

@@ -1,0 +1,30 @@
+// Which fault is told for an error of the system.
+ghost use Rattle.std.specs.Prelude.{◌≡◌, ◌↔◌, IfErr, IfOk, OnErr, IsErr, IsTrue};
+ghost use Rattle.maildir_run.specs.Calls.{IsNotAbsent};
+ghost use Rattle.maildir_disk.specs.Faults.{IsRefusedGrowth};
+
+use maildir_run::FolderFault;
+use std::io;
+use std::io::ErrorKind;
+
+// The fault of a call that failed.
+pub(crate) fn answer_of<T>(outcome: io::Result<T>) -> Result<T, FolderFault>
+    ensures ok { IfOk outcome (λ value. result ≡ Ok value) }
+    ensures growth { IfErr outcome (λ error. IsRefusedGrowth error → result ≡ Err FolderFault.OutOfMemory) }
+    ensures others { IfErr outcome (λ error. ¬ IsRefusedGrowth error → result ≡ Err FolderFault.Failed) }
+    ensures err { OnErr outcome (IsErr result) }
+    ensures not_absent { IsNotAbsent result }
+{
+    match outcome {
+        Ok(value) => Ok(value),
+        Err(error) if is_refused_growth(&error) => Err(FolderFault::OutOfMemory),
+        Err(_) => Err(FolderFault::Failed),
+    }
+}
+
+/// Whether the error is a growth of ours that was refused: it has no number of the system's.
+pub fn is_refused_growth(error: &io::Error) -> bool
+    ensures { IsTrue result ↔ IsRefusedGrowth error.now }
+{
+    error.kind() == ErrorKind::OutOfMemory && error.raw_os_error().is_none()
+}

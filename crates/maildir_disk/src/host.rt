@@ -1,0 +1,143 @@
+// A Maildir's calls on the file system, and the folder over them.
+ghost use Rattle.std.specs.Prelude.{◌≡◌, ◌++◌, ◌∷◌, IfOk, string_bytes};
+ghost use Rattle.maildir_run.specs.Calls.{IsNotAbsent};
+ghost use Rattle.maildir_disk.specs.Paths.{folder_name, folder_of_place, root_of};
+
+use crate::disk;
+use crate::disk_folder::DiskFolder;
+use crate::faults::answer_of;
+use crate::system::System;
+use maildir_name::Place;
+use maildir_run::{Folder, FolderFault, Sub};
+use std::alloc::{AllocError, Global};
+use std::rt::{Clock, Files};
+use std::time::{Duration, Instant, SystemTime};
+use std::{fs, io, thread};
+
+/// The calls of one Maildir on the file system.
+#[derive(Drop)]
+pub struct Host<'a, R> {
+    rt: &'a R,
+    alloc: Global,
+    root: String,
+}
+
+impl<'a, R: Files + Clock> DiskFolder<Host<'a, R>> {
+    /// Opens the Maildir at `path`. The folder, and `tmp`, `new` and `cur` in it, are made where they are missing,
+    /// with mode 0700. The parent of `path` must be there.
+    ///
+    /// # Errors
+    ///
+    /// [`FolderFault::Failed`] where one of the four is no folder and cannot be made one; those that were made stay.
+    /// [`FolderFault::OutOfMemory`] where a growth was refused.
+    pub fn open_at(rt: &'a R, alloc: Global, path: &str) -> Result<Self, FolderFault>
+        ensures path { IfOk result (λ folder. root_of folder ≡ path.now) }
+        ensures calls { IfOk result (λ folder. ⟦<DiskFolder<Host<'a, R>> as Folder>⟧.calls folder ≡ 0) }
+        ensures failures { IfOk result (λ folder. ⟦<DiskFolder<Host<'a, R>> as Folder>⟧.failures folder ≡ 0) }
+        ensures not_absent { IsNotAbsent result }
+    {
+        let root = String::from_str(alloc, path)?;
+        let host = Host { rt, alloc, root };
+        answer_of(host.make())?;
+        Ok(DiskFolder::new(host))
+    }
+}
+
+impl<'a, R: Files + Clock> Host<'a, R> {
+    fn make(&self) -> io::Result<()> {
+        disk::make_folder(self.rt, self.root.as_str())?;
+        for sub in [Sub::Tmp, Sub::New, Sub::Cur] {
+            disk::make_folder(self.rt, self.path_of(sub)?.as_str())?;
+        }
+        Ok(())
+    }
+
+    // The path of one of the three folders.
+    fn path_of(&self, sub: Sub) -> Result<String, AllocError>
+        ensures { IfOk result (λ path. string_bytes path ≡ string_bytes self.now.root ++ 47 ∷ folder_name sub) }
+    {
+        let (root, sub) = (self.root.as_str(), name_of(sub));
+        format!(in self.alloc; "{root}/{sub}")
+    }
+
+    // The path of a file in one of the three folders.
+    fn path_in(&self, sub: Sub, name: &str) -> Result<String, AllocError>
+        ensures { IfOk result (λ path. string_bytes path ≡ string_bytes self.now.root ++ 47 ∷ (folder_name sub ++ 47 ∷ name.now)) }
+    {
+        let (root, sub) = (self.root.as_str(), name_of(sub));
+        format!(in self.alloc; "{root}/{sub}/{name}")
+    }
+}
+
+// What a real file system does, no proof knows.
+impl<'a, R: Files + Clock> System for Host<'a, R> {
+    ghost use Rattle.maildir_disk.specs.World.{no_world};
+
+    ghost world = { λ _. no_world };
+
+    ghost honest = { λ _. ⊥ };
+
+    fn names(&mut self, sub: Sub) -> io::Result<Vec<String>> {
+        disk::names(self.rt, self.alloc, self.path_of(sub)?.as_str())
+    }
+
+    fn stamp(&mut self, sub: Sub) -> io::Result<SystemTime> {
+        fs::metadata(self.rt, self.path_of(sub)?.as_str())?.modified()
+    }
+
+    fn now(&mut self) -> io::Result<SystemTime> {
+        SystemTime::now(self.rt)
+    }
+
+    fn instant(&mut self) -> io::Result<Instant> {
+        Instant::now(self.rt)
+    }
+
+    fn sleep(&mut self, pause: Duration) {
+        thread::sleep(self.rt, pause);
+    }
+
+    fn write_synced(&mut self, name: &str, bytes: &[u8]) -> io::Result<()> {
+        disk::write_synced(self.rt, self.path_in(Sub::Tmp, name)?.as_str(), bytes)
+    }
+
+    fn rename(&mut self, name: &str, place: Place, target: &str) -> io::Result<()> {
+        let from = self.path_in(Sub::Tmp, name)?;
+        let to = self.path_in(sub_of(place), target)?;
+        disk::rename(self.rt, from.as_str(), to.as_str())
+    }
+
+    fn unlink(&mut self, name: &str) -> io::Result<()> {
+        disk::remove(self.rt, self.path_in(Sub::Tmp, name)?.as_str())
+    }
+
+    fn sync_folder(&mut self, place: Place) -> io::Result<()> {
+        disk::sync_folder(self.rt, self.path_of(sub_of(place))?.as_str())
+    }
+
+    fn sync_root(&mut self) -> io::Result<()> {
+        let root = self.root.as_str();
+        disk::sync_folder(self.rt, root)?;
+        let parent = format!(in self.alloc; "{root}/..")?;
+        disk::sync_folder_if_allowed(self.rt, parent.as_str())
+    }
+}
+
+fn name_of(sub: Sub) -> &'static str
+    ensures { result.now ≡ folder_name sub }
+{
+    match sub {
+        Sub::Tmp => "tmp",
+        Sub::New => "new",
+        Sub::Cur => "cur",
+    }
+}
+
+fn sub_of(place: Place) -> Sub
+    ensures { result ≡ folder_of_place place }
+{
+    match place {
+        Place::New => Sub::New,
+        Place::Cur => Sub::Cur,
+    }
+}

@@ -1,0 +1,18 @@
+//! A Maildir on a file system, proved over what a few system calls are taken to do.
+//!
+//! [`System`] is those calls, and `specs/World.antt` says what is assumed of them. [`DiskFolder`] is a folder of the
+//! engine over any such system, and takes effect as reported where the system does as assumed. [`MemSystem`] is a
+//! system in memory that does.
+#![tactic(auto)]
+
+mod disk;
+mod disk_folder;
+mod faults;
+mod host;
+mod listing;
+mod system;
+
+pub use disk_folder::DiskFolder;
+pub use faults::is_refused_growth;
+pub use host::Host;
+pub use system::System;
