@@ -1,5 +1,7 @@
 // Why a command was not done.
 ghost use Rattle.std.specs.Prelude.{◌≡◌, ◌+◌, ◌-◌, ◌^◌, min};
+ghost use Rattle.maildir_run.specs.declared.fault.RunFault.TheVariants.{OutOfMemory};
+ghost use Rattle.mbox2maildir.specs.declared.fault.Fault.TheVariants.{Run};
 ghost use Rattle.mbox2maildir.specs.Faults.{IsRefusedGrowth, fault_or};
 
 use crate::disk;
@@ -23,12 +25,16 @@ pub enum Fault {
 }
 
 impl From<RunFault> for Fault {
+    ghost from_gives = { λ fault given. given ≡ Run fault };
+
     fn from(fault: RunFault) -> Fault {
         Fault::Run(fault)
     }
 }
 
 impl From<AllocError> for Fault {
+    ghost from_gives = { λ _ given. given ≡ Run OutOfMemory };
+
     fn from(error: AllocError) -> Fault {
         Fault::Run(RunFault::from(error))
     }

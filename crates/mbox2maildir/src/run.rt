@@ -1,8 +1,13 @@
 // The program's work: its words, its streams and its status.
-ghost use Rattle.std.specs.Prelude.{◌≡◌, ◌↔◌, ◌++◌, ◌+◌, ◌*◌, ◌-◌, ◌^◌, min, map, codes, string_bytes, IfErr, IfSome, OnOk};
-ghost use Rattle.std.specs.Io.KnownBytes.{Appends, Keeps};
-ghost use Rattle.mbox2maildir.specs.Report.{report_line};
+ghost use Rattle.std.specs.Prelude.{◌≡◌, ◌⊎◌, ◌↔◌, ◌++◌, ◌+◌, ◌*◌, ◌-◌, ◌^◌, min, max, map, codes, length, string_bytes, IfErr, IfSome, IsNone, IsSome, OnErr, OnOk};
+ghost use Rattle.std.specs.Io.KnownBytes.{Appends, IsAtEnd, Keeps};
+ghost use Rattle.std.specs.List.{flat_map};
+ghost use Rattle.mbox_text.specs.Spelling.{spelling};
+ghost use Rattle.maildir_run.specs.Listing.{listing as listing_of};
+ghost use Rattle.maildir_run.specs.Output.{GivesFront};
+ghost use Rattle.mbox2maildir.specs.Report.{PrintsReports, report_line};
 ghost use Rattle.mbox2maildir.specs.Words.{AreOfAForm};
+ghost use Rattle.mbox2maildir.specs.Written.{WritesAll};
 
 use crate::command::Command;
 use crate::disk_folder::DiskFolder;
@@ -32,6 +37,7 @@ pub fn run<R: Files + Clock, I: Read, W: Write, E: Write>(
 ) -> u8
     ensures wrong { (result ≡ 2) ↔ ¬ AreOfAForm (map string_bytes words.now) }
     ensures untouched { result ≡ 2 → Keeps (W.contents out.old) (W.contents out.new) }
+    ensures unread { result ≡ 2 → I.remaining input.new ≡ I.remaining input.old }
 {
     let Some(command) = Command::of(words) else {
         let _ = tell("wrong words", err);
@@ -69,7 +75,7 @@ fn perform<R: Files + Clock, I: Read, W: Write>(
         Command::Rewrite(file) => write_regular(rt, alloc, file, input, &mut out)?,
         Command::List(file) => write_list(rt, alloc, file, input, &mut out)?,
         Command::Convert(maildir, files) => {
-            deliver_all(rt, alloc, maildir, files, input, &mut out)?
+            deliver_sources(rt, alloc, maildir, files, input, &mut out)?
         }
     }
     flush(&mut out)
@@ -82,7 +88,11 @@ fn write_regular<R: Files, I: Read, W: Write>(
     file: Option<&str>,
     input: &mut I,
     out: &mut W,
-) -> Result<(), Fault> {
+) -> Result<(), Fault>
+    ensures all { IsNone file.entry → OnOk result (WritesAll (flat_map spelling) (I.remaining input.old) (W.contents out.old) (W.contents out.new)) }
+    ensures front { IsNone file.entry → OnErr result (GivesFront (flat_map spelling) (I.remaining input.old) (I.remaining input.new) (W.contents out.old) (W.contents out.new)) }
+    ensures unread { IsSome file.entry → I.remaining input.new ≡ I.remaining input.old }
+{
     match file {
         None => rewrite(alloc, input, out, READS)?,
         Some(path) => rewrite(alloc, &mut open(rt, path)?, out, READS)?,
@@ -97,7 +107,11 @@ fn write_list<R: Files, I: Read, W: Write>(
     file: Option<&str>,
     input: &mut I,
     out: &mut W,
-) -> Result<(), Fault> {
+) -> Result<(), Fault>
+    ensures all { IsNone file.entry → OnOk result (WritesAll listing_of (I.remaining input.old) (W.contents out.old) (W.contents out.new)) }
+    ensures front { IsNone file.entry → OnErr result (GivesFront listing_of (I.remaining input.old) (I.remaining input.new) (W.contents out.old) (W.contents out.new)) }
+    ensures unread { IsSome file.entry → I.remaining input.new ≡ I.remaining input.old }
+{
     match file {
         None => list_text(alloc, input, out, READS)?,
         Some(path) => list_text(alloc, &mut open(rt, path)?, out, READS)?,
@@ -105,7 +119,9 @@ fn write_list<R: Files, I: Read, W: Write>(
     Ok(())
 }
 
-fn open<R: Files>(rt: &R, path: &str) -> Result<R::File, Fault> {
+fn open<R: Files>(rt: &R, path: &str) -> Result<R::File, Fault>
+    ensures { IfErr result (λ fault. (fault ≡ Fault.Source) ⊎ (fault ≡ Fault.Run RunFault.OutOfMemory)) }
+{
     fs::open(rt, path).map_err(|error| Fault::of_source(&error))
 }
 
@@ -113,7 +129,9 @@ fn open_folder<'a, R: Files + Clock>(
     rt: &'a R,
     alloc: Global,
     maildir: &str,
-) -> Result<DiskFolder<'a, R>, Fault> {
+) -> Result<DiskFolder<'a, R>, Fault>
+    ensures { IfErr result (λ fault. (fault ≡ Fault.Folder) ⊎ (fault ≡ Fault.Run RunFault.OutOfMemory)) }
+{
     DiskFolder::open_at(rt, alloc, maildir).map_err(Fault::of_folder)
 }
 
@@ -125,7 +143,9 @@ fn deliver_first<'a, R: Files + Clock, W: Write>(
     maildir: &str,
     path: &str,
     out: &mut W,
-) -> Result<DiskFolder<'a, R>, Fault> {
+) -> Result<DiskFolder<'a, R>, Fault>
+    ensures { OnOk result (PrintsReports (W.contents out.old) (W.contents out.new) 1) }
+{
     let mut source = open(rt, path)?;
     let mut folder = open_folder(rt, alloc, maildir)?;
     deliver(alloc, &mut folder, &mut source, out)?;
@@ -133,14 +153,18 @@ fn deliver_first<'a, R: Files + Clock, W: Write>(
 }
 
 // Delivers the messages of standard input, or of each file where files are named.
-fn deliver_all<R: Files + Clock, I: Read, W: Write>(
+fn deliver_sources<R: Files + Clock, I: Read, W: Write>(
     rt: &R,
     alloc: Global,
     maildir: &str,
     files: &[String],
     input: &mut I,
     out: &mut W,
-) -> Result<(), Fault> {
+) -> Result<(), Fault>
+    ensures printed { OnOk result (PrintsReports (W.contents out.old) (W.contents out.new) (max 1 (length files.now))) }
+    ensures end { length files.now ≡ 0 → OnOk result (IsAtEnd (I.remaining input.new)) }
+    ensures unread { ¬ (length files.now ≡ 0) → I.remaining input.new ≡ I.remaining input.old }
+{
     let Some((first, rest)) = files.split_first() else {
         return deliver(alloc, &mut open_folder(rt, alloc, maildir)?, input, out);
     };
@@ -158,7 +182,10 @@ fn deliver<R: Files + Clock, I: Read, W: Write>(
     folder: &mut DiskFolder<'_, R>,
     source: &mut I,
     out: &mut W,
-) -> Result<(), Fault> {
+) -> Result<(), Fault>
+    ensures printed { OnOk result (PrintsReports (W.contents out.old) (W.contents out.new) 1) }
+    ensures end { OnOk result (IsAtEnd (I.remaining source.new)) }
+{
     let report = convert(alloc, folder, source, READS)?;
     folder
         .sync()
@@ -167,7 +194,10 @@ fn deliver<R: Files + Clock, I: Read, W: Write>(
     flush(out)
 }
 
-fn flush<W: Write>(out: &mut W) -> Result<(), Fault> {
+fn flush<W: Write>(out: &mut W) -> Result<(), Fault>
+    ensures same { Keeps (W.contents out.old) (W.contents out.new) }
+    ensures causes { IfErr result (λ fault. fault ≡ Fault.Run RunFault.OutputFault) }
+{
     out.flush().map_err(|_| RunFault::OutputFault)?;
     Ok(())
 }
