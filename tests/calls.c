@@ -144,6 +144,10 @@ int fsync(int file) {
     return is_to_fail("sync", name_of(file)) ? -1 : REAL(fsync)(file);
 }
 
+int flock(int file, int how) {
+    return is_to_fail("lock", name_of(file)) ? -1 : REAL(flock)(file, how);
+}
+
 int mkdir(const char *path, unsigned mode) {
     return is_to_fail("make", path) ? -1 : REAL(mkdir)(path, mode);
 }

@@ -2,10 +2,28 @@
 ghost use Rattle.std.specs.Prelude.{◌≡◌, ◌↔◌, IfErr, IfOk, OnErr, IsErr, IsTrue};
 ghost use Rattle.maildir_run.specs.Calls.{IsNotAbsent};
 ghost use Rattle.maildir_disk.specs.Faults.{IsRefusedGrowth};
+ghost use Rattle.maildir_disk.specs.declared.faults.OpenFault.TheVariants.{Folder};
 
 use maildir_run::FolderFault;
 use std::io;
 use std::io::ErrorKind;
+
+/// Why a Maildir was not opened.
+#[derive(Clone, Copy, Debug, Drop, PartialEq, Eq)]
+pub enum OpenFault {
+    /// Another holds its lock.
+    Locked,
+    /// A folder of it could not be opened or made, or a growth was refused.
+    Folder(FolderFault),
+}
+
+impl From<FolderFault> for OpenFault {
+    ghost from_gives = { λ fault given. given ≡ Folder fault };
+
+    fn from(fault: FolderFault) -> OpenFault {
+        OpenFault::Folder(fault)
+    }
+}
 
 // The fault of a call that failed.
 pub(crate) fn answer_of<T>(outcome: io::Result<T>) -> Result<T, FolderFault>

@@ -1,15 +1,17 @@
 // A Maildir's calls on the file system, and the folder over them.
-ghost use Rattle.std.specs.Prelude.{◌≡◌, ◌++◌, ◌∷◌, IfOk, string_bytes};
-ghost use Rattle.maildir_run.specs.Calls.{IsNotAbsent};
+ghost use Rattle.std.specs.Prelude.{◌≡◌, ◌++◌, ◌∷◌, IfErr, IfOk, string_bytes};
 ghost use Rattle.maildir_disk.specs.Paths.{folder_name, folder_of_place, root_of};
 
 use crate::disk;
 use crate::disk_folder::DiskFolder;
-use crate::faults::answer_of;
+use crate::faults::{OpenFault, answer_of};
+use crate::lock::lock_folder;
 use crate::system::System;
 use maildir_name::Place;
 use maildir_run::{Folder, FolderFault, Sub};
 use std::alloc::{AllocError, Global};
+use std::fs::File;
+use std::io::ErrorKind;
 use std::rt::{Clock, Files};
 use std::time::{Duration, Instant, SystemTime};
 use std::{fs, io, thread};
@@ -20,32 +22,45 @@ pub struct Host<'a, R> {
     rt: &'a R,
     alloc: Global,
     root: String,
+    // held as long as the folder is open
+    _lock: Option<File>,
 }
 
-impl<'a, R: Files + Clock> DiskFolder<Host<'a, R>> {
+impl<'a, R: Files<File = File> + Clock> DiskFolder<Host<'a, R>> {
     /// Opens the Maildir at `path`. The folder, and `tmp`, `new` and `cur` in it, are made where they are missing,
-    /// with mode 0700. The parent of `path` must be there.
+    /// with mode 0700. The parent of `path` must be there. The folder stays locked as long as it is open, where the
+    /// file system has a lock for it.
     ///
     /// # Errors
     ///
+    /// [`OpenFault::Locked`] where another holds the lock; nothing in the folder was looked at or changed.
     /// [`FolderFault::Failed`] where one of the four is no folder and cannot be made one; those that were made stay.
     /// [`FolderFault::OutOfMemory`] where a growth was refused.
-    pub fn open_at(rt: &'a R, alloc: Global, path: &str) -> Result<Self, FolderFault>
+    pub fn open_at(rt: &'a R, alloc: Global, path: &str) -> Result<Self, OpenFault>
         ensures path { IfOk result (λ folder. root_of folder ≡ path.now) }
         ensures calls { IfOk result (λ folder. ⟦<DiskFolder<Host<'a, R>> as Folder>⟧.calls folder ≡ 0) }
         ensures failures { IfOk result (λ folder. ⟦<DiskFolder<Host<'a, R>> as Folder>⟧.failures folder ≡ 0) }
-        ensures not_absent { IsNotAbsent result }
+        ensures not_absent { IfErr result (λ fault. ¬ (fault ≡ OpenFault.Folder FolderFault.Absent)) }
     {
-        let root = String::from_str(alloc, path)?;
-        let host = Host { rt, alloc, root };
-        answer_of(host.make())?;
+        let root = answer_of(String::from_str(alloc, path).map_err(io::Error::from))?;
+        answer_of(disk::make_folder(rt, path))?;
+        let lock = match lock_folder(rt, path) {
+            Err(error) if error.kind() == ErrorKind::WouldBlock => return Err(OpenFault::Locked),
+            outcome => answer_of(outcome)?,
+        };
+        let host = Host {
+            rt,
+            alloc,
+            root,
+            _lock: lock,
+        };
+        answer_of(host.make_folders())?;
         Ok(DiskFolder::new(host))
     }
 }
 
 impl<'a, R: Files + Clock> Host<'a, R> {
-    fn make(&self) -> io::Result<()> {
-        disk::make_folder(self.rt, self.root.as_str())?;
+    fn make_folders(&self) -> io::Result<()> {
         for sub in [Sub::Tmp, Sub::New, Sub::Cur] {
             disk::make_folder(self.rt, self.path_of(sub)?.as_str())?;
         }

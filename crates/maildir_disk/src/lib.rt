@@ -10,9 +10,10 @@ mod disk_folder;
 mod faults;
 mod host;
 mod listing;
+mod lock;
 mod system;
 
 pub use disk_folder::DiskFolder;
-pub use faults::is_refused_growth;
+pub use faults::{OpenFault, is_refused_growth};
 pub use host::Host;
 pub use system::System;

@@ -1,3 +1,4 @@
 pub mod Faults
 pub mod Report
 pub mod Words
+pub mod Written

@@ -1,9 +1,11 @@
 // Why a command was not done.
 ghost use Rattle.std.specs.Prelude.{◌≡◌, ◌+◌, ◌-◌, ◌^◌, min};
+ghost use Rattle.maildir_run.specs.declared.fault.RunFault.TheVariants.{OutOfMemory};
 ghost use Rattle.maildir_disk.specs.Faults.{IsRefusedGrowth};
-ghost use Rattle.mbox2maildir.specs.Faults.{fault_or};
+ghost use Rattle.mbox2maildir.specs.declared.fault.Fault.TheVariants.{Run};
+ghost use Rattle.mbox2maildir.specs.Faults.{fault_of_opening, fault_or};
 
-use maildir_disk::is_refused_growth;
+use maildir_disk::{OpenFault, is_refused_growth};
 use maildir_run::{FolderFault, RunFault};
 use std::alloc::AllocError;
 use std::io;
@@ -18,18 +20,25 @@ pub enum Fault {
     /// The Maildir that is named cannot be opened or made.
     #[error("cannot open the folder")]
     Folder,
+    /// Another converter holds the lock of the Maildir.
+    #[error("another converter is at work in the folder")]
+    Locked,
     /// The work on them ended early.
     #[error("{0}")]
     Run(RunFault),
 }
 
 impl From<RunFault> for Fault {
+    ghost from_gives = { λ fault given. given ≡ Run fault };
+
     fn from(fault: RunFault) -> Fault {
         Fault::Run(fault)
     }
 }
 
 impl From<AllocError> for Fault {
+    ghost from_gives = { λ _ given. given ≡ Run OutOfMemory };
+
     fn from(error: AllocError) -> Fault {
         Fault::Run(RunFault::from(error))
     }
@@ -48,12 +57,13 @@ impl Fault {
     }
 
     /// What it is that a folder could not be opened.
-    pub fn of_folder(fault: FolderFault) -> Fault
-        ensures { result ≡ fault_or fault Fault.Folder }
+    pub fn of_folder(fault: OpenFault) -> Fault
+        ensures { result ≡ fault_of_opening fault }
     {
         match fault {
-            FolderFault::OutOfMemory => Fault::Run(RunFault::OutOfMemory),
-            FolderFault::Absent | FolderFault::Failed => Fault::Folder,
+            OpenFault::Locked => Fault::Locked,
+            OpenFault::Folder(FolderFault::OutOfMemory) => Fault::Run(RunFault::OutOfMemory),
+            OpenFault::Folder(FolderFault::Absent | FolderFault::Failed) => Fault::Folder,
         }
     }
 

@@ -1,8 +1,13 @@
 // The program's work: its words, its streams and its status.
-ghost use Rattle.std.specs.Prelude.{◌≡◌, ◌↔◌, ◌++◌, ◌+◌, ◌*◌, ◌-◌, ◌^◌, min, map, codes, string_bytes, IfErr, IfSome, OnOk};
-ghost use Rattle.std.specs.Io.KnownBytes.{Appends, Keeps};
-ghost use Rattle.mbox2maildir.specs.Report.{report_line};
+ghost use Rattle.std.specs.Prelude.{◌≡◌, ◌⊎◌, ◌↔◌, ◌++◌, ◌+◌, ◌*◌, ◌-◌, ◌^◌, min, max, map, codes, length, string_bytes, IfErr, IfSome, IsNone, IsSome, OnErr, OnOk};
+ghost use Rattle.std.specs.Io.KnownBytes.{Appends, IsAtEnd, Keeps};
+ghost use Rattle.std.specs.List.{flat_map};
+ghost use Rattle.mbox_text.specs.Spelling.{spelling};
+ghost use Rattle.maildir_run.specs.Listing.{listing as listing_of};
+ghost use Rattle.maildir_run.specs.Output.{GivesFront};
+ghost use Rattle.mbox2maildir.specs.Report.{PrintsReports, report_line};
 ghost use Rattle.mbox2maildir.specs.Words.{AreOfAForm};
+ghost use Rattle.mbox2maildir.specs.Written.{WritesAll};
 
 use crate::command::Command;
 use crate::fault::Fault;
@@ -10,6 +15,7 @@ use maildir_disk::{DiskFolder, Host};
 use maildir_run::{Report, RunFault, convert, list_text, rewrite};
 use std::alloc::Global;
 use std::fmt::Display;
+use std::fs::File;
 use std::io::{BufWriter, Read, Write};
 use std::rt::{Clock, Files};
 use std::{fs, io};
@@ -22,7 +28,7 @@ const OUTPUT_BYTES: usize = 1 << 16;
 
 /// Does the program's work, and answers its status: 0 where it is done; 1 after a fault, and 2 where the words are
 /// of no form, each with one line on standard error. A fault in writing to standard error changes no status.
-pub fn run<R: Files + Clock, I: Read, W: Write, E: Write>(
+pub fn run<R: Files<File = File> + Clock, I: Read, W: Write, E: Write>(
     rt: &R,
     alloc: Global,
     words: &[String],
@@ -32,6 +38,7 @@ pub fn run<R: Files + Clock, I: Read, W: Write, E: Write>(
 ) -> u8
     ensures wrong { (result ≡ 2) ↔ ¬ AreOfAForm (map string_bytes words.now) }
     ensures untouched { result ≡ 2 → Keeps (W.contents out.old) (W.contents out.new) }
+    ensures unread { result ≡ 2 → I.remaining input.new ≡ I.remaining input.old }
 {
     let Some(command) = Command::of(words) else {
         let _ = tell("wrong words", err);
@@ -55,7 +62,7 @@ pub fn tell<D: Display + Drop, E: Write>(fault: D, err: &mut E) -> io::Result<()
 }
 
 // Does the work of a command, and writes what it gives through a buffer.
-fn perform<R: Files + Clock, I: Read, W: Write>(
+fn perform<R: Files<File = File> + Clock, I: Read, W: Write>(
     rt: &R,
     alloc: Global,
     command: Command<'_>,
@@ -69,7 +76,7 @@ fn perform<R: Files + Clock, I: Read, W: Write>(
         Command::Rewrite(file) => write_regular(rt, alloc, file, input, &mut out)?,
         Command::List(file) => write_list(rt, alloc, file, input, &mut out)?,
         Command::Convert(maildir, files) => {
-            deliver_all(rt, alloc, maildir, files, input, &mut out)?
+            deliver_sources(rt, alloc, maildir, files, input, &mut out)?
         }
     }
     flush(&mut out)
@@ -82,7 +89,11 @@ fn write_regular<R: Files, I: Read, W: Write>(
     file: Option<&str>,
     input: &mut I,
     out: &mut W,
-) -> Result<(), Fault> {
+) -> Result<(), Fault>
+    ensures all { IsNone file.entry → OnOk result (WritesAll (flat_map spelling) (I.remaining input.old) (W.contents out.old) (W.contents out.new)) }
+    ensures front { IsNone file.entry → OnErr result (GivesFront (flat_map spelling) (I.remaining input.old) (I.remaining input.new) (W.contents out.old) (W.contents out.new)) }
+    ensures unread { IsSome file.entry → I.remaining input.new ≡ I.remaining input.old }
+{
     match file {
         None => rewrite(alloc, input, out, READS)?,
         Some(path) => rewrite(alloc, &mut open(rt, path)?, out, READS)?,
@@ -97,7 +108,11 @@ fn write_list<R: Files, I: Read, W: Write>(
     file: Option<&str>,
     input: &mut I,
     out: &mut W,
-) -> Result<(), Fault> {
+) -> Result<(), Fault>
+    ensures all { IsNone file.entry → OnOk result (WritesAll listing_of (I.remaining input.old) (W.contents out.old) (W.contents out.new)) }
+    ensures front { IsNone file.entry → OnErr result (GivesFront listing_of (I.remaining input.old) (I.remaining input.new) (W.contents out.old) (W.contents out.new)) }
+    ensures unread { IsSome file.entry → I.remaining input.new ≡ I.remaining input.old }
+{
     match file {
         None => list_text(alloc, input, out, READS)?,
         Some(path) => list_text(alloc, &mut open(rt, path)?, out, READS)?,
@@ -105,27 +120,33 @@ fn write_list<R: Files, I: Read, W: Write>(
     Ok(())
 }
 
-fn open<R: Files>(rt: &R, path: &str) -> Result<R::File, Fault> {
+fn open<R: Files>(rt: &R, path: &str) -> Result<R::File, Fault>
+    ensures { IfErr result (λ fault. (fault ≡ Fault.Source) ⊎ (fault ≡ Fault.Run RunFault.OutOfMemory)) }
+{
     fs::open(rt, path).map_err(|error| Fault::of_source(&error))
 }
 
-fn open_folder<'a, R: Files + Clock>(
+fn open_folder<'a, R: Files<File = File> + Clock>(
     rt: &'a R,
     alloc: Global,
     maildir: &str,
-) -> Result<DiskFolder<Host<'a, R>>, Fault> {
+) -> Result<DiskFolder<Host<'a, R>>, Fault>
+    ensures { IfErr result (λ fault. (fault ≡ Fault.Folder) ⊎ (fault ≡ Fault.Locked) ⊎ (fault ≡ Fault.Run RunFault.OutOfMemory)) }
+{
     DiskFolder::open_at(rt, alloc, maildir).map_err(Fault::of_folder)
 }
 
 // Opens the first file and then the Maildir, so that a file that cannot be opened leaves no folder behind, and delivers
 // the messages of the file.
-fn deliver_first<'a, R: Files + Clock, W: Write>(
+fn deliver_first<'a, R: Files<File = File> + Clock, W: Write>(
     rt: &'a R,
     alloc: Global,
     maildir: &str,
     path: &str,
     out: &mut W,
-) -> Result<DiskFolder<Host<'a, R>>, Fault> {
+) -> Result<DiskFolder<Host<'a, R>>, Fault>
+    ensures { OnOk result (PrintsReports (W.contents out.old) (W.contents out.new) 1) }
+{
     let mut source = open(rt, path)?;
     let mut folder = open_folder(rt, alloc, maildir)?;
     deliver(alloc, &mut folder, &mut source, out)?;
@@ -133,14 +154,18 @@ fn deliver_first<'a, R: Files + Clock, W: Write>(
 }
 
 // Delivers the messages of standard input, or of each file where files are named.
-fn deliver_all<R: Files + Clock, I: Read, W: Write>(
+fn deliver_sources<R: Files<File = File> + Clock, I: Read, W: Write>(
     rt: &R,
     alloc: Global,
     maildir: &str,
     files: &[String],
     input: &mut I,
     out: &mut W,
-) -> Result<(), Fault> {
+) -> Result<(), Fault>
+    ensures printed { OnOk result (PrintsReports (W.contents out.old) (W.contents out.new) (max 1 (length files.now))) }
+    ensures end { length files.now ≡ 0 → OnOk result (IsAtEnd (I.remaining input.new)) }
+    ensures unread { ¬ (length files.now ≡ 0) → I.remaining input.new ≡ I.remaining input.old }
+{
     let Some((first, rest)) = files.split_first() else {
         return deliver(alloc, &mut open_folder(rt, alloc, maildir)?, input, out);
     };
@@ -153,12 +178,15 @@ fn deliver_all<R: Files + Clock, I: Read, W: Write>(
 
 // Delivers the messages of one source, by a run of its own, syncs the Maildir and then prints the run's line at once:
 // each line that was printed stays true, whatever becomes of the next source.
-fn deliver<R: Files + Clock, I: Read, W: Write>(
+fn deliver<R: Files<File = File> + Clock, I: Read, W: Write>(
     alloc: Global,
     folder: &mut DiskFolder<Host<'_, R>>,
     source: &mut I,
     out: &mut W,
-) -> Result<(), Fault> {
+) -> Result<(), Fault>
+    ensures printed { OnOk result (PrintsReports (W.contents out.old) (W.contents out.new) 1) }
+    ensures end { OnOk result (IsAtEnd (I.remaining source.new)) }
+{
     let report = convert(alloc, folder, source, READS)?;
     folder
         .sync()
@@ -167,7 +195,10 @@ fn deliver<R: Files + Clock, I: Read, W: Write>(
     flush(out)
 }
 
-fn flush<W: Write>(out: &mut W) -> Result<(), Fault> {
+fn flush<W: Write>(out: &mut W) -> Result<(), Fault>
+    ensures same { Keeps (W.contents out.old) (W.contents out.new) }
+    ensures causes { IfErr result (λ fault. fault ≡ Fault.Run RunFault.OutputFault) }
+{
     out.flush().map_err(|_| RunFault::OutputFault)?;
     Ok(())
 }

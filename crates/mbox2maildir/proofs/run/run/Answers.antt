@@ -7,3 +7,6 @@ returns-in_default-clause-wrong c c' = (λ two. search rules, λ no. refl)
 
 pub returns-in_default-clause-untouched : goal.returns-in_default-clause-untouched
 returns-in_default-clause-untouched c _ _ = Keeps-refl _
+
+pub returns-in_default-clause-unread : goal.returns-in_default-clause-unread
+returns-in_default-clause-unread c _ _ = refl

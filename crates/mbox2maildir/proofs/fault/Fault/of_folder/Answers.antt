@@ -1,5 +1,5 @@
 use Rattle.std.proofs.Common.{rules}
 use Rattle.mbox2maildir.proofs.fault.Fault.of_folder.Goals as goal
 
-pub returns-in-Absent : goal.returns-in-Absent
-returns-in-Absent c = search rules
+pub returns-in-Folder-Absent : goal.returns-in-Folder-Absent
+returns-in-Folder-Absent c = search rules
