@@ -3,19 +3,28 @@ use Rattle.std.specs.Prelude.{ℕ, ◌+◌, ◌≤◌, List, Result, Ok, Err, Op
 use Rattle.std.specs.declared.vec.Vec.{Vec}
 use Rattle.std.specs.declared.string.String.{String}
 use Rattle.std.specs.declared.alloc.Global.{Global}
+use Rattle.std.specs.Duration.{as_nanos}
 use Rattle.maildir_run.specs.declared.folder.Sub.{Sub}
 use Rattle.maildir_run.specs.Calls.{Lists, names_of}
+use Rattle.maildir_disk.specs.declared.listing.Age.{Age}
+use Rattle.maildir_disk.specs.declared.listing.Age.TheVariants.{Settled, Young, Ahead}
 use Rattle.maildir_disk.specs.declared.listing.Look.{Look}
 use Rattle.maildir_disk.specs.declared.listing.Look.TheVariants.{Names, Again}
 use Rattle.maildir_disk.specs.World.{World, Acts, AreUnless, margin_of}
 
--- each change from this time on gives another stamp
+-- no change from this time on gives this stamp
 abbrev pub IsSettled : ℕ → ℕ → Type 0
 IsSettled stamp now = stamp + margin_of stamp ≤ now
 
--- no change until this time has given this stamp
+-- no change up to this time has given this stamp
 abbrev pub IsFarAhead : ℕ → ℕ → Type 0
 IsFarAhead stamp now = now + margin_of stamp ≤ stamp
+
+-- how a stamp stands to the clock; a young one is waited for until it has settled, and no longer
+abbrev pub IsAged : ℕ → ℕ → Age → Type 0
+IsAged stamp now Settled = IsSettled stamp now
+IsAged stamp now Ahead = IsFarAhead stamp now
+IsAged stamp now (Young pause) = now + as_nanos pause ≤ stamp + margin_of stamp
 
 -- These names were read, and then the folder had this stamp: they are its names, or the stamp is of a change meanwhile.
 pub record Watched (sub : Sub) (stamp : ℕ) (old : World) (names : List (List ℕ)) (new : World) : Type 0 where

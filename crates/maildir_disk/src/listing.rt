@@ -1,10 +1,10 @@
 // The names in a folder, as of one moment.
-ghost use Rattle.std.specs.Prelude.{◌≡◌, ◌↔◌, IsTrue};
+ghost use Rattle.std.specs.Prelude.{◌≡◌};
 ghost use Rattle.std.specs.Duration.{as_nanos};
 ghost use Rattle.std.specs.Time.{system_time_nanos};
 ghost use Rattle.maildir_run.specs.Calls.{Listed};
 ghost use Rattle.maildir_disk.specs.World.{margin_of};
-ghost use Rattle.maildir_disk.specs.Look.{IsFarAhead, IsSettled, Looked, WatchedOr};
+ghost use Rattle.maildir_disk.specs.Look.{IsAged, Looked, WatchedOr};
 
 use crate::system::System;
 use maildir_run::Sub;
@@ -12,10 +12,12 @@ use std::io;
 use std::io::ErrorKind;
 use std::time::{Duration, SystemTime, UNIX_EPOCH};
 
-// How far a stamp may be from the clock at the change that gave it, where it has a part of a second and where it has none.
-const FINE_MILLIS: u64 = 50;
+// How far the stamp that a change gives its folder may be from the clock at that moment: file systems stamp by ticks of
+// a clock that a busy machine moves on late.
+const MARGIN_MILLIS: u64 = 50;
 
-const WHOLE_MILLIS: u64 = 2050;
+// The same where a stamp has no part of a second: such a file system keeps none, and some count by two seconds.
+const COARSE_MARGIN_MILLIS: u64 = 2_050;
 
 // How long a folder is looked at that does not come to rest.
 const PATIENCE_SECS: u64 = 30;
@@ -23,10 +25,10 @@ const PATIENCE_SECS: u64 = 30;
 // How long to wait after a change that was seen while the folder was read.
 const PAUSE_MILLIS: u64 = 1;
 
-/// The names of all entries of a folder as of one moment, though files in it are renamed meanwhile. A folder is read in
-/// several steps, and a file that is renamed between two of them can be missed by all. So the names are taken only where
-/// the folder's stamp is the same before and after the reading, and so far from the clock that no change meanwhile can
-/// have given it; otherwise the folder is read again, and for 30 seconds at most.
+/// The names of all entries of a folder as of one moment, though files in it come, go and are renamed meanwhile. A folder
+/// is read in several steps, and a file that is renamed between two of them can be missed by all. So the names are taken
+/// only where no change up to the end of the reading could have given the folder the stamp that it has before and after
+/// it; otherwise the folder is looked at again, and for 30 seconds at most.
 pub(crate) fn names_of_one_moment<S: System>(system: &mut S, sub: Sub) -> io::Result<Vec<String>>
     ensures honest { S.honest system.old → S.honest system.new }
     ensures listed { S.honest system.old →
@@ -62,21 +64,21 @@ fn take_names<S: System>(system: &mut S, sub: Sub) -> io::Result<Look>
 {
     let stamp = system.stamp(sub)?;
     let now = system.now()?;
-    let unsettled = unsettled_for(stamp, now);
-    if !unsettled.is_zero() && !is_far_ahead(stamp, now) {
-        return Ok(Look::Again(unsettled));
+    let age = Age::of(stamp, now);
+    if let Age::Young(pause) = age {
+        return Ok(Look::Again(pause));
     }
     let Some(names) = watched_names(system, sub, stamp)? else {
         return Ok(Look::Again(Duration::from_millis(PAUSE_MILLIS)));
     };
-    if unsettled.is_zero() {
+    if let Age::Settled = age {
         return Ok(Look::Names(names));
     }
     let later = system.now()?;
-    if is_far_ahead(stamp, later) {
+    if let Age::Ahead = Age::of(stamp, later) {
         Ok(Look::Names(names))
     } else {
-        Ok(Look::Again(unsettled_for(stamp, later)))
+        Ok(Look::Again(Duration::from_millis(PAUSE_MILLIS)))
     }
 }
 
@@ -99,33 +101,42 @@ fn watched_names<S: System>(
     }
 }
 
-// How long it is until each further change gives the folder another stamp than this.
-fn unsettled_for(stamp: SystemTime, now: SystemTime) -> Duration
-    ensures { as_nanos result ≡ 0 → IsSettled (system_time_nanos stamp) (system_time_nanos now) }
-{
-    let margin = margin_of(stamp);
-    match now.duration_since(stamp) {
-        Ok(age) => margin.saturating_sub(age),
-        Err(ahead) => margin.saturating_add(ahead.duration()),
+// How the stamp of a folder stands to the clock.
+#[derive(Clone, Copy)]
+enum Age {
+    // So old that no change from now on gives it.
+    Settled,
+    // A change about now may give it; it has settled after this time.
+    Young(Duration),
+    // So far ahead that no change up to now gave it.
+    Ahead,
+}
+
+impl Age {
+    fn of(stamp: SystemTime, now: SystemTime) -> Age
+        ensures { IsAged (system_time_nanos stamp) (system_time_nanos now) result }
+    {
+        let margin = margin_of(stamp);
+        match now.duration_since(stamp) {
+            Ok(past) if past >= margin => Age::Settled,
+            Ok(past) => Age::Young(margin.saturating_sub(past)),
+            Err(error) if error.duration() >= margin => Age::Ahead,
+            Err(error) => Age::Young(margin.saturating_add(error.duration())),
+        }
     }
 }
 
-// Whether the stamp is so far ahead of the clock that no change until now has given it.
-fn is_far_ahead(stamp: SystemTime, now: SystemTime) -> bool
-    ensures { IsTrue result ↔ IsFarAhead (system_time_nanos stamp) (system_time_nanos now) }
-{
-    match stamp.duration_since(now) {
-        Ok(ahead) => ahead >= margin_of(stamp),
-        Err(_) => false,
-    }
-}
-
-// How far this stamp may be from the clock at the change that gave it.
+// How far the stamp may be from the clock at the change that gave it.
 fn margin_of(stamp: SystemTime) -> Duration
     ensures { as_nanos result ≡ margin_of (system_time_nanos stamp) }
 {
-    match stamp.duration_since(UNIX_EPOCH) {
-        Ok(since) if since.subsec_nanos() != 0 => Duration::from_millis(FINE_MILLIS),
-        _ => Duration::from_millis(WHOLE_MILLIS),
-    }
+    let has_parts = match stamp.duration_since(UNIX_EPOCH) {
+        Ok(since) => since.subsec_nanos() > 0,
+        Err(_) => false,
+    };
+    Duration::from_millis(if has_parts {
+        MARGIN_MILLIS
+    } else {
+        COARSE_MARGIN_MILLIS
+    })
 }

@@ -1,4 +1,3 @@
-use Rattle.std.proofs.Common.{rules}
 use Rattle.std.specs.Time.{system_time_nanos}
 use Rattle.maildir_disk.specs.Look.{IsSettled, IsFarAhead}
 use Rattle.maildir_disk.proofs.Passing.{acts_on, looked_fault, lists_at, exact_if_settled, exact_if_ahead}
@@ -9,8 +8,8 @@ returns-in_err-now-clause-looked g c = λ honest.
     let told = c.stamp.ensures.honest honest in
     looked_fault c.args.sub _ _ _ c.from_residual-in_err-now.ensures.0 (acts_on _ _ _ (c.stamp.ensures.passes honest).acts (c.now.ensures.acts told))
 
-pub returns-then-not-is_far_ahead-clause-looked : goal.returns-then-not-is_far_ahead-clause-looked
-returns-then-not-is_far_ahead-clause-looked g c = λ honest.
+pub returns-in-Young-clause-looked : goal.returns-in-Young-clause-looked
+returns-in-Young-clause-looked g c = λ honest.
     let told = c.stamp.ensures.honest honest in
     acts_on _ _ _ (c.stamp.ensures.passes honest).acts (c.now.ensures.acts told)
 
@@ -21,21 +20,24 @@ returns-in_err-names-clause-looked g c = λ honest.
     looked_fault c.args.sub _ _ _ c.from_residual-in_err-names.ensures.0
     (acts_on _ _ _ (acts_on _ _ _ (c.stamp.ensures.passes honest).acts (c.now.ensures.acts told)) (c.in_err-names.ensures.watched timed))
 
-pub returns-in_default-clause-looked : goal.returns-in_default-clause-looked
-returns-in_default-clause-looked g c = λ honest.
-    let told = c.stamp.ensures.honest honest in
-    let timed = c.now.ensures.honest told in
-    let watched = rw c.in_default.is at (c.in_ok-names.ensures.watched timed) in
-    acts_on _ _ _ (acts_on _ _ _ (c.stamp.ensures.passes honest).acts (c.now.ensures.acts told)) watched
+pub returns-in_default-2 : goal.returns-in_default-2
+returns-in_default-2 g c = record {
+  honest = λ honest. c.watched_names.ensures.honest (c.now.ensures.honest (c.stamp.ensures.honest honest));
+  looked = λ honest.
+      let told = c.stamp.ensures.honest honest in
+      let timed = c.now.ensures.honest told in
+      let watched = rw c.in_default-2.is at (c.in_ok-names.ensures.watched timed) in
+      acts_on _ _ _ (acts_on _ _ _ (c.stamp.ensures.passes honest).acts (c.now.ensures.acts told)) watched;
+}
 
-pub returns-then-is_zero-clause-looked : goal.returns-then-is_zero-clause-looked
-returns-then-is_zero-clause-looked g c = λ honest.
+pub returns-in-Settled-clause-looked : goal.returns-in-Settled-clause-looked
+returns-in-Settled-clause-looked g c = λ honest.
     let told = c.stamp.ensures.honest honest in
     let timed = c.now.ensures.honest told in
     let before = g.S.System.world c.now.new.self in
     let end = g.S.System.world c.watched_names.new.system in
     let watched = rw c.in-Some.is at (c.in_ok-names.ensures.watched timed) in
-    let settled : IsSettled (system_time_nanos c.in_ok-stamp.stamp) (system_time_nanos c.in_ok-now.now) = c.unsettled_for-unsettled.ensures (search rules) in
+    let settled : IsSettled (system_time_nanos c.in_ok-stamp.stamp) (system_time_nanos c.in_ok-now.now) = rw c.in-Settled.is at c.of-age.ensures in
     lists_at c.args.sub _ before end _
     (acts_on _ _ _ (c.stamp.ensures.passes honest).acts (c.now.ensures.acts told)) watched.acts
     (exact_if_settled c.args.sub before end _ _ _ settled (c.in_ok-now.ensures.now told).no_later watched)
@@ -49,24 +51,27 @@ returns-in_err-later-clause-looked g c = λ honest.
     looked_fault c.args.sub _ _ _ c.from_residual-in_err-later.ensures.0
     (acts_on _ _ _ (acts_on _ _ _ (c.stamp.ensures.passes honest).acts (c.now.ensures.acts told)) (acts_on _ _ _ watched.acts (c.now-2.ensures.acts read)))
 
-pub returns-then-is_far_ahead-clause-looked : goal.returns-then-is_far_ahead-clause-looked
-returns-then-is_far_ahead-clause-looked g c = λ honest.
+pub returns-in-Ahead-clause-looked : goal.returns-in-Ahead-clause-looked
+returns-in-Ahead-clause-looked g c = λ honest.
     let told = c.stamp.ensures.honest honest in
     let timed = c.now.ensures.honest told in
     let read = c.watched_names.ensures.honest timed in
     let before = g.S.System.world c.now.new.self in
     let end = g.S.System.world c.watched_names.new.system in
     let watched = rw c.in-Some.is at (c.in_ok-names.ensures.watched timed) in
-    let ahead : IsFarAhead (system_time_nanos c.in_ok-stamp.stamp) (system_time_nanos c.in_ok-later.later) = search rules in
+    let ahead : IsFarAhead (system_time_nanos c.in_ok-stamp.stamp) (system_time_nanos c.in_ok-later.later) = rw c.in-Ahead.is at c.of.ensures in
     lists_at c.args.sub _ before _ _
     (acts_on _ _ _ (c.stamp.ensures.passes honest).acts (c.now.ensures.acts told))
     (acts_on _ _ _ watched.acts (c.now-2.ensures.acts read))
     (exact_if_ahead c.args.sub before end _ _ _ ahead (c.in_ok-later.ensures.now read).no_earlier watched)
 
-pub returns-else-is_far_ahead-clause-looked : goal.returns-else-is_far_ahead-clause-looked
-returns-else-is_far_ahead-clause-looked g c = λ honest.
-    let told = c.stamp.ensures.honest honest in
-    let timed = c.now.ensures.honest told in
-    let read = c.watched_names.ensures.honest timed in
-    let watched = rw c.in-Some.is at (c.in_ok-names.ensures.watched timed) in
-    acts_on _ _ _ (acts_on _ _ _ (c.stamp.ensures.passes honest).acts (c.now.ensures.acts told)) (acts_on _ _ _ watched.acts (c.now-2.ensures.acts read))
+pub returns-in_default-of : goal.returns-in_default-of
+returns-in_default-of g c = record {
+  honest = λ honest. c.now-2.ensures.honest (c.watched_names.ensures.honest (c.now.ensures.honest (c.stamp.ensures.honest honest)));
+  looked = λ honest.
+      let told = c.stamp.ensures.honest honest in
+      let timed = c.now.ensures.honest told in
+      let read = c.watched_names.ensures.honest timed in
+      let watched = rw c.in-Some.is at (c.in_ok-names.ensures.watched timed) in
+      acts_on _ _ _ (acts_on _ _ _ (c.stamp.ensures.passes honest).acts (c.now.ensures.acts told)) (acts_on _ _ _ watched.acts (c.now-2.ensures.acts read));
+}
