@@ -19,10 +19,6 @@ use Rattle.mbox_text.proofs.Runs.{take-plus, line-there}
 use Rattle.mbox_text.proofs.Fields.{none-there}
 use Rattle.mbox_text.proofs.Last.{closed-last, from-block}
 
--- what a front begins with, the text begins with
-pub begins_from-take : (text : List ℕ) (n : ℕ) → begins_from (take n text) ≡ true → begins_from text ≡ true
-begins_from-take text n b = ap begins_from (sym (take-append-drop n text)) ∙ begins_from-more (take n text) (drop n text) b
-
 -- a `From ` stands before the first `\n`
 begins_with-cut : (prefix line rest : List ℕ) → NoEnd prefix → begins_with prefix (line ++ 10 ∷ rest) ≡ begins_with prefix line
 begins_with-cut [] line rest h = refl

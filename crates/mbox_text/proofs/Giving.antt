@@ -1,15 +1,18 @@
 -- What a splitter has given: all messages but the last, whatever comes behind the text.
 use Rattle.std.proofs.Common.{◌≡◌, ℕ, true, false, List, [], ◌∷◌, ◌++◌, refl, sym, ◌∙◌, ap, append_assoc, inl, inr, Option, Some, None, Result, Ok, Err}
-use Rattle.std.specs.Prelude.{OnErr}
+use Rattle.std.specs.Prelude.{OnErr, OnOk, IfErr, IsErr, IsErrOf}
+use Rattle.std.specs.Result.{is_err, IsErrAnd}
 use Rattle.std.proofs.lemmas.Bool.{both_ways}
 use Rattle.std.proofs.lemmas.List.{append-nil}
 use Rattle.mbox_text.specs.declared.entry.Entry.{Entry}
 use Rattle.mbox_text.specs.declared.message.Message.{Message}
+use Rattle.mbox_text.specs.declared.fault.TextFault.{TextFault}
+use Rattle.mbox_text.specs.declared.fault.TextFault.TheVariants.{NoFromLine, LineEndInRest, Failed, OutOfMemory, WriteFault}
 use Rattle.mbox_text.specs.declared.splitter.Splitter.{Splitter}
 use Rattle.mbox_text.specs.Quoting.{begins_from, from_bytes}
 use Rattle.mbox_text.specs.Fronts.{AllButLast, NeverFrom, Stay}
 use Rattle.mbox_text.specs.Mbox.{Mbox, without_blank}
-use Rattle.mbox_text.specs.Held.{Held, Moves, Refused, Breaks}
+use Rattle.mbox_text.specs.Held.{Held, Moves, Gives, Refused, Breaks, Stops}
 use Rattle.mbox_text.specs.Fed.{Fed, Takes, NeverBegins, TakesPart}
 use Rattle.mbox_text.proofs.LineLemmas.{begins_from-more}
 use Rattle.mbox_text.proofs.Heads.{from-rest}
@@ -92,7 +95,7 @@ fed_from splitter text given works h = record {
 }
 
 pub fed_takes : (old new : Splitter) (piece : List ℕ) (out out' : List Entry) → new.failed ≡ false
-    → (added : List Entry) × (out' ≡ out ++ added) × Moves old.message old.line.items piece added new.message new.line.items → Takes old piece out out' new
+    → Gives old.message old.line.items piece out out' new.message new.line.items → Takes old piece out out' new
 fed_takes old new piece out out' works m =
     (m.0, m.1, λ text given h. fed_from new (text ++ piece) (given ++ m.0) works (m.2 text given h.held))
 
@@ -147,6 +150,34 @@ part text given added all s (inr h) =
 pub fed_part : (old : Splitter) (piece : List ℕ) (out out' : List Entry) → Breaks old.message old.line.items piece out out' → TakesPart old piece out out'
 fed_part old piece out out' b =
     (b.0, b.1, λ text given h. let x = b.2 text given h.held in (λ all is_all. part (text ++ piece) given b.0 all x.0 is_all, x.1))
+
+-- the splitter after a piece that it took, and what it says of one at which a growth was refused
+pub fed_taken : {T : Type 0} (r : Result T TextFault) (old new : Splitter) (piece : List ℕ) (out out' : List Entry) → new.failed ≡ is_err r
+    → OnOk r (Gives old.message old.line.items piece out out' new.message new.line.items)
+    → OnOk r (Takes old piece out out' new)
+fed_taken (Ok x) old new piece out out' works m = fed_takes old new piece out out' works m
+fed_taken (Err e) old new piece out out' works m = tt
+
+pub fed_broken : {T : Type 0} (r : Result T TextFault) (old : Splitter) (piece : List ℕ) (out out' : List Entry) (P : Type 0)
+    → IfErr r (λ fault. Stops fault P (Breaks old.message old.line.items piece out out')) → IsErrOf r OutOfMemory → TakesPart old piece out out'
+fed_broken r old piece out out' P h is = let breaks : Breaks old.message old.line.items piece out out' = rw is at h in fed_part old piece out out' breaks
+
+stops_so : (e : TextFault) (P Q P' Q' : Type 0) → Stops e P Q → (P → P') → (Q → Q') → Stops e P' Q'
+stops_so NoFromLine P Q P' Q' h f g = f h
+stops_so OutOfMemory P Q P' Q' h f g = g h
+stops_so LineEndInRest P Q P' Q' h f g = absurd h
+stops_so Failed P Q P' Q' h f g = absurd h
+stops_so WriteFault P Q P' Q' h f g = absurd h
+
+-- a refusal that is handed on, and a growth that is refused
+pub handed_on : {T : Type 0} (r : Result T TextFault) (e : TextFault) (P Q P' Q' : Type 0) → IsErr r × IsErrAnd r (λ v. v ≡ e) → Stops e P Q → (P → P') → (Q → Q')
+    → IfErr r (λ v. Stops v P' Q')
+handed_on (Ok x) e P Q P' Q' is h f g = absurd is.1
+handed_on (Err v) e P Q P' Q' is h f g = stops_so v P Q P' Q' (rw is.1 h) f g
+
+pub out_of_memory : {T : Type 0} (r : Result T TextFault) (P Q : Type 0) → IsErr r × IsErrAnd r (λ v. v ≡ OutOfMemory) → Q → IfErr r (λ v. Stops v P Q)
+out_of_memory (Ok x) P Q is h = absurd is.1
+out_of_memory (Err v) P Q is h = rw is.1 h
 
 -- what holds in any case holds of an error
 pub on_err : {T E : Type 0} (r : Result T E) (P : Type 0) → P → OnErr r P

@@ -2,6 +2,8 @@
 use Rattle.std.specs.Prelude.{◌≡◌, ℕ, ◌==◌, Bool, true, false, ◌&&◌, List, [], ◌∷◌, ◌++◌, ◌⊎◌, Option, Some, None, if◌then◌else◌}
 use Rattle.std.specs.List.{flat_map}
 use Rattle.mbox_text.specs.declared.entry.Entry.{Entry}
+use Rattle.mbox_text.specs.declared.fault.TextFault.{TextFault}
+use Rattle.mbox_text.specs.declared.fault.TextFault.TheVariants.{NoFromLine, OutOfMemory}
 use Rattle.mbox_text.specs.declared.message.Message.{Message}
 use Rattle.mbox_text.specs.Lines.{lines, Ended, NoEnd}
 use Rattle.mbox_text.specs.Quoting.{begins_with, begins_from, from_bytes, unquoted}
@@ -61,6 +63,10 @@ abbrev pub Moves : Option Message → List ℕ → List ℕ → List Entry → O
 Moves message line part added message' line' =
     (text : List ℕ) (given : List Entry) → Held text given message line → Held (text ++ part) (given ++ added) message' line'
 
+-- so do the messages that were added to these
+abbrev pub Gives : Option Message → List ℕ → List ℕ → List Entry → List Entry → Option Message → List ℕ → Type 0
+Gives message line part out out' message' line' = (added : List Entry) × (out' ≡ out ++ added) × Moves message line part added message' line'
+
 -- with the part no mbox text begins so, and no message was given
 abbrev pub Refuses : Option Message → List ℕ → List ℕ → Type 0
 Refuses message line part = (text : List ℕ) (given : List Entry) → Held text given message line → (given ≡ []) × NeverFrom (text ++ part)
@@ -76,3 +82,9 @@ Breaks message line piece out out' =
     (added : List Entry) × (out' ≡ out ++ added)
     × ((text : List ℕ) (given : List Entry) → Held text given message line
     → Stay (text ++ piece) (given ++ added) × (NeverFrom (text ++ piece) → added ≡ []))
+
+-- what a refusal says: the first where no mbox text begins so, the second where a growth was refused; there is no other
+abbrev pub Stops : TextFault → Type 0 → Type 0 → Type 0
+Stops NoFromLine refused breaks = refused
+Stops OutOfMemory refused breaks = breaks
+Stops _ refused breaks = ⊥

@@ -8,6 +8,7 @@ mod entry;
 mod fault;
 mod from_line;
 pub mod laws;
+mod lines;
 mod message;
 mod quoting;
 mod sender;

@@ -1,0 +1,9 @@
+use Rattle.mbox_text.proofs.Fields.{none-there}
+use Rattle.mbox_text.proofs.Runs.{NoEnd-behind}
+use Rattle.mbox_text.proofs.lines.whole_len.Goals as goal
+
+pub returns-in-Some-clause-rest : goal.returns-in-Some-clause-rest
+returns-in-Some-clause-rest c = NoEnd-behind c.args.text.now c.in-Some.n c.in-Some.ensures
+
+pub returns-in-None-clause-rest : goal.returns-in-None-clause-rest
+returns-in-None-clause-rest c = none-there c.args.text.now c.in-None.ensures
