@@ -6,7 +6,7 @@ use Rattle.std.proofs.lemmas.List.{length-append}
 use Rattle.mbox_text.specs.declared.entry.Entry.{Entry}
 use Rattle.mbox_text.specs.declared.fault.TextFault.{TextFault}
 use Rattle.mbox_text.specs.declared.fault.TextFault.TheVariants.{NoFromLine}
-use Rattle.mbox_text.specs.declared.message.Message.{Message}
+use Rattle.mbox_text.specs.declared.partial_message.PartialMessage.{PartialMessage}
 use Rattle.mbox_text.specs.declared.splitter.Splitter.{Splitter}
 use Rattle.mbox_text.specs.Quoting.{begins_from, unquoted}
 use Rattle.mbox_text.specs.Held.{AtHead, Held, chopped}
@@ -17,7 +17,7 @@ use Rattle.mbox_text.proofs.Fields.{at_start}
 use Rattle.mbox_text.proofs.Last.{some_last, none_last, none_from}
 
 -- the splitter is in a body
-some_long : (message : Option Message) (m : Message) (line text : List ℕ) (given : List Entry) → message ≡ Some m → Held text given message line → 5 ≤ length text
+some_long : (message : Option PartialMessage) (m : PartialMessage) (line text : List ℕ) (given : List Entry) → message ≡ Some m → Held text given message line → 5 ≤ length text
 some_long message m line text given is held =
     let a = rw is at held in
     let o = a.opened in
@@ -27,7 +27,7 @@ some_long message m line text given is held =
     omega (arith, l, n)
 
 -- the splitter is in a From_ line
-none_long : (message : Option Message) (line line1 text : List ℕ) (given : List Entry) → message ≡ None → line1 ≡ line → begins_from line1 ≡ true
+none_long : (message : Option PartialMessage) (line line1 text : List ℕ) (given : List Entry) → message ≡ None → line1 ≡ line → begins_from line1 ≡ true
     → Held text given message line → 5 ≤ length text
 none_long message line line1 text given is e1 b held =
     let a = rw is at held in
@@ -36,14 +36,14 @@ none_long message line line1 text given is e1 b held =
     omega (arith, l, n)
 
 -- nothing has come
-none_empty : (message : Option Message) (line text : List ℕ) (given : List Entry) → message ≡ None → line ≡ [] → Held text given message line → text ≡ []
+none_empty : (message : Option PartialMessage) (line text : List ℕ) (given : List Entry) → message ≡ None → line ≡ [] → Held text given message line → text ≡ []
 unfolding begins_from
 none_empty message line text given is e held =
     let a : AtHead text given [] = rw (is, e) at held in
     (at_start text given [] a refl).1
 
 -- a front of `From ` has come
-none_short : (message : Option Message) (line line1 text : List ℕ) (given : List Entry) → message ≡ None → 0 < length line → line1 ≡ line → begins_from line1 ≡ false
+none_short : (message : Option PartialMessage) (line line1 text : List ℕ) (given : List Entry) → message ≡ None → 0 < length line → line1 ≡ line → begins_from line1 ≡ false
     → Held text given message line → IsTooShort text
 none_short message line line1 text given is some e1 b held =
     let a = rw is at held in
@@ -63,7 +63,7 @@ ends_none splitter is e = λ text given h. (
 long-some : (text : List ℕ) → 5 ≤ length text → text ≡ [] → ⊥
 long-some text l e = let n : length text ≡ 0 = ap length e in absurd (omega (arith, l, n))
 
-pub ends_some : (splitter : Splitter) (m : Message) (e : Entry) (line1 : List ℕ) → splitter.message ≡ Some m → line1 ≡ splitter.line.items → e.from_line ≡ m.from_line.items
+pub ends_some : (splitter : Splitter) (m : PartialMessage) (e : Entry) (line1 : List ℕ) → splitter.message ≡ Some m → line1 ≡ splitter.line.items → e.from_line ≡ m.from_line.items
     → e.body ≡ chopped (m.body.items ++ unquoted line1) → Ends splitter (Some e)
 ends_some splitter m e line1 is e1 ef eb = λ text given h. (
   some_last splitter.message m e splitter.line.items line1 (m.body.items ++ unquoted line1) is e1 ef refl eb text given h.held,
@@ -86,7 +86,7 @@ short_none splitter r n is e = λ text given h.
 not-short : (r : Result (Option Entry) TextFault) (text : List ℕ) → (IsErrOf r NoFromLine → ⊥) → 5 ≤ length text → IsErrOf r NoFromLine ↔ IsTooShort text
 not-short r text n l = (λ x. absurd (n x), λ s. let s1 = s.1 in absurd (omega (arith, l, s1)))
 
-pub short_some : (splitter : Splitter) (m : Message) (r : Result (Option Entry) TextFault) → (IsErrOf r NoFromLine → ⊥) → splitter.message ≡ Some m → RefusesShort splitter r
+pub short_some : (splitter : Splitter) (m : PartialMessage) (r : Result (Option Entry) TextFault) → (IsErrOf r NoFromLine → ⊥) → splitter.message ≡ Some m → RefusesShort splitter r
 short_some splitter m r n is = λ text given h. not-short r text n (some_long splitter.message m splitter.line.items text given is h.held)
 
 pub short_from : (splitter : Splitter) (line1 : List ℕ) (r : Result (Option Entry) TextFault) → (IsErrOf r NoFromLine → ⊥) → splitter.message ≡ None → line1 ≡ splitter.line.items

@@ -8,9 +8,7 @@ use Rattle.mbox_text.specs.declared.entry.Entry.{Entry}
 use Rattle.mbox_text.specs.Lines.{lines, Ended, NoEnd}
 use Rattle.mbox_text.specs.Quoting.{unquoted, begins_from, begins_with, from_bytes}
 use Rattle.mbox_text.specs.Mbox.{NoFrom, unended, Block}
-use Rattle.std.specs.Prelude.{Option}
-use Rattle.mbox_text.specs.declared.message.Message.{Message}
-use Rattle.mbox_text.specs.Held.{chopped, Closed, Open, AtHead, InBody, Moves}
+use Rattle.mbox_text.specs.Held.{chopped, Closed, Open, AtHead, InBody}
 use Rattle.mbox_text.proofs.LineLemmas.{lines-append, lines-line, unquoted-push, begins_from-push, begins_from-more}
 use Rattle.mbox_text.proofs.Chopped.{chopped-body}
 
@@ -152,11 +150,3 @@ body-ends text given f body line a =
     let texts : (a.front ++ a.block) ++ part ≡ text ++ 10 ∷ [] = rw a.is (simp append_assoc) in
     let bodies : body ++ flat_map unquoted (lines part) ≡ (body ++ unquoted line) ++ 10 ∷ [] = rw (one, append-nil (unquoted part), unquoted-push line) (sym (append_assoc body (unquoted line) (10 ∷ []))) in
     rw (← texts, ← bodies) whole
-
-pub moves-then : (m m' m'' : Option Message) (l l' l'' p q : List ℕ) (a b : List Entry) → Moves m l p a m' l' → Moves m' l' q b m'' l'' → Moves m l (p ++ q) (a ++ b) m'' l''
-moves-then m m' m'' l l' l'' p q a b f g = λ text given h.
-    let r = g (text ++ p) (given ++ a) (f text given h) in
-    rw (← append_assoc text p q, ← append_assoc given a b) r
-
-pub moves-none : (m : Option Message) (l : List ℕ) → Moves m l [] [] m l
-moves-none m l = λ text given h. rw (append-nil text, append-nil given) h

@@ -4,7 +4,7 @@ use Rattle.std.proofs.lemmas.Bool.{false≢true}
 use Rattle.std.proofs.lemmas.List.{append-nil}
 use Rattle.std.proofs.lemmas.List.Concat.{flat_map-append}
 use Rattle.mbox_text.specs.declared.entry.Entry.{Entry}
-use Rattle.mbox_text.specs.declared.message.Message.{Message}
+use Rattle.mbox_text.specs.declared.partial_message.PartialMessage.{PartialMessage}
 use Rattle.mbox_text.specs.Lines.{lines, NoEnd}
 use Rattle.mbox_text.specs.Quoting.{unquoted, begins_from}
 use Rattle.mbox_text.specs.Mbox.{Block, Mbox, unended, without_blank}
@@ -61,7 +61,7 @@ from-block (c ∷ l) e h b ef eb = record {
   body = eb;
 }
 
-pub some_last : (message : Option Message) (m : Message) (e : Entry) (line line1 body : List ℕ) → message ≡ Some m → line1 ≡ line → e.from_line ≡ m.from_line.items
+pub some_last : (message : Option PartialMessage) (m : PartialMessage) (e : Entry) (line line1 body : List ℕ) → message ≡ Some m → line1 ≡ line → e.from_line ≡ m.from_line.items
     → body ≡ m.body.items ++ unquoted line1 → e.body ≡ chopped body
     → (text : List ℕ) (given : List Entry) → Held text given message line → Mbox text (given ++ e ∷ [])
 some_last message m e line line1 body is e1 ef ebody eb text given held =
@@ -69,14 +69,14 @@ some_last message m e line line1 body is e1 ef ebody eb text given held =
     let eb' : e.body ≡ chopped (m.body.items ++ unquoted line) = rw (← e1, ← ebody) eb in
     rw a.is (closed-last a.front given (a.block ++ line) e a.closed (open-last a.block m.from_line.items m.body.items line e a.opened a.part a.tail ef eb'))
 
-pub none_last : (message : Option Message) (line : List ℕ) → message ≡ None → line ≡ []
+pub none_last : (message : Option PartialMessage) (line : List ℕ) → message ≡ None → line ≡ []
     → (text : List ℕ) (given : List Entry) → Held text given message line → Mbox text (given ++ [])
 unfolding begins_from
 none_last message line is e text given held =
     let a : AtHead text given [] = rw (is, e) at held in
     rw (append-nil given, a.is, append-nil a.front) (closed-mbox a.front given a.closed)
 
-pub none_from : (message : Option Message) (e : Entry) (line line1 : List ℕ) → message ≡ None → line1 ≡ line → begins_from line1 ≡ true → e.from_line ≡ line → e.body ≡ []
+pub none_from : (message : Option PartialMessage) (e : Entry) (line line1 : List ℕ) → message ≡ None → line1 ≡ line → begins_from line1 ≡ true → e.from_line ≡ line → e.body ≡ []
     → (text : List ℕ) (given : List Entry) → Held text given message line → Mbox text (given ++ e ∷ [])
 unfolding without_blank
 none_from message e line line1 is e1 b ef eb text given held =

@@ -9,7 +9,7 @@ mod fault;
 mod from_line;
 pub mod laws;
 mod lines;
-mod message;
+mod partial_message;
 mod quoting;
 mod sender;
 mod split;

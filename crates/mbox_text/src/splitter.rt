@@ -1,7 +1,7 @@
 // The splitter: messages out of a text that comes in pieces.
-ghost use Rattle.std.specs.Prelude.{◌≡◌, ◌<◌, ◌≤◌, ◌↔◌, [], ◌∷◌, length, take, ⊤, IfErr, IfOk, IsErr, IsErrOf, OnErr, OnOk};
-ghost use Rattle.mbox_text.specs.Fed.{Ends, Fed, HasFailed, IsSplitterFault, NeverBegins, RefusesShort, Takes, TakesPart};
-ghost use Rattle.mbox_text.specs.Held.{Breaks, Gives, Moves, Refused, Refuses, Stops};
+ghost use Rattle.std.specs.Prelude.{◌≡◌, ◌<◌, ◌≤◌, ◌↔◌, [], ◌∷◌, length, take, IfErr, IfOk, IsErr, IsErrOf, OnErr, OnOk};
+ghost use Rattle.mbox_text.specs.Fed.{Ends, Fed, IsSplitterFault, NeverBegins, RefusesShort, Takes, TakesPart};
+ghost use Rattle.mbox_text.specs.Held.{Gives, HasFailed, Moves, Refuses, Stops};
 ghost use Rattle.mbox_text.specs.Lines.{NoEnd};
 
 use crate::body::{add_line, take_lines};
@@ -9,7 +9,7 @@ use crate::bytes::Bytes;
 use crate::entry::Entry;
 use crate::fault::TextFault;
 use crate::from_line::{begins_with_from, is_from_start};
-use crate::message::Message;
+use crate::partial_message::PartialMessage;
 use memchr::memchr;
 use std::alloc::{AllocError, Global};
 use std::mem;
@@ -21,7 +21,7 @@ pub struct Splitter {
     alloc: Global,
     failed: bool,
     // None up to the end of a From_ line
-    message: Option<Message>,
+    message: Option<PartialMessage>,
     // what has come of the last line
     line: Vec<u8>,
 }
@@ -98,10 +98,8 @@ impl Splitter {
 
     // Takes the piece.
     fn take_piece(&mut self, piece: &[u8], out: &mut Vec<Entry>) -> Result<(), TextFault>
-        ensures moved { OnOk result (Gives self.old.message self.old.line.items piece.now out.old.items out.new.items self.new.message self.new.line.items) }
-        ensures stopped { IfErr result (λ fault. Stops fault
-            (Refused self.old.message self.old.line.items piece.now out.old.items out.new.items)
-            (Breaks self.old.message self.old.line.items piece.now out.old.items out.new.items)) }
+        ensures moved { OnOk result (Gives self.old piece.now out.old.items out.new.items self.new) }
+        ensures stopped { IfErr result (λ fault. Stops fault self.old piece.now out.old.items out.new.items) }
         ensures same { self.new.failed ≡ self.old.failed }
     {
         let mut at = 0;
@@ -117,10 +115,8 @@ impl Splitter {
         requires { 0 < length text.now }
         ensures some { IfOk result (λ n. 0 < n) }
         ensures within { IfOk result (λ n. n ≤ length text.now) }
-        ensures moved { IfOk result (λ n. Gives self.old.message self.old.line.items (take n text.now) out.old.items out.new.items self.new.message self.new.line.items) }
-        ensures stopped { IfErr result (λ fault. Stops fault
-            (Refused self.old.message self.old.line.items text.now out.old.items out.new.items)
-            (Breaks self.old.message self.old.line.items text.now out.old.items out.new.items)) }
+        ensures moved { IfOk result (λ n. Gives self.old (take n text.now) out.old.items out.new.items self.new) }
+        ensures stopped { IfErr result (λ fault. Stops fault self.old text.now out.old.items out.new.items) }
         ensures same { self.new.failed ≡ self.old.failed }
     {
         let at = self.take_body_lines(text)?;
@@ -141,7 +137,7 @@ impl Splitter {
     // Takes whole lines at the front of the text, where the splitter stands at the front of a line of a body.
     fn take_body_lines(&mut self, text: &[u8]) -> Result<usize, AllocError>
         ensures within { IfOk result (λ n. n ≤ length text.now) }
-        ensures held { IfOk result (λ n. Moves self.old.message self.old.line.items (take n text.now) [] self.new.message self.new.line.items) }
+        ensures held { IfOk result (λ n. Moves self.old (take n text.now) [] self.new) }
         ensures same { self.new.failed ≡ self.old.failed }
     {
         if !self.line.is_empty() {
@@ -156,8 +152,8 @@ impl Splitter {
     // Adds bytes with no `\n` to the line, and closes the message if the line is a From_ line.
     fn add_part(&mut self, part: &[u8], out: &mut Vec<Entry>) -> Result<(), TextFault>
         requires { NoEnd part.now }
-        ensures moved { OnOk result (Gives self.old.message self.old.line.items part.now out.old.items out.new.items self.new.message self.new.line.items) }
-        ensures stopped { IfErr result (λ fault. Stops fault (Refuses self.old.message self.old.line.items part.now) ⊤) }
+        ensures moved { OnOk result (Gives self.old part.now out.old.items out.new.items self.new) }
+        ensures stopped { IfErr result (λ fault. Refuses fault self.old part.now) }
         ensures kept { OnErr result (out.new.items ≡ out.old.items) }
         ensures same { self.new.failed ≡ self.old.failed }
     {
@@ -176,8 +172,8 @@ impl Splitter {
 
     // The line is whole.
     fn end_line(&mut self) -> Result<(), TextFault>
-        ensures moved { OnOk result (Moves self.old.message self.old.line.items (10 ∷ []) [] self.new.message self.new.line.items) }
-        ensures stopped { IfErr result (λ fault. Stops fault (Refuses self.old.message self.old.line.items (10 ∷ [])) ⊤) }
+        ensures moved { OnOk result (Moves self.old (10 ∷ []) [] self.new) }
+        ensures stopped { IfErr result (λ fault. Refuses fault self.old (10 ∷ [])) }
         ensures same { self.new.failed ≡ self.old.failed }
     {
         match &mut self.message {
@@ -190,7 +186,7 @@ impl Splitter {
                     return Err(TextFault::NoFromLine);
                 }
                 let from_line = mem::replace(&mut self.line, Vec::new(self.alloc));
-                self.message = Some(Message {
+                self.message = Some(PartialMessage {
                     from_line,
                     body: Vec::new(self.alloc),
                 });

@@ -2,7 +2,7 @@ use Rattle.std.proofs.Common.{◌≡◌, ◌++◌, ℕ, List, vec_len, ap, sym, 
 use Rattle.std.proofs.lemmas.Bool.{eqb-true, eqb-false}
 use Rattle.std.proofs.lemmas.List.{nil_from_length}
 use Rattle.std.proofs.lemmas.Result.{err_from_is_err_and}
-use Rattle.mbox_text.specs.declared.message.Message.{Message}
+use Rattle.mbox_text.specs.declared.partial_message.PartialMessage.{PartialMessage}
 use Rattle.mbox_text.specs.Held.{chopped}
 use Rattle.mbox_text.specs.Quoting.{unquoted}
 use Rattle.mbox_text.proofs.Ending.{ends_none, ends_some, ends_from, short_none, short_some, short_from, short_refused}
@@ -30,8 +30,8 @@ returns-then-not-begins_with_from-clause-no_from_line c =
 
 pub returns-in_ok-close_with-in-Some-clause-last : goal.returns-in_ok-close_with-in-Some-clause-last
 returns-in_ok-close_with-in-Some-clause-last c =
-    let F : Message → List ℕ = λ v. v.from_line.items in
-    let B : Message → List ℕ = λ v. chopped (v.body.items ++ unquoted c.deref.result.now) in
+    let F : PartialMessage → List ℕ = λ v. v.from_line.items in
+    let B : PartialMessage → List ℕ = λ v. chopped (v.body.items ++ unquoted c.deref.result.now) in
     let e = c.in_ok-close_with-in-Some.ensures in
     ends_some c.args.self c.in-Some.message c.in_ok-close_with-in-Some.field-0 c.deref.result.now c.in-Some.is c.deref.ensures.value (e.from_line ∙ ap F c.in-Some.message-is) (e.body ∙ ap B c.in-Some.message-is)
 
