@@ -1,12 +1,12 @@
 -- What a splitter holds, over the fields as the code changes them.
-use Rattle.std.proofs.Common.{◌≡◌, ℕ, ◌+◌, ◌-◌, true, false, eqb, List, [], ◌∷◌, ◌++◌, length, take, drop, refl, sym, ◌∙◌, arith, append_assoc, inl, inr, Option, Some, None, Result, Ok, Err}
+use Rattle.std.proofs.Common.{◌≡◌, ℕ, ◌+◌, ◌-◌, true, false, eqb, List, [], ◌∷◌, ◌++◌, length, take, drop, refl, sym, ◌∙◌, inl, inr, Option, Some, None, Result, Ok, Err}
 use Rattle.std.specs.Prelude.{IfOk}
 use Rattle.std.specs.Option.{is_some}
 use Rattle.std.specs.declared.alloc.AllocError.{AllocError}
 use Rattle.std.specs.List.{flat_map}
 use Rattle.std.proofs.lemmas.Bool.{both_ways, false_from_ne_true, false≢true, and_parts, ne_eqb, eqb-false, eqb-true, eq-eqb, and_right, cases_Bool}
-use Rattle.std.proofs.lemmas.List.{take-append-drop, append-nil, take_all, take_rest}
-use Rattle.memchr.specs.Find.{IsFirstByte, is_byte}
+use Rattle.std.proofs.lemmas.List.{take-append-drop, append-nil, take_rest}
+use Rattle.std.proofs.Math.Seq.{take-add}
 use Rattle.mbox_text.specs.declared.entry.Entry.{Entry}
 use Rattle.mbox_text.specs.declared.partial_message.PartialMessage.{PartialMessage}
 use Rattle.mbox_text.specs.Lines.{lines, Ended, NoEnd}
@@ -15,8 +15,7 @@ use Rattle.mbox_text.specs.Fronts.{NeverFrom}
 use Rattle.mbox_text.specs.Mbox.{NoFrom}
 use Rattle.mbox_text.specs.Held.{chopped, AtHead, InBody, Held, Closed}
 use Rattle.mbox_text.proofs.HeldLemmas.{head-add, body-add, body-closes, head-ends, body-ends, body-lines}
-use Rattle.mbox_text.proofs.LineLemmas.{begins_from-more, begins_from-push}
-use Rattle.mbox_text.proofs.Runs.{take-plus, NoEnd-take}
+use Rattle.mbox_text.proofs.LineLemmas.{begins_from-more, begins_from-cut}
 
 pub held_none : (line : List ℕ) → line ≡ [] → AtHead [] [] line
 unfolding Rattle.mbox_text.specs.Held.Closed
@@ -62,12 +61,8 @@ some_lines message m line body part e el eb ends none text given h =
     let h' = rw (e, el) at h in
     rw (append-nil given, eb, el) (body-lines text given m.from_line.items m.body.items part h' ends none)
 
--- no `\n` is there
-pub none-there : (s : List ℕ) → IsFirstByte (is_byte 10) s None → NoEnd s
-none-there s h = rw (← take_all (length s) s (omega arith)) (NoEnd-take s (length s) (λ k l. h k (omega arith) l))
-
 pub take-at : (text : List ℕ) (at n : ℕ) → take (at + n) text ≡ take at text ++ take n (take (length text - at) (drop at text))
-take-at text at n = rw (take_rest text at) (take-plus at n text)
+take-at text at n = rw (take_rest text at) (take-add at n text)
 
 -- the text so far is the line alone
 pub at_start : (text : List ℕ) (given : List Entry) (line : List ℕ) → AtHead text given line → begins_from line ≡ false → (given ≡ []) × (text ≡ line)
@@ -101,7 +96,7 @@ end_refuses message line line1 is e1 b text given held =
     let a = rw is at held in
     let b' : begins_from line ≡ false = rw (← e1) b in
     let s = at_start text given line a b' in
-    (s.0, rw s.1 (begins_from-push line ∙ b', begins_with-ended line from_bytes (refl, (refl, (refl, (refl, (refl, tt)))))))
+    (s.0, rw s.1 (begins_from-cut line [] ∙ b', begins_with-ended line from_bytes (refl, (refl, (refl, (refl, (refl, tt)))))))
 
 pub none_is : (m : Option PartialMessage) → is_some m ≡ false → m ≡ None
 none_is None h = refl

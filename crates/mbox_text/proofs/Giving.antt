@@ -1,6 +1,6 @@
 -- What a splitter has given: all messages but the last, whatever comes behind the text.
-use Rattle.std.proofs.Common.{◌≡◌, ℕ, true, false, List, [], ◌∷◌, ◌++◌, refl, sym, ◌∙◌, ap, append_assoc, inl, inr, Option, Some, None, Result, Ok, Err}
-use Rattle.std.specs.Prelude.{OnErr, OnOk, IfErr, IsErr, IsErrOf}
+use Rattle.std.proofs.Common.{◌≡◌, ℕ, false, List, [], ◌∷◌, ◌++◌, refl, sym, ◌∙◌, ap, append_assoc, inl, inr, Option, Some, None, Result, Ok, Err}
+use Rattle.std.specs.Prelude.{OnOk, IfErr, IsErr, IsErrOf}
 use Rattle.std.specs.Result.{is_err, IsErrAnd}
 use Rattle.std.proofs.lemmas.Bool.{both_ways}
 use Rattle.std.proofs.lemmas.List.{append-nil}
@@ -171,8 +171,3 @@ fed_part r old piece out out' h is =
           let stay : Stay (text ++ piece) now = λ more entries m. all_stay front now a (s.rest ++ more) entries (rw (texts, append_assoc front s.rest more) at m) in
           (λ all is_all. part (text ++ piece) given g.0 all stay is_all, λ n. nil_right given g.0 (all_none front s.rest now a (rw texts at n))),
     )
-
--- what holds in any case holds of an error
-pub on_err : {T E : Type 0} (r : Result T E) (P : Type 0) → P → OnErr r P
-on_err (Ok x) P p = tt
-on_err (Err e) P p = p

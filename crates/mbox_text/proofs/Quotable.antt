@@ -4,15 +4,15 @@ use Rattle.std.specs.Prelude.{◌⊎◌}
 use Rattle.std.specs.List.{concat}
 use Rattle.std.proofs.lemmas.Bool.{cases_Bool, cases_lt, false≢true, and_parts, eqb-true}
 use Rattle.std.proofs.lemmas.List.{take_all, drop_all, length-drop, length-take, get_or-drop, drop-append-le, drop-take, take-take, take_rest}
-use Rattle.std.proofs.Math.Seq.{drop-append-add}
+use Rattle.std.proofs.Math.Seq.{drop-append-add, take-add}
 use Rattle.memchr.specs.Find.{FindsNeedle, OccursAt}
 use Rattle.mbox_text.specs.Lines.{lines, Ended, IsLine}
 use Rattle.mbox_text.specs.Quoting.{begins_with, begins_from, from_bytes, quotable, NoneQuotable, FirstQuotable}
 use Rattle.mbox_text.proofs.Heads.{from-long}
 use Rattle.mbox_text.proofs.LineLemmas.{begins_from-more, concat-lines, lines-append}
 use Rattle.mbox_text.proofs.HeldLemmas.{Ended-append}
-use Rattle.mbox_text.proofs.Runs.{take-plus, begins_from-take, NoneQuotable-append}
-use Rattle.mbox_text.proofs.Written.{quotable-line}
+use Rattle.mbox_text.proofs.Runs.{begins_from-take, NoneQuotable-append}
+use Rattle.mbox_text.proofs.WrittenBody.{quotable-line}
 
 -- `From ` stands nowhere in the text
 record NoPlace (text : List ℕ) : Type 0 where
@@ -88,7 +88,7 @@ plain_none text = record { within = omega arith; ends = inr (inl refl); none = t
 pub plain_more : (text : List ℕ) (at n : ℕ) → Plain text at → Plain (drop at text) n → Plain text (at + n)
 plain_more text at n p q =
     let x : List ℕ = take n (drop at text) in
-    let front : take (at + n) text ≡ take at text ++ x = take-plus at n text in
+    let front : take (at + n) text ≡ take at text ++ x = take-add at n text in
     elim (p.ends) [
       | inl e ↦ let same : at + n ≡ at = omega (arith, q.within, length-drop at text, e) in rw same p
       | inr ended ↦ record {

@@ -1,50 +1,21 @@
 -- Whole lines that are added as they are read.
-use Rattle.std.proofs.Common.{◌≡◌, ℕ, zero, suc, ◌+◌, ◌-◌, ◌<◌, ◌≤◌, true, false, Some, eqb, List, [], ◌∷◌, ◌++◌, length, get_or, take, drop, refl, sym, ◌∙◌, ap, arith, append_assoc, inl, inr}
+use Rattle.std.proofs.Common.{◌≡◌, ℕ, ◌+◌, ◌-◌, ◌≤◌, true, false, Some, eqb, List, [], ◌∷◌, ◌++◌, length, take, drop, refl, sym, ◌∙◌, ap, arith, append_assoc, inl, inr}
 use Rattle.std.specs.List.{flat_map, concat}
 use Rattle.std.proofs.lemmas.Bool.{false_from_ne_true, both_ways, cases_Bool, eqb-true}
-use Rattle.std.proofs.lemmas.List.{append-nil, take-append-drop, take_rest, take-take, drop-take, take_all, take_more, length-drop, get_or-drop}
+use Rattle.std.proofs.lemmas.List.{append-nil, take-append-drop, take_rest, length-drop}
 use Rattle.std.proofs.lemmas.List.Concat.{flat_map-append}
-use Rattle.memchr.specs.Find.{IsFirstByte, IsLastByte, is_byte}
-use Rattle.mbox_text.specs.Lines.{lines, Ended, NoEnd}
+use Rattle.std.proofs.Math.Seq.{take-add}
+use Rattle.memchr.specs.Find.{IsFirstByte, is_byte}
+use Rattle.mbox_text.specs.Lines.{lines, Ended}
 use Rattle.mbox_text.specs.Quoting.{unquoted, quotable, begins_from, NoneQuotable, FirstQuotable}
 use Rattle.mbox_text.specs.Mbox.{NoFrom}
 use Rattle.mbox_text.proofs.LineLemmas.{lines-append, lines-line, concat-lines, begins_from-more, unquoted-other}
 use Rattle.mbox_text.proofs.HeldLemmas.{NoFrom-append, Ended-append}
-
-pub take-plus : {X : Type 0} (m n : ℕ) (s : List X) → take (m + n) s ≡ take m s ++ take n (drop m s)
-take-plus m n s =
-    let le : m ≤ m + n = omega arith in
-    sym (take-append-drop m (take (m + n) s)) ∙ rw (take-take m (m + n) s le, drop-take m n s) refl
+use Rattle.mbox_text.proofs.LineEnds.{line-there}
 
 -- what a front begins with, the text begins with
 pub begins_from-take : (text : List ℕ) (n : ℕ) → begins_from (take n text) ≡ true → begins_from text ≡ true
 begins_from-take text n b = ap begins_from (sym (take-append-drop n text)) ∙ begins_from-more (take n text) (drop n text) b
-
-pub NoEnd-take : (s : List ℕ) (n : ℕ) → ((k : ℕ) → k < n → eqb (get_or s k 0) 10 ≡ true → ⊥) → NoEnd (take n s)
-NoEnd-take s zero h = tt
-NoEnd-take [] (suc n) h = tt
-NoEnd-take (c ∷ s) (suc n) h = (false_from_ne_true (eqb c 10) (h 0 (omega arith)), NoEnd-take s n (λ k l. h (suc k) (omega arith)))
-
-pub NoEnd-behind : (s : List ℕ) (n : ℕ) → IsLastByte (is_byte 10) s (Some n) → NoEnd (drop (n + 1) s)
-NoEnd-behind s n h =
-    let D : List ℕ = drop (n + 1) s in
-    let whole : take (length D) D ≡ D = take_all (length D) D (omega arith) in
-    rw (← whole) (NoEnd-take D (length D) (λ k l e. h.0.after ((n + 1) + k) (omega arith) (omega (arith, l, length-drop (n + 1) s)) (ap (is_byte 10) (sym (get_or-drop (n + 1) s k 0)) ∙ e)))
-
--- the line up to the first `\n`
-pub record LineThere (s : List ℕ) (n : ℕ) : Type 0 where
-  pub within : n < length s
-  pub is : take (n + 1) s ≡ take n s ++ 10 ∷ []
-  pub part : NoEnd (take n s)
-
-pub line-there : (s : List ℕ) (n : ℕ) → IsFirstByte (is_byte 10) s (Some n) → LineThere s n
-line-there s n h =
-    let lt : n < length s = h.0.high in
-    record {
-      within = lt;
-      is = take_more s n 0 lt ∙ ap (λ c. take n s ++ c ∷ []) (eqb-true (get_or s n 0) 10 h.1);
-      part = NoEnd-take s n (λ k l. h.0.before k (omega arith) l);
-    }
 
 pub NoneQuotable-append : (a b : List (List ℕ)) → NoneQuotable a → NoneQuotable b → NoneQuotable (a ++ b)
 NoneQuotable-append [] b h h' = h'
@@ -87,12 +58,12 @@ taken_more : (text before body body' : List ℕ) (at n : ℕ) → Taken text bef
     → NoFrom (lines (take n (drop at text))) → body' ≡ body ++ flat_map unquoted (lines (take n (drop at text))) → Taken text before body' (at + n)
 taken_more text before body body' at n t le ends none is =
     let x : List ℕ = take n (drop at text) in
-    let front : lines (take (at + n) text) ≡ lines (take at text) ++ lines x = ap lines (take-plus at n text) ∙ lines-append (take at text) x t.ended in
+    let front : lines (take (at + n) text) ≡ lines (take at text) ++ lines x = ap lines (take-add at n text) ∙ lines-append (take at text) x t.ended in
     record {
       within = omega (arith, t.within, le, length-drop at text);
       added = rw (front, flat_map-append unquoted (lines (take at text)) (lines x))
           (is ∙ ap (λ z. z ++ flat_map unquoted (lines x)) t.added ∙ append_assoc before (flat_map unquoted (lines (take at text))) (flat_map unquoted (lines x)));
-      ended = rw (take-plus at n text) (Ended-append (take at text) x t.ended ends);
+      ended = rw (take-add at n text) (Ended-append (take at text) x t.ended ends);
       none = rw front (NoFrom-append (lines (take at text)) (lines x) t.none none);
     }
 

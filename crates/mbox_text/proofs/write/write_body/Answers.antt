@@ -1,6 +1,6 @@
 use Rattle.std.proofs.Common.{ℕ, ◌+◌, List}
 use Rattle.mbox_text.proofs.Appended.{err_writes}
-use Rattle.mbox_text.proofs.Written.{written_none, written_found, written_line, written_front, written_rest, found_part, line_part}
+use Rattle.mbox_text.proofs.WrittenBody.{written_none, written_found, written_line, written_front, written_rest, found_part, line_part}
 use Rattle.mbox_text.proofs.write.write_body.Goals as goal
 
 pub loop-n-init : goal.loop-n-init

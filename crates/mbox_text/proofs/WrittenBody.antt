@@ -1,29 +1,20 @@
 -- What is written of a body, part by part.
-use Rattle.std.proofs.Common.{◌≡◌, ℕ, zero, suc, ◌+◌, ◌-◌, ◌≤◌, ◌<◌, Option, Some, None, Result, true, false, eqb, List, [], ◌∷◌, ◌++◌, length, take, drop, get_or, refl, sym, ◌∙◌, ap, arith, append_assoc, inl, inr}
+use Rattle.std.proofs.Common.{◌≡◌, ℕ, zero, suc, ◌+◌, ◌-◌, ◌≤◌, ◌<◌, Option, Result, true, false, eqb, List, [], ◌∷◌, ◌++◌, length, take, drop, get_or, refl, sym, ◌∙◌, ap, arith, append_assoc, inl, inr}
 use Rattle.std.specs.Prelude.{◌⊎◌}
 use Rattle.std.specs.List.{flat_map, concat}
 use Rattle.std.specs.Io.KnownBytes.{Appends}
 use Rattle.std.proofs.KnownBytes.{Appends-trans, Appends-nil}
-use Rattle.std.proofs.lemmas.Bool.{ne_eqb, eq-eqb, eqb-true, eqb-false}
-use Rattle.std.proofs.lemmas.List.{append-nil, take-append-drop, take_all, take_rest, drop_all, drop-drop, length-drop, nil_from_length}
+use Rattle.std.proofs.lemmas.Bool.{ne_eqb, eqb-true, eqb-false}
+use Rattle.std.proofs.lemmas.List.{append-nil, take_more, take-append-drop, take_all, take_rest, drop_all, drop-drop, length-drop, nil_from_length}
 use Rattle.std.proofs.lemmas.List.Concat.{flat_map-append}
-use Rattle.memchr.specs.Find.{IsFirstByte, is_byte}
+use Rattle.std.proofs.Math.Seq.{take-add}
 use Rattle.mbox_text.specs.Lines.{lines, Ended, IsLine}
-use Rattle.mbox_text.specs.Quoting.{begins_from, quotable, quoted, NoneQuotable, FirstQuotable}
+use Rattle.mbox_text.specs.Quoting.{quotable, quoted, NoneQuotable, FirstQuotable}
 use Rattle.mbox_text.specs.Spelling.{missing_end}
 use Rattle.mbox_text.specs.Writing.{AppendsFront, Writes}
-use Rattle.mbox_text.proofs.LineLemmas.{lines-append, lines-line, lines-part, concat-lines}
+use Rattle.mbox_text.proofs.LineLemmas.{lines-append, concat-lines, quotable-cut, missing-ended, missing-part}
 use Rattle.mbox_text.proofs.HeldLemmas.{Ended-append}
-use Rattle.mbox_text.proofs.Runs.{take-plus, line-there}
-use Rattle.mbox_text.proofs.Fields.{none-there}
-use Rattle.mbox_text.proofs.Blocks.{begins_from-cut}
 use Rattle.mbox_text.proofs.Appended.{front_then, writes_then}
-
--- the `\n` of a line, and what stands behind it, plays no part in its quoting
-quotable-cut : (line rest : List ℕ) → quotable (line ++ 10 ∷ rest) ≡ quotable line
-unfolding quotable begins_from
-quotable-cut [] rest = refl
-quotable-cut (c ∷ line) rest = rw (quotable-cut line rest, begins_from-cut (c ∷ line) rest) refl
 
 quotable-ended : (a x : List ℕ) → Ended a → 0 < length a → quotable (a ++ x) ≡ quotable a
 quotable-ended a x (inl e) l = absurd (omega (arith, ap length e))
@@ -49,23 +40,6 @@ quotable-line text n h = elim (h.ends) [
   | inl e ↦ ap quotable (take_all n text (omega (arith, e)))
   | inr e ↦ sym (quotable-ended (take n text) (drop n text) e (front-length text n h.some h.within)) ∙ ap quotable (take-append-drop n text)
 ]
-
-pub line_ends : (text : List ℕ) (n : ℕ) → IsFirstByte (is_byte 10) text (Some n) → IsLine text (n + 1)
-unfolding lines
-line_ends text n found =
-    let h = line-there text n found in
-    record {
-      some = omega arith;
-      within = omega (arith, h.within);
-      line = rw h.is (lines-line (take n text) [] h.part);
-      ends = inr (inr (take n text, h.is));
-    }
-
-pub line_alone : (text : List ℕ) → 0 < length text → IsFirstByte (is_byte 10) text None → IsLine text (length text)
-line_alone [] l found = absurd (omega arith)
-line_alone (c ∷ text) l found =
-    let whole : take (length (c ∷ text)) (c ∷ text) ≡ c ∷ text = take_all (length (c ∷ text)) (c ∷ text) (omega arith) in
-    record { some = l; within = omega arith; line = rw whole (lines-part c text (none-there (c ∷ text) found)); ends = inl refl }
 
 -- the body up to a place
 pub record WrittenTo (body : List ℕ) (old new : Option (List ℕ)) (at : ℕ) : Type 0 where
@@ -117,7 +91,7 @@ written_more : (body : List ℕ) (old mid new : Option (List ℕ)) (at n : ℕ) 
     → Appends mid new bytes → WrittenTo body old new (at + n)
 written_more body old mid new at n bytes w lt p h =
     let x : List ℕ = take n (drop at body) in
-    let front : take (at + n) body ≡ take at body ++ x = take-plus at n body in
+    let front : take (at + n) body ≡ take at body ++ x = take-add at n body in
     let ended : Ended (take at body) = elim (w.ends) [ inl e ↦ absurd (omega (arith, e, lt)) | inr e ↦ e ] in
     let lines_are : flat_map quoted (lines (take (at + n) body)) ≡ flat_map quoted (lines (take at body)) ++ bytes =
     rw (front, lines-append (take at body) x ended, flat_map-append quoted (lines (take at body)) (lines x), p.is) refl in
@@ -159,36 +133,22 @@ written_rest r body old mid new at w none h =
     let same : flat_map quoted (lines D) ≡ D = plain (lines D) (rw (take_rest body at) at none) ∙ concat-lines D in
     writes_then r old mid new F D (flat_map quoted (lines body)) w.written (rw (take_rest body at) at h) (split-at body at w.ends ∙ ap (λ z. F ++ z) same)
 
--- the last byte tells whether a body lacks its end
-some-last : (body : List ℕ) (k : ℕ) → length body ≡ suc k → (get_or body k 0 ≡ 10 → ⊥) → missing_end body ≡ 10 ∷ []
-unfolding missing_end
-some-last [] k l h = absurd (omega (arith, l))
-some-last (c ∷ []) zero l h = rw (ne_eqb c 10 h) refl
-some-last (c ∷ []) (suc k) l h = absurd (omega (arith, l))
-some-last (c ∷ d ∷ body) zero l h = absurd (omega (arith, l))
-some-last (c ∷ d ∷ body) (suc k) l h = some-last (d ∷ body) k (omega (arith, l)) h
-
-none-last : (body : List ℕ) (k : ℕ) → length body ≡ suc k → get_or body k 0 ≡ 10 → missing_end body ≡ []
-unfolding missing_end
-none-last [] k l h = refl
-none-last (c ∷ []) zero l h = rw (eq-eqb c 10 h) refl
-none-last (c ∷ []) (suc k) l h = absurd (omega (arith, l))
-none-last (c ∷ d ∷ body) zero l h = absurd (omega (arith, l))
-none-last (c ∷ d ∷ body) (suc k) l h = none-last (d ∷ body) k (omega (arith, l)) h
+-- the last byte of a body tells whether it lacks its end
+last-is : (body : List ℕ) → eqb (length body) 0 ≡ false → body ≡ take (length body - 1) body ++ get_or body (length body - 1) 0 ∷ []
+last-is body e =
+    let some : length body ≡ 0 → ⊥ = eqb-false (length body) 0 e in
+    sym (take_all ((length body - 1) + 1) body (omega (arith, some))) ∙ take_more body (length body - 1) 0 (omega (arith, some))
 
 pub missing-empty : (body : List ℕ) → eqb (length body) 0 ≡ true → missing_end body ≡ []
 unfolding missing_end
 missing-empty body e = rw (nil_from_length body (eqb-true (length body) 0 e)) refl
 
 pub missing-some : (body : List ℕ) → eqb (length body) 0 ≡ false → (get_or body (length body - 1) 0 ≡ 10 → ⊥) → missing_end body ≡ 10 ∷ []
-missing-some body e h =
-    let n : length body ≡ 0 → ⊥ = eqb-false (length body) 0 e in
-    some-last body (length body - 1) (omega (arith, n)) h
+missing-some body e h = ap missing_end (last-is body e) ∙ missing-part (take (length body - 1) body) (get_or body (length body - 1) 0) [] (ne_eqb _ 10 h, tt)
 
 pub missing-none : (body : List ℕ) → eqb (length body) 0 ≡ false → get_or body (length body - 1) 0 ≡ 10 → missing_end body ≡ []
 missing-none body e h =
-    let n : length body ≡ 0 → ⊥ = eqb-false (length body) 0 e in
-    none-last body (length body - 1) (omega (arith, n)) h
+    ap missing_end (last-is body e) ∙ ap (λ c. missing_end (take (length body - 1) body ++ c ∷ [])) h ∙ missing-ended (take (length body - 1) body)
 
 pub written_none : (body : List ℕ) (old : Option (List ℕ)) → WrittenTo body old old 0
 unfolding lines
