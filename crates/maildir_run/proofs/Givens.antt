@@ -12,6 +12,7 @@ use Rattle.mbox_text.specs.Fed.{Fed}
 use Rattle.mbox_text.specs.Fronts.{AllButLast}
 use Rattle.mbox_text.proofs.OneReading.{mbox-one}
 use Rattle.mbox_text.proofs.Existence.{read_where}
+use Rattle.mbox_text.proofs.Giving.{all_stay}
 use Rattle.mbox_text.proofs.LineLemmas.{begins_from-more}
 use Rattle.maildir_run.specs.declared.fault.RunFault.{RunFault}
 use Rattle.maildir_run.specs.declared.fault.RunFault.TheVariants.{NoFromLine}
@@ -84,7 +85,7 @@ unread_none text more given (inr a) none = a.1
 
 pub given_first : (ended : Bool) (before now : Option (List ℕ)) (splitter : Splitter) (left reads : ℕ) (text : List ℕ) (given : List Entry) → IsGiven ended before now splitter left reads text given → First text now given
 given_first false before now splitter left reads text given p = record {
-  told = λ more rest entries has whole m. elim (p.fed.stay more entries m) [
+  told = λ more rest entries has whole m. elim (all_stay text given p.fed.given_are more entries m) [
     | inl none ↦ (entries, rw none refl)
     | inr q ↦ (q.0 ∷ q.1, q.2)
   ];
@@ -144,7 +145,7 @@ broken_off before mid now old reads text all fault p b = record {
   text = text ++ b.0;
   read = Consumes-trans before mid now text b.0 p.read b.1;
   first = record {
-    told = λ more rest entries has whole m. elim (p.fed.stay (b.0 ++ more) entries (subst (λ s. Mbox s entries) (append_assoc text b.0 more) m)) [
+    told = λ more rest entries has whole m. elim (all_stay text all p.fed.given_are (b.0 ++ more) entries (subst (λ s. Mbox s entries) (append_assoc text b.0 more) m)) [
       | inl none ↦ (entries, rw none refl)
       | inr q ↦ (q.0 ∷ q.1, q.2)
     ];

@@ -13,6 +13,7 @@ use Rattle.mbox_text.specs.Mbox.{Mbox, Block}
 use Rattle.mbox_text.specs.Fed.{Fed}
 use Rattle.mbox_text.specs.Fronts.{AllButLast, Stay}
 use Rattle.mbox_text.specs.Writing.{AppendsFront}
+use Rattle.mbox_text.proofs.Giving.{all_stay}
 use Rattle.mbox_text.proofs.OneReading.{mbox-one}
 use Rattle.mbox_text.proofs.Appended.{front_more, front_then}
 use Rattle.maildir_run.proofs.FromLines.{mbox-from_lines, from_lines-behind, given-from_lines}
@@ -117,7 +118,7 @@ pub read_broken : (output : List Entry → List ℕ) (given : List Entry) (befor
     → Poured output given before mid was is messages.splitter messages.reads whole reads count → Breaks messages mid now fault → Broken output before now was is reads fault
 read_broken output given before mid now was is messages whole reads count fault o p b =
     let read = Consumes-trans before mid now p.text b.0 p.read b.1 in
-    let stay : Stay (p.text ++ b.0) given = λ more entries h. p.fed.stay (b.0 ++ more) entries (rw (append_assoc p.text b.0 more) at h) in
+    let stay : Stay (p.text ++ b.0) given = λ more entries h. all_stay p.text given p.fed.given_are (b.0 ++ more) entries (rw (append_assoc p.text b.0 more) at h) in
     record {
       front = gives_front output before now was is (p.text ++ b.0) given o read (stay_fronts (p.text ++ b.0) now given stay) (output given, [], sym (append-nil (output given)), p.written);
       nothing = λ e.
@@ -162,7 +163,7 @@ batch output given before mid now was is messages splitter left old whole reads 
       text = p.text ++ w.0;
       read = Consumes-trans before mid now p.text w.0 p.read w.2;
       budget = omega (arith, length-append p.text w.0, p.budget, w.3, w.4);
-      fronts = stay_fronts (p.text ++ w.0) now (given ++ whole) f.stay;
+      fronts = stay_fronts (p.text ++ w.0) now (given ++ whole) (all_stay (p.text ++ w.0) (given ++ whole) f.given_are);
       written = p.written;
       counted = p.counted;
       size = given-length (p.text ++ w.0) (given ++ whole) f.given_are;

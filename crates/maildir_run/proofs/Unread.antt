@@ -10,9 +10,8 @@ use Rattle.mbox_text.specs.Quoting.{begins_from, begins_with, from_bytes}
 use Rattle.mbox_text.specs.Mbox.{IsUnreadable}
 use Rattle.mbox_text.specs.Fronts.{AllButLast, NeverFrom}
 use Rattle.mbox_text.specs.Fed.{IsTooShort, NeverBegins}
-use Rattle.mbox_text.proofs.Blocks.{mbox-starts}
 use Rattle.mbox_text.proofs.Fields.{never-more}
-use Rattle.mbox_text.proofs.Heads.{from-long}
+use Rattle.mbox_text.proofs.Heads.{from-long, mbox-starts}
 use Rattle.mbox_text.proofs.LineLemmas.{begins_from-more}
 use Rattle.maildir_run.specs.declared.fault.RunFault.{RunFault}
 use Rattle.maildir_run.specs.declared.fault.RunFault.TheVariants.{NoFromLine, TooManyReads, OutOfMemory}

@@ -1,60 +1,23 @@
 -- A text that is read block by block.
 use Rattle.std.proofs.Common.{◌≡◌, ℕ, zero, suc, ◌+◌, ◌≤◌, ◌<◌, Some, None, true, false, eqb, List, [], ◌∷◌, ◌++◌, length, take, drop, refl, sym, ◌∙◌, ap, arith, append_assoc, inl, inr}
 use Rattle.std.specs.Prelude.{◌⊎◌}
-use Rattle.std.specs.List.{flat_map, concat}
+use Rattle.std.specs.List.{flat_map}
 use Rattle.std.proofs.lemmas.Bool.{both_ways, false≢true}
-use Rattle.std.proofs.lemmas.List.{append-nil, take-append-drop, take_all, drop_all, drop-drop, length-drop}
-use Rattle.std.proofs.lemmas.List.Concat.{flat_map-append}
+use Rattle.std.proofs.lemmas.List.{take-append-drop, take_all, drop_all, drop-drop, length-drop}
+use Rattle.std.proofs.Math.Seq.{take-add}
 use Rattle.memchr.specs.Find.{IsFirstByte, is_byte}
 use Rattle.mbox_text.specs.declared.entry.Entry.{Entry}
 use Rattle.mbox_text.specs.Lines.{lines, Ended, NoEnd}
-use Rattle.mbox_text.specs.Quoting.{begins_with, begins_from, from_bytes, unquoted}
-use Rattle.mbox_text.specs.Mbox.{Mbox, NoFrom, Block, IsMboxText, without_blank}
+use Rattle.mbox_text.specs.Quoting.{begins_from, unquoted}
+use Rattle.mbox_text.specs.Mbox.{Mbox, NoFrom, Block, IsMboxText}
 use Rattle.mbox_text.specs.Held.{Closed, chopped}
 use Rattle.mbox_text.specs.Split.{IsFirstBody, IsFirstBlock}
-use Rattle.mbox_text.proofs.LineLemmas.{concat-lines, lines-append, lines-line, lines-part, begins_from-more}
-use Rattle.mbox_text.proofs.Chopped.{chopped-body, chopped-part, without_blank-part, unquoted-some}
-use Rattle.mbox_text.proofs.HeldLemmas.{Closed-push, NoFrom-append, Ended-append, unended-push}
-use Rattle.mbox_text.proofs.Runs.{take-plus, line-there}
-use Rattle.mbox_text.proofs.Fields.{none-there}
+use Rattle.mbox_text.proofs.LineEnds.{line-there, none-there}
+use Rattle.mbox_text.proofs.LineLemmas.{lines-line, begins_from-cut, begins_from-more}
+use Rattle.mbox_text.proofs.Heads.{mbox-starts}
+use Rattle.mbox_text.proofs.Chopped.{chopped-body}
+use Rattle.mbox_text.proofs.HeldLemmas.{Closed-push, Ended-append, unended-push, last_body}
 use Rattle.mbox_text.proofs.Last.{closed-last, from-block}
-
--- what a front begins with, the text begins with
-pub begins_from-take : (text : List ℕ) (n : ℕ) → begins_from (take n text) ≡ true → begins_from text ≡ true
-begins_from-take text n b = ap begins_from (sym (take-append-drop n text)) ∙ begins_from-more (take n text) (drop n text) b
-
--- a `From ` stands before the first `\n`
-begins_with-cut : (prefix line rest : List ℕ) → NoEnd prefix → begins_with prefix (line ++ 10 ∷ rest) ≡ begins_with prefix line
-begins_with-cut [] line rest h = refl
-begins_with-cut (p ∷ prefix) [] rest h = rw h.0 refl
-begins_with-cut (p ∷ prefix) (c ∷ line) rest h = rw (begins_with-cut prefix line rest h.1) refl
-
-pub begins_from-cut : (line rest : List ℕ) → begins_from (line ++ 10 ∷ rest) ≡ begins_from line
-unfolding begins_from
-begins_from-cut line rest = begins_with-cut from_bytes line rest (refl, (refl, (refl, (refl, (refl, tt)))))
-
--- the last line of a body, which lacks its `\n`
-record LastBody (text body : List ℕ) : Type 0 where
-  none : NoFrom (lines text)
-  is : body ≡ flat_map unquoted (without_blank (lines text))
-
-last_body : (front rest text body : List ℕ) → text ≡ front ++ rest → Ended front → NoFrom (lines front) → NoEnd rest → begins_from rest ≡ false
-    → body ≡ chopped (flat_map unquoted (lines front) ++ unquoted rest) → LastBody text body
-unfolding unquoted
-last_body front [] text body e ends none part b is =
-    let whole : text ≡ front = e ∙ append-nil front in
-    record {
-      none = rw whole none;
-      is = rw whole (is ∙ ap chopped (append-nil (flat_map unquoted (lines front))) ∙ chopped-body front ends);
-    }
-last_body front (c ∷ l) text body e ends none part b is =
-    let u = unquoted-some c l part in
-    let all : lines text ≡ lines front ++ (c ∷ l) ∷ [] = rw (e, lines-append front (c ∷ l) ends, lines-part c l part) refl in
-    record {
-      none = rw all (NoFrom-append (lines front) ((c ∷ l) ∷ []) none (b, tt));
-      is = rw (is, all, without_blank-part (lines front) c l part, flat_map-append unquoted (lines front) ((c ∷ l) ∷ []), append-nil (unquoted (c ∷ l)), u.2)
-          (chopped-part true (flat_map unquoted (lines front)) u.0 u.1 u.3);
-    }
 
 -- whole lines, and then a From_ line
 pub body_stops : (text body : List ℕ) (n : ℕ) → n ≤ length text → Ended (take n text) → NoFrom (lines (take n text)) → begins_from (drop n text) ≡ true
@@ -67,8 +30,8 @@ pub body_ends : (text body : List ℕ) (n : ℕ) → Ended (take n text) → NoF
     → (begins_from (drop n text) ≡ true) ⊎ NoEnd (drop n text) → body ≡ chopped (flat_map unquoted (lines (take n text)) ++ unquoted (drop n text)) → IsFirstBody text (length text) body
 body_ends text body n ends none b stops is =
     let part : NoEnd (drop n text) = elim stops [ inl y ↦ absurd (both_ways (begins_from (drop n text)) b y) | inr h ↦ h ] in
-    let whole : take (length text) text ≡ text = take_all (length text) text (omega arith) in
-    let last = last_body (take n text) (drop n text) text body (sym (take-append-drop n text)) ends none part b is in
+    let whole : take (length text) text ≡ take n text ++ drop n text = take_all (length text) text (omega arith) ∙ sym (take-append-drop n text) in
+    let last = last_body (take n text) (drop n text) body ends none part b is in
     record { within = omega arith; none = rw whole last.none; is = rw whole last.is; next = inl refl }
 
 -- the From_ line and its body
@@ -78,7 +41,7 @@ block_there text head len e b found body from_line =
     let h = line-there text head found in
     let others : List ℕ = drop (head + 1) text in
     let block : take ((head + 1) + len) text ≡ take head text ++ 10 ∷ take len others =
-    take-plus (head + 1) len text ∙ ap (λ z. z ++ take len others) h.is ∙ append_assoc (take head text) (10 ∷ []) (take len others) in
+    take-add (head + 1) len text ∙ ap (λ z. z ++ take len others) h.is ∙ append_assoc (take head text) (10 ∷ []) (take len others) in
     let whole : take head text ++ 10 ∷ others ≡ text =
     sym (append_assoc (take head text) (10 ∷ []) others) ∙ ap (λ z. z ++ others) (sym h.is) ∙ take-append-drop (head + 1) text in
     let first : begins_from (take head text) ≡ true = sym (begins_from-cut (take head text) others) ∙ ap begins_from whole ∙ b in
@@ -127,7 +90,7 @@ so_far_none text entries (inr b) none = record { within = omega arith; read = rw
 pub so_far_more : (text : List ℕ) (entries : List Entry) (at len : ℕ) (e : Entry) → SoFar text entries at → at < length text → IsFirstBlock (drop at text) len e
     → SoFar text (entries ++ e ∷ []) (at + len)
 so_far_more text entries at len e s lt first =
-    let front : take (at + len) text ≡ take at text ++ take len (drop at text) = take-plus at len text in
+    let front : take (at + len) text ≡ take at text ++ take len (drop at text) = take-add at len text in
     record {
       within = omega (arith, first.within, length-drop at text);
       read = elim (s.read) [
@@ -152,15 +115,6 @@ so_far_all text entries at s le =
 
 pub first-some : (text : List ℕ) (len : ℕ) (e : Entry) → IsFirstBlock text len e → 0 < len
 first-some text len e first = block-some len text e first.block
-
--- a text that has messages begins with `From `
-pub mbox-starts : (text : List ℕ) (entries : List Entry) → Mbox text entries → IsMboxText text
-unfolding Mbox
-mbox-starts text [] h = inl h
-mbox-starts text (e ∷ es) h =
-    let b = h.3 in
-    let is : h.0 ≡ b.first ++ concat b.others = sym (concat-lines h.0) ∙ ap concat b.is in
-    inr (rw (h.2, is) (begins_from-more (b.first ++ concat b.others) h.1 (begins_from-more b.first (concat b.others) b.head)))
 
 pub not_mbox : (text : List ℕ) → eqb (length text) 0 ≡ false → begins_from text ≡ false → (entries : List Entry) → Mbox text entries → ⊥
 not_mbox text some b entries h = elim (mbox-starts text entries h) [

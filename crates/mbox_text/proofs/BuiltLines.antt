@@ -7,8 +7,7 @@ use Rattle.memchr.specs.Find.{IsFirstByte, is_byte}
 use Rattle.mbox_text.specs.Lines.{NoEnd}
 use Rattle.mbox_text.specs.Quoting.{begins_from, from_bytes}
 use Rattle.mbox_text.specs.FromLine.{IsFromLine, before_space, past_spaces, sender, rest, hyphened, cleaned, behind_sender, built}
-use Rattle.mbox_text.proofs.Fields.{none-there}
-use Rattle.mbox_text.proofs.HeldLemmas.{NoEnd-append}
+use Rattle.mbox_text.proofs.LineEnds.{none-there, NoEnd-append, NoEnd-at}
 
 -- a list that a call extended
 pub extended_by : {E : Type 0} (r : Result (Unit {0}) E) (now was ys zs : List ℕ) → now ≡ cond (is_ok r) (was ++ ys) was → ys ≡ zs → OnOk r (now ≡ was ++ zs)
@@ -86,13 +85,8 @@ pub is-built : (line s r : List ℕ) (found : Option ℕ) → IsFirstByte (is_by
 is-built line s r None h e is = rw is (built-line s r (none-there r h))
 is-built line s r (Some n) h e is = absurd (false≢true (sym e))
 
-no-end-at : (s : List ℕ) (n d : ℕ) → NoEnd s → n < length s → get_or s n d ≡ 10 → ⊥
-no-end-at [] n d h l e = absurd (omega arith)
-no-end-at (c ∷ s) zero d h l e = both_ways (eqb c 10) h.0 (eq-eqb c 10 e)
-no-end-at (c ∷ s) (suc n) d h l e = no-end-at s n d h.1 (omega arith) e
-
 pub not-found : (r : List ℕ) (found : Option ℕ) → IsFirstByte (is_byte 10) r found → is_some found ≡ false → Contains r 10 → ⊥
-not-found r None h e there = no-end-at r there.0 10 (none-there r h) there.1 there.2
+not-found r None h e there = both_ways (eqb (get_or r there.0 10) 10) (NoEnd-at r there.0 10 (none-there r h) there.1) (eq-eqb _ 10 there.2)
 not-found r (Some n) h e there = absurd (false≢true (sym e))
 
 pub built-none : (s r : List ℕ) → length r ≡ 0 → from_bytes ++ cleaned s ≡ built s r

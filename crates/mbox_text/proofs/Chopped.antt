@@ -1,9 +1,12 @@
 -- A body without its last line if that is `\n` alone.
-use Rattle.std.proofs.Common.{zero, suc, ◌-◌, ◌<◌, ◌≡◌, ℕ, Bool, true, false, eqb, List, [], ◌∷◌, ◌++◌, length, get_or, take, refl, ap, arith, inl, inr}
-use Rattle.std.specs.Prelude.{◌&&◌}
-use Rattle.std.specs.List.{flat_map}
-use Rattle.std.proofs.lemmas.Bool.{cases_Bool, ne_eqb, eq-eqb, and_right}
+use Rattle.std.proofs.Common.{◌+◌, ◌-◌, ◌<◌, ◌≡◌, ℕ, Bool, true, false, eqb, List, [], ◌∷◌, ◌++◌, length, length-append, take, refl, sym, ◌∙◌, ap, arith, inl, inr}
+use Rattle.std.specs.Prelude.{◌&&◌, Decides, MatchBool}
+use Rattle.std.specs.List.{flat_map, ends_with}
+use Rattle.std.proofs.lemmas.Bool.{cases_Bool, false≢true, both_ways, eqb-true, and_parts, and_right}
 use Rattle.std.proofs.lemmas.List.{append-nil}
+use Rattle.std.proofs.Math.Seq.{take-append-add}
+use Rattle.std.proofs.lemmas.Bool.Decides.{Decides-eqb}
+use Rattle.std.proofs.lemmas.Slice.Eq.{ends_is}
 use Rattle.mbox_text.specs.Lines.{lines, Ended, NoEnd}
 use Rattle.mbox_text.specs.Quoting.{quotable, unquoted}
 use Rattle.mbox_text.specs.Mbox.{without_blank, kept}
@@ -87,60 +90,45 @@ lines-whole text (inr e) = rw e.1 (lines-whole-at e.0)
 pub chopped-body : (text : List ℕ) → Ended text → chopped (flat_map unquoted (lines text)) ≡ flat_map unquoted (without_blank (lines text))
 chopped-body text e = chopped-lines (lines text) (lines-whole text e)
 
--- what the last two bytes say
-pub chop-both : (front : Bool) (k : ℕ) (b : List ℕ) → length b ≡ suc (suc k) → get_or b k 0 ≡ 10 → get_or b (suc k) 0 ≡ 10 → take (suc k) b ≡ chopped_from front b
+chop-blank : (front : Bool) (x : List ℕ) → chopped_from front (x ++ 10 ∷ 10 ∷ []) ≡ x ++ 10 ∷ []
 unfolding chopped_from
-chop-both front k [] l e e' = absurd (omega (arith, l))
-chop-both front k (c ∷ []) l e e' = absurd (omega (arith, l))
-chop-both front zero (c ∷ d ∷ []) l e e' = rw (eq-eqb c 10 e, eq-eqb d 10 e') refl
-chop-both front (suc k) (c ∷ d ∷ []) l e e' = absurd (omega (arith, l))
-chop-both front zero (c ∷ d ∷ e ∷ b) l h h' = absurd (omega (arith, l))
-chop-both front (suc k) (c ∷ d ∷ e ∷ b) l h h' = ap (λ x. c ∷ x) (chop-both (eqb c 10) k (d ∷ e ∷ b) (omega (arith, l)) h h')
+chop-blank front [] = refl
+chop-blank front (a ∷ []) = refl
+chop-blank front (a ∷ b ∷ x) = ap (λ l. a ∷ l) (chop-blank (eqb a 10) (b ∷ x))
 
-pub chop-last : (front : Bool) (k : ℕ) (b : List ℕ) → length b ≡ suc k → (get_or b k 0 ≡ 10 → ⊥) → b ≡ chopped_from front b
+-- the two texts that lose their last line
+chop_only : (b : List ℕ) → b ≡ 10 ∷ [] → (0 < length b) × (take (length b - 1) b ≡ chopped b)
 unfolding chopped_from
-chop-last front k [] l h = refl
-chop-last front zero (c ∷ []) l h = rw (and_right front (eqb c 10) (ne_eqb c 10 h)) refl
-chop-last front (suc k) (c ∷ []) l h = absurd (omega (arith, l))
-chop-last front zero (c ∷ d ∷ b) l h = absurd (omega (arith, l))
-chop-last front (suc k) (c ∷ d ∷ b) l h = ap (λ x. c ∷ x) (chop-last (eqb c 10) k (d ∷ b) (omega (arith, l)) h)
+chop_only b e = rw e (omega arith, refl)
 
-pub chop-before : (front : Bool) (k : ℕ) (b : List ℕ) → length b ≡ suc (suc k) → (get_or b k 0 ≡ 10 → ⊥) → b ≡ chopped_from front b
+chop_last : (b x : List ℕ) → b ≡ x ++ 10 ∷ 10 ∷ [] → (0 < length b) × (take (length b - 1) b ≡ chopped b)
+chop_last b x e =
+    let size : length (x ++ 10 ∷ 10 ∷ []) ≡ length x + 2 = length-append x (10 ∷ 10 ∷ []) in
+    let n : length (x ++ 10 ∷ 10 ∷ []) - 1 ≡ length x + 1 = omega (arith, size) in
+    rw e (omega (arith, size), rw (n, chop-blank true x) (take-append-add x (10 ∷ 10 ∷ []) 1))
+
+-- no other does
+chop-other : (front : Bool) (b : List ℕ) → (front ≡ true → b ≡ 10 ∷ [] → ⊥) → ((x : List ℕ) → b ≡ x ++ 10 ∷ 10 ∷ [] → ⊥) → b ≡ chopped_from front b
 unfolding chopped_from
-chop-before front k [] l h = refl
-chop-before front k (c ∷ []) l h = absurd (omega (arith, l))
-chop-before front zero (c ∷ d ∷ []) l h = rw (ne_eqb c 10 h) refl
-chop-before front (suc k) (c ∷ d ∷ []) l h = absurd (omega (arith, l))
-chop-before front zero (c ∷ d ∷ e ∷ b) l h = absurd (omega (arith, l))
-chop-before front (suc k) (c ∷ d ∷ e ∷ b) l h = ap (λ x. c ∷ x) (chop-before (eqb c 10) k (d ∷ e ∷ b) (omega (arith, l)) h)
+chop-other front [] h h' = refl
+chop-other front (c ∷ []) h h' =
+    elim (cases_Bool (front && eqb c 10)) [
+      | inl e ↦ let a = and_parts front (eqb c 10) e in absurd (h a.0 (rw (eqb-true c 10 a.1) refl))
+      | inr e ↦ rw e refl
+    ]
+chop-other front (c ∷ d ∷ b) h h' =
+    ap (λ l. c ∷ l) (chop-other (eqb c 10) (d ∷ b) (λ e is. h' [] (rw (eqb-true c 10 e, is) refl)) (λ x is. h' (c ∷ x) (ap (λ l. c ∷ l) is)))
 
-pub chop-only : (b : List ℕ) → length b ≡ 1 → get_or b 0 0 ≡ 10 → take 0 b ≡ chopped_from true b
-unfolding chopped_from
-chop-only [] l h = refl
-chop-only (c ∷ []) l h = rw (eq-eqb c 10 h) refl
-chop-only (c ∷ d ∷ b) l h = absurd (omega (arith, l))
+-- what the two tests of the code say
+pub only_blank : (b line : List ℕ) (r : Bool) → line ≡ 10 ∷ [] → Decides r (b ≡ line) → r ≡ true
+    → MatchBool r ((0 < length b) × (take (length b - 1) b ≡ chopped b)) (b ≡ chopped b)
+only_blank b line r is d t = rw t (chop_only b (d.0 t ∙ is))
 
-pub chop_not_last : (b : List ℕ) → (0 < length b → get_or b (length b - 1) 0 ≡ 10 → ⊥) → b ≡ chopped b
-unfolding chopped_from
-chop_not_last [] h = refl
-chop_not_last (c ∷ b) h =
-    let l : length (c ∷ b) ≡ suc (length b) = refl in
-    let e : length (c ∷ b) - 1 ≡ length b = omega (arith, l) in
-    chop-last true (length b) (c ∷ b) l (λ r. h (omega (arith, l)) (rw e r))
-
-pub chop_one : (b : List ℕ) → length b ≡ 1 → get_or b (length b - 1) 0 ≡ 10 → take (length b - 1) b ≡ chopped b
-chop_one b l h = let e : length b - 1 ≡ 0 = omega (arith, l) in rw e (chop-only b l (rw e at h))
-
-pub chop_two : (b : List ℕ) → 1 < length b → get_or b (length b - 1) 0 ≡ 10 → get_or b (length b - 2) 0 ≡ 10 → take (length b - 1) b ≡ chopped b
-chop_two b l h h' =
-    let e : length b - 1 ≡ suc (length b - 2) = omega (arith, l) in
-    let s : length b ≡ suc (suc (length b - 2)) = omega (arith, l) in
-    rw e (chop-both true (length b - 2) b s h' (rw e at h))
-
-pub chop_not_before : (b : List ℕ) → 1 < length b → (get_or b (length b - 2) 0 ≡ 10 → ⊥) → b ≡ chopped b
-chop_not_before b l h =
-    let s : length b ≡ suc (suc (length b - 2)) = omega (arith, l) in
-    chop-before true (length b - 2) b s h
+pub last_blank : (b line : List ℕ) (r ends : Bool) → line ≡ 10 ∷ [] → Decides r (b ≡ line) → r ≡ false → ends ≡ ends_with eqb b (10 ∷ 10 ∷ [])
+    → MatchBool ends ((0 < length b) × (take (length b - 1) b ≡ chopped b)) (b ≡ chopped b)
+last_blank b line r true is d f h = chop_last b _ ((ends_is Decides-eqb b (10 ∷ 10 ∷ []) true h).0 refl)
+last_blank b line r false is d f h =
+    chop-other true b (λ _ one. both_ways r f (d.1 (one ∙ sym is))) (λ x two. false≢true ((ends_is Decides-eqb b (10 ∷ 10 ∷ []) false h).1 x two))
 
 -- a text whose last line lacks its `\n` stays
 pub chopped-part : (front : Bool) (x : List ℕ) (d : ℕ) (y : List ℕ) → NoEnd (d ∷ y) → chopped_from front (x ++ d ∷ y) ≡ x ++ d ∷ y

@@ -6,13 +6,13 @@ use Rattle.std.proofs.lemmas.List.{append-nil}
 use Rattle.mbox_text.specs.declared.entry.Entry.{Entry}
 use Rattle.mbox_text.specs.Quoting.{unquoted, begins_with, begins_from, from_bytes}
 use Rattle.mbox_text.specs.Fronts.{AllButLast, NeverFrom}
-use Rattle.mbox_text.specs.Mbox.{Mbox, IsMboxText, without_blank}
+use Rattle.mbox_text.specs.Mbox.{Mbox, IsMboxText}
 use Rattle.mbox_text.specs.Held.{chopped, AtHead, InBody, Closed}
-use Rattle.mbox_text.proofs.LineLemmas.{begins_from-push, begins_from-more}
-use Rattle.mbox_text.proofs.Heads.{mbox-begins, mbox-begins-last}
+use Rattle.mbox_text.proofs.LineLemmas.{begins_from-cut, begins_from-more}
+use Rattle.mbox_text.proofs.Heads.{mbox-starts, mbox-begins-last}
 use Rattle.mbox_text.proofs.HeldLemmas.{head-add, head-ends, body-add, body-closes, body-ends}
 use Rattle.mbox_text.proofs.Fields.{held_none, never-more, at_start, begins_with-ended}
-use Rattle.mbox_text.proofs.Last.{closed-last, open-last, from-block}
+use Rattle.mbox_text.proofs.Last.{head-last, body-last}
 
 -- a text that ends in a From_ line, or in a line behind one
 abbrev Stands : List ℕ → Type 0
@@ -33,7 +33,7 @@ head-byte text given line c a =
             | inl b ↦ rw is (inl (inr (given, line, [], [], head-ends text given line a b)))
             | inr b ↦
                 let s = at_start text given line a b in
-                rw (is, s.1) (inr (begins_from-push line ∙ b, begins_with-ended line from_bytes (refl, (refl, (refl, (refl, (refl, tt)))))))
+                rw (is, s.1) (inr (begins_from-cut line [] ∙ b, begins_with-ended line from_bytes (refl, (refl, (refl, (refl, (refl, tt)))))))
           ]
       | inr e ↦
           elim (cases_Bool (begins_from (line ++ c ∷ []))) [
@@ -77,34 +77,24 @@ goes-on (c ∷ more) text g = rw (← append_assoc text (c ∷ []) more) (goes-o
 goes : (text : List ℕ) → Goes text
 goes text = goes-on text [] (inl (inl ([], [], held_none [] refl)))
 
-head-last : (text : List ℕ) (given : List Entry) (line : List ℕ) → AtHead text given line → begins_from line ≡ true → (last : Entry) × Mbox text (given ++ last ∷ [])
-unfolding without_blank
-head-last text given line a b =
-    let entry : Entry = record { from_line = line; body = [] } in
-    (entry, rw a.is (closed-last a.front given line entry a.closed (from-block line entry a.part b refl refl)))
-
 pub head-all : (text : List ℕ) (given : List Entry) (line : List ℕ) → AtHead text given line → AllButLast text given
 unfolding Closed
 head-all text given line a = elim (a.head) [
-  | inl b ↦ let m = head-last text given line a b in inl (mbox-begins-last text given m.0 m.1, m)
+  | inl b ↦ let m = head-last text given line (record { from_line = line; body = [] }) a b refl refl in inl (mbox-begins-last text given _ m, (_, m))
   | inr g ↦ let none = rw (g.0) at a.closed in inr (rw (a.is, none) g.1, g.0)
 ]
 
-body-last : (text : List ℕ) (given : List Entry) (f body line : List ℕ) → InBody text given f body line → (last : Entry) × Mbox text (given ++ last ∷ [])
-body-last text given f body line a =
-    let entry : Entry = record { from_line = f; body = chopped (body ++ unquoted line) } in
-    (entry, rw a.is (closed-last a.front given (a.block ++ line) entry a.closed (open-last a.block f body line entry a.opened a.part a.tail refl refl)))
-
 pub body-all : (text : List ℕ) (given : List Entry) (f body line : List ℕ) → InBody text given f body line → AllButLast text given
-body-all text given f body line a = let m = body-last text given f body line a in inl (mbox-begins-last text given m.0 m.1, m)
+body-all text given f body line a =
+    let m = body-last text given f body line (record { from_line = f; body = chopped (body ++ unquoted line) }) a refl refl in inl (mbox-begins-last text given _ m, (_, m))
 
 exists-at : (text : List ℕ) → begins_from text ≡ true → Goes text → (entries : List Entry) × Mbox text entries
 exists-at text b (inl (inl h)) =
     elim (cases_Bool (begins_from h.1)) [
-      | inl y ↦ let m = head-last text h.0 h.1 h.2 y in (h.0 ++ m.0 ∷ [], m.1)
+      | inl y ↦ (_, head-last text h.0 h.1 (record { from_line = h.1; body = [] }) h.2 y refl refl)
       | inr n ↦ let s = at_start text h.0 h.1 h.2 n in absurd (both_ways (begins_from h.1) n (rw s.1 at b))
     ]
-exists-at text b (inl (inr h)) = let m = body-last text h.0 h.1 h.2 h.3 h.4 in (h.0 ++ m.0 ∷ [], m.1)
+exists-at text b (inl (inr h)) = (_, body-last text h.0 h.1 h.2 h.3 (record { from_line = h.1; body = chopped (h.2 ++ unquoted h.3) }) h.4 refl refl)
 exists-at text b (inr n) = absurd (both_ways (begins_from text) n.0 b)
 
 exists : (text : List ℕ) → IsMboxText text → (entries : List Entry) × Mbox text entries
@@ -112,10 +102,5 @@ unfolding Mbox
 exists text (inl e) = ([], e)
 exists text (inr b) = exists-at text b (goes text)
 
-accepted : (text : List ℕ) (entries : List Entry) → Mbox text entries → IsMboxText text
-unfolding Mbox
-accepted text [] h = inl h
-accepted text (e ∷ es) h = inr (mbox-begins text e es h)
-
 pub read_where : (text : List ℕ) → IsMboxText text ↔ ((entries : List Entry) × Mbox text entries)
-read_where text = (exists text, λ h. accepted text h.0 h.1)
+read_where text = (exists text, λ h. mbox-starts text h.0 h.1)

@@ -1,52 +1,51 @@
 -- What a splitter holds, over the fields as the code changes them.
-use Rattle.std.proofs.Common.{◌≡◌, ℕ, ◌+◌, ◌-◌, true, false, eqb, List, [], ◌∷◌, ◌++◌, length, take, drop, refl, sym, ◌∙◌, arith, append_assoc, inl, inr, Option, Some, None, Result, Ok, Err}
+use Rattle.std.proofs.Common.{◌≡◌, ℕ, ◌+◌, ◌-◌, true, false, eqb, List, [], ◌∷◌, ◌++◌, length, take, drop, refl, sym, ◌∙◌, inl, inr, Option, Some, None, Result, Ok, Err}
 use Rattle.std.specs.Prelude.{IfOk}
 use Rattle.std.specs.Option.{is_some}
 use Rattle.std.specs.declared.alloc.AllocError.{AllocError}
 use Rattle.std.specs.List.{flat_map}
 use Rattle.std.proofs.lemmas.Bool.{both_ways, false_from_ne_true, false≢true, and_parts, ne_eqb, eqb-false, eqb-true, eq-eqb, and_right, cases_Bool}
-use Rattle.std.proofs.lemmas.List.{take-append-drop, append-nil, take_all, take_rest}
-use Rattle.memchr.specs.Find.{IsFirstByte, is_byte}
+use Rattle.std.proofs.lemmas.List.{take-append-drop, append-nil, take_rest}
+use Rattle.std.proofs.Math.Seq.{take-add}
 use Rattle.mbox_text.specs.declared.entry.Entry.{Entry}
-use Rattle.mbox_text.specs.declared.message.Message.{Message}
+use Rattle.mbox_text.specs.declared.partial_message.PartialMessage.{PartialMessage}
 use Rattle.mbox_text.specs.Lines.{lines, Ended, NoEnd}
 use Rattle.mbox_text.specs.Quoting.{unquoted, begins_from, begins_with, from_bytes}
 use Rattle.mbox_text.specs.Fronts.{NeverFrom}
 use Rattle.mbox_text.specs.Mbox.{NoFrom}
-use Rattle.mbox_text.specs.Held.{chopped, AtHead, InBody, Held, Moves, Refuses, Refused, Closed}
+use Rattle.mbox_text.specs.Held.{chopped, AtHead, InBody, Held, Closed}
 use Rattle.mbox_text.proofs.HeldLemmas.{head-add, body-add, body-closes, head-ends, body-ends, body-lines}
-use Rattle.mbox_text.proofs.LineLemmas.{begins_from-more, begins_from-push}
-use Rattle.mbox_text.proofs.Runs.{take-plus, NoEnd-take}
+use Rattle.mbox_text.proofs.LineLemmas.{begins_from-more, begins_from-cut}
 
 pub held_none : (line : List ℕ) → line ≡ [] → AtHead [] [] line
 unfolding Rattle.mbox_text.specs.Held.Closed
 held_none line e = record { front = []; is = sym e; closed = refl; part = rw e tt; head = inr (refl, rw e refl) }
 
-pub some_ends : (message : Option Message) (m : Message) (line line1 body line' : List ℕ) → message ≡ Some m → line1 ≡ line
+pub some_ends : (message : Option PartialMessage) (m : PartialMessage) (line line1 body line' : List ℕ) → message ≡ Some m → line1 ≡ line
     → body ≡ (m.body.items ++ unquoted line1) ++ 10 ∷ [] → line' ≡ []
     → (text : List ℕ) (given : List Entry) → Held text given message line → InBody (text ++ 10 ∷ []) (given ++ []) m.from_line.items body line'
 some_ends message m line line1 body line' e el eb el' text given h =
     rw (append-nil given, eb, el, el') (body-ends text given m.from_line.items m.body.items line (rw e at h))
 
-pub none_ends : (message : Option Message) (line line1 f body line' : List ℕ) → message ≡ None → line1 ≡ line
+pub none_ends : (message : Option PartialMessage) (line line1 f body line' : List ℕ) → message ≡ None → line1 ≡ line
     → begins_from line1 ≡ true → f ≡ line → body ≡ [] → line' ≡ []
     → (text : List ℕ) (given : List Entry) → Held text given message line → InBody (text ++ 10 ∷ []) (given ++ []) f body line'
 none_ends message line line1 f body line' e el b ef eb el' text given h =
     rw (append-nil given, ef, eb, el') (head-ends text given line (rw e at h) (rw el at b))
 
-pub some_closes : (message message' : Option Message) (m : Message) (e : Entry) (line part line' line1 : List ℕ) → message ≡ Some m → message' ≡ None
+pub some_closes : (message message' : Option PartialMessage) (m : PartialMessage) (e : Entry) (line part line' line1 : List ℕ) → message ≡ Some m → message' ≡ None
     → line' ≡ line ++ part → NoEnd part → line1 ≡ line' → begins_from line1 ≡ true → e.from_line ≡ m.from_line.items → e.body ≡ chopped m.body.items
     → (text : List ℕ) (given : List Entry) → Held text given message line → Held (text ++ part) (given ++ e ∷ []) message' line'
 some_closes message message' m e line part line' line1 is is' el h e1 b ef eb text given held =
     rw (is', el) (body-closes text given m.from_line.items m.body.items line part e (rw is at held) h (rw (← el, ← e1) b) ef eb)
 
-pub none_adds : (message message' : Option Message) (line part line' line1 : List ℕ) → message ≡ None → message' ≡ None
+pub none_adds : (message message' : Option PartialMessage) (line part line' line1 : List ℕ) → message ≡ None → message' ≡ None
     → line' ≡ line ++ part → NoEnd part → line1 ≡ line' → begins_from line1 ≡ true
     → (text : List ℕ) (given : List Entry) → Held text given message line → Held (text ++ part) (given ++ []) message' line'
 none_adds message message' line part line' line1 is is' el h e1 b text given held =
     rw (is', append-nil given, el) (head-add text given line part (rw is at held) h (inl (rw (← el, ← e1) b)))
 
-pub plain_adds : (message : Option Message) (line part line' line1 : List ℕ) → line' ≡ line ++ part → NoEnd part → line1 ≡ line' → begins_from line1 ≡ false
+pub plain_adds : (message : Option PartialMessage) (line part line' line1 : List ℕ) → line' ≡ line ++ part → NoEnd part → line1 ≡ line' → begins_from line1 ≡ false
     → (message ≡ None → begins_with line' from_bytes ≡ true)
     → (text : List ℕ) (given : List Entry) → Held text given message line → Held (text ++ part) (given ++ []) message line'
 plain_adds None line part line' line1 el h e1 b start text given held =
@@ -55,19 +54,15 @@ plain_adds None line part line' line1 el h e1 b start text given held =
 plain_adds (Some m) line part line' line1 el h e1 b start text given held =
     rw (append-nil given, el) (body-add text given m.from_line.items m.body.items line part held h (rw (← el, ← e1) b))
 
-pub some_lines : (message : Option Message) (m : Message) (line body part : List ℕ) → message ≡ Some m → line ≡ []
+pub some_lines : (message : Option PartialMessage) (m : PartialMessage) (line body part : List ℕ) → message ≡ Some m → line ≡ []
     → body ≡ m.body.items ++ flat_map unquoted (lines part) → Ended part → NoFrom (lines part)
     → (text : List ℕ) (given : List Entry) → Held text given message line → InBody (text ++ part) (given ++ []) m.from_line.items body line
 some_lines message m line body part e el eb ends none text given h =
     let h' = rw (e, el) at h in
     rw (append-nil given, eb, el) (body-lines text given m.from_line.items m.body.items part h' ends none)
 
--- no `\n` is there
-pub none-there : (s : List ℕ) → IsFirstByte (is_byte 10) s None → NoEnd s
-none-there s h = rw (← take_all (length s) s (omega arith)) (NoEnd-take s (length s) (λ k l. h k (omega arith) l))
-
 pub take-at : (text : List ℕ) (at n : ℕ) → take (at + n) text ≡ take at text ++ take n (take (length text - at) (drop at text))
-take-at text at n = rw (take_rest text at) (take-plus at n text)
+take-at text at n = rw (take_rest text at) (take-add at n text)
 
 -- the text so far is the line alone
 pub at_start : (text : List ℕ) (given : List Entry) (line : List ℕ) → AtHead text given line → begins_from line ≡ false → (given ≡ []) × (text ≡ line)
@@ -77,8 +72,9 @@ at_start text given line a b = elim (a.head) [
   | inr g ↦ let none = rw (g.0) at a.closed in (g.0, rw (a.is, none) refl)
 ]
 
-pub none_refuses : (message : Option Message) (line part line' line1 line2 : List ℕ) → message ≡ None → line' ≡ line ++ part
-    → line1 ≡ line' → begins_from line1 ≡ false → line2 ≡ line' → begins_with line2 from_bytes ≡ false → Refuses message line part
+pub none_refuses : (message : Option PartialMessage) (line part line' line1 line2 : List ℕ) → message ≡ None → line' ≡ line ++ part
+    → line1 ≡ line' → begins_from line1 ≡ false → line2 ≡ line' → begins_with line2 from_bytes ≡ false
+    → (text : List ℕ) (given : List Entry) → Held text given message line → (given ≡ []) × NeverFrom (text ++ part)
 none_refuses message line part line' line1 line2 is el e1 b e2 p text given held =
     let a = rw is at held in
     let b' : begins_from (line ++ part) ≡ false = rw (← el, ← e1) b in
@@ -94,14 +90,15 @@ begins_with-ended [] (p ∷ prefix) h = rw (ne_eqb 10 p (λ e. eqb-false p 10 h.
 begins_with-ended (c ∷ line) [] h = refl
 begins_with-ended (c ∷ line) (p ∷ prefix) h = rw (begins_with-ended line prefix h.1) (and_right (eqb c p) false refl)
 
-pub end_refuses : (message : Option Message) (line line1 : List ℕ) → message ≡ None → line1 ≡ line → begins_from line1 ≡ false → Refuses message line (10 ∷ [])
+pub end_refuses : (message : Option PartialMessage) (line line1 : List ℕ) → message ≡ None → line1 ≡ line → begins_from line1 ≡ false
+    → (text : List ℕ) (given : List Entry) → Held text given message line → (given ≡ []) × NeverFrom (text ++ 10 ∷ [])
 end_refuses message line line1 is e1 b text given held =
     let a = rw is at held in
     let b' : begins_from line ≡ false = rw (← e1) b in
     let s = at_start text given line a b' in
-    (s.0, rw s.1 (begins_from-push line ∙ b', begins_with-ended line from_bytes (refl, (refl, (refl, (refl, (refl, tt)))))))
+    (s.0, rw s.1 (begins_from-cut line [] ∙ b', begins_with-ended line from_bytes (refl, (refl, (refl, (refl, (refl, tt)))))))
 
-pub none_is : (m : Option Message) → is_some m ≡ false → m ≡ None
+pub none_is : (m : Option PartialMessage) → is_some m ≡ false → m ≡ None
 none_is None h = refl
 none_is (Some m) h = absurd (false≢true (sym h))
 
@@ -128,35 +125,14 @@ never-more text more h = (
   begins_with-short text from_bytes more h.1,
 )
 
-nil_left : (a b : List Entry) → a ++ b ≡ [] → (a ≡ []) × (b ≡ [])
-nil_left [] b e = (refl, e)
-nil_left (x ∷ a) b e = absurd (cc)
-
--- moves, and then a part that is refused, of a whole piece
-pub refused_after : (m m' : Option Message) (l l' p q r whole : List ℕ) (a out out' : List Entry) → Moves m l p a m' l' → Refuses m' l' q → whole ≡ (p ++ q) ++ r → out' ≡ out ++ a
-    → Refused m l whole out out'
-refused_after m m' l l' p q r whole a out out' f g is is_out = λ text given held.
-    let s = g (text ++ p) (given ++ a) (f text given held) in
-    let n = nil_left given a s.0 in
-    let texts : ((text ++ p) ++ q) ++ r ≡ text ++ whole = rw is (simp append_assoc) in
-    (n.0, is_out ∙ (rw n.1 (append-nil out)), rw (← texts) (never-more ((text ++ p) ++ q) r s.1))
-
-pub refused_later : (m m' : Option Message) (l l' p q whole : List ℕ) (a out out1 out' : List Entry) → Moves m l p a m' l' → Refused m' l' q out1 out' → whole ≡ p ++ q → out1 ≡ out ++ a
-    → Refused m l whole out out'
-refused_later m m' l l' p q whole a out out1 out' f g is is_out = λ text given held.
-    let s = g (text ++ p) (given ++ a) (f text given held) in
-    let n = nil_left given a s.0 in
-    let texts : (text ++ p) ++ q ≡ text ++ whole = rw is (append_assoc text p q) in
-    (n.0, s.1 ∙ is_out ∙ (rw n.1 (append-nil out)), rw (← texts) s.2)
-
 -- the text in three parts
-pub three-parts : (text : List ℕ) (at n : ℕ) → let rest : List ℕ = take (length text - at) (drop at text) in text ≡ (take at text ++ take n rest) ++ drop n rest
+pub three-parts : (text : List ℕ) (at n : ℕ) → let rest : List ℕ = take (length text - at) (drop at text) in text ≡ take at text ++ (take n rest ++ drop n rest)
 three-parts text at n =
     let rest : List ℕ = take (length text - at) (drop at text) in
-    rw (append_assoc (take at text) (take n rest) (drop n rest), take-append-drop n rest, take_rest text at) (sym (take-append-drop at text))
+    rw (take-append-drop n rest, take_rest text at) (sym (take-append-drop at text))
 
 -- the lines that a call took
-pub lines_taken : (r : Result ℕ AllocError) (message : Option Message) (m : Message) (line body text : List ℕ) → message ≡ Some m → line ≡ []
+pub lines_taken : (r : Result ℕ AllocError) (message : Option PartialMessage) (m : PartialMessage) (line body text : List ℕ) → message ≡ Some m → line ≡ []
     → IfOk r (λ n. body ≡ m.body.items ++ flat_map unquoted (lines (take n text))) → IfOk r (λ n. Ended (take n text)) → IfOk r (λ n. NoFrom (lines (take n text)))
     → IfOk r (λ n. (text' : List ℕ) (given : List Entry) → Held text' given message line → InBody (text' ++ take n text) (given ++ []) m.from_line.items body line)
 lines_taken (Ok n) message m line body text is e eb ends none = some_lines message m line body (take n text) is e eb ends none

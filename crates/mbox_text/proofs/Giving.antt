@@ -1,103 +1,97 @@
 -- What a splitter has given: all messages but the last, whatever comes behind the text.
-use Rattle.std.proofs.Common.{◌≡◌, ℕ, true, false, List, [], ◌∷◌, ◌++◌, refl, sym, ◌∙◌, ap, append_assoc, inl, inr, Option, Some, None, Result, Ok, Err}
-use Rattle.std.specs.Prelude.{OnErr}
+use Rattle.std.proofs.Common.{◌≡◌, ℕ, false, List, [], ◌∷◌, ◌++◌, refl, sym, ◌∙◌, ap, append_assoc, inl, inr, Option, Some, None, Result, Ok, Err}
+use Rattle.std.specs.Prelude.{OnOk, IfErr, IsErr, IsErrOf}
+use Rattle.std.specs.Result.{is_err, IsErrAnd}
 use Rattle.std.proofs.lemmas.Bool.{both_ways}
 use Rattle.std.proofs.lemmas.List.{append-nil}
 use Rattle.mbox_text.specs.declared.entry.Entry.{Entry}
-use Rattle.mbox_text.specs.declared.message.Message.{Message}
+use Rattle.mbox_text.specs.declared.partial_message.PartialMessage.{PartialMessage}
+use Rattle.mbox_text.specs.declared.fault.TextFault.{TextFault}
+use Rattle.mbox_text.specs.declared.fault.TextFault.TheVariants.{NoFromLine, LineEndInRest, Failed, OutOfMemory, WriteFault}
 use Rattle.mbox_text.specs.declared.splitter.Splitter.{Splitter}
 use Rattle.mbox_text.specs.Quoting.{begins_from, from_bytes}
 use Rattle.mbox_text.specs.Fronts.{AllButLast, NeverFrom, Stay}
 use Rattle.mbox_text.specs.Mbox.{Mbox, without_blank}
-use Rattle.mbox_text.specs.Held.{Held, Moves, Refused, Breaks}
+use Rattle.mbox_text.specs.Held.{Held, Holds, Moves, Gives, Refuses, Stops}
 use Rattle.mbox_text.specs.Fed.{Fed, Takes, NeverBegins, TakesPart}
 use Rattle.mbox_text.proofs.LineLemmas.{begins_from-more}
 use Rattle.mbox_text.proofs.Heads.{from-rest}
 use Rattle.mbox_text.proofs.Last.{from-block}
-use Rattle.mbox_text.proofs.Prefixes.{closed-front}
+use Rattle.mbox_text.proofs.Prefixes.{prefix_reading}
 use Rattle.mbox_text.proofs.Existence.{head-all, body-all}
+use Rattle.mbox_text.proofs.Fields.{never-more}
 
-held-stay : (message : Option Message) (text : List ℕ) (given : List Entry) (line : List ℕ) → Held text given message line → Stay text given
-held-stay None text given line a more entries h =
-    let texts : text ++ more ≡ a.front ++ (line ++ more) = ap (λ z. z ++ more) a.is ∙ append_assoc a.front line more in
-    elim (a.head) [
-      | inl b ↦ inr (closed-front a.front (line ++ more) given entries a.closed (begins_from-more line more b) (rw texts at h))
-      | inr g ↦ inl g.0
-    ]
-held-stay (Some m) text given line a more entries h =
-    let texts : text ++ more ≡ a.front ++ ((a.block ++ line) ++ more) = ap (λ z. z ++ more) a.is ∙ append_assoc a.front (a.block ++ line) more in
-    let o = a.opened in
-    let heads : begins_from a.block ≡ true = rw o.is (begins_from-more m.from_line.items (10 ∷ o.others) o.head) in
-    inr (closed-front a.front ((a.block ++ line) ++ more) given entries a.closed (begins_from-more (a.block ++ line) more (begins_from-more a.block line heads)) (rw texts at h))
-
-stay-more : (text more : List ℕ) (given : List Entry) → Stay text given → Stay (text ++ more) given
-stay-more text more given s more' entries h = s (more ++ more') entries (rw (append_assoc text more more') at h)
-
-held-all : (message : Option Message) (text : List ℕ) (given : List Entry) (line : List ℕ) → Held text given message line → AllButLast text given
+held-all : (message : Option PartialMessage) (text : List ℕ) (given : List Entry) (line : List ℕ) → Held text given message line → AllButLast text given
 held-all None text given line a = head-all text given line a
 held-all (Some m) text given line a = body-all text given m.from_line.items m.body.items line a
 
--- a text with messages goes on to no text that begins otherwise
-held-never : (message : Option Message) (text more : List ℕ) (given : List Entry) (line : List ℕ) → Held text given message line → NeverFrom (text ++ more) → given ≡ []
-held-never message text more given line h n = elim (held-all message text given line h) [
-  | inl b ↦ absurd (both_ways (begins_from (text ++ more)) n.0 (begins_from-more text more b.0))
-  | inr g ↦ g.1
-]
-
-nil-right : (a b : List Entry) → a ++ b ≡ [] → b ≡ []
-nil-right [] b e = e
-nil-right (x ∷ a) b e = absurd (cc)
-
--- a growth was refused before anything of the piece was given
-pub breaks_at_once : (m : Option Message) (l piece : List ℕ) (out out' : List Entry) → out' ≡ out → Breaks m l piece out out'
-breaks_at_once m l piece out out' e =
-    ([], e ∙ sym (append-nil out), λ text given h. (rw (append-nil given) (stay-more text piece given (held-stay m text given l h)), λ _. refl))
-
--- a growth was refused behind a part of the piece
-pub breaks_after : (m m' : Option Message) (l l' p q whole : List ℕ) (a out out' : List Entry) → Moves m l p a m' l' → whole ≡ p ++ q → out' ≡ out ++ a
-    → Breaks m l whole out out'
-breaks_after m m' l l' p q whole a out out' f is e = (
-  a,
-  e,
-  λ text given h.
-      let h' = f text given h in
-      let texts : text ++ whole ≡ (text ++ p) ++ q = rw is (sym (append_assoc text p q)) in (
-        rw texts (stay-more (text ++ p) q (given ++ a) (held-stay m' (text ++ p) (given ++ a) l' h')),
-        λ n. nil-right given a (held-never m' (text ++ p) q (given ++ a) l' h' (rw texts at n)),
-      ),
-)
-
-pub breaks_later : (m m' : Option Message) (l l' p q whole : List ℕ) (a out out1 out' : List Entry) → Moves m l p a m' l' → Breaks m' l' q out1 out'
-    → whole ≡ p ++ q → out1 ≡ out ++ a → Breaks m l whole out out'
-breaks_later m m' l l' p q whole a out out1 out' f b is e =
-    let A : List Entry → List Entry = λ z. z ++ b.0 in (
-      a ++ b.0,
-      b.1 ∙ ap A e ∙ append_assoc out a b.0,
-      λ text given h.
-          let h' = f text given h in
-          let s = b.2 (text ++ p) (given ++ a) h' in
-          let texts : text ++ whole ≡ (text ++ p) ++ q = rw is (sym (append_assoc text p q)) in (
-            rw (texts, ← append_assoc given a b.0) s.0,
-            λ n. let n' = rw texts at n in
-                rw (nil-right given a (held-never m' (text ++ p) q (given ++ a) l' h' n')) (s.1 n'),
-          ),
-    )
-
-pub fed_from : (splitter : Splitter) (text : List ℕ) (given : List Entry) → splitter.failed ≡ false → Held text given splitter.message splitter.line.items → Fed text given splitter
+pub fed_from : (splitter : Splitter) (text : List ℕ) (given : List Entry) → splitter.failed ≡ false → Holds text given splitter → Fed text given splitter
 fed_from splitter text given works h = record {
   works = λ t. both_ways splitter.failed works t;
   given_are = held-all splitter.message text given splitter.line.items h;
-  stay = held-stay splitter.message text given splitter.line.items h;
   held = h;
 }
 
-pub fed_takes : (old new : Splitter) (piece : List ℕ) (out out' : List Entry) → new.failed ≡ false
-    → (added : List Entry) × (out' ≡ out ++ added) × Moves old.message old.line.items piece added new.message new.line.items → Takes old piece out out' new
-fed_takes old new piece out out' works m =
-    (m.0, m.1, λ text given h. fed_from new (text ++ piece) (given ++ m.0) works (m.2 text given h.held))
+-- all messages but the last stay the first ones, whatever comes behind the text
+pub all_stay : (text : List ℕ) (given : List Entry) → AllButLast text given → Stay text given
+all_stay text given (inl a) more entries h = inr (prefix_reading text more entries given a.1.0 a.1.1 h)
+all_stay text given (inr a) more entries h = inl a.1
 
-pub fed_never : (old : Splitter) (piece : List ℕ) (out out' : List Entry) → Refused old.message old.line.items piece out out' → NeverBegins old piece out out'
-fed_never old piece out out' r = λ text given h. let x = r text given h.held in (x.1, x.2)
+-- and are none where no mbox text begins so
+all_none : (text more : List ℕ) (given : List Entry) → AllButLast text given → NeverFrom (text ++ more) → given ≡ []
+all_none text more given (inl a) n = absurd (both_ways (begins_from (text ++ more)) n.0 (begins_from-more text more a.0))
+all_none text more given (inr a) n = a.1
+
+-- one part, and then another
+pub gives_then : (old mid new : Splitter) (p q : List ℕ) (out out1 out' : List Entry) → Gives old p out out1 mid → Gives mid q out1 out' new → Gives old (p ++ q) out out' new
+gives_then old mid new p q out out1 out' a b =
+    let A : List Entry → List Entry = λ z. z ++ b.0 in (
+      a.0 ++ b.0,
+      b.1 ∙ ap A a.1 ∙ append_assoc out a.0 b.0,
+      λ text given h. rw (← append_assoc text p q, ← append_assoc given a.0 b.0) (b.2 (text ++ p) (given ++ a.0) (a.2 text given h)),
+    )
+
+pub gives_none : (old new : Splitter) (part : List ℕ) (out out' : List Entry) → out' ≡ out → Moves old part [] new → Gives old part out out' new
+gives_none old new part out out' e m = ([], e ∙ sym (append-nil out), m)
+
+pub gives_nothing : (splitter : Splitter) (out : List Entry) → Gives splitter [] out out splitter
+gives_nothing splitter out = gives_none splitter splitter [] out out refl (λ text given h. rw (append-nil text, append-nil given) h)
+
+-- the splitter refuses what comes next, and then more
+refuses_more : (fault : TextFault) (splitter : Splitter) (part more : List ℕ) → Refuses fault splitter part → Refuses fault splitter (part ++ more)
+refuses_more NoFromLine splitter part more r = λ text given h.
+    let x = r text given h in (x.0, rw (← append_assoc text part more) (never-more (text ++ part) more x.1))
+refuses_more OutOfMemory splitter part more r = tt
+refuses_more LineEndInRest splitter part more r = absurd r
+refuses_more Failed splitter part more r = absurd r
+refuses_more WriteFault splitter part more r = absurd r
+
+pub stops_at : (fault : TextFault) (old now : Splitter) (piece front part more : List ℕ) (out out' : List Entry) → Gives old front out out' now → Refuses fault now part
+    → piece ≡ front ++ (part ++ more) → Stops fault old piece out out'
+stops_at fault old now piece front part more out out' g r e = record {
+  front = front;
+  rest = part ++ more;
+  now = now;
+  is = e;
+  gives = g;
+  refuses = refuses_more fault now part more r;
+}
+
+pub stops_behind : (fault : TextFault) (old mid : Splitter) (piece front part : List ℕ) (out out1 out' : List Entry) → Gives old front out out1 mid → Stops fault mid part out1 out'
+    → piece ≡ front ++ part → Stops fault old piece out out'
+stops_behind fault old mid piece front part out out1 out' g s e = record {
+  front = front ++ s.front;
+  rest = s.rest;
+  now = s.now;
+  is = e ∙ ap (λ z. front ++ z) s.is ∙ sym (append_assoc front s.front s.rest);
+  gives = gives_then old mid s.now front s.front out out1 out' g s.gives;
+  refuses = s.refuses;
+}
+
+-- a fault that is handed on
+pub handed_on : {T : Type 0} (r : Result T TextFault) (e : TextFault) (P : TextFault → Type 0) → IsErr r × IsErrAnd r (λ v. v ≡ e) → P e → IfErr r P
+handed_on (Ok x) e P is h = absurd is.1
+handed_on (Err v) e P is h = rw is.1 h
 
 -- the same entries come off the front
 cancel : (given a b : List Entry) → given ++ a ≡ given ++ b → a ≡ b
@@ -120,6 +114,10 @@ only-front [] rest last next e = refl
 only-front (g ∷ []) rest last next e = absurd (cc)
 only-front (g ∷ h ∷ given) rest last next e = absurd (cc)
 
+nil_right : (a b : List Entry) → a ++ b ≡ [] → b ≡ []
+nil_right [] b e = e
+nil_right (x ∷ a) b e = absurd (cc)
+
 from-alone : (entry : Entry) × Mbox from_bytes (entry ∷ [])
 unfolding Mbox without_blank begins_from
 from-alone =
@@ -131,7 +129,7 @@ part : (text : List ℕ) (given added all : List Entry) → Stay text (given ++ 
 part text given added all s (inl h) =
     let texts : text ++ [] ≡ text = append-nil text in
     elim (s [] ((given ++ all) ++ h.1.0 ∷ []) (rw texts h.1.1)) [
-      | inl none ↦ let n = nil-right given added none in (all, rw n refl)
+      | inl none ↦ let n = nil_right given added none in (all, rw n refl)
       | inr f ↦
           let e : all ++ h.1.0 ∷ [] ≡ added ++ f.0 ∷ f.1 =
           cancel given (all ++ h.1.0 ∷ []) (added ++ f.0 ∷ f.1) (sym (append_assoc given all (h.1.0 ∷ [])) ∙ f.2 ∙ append_assoc given added (f.0 ∷ f.1)) in
@@ -141,14 +139,35 @@ part text given added all s (inr h) =
     let m = from-rest text h.0 in
     let e = from-alone in
     let none : given ++ added ≡ [] = elim (s m.0 (e.0 ∷ []) (rw m.1 e.1)) [ inl none ↦ none | inr f ↦ only-front (given ++ added) f.1 e.0 f.0 f.2 ] in
-    let n = nil-right given added none in
+    let n = nil_right given added none in
     (all, rw n refl)
 
-pub fed_part : (old : Splitter) (piece : List ℕ) (out out' : List Entry) → Breaks old.message old.line.items piece out out' → TakesPart old piece out out'
-fed_part old piece out out' b =
-    (b.0, b.1, λ text given h. let x = b.2 text given h.held in (λ all is_all. part (text ++ piece) given b.0 all x.0 is_all, x.1))
+-- what the three answers of a feed say
+pub fed_taken : {T : Type 0} (r : Result T TextFault) (old new : Splitter) (piece : List ℕ) (out out' : List Entry) → new.failed ≡ is_err r
+    → OnOk r (Gives old piece out out' new) → OnOk r (Takes old piece out out' new)
+fed_taken (Ok x) old new piece out out' works g = (g.0, g.1, λ text given h. fed_from new (text ++ piece) (given ++ g.0) works (g.2 text given h.held))
+fed_taken (Err e) old new piece out out' works g = tt
 
--- what holds in any case holds of an error
-pub on_err : {T E : Type 0} (r : Result T E) (P : Type 0) → P → OnErr r P
-on_err (Ok x) P p = tt
-on_err (Err e) P p = p
+pub fed_never : {T : Type 0} (r : Result T TextFault) (old : Splitter) (piece : List ℕ) (out out' : List Entry)
+    → IfErr r (λ fault. Stops fault old piece out out') → IsErrOf r NoFromLine → NeverBegins old piece out out'
+fed_never r old piece out out' h is text given fed =
+    let s : Stops NoFromLine old piece out out' = rw is at h in
+    let g = s.gives in
+    let x = s.refuses (text ++ s.front) (given ++ g.0) (g.2 text given fed.held) in
+    (g.1 ∙ rw (nil_right given g.0 x.0) (append-nil out), rw (s.is, ← append_assoc text s.front s.rest) x.1)
+
+pub fed_part : {T : Type 0} (r : Result T TextFault) (old : Splitter) (piece : List ℕ) (out out' : List Entry)
+    → IfErr r (λ fault. Stops fault old piece out out') → IsErrOf r OutOfMemory → TakesPart old piece out out'
+fed_part r old piece out out' h is =
+    let s : Stops OutOfMemory old piece out out' = rw is at h in
+    let g = s.gives in (
+      g.0,
+      g.1,
+      λ text given fed.
+          let front : List ℕ = text ++ s.front in
+          let now : List Entry = given ++ g.0 in
+          let a = held-all s.now.message front now s.now.line.items (g.2 text given fed.held) in
+          let texts : text ++ piece ≡ front ++ s.rest = ap (λ z. text ++ z) s.is ∙ sym (append_assoc text s.front s.rest) in
+          let stay : Stay (text ++ piece) now = λ more entries m. all_stay front now a (s.rest ++ more) entries (rw (texts, append_assoc front s.rest more) at m) in
+          (λ all is_all. part (text ++ piece) given g.0 all stay is_all, λ n. nil_right given g.0 (all_none front s.rest now a (rw texts at n))),
+    )

@@ -6,7 +6,7 @@ use Rattle.std.proofs.lemmas.Bool.{false≢true, and_parts, and_from, eqb-true, 
 use Rattle.mbox_text.specs.declared.entry.Entry.{Entry}
 use Rattle.mbox_text.specs.Lines.{before_first, lines, NoEnd}
 use Rattle.mbox_text.specs.Quoting.{begins_with, begins_from, from_bytes}
-use Rattle.mbox_text.specs.Mbox.{Block, Mbox}
+use Rattle.mbox_text.specs.Mbox.{Block, Mbox, IsMboxText}
 use Rattle.mbox_text.proofs.LineLemmas.{begins_from-more, concat-lines}
 
 -- a first line is there, and begins so
@@ -54,6 +54,12 @@ block-begins block entry b =
 pub mbox-begins : (text : List ℕ) (entry : Entry) (entries : List Entry) → Mbox text (entry ∷ entries) → begins_from text ≡ true
 unfolding Mbox
 mbox-begins text entry entries h = rw h.2 (begins_from-more h.0 h.1 (block-begins h.0 entry h.3))
+
+-- and a text that has messages is empty or does
+pub mbox-starts : (text : List ℕ) (entries : List Entry) → Mbox text entries → IsMboxText text
+unfolding Mbox
+mbox-starts text [] h = inl h
+mbox-starts text (e ∷ es) h = inr (mbox-begins text e es h)
 
 pub mbox-begins-last : (text : List ℕ) (given : List Entry) (last : Entry) → Mbox text (given ++ last ∷ []) → begins_from text ≡ true
 mbox-begins-last text [] last h = mbox-begins text last [] h

@@ -7,16 +7,11 @@ use Rattle.std.proofs.lemmas.List.Concat.{flat_map-append}
 use Rattle.mbox_text.specs.declared.entry.Entry.{Entry}
 use Rattle.mbox_text.specs.Lines.{lines, Ended, NoEnd}
 use Rattle.mbox_text.specs.Quoting.{unquoted, begins_from, begins_with, from_bytes}
-use Rattle.mbox_text.specs.Mbox.{NoFrom, unended, Block}
-use Rattle.std.specs.Prelude.{Option}
-use Rattle.mbox_text.specs.declared.message.Message.{Message}
-use Rattle.mbox_text.specs.Held.{chopped, Closed, Open, AtHead, InBody, Moves}
-use Rattle.mbox_text.proofs.LineLemmas.{lines-append, lines-line, unquoted-push, begins_from-push, begins_from-more}
-use Rattle.mbox_text.proofs.Chopped.{chopped-body}
-
-pub NoEnd-append : (a b : List ℕ) → NoEnd a → NoEnd b → NoEnd (a ++ b)
-NoEnd-append [] b h h' = h'
-NoEnd-append (c ∷ a) b h h' = (h.0, NoEnd-append a b h.1 h')
+use Rattle.mbox_text.specs.Mbox.{NoFrom, unended, without_blank, Block}
+use Rattle.mbox_text.specs.Held.{chopped, Closed, Open, AtHead, InBody}
+use Rattle.mbox_text.proofs.LineLemmas.{lines-append, lines-line, lines-part, unquoted-push, begins_from-cut, begins_from-more}
+use Rattle.mbox_text.proofs.Chopped.{chopped-body, chopped-part, without_blank-part, unquoted-some}
+use Rattle.mbox_text.proofs.LineEnds.{NoEnd-append}
 
 pub NoFrom-append : (a b : List (List ℕ)) → NoFrom a → NoFrom b → NoFrom (a ++ b)
 NoFrom-append [] b h h' = h'
@@ -42,16 +37,44 @@ open-ends block f body o = elim (o.ended) [
   | inr e ↦ inr (f ++ 10 ∷ e.0, rw (o.is, e.1) (sym (append_assoc f (10 ∷ e.0) (10 ∷ []))))
 ]
 
-pub open-block : (block f body : List ℕ) (e : Entry) → Open block f body → e.from_line ≡ f → e.body ≡ chopped body → Block block e
-open-block block f body e o is_line is_body = record {
-  first = f ++ 10 ∷ [];
-  others = lines o.others;
-  is = rw o.is (lines-line f o.others o.line);
-  head = begins_from-more f (10 ∷ []) o.head;
-  tail = o.tail;
-  from_line = is_line ∙ sym (unended-push f o.line);
-  body = is_body ∙ ap chopped o.as_read ∙ chopped-body o.others o.ended;
-}
+-- the last line of a body, which lacks its `\n`
+pub record LastBody (text body : List ℕ) : Type 0 where
+  pub none : NoFrom (lines text)
+  pub is : body ≡ flat_map unquoted (without_blank (lines text))
+
+pub last_body : (front rest body : List ℕ) → Ended front → NoFrom (lines front) → NoEnd rest → begins_from rest ≡ false
+    → body ≡ chopped (flat_map unquoted (lines front) ++ unquoted rest) → LastBody (front ++ rest) body
+unfolding unquoted
+last_body front [] body ends none part b is =
+    rw (append-nil front) (record { none = none; is = is ∙ ap chopped (append-nil (flat_map unquoted (lines front))) ∙ chopped-body front ends })
+last_body front (c ∷ l) body ends none part b is =
+    let u = unquoted-some c l part in
+    let all : lines (front ++ c ∷ l) ≡ lines front ++ (c ∷ l) ∷ [] = rw (lines-append front (c ∷ l) ends, lines-part c l part) refl in
+    record {
+      none = rw all (NoFrom-append (lines front) ((c ∷ l) ∷ []) none (b, tt));
+      is = rw (is, all, without_blank-part (lines front) c l part, flat_map-append unquoted (lines front) ((c ∷ l) ∷ []), append-nil (unquoted (c ∷ l)), u.2)
+          (chopped-part true (flat_map unquoted (lines front)) u.0 u.1 u.3);
+    }
+
+-- a block that ends in a line with no `\n`, or in a whole one
+pub open-last : (block f body line : List ℕ) (e : Entry) → Open block f body → NoEnd line → begins_from line ≡ false → e.from_line ≡ f → e.body ≡ chopped (body ++ unquoted line)
+    → Block (block ++ line) e
+open-last block f body line e o h b ef eb =
+    let last = last_body o.others line e.body o.ended o.tail h b (eb ∙ ap (λ z. chopped (z ++ unquoted line)) o.as_read) in
+    record {
+      first = f ++ 10 ∷ [];
+      others = lines (o.others ++ line);
+      is = rw (o.is, append_assoc f (10 ∷ o.others) line) (lines-line f (o.others ++ line) o.line);
+      head = begins_from-more f (10 ∷ []) o.head;
+      tail = last.none;
+      from_line = ef ∙ sym (unended-push f o.line);
+      body = last.is;
+    }
+
+open-block : (block f body : List ℕ) (e : Entry) → Open block f body → e.from_line ≡ f → e.body ≡ chopped body → Block block e
+unfolding unquoted begins_from
+open-block block f body e o ef eb =
+    let b = open-last block f body [] e o tt refl ef (eb ∙ ap chopped (sym (append-nil body))) in rw (append-nil block) at b
 
 -- more comes of a From_ line
 pub head-add : (text : List ℕ) (given : List Entry) (line part : List ℕ) → AtHead text given line → NoEnd part
@@ -147,16 +170,8 @@ unfolding lines
 body-ends text given f body line a =
     let part : List ℕ = line ++ 10 ∷ [] in
     let one : lines part ≡ part ∷ [] = lines-line line [] a.part in
-    let none : NoFrom (lines part) = rw one (begins_from-push line ∙ a.tail, tt) in
+    let none : NoFrom (lines part) = rw one (begins_from-cut line [] ∙ a.tail, tt) in
     let whole = body-lines (a.front ++ a.block) given f body part (body-whole text given f body line a) (inr (line, refl)) none in
     let texts : (a.front ++ a.block) ++ part ≡ text ++ 10 ∷ [] = rw a.is (simp append_assoc) in
     let bodies : body ++ flat_map unquoted (lines part) ≡ (body ++ unquoted line) ++ 10 ∷ [] = rw (one, append-nil (unquoted part), unquoted-push line) (sym (append_assoc body (unquoted line) (10 ∷ []))) in
     rw (← texts, ← bodies) whole
-
-pub moves-then : (m m' m'' : Option Message) (l l' l'' p q : List ℕ) (a b : List Entry) → Moves m l p a m' l' → Moves m' l' q b m'' l'' → Moves m l (p ++ q) (a ++ b) m'' l''
-moves-then m m' m'' l l' l'' p q a b f g = λ text given h.
-    let r = g (text ++ p) (given ++ a) (f text given h) in
-    rw (← append_assoc text p q, ← append_assoc given a b) r
-
-pub moves-none : (m : Option Message) (l : List ℕ) → Moves m l [] [] m l
-moves-none m l = λ text given h. rw (append-nil text, append-nil given) h

@@ -6,6 +6,7 @@ use Rattle.std.proofs.lemmas.Bool.{false≢true, cases_Bool, eqb-true, ne_eqb, e
 use Rattle.std.proofs.lemmas.List.{drop_more, drop_all, get_or-drop}
 use Rattle.mbox_text.specs.Lines.{before_first, lines, Ended, NoEnd}
 use Rattle.mbox_text.specs.Quoting.{begins_with, begins_from, from_bytes, quotable, quoted, unquoted}
+use Rattle.mbox_text.specs.Spelling.{missing_end}
 
 pub unquoted_quoted : (line : List ℕ) → unquoted (quoted line) ≡ line
 unfolding unquoted quoted quotable
@@ -83,29 +84,25 @@ concat-lines (c ∷ text) =
       | inr e ↦ rw (e, concat-before c (lines text), concat-lines text) refl
     ]
 
--- one list of lines is one text
-pub lines-one : (s t : List ℕ) → lines s ≡ lines t → s ≡ t
-lines-one s t e = sym (concat-lines s) ∙ ap concat e ∙ concat-lines t
+-- what a line begins with stands before its `\n`, and whether it is quotable
+begins_with-cut : (prefix line rest : List ℕ) → NoEnd prefix → begins_with prefix (line ++ 10 ∷ rest) ≡ begins_with prefix line
+begins_with-cut [] line rest h = refl
+begins_with-cut (p ∷ prefix) [] rest h = rw h.0 refl
+begins_with-cut (p ∷ prefix) (c ∷ line) rest h = rw (begins_with-cut prefix line rest h.1) refl
 
--- the `\n` of a line plays no part in its front
-begins_with-push : (prefix line : List ℕ) → NoEnd prefix → begins_with prefix (line ++ 10 ∷ []) ≡ begins_with prefix line
-begins_with-push [] line h = refl
-begins_with-push (p ∷ prefix) [] h = rw h.0 refl
-begins_with-push (p ∷ prefix) (c ∷ line) h = rw (begins_with-push prefix line h.1) refl
-
-pub begins_from-push : (line : List ℕ) → begins_from (line ++ 10 ∷ []) ≡ begins_from line
+pub begins_from-cut : (line rest : List ℕ) → begins_from (line ++ 10 ∷ rest) ≡ begins_from line
 unfolding begins_from
-begins_from-push line = begins_with-push from_bytes line (refl, (refl, (refl, (refl, (refl, tt)))))
+begins_from-cut line rest = begins_with-cut from_bytes line rest (refl, (refl, (refl, (refl, (refl, tt)))))
 
-pub quotable-push : (line : List ℕ) → quotable (line ++ 10 ∷ []) ≡ quotable line
+pub quotable-cut : (line rest : List ℕ) → quotable (line ++ 10 ∷ rest) ≡ quotable line
 unfolding quotable begins_from
-quotable-push [] = refl
-quotable-push (c ∷ line) = rw (quotable-push line, begins_from-push (c ∷ line)) refl
+quotable-cut [] rest = refl
+quotable-cut (c ∷ line) rest = rw (quotable-cut line rest, begins_from-cut (c ∷ line) rest) refl
 
 pub unquoted-push : (line : List ℕ) → unquoted (line ++ 10 ∷ []) ≡ unquoted line ++ 10 ∷ []
 unfolding unquoted
 unquoted-push [] = refl
-unquoted-push (c ∷ line) = rw (quotable-push line) (elim (cases_Bool (eqb c 62 && quotable line)) [ inl e ↦ rw e refl | inr e ↦ rw e refl ])
+unquoted-push (c ∷ line) = rw (quotable-cut line []) (elim (cases_Bool (eqb c 62 && quotable line)) [ inl e ↦ rw e refl | inr e ↦ rw e refl ])
 
 -- a longer line begins so too
 begins_with-more : (prefix line more : List ℕ) → begins_with prefix line ≡ true → begins_with prefix (line ++ more) ≡ true
@@ -165,3 +162,17 @@ pub unquoted_cases : (line : List ℕ) (b : Bool) → 0 < length line → get_or
     → MatchBool b ((0 < length line) × (unquoted line ≡ drop 1 line)) (unquoted line ≡ line)
 unquoted_cases line true l e q = (l, unquoted-mark line e (sym q))
 unquoted_cases line false l e q = unquoted-other line (sym q)
+
+-- the last line tells whether a body lacks its end
+pub missing-ended : (front : List ℕ) → missing_end (front ++ 10 ∷ []) ≡ []
+unfolding missing_end
+missing-ended [] = refl
+missing-ended (c ∷ []) = refl
+missing-ended (c ∷ d ∷ front) = missing-ended (d ∷ front)
+
+pub missing-part : (front : List ℕ) (c : ℕ) (l : List ℕ) → NoEnd (c ∷ l) → missing_end (front ++ c ∷ l) ≡ 10 ∷ []
+unfolding missing_end
+missing-part [] c [] h = rw h.0 refl
+missing-part [] c (d ∷ l) h = missing-part [] d l h.1
+missing-part (a ∷ []) c l h = missing-part [] c l h
+missing-part (a ∷ b ∷ front) c l h = missing-part (b ∷ front) c l h

@@ -1,23 +1,18 @@
 -- What a splitter has been fed, and what it has given of it.
-use Rattle.std.specs.Prelude.{◌≡◌, ℕ, ◌<◌, List, [], ◌++◌, ◌⊎◌, ◌↔◌, Option, Result, IsErrOf, IsNone, IsTrue, length, option_to_list}
+use Rattle.std.specs.Prelude.{◌≡◌, ℕ, ◌<◌, List, [], ◌++◌, ◌⊎◌, ◌↔◌, Option, Result, IsErrOf, IsNone, length, option_to_list}
 use Rattle.mbox_text.specs.declared.entry.Entry.{Entry}
 use Rattle.mbox_text.specs.declared.fault.TextFault.{TextFault}
 use Rattle.mbox_text.specs.declared.fault.TextFault.TheVariants.{NoFromLine, Failed, OutOfMemory}
 use Rattle.mbox_text.specs.declared.splitter.Splitter.{Splitter}
 use Rattle.mbox_text.specs.Mbox.{Mbox}
-use Rattle.mbox_text.specs.Fronts.{AllButLast, NeverFrom, Stay}
-use Rattle.mbox_text.specs.Held.{Held}
-
--- a feed was refused
-abbrev pub HasFailed : Splitter → Type 0
-HasFailed splitter = IsTrue splitter.failed
+use Rattle.mbox_text.specs.Fronts.{AllButLast, NeverFrom}
+use Rattle.mbox_text.specs.Held.{HasFailed, Holds}
 
 -- The splitter was fed this text, no feed was refused, and these are the messages that it has given.
 pub record Fed (text : List ℕ) (given : List Entry) (splitter : Splitter) : Type 0 where
   pub works : ¬ HasFailed splitter
   pub given_are : AllButLast text given
-  pub stay : Stay text given
-  pub held : Held text given splitter.message splitter.line.items
+  pub held : Holds text given splitter
 
 -- the messages that were added to these are given of the piece, whatever the splitter was fed before
 abbrev pub Takes : Splitter → List ℕ → List Entry → List Entry → Splitter → Type 0

@@ -1,12 +1,15 @@
--- What a splitter holds of a text that has come so far.
-use Rattle.std.specs.Prelude.{◌≡◌, ℕ, ◌==◌, Bool, true, false, ◌&&◌, List, [], ◌∷◌, ◌++◌, ◌⊎◌, Option, Some, None, if◌then◌else◌}
+-- What a splitter holds of a text that has come so far: what its own functions promise each other, and no caller need read.
+use Rattle.std.specs.Prelude.{◌≡◌, ℕ, ◌==◌, Bool, true, false, ◌&&◌, List, [], ◌∷◌, ◌++◌, ◌⊎◌, Option, Some, None, IsTrue, if◌then◌else◌}
 use Rattle.std.specs.List.{flat_map}
 use Rattle.mbox_text.specs.declared.entry.Entry.{Entry}
-use Rattle.mbox_text.specs.declared.message.Message.{Message}
+use Rattle.mbox_text.specs.declared.fault.TextFault.{TextFault}
+use Rattle.mbox_text.specs.declared.fault.TextFault.TheVariants.{NoFromLine, OutOfMemory}
+use Rattle.mbox_text.specs.declared.partial_message.PartialMessage.{PartialMessage}
+use Rattle.mbox_text.specs.declared.splitter.Splitter.{Splitter}
 use Rattle.mbox_text.specs.Lines.{lines, Ended, NoEnd}
 use Rattle.mbox_text.specs.Quoting.{begins_with, begins_from, from_bytes, unquoted}
 use Rattle.mbox_text.specs.Mbox.{NoFrom, Block}
-use Rattle.mbox_text.specs.Fronts.{NeverFrom, Stay}
+use Rattle.mbox_text.specs.Fronts.{NeverFrom}
 
 -- the text without its last line if that is `\n` alone; whether the text stands at the front of a line
 unfoldable pub chopped_from : Bool → List ℕ → List ℕ
@@ -51,28 +54,38 @@ pub record InBody (text : List ℕ) (given : List Entry) (from_line body line : 
   pub part : NoEnd line
   pub tail : begins_from line ≡ false
 
--- the text is the given messages and what these fields of a splitter hold
-abbrev pub Held : List ℕ → List Entry → Option Message → List ℕ → Type 0
+-- the text is the given messages and what these two fields of a splitter hold
+abbrev pub Held : List ℕ → List Entry → Option PartialMessage → List ℕ → Type 0
 Held text given None line = AtHead text given line
 Held text given (Some message) line = InBody text given message.from_line.items message.body.items line
 
--- from these fields to those the part gives these messages, whatever text and messages went before
-abbrev pub Moves : Option Message → List ℕ → List ℕ → List Entry → Option Message → List ℕ → Type 0
-Moves message line part added message' line' =
-    (text : List ℕ) (given : List Entry) → Held text given message line → Held (text ++ part) (given ++ added) message' line'
+-- a feed was refused
+abbrev pub HasFailed : Splitter → Type 0
+HasFailed splitter = IsTrue splitter.failed
 
--- with the part no mbox text begins so, and no message was given
-abbrev pub Refuses : Option Message → List ℕ → List ℕ → Type 0
-Refuses message line part = (text : List ℕ) (given : List Entry) → Held text given message line → (given ≡ []) × NeverFrom (text ++ part)
+-- the text is the given messages and what the splitter holds
+abbrev pub Holds : List ℕ → List Entry → Splitter → Type 0
+Holds text given splitter = Held text given splitter.message splitter.line.items
 
--- with the piece no mbox text begins so, and no message was or is given
-abbrev pub Refused : Option Message → List ℕ → List ℕ → List Entry → List Entry → Type 0
-Refused message line piece out out' =
-    (text : List ℕ) (given : List Entry) → Held text given message line → (given ≡ []) × (out' ≡ out) × NeverFrom (text ++ piece)
+-- what a part of the text does to the splitter, whatever went before: it moves on, and these messages are given
+abbrev pub Moves : Splitter → List ℕ → List Entry → Splitter → Type 0
+Moves old part added new = (text : List ℕ) (given : List Entry) → Holds text given old → Holds (text ++ part) (given ++ added) new
 
--- Of what the piece gives, only these messages were given before a growth was refused; none where no mbox text begins so.
-abbrev pub Breaks : Option Message → List ℕ → List ℕ → List Entry → List Entry → Type 0
-Breaks message line piece out out' =
-    (added : List Entry) × (out' ≡ out ++ added)
-    × ((text : List ℕ) (given : List Entry) → Held text given message line
-    → Stay (text ++ piece) (given ++ added) × (NeverFrom (text ++ piece) → added ≡ []))
+-- so it moves on, and the messages are added to these
+abbrev pub Gives : Splitter → List ℕ → List Entry → List Entry → Splitter → Type 0
+Gives old part out out' new = (added : List Entry) × (out' ≡ out ++ added) × Moves old part added new
+
+-- why the splitter does not take a part: with it no mbox text begins so, and no message was given; or a growth was refused
+abbrev pub Refuses : TextFault → Splitter → List ℕ → Type 0
+Refuses NoFromLine splitter part = (text : List ℕ) (given : List Entry) → Holds text given splitter → (given ≡ []) × NeverFrom (text ++ part)
+Refuses OutOfMemory splitter part = Unit {0}
+Refuses _ splitter part = ⊥
+
+-- why it does not take a piece: it moved on over a front of the piece, and refuses what follows
+pub record Stops (fault : TextFault) (old : Splitter) (piece : List ℕ) (out out' : List Entry) : Type 0 where
+  pub front : List ℕ
+  pub rest : List ℕ
+  pub now : Splitter
+  pub is : piece ≡ front ++ rest
+  pub gives : Gives old front out out' now
+  pub refuses : Refuses fault now rest

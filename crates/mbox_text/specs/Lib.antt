@@ -7,5 +7,4 @@ pub mod Spelling
 pub mod Writing
 pub mod Fronts
 pub mod Held
-pub mod Steps
 pub mod Fed

@@ -7,7 +7,8 @@ ghost use Rattle.mbox_text.specs.Mbox.{NoFrom};
 ghost use Rattle.mbox_text.specs.Held.{chopped};
 
 use crate::from_line::begins_with_from;
-use crate::quoting::is_quoted;
+use crate::lines::whole_len;
+use crate::quoting::{find_quotable, is_quoted};
 use memchr::memchr;
 use std::alloc::AllocError;
 
@@ -24,17 +25,7 @@ pub(crate) fn add_line(body: &mut Vec<u8>, line: &[u8]) -> Result<(), AllocError
 fn last_is_blank(text: &[u8]) -> bool
     ensures { MatchBool result ((0 < length text.now) × (take (length text.now - 1) text.now ≡ chopped text.now)) (text.now ≡ chopped text.now) }
 {
-    let n = text.len();
-    if n == 0 || text[n - 1] != b'\n' {
-        return false;
-    }
-    if n == 1 {
-        return true;
-    }
-    if text[n - 2] == b'\n' {
-        return true;
-    }
-    false
+    text == b"\n".as_slice() || text.ends_with(b"\n\n")
 }
 
 /// Takes off the last line if that is `\n` alone.
@@ -66,19 +57,23 @@ pub(crate) fn take_lines(body: &mut Vec<u8>, text: &[u8]) -> Result<usize, Alloc
     ensures none { IfOk result (λ n. NoFrom (lines (take n text.now))) }
     ensures stops { IfOk result (λ n. (begins_from (drop n text.now) ≡ true) ⊎ NoEnd (drop n text.now)) }
 {
-    let mut start = 0;
     let mut at = 0;
-    while let Some(n) = memchr(b'\n', &text[at..]) {
-        let line = &text[at..at + n + 1];
+    while let Some(n) = find_quotable(&text[at..]) {
+        body.extend_from_slice(&text[at..at + n])?;
+        at += n;
+        let line = &text[at..];
         if begins_with_from(line) {
-            break;
+            return Ok(at);
         }
-        if is_quoted(line) {
-            body.extend_from_slice(&text[start..at])?;
-            start = at + 1;
+        match memchr(b'\n', line) {
+            Some(end) => {
+                add_unquoted(body, &line[..end + 1])?;
+                at += end + 1;
+            }
+            None => return Ok(at),
         }
-        at += n + 1;
     }
-    body.extend_from_slice(&text[start..at])?;
-    Ok(at)
+    let n = whole_len(&text[at..]);
+    body.extend_from_slice(&text[at..at + n])?;
+    Ok(at + n)
 }

@@ -1,8 +1,10 @@
 // The `>` before a line of a body that would read as a From_ line.
 ghost use Rattle.std.specs.Prelude.{◌≡◌, ◌<◌, length, drop, MatchBool};
-ghost use Rattle.mbox_text.specs.Quoting.{quotable, unquoted};
+ghost use Rattle.mbox_text.specs.Quoting.{FindsQuotable, quotable, unquoted};
 
 use crate::from_line::begins_with_from;
+use crate::lines::{line_len, whole_len};
+use memchr::memmem::Finder;
 
 /// Whether the bytes begin with zero or more `>` and then `From `: such a line of a body is written with one `>` more (mbox(5)).
 pub fn is_quotable(line: &[u8]) -> bool
@@ -23,4 +25,20 @@ pub(crate) fn is_quoted(line: &[u8]) -> bool
         return false;
     }
     is_quotable(line)
+}
+
+/// Where the first line begins that is zero or more `>` and then `From `. Takes time in the bytes up to the end of that line.
+pub(crate) fn find_quotable(text: &[u8]) -> Option<usize>
+    ensures { FindsQuotable text.now result }
+{
+    let finder = Finder::new(b"From ");
+    let mut at = 0;
+    while let Some(n) = finder.find(&text[at..]) {
+        let front = at + whole_len(&text[at..at + n]);
+        if is_quotable(&text[front..]) {
+            return Some(front);
+        }
+        at = front + line_len(&text[front..]);
+    }
+    None
 }

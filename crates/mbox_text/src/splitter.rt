@@ -1,15 +1,15 @@
 // The splitter: messages out of a text that comes in pieces.
-ghost use Rattle.std.specs.Prelude.{◌≡◌, ◌<◌, ◌≤◌, ◌↔◌, [], ◌∷◌, length, take, IfErr, IfOk, IsErr, IsErrOf, MatchBool, MatchOption, OnErr, OnOk};
-ghost use Rattle.mbox_text.specs.Fed.{Ends, Fed, HasFailed, IsSplitterFault, NeverBegins, RefusesShort, Takes, TakesPart};
+ghost use Rattle.std.specs.Prelude.{◌≡◌, ◌<◌, ◌≤◌, ◌↔◌, [], ◌∷◌, length, take, IfErr, IfOk, IsErr, IsErrOf, OnErr, OnOk};
+ghost use Rattle.mbox_text.specs.Fed.{Ends, Fed, IsSplitterFault, NeverBegins, RefusesShort, Takes, TakesPart};
+ghost use Rattle.mbox_text.specs.Held.{Gives, HasFailed, Moves, Refuses, Stops};
 ghost use Rattle.mbox_text.specs.Lines.{NoEnd};
-ghost use Rattle.mbox_text.specs.Steps.{BreaksOff, Gives, GivesNone, Rejects, RejectsAt};
 
 use crate::body::{add_line, take_lines};
 use crate::bytes::Bytes;
 use crate::entry::Entry;
 use crate::fault::TextFault;
 use crate::from_line::{begins_with_from, is_from_start};
-use crate::message::Message;
+use crate::partial_message::PartialMessage;
 use memchr::memchr;
 use std::alloc::{AllocError, Global};
 use std::mem;
@@ -21,7 +21,7 @@ pub struct Splitter {
     alloc: Global,
     failed: bool,
     // None up to the end of a From_ line
-    message: Option<Message>,
+    message: Option<PartialMessage>,
     // what has come of the last line
     line: Vec<u8>,
 }
@@ -61,17 +61,9 @@ impl Splitter {
         if self.failed {
             return Err(TextFault::Failed);
         }
-        match self.take_piece(piece, out) {
-            Ok(true) => Ok(()),
-            Ok(false) => {
-                self.failed = true;
-                Err(TextFault::NoFromLine)
-            }
-            Err(_) => {
-                self.failed = true;
-                Err(TextFault::OutOfMemory)
-            }
-        }
+        let taken = self.take_piece(piece, out);
+        self.failed = taken.is_err();
+        taken
     }
 
     /// The last message of the text, or None where nothing was fed.
@@ -104,49 +96,40 @@ impl Splitter {
         }
     }
 
-    // Takes the piece. False where no mbox text begins so.
-    fn take_piece(&mut self, piece: &[u8], out: &mut Vec<Entry>) -> Result<bool, AllocError>
-        ensures moved { IfOk result (λ fine. MatchBool fine
-            (Gives self.old piece.now out.old.items out.new.items self.new)
-            (Rejects self.old piece.now out.old.items out.new.items)) }
-        ensures broken { OnErr result (BreaksOff self.old piece.now out.old.items out.new.items) }
+    // Takes the piece.
+    fn take_piece(&mut self, piece: &[u8], out: &mut Vec<Entry>) -> Result<(), TextFault>
+        ensures moved { OnOk result (Gives self.old piece.now out.old.items out.new.items self.new) }
+        ensures stopped { IfErr result (λ fault. Stops fault self.old piece.now out.old.items out.new.items) }
         ensures same { self.new.failed ≡ self.old.failed }
     {
         let mut at = 0;
         while at < piece.len() {
-            match self.advance(&piece[at..], out)? {
-                Some(n) => at += n,
-                None => return Ok(false),
-            }
+            at += self.advance(&piece[at..], out)?;
         }
-        Ok(true)
+        Ok(())
     }
 
     // Takes the whole lines at the front of the text, up to a From_ line, and then one line more, or what has
-    // come of it. None where no mbox text begins so.
-    fn advance(&mut self, text: &[u8], out: &mut Vec<Entry>) -> Result<Option<usize>, AllocError>
+    // come of it.
+    fn advance(&mut self, text: &[u8], out: &mut Vec<Entry>) -> Result<usize, TextFault>
         requires { 0 < length text.now }
-        ensures moved { IfOk result (λ went. MatchOption went
-            (Rejects self.old text.now out.old.items out.new.items)
-            (λ n. (0 < n) × (n ≤ length text.now)
-            × Gives self.old (take n text.now) out.old.items out.new.items self.new)) }
-        ensures broken { OnErr result (BreaksOff self.old text.now out.old.items out.new.items) }
+        ensures some { IfOk result (λ n. 0 < n) }
+        ensures within { IfOk result (λ n. n ≤ length text.now) }
+        ensures moved { IfOk result (λ n. Gives self.old (take n text.now) out.old.items out.new.items self.new) }
+        ensures stopped { IfErr result (λ fault. Stops fault self.old text.now out.old.items out.new.items) }
         ensures same { self.new.failed ≡ self.old.failed }
     {
         let at = self.take_body_lines(text)?;
         let rest = &text[at..];
         match memchr(b'\n', rest) {
             Some(n) => {
-                if !self.add_part(&rest[..n], out)? || !self.end_line()? {
-                    return Ok(None);
-                }
-                Ok(Some(at + n + 1))
+                self.add_part(&rest[..n], out)?;
+                self.end_line()?;
+                Ok(at + n + 1)
             }
             None => {
-                if !self.add_part(rest, out)? {
-                    return Ok(None);
-                }
-                Ok(Some(text.len()))
+                self.add_part(rest, out)?;
+                Ok(text.len())
             }
         }
     }
@@ -154,7 +137,7 @@ impl Splitter {
     // Takes whole lines at the front of the text, where the splitter stands at the front of a line of a body.
     fn take_body_lines(&mut self, text: &[u8]) -> Result<usize, AllocError>
         ensures within { IfOk result (λ n. n ≤ length text.now) }
-        ensures held { IfOk result (λ n. GivesNone self.old (take n text.now) self.new) }
+        ensures held { IfOk result (λ n. Moves self.old (take n text.now) [] self.new) }
         ensures same { self.new.failed ≡ self.old.failed }
     {
         if !self.line.is_empty() {
@@ -166,14 +149,12 @@ impl Splitter {
         }
     }
 
-    // Adds bytes with no `\n` to the line, and closes the message if the line is a From_ line. False where no mbox
-    // text begins so.
-    fn add_part(&mut self, part: &[u8], out: &mut Vec<Entry>) -> Result<bool, AllocError>
+    // Adds bytes with no `\n` to the line, and closes the message if the line is a From_ line.
+    fn add_part(&mut self, part: &[u8], out: &mut Vec<Entry>) -> Result<(), TextFault>
         requires { NoEnd part.now }
-        ensures moved { IfOk result (λ fine. MatchBool fine
-            (Gives self.old part.now out.old.items out.new.items self.new)
-            ((out.new.items ≡ out.old.items) × RejectsAt self.old part.now)) }
-        ensures broken { OnErr result (out.new.items ≡ out.old.items) }
+        ensures moved { OnOk result (Gives self.old part.now out.old.items out.new.items self.new) }
+        ensures stopped { IfErr result (λ fault. Refuses fault self.old part.now) }
+        ensures kept { OnErr result (out.new.items ≡ out.old.items) }
         ensures same { self.new.failed ≡ self.old.failed }
     {
         self.line.extend_from_slice(part)?;
@@ -181,38 +162,36 @@ impl Splitter {
             if let Some(message) = self.message.take() {
                 out.push(message.close())?;
             }
-            return Ok(true);
+            return Ok(());
         }
         if self.message.is_none() && !is_from_start(&self.line) {
-            return Ok(false);
+            return Err(TextFault::NoFromLine);
         }
-        Ok(true)
+        Ok(())
     }
 
-    // The line is whole. False where no mbox text begins so.
-    fn end_line(&mut self) -> Result<bool, AllocError>
-        ensures moved { IfOk result (λ fine. MatchBool fine
-            (GivesNone self.old (10 ∷ []) self.new)
-            (RejectsAt self.old (10 ∷ []))) }
+    // The line is whole.
+    fn end_line(&mut self) -> Result<(), TextFault>
+        ensures moved { OnOk result (Moves self.old (10 ∷ []) [] self.new) }
+        ensures stopped { IfErr result (λ fault. Refuses fault self.old (10 ∷ [])) }
         ensures same { self.new.failed ≡ self.old.failed }
     {
         match &mut self.message {
             Some(message) => {
                 add_line(&mut message.body, &self.line)?;
                 self.line.clear();
-                Ok(true)
             }
             None => {
                 if !begins_with_from(&self.line) {
-                    return Ok(false);
+                    return Err(TextFault::NoFromLine);
                 }
                 let from_line = mem::replace(&mut self.line, Vec::new(self.alloc));
-                self.message = Some(Message {
+                self.message = Some(PartialMessage {
                     from_line,
                     body: Vec::new(self.alloc),
                 });
-                Ok(true)
             }
         }
+        Ok(())
     }
 }

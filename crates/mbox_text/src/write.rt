@@ -1,15 +1,15 @@
 // A message in its regular spelling, written to any writer.
-ghost use Rattle.std.specs.Prelude.{◌≡◌, ◌<◌, ◌≤◌, ◌++◌, ◌⊎◌, [], ◌∷◌, length, take, drop, IfErr, IsOk};
+ghost use Rattle.std.specs.Prelude.{◌≡◌, [], ◌∷◌, IfErr, IsOk};
 ghost use Rattle.std.specs.List.{flat_map};
-ghost use Rattle.mbox_text.specs.Lines.{lines, Ended};
+ghost use Rattle.mbox_text.specs.Lines.{lines};
 ghost use Rattle.mbox_text.specs.Quoting.{quoted};
 ghost use Rattle.mbox_text.specs.Spelling.{missing_end, spelling};
 ghost use Rattle.mbox_text.specs.Writing.{Writes};
 
 use crate::entry::Entry;
 use crate::fault::TextFault;
-use crate::quoting::is_quotable;
-use memchr::{memchr, memmem};
+use crate::lines::line_len;
+use crate::quoting::find_quotable;
 use std::io::{ErrorKind, Write};
 
 /// Writes the message in its regular spelling (mbox(5)): the From_ line and `\n`; the body, with one `>` more before each line
@@ -58,61 +58,29 @@ pub fn write_bytes<W: Write>(bytes: &[u8], out: &mut W) -> Result<(), TextFault>
     Err(TextFault::WriteFault)
 }
 
-/// Writes the lines of a body with their quoting, run by run.
+/// Writes the lines of a body with their quoting.
 fn write_body<W: Write>(body: &[u8], out: &mut W) -> Result<(), TextFault>
     ensures written { Writes (W.contents out.old) (W.contents out.new) result (flat_map quoted (lines body.now)) }
     ensures causes { IfErr result (λ fault. fault ≡ TextFault.WriteFault) }
 {
     let mut at = 0;
-    while at < body.len() {
-        let len = run_len(&body[at..]);
-        write_run(&body[at..at + len], out)?;
+    while let Some(n) = find_quotable(&body[at..]) {
+        write_bytes(&body[at..at + n], out)?;
+        at += n;
+        let len = line_len(&body[at..]);
+        write_quoted(&body[at..at + len], out)?;
         at += len;
     }
-    Ok(())
+    write_bytes(&body[at..], out)
 }
 
-/// Writes lines of which the first alone may be quotable.
-fn write_run<W: Write>(run: &[u8], out: &mut W) -> Result<(), TextFault>
-    ensures written { Writes (W.contents out.old) (W.contents out.new) result (quoted run.now) }
+/// Writes a line with one `>` more.
+fn write_quoted<W: Write>(line: &[u8], out: &mut W) -> Result<(), TextFault>
+    ensures written { Writes (W.contents out.old) (W.contents out.new) result (62 ∷ line.now) }
     ensures causes { IfErr result (λ fault. fault ≡ TextFault.WriteFault) }
 {
-    if is_quotable(run) {
-        write_bytes(b">", out)?;
-    }
-    write_bytes(run, out)
-}
-
-/// How many bytes the first line has, with the lines after it that stay as they are.
-fn run_len(text: &[u8]) -> usize
-    requires { 0 < length text.now }
-    ensures some { 0 < result }
-    ensures within { result ≤ length text.now }
-    ensures run { flat_map quoted (lines (take result text.now)) ≡ quoted (take result text.now) }
-    ensures ends { (result ≡ length text.now) ⊎ Ended (take result text.now) }
-{
-    if memmem::find(text, b"From ").is_none() {
-        return text.len();
-    }
-    let mut at = line_len(text);
-    while at < text.len() && !is_quotable(&text[at..]) {
-        at += line_len(&text[at..]);
-    }
-    at
-}
-
-/// How many bytes the first line has, its `\n` included.
-fn line_len(text: &[u8]) -> usize
-    requires { 0 < length text.now }
-    ensures some { 0 < result }
-    ensures within { result ≤ length text.now }
-    ensures line { lines (take result text.now) ≡ take result text.now ∷ [] }
-    ensures ends { (result ≡ length text.now) ⊎ Ended (take result text.now) }
-{
-    match memchr(b'\n', text) {
-        Some(n) => n + 1,
-        None => text.len(),
-    }
+    write_bytes(b">", out)?;
+    write_bytes(line, out)
 }
 
 /// The `\n` that a body lacks at its end.

@@ -1,12 +1,12 @@
 use Rattle.std.proofs.Common.{◌≡◌, ◌+◌, ◌*◌, ◌++◌, List, [], length, arith, refl, inl, inr}
 use Rattle.std.proofs.lemmas.List.{length-append}
 use Rattle.mbox_text.specs.declared.entry.Entry.{Entry}
-use Rattle.mbox_text.proofs.Giving.{on_err}
 use Rattle.maildir_run.specs.Listing.{listing}
 use Rattle.maildir_run.proofs.Listings.{listing_output}
 use Rattle.maildir_run.proofs.Poured.{read_broken, batch, batch_broken, names_fit, poured_none, poured_all, poured_more}
 use Rattle.maildir_run.specs.declared.fault.RunFault.TheVariants.{OutOfMemory}
 use Rattle.maildir_run.proofs.Faults.{if_err, fault_is, unless_ok, ok_is_none, not_begun, not_spent, output_not_begun, output_not_spent, output_causes}
+use Rattle.maildir_run.proofs.Scripts.{on_err}
 use Rattle.maildir_run.proofs.Exits.{read_nothing, front_nothing, went_to_end, went_on}
 use Rattle.maildir_run.proofs.listing.list_text.Goals as goal
 
@@ -24,7 +24,7 @@ returns-in_err-ended g c =
       all = unless_ok _ r.result r.ensures.0;
       end = unless_ok _ r.result r.ensures.0;
       front =
-          on_err r.result _ b.front;
+          on_err r.result b.front;
       no_from_line = λ e.
           b.nothing (fault_is r.result fault _ r.ensures.1 e);
       spent = λ e.
@@ -54,7 +54,7 @@ returns-in_err-list g c =
           let fit = names_fit listing given _ _ _ _ c.read.new.out.items c.args.reads c.pieces.lister.count b c.requires in
           let s = rw c.deref.ensures.value at (c.in_err-list.ensures.lists given c.pieces.invariant.2 (rw c.deref.ensures.value fit)) in
           let w = batch_broken listing given _ _ _ _ _ c.read.new.out.items c.args.reads c.pieces.lister.count s.0 listing_output b s.1 s.2 in
-          on_err r.result _ w.0;
+          on_err r.result w.0;
       no_from_line = λ e. absurd (output_not_begun r.result fault r.ensures.1 c.in_err-list.ensures.causes e);
       spent = λ e. absurd (output_not_spent r.result fault r.ensures.1 c.in_err-list.ensures.causes e);
       causes = if_err _ r.result fault r.ensures.1 (output_causes fault c.in_err-list.ensures.causes);
@@ -102,7 +102,7 @@ returns-in_err-messages g c =
     record {
       all = unless_ok _ r.result r.ensures.0;
       end = unless_ok _ r.result r.ensures.0;
-      front = on_err r.result _ (front_nothing listing (g.R.Read.remaining c.args.source.now) (g.W.Write.contents c.args.out.now));
+      front = on_err r.result (front_nothing listing (g.R.Read.remaining c.args.source.now) (g.W.Write.contents c.args.out.now));
       no_from_line = λ e. absurd (not_begun r.result OutOfMemory r.ensures.1 tt e);
       spent = λ e. absurd (not_spent r.result OutOfMemory r.ensures.1 tt e);
       causes = if_err _ r.result OutOfMemory r.ensures.1 (inl (inr (inr (inr refl))));

@@ -1,10 +1,10 @@
 use Rattle.std.proofs.Common.{◌≡◌, ◌*◌, ◌++◌, length, arith, refl, inl, inr}
 use Rattle.std.specs.List.{flat_map}
 use Rattle.mbox_text.specs.Spelling.{spelling}
-use Rattle.mbox_text.proofs.Giving.{on_err}
 use Rattle.maildir_run.proofs.Poured.{flat_output, flat_more, read_broken, batch, batch_broken, count_fits, poured_all, poured_more}
 use Rattle.maildir_run.specs.declared.fault.RunFault.TheVariants.{OutOfMemory}
 use Rattle.maildir_run.proofs.Faults.{if_err, fault_is, unless_ok, ok_is_none, not_begun, not_spent, output_not_begun, output_not_spent, output_causes}
+use Rattle.maildir_run.proofs.Scripts.{on_err}
 use Rattle.maildir_run.proofs.Exits.{read_nothing, front_nothing, went_to_end, went_on}
 use Rattle.maildir_run.proofs.rewriting.rewrite.Goals as goal
 
@@ -17,7 +17,7 @@ returns-in_err-ended g c =
       all = unless_ok _ r.result r.ensures.0;
       end = unless_ok _ r.result r.ensures.0;
       front =
-          on_err r.result _ b.front;
+          on_err r.result b.front;
       no_from_line = λ e.
           b.nothing (fault_is r.result fault _ r.ensures.1 e);
       spent = λ e.
@@ -39,7 +39,7 @@ returns-in_err-write_entries g c =
       front =
           let w = batch_broken (flat_map spelling) c.pieces.invariant.0 _ _ _ _ _ c.read.new.out.items c.args.reads c.pieces.count (flat_map spelling c.deref.result.now) flat_output b
           (flat_more c.pieces.invariant.0 c.read.new.out.items c.deref.result.now c.deref.ensures.value) c.in_err-write_entries.ensures.written in
-          on_err r.result _ w.0;
+          on_err r.result w.0;
       no_from_line = λ e. absurd (output_not_begun r.result fault r.ensures.1 (inl c.in_err-write_entries.ensures.causes) e);
       spent = λ e. absurd (output_not_spent r.result fault r.ensures.1 (inl c.in_err-write_entries.ensures.causes) e);
       causes = if_err _ r.result fault r.ensures.1 (output_causes fault (inl c.in_err-write_entries.ensures.causes));
@@ -90,7 +90,7 @@ returns-in_err-messages g c =
     record {
       all = unless_ok _ r.result r.ensures.0;
       end = unless_ok _ r.result r.ensures.0;
-      front = on_err r.result _ (front_nothing (flat_map spelling) (g.R.Read.remaining c.args.source.now) (g.W.Write.contents c.args.out.now));
+      front = on_err r.result (front_nothing (flat_map spelling) (g.R.Read.remaining c.args.source.now) (g.W.Write.contents c.args.out.now));
       no_from_line = λ e. absurd (not_begun r.result OutOfMemory r.ensures.1 tt e);
       spent = λ e. absurd (not_spent r.result OutOfMemory r.ensures.1 tt e);
       causes = if_err _ r.result OutOfMemory r.ensures.1 (inl (inr (inr (inr refl))));

@@ -1,7 +1,7 @@
 use Rattle.std.proofs.Common.{◌∙◌, ap}
 use Rattle.mbox_text.specs.Spelling.{missing_end}
 use Rattle.mbox_text.proofs.Appended.{err_writes}
-use Rattle.mbox_text.proofs.Spelt.{from_line_front, line_end_front, headed, body_front, bodied, missing_front, ended, spelt}
+use Rattle.mbox_text.proofs.WrittenEntry.{from_line_front, line_end_front, headed, body_front, bodied, missing_front, ended, spelt}
 use Rattle.mbox_text.proofs.write.write_entry.Goals as goal
 
 pub returns-in_err-write_bytes-clause-written : goal.returns-in_err-write_bytes-clause-written

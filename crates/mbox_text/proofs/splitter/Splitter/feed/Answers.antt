@@ -1,12 +1,11 @@
-use Rattle.std.proofs.Common.{◌∙◌}
-use Rattle.std.proofs.lemmas.Bool.{MatchBool-at_true}
-use Rattle.mbox_text.proofs.Giving.{fed_takes, fed_part}
+use Rattle.mbox_text.proofs.Giving.{fed_taken, fed_never, fed_part}
 use Rattle.mbox_text.proofs.splitter.Splitter.feed.Goals as goal
 
-pub returns-in-Ok-true-clause-fed : goal.returns-in-Ok-true-clause-fed
-returns-in-Ok-true-clause-fed c =
-    fed_takes c.args.self.now c.take_piece.new.self c.args.piece.now c.args.out.now.items c.take_piece.new.out.items (c.in-Ok-true.ensures.same ∙ c.if-self.false)
-    (MatchBool-at_true _ _ c.in-Ok-true.field-0-test c.in-Ok-true.ensures.moved)
+pub returns-clause-fed : goal.returns-clause-fed
+returns-clause-fed c = fed_taken c.take_piece-taken.result c.args.self.now _ c.args.piece.now _ _ c.is_err-self.ensures.value c.take_piece-taken.ensures.moved
 
-pub returns-in-Err-clause-out_of_memory : goal.returns-in-Err-clause-out_of_memory
-returns-in-Err-clause-out_of_memory c = λ _. fed_part c.args.self.now c.args.piece.now c.args.out.now.items c.take_piece.new.out.items c.in-Err.ensures.broken
+pub returns-clause-no_from_line : goal.returns-clause-no_from_line
+returns-clause-no_from_line c = fed_never c.take_piece-taken.result c.args.self.now c.args.piece.now _ _ c.take_piece-taken.ensures.stopped
+
+pub returns-clause-out_of_memory : goal.returns-clause-out_of_memory
+returns-clause-out_of_memory c = fed_part c.take_piece-taken.result c.args.self.now c.args.piece.now _ _ c.take_piece-taken.ensures.stopped

@@ -2,10 +2,10 @@ use Rattle.std.proofs.Common.{◌≡◌, ◌++◌, ℕ, List, vec_len, ap, sym, 
 use Rattle.std.proofs.lemmas.Bool.{eqb-true, eqb-false}
 use Rattle.std.proofs.lemmas.List.{nil_from_length}
 use Rattle.std.proofs.lemmas.Result.{err_from_is_err_and}
-use Rattle.mbox_text.specs.declared.message.Message.{Message}
+use Rattle.mbox_text.specs.declared.partial_message.PartialMessage.{PartialMessage}
 use Rattle.mbox_text.specs.Held.{chopped}
 use Rattle.mbox_text.specs.Quoting.{unquoted}
-use Rattle.mbox_text.proofs.Ending.{ends_none, ends_some, ends_from, short_none, short_some, short_from, short_refused}
+use Rattle.mbox_text.proofs.Finishing.{ends_body, ends_head, ends_none, ends_some, not_short_body, not_short_head, short_none, short_refused}
 use Rattle.mbox_text.proofs.splitter.Splitter.finish.Goals as goal
 
 pub returns-in_err-close_with-in-Some-clause-no_from_line : goal.returns-in_err-close_with-in-Some-clause-no_from_line
@@ -13,7 +13,7 @@ returns-in_err-close_with-in-Some-clause-no_from_line c =
     let p = err_from_is_err_and c.from_residual.result c.from_residual.ensures.1 in
     let p1 = p.1 in
     let p2 = p.2 in
-    short_some c.args.self c.in-Some.message c.from_residual.result (λ e. absurd (cc (p1, p2))) c.in-Some.is
+    not_short_body c.args.self c.in-Some.message c.from_residual.result c.in-Some.is (λ e. absurd (cc (p1, p2)))
 
 pub returns-then-is_empty-clause-last : goal.returns-then-is_empty-clause-last
 returns-then-is_empty-clause-last c =
@@ -30,21 +30,21 @@ returns-then-not-begins_with_from-clause-no_from_line c =
 
 pub returns-in_ok-close_with-in-Some-clause-last : goal.returns-in_ok-close_with-in-Some-clause-last
 returns-in_ok-close_with-in-Some-clause-last c =
-    let F : Message → List ℕ = λ v. v.from_line.items in
-    let B : Message → List ℕ = λ v. chopped (v.body.items ++ unquoted c.deref.result.now) in
+    let F : PartialMessage → List ℕ = λ v. v.from_line.items in
+    let B : PartialMessage → List ℕ = λ v. chopped (v.body.items ++ unquoted c.deref.result.now) in
     let e = c.in_ok-close_with-in-Some.ensures in
-    ends_some c.args.self c.in-Some.message c.in_ok-close_with-in-Some.field-0 c.deref.result.now c.in-Some.is c.deref.ensures.value (e.from_line ∙ ap F c.in-Some.message-is) (e.body ∙ ap B c.in-Some.message-is)
+    ends_some c.args.self _
+    (ends_body c.args.self c.in-Some.message _ c.deref.result.now c.in-Some.is c.deref.ensures.value (e.from_line ∙ ap F c.in-Some.message-is) (e.body ∙ ap B c.in-Some.message-is))
 
 pub returns-in_ok-close_with-in-Some-clause-no_from_line : goal.returns-in_ok-close_with-in-Some-clause-no_from_line
-returns-in_ok-close_with-in-Some-clause-no_from_line c =
-    short_some c.args.self c.in-Some.message (Ok (Some c.in_ok-close_with-in-Some.field-0)) (λ e. absurd (cc)) c.in-Some.is
+returns-in_ok-close_with-in-Some-clause-no_from_line c = not_short_body c.args.self c.in-Some.message (Ok (Some c.in_ok-close_with-in-Some.field-0)) c.in-Some.is (λ e. absurd (cc))
 
 pub returns-else-not-begins_with_from-clause-last : goal.returns-else-not-begins_with_from-clause-last
 returns-else-not-begins_with_from-clause-last c =
-    ends_from c.args.self (record { from_line = c.new.result; body = c.new-in-None-2.result }) c.deref-in-None.result.now c.in-None.is c.deref-in-None.ensures.value (sym c.if-not-begins_with_from.ensures)
-    c.new.ensures (c.new-in-None-2.ensures ∙ c.new-in-None.ensures.items)
+    ends_some c.args.self (record { from_line = c.new.result; body = c.new-in-None-2.result })
+    (ends_head c.args.self _ c.deref-in-None.result.now c.in-None.is c.deref-in-None.ensures.value (sym c.if-not-begins_with_from.ensures) c.new.ensures (c.new-in-None-2.ensures ∙ c.new-in-None.ensures.items))
 
 pub returns-else-not-begins_with_from-clause-no_from_line : goal.returns-else-not-begins_with_from-clause-no_from_line
 returns-else-not-begins_with_from-clause-no_from_line c =
-    short_from c.args.self c.deref-in-None.result.now (Ok (Some (record { from_line = c.new.result; body = c.new-in-None-2.result }))) (λ e. absurd (cc)) c.in-None.is c.deref-in-None.ensures.value
-    (sym c.if-not-begins_with_from.ensures)
+    not_short_head c.args.self c.deref-in-None.result.now (Ok (Some (record { from_line = c.new.result; body = c.new-in-None-2.result }))) c.in-None.is c.deref-in-None.ensures.value
+    (sym c.if-not-begins_with_from.ensures) (λ e. absurd (cc))

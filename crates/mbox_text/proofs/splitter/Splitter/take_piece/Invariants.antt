@@ -1,14 +1,12 @@
-use Rattle.std.proofs.Common.{◌≡◌, ◌≤◌, ◌-◌, ◌++◌, List, length, take}
-use Rattle.mbox_text.specs.declared.entry.Entry.{Entry}
-use Rattle.mbox_text.specs.Held.{Moves}
+use Rattle.std.proofs.Common.{◌≡◌, ◌≤◌, ◌-◌, length, take}
+use Rattle.mbox_text.specs.Held.{Gives}
 use Rattle.mbox_text.proofs.splitter.Splitter.take_piece.Given as goal
 
 abbrev pub invariant-loop-at : goal.invariant-loop-at
 invariant-loop-at l = record {
   within : l.at ≤ length l.piece;
   same : l.self.failed ≡ l.initial.self.failed;
-  held : (added : List Entry) × (l.out.items ≡ l.initial.out.items ++ added)
-      × Moves l.initial.self.message l.initial.self.line.items (take l.at l.piece) added l.self.message l.self.line.items;
+  gives : Gives l.initial.self (take l.at l.piece) l.initial.out.items l.out.items l.self;
 }
 
 abbrev pub decreases-loop-at : goal.decreases-loop-at

@@ -10,12 +10,12 @@ use std::alloc::AllocError;
 
 /// A From_ line, and the whole lines that have come behind it as they are read.
 #[derive(Drop)]
-pub(crate) struct Message {
+pub(crate) struct PartialMessage {
     pub(crate) from_line: Vec<u8>,
     pub(crate) body: Vec<u8>,
 }
 
-impl Message {
+impl PartialMessage {
     /// The entry, where no more lines come.
     pub(crate) fn close(self) -> Entry
         ensures from_line { result.from_line ≡ self.from_line.items }

@@ -9,7 +9,7 @@ use Rattle.mbox_text.specs.Lines.{lines, Ended, NoEnd}
 use Rattle.mbox_text.specs.Quoting.{quotable, quoted, unquoted, begins_from}
 use Rattle.mbox_text.specs.Mbox.{NoFrom, Block, Mbox, without_blank}
 use Rattle.mbox_text.specs.Spelling.{missing_end, spelling, completed, FromLines}
-use Rattle.mbox_text.proofs.LineLemmas.{lines-append, lines-line, lines-part, begins_from-more, quotable-push, quoted_no_from, unquoted_quoted, concat-lines}
+use Rattle.mbox_text.proofs.LineLemmas.{lines-append, lines-line, lines-part, begins_from-more, quotable-cut, missing-ended, missing-part, quoted_no_from, unquoted_quoted, concat-lines}
 use Rattle.mbox_text.proofs.Chopped.{Whole, lines-whole}
 use Rattle.mbox_text.proofs.HeldLemmas.{unended-push, NoFrom-append}
 
@@ -39,22 +39,9 @@ cut (c ∷ text) =
       ]
     ]
 
-missing-ended : (front : List ℕ) → missing_end (front ++ 10 ∷ []) ≡ []
-unfolding missing_end
-missing-ended [] = refl
-missing-ended (c ∷ []) = refl
-missing-ended (c ∷ d ∷ front) = missing-ended (d ∷ front)
-
-missing-part : (front : List ℕ) (c : ℕ) (l : List ℕ) → NoEnd (c ∷ l) → missing_end (front ++ c ∷ l) ≡ 10 ∷ []
-unfolding missing_end
-missing-part [] c [] h = rw h.0 refl
-missing-part [] c (d ∷ l) h = missing-part [] d l h.1
-missing-part (a ∷ []) c l h = missing-part [] c l h
-missing-part (a ∷ b ∷ front) c l h = missing-part (b ∷ front) c l h
-
 quoted-push : (l : List ℕ) → quoted (l ++ 10 ∷ []) ≡ quoted l ++ 10 ∷ []
 unfolding quoted
-quoted-push l = rw (quotable-push l) (elim (cases_Bool (quotable l)) [ inl e ↦ rw e refl | inr e ↦ rw e refl ])
+quoted-push l = rw (quotable-cut l []) (elim (cases_Bool (quotable l)) [ inl e ↦ rw e refl | inr e ↦ rw e refl ])
 
 -- whole lines stand in the text that they make
 lines-concat : (ls : List (List ℕ)) → Whole ls → lines (flat_map (λ l. l) ls) ≡ ls
@@ -67,8 +54,8 @@ lines-concat (l ∷ ls) w =
 quoted-whole : (x : List ℕ) → NoEnd x → (y : List ℕ) × (quoted (x ++ 10 ∷ []) ≡ y ++ 10 ∷ []) × NoEnd y
 unfolding quoted
 quoted-whole x h = elim (cases_Bool (quotable x)) [
-  | inl e ↦ (62 ∷ x, rw (quotable-push x, e) refl, (refl, h))
-  | inr e ↦ (x, rw (quotable-push x, e) refl, h)
+  | inl e ↦ (62 ∷ x, rw (quotable-cut x [], e) refl, (refl, h))
+  | inr e ↦ (x, rw (quotable-cut x [], e) refl, h)
 ]
 
 map-whole : (ls : List (List ℕ)) → Whole ls → Whole (map quoted ls)

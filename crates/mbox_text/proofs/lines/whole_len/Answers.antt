@@ -1,0 +1,8 @@
+use Rattle.mbox_text.proofs.LineEnds.{none-there, NoEnd-behind}
+use Rattle.mbox_text.proofs.lines.whole_len.Goals as goal
+
+pub returns-in-Some-clause-rest : goal.returns-in-Some-clause-rest
+returns-in-Some-clause-rest c = NoEnd-behind c.args.text.now c.in-Some.n c.in-Some.ensures
+
+pub returns-in-None-clause-rest : goal.returns-in-None-clause-rest
+returns-in-None-clause-rest c = none-there c.args.text.now c.in-None.ensures

@@ -1,0 +1,28 @@
+// Where the lines of a text end.
+ghost use Rattle.std.specs.Prelude.{◌<◌, ◌≤◌, length, take, drop};
+ghost use Rattle.mbox_text.specs.Lines.{Ended, IsLine, NoEnd};
+
+use memchr::{memchr, memrchr};
+
+/// How many bytes the first line has, its `\n` included.
+pub(crate) fn line_len(text: &[u8]) -> usize
+    requires { 0 < length text.now }
+    ensures { IsLine text.now result }
+{
+    match memchr(b'\n', text) {
+        Some(n) => n + 1,
+        None => text.len(),
+    }
+}
+
+/// How many bytes the lines have that end with `\n`.
+pub(crate) fn whole_len(text: &[u8]) -> usize
+    ensures within { result ≤ length text.now }
+    ensures ended { Ended (take result text.now) }
+    ensures rest { NoEnd (drop result text.now) }
+{
+    match memrchr(b'\n', text) {
+        Some(n) => n + 1,
+        None => 0,
+    }
+}
