@@ -1,15 +1,16 @@
 // One run: a source's messages into a folder.
-ghost use Rattle.std.specs.Prelude.{◌≡◌, ◌⊎◌, ◌*◌, ◌^◌, ◌<◌, ◌≤◌, ℕ, [], List, length, IfOk, OnOk, IfErr, IsErrOf};
+ghost use Rattle.std.specs.Prelude.{◌≡◌, ◌⊎◌, ◌*◌, ◌^◌, ◌<◌, ◌≤◌, ℕ, [], List, length, IfOk, OnOk, IfErr, IsErrOf, All};
 ghost use Rattle.std.specs.Io.KnownBytes.{IsAtEnd};
 ghost use Rattle.mbox_text.specs.declared.entry.Entry.{Entry as Message};
 ghost use Rattle.mbox_text.specs.Mbox.{Mbox};
 ghost use Rattle.maildir_run.specs.Alone.{alone as alone_after};
 ghost use Rattle.maildir_run.specs.Counting.{CountsFault, IsOfFolder, Numbers};
-ghost use Rattle.maildir_run.specs.Delivery.{Message as Due, leftover_count};
+ghost use Rattle.maildir_run.specs.Delivery.{Message as Due, Delivered, IsMissing, leftover_count};
+ghost use Rattle.maildir_run.specs.Files.{Files};
 ghost use Rattle.maildir_run.specs.Given.{Begins, Refused};
 ghost use Rattle.maildir_run.specs.Quietly.{LeavesOthers};
 ghost use Rattle.maildir_run.specs.Reading.{IsReading, ReadsAtLeast, ReadsAtMost, Taken};
-ghost use Rattle.maildir_run.specs.Runs.{CountsRun, Possible, Run};
+ghost use Rattle.maildir_run.specs.Runs.{CountsRun, Link, Possible, Run, Runs};
 ghost use Rattle.maildir_run.specs.Texts.{MessagesOf};
 
 use crate::bases::Bases;
@@ -43,6 +44,9 @@ pub fn convert<F: Folder, R: Read>(
     requires { reads ≤ 2 ^ 40 }
     ensures honest { F.honest folder.old → F.honest folder.new }
     ensures run { F.honest folder.old → (t : List ℕ) → length t < 2 ^ 63 → Possible (R.remaining source.old) (R.remaining source.new) t → Run t (F.files folder.old) result (F.files folder.new) }
+    ensures restartable { F.honest folder.old → (t : List ℕ) (ms : List Due) (links : List Link) (start : Files) → length t < 2 ^ 63 →
+        Possible (R.remaining source.old) (R.remaining source.new) t → MessagesOf t ms → All (IsMissing start) ms →
+        Runs t links start (F.files folder.old) → OnOk result (Delivered ms (F.files folder.new)) }
     ensures end { OnOk result (IsAtEnd (R.remaining source.new)) }
 
     // where nobody disturbs it

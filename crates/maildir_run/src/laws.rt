@@ -1,5 +1,5 @@
 //! Laws over the definitions alone. Each law is the contract of a function, and no function here does anything.
-ghost use Rattle.std.specs.Prelude.{◌≡◌, ◌↔◌, ℕ, map, ◌<◌, ◌≤◌, ◌^◌, length, List, [], ◌∷◌, ◌++◌, Some, Ok, All, Contains, IsTrue, IsFalse, IsPermutation};
+ghost use Rattle.std.specs.Prelude.{◌≡◌, ◌↔◌, ℕ, map, ◌<◌, ◌≤◌, ◌+◌, ◌%◌, ◌^◌, length, List, [], ◌∷◌, ◌++◌, Some, Ok, All, Contains, IsTrue, IsFalse, IsPermutation};
 ghost use Rattle.std.specs.List.{list_any};
 ghost use Rattle.std.specs.FinMap.{get};
 ghost use Rattle.maildir_name.specs.declared.target.Place.{Place};
@@ -13,7 +13,7 @@ ghost use Rattle.maildir_run.specs.Calls.{Call, Move, after, Lists, Succeeded, P
 ghost use Rattle.maildir_run.specs.Calls.Call.{Placing};
 ghost use Rattle.maildir_run.specs.Delivery.{Message, leftover_count, IsMissing, IsHome, AreNamed, AreDistinct, Sound, Delivered};
 ghost use Rattle.maildir_run.specs.Texts.{MessagesOf};
-ghost use Rattle.maildir_run.specs.Runs.{Link, Run, Runs};
+ghost use Rattle.maildir_run.specs.Runs.{CountsRun, Link, Run, Runs};
 ghost use Rattle.maildir_run.specs.Several.{Text, IsText, OfEach, SoundForAll, LinkOver, RunsOver, link_over, link_of, AreFresh, StandsAfter};
 ghost use Rattle.maildir_run.specs.Several.LinkOver.{RanOver};
 ghost use Rattle.maildir_run.specs.Alone.{alone};
@@ -125,7 +125,11 @@ pub fn one_text()
         Runs text.bytes links old new → RunsOver (text ∷ []) (map (link_over text) links) old new }
 {}
 
-/// Where the messages are delivered, an undisturbed run leaves all files as they are.
+/// Where the messages are delivered, an undisturbed run leaves all files as they are, and a run that ends with Ok places
+/// nothing, sweeps nothing and makes three calls, the listings.
 pub fn nothing_left_to_do()
-    ensures { (ms : List Message) (s : Files) → Delivered ms s → alone ms s ≡ s }
+    ensures same { (ms : List Message) (s : Files) → Delivered ms s → alone ms s ≡ s }
+    ensures three_calls { (t : List ℕ) (ms : List Message) (s new : Files) (report : Report) → MessagesOf t ms → Delivered ms s →
+        Run t s (Ok report) new → (before after : ℕ) → CountsRun report before after →
+        (report.placed ≡ 0) × (report.swept ≡ 0) × (after % 2 ^ 128 ≡ (before + 3) % 2 ^ 128) }
 {}

@@ -21,6 +21,8 @@ use Rattle.maildir_run.specs.declared.fault.RunFault.TheVariants.{OutOfMemory}
 use Rattle.maildir_run.proofs.Givens.{never_again}
 use Rattle.maildir_run.proofs.Faults.{if_err, fault_is, unless_ok, ok_is_none, not_begun, not_spent, cause_then, cause_read}
 use Rattle.maildir_run.proofs.Exits.{read_nothing, given_within, begins_within, refused_of, leaves_same, none_few, three_few, most_few, itself, swept_few, none_placed, all_placed, swept_within, batch_fits, batch_count, batch_begun, calls_few, all_calls_few, went_down}
+use Rattle.maildir_run.proofs.Chains.{chain_delivered}
+use Rattle.maildir_run.proofs.MessageLemmas.{text_named}
 use Rattle.maildir_run.proofs.converting.convert.Goals as goal
 
 pub returns-in_err-ended : goal.returns-in_err-ended
@@ -31,6 +33,7 @@ returns-in_err-ended g c =
       honest = λ h. h;
       run = λ honest t small p.
           run_err t _ _ r.result r.ensures.0 (λ any. untouched_run t _ _ any (leaves_same (g.F.Folder.files c.args.folder.now)) small);
+      restartable = λ honest t ms links old small p of missing runs. unless_ok _ r.result r.ensures.0;
       end = unless_ok _ r.result r.ensures.0;
       quiet = λ h. h;
       alone = λ q t ms p of. unless_ok _ r.result r.ensures.0;
@@ -53,6 +56,7 @@ returns-in_err-found g c =
       honest = λ h. c.in_err-found.ensures.honest h;
       run = λ honest t small p.
           run_err t _ _ r.result r.ensures.0 (λ any. untouched_run t _ _ any (c.in_err-found.ensures.leaves honest) small);
+      restartable = λ honest t ms links old small p of missing runs. unless_ok _ r.result r.ensures.0;
       end = unless_ok _ r.result r.ensures.0;
       quiet = λ h. c.in_err-found.ensures.quiet h;
       alone = λ q t ms p of. unless_ok _ r.result r.ensures.0;
@@ -76,6 +80,7 @@ returns-in_err-swept g c =
       run = λ honest t small p.
           run_err t _ _ r.result r.ensures.0
           (λ any. untouched_run t _ _ any (leaves_trans _ _ _ (c.in_ok-found.ensures.leaves honest) (c.in_err-swept.ensures.leaves (c.in_ok-found.ensures.honest honest))) small);
+      restartable = λ honest t ms links old small p of missing runs. unless_ok _ r.result r.ensures.0;
       end = unless_ok _ r.result r.ensures.0;
       quiet = λ h. c.in_err-swept.ensures.quiet (c.in_ok-found.ensures.quiet h);
       alone = λ q t ms p of. unless_ok _ r.result r.ensures.0;
@@ -101,6 +106,7 @@ returns-in_err-there g c =
       run = λ honest t small p.
           run_err t _ _ r.result r.ensures.0
           (λ any. untouched_run t _ _ any (leaves_trans _ _ _ (c.in_ok-found.ensures.leaves honest) (c.in_ok-swept.ensures.leaves (c.in_ok-found.ensures.honest honest))) small);
+      restartable = λ honest t ms links old small p of missing runs. unless_ok _ r.result r.ensures.0;
       end = unless_ok _ r.result r.ensures.0;
       quiet = λ h. c.in_ok-swept.ensures.quiet (c.in_ok-found.ensures.quiet h);
       alone = λ q t ms p of. unless_ok _ r.result r.ensures.0;
@@ -189,6 +195,7 @@ returns-in_err-deliver_all g c =
           (batch_few i.given whole entries c.args.reads is few c.requires) (batch_sound start i.given whole entries is sound)) in
           run_err t start now r.result r.ensures.0
           (λ any. came_run _ _ i.text (i.given ++ whole) start now any (given_read c.pieces.ended _ _ _ _ _ i.text (i.given ++ whole) i.gave) (given_first c.pieces.ended _ _ _ _ _ i.text (i.given ++ whole) i.gave) come t small p);
+      restartable = λ honest t ms links old small p of missing runs. unless_ok _ r.result r.ensures.0;
       end = unless_ok _ r.result r.ensures.0;
       quiet = λ h. c.in_err-deliver_all.ensures.quiet (i.quiet h);
       alone = λ q t ms p of. unless_ok _ r.result r.ensures.0;
@@ -230,6 +237,15 @@ returns-then-ended g c =
           let swept = swept_within is_converter_name c.report.result.swept c.in_ok-swept.swept (leftover_count start) (map string_bytes c.deref.result.now) (map string_bytes c.in_ok-found.found.tmp.items)
           c.report.ensures.swept c.in_ok-swept.ensures.count (ap (map string_bytes) c.deref.ensures.value) (c.in_ok-found.ensures.few honest) in
           reached_run _ _ c.args.reads i.text (i.given ++ whole) start now engine.there engine.namer engine.messages engine.placed c.report.result all come c.report.ensures.messages c.report.ensures.there c.report.ensures.placed swept t small p;
+      restartable = λ honest t ms links old small p of missing runs.
+          chain_delivered t ms of (text_named t ms of small) links old start now c.report.result missing runs (
+          let come : All (IsSoundAt start) (messages_of (bodies_of (i.given ++ whole))) → Reached (bodies_of (i.given ++ whole)) start engine.there engine.namer engine.messages engine.placed now = λ sound.
+          subst (λ bs. Reached bs start engine.there engine.namer engine.messages engine.placed now) (batch_bodies i.given whole entries is)
+          (c.in_ok-deliver_all.ensures.done (i.honest honest) (bodies_of i.given) start (i.reached honest (given_sound start i.given whole sound))
+          (batch_few i.given whole entries c.args.reads is few c.requires) (batch_sound start i.given whole entries is sound)) in
+          let swept = swept_within is_converter_name c.report.result.swept c.in_ok-swept.swept (leftover_count start) (map string_bytes c.deref.result.now) (map string_bytes c.in_ok-found.found.tmp.items)
+          c.report.ensures.swept c.in_ok-swept.ensures.count (ap (map string_bytes) c.deref.ensures.value) (c.in_ok-found.ensures.few honest) in
+          reached_run _ _ c.args.reads i.text (i.given ++ whole) start now engine.there engine.namer engine.messages engine.placed c.report.result all come c.report.ensures.messages c.report.ensures.there c.report.ensures.placed swept t small p);
       end = all.end;
       quiet = λ h. c.in_ok-deliver_all.ensures.quiet (i.quiet h);
       alone = λ q t ms p of.
@@ -283,6 +299,7 @@ returns-in_err-ended-2 g c =
           let broken = broken_off _ _ _ c.pieces.messages c.args.reads i.text (i.given ++ whole) fault gave c.in_err-ended-2.ensures.went in
           run_err t start now r.result r.ensures.0
           (λ any. came_run _ _ broken.text (i.given ++ whole) start now any broken.read broken.first come t small p);
+      restartable = λ honest t ms links old small p of missing runs. unless_ok _ r.result r.ensures.0;
       end = unless_ok _ r.result r.ensures.0;
       quiet = λ h. c.in_ok-deliver_all.ensures.quiet (i.quiet h);
       alone = λ q t ms p of. unless_ok _ r.result r.ensures.0;
@@ -343,6 +360,7 @@ returns-in_err-messages g c =
       honest = λ h. h;
       run = λ honest t small p.
           run_err t _ _ r.result r.ensures.0 (λ any. untouched_run t _ _ any (leaves_same (g.F.Folder.files c.args.folder.now)) small);
+      restartable = λ honest t ms links old small p of missing runs. unless_ok _ r.result r.ensures.0;
       end = unless_ok _ r.result r.ensures.0;
       quiet = λ h. h;
       alone = λ q t ms p of. unless_ok _ r.result r.ensures.0;
