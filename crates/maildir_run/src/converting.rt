@@ -19,6 +19,7 @@ use crate::engine::Engine;
 use crate::fault::RunFault;
 use crate::folder::Folder;
 use crate::messages::Messages;
+use crate::planner::plan;
 use crate::report::Report;
 use crate::survey::look;
 use crate::sweep::sweep;
@@ -28,9 +29,10 @@ use std::io::Read;
 
 /// Delivers the messages of the source's text that have no home in the folder, and reports what it did. The source is
 /// read until a message is whole; then `tmp`, `new` and `cur` are listed, in this order, and what broken runs left in
-/// `tmp` is removed; then each message that is missing is written and placed as soon as it is whole, in their order. At
-/// most `reads` reads are made, each for at most 65,536 bytes, and none between a message's write and its placement.
-/// What one read gave is held at a time, beside the listed names and the digests.
+/// `tmp` is removed, as `plan` says for these lists and no targets; then each message that is missing is written and
+/// placed as soon as it is whole, in their order. At most `reads` reads are made, each for at most 65,536 bytes, and none
+/// between a message's write and its placement. Held are the message that is not yet whole, those that the last read
+/// made whole, the listed names and the digests.
 ///
 /// Errors: `NoFromLine` where the text is not empty and doesn't begin with `From `, and then no folder call was made;
 /// `ReadFault`; `TooManyReads` where `reads` reads didn't meet the end; `FolderAbsent`; `FolderFailed` with the number of
@@ -73,7 +75,8 @@ pub fn convert<F: Folder, R: Read>(
     let mut ended = read_first(&mut messages, source, &mut whole)?;
     let mut calls = Calls::new();
     let found = look(folder, &mut calls)?;
-    let swept = sweep(folder, &mut calls, &found.tmp)?;
+    let removals = plan(alloc, &found.tmp, &[], &[], &[])?;
+    let swept = sweep(folder, &mut calls, &removals)?;
     let there = Bases::listed(alloc, &found.new, &found.cur)?;
     let mut engine = Engine::new(alloc, there, calls);
     'pieces: loop {

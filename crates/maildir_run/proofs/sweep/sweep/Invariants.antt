@@ -1,19 +1,12 @@
-use Rattle.std.proofs.Common.{◌≡◌, ◌≤◌, map, take, drop, filter, length, string_bytes}
-use Rattle.maildir_name.specs.Names.{is_converter_name}
-use Rattle.maildir_run.specs.Counting.{Makes}
-use Rattle.maildir_run.specs.Progress.{LeavesHomes, TmpWithin}
-use Rattle.maildir_run.specs.Quietly.{TakenOut}
+use Rattle.std.proofs.Common.{◌≡◌, ◌≤◌, take, length}
+use Rattle.maildir_run.specs.Tasks.{RanAll, seen, removals_of}
 use Rattle.maildir_run.proofs.sweep.sweep.Given as goal
 
-abbrev pub invariant-loop-name : goal.invariant-loop-name
-invariant-loop-name g l = record {
-  honest : g.F.Folder.honest l.fn.folder → g.F.Folder.honest l.folder;
-  leaves : g.F.Folder.honest l.fn.folder → LeavesHomes (g.F.Folder.files l.fn.folder) (g.F.Folder.files l.folder);
-  within : g.F.Folder.honest l.fn.folder → TmpWithin (map string_bytes l.listed) (g.F.Folder.files l.fn.folder) → TmpWithin (map string_bytes (drop l.name-index l.listed)) (g.F.Folder.files l.folder);
-  quiet : g.F.Folder.quiet l.fn.folder → g.F.Folder.quiet l.folder;
-  taken : g.F.Folder.quiet l.fn.folder → TakenOut (map string_bytes (take l.name-index l.listed)) (g.F.Folder.files l.fn.folder) (g.F.Folder.files l.folder);
-  count : l.swept ≡ length (filter is_converter_name (map string_bytes (take l.name-index l.listed)));
-  few : l.swept ≤ l.name-index;
-  made : Makes l.swept l.fn.calls.made l.calls.made (g.F.Folder.calls l.fn.folder) (g.F.Folder.calls l.folder);
-  failures : g.F.Folder.failures l.folder ≡ g.F.Folder.failures l.fn.folder;
-}
+abbrev pub invariant-loop-step : goal.invariant-loop-step
+invariant-loop-step g l =
+    let at = seen g.F.Folder.honest g.F.Folder.quiet g.F.Folder.files g.F.Folder.calls g.F.Folder.failures in
+    record {
+      ran : RanAll (removals_of (take l.step-index l.steps)) (at l.fn.folder) (at l.folder) l.fn.calls.made l.calls.made;
+      count : l.swept ≡ length (removals_of (take l.step-index l.steps));
+      few : l.swept ≤ l.step-index;
+    }
