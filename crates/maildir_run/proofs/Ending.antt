@@ -300,10 +300,6 @@ pub few_swept : (names : List (List ℕ)) (listed : List (String Global)) → ma
 few_swept names listed e small =
     omega (arith, sweep_count names, length-filter is_converter_name names, count_by-le-length is_converter_name names, ap length e, length-map listed string_bytes)
 
--- the removals of the plan are those of what was listed
-pub sweeps_listed : (listed : List (String Global)) (tmp : List (String Global)) (names : List (List ℕ)) (steps items : List Step) → steps ≡ items → items ≡ planned (map string_bytes listed) [] [] [] → listed ≡ tmp → map string_bytes tmp ≡ names → removals_of steps ≡ sweep_of names
-sweeps_listed listed tmp names steps items e1 e2 e3 e4 = ap removals_of (e1 ∙ e2) ∙ plan_sweeps (map string_bytes listed) ∙ ap (λ l. sweep_of (map string_bytes l)) e3 ∙ ap sweep_of e4
-
 pub swept_run : {A B : Type 0} (x : A) (r : Result B RunFault) (names : Names) (removed : List Task) (a b c : Seen) (made mid made' : ℕ) → removed ≡ sweep_of names.tmp → Ran (listings names) a b made mid (Ok x) → Ran removed b c mid made' r → Ran (listings names ++ sweep_of names.tmp) a c made made' r
 swept_run x r names removed a b c made mid made' e first then = ran_then x r (listings names) (sweep_of names.tmp) a b c made mid made' first (subst (λ ts. Ran ts b c mid made' r) e then)
 

@@ -19,7 +19,6 @@ use crate::engine::Engine;
 use crate::fault::RunFault;
 use crate::folder::Folder;
 use crate::messages::Messages;
-use crate::planner::plan;
 use crate::report::Report;
 use crate::survey::look;
 use crate::sweep::sweep;
@@ -75,8 +74,7 @@ pub fn convert<F: Folder, R: Read>(
     let mut ended = read_first(&mut messages, source, &mut whole)?;
     let mut calls = Calls::new();
     let found = look(folder, &mut calls)?;
-    let removals = plan(alloc, &found.tmp, &[], &[], &[])?;
-    let swept = sweep(folder, &mut calls, &removals)?;
+    let swept = sweep(alloc, folder, &mut calls, &found.tmp)?;
     let there = Bases::listed(alloc, &found.new, &found.cur)?;
     let mut engine = Engine::new(alloc, there, calls);
     'pieces: loop {

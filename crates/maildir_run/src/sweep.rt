@@ -1,15 +1,33 @@
 // The sweep: what broken runs left in `tmp` is removed.
-ghost use Rattle.std.specs.Prelude.{◌≡◌, length, IfOk, IfErr};
+ghost use Rattle.std.specs.Prelude.{◌≡◌, length, map, string_bytes, IfOk, IfErr};
 ghost use Rattle.maildir_run.specs.Counting.{IsOfFolder};
-ghost use Rattle.maildir_run.specs.Tasks.{Ran, seen, removals_of};
+ghost use Rattle.maildir_run.specs.Tasks.{Ran, seen, removals_of, sweep_of};
 
 use crate::calls::Calls;
 use crate::fault::RunFault;
 use crate::folder::Folder;
-use crate::planner::Step;
+use crate::planner::{Step, plan};
+use std::alloc::Global;
+
+/// Removes the converter's names among those that were listed in `tmp`, by the plan for them and no target. Answers how
+/// many.
+pub(crate) fn sweep<F: Folder>(
+    alloc: Global,
+    folder: &mut F,
+    calls: &mut Calls,
+    listed: &[String],
+) -> Result<u64, RunFault>
+    ensures ran { let at = seen F.honest F.quiet F.files F.calls F.failures in
+        Ran (sweep_of (map string_bytes listed.now)) (at folder.old) (at folder.new) calls.old.made calls.new.made result }
+    ensures count { IfOk result (λ n. n ≡ length (sweep_of (map string_bytes listed.now))) }
+    ensures causes { IfErr result IsOfFolder }
+{
+    let steps = plan(alloc, listed, &[], &[], &[])?;
+    remove_planned(folder, calls, &steps)
+}
 
 /// Makes the removals of a plan, in its order. Answers how many.
-pub(crate) fn sweep<F: Folder>(
+fn remove_planned<F: Folder>(
     folder: &mut F,
     calls: &mut Calls,
     steps: &[Step],

@@ -1,4 +1,4 @@
-use Rattle.std.proofs.Common.{◌+◌, ◌*◌, [], ◌++◌, length, refl, sym, ap, subst, ◌∙◌, inl, inr, arith}
+use Rattle.std.proofs.Common.{◌+◌, ◌*◌, [], ◌++◌, map, string_bytes, length, refl, sym, ap, subst, ◌∙◌, inl, inr, arith}
 use Rattle.std.specs.FinMap.{contains_key}
 use Rattle.maildir_run.specs.declared.calls.Calls.{Calls}
 use Rattle.maildir_run.specs.declared.fault.RunFault.TheVariants.{OutOfMemory}
@@ -11,7 +11,7 @@ use Rattle.maildir_run.proofs.Exits.{none_few, three_few, given_within, begins_w
 use Rattle.maildir_run.proofs.Told.{listings_place_none}
 use Rattle.maildir_run.proofs.Tasks.{ran_none, ran_ok, ran_err, ran_stop}
 use Rattle.maildir_run.proofs.Bringing.{brought_none}
-use Rattle.maildir_run.proofs.Ending.{owed_early, owed_stopped, owed_end, few_swept, few_tasks, few_bodies_of, sweeps_listed, swept_run, whole_run, early_none, early_ours, early_few, tells_listed, one_batch, count_bodies, placed_bodies}
+use Rattle.maildir_run.proofs.Ending.{owed_early, owed_stopped, owed_end, few_swept, few_tasks, few_bodies_of, swept_run, whole_run, early_none, early_ours, early_few, tells_listed, one_batch, count_bodies, placed_bodies}
 use Rattle.maildir_run.proofs.converting.convert.Goals as goal
 
 pub returns-in_err-messages : goal.returns-in_err-messages
@@ -89,39 +89,13 @@ returns-in_err-found g c =
       budget = begins_within c.in_ok-ended.ended _ _ _ _ _ c.args.reads _ c.in_ok-messages.ensures.1 c.in_ok-ended.ensures.begins;
     }
 
-pub returns-in_err-removals : goal.returns-in_err-removals
-returns-in_err-removals g c =
-    let r = c.from_residual-in_err-removals in
-    let fault = c.in_err-removals.field-0.0 in
-    let of = subst IsOfFolder (sym c.in_err-removals.ensures.refused) tt in
-    let look = c.in_ok-found.ensures.ran in
-    let names = look.0 in
-    let o = owed_early _ _ (listings names) _ _ _ _ r.result r.ensures.0 (listings_place_none names) (tt, (tt, (tt, tt))) (ran_stop _ fault _ _ _ _ _ _ r.ensures.1 (inr (inr (inr c.in_err-removals.ensures.refused))) look.1) c.new-calls.ensures three_few in
-    record {
-      honest = o.honest;
-      run = o.run;
-      restartable = o.restartable;
-      end = unless_ok _ r.result r.ensures.0;
-      quiet = o.quiet;
-      alone = o.alone;
-      others = o.others;
-      calls = o.calls;
-      cause = o.cause;
-      numbered = o.numbered;
-      untouched = λ e. absurd (not_begun r.result fault r.ensures.1 of e);
-      no_from_line = λ e. absurd (not_begun r.result fault r.ensures.1 of e);
-      spent = λ e. absurd (not_spent r.result fault r.ensures.1 of e);
-      causes = if_err _ r.result fault r.ensures.1 (inr of);
-      budget = begins_within c.in_ok-ended.ended _ _ _ _ _ c.args.reads _ c.in_ok-messages.ensures.1 c.in_ok-ended.ensures.begins;
-    }
-
 pub returns-in_err-swept : goal.returns-in_err-swept
 returns-in_err-swept g c =
     let r = c.from_residual-in_err-swept in
     let fault = c.in_err-swept.field-0.0 in
     let look = c.in_ok-found.ensures.ran in
     let names = look.0 in
-    let removed = sweeps_listed c.deref.result.now c.in_ok-found.found.tmp.items names.tmp c.deref-2.result.now c.in_ok-removals.removals.items c.deref-2.ensures.value c.in_ok-removals.ensures.exact c.deref.ensures.value look.2.0 in
+    let removed = ap sweep_of (ap (map string_bytes) c.deref.ensures.value ∙ look.2.0) in
     let small = few_swept names.tmp c.in_ok-found.found.tmp.items look.2.0 (omega (arith, c.in_ok-found.found.tmp.small, c.in_ok-found.found.tmp.ok)) in
     let o = owed_early _ _ _ _ _ _ _ r.result r.ensures.0 (early_none names) (early_ours names) (ran_err _ _ _ _ _ _ _ r.ensures.1 (swept_run _ _ names _ _ _ _ _ _ _ removed look.1 c.in_err-swept.ensures.ran)) c.new-calls.ensures (early_few names small) in
     record {
@@ -149,7 +123,7 @@ returns-in_err-there g c =
     let fault = OutOfMemory in
     let look = c.in_ok-found.ensures.ran in
     let names = look.0 in
-    let removed = sweeps_listed c.deref.result.now c.in_ok-found.found.tmp.items names.tmp c.deref-2.result.now c.in_ok-removals.removals.items c.deref-2.ensures.value c.in_ok-removals.ensures.exact c.deref.ensures.value look.2.0 in
+    let removed = ap sweep_of (ap (map string_bytes) c.deref.ensures.value ∙ look.2.0) in
     let small = few_swept names.tmp c.in_ok-found.found.tmp.items look.2.0 (omega (arith, c.in_ok-found.found.tmp.small, c.in_ok-found.found.tmp.ok)) in
     let before = ran_ok _ (tt {0}) _ _ _ _ _ (swept_run _ _ names _ (at c.args.folder.now) (at c.look.new.folder) (at c.sweep.new.folder) _ _ _ removed look.1 c.in_ok-swept.ensures.ran) in
     let o = owed_early _ _ _ _ _ _ _ r.result r.ensures.0 (early_none names) (early_ours names) (ran_stop _ fault _ _ _ _ _ _ r.ensures.1 (inr (inr (inr refl))) before) c.new-calls.ensures (early_few names small) in
@@ -218,10 +192,10 @@ returns-in_err-deliver_all g c =
     let whole = c.pieces.whole.items in
     let look = c.in_ok-found.ensures.ran in
     let names = look.0 in
-    let removed = sweeps_listed c.deref.result.now c.in_ok-found.found.tmp.items names.tmp c.deref-2.result.now c.in_ok-removals.removals.items c.deref-2.ensures.value c.in_ok-removals.ensures.exact c.deref.ensures.value look.2.0 in
+    let removed = ap sweep_of (ap (map string_bytes) c.deref.ensures.value ∙ look.2.0) in
     let small = few_swept names.tmp c.in_ok-found.found.tmp.items look.2.0 (omega (arith, c.in_ok-found.found.tmp.small, c.in_ok-found.found.tmp.ok)) in
     let before = ran_ok _ (tt {0}) _ _ _ _ _ (swept_run _ _ names _ (at c.args.folder.now) (at c.look.new.folder) (at c.sweep.new.folder) _ _ _ removed look.1 c.in_ok-swept.ensures.ran) in
-    let tells = tells_listed c.new-engine.result.there c.in_ok-there.there c.deref-3.result.now c.in_ok-found.found.new.items c.deref-4.result.now c.in_ok-found.found.cur.items names c.new-engine.ensures.there c.in_ok-there.ensures c.deref-3.ensures.value c.deref-4.ensures.value look.2.1 look.2.2 in
+    let tells = tells_listed c.new-engine.result.there c.in_ok-there.there c.deref-2.result.now c.in_ok-found.found.new.items c.deref-3.result.now c.in_ok-found.found.cur.items names c.new-engine.ensures.there c.in_ok-there.ensures c.deref-2.ensures.value c.deref-3.ensures.value look.2.1 look.2.2 in
     let few = given_few c.pieces.ended _ _ _ _ _ i.text (i.given ++ whole) i.gave in
     let few_all = few_bodies_of (i.given ++ whole) c.args.reads few c.requires in
     let brought = one_batch _ _ _ i.given whole c.deref-in-pieces.result.now c.args.reads _ _ _ _ _ _ _ _ _ _ _ i.there c.deref-in-pieces.ensures.value few c.requires i.brought c.in_err-deliver_all.ensures.brought in
@@ -256,10 +230,10 @@ returns-in_err-ended-2 g c =
     let whole = c.pieces.whole.items in
     let look = c.in_ok-found.ensures.ran in
     let names = look.0 in
-    let removed = sweeps_listed c.deref.result.now c.in_ok-found.found.tmp.items names.tmp c.deref-2.result.now c.in_ok-removals.removals.items c.deref-2.ensures.value c.in_ok-removals.ensures.exact c.deref.ensures.value look.2.0 in
+    let removed = ap sweep_of (ap (map string_bytes) c.deref.ensures.value ∙ look.2.0) in
     let small = few_swept names.tmp c.in_ok-found.found.tmp.items look.2.0 (omega (arith, c.in_ok-found.found.tmp.small, c.in_ok-found.found.tmp.ok)) in
     let before = ran_ok _ (tt {0}) _ _ _ _ _ (swept_run _ _ names _ (at c.args.folder.now) (at c.look.new.folder) (at c.sweep.new.folder) _ _ _ removed look.1 c.in_ok-swept.ensures.ran) in
-    let tells = tells_listed c.new-engine.result.there c.in_ok-there.there c.deref-3.result.now c.in_ok-found.found.new.items c.deref-4.result.now c.in_ok-found.found.cur.items names c.new-engine.ensures.there c.in_ok-there.ensures c.deref-3.ensures.value c.deref-4.ensures.value look.2.1 look.2.2 in
+    let tells = tells_listed c.new-engine.result.there c.in_ok-there.there c.deref-2.result.now c.in_ok-found.found.new.items c.deref-3.result.now c.in_ok-found.found.cur.items names c.new-engine.ensures.there c.in_ok-there.ensures c.deref-2.ensures.value c.deref-3.ensures.value look.2.1 look.2.2 in
     let few = given_few c.pieces.ended _ _ _ _ _ i.text (i.given ++ whole) i.gave in
     let few_all = few_bodies_of (i.given ++ whole) c.args.reads few c.requires in
     let brought = one_batch _ _ _ i.given whole c.deref-in-pieces.result.now c.args.reads _ _ _ _ _ _ _ _ _ _ _ i.there c.deref-in-pieces.ensures.value few c.requires i.brought c.in_ok-deliver_all.ensures.brought in
@@ -295,10 +269,10 @@ returns-then-ended g c =
     let engine = c.deliver_all.new.self in
     let look = c.in_ok-found.ensures.ran in
     let names = look.0 in
-    let removed = sweeps_listed c.deref.result.now c.in_ok-found.found.tmp.items names.tmp c.deref-2.result.now c.in_ok-removals.removals.items c.deref-2.ensures.value c.in_ok-removals.ensures.exact c.deref.ensures.value look.2.0 in
+    let removed = ap sweep_of (ap (map string_bytes) c.deref.ensures.value ∙ look.2.0) in
     let small = few_swept names.tmp c.in_ok-found.found.tmp.items look.2.0 (omega (arith, c.in_ok-found.found.tmp.small, c.in_ok-found.found.tmp.ok)) in
     let before = ran_ok _ (tt {0}) _ _ _ _ _ (swept_run _ _ names _ (at c.args.folder.now) (at c.look.new.folder) (at c.sweep.new.folder) _ _ _ removed look.1 c.in_ok-swept.ensures.ran) in
-    let tells = tells_listed c.new-engine.result.there c.in_ok-there.there c.deref-3.result.now c.in_ok-found.found.new.items c.deref-4.result.now c.in_ok-found.found.cur.items names c.new-engine.ensures.there c.in_ok-there.ensures c.deref-3.ensures.value c.deref-4.ensures.value look.2.1 look.2.2 in
+    let tells = tells_listed c.new-engine.result.there c.in_ok-there.there c.deref-2.result.now c.in_ok-found.found.new.items c.deref-3.result.now c.in_ok-found.found.cur.items names c.new-engine.ensures.there c.in_ok-there.ensures c.deref-2.ensures.value c.deref-3.ensures.value look.2.1 look.2.2 in
     let few = given_few c.pieces.ended _ _ _ _ _ i.text (i.given ++ whole) i.gave in
     let few_all = few_bodies_of (i.given ++ whole) c.args.reads few c.requires in
     let entries = c.deref-in-pieces.result.now in

@@ -1,42 +1,28 @@
-use Rattle.std.proofs.Common.{◌≡◌, ℕ, List, ◌∷◌, [], length, take, ap, sym, ◌∙◌, arith, refl}
-use Rattle.maildir_run.specs.Calls.{Removing}
-use Rattle.maildir_run.specs.Tasks.{Do, removal_of, removals_of}
-use Rattle.std.proofs.lemmas.List.{append-nil}
-use Rattle.maildir_run.specs.declared.planner.Step.{Step}
-use Rattle.maildir_run.specs.declared.planner.Step.TheVariants.{Remove, Write, Place}
-use Rattle.maildir_run.proofs.Tasks.{ran_more, ran_until, next_step, other_steps, next_count}
+use Rattle.std.proofs.Common.{[], map, string_bytes, refl, sym, ap, subst, ◌∙◌, inr}
+use Rattle.maildir_run.specs.Counting.{IsOfFolder}
+use Rattle.maildir_run.specs.Tasks.{Ran, seen, removals_of, sweep_of}
+use Rattle.maildir_run.proofs.Faults.{if_err, unless_ok}
+use Rattle.maildir_run.proofs.Ending.{plan_sweeps}
+use Rattle.maildir_run.proofs.Tasks.{ran_none, ran_before, ran_err, ran_stop}
 use Rattle.maildir_run.proofs.sweep.sweep.Goals as goal
-use Rattle.maildir_run.proofs.sweep.sweep.Goals.{in-Remove+in_ok-remove, in_default}
 
-none_removed : (step : Step) → ((name : List ℕ) → step ≡ Remove name → ⊥) → removal_of step ≡ []
-none_removed (Remove name) other = absurd (other name refl)
-none_removed (Write i) other = refl
-none_removed (Place i) other = refl
+pub returns-in_err-steps : goal.returns-in_err-steps
+returns-in_err-steps g c =
+    let r = c.from_residual in
+    let fault = c.in_err-steps.field-0.0 in
+    let at = seen g.F.Folder.honest g.F.Folder.quiet g.F.Folder.files g.F.Folder.calls g.F.Folder.failures in
+    record {
+      ran = ran_err {A = Unit {0}} _ r.result _ _ _ _ _ r.ensures.1
+      (ran_before fault [] _ _ _ _ _ (ran_stop (tt {0}) fault _ [] _ _ _ _ refl (inr (inr (inr c.in_err-steps.ensures.refused))) (ran_none (tt {0}) (at c.args.folder.now) c.args.calls.now.made)));
+      count = unless_ok _ r.result r.ensures.0;
+      causes = if_err _ r.result fault r.ensures.1 (subst IsOfFolder (sym c.in_err-steps.ensures.refused) tt);
+    }
 
-pub returns-in_err-remove-clause-ran : goal.returns-in_err-remove-clause-ran
-returns-in_err-remove-clause-ran g c =
-    let tasks = ap removal_of c.in-Remove.is ∙ ap (λ n. Do (Removing n) ∷ []) (sym c.as_str.ensures) in
-    ran_until _ _ _ _ _ _ _ _ _ _ _ _ (other_steps removal_of c.args.steps.now c.loop-step.step-index c.step-item.result c.loop-step-test.true c.step-item.is _ tasks)
-    c.from_residual.ensures.1 c.loop-step.invariant.ran c.in_err-remove.ensures.ran
-
-pub loop-step-preserved : goal.loop-step-preserved
-loop-step-preserved g c =
-    let steps = c.args.steps.now in
-    let i = c.loop-step.step-index in
-    let before = c.loop-step.invariant in
-    elim c.match-step.branch [
-      | in-Remove+in_ok-remove w ↦
-          let tasks = ap removal_of w.in-Remove.is ∙ ap (λ n. Do (Removing n) ∷ []) (sym w.as_str.ensures) in
-          rw (w.folder-is, w.calls-is, w.swept-is) (record {
-            ran = ran_more _ _ _ _ _ _ _ _ _ _ (next_step removal_of steps i c.step-item.result c.loop-step-test.true c.step-item.is _ tasks) before.ran w.in_ok-remove.ensures.ran;
-            count = next_count removal_of steps i c.step-item.result c.loop-step-test.true c.step-item.is _ tasks _ before.count;
-            few = omega (arith, before.few);
-          })
-      | in_default w ↦
-          let tasks = none_removed c.step-item.result w.in_default.not-Remove in
-          rw (w.folder-is, w.calls-is, w.swept-is) (record {
-            ran = rw (next_step removal_of steps i c.step-item.result c.loop-step-test.true c.step-item.is _ tasks, append-nil) before.ran;
-            count = before.count ∙ ap length (sym (next_step removal_of steps i c.step-item.result c.loop-step-test.true c.step-item.is _ tasks ∙ append-nil (removals_of (take i steps))));
-            few = omega (arith, before.few);
-          })
-    ]
+pub returns : goal.returns
+returns g c =
+    let tasks = ap removals_of (c.deref.ensures.value ∙ c.in_ok-steps.ensures.exact) ∙ plan_sweeps (map string_bytes c.args.listed.now) in
+    record {
+      ran = rw tasks at c.remove_planned.ensures.ran;
+      count = rw tasks at c.remove_planned.ensures.count;
+      causes = c.remove_planned.ensures.causes;
+    }

@@ -1,6 +1,6 @@
 use Rattle.std.proofs.Common.{◌≡◌, ◌≤◌, take, length}
 use Rattle.maildir_run.specs.Tasks.{RanAll, seen, removals_of}
-use Rattle.maildir_run.proofs.sweep.sweep.Given as goal
+use Rattle.maildir_run.proofs.sweep.remove_planned.Given as goal
 
 abbrev pub invariant-loop-step : goal.invariant-loop-step
 invariant-loop-step g l =
