@@ -26,7 +26,7 @@ use Rattle.maildir_run.specs.Plan.{is_listed, planned}
 use Rattle.maildir_run.specs.Progress.{LeavesHomes, TmpWithin, Knows, Progress, IsTarget, message_at}
 use Rattle.maildir_run.specs.Quietly.{LeavesOthers}
 use Rattle.maildir_run.specs.Runs.{Possible, Run, CountsRun, Link, Runs}
-use Rattle.maildir_run.specs.Tasks.{Task, Do, Seen, Ran, RanAll, Brought, Performs, AllDone, Stopped, reported, undisturbed, Names, listings, removals_of, removal_of, sweep_of, messages_after, delivery_of, delivery_if, deliveries_of}
+use Rattle.maildir_run.specs.Tasks.{Task, Do, Seen, Ran, RanAll, Brought, Performs, AllDone, Stopped, reported, undisturbed, Names, listings, sweep_of, messages_after, delivery_of, delivery_if, deliveries_of}
 use Rattle.maildir_run.specs.Calls.{Removing}
 use Rattle.maildir_run.specs.Texts.{messages_of, bodies_of, MessagesOf}
 use Rattle.maildir_run.proofs.Counts.{run_counts}
@@ -54,14 +54,6 @@ after_these xs (y ∷ ys) =
 
 pub all_messages : (bodies : List (List ℕ)) → messages_after [] bodies ≡ messages_of bodies
 all_messages bodies = ap (λ ms. ms ++ messages_after [] bodies) (sym no_messages) ∙ sym (after_these [] bodies)
-
--- ---- the removals of a plan without targets
-swept_each : (names : List (List ℕ)) → flat_map removal_of (map Remove names ++ []) ≡ map (λ name. Do (Removing name)) names
-swept_each [] = refl
-swept_each (name ∷ names) = ap (λ ts. Do (Removing name) ∷ ts) (swept_each names)
-
-pub plan_sweeps : (tmp : List (List ℕ)) → removals_of (planned tmp [] [] []) ≡ sweep_of tmp
-plan_sweeps tmp = swept_each (filter is_converter_name tmp)
 
 -- ---- tasks that name converter's names alone
 ours_each : (names : List (List ℕ)) → All (λ name. IsTrue (is_converter_name name)) names → AreOurs (map (λ name. Do (Removing name)) names)

@@ -34,6 +34,7 @@ pub mod AloneLemmas
 pub mod QuietRuns
 pub mod Listings
 pub mod Tasks
+pub mod Planned
 pub mod Bringing
 pub mod Told
 pub mod Ending

@@ -1,5 +1,5 @@
 -- What a run did with its folder: calls that were planned, in order, up to the first that was refused.
-use Rattle.std.specs.Prelude.{◌≡◌, ℕ, ◌+◌, ◌*◌, ◌≤◌, ◌⊎◌, Bool, List, [], ◌∷◌, ◌++◌, map, length, IsPermutation, OnOk, Result, Ok, Err, if◌then◌else◌}
+use Rattle.std.specs.Prelude.{◌≡◌, ℕ, ◌+◌, ◌*◌, ◌≤◌, ◌⊎◌, Bool, List, [], ◌∷◌, ◌++◌, map, length, take, drop, IsPermutation, OnOk, Result, Ok, Err, if◌then◌else◌}
 use Rattle.std.specs.FinMap.{keys}
 use Rattle.std.specs.List.{flat_map, filter}
 use Rattle.std.specs.declared.vec.Vec.{Vec}
@@ -18,6 +18,7 @@ use Rattle.maildir_run.specs.Calls.{Call, Listing, Writing, Placing, Removing, M
 use Rattle.maildir_run.specs.Counting.{Makes, CountsFault, IsNumbered}
 use Rattle.maildir_run.specs.Delivery.{Message}
 use Rattle.maildir_run.specs.Files.{Files}
+use Rattle.maildir_run.specs.Plan.{planned}
 use Rattle.maildir_run.specs.Progress.{message_at}
 
 -- a call that a run makes; a listing with the names that it answers
@@ -121,15 +122,19 @@ pub record Names : Type 0 where
 abbrev pub listings : Names → List Task
 listings names = Ask Tmp names.tmp ∷ Ask New names.new ∷ Ask Cur names.cur ∷ []
 
--- what a step of a plan removes
-abbrev pub removal_of : Step → List Task
-removal_of (Remove name) = Do (Removing name) ∷ []
-removal_of (Write _) = []
-removal_of (Place _) = []
+-- the calls of a step of a plan, where a step's number is that of one of these messages
+abbrev pub task_of : List Message → Step → List Task
+task_of ms (Remove name) = Do (Removing name) ∷ []
+task_of ms (Write i) = map (λ m. Do (Writing m.target.base m.body)) (take 1 (drop i ms))
+task_of ms (Place i) = map (λ m. Do (Placing m.target.base m.target.place m.target.name)) (take 1 (drop i ms))
 
--- what the steps of a plan remove
-abbrev pub removals_of : List Step → List Task
-removals_of steps = flat_map removal_of steps
+-- the calls of a plan
+abbrev pub tasks_of : List Message → List Step → List Task
+tasks_of ms steps = flat_map (task_of ms) steps
+
+-- what is planned for these messages: the three listings, and the steps for what they answered
+abbrev pub planned_tasks : Names → List Message → List Task
+planned_tasks names ms = listings names ++ tasks_of ms (planned names.tmp names.new names.cur (map (λ m. m.target) ms))
 
 -- the converter's names among these are removed
 abbrev pub sweep_of : List (List ℕ) → List Task

@@ -17,12 +17,20 @@ ghost use Rattle.maildir_run.specs.Runs.{CountsRun, Link, Run, Runs};
 ghost use Rattle.maildir_run.specs.Several.{Text, IsText, OfEach, SoundForAll, LinkOver, RunsOver, link_over, link_of, AreFresh, StandsAfter};
 ghost use Rattle.maildir_run.specs.Several.LinkOver.{RanOver};
 ghost use Rattle.maildir_run.specs.Alone.{alone};
-ghost use Rattle.maildir_run.specs.Plan.{planned, each_alone};
+ghost use Rattle.maildir_run.specs.Plan.{is_listed, planned, each_alone};
+ghost use Rattle.maildir_run.specs.Tasks.{Names, planned_tasks, listings, sweep_of, deliveries_of};
 
 /// The plan for some targets is the plan for none, followed by the steps of each target alone over an empty `tmp`.
 pub fn plan_is_each_alone()
     ensures { (tmp new cur : List (List ℕ)) (targets : List Target) →
         planned tmp new cur targets ≡ planned tmp new cur [] ++ each_alone 0 new cur targets }
+{}
+
+/// What a run asks of its folder for some messages, one after the other, are the calls of the plan for all of them: the
+/// listings, and then the steps that `plan` answers for what they listed and the messages' targets.
+pub fn runs_are_planned()
+    ensures { (names : Names) (ms : List Message) → planned_tasks names ms
+        ≡ listings names ++ (sweep_of names.tmp ++ deliveries_of (is_listed names.new names.cur) ms) }
 {}
 
 /// A converter's base keeps what its homes hold, whatever another program does, and within each call that

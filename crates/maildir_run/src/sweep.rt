@@ -1,7 +1,7 @@
 // The sweep: what broken runs left in `tmp` is removed.
-ghost use Rattle.std.specs.Prelude.{◌≡◌, length, map, string_bytes, IfOk, IfErr};
+ghost use Rattle.std.specs.Prelude.{◌≡◌, [], length, map, string_bytes, IfOk, IfErr};
 ghost use Rattle.maildir_run.specs.Counting.{IsOfFolder};
-ghost use Rattle.maildir_run.specs.Tasks.{Ran, seen, removals_of, sweep_of};
+ghost use Rattle.maildir_run.specs.Tasks.{Ran, seen, tasks_of, sweep_of};
 
 use crate::calls::Calls;
 use crate::fault::RunFault;
@@ -33,8 +33,8 @@ fn remove_planned<F: Folder>(
     steps: &[Step],
 ) -> Result<u64, RunFault>
     ensures ran { let at = seen F.honest F.quiet F.files F.calls F.failures in
-        Ran (removals_of steps.now) (at folder.old) (at folder.new) calls.old.made calls.new.made result }
-    ensures count { IfOk result (λ n. n ≡ length (removals_of steps.now)) }
+        Ran (tasks_of [] steps.now) (at folder.old) (at folder.new) calls.old.made calls.new.made result }
+    ensures count { IfOk result (λ n. n ≡ length (tasks_of [] steps.now)) }
     ensures causes { IfErr result IsOfFolder }
 {
     let mut swept = 0;

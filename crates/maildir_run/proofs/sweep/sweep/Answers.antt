@@ -1,8 +1,8 @@
 use Rattle.std.proofs.Common.{[], map, string_bytes, refl, sym, ap, subst, ◌∙◌, inr}
 use Rattle.maildir_run.specs.Counting.{IsOfFolder}
-use Rattle.maildir_run.specs.Tasks.{Ran, seen, removals_of, sweep_of}
+use Rattle.maildir_run.specs.Tasks.{Ran, seen, tasks_of, sweep_of}
 use Rattle.maildir_run.proofs.Faults.{if_err, unless_ok}
-use Rattle.maildir_run.proofs.Ending.{plan_sweeps}
+use Rattle.maildir_run.proofs.Planned.{plan_sweeps}
 use Rattle.maildir_run.proofs.Tasks.{ran_none, ran_before, ran_err, ran_stop}
 use Rattle.maildir_run.proofs.sweep.sweep.Goals as goal
 
@@ -20,7 +20,7 @@ returns-in_err-steps g c =
 
 pub returns : goal.returns
 returns g c =
-    let tasks = ap removals_of (c.deref.ensures.value ∙ c.in_ok-steps.ensures.exact) ∙ plan_sweeps (map string_bytes c.args.listed.now) in
+    let tasks = ap (tasks_of []) (c.deref.ensures.value ∙ c.in_ok-steps.ensures.exact) ∙ plan_sweeps (map string_bytes c.args.listed.now) in
     record {
       ran = rw tasks at c.remove_planned.ensures.ran;
       count = rw tasks at c.remove_planned.ensures.count;
