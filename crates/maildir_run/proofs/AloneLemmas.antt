@@ -1,11 +1,17 @@
 -- Where the messages are delivered, an undisturbed run has nothing to do.
-use Rattle.std.proofs.Common.{◌≡◌, ℕ, true, cond, not, List, [], ◌∷◌, All, None, IsTrue, refl, sym, ap, ◌∙◌, inl, inr}
-use Rattle.std.specs.FinMap.{get, retain_keys, same_map}
+use Rattle.std.proofs.Common.{◌≡◌, ℕ, ◌+◌, ◌%◌, ◌^◌, length, Ok, arith, true, cond, not, List, [], ◌∷◌, All, None, IsTrue, refl, sym, ap, ◌∙◌, inl, inr}
+use Rattle.std.specs.FinMap.{get, retain_keys, same_map, empty, get-empty, len, len-empty}
 use Rattle.std.proofs.lemmas.Bool.{cases_Bool}
 use Rattle.std.proofs.lemmas.List.Elements.{All-head, All-tail}
 use Rattle.maildir_name.specs.Names.{is_converter_name}
-use Rattle.maildir_run.specs.Files.{Files, FileMap}
-use Rattle.maildir_run.specs.Delivery.{Message, is_any, has_home, IsHome, IsSwept, Delivered}
+use Rattle.maildir_run.specs.Files.{Files, FileMap, name_cmp}
+use Rattle.maildir_run.specs.Delivery.{Message, is_any, has_home, IsHome, IsSwept, Delivered, there_count, leftover_count}
+use Rattle.std.proofs.lemmas.List.Sorted.{IsPermutation-refl}
+use Rattle.maildir_run.specs.declared.report.Report.{Report}
+use Rattle.maildir_run.specs.Texts.{MessagesOf}
+use Rattle.maildir_run.specs.Runs.{Run, CountsRun}
+use Rattle.maildir_run.proofs.Counted.{counted}
+use Rattle.maildir_run.proofs.Numbers.{count-cons}
 use Rattle.maildir_run.specs.Alone.{swept, added, filled, alone}
 use Rattle.maildir_run.proofs.Maps.{total, same, get_under}
 
@@ -29,3 +35,29 @@ nothing_filled start (m ∷ ms) s there =
 
 pub alone-delivered : (ms : List Message) (s : Files) → Delivered ms s → alone ms s ≡ s
 alone-delivered ms s d = nothing_filled s ms (swept s) d.homes_are ∙ nothing_swept s d.swept
+
+none_kept : (m : FileMap) → ((name : List ℕ) → IsTrue (is_converter_name name) → get m name ≡ None) → retain_keys m is_converter_name ≡ empty
+none_kept m gone =
+    same_map total same _ _ (λ q.
+    elim (cases_Bool (is_converter_name q)) as (λ _. get (retain_keys m is_converter_name) q ≡ get (empty {R = name_cmp}) q) [
+      | inl on ↦ get_under is_converter_name m q ∙ ap (λ t. cond t (get m q) None) on ∙ gone q on ∙ sym (get-empty name_cmp q)
+      | inr off ↦ get_under is_converter_name m q ∙ ap (λ t. cond t (get m q) None) off ∙ sym (get-empty name_cmp q)
+    ])
+
+all_there : (s : Files) (ms : List Message) → All (IsHome s) ms → there_count s ms ≡ length ms
+all_there s [] there = refl
+all_there s (m ∷ ms) there =
+    let rest = all_there s ms (All-tail (IsHome s) m ms there) in
+    count-cons (λ (n : Message). has_home s n.target.base) m ms true (ap is_any (All-head (IsHome s) m ms there)) ∙ omega (arith, rest)
+
+pub three_calls : (t : List ℕ) (ms : List Message) (s new : Files) (report : Report) → MessagesOf t ms → Delivered ms s → Run t s (Ok report) new → (before after : ℕ) → CountsRun report before after →
+    (report.placed ≡ 0) × (report.swept ≡ 0) × (after % 2 ^ 128 ≡ (before + 3) % 2 ^ 128)
+three_calls t ms s new report are d run before after made =
+    let reports = (run.keeps ms are (record { own = λ k e h. inr (d.homes_are k e h); others = λ b named other. IsPermutation-refl _ })).ends.reports in
+    let there = all_there s ms d.homes_are in
+    let is_placed = reports.placed in
+    let is_swept = reports.swept in
+    let leftovers : leftover_count s ≡ 0 = counted s.tmp ∙ ap len (none_kept s.tmp d.swept) ∙ len-empty name_cmp (List ℕ) in
+    let placed : report.placed ≡ 0 = omega (arith, is_placed, there) in
+    let swept : report.swept ≡ 0 = omega (arith, is_swept, leftovers) in
+    (placed, swept, made ∙ ap (λ n. (before + n) % 2 ^ 128) (omega (arith, placed, swept)))

@@ -6,7 +6,7 @@ use Rattle.maildir_name.specs.Targets.{target}
 use Rattle.maildir_run.specs.Files.{Files}
 use Rattle.maildir_run.specs.Delivery.{Message, IsSoundAt}
 use Rattle.maildir_run.specs.Texts.{messages_of, bodies_of}
-use Rattle.maildir_run.specs.Progress.{Came, message_at}
+use Rattle.maildir_run.specs.Progress.{message_at}
 use Rattle.maildir_run.proofs.MessageLemmas.{messages_of-push}
 
 -- more bodies give more messages behind
@@ -29,14 +29,6 @@ sound_front start a b all =
     let r = messages_more a b in
     front_all (IsSoundAt start) (messages_of a) r.0 (subst (All (IsSoundAt start)) r.1 all)
 
-pub came_more : (a b : List (List ℕ)) (start now : Files) → Came a start now → Came (a ++ b) start now
-came_more a b start now c = record {
-  done = c.done;
-  rest = c.rest ++ b;
-  is = ap (λ xs. xs ++ b) c.is ∙ append_assoc c.done c.rest b;
-  progress = c.progress;
-}
-
 -- the bodies of the first entries, one more, and the others
 module _ (entries : List Entry) (i : ℕ) (entry : Entry) (h : i < length entries) (is : entry ≡ get_or entries i entry) where
   pub bodies_next : (bodies : List (List ℕ)) → bodies ++ bodies_of (take (i + 1) entries) ≡ (bodies ++ bodies_of (take i entries)) ++ entry.body ∷ []
@@ -56,13 +48,3 @@ module _ (entries : List Entry) (i : ℕ) (entry : Entry) (h : i < length entrie
   pub few_next : (bodies : List (List ℕ)) → length bodies + length entries ≤ 2 ^ 63 → length (bodies ++ bodies_of (take i entries)) < 2 ^ 63
   few_next bodies few =
       omega (arith, length-append bodies (bodies_of (take i entries)), length-map (take i entries) (λ (e : Entry). e.body), length-take-le i entries (omega arith))
-
-  pub sound_next : (bodies : List (List ℕ)) (start : Files) → All (IsSoundAt start) (messages_of (bodies ++ bodies_of entries)) → All (IsSoundAt start) (messages_of ((bodies ++ bodies_of (take i entries)) ++ entry.body ∷ []))
-  sound_next bodies start all =
-      sound_front start ((bodies ++ bodies_of (take i entries)) ++ entry.body ∷ []) (bodies_of (drop (i + 1) entries))
-      (subst (λ bs. All (IsSoundAt start) (messages_of bs)) (bodies_split bodies) all)
-
-  pub came_next : (bodies : List (List ℕ)) (start now : Files) → Came ((bodies ++ bodies_of (take i entries)) ++ entry.body ∷ []) start now → Came (bodies ++ bodies_of entries) start now
-  came_next bodies start now c =
-      subst (λ bs. Came bs start now) (sym (bodies_split bodies))
-      (came_more ((bodies ++ bodies_of (take i entries)) ++ entry.body ∷ []) (bodies_of (drop (i + 1) entries)) start now c)

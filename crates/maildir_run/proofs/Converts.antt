@@ -7,7 +7,7 @@ use Rattle.std.proofs.lemmas.List.Elements.{All-nil}
 use Rattle.mbox_text.specs.declared.entry.Entry.{Entry}
 use Rattle.mbox_text.specs.Mbox.{Mbox}
 use Rattle.mbox_text.proofs.OneReading.{mbox-one}
-use Rattle.maildir_name.specs.Named.{Counts, Named}
+use Rattle.maildir_name.specs.Named.{Counts}
 use Rattle.maildir_run.specs.declared.fault.RunFault.{RunFault}
 use Rattle.maildir_run.specs.declared.report.Report.{Report}
 use Rattle.maildir_run.specs.Files.{Files}
@@ -15,15 +15,14 @@ use Rattle.maildir_run.specs.Bases.{BaseSet}
 use Rattle.maildir_run.specs.Delivery.{Message, IsSoundAt, IsHome, AreNamed, AreDistinct, Sound, there_count, leftover_count}
 use Rattle.maildir_run.specs.Texts.{messages_of, bodies_of, MessagesOf}
 use Rattle.maildir_run.specs.Runs.{Possible, Keeps, Run}
-use Rattle.maildir_run.specs.Progress.{LeavesHomes, TmpWithin, Knows, Progress, Reached, Came}
+use Rattle.maildir_run.specs.Progress.{LeavesHomes, Progress, Reached}
 use Rattle.maildir_run.specs.Given.{GaveAll}
 use Rattle.maildir_run.specs.Alone.{swept, filled, alone}
-use Rattle.maildir_run.specs.Quietly.{Filled}
-use Rattle.std.specs.FinMap.{contains_key}
 use Rattle.maildir_run.proofs.MessageLemmas.{text_named, text_distinct, length-messages_of}
 use Rattle.maildir_run.proofs.Progress.{Stands, progress_stands}
 use Rattle.maildir_run.proofs.Batches.{messages_more, sound_front}
 use Rattle.maildir_run.proofs.Givens.{First}
+use Rattle.maildir_run.proofs.Told.{CameTo}
 use Rattle.maildir_run.proofs.Poured.{read_is}
 
 pub none_done : (start now : Files) → LeavesHomes start now → Progress [] start now
@@ -32,25 +31,13 @@ none_done start now leaves = record { homes_are = All-nil (IsHome now); kept = �
 pub no_messages : messages_of [] ≡ []
 no_messages = nil_from_length (messages_of []) (length-messages_of [])
 
--- as it begins
-pub reached_none : (start now : Files) (there : BaseSet) (namer : Counts) (messages placed : ℕ) → LeavesHomes start now → Knows (contains_key there) start → TmpWithin [] now → Named [] namer → messages ≡ 0 → placed ≡ 0 → Reached [] start there namer messages placed now
-reached_none start now there namer messages placed leaves knows within named e f = record {
-  named = named;
-  knows = knows;
-  progress = subst (λ ms. Progress ms start now) (sym no_messages) (none_done start now leaves);
-  within = within;
-  counted = e;
-  brought = ap (λ ms. placed + there_count start ms) no_messages ∙ (omega (arith, f));
-}
-
 stands_keeps : (ms : List Message) (start now : Files) (fault : RunFault) → Stands ms start now → Keeps ms start (Err fault) now
 stands_keeps ms start now fault s = record { sound = s.sound; still = s.still; in_order = s.in_order; ends = tt }
 
 -- messages of which the first are done
-front_stands : (ms : List Message) (done : List (List ℕ)) (more : List Message) (start now : Files) → AreNamed ms → AreDistinct ms → Sound ms start start → ms ≡ messages_of done ++ more → Progress (messages_of done) start now → Stands ms start now
+front_stands : (ms done more : List Message) (start now : Files) → AreNamed ms → AreDistinct ms → Sound ms start start → ms ≡ done ++ more → Progress done start now → Stands ms start now
 front_stands ms done more start now named distinct sound e p =
-    subst (λ x. Stands x start now) (sym e)
-    (progress_stands (messages_of done) more start now (subst AreNamed e named) (subst AreDistinct e distinct) (subst (λ x. Sound x start start) e sound) p)
+    subst (λ x. Stands x start now) (sym e) (progress_stands done more start now (subst AreNamed e named) (subst AreDistinct e distinct) (subst (λ x. Sound x start start) e sound) p)
 
 -- a run that delivered nothing
 pub untouched_run : (t : List ℕ) (start now : Files) (fault : RunFault) → LeavesHomes start now → length t < 2 ^ 63 → Run t start (Err fault) now
@@ -63,21 +50,19 @@ untouched_run t start now fault leaves small = record {
 bodies_parts : (all rest : List Entry) → bodies_of (all ++ rest) ≡ bodies_of all ++ bodies_of rest
 bodies_parts all rest = map-append (λ (e : Entry). e.body) all rest
 
-came_stands : (t : List ℕ) (ms : List Message) (all rest entries : List Entry) (start now : Files) → AreNamed ms → AreDistinct ms → Sound ms start start → ms ≡ messages_of (bodies_of entries) → entries ≡ all ++ rest → (All (IsSoundAt start) (messages_of (bodies_of all)) → Came (bodies_of all) start now) → Stands ms start now
-came_stands t ms all rest entries start now named distinct sound e is come =
-    let bodies : bodies_of entries ≡ bodies_of all ++ bodies_of rest = ap bodies_of is ∙ bodies_parts all rest in
-    let own : All (IsSoundAt start) (messages_of (bodies_of all ++ bodies_of rest)) = subst (All (IsSoundAt start)) (e ∙ ap messages_of bodies) sound.own in
-    let came = come (sound_front start (bodies_of all) (bodies_of rest) own) in
-    let parts : bodies_of entries ≡ came.done ++ (came.rest ++ bodies_of rest) = bodies ∙ ap (λ xs. xs ++ bodies_of rest) came.is ∙ append_assoc came.done came.rest (bodies_of rest) in
-    let more = messages_more came.done (came.rest ++ bodies_of rest) in
-    front_stands ms came.done more.0 start now named distinct sound (e ∙ ap messages_of parts ∙ more.1) came.progress
+came_stands : (ms : List Message) (all rest entries : List Entry) (start now : Files) → AreNamed ms → AreDistinct ms → Sound ms start start → ms ≡ messages_of (bodies_of entries) → entries ≡ all ++ rest → (All (IsSoundAt start) (messages_of (bodies_of all)) → CameTo (messages_of (bodies_of all)) start now) → Stands ms start now
+came_stands ms all rest entries start now named distinct sound e is come =
+    let more = messages_more (bodies_of all) (bodies_of rest) in
+    let parts : ms ≡ messages_of (bodies_of all) ++ more.0 = e ∙ ap messages_of (ap bodies_of is ∙ bodies_parts all rest) ∙ more.1 in
+    let came = come (sound_front start (bodies_of all) (bodies_of rest) (subst (All (IsSoundAt start)) (parts ∙ sym more.1) sound.own)) in
+    front_stands ms came.done (came.rest ++ more.0) start now named distinct sound (parts ∙ ap (λ xs. xs ++ more.0) came.is ∙ append_assoc came.done came.rest more.0) came.progress
 
-none_done_here : (done rest : List (List ℕ)) → [] ≡ done ++ rest → done ≡ []
+none_done_here : (done rest : List Message) → [] ≡ done ++ rest → done ≡ []
 none_done_here [] rest e = refl
 none_done_here (x ∷ done) rest e = cc
 
 -- a run that ended on its way
-pub came_run : (before source_now : Option (List ℕ)) (text : List ℕ) (all : List Entry) (start now : Files) (fault : RunFault) → Consumes before source_now text → First text source_now all → (All (IsSoundAt start) (messages_of (bodies_of all)) → Came (bodies_of all) start now) → (t : List ℕ) → length t < 2 ^ 63 → Possible before source_now t → Run t start (Err fault) now
+pub came_run : (before source_now : Option (List ℕ)) (text : List ℕ) (all : List Entry) (start now : Files) (fault : RunFault) → Consumes before source_now text → First text source_now all → (All (IsSoundAt start) (messages_of (bodies_of all)) → CameTo (messages_of (bodies_of all)) start now) → (t : List ℕ) → length t < 2 ^ 63 → Possible before source_now t → Run t start (Err fault) now
 came_run before source_now text all start now fault read first come t small p =
     let is : t ≡ text ++ p.more = rw (← read_is before source_now text t read p) p.front in
     record {
@@ -87,12 +72,11 @@ came_run before source_now text all start now fault read first come t small p =
           stands_keeps ms start now fault (elim of as (λ _. Stands ms start now) [
             | inl (entries, m, e) ↦
                 let r = first.told p.more p.left entries p.has p.whole (rw is at m) in
-                came_stands t ms all r.0 entries start now named distinct sound e r.1 come
+                came_stands ms all r.0 entries start now named distinct sound e r.1 come
             | inr (none, e) ↦
-                let gone : all ≡ [] = first.none p.more p.left p.has p.whole (rw is at none) in
-                let came = come (subst (λ xs. All (IsSoundAt start) (messages_of (bodies_of xs))) (sym gone) (subst (All (IsSoundAt start)) (sym no_messages) (All-nil (IsSoundAt start)))) in
-                let empty : came.done ≡ [] = none_done_here came.done came.rest (sym (ap bodies_of gone) ∙ came.is) in
-                front_stands ms came.done [] start now named distinct sound (e ∙ sym (append-nil (messages_of came.done) ∙ ap messages_of empty ∙ no_messages)) came.progress
+                let gone : messages_of (bodies_of all) ≡ [] = ap (λ xs. messages_of (bodies_of xs)) (first.none p.more p.left p.has p.whole (rw is at none)) ∙ no_messages in
+                let came = come (subst (All (IsSoundAt start)) (sym gone) (All-nil (IsSoundAt start))) in
+                front_stands ms came.done [] start now named distinct sound (e ∙ sym (append-nil came.done ∙ none_done_here came.done came.rest (sym gone ∙ came.is))) came.progress
           ]);
       is_read = tt;
     }
@@ -112,7 +96,7 @@ reached_run before source_now reads text all start now there namer messages plac
             | inr (none, e) ↦ absurd (none all whole)
           ] in
           let r = come (subst (All (IsSoundAt start)) e sound.own) in
-          let s = front_stands ms (bodies_of all) [] start now named distinct sound (e ∙ sym (append-nil (messages_of (bodies_of all)))) r.progress in
+          let s = front_stands ms (messages_of (bodies_of all)) [] start now named distinct sound (e ∙ sym (append-nil (messages_of (bodies_of all)))) r.progress in
           let len : length ms ≡ length (bodies_of all) = ap length e ∙ length-messages_of (bodies_of all) in
           let count : there_count start ms ≡ there_count start (messages_of (bodies_of all)) = ap (there_count start) e in
           let counted = r.counted in
@@ -141,12 +125,6 @@ reached_run before source_now reads text all start now there namer messages plac
 pub batch_bodies : (given whole entries : List Entry) → entries ≡ whole → bodies_of given ++ bodies_of entries ≡ bodies_of (given ++ whole)
 batch_bodies given whole entries e = ap (λ es. bodies_of given ++ bodies_of es) e ∙ sym (bodies_parts given whole)
 
-pub batch_sound : (start : Files) (given whole entries : List Entry) → entries ≡ whole → All (IsSoundAt start) (messages_of (bodies_of (given ++ whole))) → All (IsSoundAt start) (messages_of (bodies_of given ++ bodies_of entries))
-batch_sound start given whole entries e sound = subst (λ bs. All (IsSoundAt start) (messages_of bs)) (sym (batch_bodies given whole entries e)) sound
-
-pub given_sound : (start : Files) (given whole : List Entry) → All (IsSoundAt start) (messages_of (bodies_of (given ++ whole))) → All (IsSoundAt start) (messages_of (bodies_of given))
-given_sound start given whole sound = sound_front start (bodies_of given) (bodies_of whole) (subst (λ bs. All (IsSoundAt start) (messages_of bs)) (bodies_parts given whole) sound)
-
 pub batch_few : (given whole entries : List Entry) (reads : ℕ) → entries ≡ whole → length (given ++ whole) ≤ 65536 * reads → reads ≤ 2 ^ 40 → length (bodies_of given) + length entries ≤ 2 ^ 63
 batch_few given whole entries reads e few most = omega (arith, ap length e, length-append given whole, length-map given (λ (x : Entry). x.body))
 
@@ -156,15 +134,8 @@ run_err t start now (Ok x) is run = let off : false ≡ true = is in cc
 run_err t start now (Err fault) is run = run fault
 
 -- ---- undisturbed
-pub filled_none : (start mid now : Files) (there : BaseSet) (namer : Counts) → mid ≡ start → now ≡ swept mid → Knows (contains_key there) start → Named [] namer → Filled [] start there namer now
-filled_none start mid now there namer e f knows named = record {
-  named = named;
-  knows = knows;
-  exact = f ∙ ap swept e ∙ sym (ap (λ ms. filled start ms (swept start)) no_messages);
-}
-
-pub alone_run : (before source_now : Option (List ℕ)) (reads : ℕ) (text : List ℕ) (all : List Entry) (start now : Files) (there : BaseSet) (namer : Counts) → GaveAll before source_now reads text all → Filled (bodies_of all) start there namer now → (t : List ℕ) (ms : List Message) → Possible before source_now t → MessagesOf t ms → now ≡ alone ms start
-alone_run before source_now reads text all start now there namer gave f t ms p of =
+pub alone_run : (before source_now : Option (List ℕ)) (reads : ℕ) (text : List ℕ) (all : List Entry) (start now : Files) → GaveAll before source_now reads text all → now ≡ filled start (messages_of (bodies_of all)) (swept start) → (t : List ℕ) (ms : List Message) → Possible before source_now t → MessagesOf t ms → now ≡ alone ms start
+alone_run before source_now reads text all start now gave f t ms p of =
     let at_end : p.left ≡ [] = rw p.has at gave.end in
     let is : t ≡ text = rw (← read_is before source_now text t gave.read p) p.front ∙ ap (λ xs. text ++ xs) (p.whole at_end) ∙ append-nil text in
     let whole : Mbox t all = rw is gave.all in
@@ -172,4 +143,4 @@ alone_run before source_now reads text all start now there namer gave f t ms p o
       | inl (entries, m, e) ↦ e ∙ ap (λ es. messages_of (bodies_of es)) (mbox-one t entries all m whole)
       | inr (none, e) ↦ absurd (none all whole)
     ] in
-    f.exact ∙ ap (λ x. filled start x (swept start)) (sym e)
+    f ∙ ap (λ x. filled start x (swept start)) (sym e)

@@ -1,15 +1,12 @@
 -- What a call has read where it ends, and the numbers of its calls and messages.
-use Rattle.std.proofs.Common.{◌≡◌, ℕ, suc, ◌+◌, ◌*◌, ◌<◌, ◌≤◌, ◌^◌, Bool, false, true, cond, Option, Ok, List, [], ◌++◌, length, filter, refl, ap, subst, arith, length-append}
+use Rattle.std.proofs.Common.{◌≡◌, ℕ, suc, ◌+◌, ◌*◌, ◌<◌, ◌≤◌, ◌^◌, Bool, false, true, cond, Option, Ok, List, [], ◌++◌, length, refl, ap, subst, arith, length-append}
 use Rattle.std.specs.Io.KnownBytes.{IsAtEnd}
 use Rattle.std.proofs.KnownBytes.{Consumes-nil, Appends-nil}
-use Rattle.std.proofs.lemmas.List.Sorted.{IsPermutation-refl}
 use Rattle.mbox_text.specs.declared.entry.Entry.{Entry}
 use Rattle.mbox_text.specs.declared.splitter.Splitter.{Splitter}
 use Rattle.maildir_run.specs.declared.fault.RunFault.{RunFault}
 use Rattle.maildir_run.specs.declared.messages.Messages.{Messages}
-use Rattle.maildir_run.specs.Files.{Files, homes}
 use Rattle.maildir_run.specs.Given.{IsGiven, Begins, Refused}
-use Rattle.maildir_run.specs.Progress.{LeavesHomes}
 use Rattle.maildir_run.specs.Reading.{ReadsAtMost, Went}
 use Rattle.maildir_run.specs.Output.{GivesFront}
 use Rattle.maildir_run.proofs.Givens.{given_read, given_budget}
@@ -28,9 +25,6 @@ pub refused_of : (before now : Option (List ℕ)) (n reads : ℕ) (fault : RunFa
 refused_of before now n reads fault e h = subst (λ k. Refused before now k fault) e h
 
 -- ---- nothing was done
-pub leaves_same : (s : Files) → LeavesHomes s s
-leaves_same s = record { kept = λ b named. IsPermutation-refl (homes s b) }
-
 pub none_few : 0 < 2 ^ 66
 none_few = omega arith
 
@@ -38,23 +32,8 @@ none_few = omega arith
 pub three_few : 3 < 2 ^ 66
 three_few = omega arith
 
-pub most_few : 3 + 2 ^ 64 < 2 ^ 66
-most_few = omega arith
-
 pub itself : (n : ℕ) → n ≤ n
 itself n = omega arith
-
-pub swept_few : (swept : ℕ) → swept < 2 ^ 64 → 3 + swept < 2 ^ 66
-swept_few swept h = omega arith
-
-pub none_placed : (swept placed : ℕ) → placed ≡ 0 → 3 + swept ≡ 3 + swept + 2 * placed
-none_placed swept placed e = omega arith
-
-pub all_placed : (swept placed n all : ℕ) → all ≡ placed + n → 3 + swept + 2 * placed + 2 * n ≡ 3 + swept + 2 * all
-all_placed swept placed n all e = omega arith
-
-pub swept_within : (f : List ℕ → Bool) (report swept most : ℕ) (listed found : List (List ℕ)) → report ≡ swept → swept ≡ length (filter f listed) → listed ≡ found → length (filter f found) ≤ most → report ≤ most
-swept_within f report swept most listed found e count same few = rw (e, count, same) few
 
 -- one more batch
 pub batch_fits : (messages reads : ℕ) (given whole entries : List Entry) → messages ≡ length given → length (given ++ whole) ≤ 65536 * reads → reads ≤ 2 ^ 40 → entries ≡ whole → messages + length entries < 2 ^ 63
@@ -65,13 +44,6 @@ batch_count messages all given whole entries count more e = omega (arith, length
 
 pub batch_begun : (given more : List Entry) → 0 < length given → 0 < length (given ++ more)
 batch_begun given more h = omega (arith, length-append given more)
-
--- the calls before a batch and the most that it makes, and those with a batch
-pub calls_few : (swept placed messages reads : ℕ) (given whole entries : List Entry) → swept < 2 ^ 64 → placed ≤ messages → messages ≡ length given → length (given ++ whole) ≤ 65536 * reads → reads ≤ 2 ^ 40 → entries ≡ whole → 3 + swept + 2 * placed + 2 * length entries < 2 ^ 66
-calls_few swept placed messages reads given whole entries low within count few most e = omega (arith, length-append given whole, ap length e)
-
-pub all_calls_few : (swept placed n all messages messages' reads : ℕ) (given whole entries : List Entry) → swept < 2 ^ 64 → all ≡ placed + n → all ≤ messages' → messages' ≡ messages + length entries → messages ≡ length given → length (given ++ whole) ≤ 65536 * reads → reads ≤ 2 ^ 40 → entries ≡ whole → 3 + swept + 2 * placed + 2 * n < 2 ^ 66
-all_calls_few swept placed n all messages messages' reads given whole entries low is within more count few most e = omega (arith, length-append given whole, ap length e)
 
 -- ---- a call that writes as it reads
 pub front_nothing : (output : List Entry → List ℕ) (source was : Option (List ℕ)) → GivesFront output source source was was

@@ -8,7 +8,6 @@ pub mod Counted
 pub mod PlanLemmas
 pub mod Sets
 pub mod Counts
-pub mod Sweeps
 pub mod Steps
 pub mod Surveys
 pub mod Reach
@@ -34,3 +33,8 @@ pub mod OneText
 pub mod AloneLemmas
 pub mod QuietRuns
 pub mod Listings
+pub mod Tasks
+pub mod Planned
+pub mod Bringing
+pub mod Told
+pub mod Ending

@@ -1,5 +1,5 @@
 -- The messages of a text: their bases are a converter's, and no two are the same.
-use Rattle.std.proofs.Common.{◌≡◌, ℕ, ◌+◌, ◌<◌, ◌≤◌, ◌^◌, List, [], ◌∷◌, ◌++◌, map, length, get_or, IsTrue, IsFalse, refl, sym, ap, subst, ◌∙◌, inl, inr, arith}
+use Rattle.std.proofs.Common.{◌≡◌, ℕ, ◌+◌, ◌<◌, ◌≤◌, ◌^◌, List, [], ◌∷◌, ◌++◌, map, length, get_or, All, IsTrue, IsFalse, refl, sym, ap, subst, ◌∙◌, inl, inr, arith}
 use Rattle.std.proofs.lemmas.Bool.{cases_Bool}
 use Rattle.std.proofs.lemmas.List.{length-append, length-map, get_or-map}
 use Rattle.std.proofs.lemmas.List.Elements.{All-nil}
@@ -7,14 +7,15 @@ use Rattle.mbox_text.specs.declared.entry.Entry.{Entry}
 use Rattle.mbox_text.specs.Lines.{lines}
 use Rattle.mbox_text.specs.Mbox.{Mbox, Block}
 use Rattle.maildir_name.specs.declared.target.Target.{Target}
-use Rattle.maildir_name.specs.Names.{is_converter_base}
+use Rattle.maildir_name.specs.Names.{base, is_converter_base, IsConverterBase}
 use Rattle.maildir_name.specs.Targets.{target, targets}
 use Rattle.maildir_name.proofs.TargetLemmas.{length-targets, targets-push}
 use Rattle.maildir_name.proofs.DistinctBases.{named-targets, distinct-targets}
 use Rattle.maildir_run.specs.Files.{is_name}
 use Rattle.maildir_run.specs.Delivery.{Message, AreNamed, AreDistinct}
 use Rattle.maildir_run.specs.Texts.{with_bodies, messages_of, bodies_of, MessagesOf}
-use Rattle.maildir_run.proofs.Maps.{is_name-true}
+use Rattle.maildir_run.specs.Progress.{IsTarget}
+use Rattle.maildir_run.proofs.Maps.{is_name-true, is_name-refl}
 
 -- ---- each target with its body
 pub targets_of : (ts : List Target) (bodies : List (List ℕ)) → length ts ≡ length bodies → map (λ (m : Message). m.target) (with_bodies ts bodies) ≡ ts
@@ -53,6 +54,19 @@ pub messages_named : (bodies : List (List ℕ)) → length bodies ≤ 2 ^ 63 →
 messages_named bodies few k d below =
     subst (λ (t : Target). IsTrue (is_converter_base t.base)) (get_target bodies k d below)
     (named-targets bodies few k d.target (omega (arith, below, as_many bodies))).converter
+
+pub target_is : (t : Target) → IsConverterBase t.base × (base t.base ≡ t.base) × (base t.name ≡ t.base) → IsTarget t
+target_is t h = record {
+  named = h.0;
+  whole = ap (is_name t.base) h.1 ∙ is_name-refl t.base;
+  under = ap (is_name t.base) h.2 ∙ is_name-refl t.base;
+}
+
+pub messages_targets : (bodies : List (List ℕ)) → length bodies ≤ 2 ^ 63 → All (λ m. IsTarget m.target) (messages_of bodies)
+messages_targets bodies few k d below =
+    subst IsTarget (get_target bodies k d below)
+    (let named = named-targets bodies few k d.target (omega (arith, below, as_many bodies)) in
+    target_is (get_or (targets bodies) k d.target) (named.converter, named.own_base, named.same_base))
 
 different : (a b : List ℕ) → (a ≡ b → ⊥) → IsFalse (is_name a b)
 different a b apart =

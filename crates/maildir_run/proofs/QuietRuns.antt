@@ -1,30 +1,21 @@
 -- What a run's calls leave in a quiet folder.
-use Rattle.std.proofs.Common.{◌≡◌, ℕ, ◌+◌, ◌<◌, Bool, true, false, cond, not, ◌&&◌, ◌||◌, List, [], ◌∷◌, ◌++◌, map, take, length, get_or, Option, Some, None, Result, Ok, Err, String, Global, string_bytes, IfOk, IsPermutation, IsTrue, IsFalse, refl, sym, ap, subst, ◌∙◌, inl, inr}
+use Rattle.std.proofs.Common.{◌≡◌, ℕ, Bool, true, false, cond, not, ◌&&◌, ◌||◌, List, [], ◌∷◌, ◌++◌, Option, Some, None, IsPermutation, IsTrue, IsFalse, refl, sym, ap, subst, ◌∙◌, inl, inr}
 use Rattle.std.specs.List.{list_any}
 use Rattle.std.specs.Option.{is_some}
-use Rattle.std.specs.FinMap.{get, insert, remove, keys, contains_key, retain_keys, same_map, get-insert, get-remove, contains_key-keys}
+use Rattle.std.specs.FinMap.{get, insert, remove, keys, retain_keys, same_map, get-insert, get-remove, contains_key-keys}
 use Rattle.std.proofs.lemmas.Bool.{cases_Bool}
-use Rattle.std.proofs.lemmas.List.{take_more, map-append}
 use Rattle.std.proofs.lemmas.List.Folds.{list_any-append}
 use Rattle.std.proofs.lemmas.List.Sorted.{list_any-IsPermutation}
 use Rattle.maildir_run.specs.declared.folder.Sub.{Sub}
-use Rattle.maildir_run.specs.declared.folder.FolderFault.{FolderFault}
 use Rattle.maildir_name.specs.declared.target.Place.{Place}
 use Rattle.maildir_name.specs.declared.target.Place.TheVariants.{New, Cur}
-use Rattle.maildir_name.specs.declared.target.Target.{Target}
-use Rattle.maildir_name.specs.Names.{base, is_converter_name, is_converter_base}
-use Rattle.maildir_name.specs.Named.{Counts, Named}
+use Rattle.maildir_name.specs.Names.{is_converter_name}
 use Rattle.maildir_run.specs.Files.{Files, FileMap, is_name}
-use Rattle.maildir_run.specs.Bases.{BaseSet}
-use Rattle.maildir_run.specs.Calls.{Call, Listing, Writing, Placing, Removing, Move, Other, Again, Torn, after, effect, placed, torn, IsOwn, CalledQuietly}
-use Rattle.maildir_run.specs.Counting.{answered}
-use Rattle.maildir_run.specs.Alone.{swept, added, filled}
-use Rattle.maildir_run.specs.Delivery.{Message, has_home}
-use Rattle.maildir_run.specs.Texts.{messages_of}
-use Rattle.maildir_run.specs.Progress.{IsTarget, message_at}
-use Rattle.maildir_run.specs.Quietly.{LeavesOthers, TakenOut, Filled}
+use Rattle.maildir_run.specs.Calls.{Call, Listing, Writing, Placing, Removing, Move, Other, Again, Torn, after, effect, placed, torn, IsOwn}
+use Rattle.maildir_run.specs.Alone.{swept, added}
+use Rattle.maildir_run.specs.Delivery.{Message}
+use Rattle.maildir_run.specs.Quietly.{LeavesOthers, TakenOut}
 use Rattle.maildir_run.proofs.Maps.{total, same, is_name-true, get_under, get-insert_same}
-use Rattle.maildir_run.proofs.Counts.{answered_ok}
 
 pub others_same : (s : Files) → LeavesOthers s s
 others_same s = record { in_tmp = λ q off. refl; in_new = λ q off. refl; in_cur = λ q off. refl }
@@ -64,7 +55,7 @@ placed_others s name p target None ours theirs = others_same s
 placed_others s name New target (Some bytes) ours theirs = record { in_tmp = λ q off. remove_other s.tmp q name ours off; in_new = λ q off. insert_other s.new q target bytes theirs off; in_cur = λ q off. refl }
 placed_others s name Cur target (Some bytes) ours theirs = record { in_tmp = λ q off. remove_other s.tmp q name ours off; in_new = λ q off. refl; in_cur = λ q off. insert_other s.cur q target bytes theirs off }
 
-effect_others : (call : Call) → OfConverter call → (s : Files) → LeavesOthers s (effect call s)
+pub effect_others : (call : Call) → OfConverter call → (s : Files) → LeavesOthers s (effect call s)
 effect_others (Listing sub) h s = others_same s
 effect_others (Writing name bytes) h s = wrote s name bytes h
 effect_others (Placing name p target) h s = placed_others s name p target (get s.tmp name) h.0 h.1
@@ -76,16 +67,11 @@ torn_others (Writing name _) h bytes s = wrote s name bytes h
 torn_others (Placing name p target) h bytes s = others_same s
 torn_others (Removing name) h bytes s = others_same s
 
-own_others : (call : Call) → OfConverter call → (ms : List Move) (s : Files) → IsOwn ms → LeavesOthers s (after s call ms)
+pub own_others : (call : Call) → OfConverter call → (ms : List Move) (s : Files) → IsOwn ms → LeavesOthers s (after s call ms)
 own_others call h [] s own = others_same s
 own_others call h (Other action ∷ ms) s own = absurd own
 own_others call h (Again ∷ ms) s own = others_then s (effect call s) (after s call (Again ∷ ms)) (effect_others call h s) (own_others call h ms (effect call s) own)
 own_others call h (Torn bytes ∷ ms) s own = others_then s (torn call bytes s) (after s call (Torn bytes ∷ ms)) (torn_others call h bytes s) (own_others call h ms (torn call bytes s) own)
-
--- whatever it answers
-pub quiet_others : {A : Type 0} (call : Call) → OfConverter call → (old : Files) (r : Result A FolderFault) (new : Files) → CalledQuietly call old r new → LeavesOthers old new
-quiet_others call h old (Ok v) new c = subst (LeavesOthers old) (sym c.1) (effect_others call h old)
-quiet_others call h old (Err e) new c = subst (LeavesOthers old) (sym c.2) (own_others call h c.0 old c.1)
 
 -- ---- listings
 own_listing : (sub : Sub) (ms : List Move) (s : Files) → IsOwn ms → after s (Listing sub) ms ≡ s
@@ -94,17 +80,7 @@ own_listing sub (Other action ∷ ms) s own = absurd own
 own_listing sub (Again ∷ ms) s own = own_listing sub ms s own
 own_listing sub (Torn bytes ∷ ms) s own = own_listing sub ms s own
 
-pub quiet_listing : {A : Type 0} (sub : Sub) (old : Files) (r : Result A FolderFault) (new : Files) → CalledQuietly (Listing sub) old r new → new ≡ old
-quiet_listing sub old (Ok v) new c = c.1
-quiet_listing sub old (Err e) new c = c.2 ∙ own_listing sub c.0 old c.1
-
-pub told_names : {A : Type 0} (P : A → Type 0) (number : ℕ) (r : Result A FolderFault) (v : A) → Ok v ≡ answered number r → IfOk r P → P v
-told_names P number r v e h = subst (λ x. IfOk x P) (answered_ok number r v e) h
-
 -- ---- a call that answered Ok, as the run gives it
-pub quiet_effect : {A : Type 0} (call : Call) (old : Files) (r : Result A FolderFault) (new : Files) (number : ℕ) (v : A) → Ok v ≡ answered number r → CalledQuietly call old r new → new ≡ effect call old
-quiet_effect call old r new number v e h = (subst (λ x. CalledQuietly call old x new) (answered_ok number r v e) h).1
-
 -- ---- the sweep
 never : (c : Bool) (o : Option (List ℕ)) → cond (c && false) None o ≡ o
 never true o = refl
@@ -130,7 +106,7 @@ skipped false a t o h = refl
 any_push : (q x : List ℕ) (xs : List (List ℕ)) → (list_any (is_name q) xs || (is_name q x || false)) ≡ list_any (is_name q) (xs ++ x ∷ [])
 any_push q x xs = sym (list_any-append (is_name q) xs (x ∷ []))
 
-taken_one : (xs : List (List ℕ)) (x : List ℕ) (start mid now : Files) → IsTrue (is_converter_name x) → now ≡ effect (Removing x) mid → TakenOut xs start mid → TakenOut (xs ++ x ∷ []) start now
+pub taken_one : (xs : List (List ℕ)) (x : List ℕ) (start mid now : Files) → IsTrue (is_converter_name x) → now ≡ effect (Removing x) mid → TakenOut xs start mid → TakenOut (xs ++ x ∷ []) start now
 taken_one xs x start mid now ours e taken = subst (TakenOut (xs ++ x ∷ []) start) (sym e) (record {
   in_tmp = λ q.
       get-remove total mid.tmp x q
@@ -141,7 +117,7 @@ taken_one xs x start mid now ours e taken = subst (TakenOut (xs ++ x ∷ []) sta
   in_cur = taken.in_cur;
 })
 
-taken_skip : (xs : List (List ℕ)) (x : List ℕ) (start now : Files) → IsFalse (is_converter_name x) → TakenOut xs start now → TakenOut (xs ++ x ∷ []) start now
+pub taken_skip : (xs : List (List ℕ)) (x : List ℕ) (start now : Files) → IsFalse (is_converter_name x) → TakenOut xs start now → TakenOut (xs ++ x ∷ []) start now
 taken_skip xs x start now other taken = record {
   in_tmp = λ q.
       taken.in_tmp q
@@ -149,31 +125,6 @@ taken_skip xs x start now other taken = record {
       ∙ ap (λ t. cond (is_converter_name q && t) None (get start.tmp q)) (any_push q x xs);
   in_new = taken.in_new;
   in_cur = taken.in_cur;
-}
-
-next_name : (names : List (String Global)) (i : ℕ) (item : String Global) → i < length names → item ≡ get_or names i item → map string_bytes (take (i + 1) names) ≡ map string_bytes (take i names) ++ string_bytes item ∷ []
-next_name names i item h is =
-    ap (map string_bytes) (take_more names i item h) ∙ map-append string_bytes (take i names) (get_or names i item ∷ [])
-    ∙ ap (λ x. map string_bytes (take i names) ++ string_bytes x ∷ []) (sym is)
-
-pub taken_next : (names : List (String Global)) (i : ℕ) (item : String Global) → i < length names → item ≡ get_or names i item → (shown : List ℕ) → shown ≡ string_bytes item → (start mid now : Files) → IsTrue (is_converter_name shown) → now ≡ effect (Removing shown) mid → TakenOut (map string_bytes (take i names)) start mid → TakenOut (map string_bytes (take (i + 1) names)) start now
-taken_next names i item h is shown same start mid now ours e taken =
-    subst (λ l. TakenOut l start now) (sym (next_name names i item h is))
-    (subst (λ x. TakenOut (map string_bytes (take i names) ++ x ∷ []) start now) same (taken_one (map string_bytes (take i names)) shown start mid now ours e taken))
-
-pub taken_other : (names : List (String Global)) (i : ℕ) (item : String Global) → i < length names → item ≡ get_or names i item → (start now : Files) → IsFalse (is_converter_name (string_bytes item)) → TakenOut (map string_bytes (take i names)) start now → TakenOut (map string_bytes (take (i + 1) names)) start now
-taken_other names i item h is start now other taken =
-    subst (λ l. TakenOut l start now) (sym (next_name names i item h is)) (taken_skip (map string_bytes (take i names)) (string_bytes item) start now other taken)
-
-other_kept : (c a : Bool) (o : Option (List ℕ)) → c ≡ false → cond (c && a) None o ≡ o
-other_kept true a o off = cc
-other_kept false a o off = refl
-
-pub taken_others : (names : List (List ℕ)) (old new : Files) → TakenOut names old new → LeavesOthers old new
-taken_others names old new taken = record {
-  in_tmp = λ q off. taken.in_tmp q ∙ other_kept (is_converter_name q) (list_any (is_name q) names) (get old.tmp q) off;
-  in_new = λ q off. ap (λ m. get m q) taken.in_new;
-  in_cur = λ q off. ap (λ m. get m q) taken.in_cur;
 }
 
 unlisted_none : (o : Option (List ℕ)) → is_some o ≡ false → o ≡ None
@@ -219,40 +170,9 @@ added_tmp : (s : Files) (p : Place) (name body : List ℕ) → (added s p name b
 added_tmp s New name body = refl
 added_tmp s Cur name body = refl
 
-step_tmp : (t : Bool) (s : Files) (m : Message) → (cond t s (added s m.target.place m.target.name m.body)).tmp ≡ s.tmp
+pub step_tmp : (t : Bool) (s : Files) (m : Message) → (cond t s (added s m.target.place m.target.name m.body)).tmp ≡ s.tmp
 step_tmp true s m = refl
 step_tmp false s m = added_tmp s m.target.place m.target.name m.body
 
-filled_tmp : (start : Files) (ms : List Message) (s : Files) → (filled start ms s).tmp ≡ s.tmp
-filled_tmp start [] s = refl
-filled_tmp start (m ∷ ms) s = filled_tmp start ms (cond (has_home start m.target.base) s (added s m.target.place m.target.name m.body)) ∙ step_tmp (has_home start m.target.base) s m
-
-filled_push : (start : Files) (ms : List Message) (m : Message) (s : Files) → filled start (ms ++ m ∷ []) s ≡ cond (has_home start m.target.base) (filled start ms s) (added (filled start ms s) m.target.place m.target.name m.body)
-filled_push start [] m s = refl
-filled_push start (n ∷ ms) m s = filled_push start ms m (cond (has_home start n.target.base) s (added s n.target.place n.target.name n.body))
-
-swept_free : (s : Files) (b : List ℕ) → IsTrue (is_converter_name b) → get (swept s).tmp b ≡ None
+pub swept_free : (s : Files) (b : List ℕ) → IsTrue (is_converter_name b) → get (swept s).tmp b ≡ None
 swept_free s b ours = get_under (λ name. not (is_converter_name name)) s.tmp b ∙ ap (λ t. cond (not t) (get s.tmp b) None) ours
-
-module _ (bodies : List (List ℕ)) (body : List ℕ) (t : Target) (start : Files) (there : BaseSet) (namer : Counts) (old : Files) (is : messages_of (bodies ++ body ∷ []) ≡ messages_of bodies ++ message_at t body ∷ []) (named : IsTarget t) (f : Filled bodies start there namer old) where
-  home_is : (shown : Bool) → contains_key there t.base ≡ shown → has_home start t.base ≡ shown
-  home_is shown e = sym (f.knows t.base named.named) ∙ e
-
-  -- its base is free in tmp
-  pub free_now : get old.tmp t.base ≡ None
-  free_now =
-      ap (λ s. get s.tmp t.base) f.exact ∙ ap (λ m. get m t.base) (filled_tmp start (messages_of bodies) (swept start))
-      ∙ swept_free start t.base (ap is_converter_base (sym (is_name-true t.base (base t.base) named.whole)) ∙ named.named)
-
-  exact_next : (shown : Bool) → contains_key there t.base ≡ shown → filled start (messages_of (bodies ++ body ∷ [])) (swept start) ≡ cond shown old (added old t.place t.name body)
-  exact_next shown e =
-      ap (λ ms. filled start ms (swept start)) is
-      ∙ filled_push start (messages_of bodies) (message_at t body) (swept start)
-      ∙ ap (λ b. cond b (filled start (messages_of bodies) (swept start)) (added (filled start (messages_of bodies) (swept start)) t.place t.name body)) (home_is shown e)
-      ∙ ap (λ s. cond shown s (added s t.place t.name body)) (sym f.exact)
-
-  pub filled_there : (namer' : Counts) → Named (bodies ++ body ∷ []) namer' → contains_key there t.base ≡ true → Filled (bodies ++ body ∷ []) start there namer' old
-  filled_there namer' n on = record { named = n; knows = f.knows; exact = sym (exact_next true on) }
-
-  pub filled_brought : (namer' : Counts) (now : Files) → Named (bodies ++ body ∷ []) namer' → contains_key there t.base ≡ false → now ≡ added old t.place t.name body → Filled (bodies ++ body ∷ []) start there namer' now
-  filled_brought namer' now n off e = record { named = n; knows = f.knows; exact = e ∙ sym (exact_next false off) }

@@ -1,5 +1,5 @@
 -- What a script makes of a folder in memory is what other programs and a call may do.
-use Rattle.std.proofs.Common.{◌≡◌, ◌⊎◌, ℕ, Bool, true, false, cond, not, List, [], ◌∷◌, ◌++◌, length, take, drop, get_or, ◌<◌, ◌+◌, ◌==◌, map, Option, Some, None, Result, Ok, Err, IsTrue, IsFalse, IsOk, IsErrOf, OnErr, string_bytes, IsPermutation, ◌&&◌, ◌/◌, append-nil, refl, sym, ap, subst, ◌∙◌, inl, inr, append_assoc, add-one, suc}
+use Rattle.std.proofs.Common.{◌≡◌, ℕ, Bool, true, false, cond, not, List, [], ◌∷◌, ◌++◌, length, take, drop, get_or, ◌<◌, ◌+◌, ◌==◌, map, Some, None, Result, Ok, Err, IsTrue, IsFalse, IsOk, IsErrOf, OnErr, string_bytes, IsPermutation, ◌&&◌, ◌/◌, append-nil, refl, sym, ap, subst, ◌∙◌, inl, inr, append_assoc, suc}
 use Rattle.std.proofs.Math.Seq.{drop-cons}
 use Rattle.std.proofs.lemmas.Bool.{cases_Bool}
 use Rattle.std.proofs.lemmas.List.{take_more, take-append-drop}
@@ -19,7 +19,7 @@ use Rattle.maildir_run.specs.declared.script.Act.TheVariants as act
 use Rattle.maildir_run.specs.declared.script.Mode.{Mode}
 use Rattle.maildir_run.specs.declared.script.Mode.TheVariants.{Plain, FailBefore, FailAfter, Half, Twice}
 use Rattle.maildir_run.specs.declared.script.ScriptLine.{ScriptLine}
-use Rattle.maildir_run.specs.Files.{Files, FileMap, Action, ToCur, Reflag, DropTmp, Outside, acted, all_acted, is_name, may_take, reflag, AgreeOnConverters, LeavesConverters}
+use Rattle.maildir_run.specs.Files.{Files, FileMap, Action, ToCur, Reflag, DropTmp, Outside, acted, all_acted, is_name, may_take, AgreeOnConverters, LeavesConverters}
 use Rattle.maildir_run.specs.Calls.{Call, Listing, Writing, Placing, Removing, Move, Other, Again, Torn, placed, effect, after, IsOthers, IsWhole, IsReady, folder_of, Failed, Lists, Called}
 use Rattle.maildir_run.specs.MemFiles.{with_file, without_file}
 use Rattle.maildir_run.specs.Script.{performed, all_performed, acts_at, IsCutShort, IsPart, Answers, halved, fails, done}

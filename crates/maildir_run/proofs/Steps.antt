@@ -17,10 +17,6 @@ use Rattle.maildir_run.proofs.Maps.{is_name-true, is_name-refl, get-remove_same}
 use Rattle.maildir_run.proofs.Moves.{after_kept, after_tmp, after-append, homes_none, none_held, placing, placing_ok, WrittenOrGone, writing_ok}
 
 -- ---- any answer is some list of moves, which is what `Failed` says
-pub some_moves : {A E : Type 0} (call : Call) (old : Files) (r : Result A E) (new : Files) → Called call old r new → Failed call old new
-some_moves call old (Ok v) new h = record { moves = h.before ++ Again ∷ h.rest; left = h.left }
-some_moves call old (Err e) new h = h
-
 pub ok_moves : (call : Call) (old new : Files) → Succeeded call old new → Failed call old new
 ok_moves call old new h = record { moves = h.before ++ Again ∷ h.rest; left = h.left }
 
@@ -171,14 +167,11 @@ not_shown b m names listed e on =
 written_leaves : (name bytes : List ℕ) (old new : Files) → Failed (Writing name bytes) old new → LeavesHomes old new
 written_leaves name bytes old new c = record { kept = λ base named. called_kept base named (Writing name bytes) tt old new c }
 
-pub removed_leaves : (name : List ℕ) (old new : Files) → Failed (Removing name) old new → LeavesHomes old new
-removed_leaves name old new c = record { kept = λ base named. called_kept base named (Removing name) tt old new c }
-
 pub write_brings : (m : Message) → IsTrue (is_converter_base m.target.base) → (name bytes : List ℕ) (old new : Files) → Failed (Writing name bytes) old new → IsMissing old m → Brings m old new
 write_brings m named name bytes old new c missing = leaves_brings m old new named missing (written_leaves name bytes old new c)
 
 -- the base is a converter's name
-base_name : (m : Message) → IsTrue (is_converter_base m.target.base) → IsTrue (has_base m.target.base m.target.base) → IsTrue (is_converter_name m.target.base)
+pub base_name : (m : Message) → IsTrue (is_converter_base m.target.base) → IsTrue (has_base m.target.base m.target.base) → IsTrue (is_converter_name m.target.base)
 base_name m named whole = ap is_converter_base (sym (is_name-true m.target.base _ whole)) ∙ named
 
 pub record Written (m : Message) (old mid : Files) : Type 0 where

@@ -1,5 +1,5 @@
 -- What the three listings tell together.
-use Rattle.std.proofs.Common.{◌≡◌, ℕ, ◌≤◌, Bool, true, false, List, [], ◌∷◌, ◌++◌, IsPermutation, IsTrue, length, Result, Ok, Err, Vec, String, Global, sum_by, cond, ◌+◌, refl, sym, ap, subst, ◌∙◌, inl, inr, arith}
+use Rattle.std.proofs.Common.{◌≡◌, ℕ, ◌≤◌, Bool, true, false, List, [], ◌∷◌, ◌++◌, IsPermutation, IsTrue, length, sum_by, cond, ◌+◌, refl, sym, ap, ◌∙◌, inl, inr, arith}
 use Rattle.std.specs.List.{list_any, filter}
 use Rattle.std.specs.FinMap.{keys, len, retain_keys}
 use Rattle.std.proofs.lemmas.Bool.{or_parts, or_cases, cases_Bool}
@@ -9,30 +9,15 @@ use Rattle.maildir_run.specs.declared.folder.Sub.{Sub}
 use Rattle.maildir_run.specs.declared.folder.Sub.TheVariants.{Tmp, New, Cur}
 use Rattle.maildir_name.specs.Names.{is_converter_base, is_converter_name}
 use Rattle.maildir_run.specs.Files.{Files, has_base, held_under, homes}
-use Rattle.maildir_run.specs.Calls.{Listing, Move, Other, Again, Torn, moved, after, Lists, Listed, Failed, names_of}
+use Rattle.maildir_run.specs.Calls.{Listing, Move, Other, Again, Torn, moved, after, Lists}
 use Rattle.maildir_run.specs.Delivery.{has_home, is_any, leftover_count}
 use Rattle.maildir_run.specs.Plan.{is_listed}
-use Rattle.maildir_run.specs.Progress.{LeavesHomes, TmpWithin}
+use Rattle.maildir_run.specs.Progress.{TmpWithin}
 use Rattle.maildir_run.proofs.Moves.{homes_none, both_none, after_kept}
 use Rattle.maildir_run.proofs.Listed.{listed_new, listed_cur}
 use Rattle.maildir_run.proofs.Counted.{counted, acted_count}
-use Rattle.maildir_run.proofs.Steps.{listing_leaves, not_shown, called_kept, called_tmp, within_on}
-use Rattle.maildir_run.specs.declared.folder.FolderFault.{FolderFault}
-use Rattle.maildir_run.specs.Counting.{answered}
-use Rattle.maildir_run.proofs.Counts.{answered_ok}
+use Rattle.maildir_run.proofs.Steps.{listing_leaves, not_shown, called_tmp, within_on}
 use Rattle.maildir_run.proofs.Progress.{any_kept}
-
-pub listed_leaves : (sub : Sub) (old new : Files) → Failed (Listing sub) old new → LeavesHomes old new
-listed_leaves sub old new c = record { kept = λ b named. called_kept b named (Listing sub) tt old new c }
-
--- any answer of a listing
-pub some_listing : (sub : Sub) (old : Files) (r : Result (Vec (String Global) Global) FolderFault) (new : Files) → Listed sub old r new → LeavesHomes old new
-some_listing sub old (Ok names) new h = listing_leaves sub old (names_of names) new h
-some_listing sub old (Err fault) new h = listed_leaves sub old new h
-
--- and Ok, as the run gives it
-pub told_listing : (sub : Sub) (old : Files) (r : Result (Vec (String Global) Global) FolderFault) (new : Files) (number : ℕ) (names : Vec (String Global) Global) → Ok names ≡ answered number r → Listed sub old r new → Lists sub old (names_of names) new
-told_listing sub old r new number names e h = subst (λ x. Listed sub old x new) (answered_ok number r names e) h
 
 -- tmp gains no converter's name by a listing
 pub listed_within : (sub : Sub) (listed : List (List ℕ)) (old : Files) (names : List (List ℕ)) (new : Files) → Lists sub old names new → TmpWithin listed old → TmpWithin listed new

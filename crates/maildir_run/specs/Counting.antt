@@ -1,5 +1,5 @@
 -- How a run counts its folder calls, and what its faults say of them.
-use Rattle.std.specs.Prelude.{◌≡◌, ℕ, zero, suc, ◌+◌, ◌%◌, ◌^◌, ◌<◌, ◌≤◌, min, Result, Ok, Err}
+use Rattle.std.specs.Prelude.{◌≡◌, ℕ, zero, suc, ◌+◌, ◌%◌, ◌^◌, ◌<◌, min, Result, Ok, Err}
 use Rattle.maildir_run.specs.declared.folder.FolderFault.{FolderFault}
 use Rattle.maildir_run.specs.declared.folder.FolderFault.TheVariants.{Absent, Failed}
 use Rattle.maildir_run.specs.declared.folder.FolderFault.TheVariants as folder
@@ -59,12 +59,6 @@ IsOfFolder OutOfMemory = Unit {0}
 pub record Makes (n made made' calls calls' : ℕ) : Type 0 where
   pub counted : calls' ≡ raised n calls
   pub numbered : (k : ℕ) → made ≡ capped k → made' ≡ capped (k + n)
-
--- no more than so many calls were made
-pub record MakesUpTo (most made made' calls calls' : ℕ) : Type 0 where
-  pub n : ℕ
-  pub within : n ≤ most
-  pub makes : Makes n made made' calls calls'
 
 -- A run made so many folder calls, fewer than 2^66, and a `FolderFailed` has their number, or 2^64 - 1 if that is smaller.
 pub record Numbers {A : Type 0} (answer : Result A RunFault) (old new : ℕ) : Type 0 where

@@ -19,3 +19,4 @@ pub mod Output
 pub mod Quietly
 pub mod Listing
 pub mod Listed
+pub mod Tasks

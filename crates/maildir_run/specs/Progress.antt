@@ -1,5 +1,5 @@
 -- What the parts of a run leave.
-use Rattle.std.specs.Prelude.{◌≡◌, ℕ, ◌+◌, ◌*◌, List, [], ◌++◌, All, IsPermutation, IsTrue, IsFalse, None, Bool, length}
+use Rattle.std.specs.Prelude.{◌≡◌, ℕ, ◌+◌, List, [], All, IsPermutation, IsTrue, IsFalse, None, Bool, length}
 use Rattle.std.specs.List.{list_any}
 use Rattle.std.specs.FinMap.{get, contains_key}
 use Rattle.maildir_name.specs.declared.target.Target.{Target}
@@ -7,7 +7,6 @@ use Rattle.maildir_name.specs.Named.{Counts, Named}
 use Rattle.maildir_name.specs.Names.{is_converter_base, is_converter_name}
 use Rattle.maildir_run.specs.Files.{Files, homes, is_name, has_base}
 use Rattle.maildir_run.specs.Bases.{BaseSet}
-use Rattle.maildir_run.specs.Counting.{Makes}
 use Rattle.maildir_run.specs.Delivery.{Message, IsHome, IsSoundAt, has_home, is_base_of, there_count}
 use Rattle.maildir_run.specs.Texts.{messages_of}
 
@@ -51,16 +50,3 @@ pub record Reached (bodies : List (List ℕ)) (start : Files) (there : BaseSet) 
   pub within : TmpWithin [] now
   pub counted : messages ≡ length bodies
   pub brought : placed + there_count start (messages_of bodies) ≡ length bodies
-
--- the messages of the first of these bodies are at home, and nothing came of the others
-pub record Came (bodies : List (List ℕ)) (start now : Files) : Type 0 where
-  pub done : List (List ℕ)
-  pub rest : List (List ℕ)
-  pub is : bodies ≡ done ++ rest
-  pub progress : Progress (messages_of done) start now
-
--- so many more messages were placed, by two calls each
-pub record Places (placed placed' made made' calls calls' : ℕ) : Type 0 where
-  pub n : ℕ
-  pub is : placed' ≡ placed + n
-  pub makes : Makes (2 * n) made made' calls calls'

@@ -1,14 +1,9 @@
 -- What the parts of a run leave that nobody disturbs.
 use Rattle.std.specs.Prelude.{◌≡◌, ℕ, ◌&&◌, List, None, IsFalse, if◌then◌else◌}
 use Rattle.std.specs.List.{list_any}
-use Rattle.std.specs.FinMap.{get, contains_key}
+use Rattle.std.specs.FinMap.{get}
 use Rattle.maildir_name.specs.Names.{is_converter_name}
-use Rattle.maildir_name.specs.Named.{Counts, Named}
 use Rattle.maildir_run.specs.Files.{Files, is_name}
-use Rattle.maildir_run.specs.Bases.{BaseSet}
-use Rattle.maildir_run.specs.Texts.{messages_of}
-use Rattle.maildir_run.specs.Alone.{swept, filled}
-use Rattle.maildir_run.specs.Progress.{Knows}
 
 -- all files whose names are not a converter's are as they were
 pub record LeavesOthers (old new : Files) : Type 0 where
@@ -21,9 +16,3 @@ pub record TakenOut (names : List (List ℕ)) (old new : Files) : Type 0 where
   pub in_tmp : (name : List ℕ) → get new.tmp name ≡ (if is_converter_name name && list_any (is_name name) names then None else get old.tmp name)
   pub in_new : new.new ≡ old.new
   pub in_cur : new.cur ≡ old.cur
-
--- How far an undisturbed run has come that began with these files: `tmp` is swept, and the messages of these bodies that were missing are at their targets.
-pub record Filled (bodies : List (List ℕ)) (start : Files) (there : BaseSet) (namer : Counts) (now : Files) : Type 0 where
-  pub named : Named bodies namer
-  pub knows : Knows (contains_key there) start
-  pub exact : now ≡ filled start (messages_of bodies) (swept start)

@@ -1,9 +1,13 @@
 // The number of folder calls that a run made, for its faults.
-ghost use Rattle.std.specs.Prelude.{◌≡◌, ◌+◌};
-ghost use Rattle.maildir_run.specs.Counting.{capped, answered as answered_by, IsNumbered};
+ghost use Rattle.std.specs.Prelude.{◌≡◌, ◌+◌, [], ◌∷◌, IfErr};
+ghost use Rattle.maildir_run.specs.Counting.{capped, answered as answered_by, IsOfFolder};
+ghost use Rattle.maildir_run.specs.Calls.Call.{Writing, Placing, Removing};
+ghost use Rattle.maildir_run.specs.Tasks.{Ran, seen, names_in};
+ghost use Rattle.maildir_run.specs.Tasks.Task.{Ask, Do};
 
 use crate::fault::RunFault;
-use crate::folder::FolderFault;
+use crate::folder::{Folder, FolderFault, Sub};
+use maildir_name::Place;
 
 /// How many folder calls a run made. It stops at the greatest number.
 #[derive(Drop)]
@@ -23,6 +27,7 @@ impl Calls {
     pub(crate) fn answered<T>(&mut self, answer: Result<T, FolderFault>) -> Result<T, RunFault>
         ensures made { self.new.made ≡ capped (self.old.made + 1) }
         ensures is { result ≡ answered_by self.new.made answer }
+        ensures causes { IfErr result IsOfFolder }
     {
         self.made = self.made.saturating_add(1);
         match answer {
@@ -31,5 +36,60 @@ impl Calls {
             Err(FolderFault::Failed) => Err(RunFault::FolderFailed(self.made)),
             Err(FolderFault::OutOfMemory) => Err(RunFault::OutOfMemory),
         }
+    }
+
+    /// Lists one of the three folders.
+    pub(crate) fn list<F: Folder>(
+        &mut self,
+        folder: &mut F,
+        sub: Sub,
+    ) -> Result<Vec<String>, RunFault>
+        ensures ran { let at = seen F.honest F.quiet F.files F.calls F.failures in
+            Ran (Ask sub (names_in result) ∷ []) (at folder.old) (at folder.new) self.old.made self.new.made result }
+        ensures causes { IfErr result IsOfFolder }
+    {
+        let answer = folder.list(sub);
+        self.answered(answer)
+    }
+
+    /// Writes a file into `tmp`.
+    pub(crate) fn write<F: Folder>(
+        &mut self,
+        folder: &mut F,
+        name: &str,
+        bytes: &[u8],
+    ) -> Result<(), RunFault>
+        ensures ran { let at = seen F.honest F.quiet F.files F.calls F.failures in
+            Ran (Do (Writing name.now bytes.now) ∷ []) (at folder.old) (at folder.new) self.old.made self.new.made result }
+        ensures causes { IfErr result IsOfFolder }
+    {
+        let answer = folder.write(name, bytes);
+        self.answered(answer)
+    }
+
+    /// Moves a file of `tmp` to `new` or `cur`.
+    pub(crate) fn place<F: Folder>(
+        &mut self,
+        folder: &mut F,
+        name: &str,
+        place: Place,
+        target: &str,
+    ) -> Result<(), RunFault>
+        ensures ran { let at = seen F.honest F.quiet F.files F.calls F.failures in
+            Ran (Do (Placing name.now place target.now) ∷ []) (at folder.old) (at folder.new) self.old.made self.new.made result }
+        ensures causes { IfErr result IsOfFolder }
+    {
+        let answer = folder.place(name, place, target);
+        self.answered(answer)
+    }
+
+    /// Removes a file of `tmp`.
+    pub(crate) fn remove<F: Folder>(&mut self, folder: &mut F, name: &str) -> Result<(), RunFault>
+        ensures ran { let at = seen F.honest F.quiet F.files F.calls F.failures in
+            Ran (Do (Removing name.now) ∷ []) (at folder.old) (at folder.new) self.old.made self.new.made result }
+        ensures causes { IfErr result IsOfFolder }
+    {
+        let answer = folder.remove(name);
+        self.answered(answer)
     }
 }

@@ -1,15 +1,16 @@
 // One run: a source's messages into a folder.
-ghost use Rattle.std.specs.Prelude.{◌≡◌, ◌⊎◌, ◌*◌, ◌^◌, ◌<◌, ◌≤◌, ℕ, [], List, length, IfOk, OnOk, IfErr, IsErrOf};
+ghost use Rattle.std.specs.Prelude.{◌≡◌, ◌⊎◌, ◌*◌, ◌^◌, ◌<◌, ◌≤◌, ℕ, [], List, length, IfOk, OnOk, IfErr, IsErrOf, All};
 ghost use Rattle.std.specs.Io.KnownBytes.{IsAtEnd};
 ghost use Rattle.mbox_text.specs.declared.entry.Entry.{Entry as Message};
 ghost use Rattle.mbox_text.specs.Mbox.{Mbox};
 ghost use Rattle.maildir_run.specs.Alone.{alone as alone_after};
 ghost use Rattle.maildir_run.specs.Counting.{CountsFault, IsOfFolder, Numbers};
-ghost use Rattle.maildir_run.specs.Delivery.{Message as Due, leftover_count};
+ghost use Rattle.maildir_run.specs.Delivery.{Message as Due, Delivered, IsMissing, leftover_count};
+ghost use Rattle.maildir_run.specs.Files.{Files};
 ghost use Rattle.maildir_run.specs.Given.{Begins, Refused};
 ghost use Rattle.maildir_run.specs.Quietly.{LeavesOthers};
 ghost use Rattle.maildir_run.specs.Reading.{IsReading, ReadsAtLeast, ReadsAtMost, Taken};
-ghost use Rattle.maildir_run.specs.Runs.{CountsRun, Possible, Run};
+ghost use Rattle.maildir_run.specs.Runs.{CountsRun, Link, Possible, Run, Runs};
 ghost use Rattle.maildir_run.specs.Texts.{MessagesOf};
 
 use crate::bases::Bases;
@@ -27,9 +28,10 @@ use std::io::Read;
 
 /// Delivers the messages of the source's text that have no home in the folder, and reports what it did. The source is
 /// read until a message is whole; then `tmp`, `new` and `cur` are listed, in this order, and what broken runs left in
-/// `tmp` is removed; then each message that is missing is written and placed as soon as it is whole, in their order. At
-/// most `reads` reads are made, each for at most 65,536 bytes, and none between a message's write and its placement.
-/// What one read gave is held at a time, beside the listed names and the digests.
+/// `tmp` is removed, as `plan` says for these lists and no targets; then each message that is missing is written and
+/// placed as soon as it is whole, in their order. At most `reads` reads are made, each for at most 65,536 bytes, and none
+/// between a message's write and its placement. Held are the message that is not yet whole, those that the last read
+/// made whole, the listed names and the digests.
 ///
 /// Errors: `NoFromLine` where the text is not empty and doesn't begin with `From `, and then no folder call was made;
 /// `ReadFault`; `TooManyReads` where `reads` reads didn't meet the end; `FolderAbsent`; `FolderFailed` with the number of
@@ -43,6 +45,9 @@ pub fn convert<F: Folder, R: Read>(
     requires { reads ≤ 2 ^ 40 }
     ensures honest { F.honest folder.old → F.honest folder.new }
     ensures run { F.honest folder.old → (t : List ℕ) → length t < 2 ^ 63 → Possible (R.remaining source.old) (R.remaining source.new) t → Run t (F.files folder.old) result (F.files folder.new) }
+    ensures restartable { F.honest folder.old → (t : List ℕ) (ms : List Due) (links : List Link) (start : Files) → length t < 2 ^ 63 →
+        Possible (R.remaining source.old) (R.remaining source.new) t → MessagesOf t ms → All (IsMissing start) ms →
+        Runs t links start (F.files folder.old) → OnOk result (Delivered ms (F.files folder.new)) }
     ensures end { OnOk result (IsAtEnd (R.remaining source.new)) }
 
     // where nobody disturbs it
@@ -69,7 +74,7 @@ pub fn convert<F: Folder, R: Read>(
     let mut ended = read_first(&mut messages, source, &mut whole)?;
     let mut calls = Calls::new();
     let found = look(folder, &mut calls)?;
-    let swept = sweep(folder, &mut calls, &found.tmp)?;
+    let swept = sweep(alloc, folder, &mut calls, &found.tmp)?;
     let there = Bases::listed(alloc, &found.new, &found.cur)?;
     let mut engine = Engine::new(alloc, there, calls);
     'pieces: loop {

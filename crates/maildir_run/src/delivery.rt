@@ -1,11 +1,7 @@
 // One message on its way to its target.
-ghost use Rattle.std.specs.Prelude.{◌≡◌, [], None, OnOk, IfErr};
-ghost use Rattle.std.specs.FinMap.{get};
-ghost use Rattle.maildir_run.specs.Alone.{added};
-ghost use Rattle.maildir_run.specs.Counting.{CountsFault, IsNumbered, IsOfFolder, Makes, MakesUpTo};
-ghost use Rattle.maildir_run.specs.Delivery.{IsMissing, IsHome};
-ghost use Rattle.maildir_run.specs.Progress.{IsTarget, Brings, TmpWithin, message_at};
-ghost use Rattle.maildir_run.specs.Quietly.{LeavesOthers};
+ghost use Rattle.std.specs.Prelude.{IfErr};
+ghost use Rattle.maildir_run.specs.Counting.{IsOfFolder};
+ghost use Rattle.maildir_run.specs.Tasks.{Ran, seen, delivery_of};
 
 use crate::calls::Calls;
 use crate::fault::RunFault;
@@ -20,24 +16,12 @@ pub(crate) fn bring<F: Folder>(
     target: &Target,
     body: &[u8],
 ) -> Result<(), RunFault>
-    requires { IsTarget target.now }
-    ensures honest { F.honest folder.old → F.honest folder.new }
-    ensures brings { F.honest folder.old → IsMissing (F.files folder.old) (message_at target.now body.now) → Brings (message_at target.now body.now) (F.files folder.old) (F.files folder.new) }
-    ensures home { F.honest folder.old → IsMissing (F.files folder.old) (message_at target.now body.now) → OnOk result (IsHome (F.files folder.new) (message_at target.now body.now)) }
-    ensures swept { F.honest folder.old → IsMissing (F.files folder.old) (message_at target.now body.now) → TmpWithin [] (F.files folder.old) → OnOk result (TmpWithin [] (F.files folder.new)) }
-
-    ensures quiet { F.quiet folder.old → F.quiet folder.new }
-    ensures exact { F.quiet folder.old → get (F.files folder.old).tmp target.now.base ≡ None → OnOk result (F.files folder.new ≡ added (F.files folder.old) target.now.place target.now.name body.now) }
-    ensures others { F.quiet folder.old → LeavesOthers (F.files folder.old) (F.files folder.new) }
-
-    ensures made { OnOk result (Makes 2 calls.old.made calls.new.made (F.calls folder.old) (F.calls folder.new)) }
-    ensures most { MakesUpTo 2 calls.old.made calls.new.made (F.calls folder.old) (F.calls folder.new) }
-    ensures cause { CountsFault result (F.failures folder.old) (F.failures folder.new) }
-    ensures numbered { IsNumbered result calls.new.made }
+    ensures ran { let at = seen F.honest F.quiet F.files F.calls F.failures in
+        Ran (delivery_of target.now body.now) (at folder.old) (at folder.new) calls.old.made calls.new.made result }
     ensures causes { IfErr result IsOfFolder }
 {
     let base = target.base.as_str();
-    calls.answered(folder.write(base, body))?;
-    calls.answered(folder.place(base, target.place, target.name.as_str()))?;
+    calls.write(folder, base, body)?;
+    calls.place(folder, base, target.place, target.name.as_str())?;
     Ok(())
 }

@@ -1,12 +1,10 @@
 // A run over a folder, from its listings on: message after message.
-ghost use Rattle.std.specs.Prelude.{◌≡◌, ◌<◌, ◌≤◌, ◌+◌, ◌-◌, ◌*◌, ◌^◌, [], ◌∷◌, ◌++◌, List, ℕ, All, OnOk, length, IfErr};
+ghost use Rattle.std.specs.Prelude.{◌≡◌, ◌<◌, ◌≤◌, ◌+◌, ◌-◌, ◌^◌, [], ◌∷◌, List, ℕ, OnOk, length, IfErr};
+ghost use Rattle.std.specs.FinMap.{contains_key};
 ghost use Rattle.maildir_name.specs.Named.{Named};
-ghost use Rattle.maildir_run.specs.Counting.{CountsFault, IsNumbered, IsOfFolder, MakesUpTo};
-ghost use Rattle.maildir_run.specs.Delivery.{IsSoundAt};
-ghost use Rattle.maildir_run.specs.Files.{Files};
-ghost use Rattle.maildir_run.specs.Progress.{Reached, Came, Places};
-ghost use Rattle.maildir_run.specs.Quietly.{Filled, LeavesOthers};
-ghost use Rattle.maildir_run.specs.Texts.{messages_of, bodies_of};
+ghost use Rattle.maildir_run.specs.Counting.{IsOfFolder};
+ghost use Rattle.maildir_run.specs.Tasks.{Brought, seen};
+ghost use Rattle.maildir_run.specs.Texts.{bodies_of};
 
 use crate::bases::Bases;
 use crate::calls::Calls;
@@ -65,24 +63,10 @@ impl<'a> Engine<'a> {
     /// Brings the next message, if it was not there. The set of bases is asked once.
     fn deliver<F: Folder>(&mut self, folder: &mut F, body: &[u8]) -> Result<(), RunFault>
         requires { self.old.messages < 2 ^ 63 }
-        ensures honest { F.honest folder.old → F.honest folder.new }
-        ensures done { F.honest folder.old → (bodies : List (List ℕ)) (start : Files) → Reached bodies start self.old.there self.old.namer self.old.messages self.old.placed (F.files folder.old) →
-            length bodies < 2 ^ 63 → All (IsSoundAt start) (messages_of (bodies ++ body.now ∷ [])) →
-            OnOk result (Reached (bodies ++ body.now ∷ []) start self.new.there self.new.namer self.new.messages self.new.placed (F.files folder.new)) }
-        ensures came { F.honest folder.old → (bodies : List (List ℕ)) (start : Files) → Reached bodies start self.old.there self.old.namer self.old.messages self.old.placed (F.files folder.old) →
-            length bodies < 2 ^ 63 → All (IsSoundAt start) (messages_of (bodies ++ body.now ∷ [])) →
-            Came (bodies ++ body.now ∷ []) start (F.files folder.new) }
-
-        ensures quiet { F.quiet folder.old → F.quiet folder.new }
-        ensures exact { F.quiet folder.old → (bodies : List (List ℕ)) (start : Files) → Filled bodies start self.old.there self.old.namer (F.files folder.old) → length bodies < 2 ^ 63 →
-            OnOk result (Filled (bodies ++ body.now ∷ []) start self.new.there self.new.namer (F.files folder.new)) }
-        ensures others { F.quiet folder.old → LeavesOthers (F.files folder.old) (F.files folder.new) }
-
+        ensures brought { let at = seen F.honest F.quiet F.files F.calls F.failures in (bodies : List (List ℕ)) → Named bodies self.old.namer → length bodies < 2 ^ 63 →
+            Brought (contains_key self.old.there) bodies (body.now ∷ []) (at folder.old) (at folder.new) self.old.calls.made self.new.calls.made self.old.placed self.new.placed self.new.namer result }
+        ensures there { self.new.there ≡ self.old.there }
         ensures one { OnOk result (self.new.messages ≡ self.old.messages + 1) }
-        ensures made { OnOk result (Places self.old.placed self.new.placed self.old.calls.made self.new.calls.made (F.calls folder.old) (F.calls folder.new)) }
-        ensures most { MakesUpTo 2 self.old.calls.made self.new.calls.made (F.calls folder.old) (F.calls folder.new) }
-        ensures cause { CountsFault result (F.failures folder.old) (F.failures folder.new) }
-        ensures numbered { IsNumbered result self.new.calls.made }
         ensures causes { IfErr result IsOfFolder }
     {
         let target = self.namer.target(body)?;
@@ -101,24 +85,10 @@ impl<'a> Engine<'a> {
         entries: &[Entry],
     ) -> Result<(), RunFault>
         requires { self.old.messages + length entries.now < 2 ^ 63 }
-        ensures honest { F.honest folder.old → F.honest folder.new }
-        ensures done { F.honest folder.old → (bodies : List (List ℕ)) (start : Files) → Reached bodies start self.old.there self.old.namer self.old.messages self.old.placed (F.files folder.old) →
-            length bodies + length entries.now ≤ 2 ^ 63 → All (IsSoundAt start) (messages_of (bodies ++ bodies_of entries.now)) →
-            OnOk result (Reached (bodies ++ bodies_of entries.now) start self.new.there self.new.namer self.new.messages self.new.placed (F.files folder.new)) }
-        ensures came { F.honest folder.old → (bodies : List (List ℕ)) (start : Files) → Reached bodies start self.old.there self.old.namer self.old.messages self.old.placed (F.files folder.old) →
-            length bodies + length entries.now ≤ 2 ^ 63 → All (IsSoundAt start) (messages_of (bodies ++ bodies_of entries.now)) →
-            Came (bodies ++ bodies_of entries.now) start (F.files folder.new) }
-
-        ensures quiet { F.quiet folder.old → F.quiet folder.new }
-        ensures exact { F.quiet folder.old → (bodies : List (List ℕ)) (start : Files) → Filled bodies start self.old.there self.old.namer (F.files folder.old) → length bodies + length entries.now ≤ 2 ^ 63 →
-            OnOk result (Filled (bodies ++ bodies_of entries.now) start self.new.there self.new.namer (F.files folder.new)) }
-        ensures others { F.quiet folder.old → LeavesOthers (F.files folder.old) (F.files folder.new) }
-
+        ensures brought { let at = seen F.honest F.quiet F.files F.calls F.failures in (bodies : List (List ℕ)) → Named bodies self.old.namer → length bodies + length entries.now ≤ 2 ^ 63 →
+            Brought (contains_key self.old.there) bodies (bodies_of entries.now) (at folder.old) (at folder.new) self.old.calls.made self.new.calls.made self.old.placed self.new.placed self.new.namer result }
+        ensures there { self.new.there ≡ self.old.there }
         ensures all { OnOk result (self.new.messages ≡ self.old.messages + length entries.now) }
-        ensures made { OnOk result (Places self.old.placed self.new.placed self.old.calls.made self.new.calls.made (F.calls folder.old) (F.calls folder.new)) }
-        ensures most { MakesUpTo (2 * length entries.now) self.old.calls.made self.new.calls.made (F.calls folder.old) (F.calls folder.new) }
-        ensures cause { CountsFault result (F.failures folder.old) (F.failures folder.new) }
-        ensures numbered { IsNumbered result self.new.calls.made }
         ensures causes { IfErr result IsOfFolder }
     {
         for entry in entries {

@@ -1,5 +1,5 @@
 //! Laws over the definitions alone. Each law is the contract of a function, and no function here does anything.
-ghost use Rattle.std.specs.Prelude.{◌≡◌, ◌↔◌, ℕ, map, ◌<◌, ◌≤◌, ◌^◌, length, List, [], ◌∷◌, ◌++◌, Some, Ok, All, Contains, IsTrue, IsFalse, IsPermutation};
+ghost use Rattle.std.specs.Prelude.{◌≡◌, ◌↔◌, ℕ, map, ◌<◌, ◌≤◌, ◌+◌, ◌%◌, ◌^◌, length, List, [], ◌∷◌, ◌++◌, Some, Ok, All, Contains, IsTrue, IsFalse, IsPermutation};
 ghost use Rattle.std.specs.List.{list_any};
 ghost use Rattle.std.specs.FinMap.{get};
 ghost use Rattle.maildir_name.specs.declared.target.Place.{Place};
@@ -13,16 +13,24 @@ ghost use Rattle.maildir_run.specs.Calls.{Call, Move, after, Lists, Succeeded, P
 ghost use Rattle.maildir_run.specs.Calls.Call.{Placing};
 ghost use Rattle.maildir_run.specs.Delivery.{Message, leftover_count, IsMissing, IsHome, AreNamed, AreDistinct, Sound, Delivered};
 ghost use Rattle.maildir_run.specs.Texts.{MessagesOf};
-ghost use Rattle.maildir_run.specs.Runs.{Link, Run, Runs};
+ghost use Rattle.maildir_run.specs.Runs.{CountsRun, Link, Run, Runs};
 ghost use Rattle.maildir_run.specs.Several.{Text, IsText, OfEach, SoundForAll, LinkOver, RunsOver, link_over, link_of, AreFresh, StandsAfter};
 ghost use Rattle.maildir_run.specs.Several.LinkOver.{RanOver};
 ghost use Rattle.maildir_run.specs.Alone.{alone};
-ghost use Rattle.maildir_run.specs.Plan.{planned, each_alone};
+ghost use Rattle.maildir_run.specs.Plan.{is_listed, planned, each_alone};
+ghost use Rattle.maildir_run.specs.Tasks.{Names, planned_tasks, listings, sweep_of, deliveries_of};
 
 /// The plan for some targets is the plan for none, followed by the steps of each target alone over an empty `tmp`.
 pub fn plan_is_each_alone()
     ensures { (tmp new cur : List (List ℕ)) (targets : List Target) →
         planned tmp new cur targets ≡ planned tmp new cur [] ++ each_alone 0 new cur targets }
+{}
+
+/// What a run asks of its folder for some messages, one after the other, are the calls of the plan for all of them: the
+/// listings, and then the steps that `plan` answers for what they listed and the messages' targets.
+pub fn runs_are_planned()
+    ensures { (names : Names) (ms : List Message) → planned_tasks names ms
+        ≡ listings names ++ (sweep_of names.tmp ++ deliveries_of (is_listed names.new names.cur) ms) }
 {}
 
 /// A converter's base keeps what its homes hold, whatever another program does, and within each call that
@@ -125,7 +133,11 @@ pub fn one_text()
         Runs text.bytes links old new → RunsOver (text ∷ []) (map (link_over text) links) old new }
 {}
 
-/// Where the messages are delivered, an undisturbed run leaves all files as they are.
+/// Where the messages are delivered, an undisturbed run leaves all files as they are, and a run that ends with Ok places
+/// nothing, sweeps nothing and makes three calls, the listings.
 pub fn nothing_left_to_do()
-    ensures { (ms : List Message) (s : Files) → Delivered ms s → alone ms s ≡ s }
+    ensures same { (ms : List Message) (s : Files) → Delivered ms s → alone ms s ≡ s }
+    ensures three_calls { (t : List ℕ) (ms : List Message) (s new : Files) (report : Report) → MessagesOf t ms → Delivered ms s →
+        Run t s (Ok report) new → (before after : ℕ) → CountsRun report before after →
+        (report.placed ≡ 0) × (report.swept ≡ 0) × (after % 2 ^ 128 ≡ (before + 3) % 2 ^ 128) }
 {}

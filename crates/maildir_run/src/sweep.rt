@@ -1,43 +1,46 @@
 // The sweep: what broken runs left in `tmp` is removed.
-ghost use Rattle.std.specs.Prelude.{◌≡◌, [], ◌<◌, ◌^◌, IfOk, OnOk, IsPermutation, map, length, filter, string_bytes, IfErr};
-ghost use Rattle.std.specs.FinMap.{keys};
-ghost use Rattle.maildir_name.specs.Names.{is_converter_name as converter_name};
-ghost use Rattle.maildir_run.specs.Alone.{swept as swept_files};
-ghost use Rattle.maildir_run.specs.Counting.{CountsFault, IsNumbered, IsOfFolder, Makes, MakesUpTo};
-ghost use Rattle.maildir_run.specs.Progress.{LeavesHomes, TmpWithin};
-ghost use Rattle.maildir_run.specs.Quietly.{LeavesOthers};
+ghost use Rattle.std.specs.Prelude.{◌≡◌, [], length, map, string_bytes, IfOk, IfErr};
+ghost use Rattle.maildir_run.specs.Counting.{IsOfFolder};
+ghost use Rattle.maildir_run.specs.Tasks.{Ran, seen, tasks_of, sweep_of};
 
 use crate::calls::Calls;
 use crate::fault::RunFault;
 use crate::folder::Folder;
-use maildir_name::is_converter_name;
+use crate::planner::{Step, plan};
+use std::alloc::Global;
 
-/// Removes each of the converter's names among those that were listed in `tmp`, in the order of the list. Answers how many.
+/// Removes the converter's names among those that were listed in `tmp`, by the plan for them and no target. Answers how
+/// many.
 pub(crate) fn sweep<F: Folder>(
+    alloc: Global,
     folder: &mut F,
     calls: &mut Calls,
     listed: &[String],
 ) -> Result<u64, RunFault>
-    ensures honest { F.honest folder.old → F.honest folder.new }
-    ensures leaves { F.honest folder.old → LeavesHomes (F.files folder.old) (F.files folder.new) }
-    ensures swept { F.honest folder.old → TmpWithin (map string_bytes listed.now) (F.files folder.old) → OnOk result (TmpWithin [] (F.files folder.new)) }
-    ensures count { IfOk result (λ n. n ≡ length (filter converter_name (map string_bytes listed.now))) }
+    ensures ran { let at = seen F.honest F.quiet F.files F.calls F.failures in
+        Ran (sweep_of (map string_bytes listed.now)) (at folder.old) (at folder.new) calls.old.made calls.new.made result }
+    ensures count { IfOk result (λ n. n ≡ length (sweep_of (map string_bytes listed.now))) }
+    ensures causes { IfErr result IsOfFolder }
+{
+    let steps = plan(alloc, listed, &[], &[], &[])?;
+    remove_planned(folder, calls, &steps)
+}
 
-    ensures quiet { F.quiet folder.old → F.quiet folder.new }
-    ensures all { F.quiet folder.old → IsPermutation (map string_bytes listed.now) (keys (F.files folder.old).tmp) → OnOk result (F.files folder.new ≡ swept_files (F.files folder.old)) }
-    ensures others { F.quiet folder.old → LeavesOthers (F.files folder.old) (F.files folder.new) }
-
-    ensures made { IfOk result (λ n. Makes n calls.old.made calls.new.made (F.calls folder.old) (F.calls folder.new)) }
-    ensures few { IfOk result (λ n. n < 2 ^ 64) }
-    ensures most { MakesUpTo (2 ^ 64) calls.old.made calls.new.made (F.calls folder.old) (F.calls folder.new) }
-    ensures cause { CountsFault result (F.failures folder.old) (F.failures folder.new) }
-    ensures numbered { IsNumbered result calls.new.made }
+/// Makes the removals of a plan, in its order. Answers how many.
+fn remove_planned<F: Folder>(
+    folder: &mut F,
+    calls: &mut Calls,
+    steps: &[Step],
+) -> Result<u64, RunFault>
+    ensures ran { let at = seen F.honest F.quiet F.files F.calls F.failures in
+        Ran (tasks_of [] steps.now) (at folder.old) (at folder.new) calls.old.made calls.new.made result }
+    ensures count { IfOk result (λ n. n ≡ length (tasks_of [] steps.now)) }
     ensures causes { IfErr result IsOfFolder }
 {
     let mut swept = 0;
-    for name in listed {
-        if is_converter_name(name.as_str()) {
-            calls.answered(folder.remove(name.as_str()))?;
+    for step in steps {
+        if let Step::Remove(name) = step {
+            calls.remove(folder, name.as_str())?;
             swept += 1;
         }
     }

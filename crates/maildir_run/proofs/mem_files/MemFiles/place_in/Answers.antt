@@ -1,4 +1,4 @@
-use Rattle.std.proofs.Common.{◌≡◌, refl, sym, ap, subst, ◌∙◌}
+use Rattle.std.proofs.Common.{refl, sym, ap, subst, ◌∙◌}
 use Rattle.maildir_run.specs.declared.script.Mode.TheVariants.{Plain, Twice}
 use Rattle.maildir_run.specs.MemFiles.{files_in}
 use Rattle.maildir_run.specs.Calls.{Placing, effect}

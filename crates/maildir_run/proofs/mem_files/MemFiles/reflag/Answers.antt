@@ -1,4 +1,4 @@
-use Rattle.std.proofs.Common.{◌≡◌, sym, ap, ◌∙◌}
+use Rattle.std.proofs.Common.{◌≡◌, sym, ◌∙◌}
 use Rattle.std.specs.FinMap.{insert, remove}
 use Rattle.maildir_run.specs.MemFiles.{files_in}
 use Rattle.maildir_run.proofs.Scripts.{reflagged}

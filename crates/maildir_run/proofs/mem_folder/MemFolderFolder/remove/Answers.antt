@@ -1,6 +1,6 @@
-use Rattle.std.proofs.Common.{◌≡◌, rules}
+use Rattle.std.proofs.Common.{rules}
 use Rattle.maildir_run.specs.Calls.{Removing}
-use Rattle.maildir_run.specs.MemFolder.{files_of, FollowsScript}
+use Rattle.maildir_run.specs.MemFolder.{FollowsScript}
 use Rattle.maildir_run.proofs.Followed.{follows_called, never_cut}
 use Rattle.maildir_run.proofs.mem_folder.MemFolderFolder.remove.Goals as goal
 

@@ -1,0 +1,281 @@
+-- What tasks that were performed leave.
+use Rattle.std.proofs.Common.{◌≡◌, ℕ, ◌≤◌, Bool, true, false, cond, List, [], ◌∷◌, ◌++◌, ◌⊎◌, map, length, All, Result, Ok, Err, IsPermutation, IsTrue, IsFalse, refl, sym, ap, subst, ◌∙◌, inl, inr, arith, append_assoc, length-append}
+use Rattle.std.specs.List.{filter}
+use Rattle.std.specs.FinMap.{get, keys}
+use Rattle.std.proofs.lemmas.Bool.{cases_Bool}
+use Rattle.std.proofs.Math.Seq.{get_or-append_seam}
+use Rattle.std.proofs.lemmas.List.{append-nil, get_or_append_left}
+use Rattle.std.proofs.lemmas.List.Elements.{All-head, All-tail}
+use Rattle.std.proofs.lemmas.List.Sorted.{IsPermutation-refl, IsPermutation-trans}
+use Rattle.maildir_name.specs.declared.target.Target.{Target}
+use Rattle.maildir_name.specs.Names.{is_converter_name, is_converter_base}
+use Rattle.maildir_run.specs.declared.folder.Sub.TheVariants.{New, Cur}
+use Rattle.maildir_run.specs.Alone.{swept, filled, added}
+use Rattle.maildir_run.specs.Calls.{Placing, Removing, Again, Failed, PlacesElsewhere}
+use Rattle.maildir_run.specs.Delivery.{IsSwept, Message, IsMissing, IsHome, IsSoundAt, AreNamed, AreDistinct, has_home, leftover_count}
+use Rattle.maildir_run.specs.Files.{Files, homes, is_name}
+use Rattle.maildir_run.specs.Plan.{is_listed}
+use Rattle.maildir_run.specs.Progress.{LeavesHomes, TmpWithin, Brings, Progress, Knows, IsTarget, message_at}
+use Rattle.maildir_run.specs.Quietly.{LeavesOthers, TakenOut}
+use Rattle.maildir_run.specs.Tasks.{Task, Ask, Do, call_of, Done, Way, reported, undisturbed, AllDone, Stopped, Performs, Names, listings, sweep_of, delivery_of, delivery_if, deliveries_of}
+use Rattle.maildir_run.proofs.Progress.{progress_home, progress_brought, progress_or_more}
+use Rattle.maildir_run.proofs.QuietRuns.{OfConverter, others_same, others_then, effect_others, own_others, none_taken, taken_one, taken_skip, swept_exact, brought_exact, step_tmp}
+use Rattle.maildir_run.proofs.Reach.{apart_front, still_missing, still_there, none_of, home_known}
+use Rattle.maildir_run.proofs.Steps.{ok_moves, called_kept, write_brings, write_ok, place_brings, place_home, sweep_removed, listing_within, without_other, base_name}
+use Rattle.maildir_run.proofs.Surveys.{listed_within, three_listings, few_listed}
+
+-- ---- the parts of a list of tasks
+pub all_parts : (w : Way) (xs ys : List Task) (a c : Files) → AllDone w (xs ++ ys) a c → (b : Files) × AllDone w xs a b × AllDone w ys b c
+all_parts w [] ys a c h = (a, refl, h)
+all_parts w (x ∷ xs) ys a c (mid, one, more) = let r = all_parts w xs ys mid c more in (r.0, (mid, one, r.1), r.2)
+
+pub stopped_parts : (w : Way) (xs ys : List Task) (a c : Files) → Stopped w (xs ++ ys) a c → Stopped w xs a c ⊎ ((b : Files) × AllDone w xs a b × Stopped w ys b c)
+stopped_parts w [] ys a c h = inr (a, refl, h)
+stopped_parts w (x ∷ xs) ys a c (inl h) = inl (inl h)
+stopped_parts w (x ∷ xs) ys a c (inr (mid, one, more)) =
+    elim (stopped_parts w xs ys mid c more) as (λ _. Stopped w (x ∷ xs) a c ⊎ ((b : Files) × AllDone w (x ∷ xs) a b × Stopped w ys b c)) [
+      | inl h ↦ inl (inr (mid, one, h))
+      | inr (b, first, then) ↦ inr (b, (mid, one, first), then)
+    ]
+
+-- ---- a base at which nothing is placed
+done_moves : (task : Task) (old new : Files) → Done task old new → Failed (call_of task) old new
+done_moves (Ask sub names) old new h = record { moves = h.before ++ Again ∷ h.rest; left = h.left }
+done_moves (Do call) old new h = ok_moves call old new h
+
+-- the tasks place no file at all
+abbrev pub PlacesNone : List Task → Type 0
+PlacesNone [] = Unit {0}
+PlacesNone (task ∷ tasks) = ((b : List ℕ) → PlacesElsewhere b (call_of task)) × PlacesNone tasks
+
+module _ (b : List ℕ) (named : IsTrue (is_converter_base b)) where
+  one_kept : (task : Task) → ((b : List ℕ) → PlacesElsewhere b (call_of task)) → (old new : Files) → Failed (call_of task) old new → IsPermutation (homes old b) (homes new b)
+  one_kept task off old new h = called_kept b named (call_of task) (off b) old new h
+
+  all_kept : (tasks : List Task) → PlacesNone tasks → (old new : Files) → AllDone reported tasks old new → IsPermutation (homes old b) (homes new b)
+  all_kept [] off old new e = subst (λ s. IsPermutation (homes old b) (homes s b)) (sym e) (IsPermutation-refl _)
+  all_kept (task ∷ tasks) off old new (mid, one, more) =
+      IsPermutation-trans _ _ _ (one_kept task off.0 old mid (done_moves task old mid one)) (all_kept tasks off.1 mid new more)
+
+  stopped_kept : (tasks : List Task) → PlacesNone tasks → (old new : Files) → Stopped reported tasks old new → IsPermutation (homes old b) (homes new b)
+  stopped_kept [] off old new e = subst (λ s. IsPermutation (homes old b) (homes s b)) (sym e) (IsPermutation-refl _)
+  stopped_kept (task ∷ tasks) off old new (inl h) = one_kept task off.0 old new h
+  stopped_kept (task ∷ tasks) off old new (inr (mid, one, more)) =
+      IsPermutation-trans _ _ _ (one_kept task off.0 old mid (done_moves task old mid one)) (stopped_kept tasks off.1 mid new more)
+
+pub all_leave : (tasks : List Task) → PlacesNone tasks → (old new : Files) → AllDone reported tasks old new → LeavesHomes old new
+all_leave tasks off old new h = record { kept = λ b named. all_kept b named tasks off old new h }
+
+pub stopped_leave : (tasks : List Task) → PlacesNone tasks → (old new : Files) → Stopped reported tasks old new → LeavesHomes old new
+stopped_leave tasks off old new h = record { kept = λ b named. stopped_kept b named tasks off old new h }
+
+pub listings_place_none : (names : Names) → PlacesNone (listings names)
+listings_place_none names = ((λ b. tt), ((λ b. tt), ((λ b. tt), tt)))
+
+removes_place_none : (names : List (List ℕ)) → PlacesNone (map (λ name. Do (Removing name)) names)
+removes_place_none [] = tt
+removes_place_none (name ∷ names) = ((λ b. tt), removes_place_none names)
+
+pub sweep_places_none : (names : List (List ℕ)) → PlacesNone (sweep_of names)
+sweep_places_none names = removes_place_none (filter is_converter_name names)
+
+-- ---- the listings
+pub record Looked (names : Names) (old new : Files) : Type 0 where
+  pub within : TmpWithin names.tmp new
+  pub few : length (filter is_converter_name names.tmp) ≤ leftover_count old
+  pub knows : Knows (is_listed names.new names.cur) old
+
+pub looked : (names : Names) (old new : Files) → AllDone reported (listings names) old new → Looked names old new
+looked names old new (a, first, (b, second, (c, third, e))) = record {
+  within = subst (TmpWithin names.tmp) (sym e) (listed_within Cur names.tmp b names.cur c third (listed_within New names.tmp a names.new b second (listing_within old names.tmp a first)));
+  few = few_listed old names.tmp a first;
+  knows = λ base named. three_listings base named old a b c names.tmp names.new names.cur first second third;
+}
+
+pub looked_quietly : (names : Names) (old new : Files) → AllDone undisturbed (listings names) old new → (new ≡ old) × IsPermutation names.tmp (keys old.tmp)
+looked_quietly names old new (a, first, (b, second, (c, third, e))) = (e ∙ third.0 ∙ second.0 ∙ first.0, first.1)
+
+-- ---- the sweep
+filter_within : (name : List ℕ) (names : List (List ℕ)) (s : Files) → is_converter_name name ≡ false → TmpWithin (name ∷ names) s → TmpWithin names s
+filter_within name names s off within = without_other name names s off within
+
+pub all_swept : (names : List (List ℕ)) (old new : Files) → TmpWithin names old → AllDone reported (sweep_of names) old new → TmpWithin [] new
+all_swept [] old new within e = subst (TmpWithin []) (sym e) within
+all_swept (name ∷ names) old new within h =
+    elim (cases_Bool (is_converter_name name)) as (λ _. TmpWithin [] new) [
+      | inl on ↦
+          let r = subst (λ xs. AllDone reported (map (λ n. Do (Removing n)) xs) old new) (ap (λ t. cond t (name ∷ filter is_converter_name names) (filter is_converter_name names)) on) h in
+          all_swept names r.0 new (sweep_removed name names name refl on old r.0 r.1 within) r.2
+      | inr off ↦
+          all_swept names old new (filter_within name names old off within)
+          (subst (λ xs. AllDone reported (map (λ n. Do (Removing n)) xs) old new) (ap (λ t. cond t (name ∷ filter is_converter_name names) (filter is_converter_name names)) off) h)
+    ]
+
+taken_all : (xs names : List (List ℕ)) (start old new : Files) → TakenOut xs start old → AllDone undisturbed (sweep_of names) old new → TakenOut (xs ++ names) start new
+taken_all xs [] start old new taken e = subst (TakenOut (xs ++ []) start) (sym e) (subst (λ l. TakenOut l start old) (sym (append-nil xs)) taken)
+taken_all xs (name ∷ names) start old new taken h =
+    elim (cases_Bool (is_converter_name name)) as (λ _. TakenOut (xs ++ name ∷ names) start new) [
+      | inl on ↦
+          let r = subst (λ l. AllDone undisturbed (map (λ n. Do (Removing n)) l) old new) (ap (λ t. cond t (name ∷ filter is_converter_name names) (filter is_converter_name names)) on) h in
+          subst (λ l. TakenOut l start new) (append_assoc xs (name ∷ []) names)
+          (taken_all (xs ++ name ∷ []) names start r.0 new (taken_one xs name start old r.0 on r.1.1 taken) r.2)
+      | inr off ↦
+          subst (λ l. TakenOut l start new) (append_assoc xs (name ∷ []) names)
+          (taken_all (xs ++ name ∷ []) names start old new (taken_skip xs name start old off taken)
+          (subst (λ l. AllDone undisturbed (map (λ n. Do (Removing n)) l) old new) (ap (λ t. cond t (name ∷ filter is_converter_name names) (filter is_converter_name names)) off) h))
+    ]
+
+pub swept_quietly : (names : List (List ℕ)) (old new : Files) → IsPermutation names (keys old.tmp) → AllDone undisturbed (sweep_of names) old new → new ≡ swept old
+swept_quietly names old new listed h = swept_exact names old new listed (taken_all [] names old old new (none_taken old) h)
+
+-- ---- one message
+pub record Delivered (m : Message) (old new : Files) : Type 0 where
+  pub brings : Brings m old new
+  pub home : IsHome new m
+  pub within : TmpWithin [] old → TmpWithin [] new
+
+pub delivered : (t : Target) (body : List ℕ) → IsTarget t → (old new : Files) → IsMissing old (message_at t body) → AllDone reported (delivery_of t body) old new → Delivered (message_at t body) old new
+delivered t body is old new missing (mid, wrote, (end, put, e)) =
+    let m = message_at t body in
+    let w = write_ok m is.named is.whole t.base body refl refl old mid wrote missing in
+    let home = place_home m is.named is.whole t.base refl t.place t.name is.under old mid end w put in
+    subst (Delivered m old) (sym e) (record {
+      brings = place_brings m is.named is.whole t.base refl t.place t.name is.under old mid end w (ok_moves (Placing t.base t.place t.name) mid end put);
+      home = home.0;
+      within = home.1;
+    })
+
+pub stopped_brings : (t : Target) (body : List ℕ) → IsTarget t → (old new : Files) → IsMissing old (message_at t body) → Stopped reported (delivery_of t body) old new → Brings (message_at t body) old new
+stopped_brings t body is old new missing (inl h) = write_brings (message_at t body) is.named t.base body old new h missing
+stopped_brings t body is old new missing (inr (mid, wrote, inl h)) =
+    let m = message_at t body in
+    place_brings m is.named is.whole t.base refl t.place t.name is.under old mid new (write_ok m is.named is.whole t.base body refl refl old mid wrote missing) h
+stopped_brings t body is old new missing (inr (mid, wrote, inr (end, put, e))) = (delivered t body is old new missing (mid, wrote, (end, put, e))).brings
+
+-- ---- messages, in order
+-- how far a run has come, of whose messages these are done
+pub record CameTo (all : List Message) (start now : Files) : Type 0 where
+  pub done : List Message
+  pub rest : List Message
+  pub is : all ≡ done ++ rest
+  pub progress : Progress done start now
+
+module _ (start : Files) (is_there : List ℕ → Bool) (knows : Knows is_there start) where
+  home_is : (t : Target) (shown : Bool) → IsTarget t → is_there t.base ≡ shown → has_home start t.base ≡ shown
+  home_is t shown named e = sym (knows t.base named.named) ∙ e
+
+  as_shown : (w : Way) (m : Message) (shown : Bool) (old new : Files) → is_there m.target.base ≡ shown → AllDone w (delivery_if is_there m) old new → AllDone w (cond shown [] (delivery_of m.target m.body)) old new
+  as_shown w m shown old new e h = subst (λ b. AllDone w (cond b [] (delivery_of m.target m.body)) old new) e h
+
+  module _ (all : List Message) (distinct : AreDistinct all) (are : All (λ m. IsTarget m.target) all) (sound : All (IsSoundAt start) all) where
+    at : (P : Message → Type 0) → All P all → (done ms : List Message) (m : Message) → all ≡ done ++ m ∷ ms → P m
+    at P holds done ms m e = subst P (get_or-append_seam done m ms m) (subst (All P) e holds (length done) m (omega (arith, length-append done (m ∷ ms))))
+
+    apart : (done ms : List Message) (m : Message) → all ≡ done ++ m ∷ ms → All (λ n. IsFalse (is_name m.target.base n.target.base)) done
+    apart done ms m e = apart_front done m ms (subst AreDistinct e distinct)
+
+    done_named : (done ms : List Message) → all ≡ done ++ ms → AreNamed done
+    done_named done ms e = λ k d h. subst (λ m. IsTrue (is_converter_base m.target.base)) (get_or_append_left done ms d k h) ((subst (All (λ m. IsTarget m.target)) e are k d (omega (arith, h, length-append done ms))).named)
+
+    missing_here : (done ms : List Message) (m : Message) (now : Files) → all ≡ done ++ m ∷ ms → is_there m.target.base ≡ false → Progress done start now → IsMissing now m
+    missing_here done ms m now e off p =
+        let is = at (λ m. IsTarget m.target) are done ms m e in
+        still_missing done m start now is.named (apart done ms m e) p (none_of (homes start m.target.base) (home_is m.target false is off))
+
+    home_here : (done ms : List Message) (m : Message) (now : Files) → all ≡ done ++ m ∷ ms → is_there m.target.base ≡ true → Progress done start now → IsHome now m
+    home_here done ms m now e on p =
+        let is = at (λ m. IsTarget m.target) are done ms m e in
+        still_there done m start now is.named (apart done ms m e) p (home_known m start (home_is m.target true is on) (at (IsSoundAt start) sound done ms m e))
+
+    next : (done ms : List Message) (m : Message) → all ≡ done ++ m ∷ ms → all ≡ (done ++ m ∷ []) ++ ms
+    next done ms m e = e ∙ sym (append_assoc done (m ∷ []) ms)
+
+    -- one message was done
+    one_done : (done ms : List Message) (m : Message) (old new : Files) → all ≡ done ++ m ∷ ms → Progress done start old → TmpWithin [] old → AllDone reported (delivery_if is_there m) old new → Progress (done ++ m ∷ []) start new × TmpWithin [] new
+    one_done done ms m old new e p within h =
+        elim (cases_Bool (is_there m.target.base)) as (λ _. Progress (done ++ m ∷ []) start new × TmpWithin [] new) [
+          | inl on ↦
+              let same : new ≡ old = as_shown reported m true old new on h in
+              (subst (Progress (done ++ m ∷ []) start) (sym same) (progress_home done m start old (home_here done ms m old e on p) p), subst (TmpWithin []) (sym same) within)
+          | inr off ↦
+              let d = delivered m.target m.body (at (λ m. IsTarget m.target) are done ms m e) old new (missing_here done ms m old e off p) (as_shown reported m false old new off h) in
+              (progress_brought done m start old new (done_named done (m ∷ ms) e) (apart done ms m e) d.brings d.home p, d.within within)
+        ]
+
+    pub all_progress : (done ms : List Message) (old new : Files) → all ≡ done ++ ms → Progress done start old → TmpWithin [] old → AllDone reported (deliveries_of is_there ms) old new → Progress all start new × TmpWithin [] new
+    all_progress done [] old new e p within h = (subst (λ xs. Progress xs start new) (sym (e ∙ append-nil done)) (subst (Progress done start) (sym h) p), subst (TmpWithin []) (sym h) within)
+    all_progress done (m ∷ ms) old new e p within h =
+        let r = all_parts reported (delivery_if is_there m) (deliveries_of is_there ms) old new h in
+        let one = one_done done ms m old r.0 e p within r.1 in
+        all_progress (done ++ m ∷ []) ms r.0 new (next done ms m e) one.0 one.1 r.2
+
+    -- the run stopped at one message
+    one_stopped : (done ms : List Message) (m : Message) (old new : Files) → all ≡ done ++ m ∷ ms → Progress done start old → Stopped reported (delivery_if is_there m) old new → CameTo all start new
+    one_stopped done ms m old new e p h =
+        elim (cases_Bool (is_there m.target.base)) as (λ _. CameTo all start new) [
+          | inl on ↦
+              let same : new ≡ old = subst (λ b. Stopped reported (cond b [] (delivery_of m.target m.body)) old new) on h in
+              record { done = done; rest = m ∷ ms; is = e; progress = subst (Progress done start) (sym same) p }
+          | inr off ↦
+              let missing = missing_here done ms m old e off p in
+              let brings = stopped_brings m.target m.body (at (λ m. IsTarget m.target) are done ms m e) old new missing (subst (λ b. Stopped reported (cond b [] (delivery_of m.target m.body)) old new) off h) in
+              elim (progress_or_more done m start old new (done_named done (m ∷ ms) e) (apart done ms m e) missing brings p) as (λ _. CameTo all start new) [
+                | inl q ↦ record { done = done; rest = m ∷ ms; is = e; progress = q }
+                | inr q ↦ record { done = done ++ m ∷ []; rest = ms; is = next done ms m e; progress = q }
+              ]
+        ]
+
+    pub stopped_came : (done ms : List Message) (old new : Files) → all ≡ done ++ ms → Progress done start old → TmpWithin [] old → Stopped reported (deliveries_of is_there ms) old new → CameTo all start new
+    stopped_came done [] old new e p within h = record { done = done; rest = []; is = e; progress = subst (Progress done start) (sym h) p }
+    stopped_came done (m ∷ ms) old new e p within h =
+        elim (stopped_parts reported (delivery_if is_there m) (deliveries_of is_there ms) old new h) as (λ _. CameTo all start new) [
+          | inl s ↦ one_stopped done ms m old new e p s
+          | inr (mid, first, then) ↦
+              let one = one_done done ms m old mid e p within first in
+              stopped_came (done ++ m ∷ []) ms mid new (next done ms m e) one.0 one.1 then
+        ]
+
+  -- ---- and where nobody disturbs it
+  pub all_filled : (ms : List Message) → All (λ m. IsTarget m.target) ms → (old new : Files) → IsSwept old → AllDone undisturbed (deliveries_of is_there ms) old new → new ≡ filled start ms old
+  all_filled [] are old new free e = e
+  all_filled (m ∷ ms) are old new free h =
+      let is = All-head (λ (x : Message). IsTarget x.target) m ms are in
+      let more = All-tail (λ (x : Message). IsTarget x.target) m ms are in
+      let t = m.target in
+      let r = all_parts undisturbed (delivery_if is_there m) (deliveries_of is_there ms) old new h in
+      let step : r.0 ≡ cond (has_home start t.base) old (added old t.place t.name m.body) =
+      elim (cases_Bool (is_there t.base)) as (λ _. r.0 ≡ cond (has_home start t.base) old (added old t.place t.name m.body)) [
+        | inl on ↦ as_shown undisturbed m true old r.0 on r.1 ∙ ap (λ b. cond b old (added old t.place t.name m.body)) (sym (home_is t true is on))
+        | inr off ↦
+            let d = as_shown undisturbed m false old r.0 off r.1 in
+            let end = d.2 in
+            (end.2 ∙ brought_exact old d.0 end.0 t.base t.base m.body t.place t.name t.name refl refl d.1.1 end.1.1 (free t.base (base_name m is.named is.whole)))
+            ∙ ap (λ b. cond b old (added old t.place t.name m.body)) (sym (home_is t false is off))
+      ] in
+      all_filled ms more r.0 new (λ name ours. ap (λ s. get s.tmp name) step ∙ ap (λ x. get x name) (step_tmp (has_home start t.base) old m) ∙ free name ours) r.2
+      ∙ ap (filled start ms) step
+
+-- ---- other files
+abbrev pub AreOurs : List Task → Type 0
+AreOurs [] = Unit {0}
+AreOurs (task ∷ tasks) = OfConverter (call_of task) × AreOurs tasks
+
+one_others : (task : Task) → OfConverter (call_of task) → (old new : Files) → undisturbed.done task old new → LeavesOthers old new
+one_others (Ask sub names) ours old new h = subst (LeavesOthers old) (sym h.0) (others_same old)
+one_others (Do call) ours old new h = subst (LeavesOthers old) (sym h.1) (effect_others call ours old)
+
+refused_others : (task : Task) → OfConverter (call_of task) → (old new : Files) → undisturbed.refused task old new → LeavesOthers old new
+refused_others task ours old new h = subst (LeavesOthers old) (sym h.2) (own_others (call_of task) ours h.0 old h.1)
+
+all_others : (tasks : List Task) → AreOurs tasks → (old new : Files) → AllDone undisturbed tasks old new → LeavesOthers old new
+all_others [] ours old new e = subst (LeavesOthers old) (sym e) (others_same old)
+all_others (task ∷ tasks) ours old new (mid, one, more) = others_then old mid new (one_others task ours.0 old mid one) (all_others tasks ours.1 mid new more)
+
+stopped_others : (tasks : List Task) → AreOurs tasks → (old new : Files) → Stopped undisturbed tasks old new → LeavesOthers old new
+stopped_others [] ours old new e = subst (LeavesOthers old) (sym e) (others_same old)
+stopped_others (task ∷ tasks) ours old new (inl h) = refused_others task ours.0 old new h
+stopped_others (task ∷ tasks) ours old new (inr (mid, one, more)) = others_then old mid new (one_others task ours.0 old mid one) (stopped_others tasks ours.1 mid new more)
+
+pub performs_others : {A E : Type 0} (tasks : List Task) → AreOurs tasks → (old : Files) (r : Result A E) (new : Files) → Performs undisturbed tasks old r new → LeavesOthers old new
+performs_others tasks ours old (Ok x) new h = all_others tasks ours old new h
+performs_others tasks ours old (Err e) new h = stopped_others tasks ours old new h

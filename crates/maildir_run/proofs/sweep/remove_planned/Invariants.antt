@@ -1,0 +1,12 @@
+use Rattle.std.proofs.Common.{◌≡◌, ◌≤◌, [], take, length}
+use Rattle.maildir_run.specs.Tasks.{RanAll, seen, tasks_of}
+use Rattle.maildir_run.proofs.sweep.remove_planned.Given as goal
+
+abbrev pub invariant-loop-step : goal.invariant-loop-step
+invariant-loop-step g l =
+    let at = seen g.F.Folder.honest g.F.Folder.quiet g.F.Folder.files g.F.Folder.calls g.F.Folder.failures in
+    record {
+      ran : RanAll (tasks_of [] (take l.step-index l.steps)) (at l.fn.folder) (at l.folder) l.fn.calls.made l.calls.made;
+      count : l.swept ≡ length (tasks_of [] (take l.step-index l.steps));
+      few : l.swept ≤ l.step-index;
+    }
