@@ -1,18 +1,23 @@
 # make            prove the crates and build build/mbox2maildir
 # make run        deliver the example mailboxes to a fresh Maildir under build/, and show what it holds
 # make test       prove and test everything from nothing: the gate of the repository
-# make install    copy the program, and its page where there is one, below PREFIX
+# make install    copy the program and its page below PREFIX
+# make deb        make a Debian package of the program, in build/
+# make dist       make a tarball of what git tracks, in build/
 # make bench      time the program on generated mail beside cat, sha256sum and a plain C program (SIZE=megabytes)
 # make clean      remove build/
 #
-# The command rt and a shell are all that the first four need.
+# Each needs the command rt and a shell, but for dist and clean. make test wants python3 besides, make deb dpkg-deb and
+# binutils, make dist git, and make bench gcc and python3.
 
 PREFIX ?= /usr/local
+VERSION := $(shell cat VERSION)
+DIST ?= build
 
 PROGRAM = build/mbox2maildir
 CRATE = crates/mbox2maildir
 SOURCES = crates.txt $(shell find crates -name out -prune -o \( -name '*.rt' -o -name '*.antt' \) -print)
-PAGE = $(wildcard docs/mbox2maildir.1)
+PAGE = docs/mbox2maildir.1
 
 MAILBOXES = examples/archive.mbox examples/inbox.mbox
 MAILDIR = build/example
@@ -35,6 +40,7 @@ run: $(PROGRAM)
 # The documents, the gate, and then the tests that run what it has built.
 test:
 	tests/promises.py
+	tests/documents
 	rt ci
 	mkdir -p build
 	cp $(CRATE)/out/mbox2maildir $(PROGRAM)
@@ -43,10 +49,15 @@ test:
 install: $(PROGRAM)
 	install -d $(DESTDIR)$(PREFIX)/bin
 	install -m 755 $(PROGRAM) $(DESTDIR)$(PREFIX)/bin
-ifneq ($(PAGE),)
 	install -d $(DESTDIR)$(PREFIX)/share/man/man1
 	install -m 644 $(PAGE) $(DESTDIR)$(PREFIX)/share/man/man1
-endif
+
+deb: $(PROGRAM)
+	packaging/deb $(PROGRAM) build
+
+dist:
+	mkdir -p $(DIST)
+	git archive --prefix=mbox2maildir-$(VERSION)/ -o $(DIST)/mbox2maildir-$(VERSION).tar.gz HEAD
 
 bench: $(PROGRAM)
 	bench/run
@@ -54,4 +65,4 @@ bench: $(PROGRAM)
 clean:
 	rm -rf build
 
-.PHONY: all run test install bench clean
+.PHONY: all run test install deb dist bench clean

@@ -45,7 +45,7 @@ impl From<AllocError> for Fault {
 }
 
 impl Fault {
-    /// What it is that a source could not be opened.
+    /// The fault of a source that could not be opened.
     pub fn of_source(error: &io::Error) -> Fault
         ensures growth { IsRefusedGrowth error.now → result ≡ Fault.Run RunFault.OutOfMemory }
         ensures others { ¬ IsRefusedGrowth error.now → result ≡ Fault.Source }
@@ -56,7 +56,7 @@ impl Fault {
         Fault::Source
     }
 
-    /// What it is that a folder could not be opened.
+    /// The fault of a folder that could not be opened.
     pub fn of_folder(fault: OpenFault) -> Fault
         ensures { result ≡ fault_of_opening fault }
     {
@@ -67,7 +67,7 @@ impl Fault {
         }
     }
 
-    /// What it is that a folder could not be synced, after a run that made this many calls of it.
+    /// The fault of a folder that could not be synced, after a run that made this many calls of it.
     pub fn of_sync(fault: FolderFault, calls: u64) -> Fault
         ensures { result ≡ fault_or fault (Fault.Run (RunFault.FolderFailed (min (calls + 1) (2 ^ 64 - 1)))) }
     {
