@@ -2,7 +2,8 @@
 """A mail reader at work: reflags messages of a folder at random moments, until its time is over or it is killed.
 
 Words: the folder `cur`, how many changes to make a second (0: as many as it can), for how many seconds, and for how
-many seconds it rests at most, after about a second of work each time (left out, it never rests).
+many seconds it rests at most, after about a second of work each time (left out, it never rests). Says when it has begun,
+and how many changes it made.
 """
 import os
 import random
@@ -29,6 +30,8 @@ def main():
         os.rename(f"{folder}/{name}{old}", f"{folder}/{name}{new}")
         message[1] = not seen
         changes += 1
+        if changes == 1:
+            print("begun", flush=True)
     print(f"{changes} changes")
 
 
