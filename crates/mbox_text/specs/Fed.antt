@@ -9,6 +9,7 @@ use Rattle.mbox_text.specs.Fronts.{AllButLast, NeverFrom}
 use Rattle.mbox_text.specs.Held.{HasFailed, Holds}
 
 -- The splitter was fed this text, no feed was refused, and these are the messages that it has given.
+-- What a caller reads of it are the first two; the last is what the splitter's own functions go on with.
 pub record Fed (text : List ℕ) (given : List Entry) (splitter : Splitter) : Type 0 where
   pub works : ¬ HasFailed splitter
   pub given_are : AllButLast text given

@@ -21,9 +21,11 @@ pub(crate) fn add_line(body: &mut Vec<u8>, line: &[u8]) -> Result<(), AllocError
     Ok(())
 }
 
-/// Whether the last line is `\n` alone.
+// Whether the last line is `\n` alone.
 fn last_is_blank(text: &[u8]) -> bool
-    ensures { MatchBool result ((0 < length text.now) × (take (length text.now - 1) text.now ≡ chopped text.now)) (text.now ≡ chopped text.now) }
+    ensures { MatchBool result
+        ((0 < length text.now) × (take (length text.now - 1) text.now ≡ chopped text.now))
+        (text.now ≡ chopped text.now) }
 {
     text == b"\n".as_slice() || text.ends_with(b"\n\n")
 }
@@ -49,13 +51,16 @@ pub(crate) fn add_unquoted(body: &mut Vec<u8>, line: &[u8]) -> Result<(), AllocE
     }
 }
 
-/// Adds the whole lines of the text up to the first From_ line as they are read, and says where that line or the last one begins.
+/// Adds the whole lines of the text up to the first From_ line as they are read, and says where that line or the last
+/// one begins.
 pub(crate) fn take_lines(body: &mut Vec<u8>, text: &[u8]) -> Result<usize, AllocError>
     ensures within { IfOk result (λ n. n ≤ length text.now) }
-    ensures added { IfOk result (λ n. body.new.items ≡ body.old.items ++ flat_map unquoted (lines (take n text.now))) }
+    ensures added { IfOk result
+        (λ n. body.new.items ≡ body.old.items ++ flat_map unquoted (lines (take n text.now))) }
     ensures ended { IfOk result (λ n. Ended (take n text.now)) }
     ensures none { IfOk result (λ n. NoFrom (lines (take n text.now))) }
-    ensures stops { IfOk result (λ n. (begins_from (drop n text.now) ≡ true) ⊎ NoEnd (drop n text.now)) }
+    ensures stops { IfOk result
+        (λ n. (begins_from (drop n text.now) ≡ true) ⊎ NoEnd (drop n text.now)) }
 {
     let mut at = 0;
     while let Some(n) = find_quotable(&text[at..]) {

@@ -14,7 +14,8 @@ pub fn build_from(alloc: Global, sender: &[u8], rest: &[u8]) -> Result<Vec<u8>, 
     ensures built { IfOk result (λ line. line.items ≡ built sender.now rest.now) }
     ensures from_line { IfOk result (λ line. IsFromLine line.items) }
     ensures line_end_in_rest { IsErrOf result TextFault.LineEndInRest ↔ Contains rest.now 10 }
-    ensures causes { IfErr result (λ fault. (fault ≡ TextFault.LineEndInRest) ⊎ (fault ≡ TextFault.OutOfMemory)) }
+    ensures causes { IfErr result
+        (λ fault. (fault ≡ TextFault.LineEndInRest) ⊎ (fault ≡ TextFault.OutOfMemory)) }
 {
     if memchr(b'\n', rest).is_some() {
         return Err(TextFault::LineEndInRest);

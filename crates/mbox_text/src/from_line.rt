@@ -13,7 +13,7 @@ pub fn is_from_line(line: &[u8]) -> bool
     begins_with_from(line) && holds_no_end(line)
 }
 
-/// Whether the bytes hold no `\n`.
+// Whether the bytes hold no `\n`.
 fn holds_no_end(line: &[u8]) -> bool
     ensures { IsTrue result ↔ NoEnd line.now }
 {

@@ -16,8 +16,10 @@ pub fn unquote_of_quote()
 
 /// A text has at most one reading, and has one exactly where it is empty or begins with `From `.
 pub fn one_reading()
-    ensures one { (text : List ℕ) (one other : List Entry) → Mbox text one → Mbox text other → one ≡ other }
-    ensures read { (text : List ℕ) → IsMboxText text ↔ ((entries : List Entry) × Mbox text entries) }
+    ensures one { (text : List ℕ) (one other : List Entry)
+        → Mbox text one → Mbox text other → one ≡ other }
+    ensures read { (text : List ℕ)
+        → IsMboxText text ↔ ((entries : List Entry) × Mbox text entries) }
 {}
 
 /// The parts of a From_ line that was built are the sender as it is written, and the rest without the spaces at its
@@ -29,13 +31,16 @@ pub fn parts_of_built()
 
 /// All messages of a text but the last are the first messages of each text that goes on from it, and not all of them.
 pub fn prefix_reading()
-    ensures { (text more : List ℕ) (entries given : List Entry) (last : Entry) → Mbox text (given ++ last ∷ [])
-        → Mbox (text ++ more) entries → IsProperFront given entries }
+    ensures { (text more : List ℕ) (entries given : List Entry) (last : Entry)
+        → Mbox text (given ++ last ∷ []) → Mbox (text ++ more) entries
+        → IsProperFront given entries }
 {}
 
 /// What is written is read again, with the `\n` that a body lacked at its end. So writing what was read again gives the
 /// same text: rewriting twice is rewriting once.
 pub fn spelled_again()
-    ensures read { (entries : List Entry) → FromLines entries → Mbox (flat_map spelling entries) (map completed entries) }
-    ensures same { (entries : List Entry) → flat_map spelling (map completed entries) ≡ flat_map spelling entries }
+    ensures read { (entries : List Entry) → FromLines entries
+        → Mbox (flat_map spelling entries) (map completed entries) }
+    ensures same { (entries : List Entry)
+        → flat_map spelling (map completed entries) ≡ flat_map spelling entries }
 {}

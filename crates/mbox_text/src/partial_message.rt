@@ -32,7 +32,8 @@ impl PartialMessage {
     /// The entry, where only this line comes, which no `\n` ends; nothing comes where it is empty.
     pub(crate) fn close_with(self, line: &[u8]) -> Result<Entry, AllocError>
         ensures from_line { IfOk result (λ entry. entry.from_line ≡ self.from_line.items) }
-        ensures body { IfOk result (λ entry. entry.body ≡ chopped (self.body.items ++ unquoted line.now)) }
+        ensures body { IfOk result
+            (λ entry. entry.body ≡ chopped (self.body.items ++ unquoted line.now)) }
     {
         let mut message = self;
         add_unquoted(&mut message.body, line)?;

@@ -19,7 +19,9 @@ pub fn is_quotable(line: &[u8]) -> bool
 
 /// Whether a line loses its first byte when it is read.
 pub(crate) fn is_quoted(line: &[u8]) -> bool
-    ensures { MatchBool result ((0 < length line.now) × (unquoted line.now ≡ drop 1 line.now)) (unquoted line.now ≡ line.now) }
+    ensures { MatchBool result
+        ((0 < length line.now) × (unquoted line.now ≡ drop 1 line.now))
+        (unquoted line.now ≡ line.now) }
 {
     if line.len() == 0 || line[0] != b'>' {
         return false;
@@ -27,7 +29,8 @@ pub(crate) fn is_quoted(line: &[u8]) -> bool
     is_quotable(line)
 }
 
-/// Where the first line begins that is zero or more `>` and then `From `. Takes time in the bytes up to the end of that line.
+/// Where the first line begins that is zero or more `>` and then `From `. Takes time in the bytes up to the end of
+/// that line.
 pub(crate) fn find_quotable(text: &[u8]) -> Option<usize>
     ensures { FindsQuotable text.now result }
 {

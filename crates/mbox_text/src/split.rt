@@ -20,7 +20,8 @@ pub fn split_all(alloc: Global, text: &[u8]) -> Result<Vec<Entry>, TextFault>
     ensures entries { IfOk result (λ entries. Mbox text.now entries.items) }
     ensures no_from_line { IsErrOf result TextFault.NoFromLine ↔ ¬ IsMboxText text.now }
     ensures unreadable { IsErrOf result TextFault.NoFromLine → IsUnreadable text.now }
-    ensures causes { IfErr result (λ fault. (fault ≡ TextFault.NoFromLine) ⊎ (fault ≡ TextFault.OutOfMemory)) }
+    ensures causes { IfErr result
+        (λ fault. (fault ≡ TextFault.NoFromLine) ⊎ (fault ≡ TextFault.OutOfMemory)) }
 {
     if !text.is_empty() && !begins_with_from(text) {
         return Err(TextFault::NoFromLine);
@@ -28,7 +29,7 @@ pub fn split_all(alloc: Global, text: &[u8]) -> Result<Vec<Entry>, TextFault>
     Ok(split_blocks(alloc, text)?)
 }
 
-/// The messages of a text that begins with a From_ line, or of none.
+// The messages of a text that begins with a From_ line, or of none.
 fn split_blocks(alloc: Global, text: &[u8]) -> Result<Vec<Entry>, AllocError>
     requires { IsMboxText text.now }
     ensures { IfOk result (λ entries. Mbox text.now entries.items) }
@@ -43,14 +44,14 @@ fn split_blocks(alloc: Global, text: &[u8]) -> Result<Vec<Entry>, AllocError>
     Ok(entries)
 }
 
-/// The first message of a text, and how many bytes its block has.
+// The first message of a text, and how many bytes its block has.
 #[derive(Drop)]
 struct FirstBlock {
     entry: Entry,
     len: usize,
 }
 
-/// Reads the block at the front of a text that begins with a From_ line.
+// Reads the block at the front of a text that begins with a From_ line.
 fn first_block(alloc: Global, text: &[u8]) -> Result<FirstBlock, AllocError>
     requires { begins_from text.now ≡ true }
     ensures { IfOk result (λ first. IsFirstBlock text.now first.len first.entry) }
@@ -76,14 +77,14 @@ fn first_block(alloc: Global, text: &[u8]) -> Result<FirstBlock, AllocError>
     }
 }
 
-/// A body, and how many bytes its lines have in the text.
+// A body, and how many bytes its lines have in the text.
 #[derive(Drop)]
 struct FirstBody {
     bytes: Vec<u8>,
     len: usize,
 }
 
-/// Reads the body that a text begins with, up to the first From_ line.
+// Reads the body that a text begins with, up to the first From_ line.
 fn first_body(alloc: Global, text: &[u8]) -> Result<FirstBody, AllocError>
     ensures { IfOk result (λ first. IsFirstBody text.now first.len first.bytes.items) }
 {

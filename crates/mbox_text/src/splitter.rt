@@ -98,8 +98,10 @@ impl Splitter {
 
     // Takes the piece.
     fn take_piece(&mut self, piece: &[u8], out: &mut Vec<Entry>) -> Result<(), TextFault>
-        ensures moved { OnOk result (Gives self.old piece.now out.old.items out.new.items self.new) }
-        ensures stopped { IfErr result (λ fault. Stops fault self.old piece.now out.old.items out.new.items) }
+        ensures moved { OnOk result
+            (Gives self.old piece.now out.old.items out.new.items self.new) }
+        ensures stopped { IfErr result
+            (λ fault. Stops fault self.old piece.now out.old.items out.new.items) }
         ensures same { self.new.failed ≡ self.old.failed }
     {
         let mut at = 0;
@@ -115,8 +117,10 @@ impl Splitter {
         requires { 0 < length text.now }
         ensures some { IfOk result (λ n. 0 < n) }
         ensures within { IfOk result (λ n. n ≤ length text.now) }
-        ensures moved { IfOk result (λ n. Gives self.old (take n text.now) out.old.items out.new.items self.new) }
-        ensures stopped { IfErr result (λ fault. Stops fault self.old text.now out.old.items out.new.items) }
+        ensures moved { IfOk result
+            (λ n. Gives self.old (take n text.now) out.old.items out.new.items self.new) }
+        ensures stopped { IfErr result
+            (λ fault. Stops fault self.old text.now out.old.items out.new.items) }
         ensures same { self.new.failed ≡ self.old.failed }
     {
         let at = self.take_body_lines(text)?;

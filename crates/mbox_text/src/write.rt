@@ -58,9 +58,10 @@ pub fn write_bytes<W: Write>(bytes: &[u8], out: &mut W) -> Result<(), TextFault>
     Err(TextFault::WriteFault)
 }
 
-/// Writes the lines of a body with their quoting.
+// Writes the lines of a body with their quoting.
 fn write_body<W: Write>(body: &[u8], out: &mut W) -> Result<(), TextFault>
-    ensures written { Writes (W.contents out.old) (W.contents out.new) result (flat_map quoted (lines body.now)) }
+    ensures written { Writes (W.contents out.old) (W.contents out.new) result
+        (flat_map quoted (lines body.now)) }
     ensures causes { IfErr result (λ fault. fault ≡ TextFault.WriteFault) }
 {
     let mut at = 0;
@@ -74,7 +75,7 @@ fn write_body<W: Write>(body: &[u8], out: &mut W) -> Result<(), TextFault>
     write_bytes(&body[at..], out)
 }
 
-/// Writes a line with one `>` more.
+// Writes a line with one `>` more.
 fn write_quoted<W: Write>(line: &[u8], out: &mut W) -> Result<(), TextFault>
     ensures written { Writes (W.contents out.old) (W.contents out.new) result (62 ∷ line.now) }
     ensures causes { IfErr result (λ fault. fault ≡ TextFault.WriteFault) }
@@ -83,7 +84,7 @@ fn write_quoted<W: Write>(line: &[u8], out: &mut W) -> Result<(), TextFault>
     write_bytes(line, out)
 }
 
-/// The `\n` that a body lacks at its end.
+// The `\n` that a body lacks at its end.
 fn missing_end(body: &[u8]) -> &'static [u8]
     ensures { result.now ≡ missing_end body.now }
 {

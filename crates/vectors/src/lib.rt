@@ -22,6 +22,7 @@ mod fault_texts;
 mod flags;
 #[cfg(test)]
 mod from_lines;
+mod lines;
 #[cfg(test)]
 mod listing;
 #[cfg(test)]

@@ -16,24 +16,11 @@ fn split_pieces(alloc: Global, text: &[u8], size: usize) -> Result<Vec<Entry>, T
     Ok(entries)
 }
 
-fn are_equal(entries: &[Entry], others: &[Entry]) -> bool {
-    for (entry, other) in entries.iter().zip(others) {
-        if entry.from_line.as_slice() != other.from_line.as_slice()
-            || entry.body.as_slice() != other.body.as_slice()
-        {
-            return false;
-        }
-    }
-    entries.len() == others.len()
-}
-
 // Whether the text has the same messages in pieces of this size as the plain program finds.
 fn is_the_same(alloc: Global, text: &[u8], size: usize) -> Result<bool, TextFault>
     requires { 0 < size }
 {
-    let want = split_all(alloc, text)?;
-    let got = split_pieces(alloc, text, size)?;
-    Ok(are_equal(&got, &want))
+    Ok(split_pieces(alloc, text, size)? == split_all(alloc, text)?)
 }
 
 // Every kind of line, and every kind of end of a message.

@@ -1,0 +1,9 @@
+// The crate for texts and the crate for names each have their own word for lines.
+ghost use Rattle.std.specs.Prelude.{◌≡◌, ℕ, List};
+ghost use Rattle.mbox_text.specs.Lines as messages;
+ghost use Rattle.maildir_name.specs.Flags as names;
+
+/// Both mean the same. It does nothing: its contract is the law, of any text.
+pub(crate) fn same_lines()
+    ensures { (text : List ℕ) → names.lines text ≡ messages.lines text }
+{}
