@@ -1,13 +1,17 @@
-// Runs that are broken off and disturbed at random, and one undisturbed run after them.
+// Runs that are broken off and disturbed at random, and one undisturbed run after them. The bases are another program's.
 ghost use Rattle.std.specs.Prelude.{◌<◌};
 
-use crate::runs::{Answer, EMPTY_TWO, THREE, run_over};
+use crate::runs::{ABC, Answer, EMPTY_ONE, EMPTY_TWO, THREE, run_over};
 use crate::scripts::Deed;
-use maildir_name::{Namer, Target, base_of, is_converter_name};
 use maildir_run::{Act, Folder, FolderFault, MemFolder, Mode, RunFault, ScriptLine, Sub};
-use mbox_text::{Entry, split_all};
 use std::alloc::{AllocError, Global};
 use std::test::Fail;
+
+/// A message as it is to be there: its base and its body.
+pub(crate) type Due<'a> = (&'a str, &'a [u8]);
+
+/// A text, and its messages in order.
+pub(crate) type Text<'a> = (&'a [u8], &'a [Due<'a>]);
 
 // Numbers that look random: a linear congruential generator (Knuth's, for 64 bits).
 #[derive(Drop)]
@@ -32,15 +36,15 @@ const INFOS: [&str; 5] = ["", ":2,", ":2,F", ":2,FRS", ":2,S"];
 
 const OTHERS: [&str; 3] = ["1700000000.M1.host", "note", "note:2,S"];
 
-fn any_base<'a>(dice: &mut Dice, targets: &'a [Target]) -> &'a str {
-    match targets.get(dice.below(4)) {
-        Some(target) => target.base.as_str(),
+fn any_base<'a>(dice: &mut Dice, messages: &[Due<'a>]) -> &'a str {
+    match messages.get(dice.below(4)) {
+        Some((base, _)) => base,
         None => EMPTY_TWO,
     }
 }
 
-fn any_deed<'a>(dice: &mut Dice, targets: &'a [Target]) -> Deed<'a> {
-    let base = any_base(dice, targets);
+fn any_deed<'a>(dice: &mut Dice, messages: &[Due<'a>]) -> Deed<'a> {
+    let base = any_base(dice, messages);
     let sub = [Sub::Tmp, Sub::New, Sub::Cur][dice.below(3)];
     match dice.below(8) {
         0 | 1 | 2 => Deed::ToCur(base, INFOS[dice.below(5)]),
@@ -60,10 +64,10 @@ const MODES: [Mode; 6] = [
     Mode::Twice,
 ];
 
-fn any_acts(alloc: Global, dice: &mut Dice, targets: &[Target]) -> Result<Vec<Act>, AllocError> {
+fn any_acts(alloc: Global, dice: &mut Dice, messages: &[Due<'_>]) -> Result<Vec<Act>, AllocError> {
     let mut acts = Vec::new(alloc);
     for _ in 0..dice.below(4) {
-        acts.push(any_deed(dice, targets).act(alloc)?)?;
+        acts.push(any_deed(dice, messages).act(alloc)?)?;
     }
     Ok(acts)
 }
@@ -71,15 +75,23 @@ fn any_acts(alloc: Global, dice: &mut Dice, targets: &[Target]) -> Result<Vec<Ac
 pub(crate) fn any_script(
     alloc: Global,
     dice: &mut Dice,
-    targets: &[Target],
+    messages: &[Due<'_>],
 ) -> Result<Vec<ScriptLine>, AllocError> {
     let mut lines = Vec::new(alloc);
     for _ in 0..dice.below(6) {
-        let acts = any_acts(alloc, dice, targets)?;
+        let acts = any_acts(alloc, dice, messages)?;
         let (call, mode) = (1 + dice.below(12) as u64, MODES[dice.below(6)]);
         lines.push(ScriptLine { call, acts, mode })?;
     }
     Ok(lines)
+}
+
+// Whether a name is this base, alone or with an info behind a colon.
+fn has_base(name: &str, base: &str) -> bool {
+    match name.strip_prefix(base) {
+        Some(rest) => rest.is_empty() || rest.starts_with(":"),
+        None => false,
+    }
 }
 
 // How many homes a base has in one folder, if each holds this body.
@@ -92,7 +104,7 @@ fn homes_in(
 ) -> Option<u64> {
     let mut homes = 0u64;
     for name in names {
-        if base_of(name.as_str()) == base {
+        if has_base(name.as_str(), base) {
             if folder.bytes_of(sub, name.as_str()) != Some(body) {
                 return None;
             }
@@ -103,16 +115,8 @@ fn homes_in(
 }
 
 // Whether each message has exactly one home, which holds its body.
-fn are_home(
-    folder: &MemFolder,
-    new: &[String],
-    cur: &[String],
-    targets: &[Target],
-    messages: &[Entry],
-) -> bool {
-    for (target, message) in targets.iter().zip(messages) {
-        let base = target.base.as_str();
-        let body = message.body.as_slice();
+fn are_home(folder: &MemFolder, new: &[String], cur: &[String], messages: &[Due<'_>]) -> bool {
+    for &(base, body) in messages {
         let in_new = homes_in(folder, Sub::New, new, base, body);
         let in_cur = homes_in(folder, Sub::Cur, cur, base, body);
         if !matches!((in_new, in_cur), (Some(1), Some(0)) | (Some(0), Some(1))) {
@@ -122,36 +126,30 @@ fn are_home(
     true
 }
 
-/// How many of the names in one folder are a converter's.
+fn is_foreign(name: &str) -> bool {
+    OTHERS.iter().any(|other| *other == name)
+}
+
+/// How many of the names in one folder are not those that other programs give.
 pub(crate) fn ours(folder: &mut MemFolder, sub: Sub) -> Result<usize, FolderFault> {
     let mut count = 0usize;
     for name in &folder.list(sub)? {
-        if is_converter_name(name.as_str()) {
+        if !is_foreign(name.as_str()) {
             count = count.saturating_add(1);
         }
     }
     Ok(count)
 }
 
-/// Whether each message has exactly one home, which holds its body, and no converter's name is left in `tmp`.
+/// Whether each message has exactly one home, which holds its body, and no name of ours is left in `tmp`.
 pub(crate) fn is_delivered(
     folder: &mut MemFolder,
-    targets: &[Target],
-    messages: &[Entry],
+    messages: &[Due<'_>],
 ) -> Result<bool, FolderFault> {
     let in_tmp = ours(folder, Sub::Tmp)?;
     let new = folder.list(Sub::New)?;
     let cur = folder.list(Sub::Cur)?;
-    Ok(in_tmp == 0 && are_home(folder, &new, &cur, targets, messages))
-}
-
-pub(crate) fn targets_of(alloc: Global, messages: &[Entry]) -> Result<Vec<Target>, RunFault> {
-    let mut namer = Namer::new(alloc);
-    let mut targets = Vec::new(alloc);
-    for message in messages {
-        targets.push(namer.target(message.body.as_slice())?)?;
-    }
-    Ok(targets)
+    Ok(in_tmp == 0 && are_home(folder, &new, &cur, messages))
 }
 
 // What broke runs off.
@@ -179,10 +177,9 @@ fn run_disturbed(
     alloc: Global,
     dice: &mut Dice,
     folder: &mut MemFolder,
-    targets: &[Target],
-    text: &[u8],
+    (text, messages): Text<'_>,
 ) -> Result<Answer, AllocError> {
-    let lines = any_script(alloc, dice, targets)?;
+    let lines = any_script(alloc, dice, messages)?;
     let fail_from = match dice.below(3) {
         0 => Some(1 + dice.below(12) as u64),
         _ => None,
@@ -196,12 +193,11 @@ fn are_disturbed(
     alloc: Global,
     dice: &mut Dice,
     folder: &mut MemFolder,
-    targets: &[Target],
-    text: &[u8],
+    text: Text<'_>,
     stops: &mut Stops,
 ) -> Result<bool, AllocError> {
     for _ in 0..dice.below(7) {
-        if !stops.count(run_disturbed(alloc, dice, folder, targets, text)?) {
+        if !stops.count(run_disturbed(alloc, dice, folder, text)?) {
             return Ok(false);
         }
     }
@@ -212,34 +208,84 @@ fn are_disturbed(
 fn is_repaired(
     alloc: Global,
     folder: &mut MemFolder,
-    text: &[u8],
-    targets: &[Target],
-    messages: &[Entry],
+    (text, messages): Text<'_>,
 ) -> Result<bool, FolderFault> {
     folder.script(Vec::new(alloc), None);
     if run_over(alloc, folder, text).is_err() {
         return Ok(false);
     }
-    is_delivered(folder, targets, messages)
+    is_delivered(folder, messages)
 }
 
 // Up to six disturbed runs, and one that is not: whether each message is there once then.
-fn ends_delivered(alloc: Global, seed: u64, text: &[u8], stops: &mut Stops) -> Result<bool, Fail> {
+fn ends_delivered(
+    alloc: Global,
+    seed: u64,
+    text: Text<'_>,
+    stops: &mut Stops,
+) -> Result<bool, Fail> {
     let mut dice = Dice { state: seed };
-    let messages = split_all(alloc, text)?;
-    let targets = targets_of(alloc, &messages)?;
     let mut folder = MemFolder::new(alloc);
     Ok(
-        are_disturbed(alloc, &mut dice, &mut folder, &targets, text, stops)?
-            && is_repaired(alloc, &mut folder, text, &targets, &messages)?,
+        are_disturbed(alloc, &mut dice, &mut folder, text, stops)?
+            && is_repaired(alloc, &mut folder, text)?,
     )
 }
 
-const TEXTS: &[&[u8]; 4] = &[
-    THREE,
-    b"From a\nx\n\nFrom b\nx\n\nFrom c\n>From y\n\n",
-    b"From a\nStatus: RO\nX-Status: AF\n\nhi\n\nFrom b\n>>From z\nFrom c\nStatus: RO\nX-Status: AF\n\nhi\n",
-    b"From a\nX-Status: D\n\nFrom b\n\nFrom c\n\n\nFrom d\nX-Status: D\n\n",
+const TEXTS: &[Text<'_>; 4] = &[
+    (THREE, &[(EMPTY_ONE, b""), (EMPTY_TWO, b""), (ABC, b"abc")]),
+    (
+        b"From a\nx\n\nFrom b\nx\n\nFrom c\n>From y\n\n",
+        &[
+            (
+                "73cb3858a687a8494ca3323053016282f3dad39d42cf62ca4e79dda2aac7d9ac.1",
+                b"x\n",
+            ),
+            (
+                "73cb3858a687a8494ca3323053016282f3dad39d42cf62ca4e79dda2aac7d9ac.2",
+                b"x\n",
+            ),
+            (
+                "f66317710a554cb6614b1ebc65bfc6589fdfd4fe356250ae1b2deec117b7dfba.1",
+                b"From y\n",
+            ),
+        ],
+    ),
+    (
+        b"From a\nStatus: RO\nX-Status: AF\n\nhi\n\nFrom b\n>>From z\nFrom c\nStatus: RO\nX-Status: AF\n\nhi\n",
+        &[
+            (
+                "6e10782762e5fa1e91d5bfce9779c600776be9832f251fd48a19b758b735a824.1",
+                b"Status: RO\nX-Status: AF\n\nhi\n",
+            ),
+            (
+                "fb764290139e8f0300e2de406d36271ffdc505079e07eacb79fd0ca4d39ae302.1",
+                b">From z\n",
+            ),
+            (
+                "6e10782762e5fa1e91d5bfce9779c600776be9832f251fd48a19b758b735a824.2",
+                b"Status: RO\nX-Status: AF\n\nhi\n",
+            ),
+        ],
+    ),
+    (
+        b"From a\nX-Status: D\n\nFrom b\n\nFrom c\n\n\nFrom d\nX-Status: D\n\n",
+        &[
+            (
+                "6c42c0374eb12bf094cdf86fd5a867edac2147e122f9701b2aa788712b53ae15.1",
+                b"X-Status: D\n",
+            ),
+            (EMPTY_ONE, b""),
+            (
+                "01ba4719c80b6fe911b091a7c05124b64eeece964e09c058ef8f9805daca546b.1",
+                b"\n",
+            ),
+            (
+                "6c42c0374eb12bf094cdf86fd5a867edac2147e122f9701b2aa788712b53ae15.2",
+                b"X-Status: D\n",
+            ),
+        ],
+    ),
 ];
 
 #[test]

@@ -1,9 +1,8 @@
-// Lists of texts in any order, with broken and disturbed runs between: they share the messages that are equal.
-use crate::any_runs::{Dice, any_script, is_delivered, ours, targets_of};
-use crate::runs::{THREE, TWO_EMPTY, run_over};
-use maildir_name::Target;
+// Lists of texts in any order, with broken and disturbed runs between: they share the messages that are equal. The bases
+// are another program's.
+use crate::any_runs::{Dice, Due, Text, any_script, is_delivered, ours};
+use crate::runs::{ABC, EMPTY_ONE, EMPTY_TWO, THREE, TWO_EMPTY, run_over};
 use maildir_run::{MemFolder, Sub};
-use mbox_text::split_all;
 use std::alloc::{AllocError, Global};
 use std::collections::BTreeSet;
 use std::test::Fail;
@@ -13,11 +12,9 @@ fn disturb(
     alloc: Global,
     dice: &mut Dice,
     folder: &mut MemFolder,
-    text: &[u8],
-) -> Result<(), Fail> {
-    let messages = split_all(alloc, text)?;
-    let targets = targets_of(alloc, &messages)?;
-    let lines = any_script(alloc, dice, &targets)?;
+    (text, messages): Text<'_>,
+) -> Result<(), AllocError> {
+    let lines = any_script(alloc, dice, messages)?;
     folder.script(lines, Some(1 + dice.below(12) as u64));
     let _ = run_over(alloc, folder, text);
     folder.script(Vec::new(alloc), None);
@@ -29,12 +26,12 @@ fn run_over_all(
     alloc: Global,
     dice: &mut Dice,
     folder: &mut MemFolder,
-    texts: &[&[u8]],
-) -> Result<bool, Fail> {
-    for text in texts {
+    texts: &[Text<'_>],
+) -> Result<bool, AllocError> {
+    for (text, _) in texts {
         for other in texts {
             if dice.below(2) == 0 {
-                disturb(alloc, dice, folder, other)?;
+                disturb(alloc, dice, folder, *other)?;
             }
         }
         if run_over(alloc, folder, text).is_err() {
@@ -44,35 +41,19 @@ fn run_over_all(
     Ok(true)
 }
 
-fn add_bases(
-    alloc: Global,
-    targets: &[Target],
-    bases: &mut BTreeSet<String>,
-) -> Result<(), AllocError> {
-    for target in targets {
-        bases.insert(String::from_str(alloc, target.base.as_str())?)?;
+fn add_bases<'a>(messages: &[Due<'a>], bases: &mut BTreeSet<&'a str>) -> Result<(), AllocError> {
+    for &(base, _) in messages {
+        bases.insert(base)?;
     }
     Ok(())
 }
 
-// Whether each message of a text is there once. Its bases are added to the others.
-fn is_at_home(
-    alloc: Global,
-    folder: &mut MemFolder,
-    text: &[u8],
-    bases: &mut BTreeSet<String>,
-) -> Result<bool, Fail> {
-    let messages = split_all(alloc, text)?;
-    let targets = targets_of(alloc, &messages)?;
-    add_bases(alloc, &targets, bases)?;
-    Ok(is_delivered(folder, &targets, &messages)?)
-}
-
 // Whether each message of each text is there once, and no other name is ours.
-fn are_shared(alloc: Global, folder: &mut MemFolder, texts: &[&[u8]]) -> Result<bool, Fail> {
+fn are_shared(alloc: Global, folder: &mut MemFolder, texts: &[Text<'_>]) -> Result<bool, Fail> {
     let mut bases = BTreeSet::new(alloc);
-    for text in texts {
-        if !is_at_home(alloc, folder, text, &mut bases)? {
+    for (_, messages) in texts {
+        add_bases(messages, &mut bases)?;
+        if !is_delivered(folder, messages)? {
             return Ok(false);
         }
     }
@@ -81,21 +62,47 @@ fn are_shared(alloc: Global, folder: &mut MemFolder, texts: &[&[u8]]) -> Result<
     Ok(in_new.saturating_add(in_cur) == bases.len())
 }
 
-const TEXTS: &[&[u8]; 6] = &[
-    TWO_EMPTY,
-    b"From c\n\n",
-    b"From a\n\nFrom b\n\nFrom d\n\n",
-    THREE,
-    b"From x\nabc\nFrom y\nStatus: O\n\nhi\n\nFrom z\nabc",
-    b"From y\nStatus: O\n\nhi\n\nFrom q\n>From r\n\n",
+const EMPTY_THREE: &str = "e3b0c44298fc1c149afbf4c8996fb92427ae41e4649b934ca495991b7852b855.3";
+
+const ABC_LINE: Due<'_> = (
+    "edeaaff3f1774ad2888673770c6d64097e391bc362d7d6fb34982ddf0efd18cb.1",
+    b"abc\n",
+);
+
+const OLD: Due<'_> = (
+    "5f310095554d47d06e15f2ac4003f4d365b66faff0132789a6d7ba132745fd44.1",
+    b"Status: O\n\nhi\n",
+);
+
+const QUOTED: Due<'_> = (
+    "22937267a5f7bd612d9221b9fa06195d2067a4602430a5ce3b0fc7e9073c5819.1",
+    b"From r\n",
+);
+
+const TEXTS: &[Text<'_>; 6] = &[
+    (TWO_EMPTY, &[(EMPTY_ONE, b""), (EMPTY_TWO, b"")]),
+    (b"From c\n\n", &[(EMPTY_ONE, b"")]),
+    (
+        b"From a\n\nFrom b\n\nFrom d\n\n",
+        &[(EMPTY_ONE, b""), (EMPTY_TWO, b""), (EMPTY_THREE, b"")],
+    ),
+    (THREE, &[(EMPTY_ONE, b""), (EMPTY_TWO, b""), (ABC, b"abc")]),
+    (
+        b"From x\nabc\nFrom y\nStatus: O\n\nhi\n\nFrom z\nabc",
+        &[ABC_LINE, OLD, (ABC, b"abc")],
+    ),
+    (
+        b"From y\nStatus: O\n\nhi\n\nFrom q\n>From r\n\n",
+        &[OLD, QUOTED],
+    ),
 ];
 
-fn any_text(dice: &mut Dice) -> &'static [u8] {
+fn any_text(dice: &mut Dice) -> Text<'static> {
     TEXTS[dice.below(6)]
 }
 
 // Runs over texts: whether each message is there once then.
-fn are_delivered(alloc: Global, dice: &mut Dice, texts: &[&[u8]]) -> Result<bool, Fail> {
+fn are_delivered(alloc: Global, dice: &mut Dice, texts: &[Text<'_>]) -> Result<bool, Fail> {
     let mut folder = MemFolder::new(alloc);
     Ok(run_over_all(alloc, dice, &mut folder, texts)? && are_shared(alloc, &mut folder, texts)?)
 }

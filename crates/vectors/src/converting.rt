@@ -3,7 +3,7 @@ use crate::runs::{
     ABC, Answer, EMPTY_ONE, EMPTY_TWO, File, LIMIT, ONE_SEEN, THREE, TWO_EMPTY, UNENDED, folder_of,
     holds, run_from, run_over,
 };
-use crate::scripts::{Run, go};
+use crate::scripts::{Row, Run, go, goes};
 use crate::streams::{Cut, Then};
 use maildir_run::{FolderFault, MemFolder, RunFault, Sub};
 use std::alloc::Global;
@@ -81,29 +81,27 @@ fn leftover_is_swept(rt: HostRuntime) {
     assert!(rt; go(rt.alloc(), BEFORE, RUNS));
 }
 
-// A run over a source that fails behind so many bytes, and one over the whole text, which leaves these files.
-fn goes_on(alloc: Global, text: &[u8], bytes: usize, piece: usize, files: &[File<'_>]) -> bool {
+// Whether a run over a source that breaks off behind so many bytes of a text leaves these files, and the next one, over
+// the whole text, goes so.
+fn goes_on(alloc: Global, bytes: usize, piece: usize, left: &[File<'_>], next: Run<'_>) -> bool {
     let mut folder = MemFolder::new(alloc);
-    let (front, _) = text.split_at(bytes.min(text.len()));
-    let mut source = Cut::new(front, piece, Then::Fails);
-    if run_from(alloc, &mut folder, &mut source, LIMIT) != Err(RunFault::ReadFault) {
-        return false;
-    }
-    let there = folder.count(Sub::New) as u64;
-    let messages = files.len() as u64;
-    let placed = messages.saturating_sub(there);
-    run_over(alloc, &mut folder, text) == Ok((messages, there, placed, 0)) && holds(&folder, files)
+    let mut source = Cut::broken(next.1, bytes, piece);
+    run_from(alloc, &mut folder, &mut source, LIMIT) == Err(RunFault::ReadFault)
+        && holds(&folder, left)
+        && goes(alloc, &mut folder, next)
 }
 
 #[test]
 fn source_fails(rt: HostRuntime) {
     const TEXT: &[u8] = b"From x\nabc\n\nFrom y\nhello\n";
+    const LEFT: &[File<'_>] = &[(Sub::New, ABC_LINE, "abc\n")];
     const FILES: &[File<'_>] = &[
         (Sub::New, ABC_LINE, "abc\n"),
         (Sub::New, HELLO_LINE, "hello\n"),
     ];
+    const NEXT: Run<'_> = (&[], TEXT, Ok((2, 1, 1, 0)), 5, FILES);
     for piece in [1, 65_536] {
-        assert!(rt; goes_on(rt.alloc(), TEXT, 22, piece, FILES), "{piece}");
+        assert!(rt; goes_on(rt.alloc(), 22, piece, LEFT, NEXT), "{piece}");
     }
 }
 
@@ -114,11 +112,23 @@ fn every_front_of_a_text(rt: HostRuntime) {
         (Sub::New, EMPTY_TWO, ""),
         (Sub::New, ABC, "abc"),
     ];
-    for bytes in 0..=THREE.len() {
-        assert!(rt;
-            goes_on(rt.alloc(), THREE, bytes, 1, FILES),
-            "{bytes} bytes"
-        );
+    // the first is whole with the second `From `, and the second with the third
+    const ROWS: &[(usize, usize, &[File<'_>], (u64, u64, u64, u64), u64)] = &[
+        (0, 12, &[], (3, 0, 3, 0), 9),
+        (13, 20, &[(Sub::New, EMPTY_ONE, "")], (3, 1, 2, 0), 7),
+        (
+            21,
+            THREE.len(),
+            &[(Sub::New, EMPTY_ONE, ""), (Sub::New, EMPTY_TWO, "")],
+            (3, 2, 1, 0),
+            5,
+        ),
+    ];
+    for &(first, last, left, report, calls) in ROWS {
+        let next = (&[] as &[Row<'_>], THREE, Ok(report), calls, FILES);
+        for bytes in first..=last {
+            assert!(rt; goes_on(rt.alloc(), bytes, 1, left, next), "{bytes} bytes");
+        }
     }
 }
 

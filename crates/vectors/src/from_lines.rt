@@ -1,5 +1,5 @@
 // From_ lines that are built and taken apart.
-use mbox_text::{TextFault, build_from, is_from_line, rest_of, sender_of};
+use mbox_text::{TextFault, build_from, is_from_line, is_quotable, rest_of, sender_of};
 use std::alloc::Global;
 
 fn builds(alloc: Global, sender: &[u8], rest: &[u8], want: &[u8]) -> bool {
@@ -31,6 +31,32 @@ fn built_from_lines(rt: HostRuntime) {
         assert!(rt; builds(rt.alloc(), sender, rest, want), "{want:?}");
     }
     assert!(rt; is_refused(rt.alloc(), b"x\ny"));
+}
+
+// Which bytes are a From_ line, and which lines are quoted in a body.
+#[test]
+fn lines_that_begin_with_from(rt: HostRuntime) {
+    const ROWS: &[(&[u8], bool, bool)] = &[
+        (b"From a", true, true),
+        (b"From ", true, true),
+        (b"From \r", true, true),
+        (b"From a\n", false, true),
+        (b">From a", false, true),
+        (b">>>From ", false, true),
+        (b"From", false, false),
+        (b"from a", false, false),
+        (b" From a", false, false),
+        (b"> From a", false, false),
+        (b">>From", false, false),
+        (b">", false, false),
+        (b"", false, false),
+    ];
+    for &(line, is_one, is_quoted) in ROWS {
+        assert!(rt;
+            is_from_line(line) == is_one && is_quotable(line) == is_quoted,
+            "{line:?}"
+        );
+    }
 }
 
 // The sender and the rest of a From_ line.

@@ -80,12 +80,34 @@ fn refusals(rt: HostRuntime) {
     const ROWS: &[(&[u8], Then, u64, RunFault)] = &[
         (b"Subject: x\n", Then::Ends, LIMIT, RunFault::NoFromLine),
         (b"Fro", Then::Ends, LIMIT, RunFault::NoFromLine),
+        (b"\nFrom a\n", Then::Ends, LIMIT, RunFault::NoFromLine),
         (b"From x\n", Then::GoesOn, 12, RunFault::TooManyReads),
         (b"From x\nabc", Then::Fails, LIMIT, RunFault::ReadFault),
         (b"", Then::Ends, 0, RunFault::TooManyReads),
     ];
     for &(text, then, reads, want) in ROWS {
         assert!(rt; is_refused(rt.alloc(), text, then, reads, want), "{text:?}");
+    }
+}
+
+// Whether a listing ends where its source breaks off behind so many bytes, and has these lines.
+fn breaks_off(alloc: Global, text: &[u8], bytes: usize, piece: usize, lines: &[u8]) -> bool {
+    let mut out = Vec::new(alloc);
+    let mut source = Cut::broken(text, bytes, piece);
+    list_text(alloc, &mut source, &mut out, LIMIT) == Err(RunFault::ReadFault)
+        && out.as_slice() == lines
+}
+
+#[test]
+fn source_fails(rt: HostRuntime) {
+    const TEXT: &[u8] = b"From x\nabc\n\nFrom y\nhello\n";
+    const LINE: &[u8] =
+        b"1 edeaaff3f1774ad2888673770c6d64097e391bc362d7d6fb34982ddf0efd18cb.1 new - 4 x\n";
+    for piece in [1, 65_536] {
+        assert!(rt;
+            breaks_off(rt.alloc(), TEXT, 22, piece, LINE),
+            "in pieces of {piece}"
+        );
     }
 }
 

@@ -1,9 +1,13 @@
-// Texts in pieces, and what a refusal leaves.
+// Texts in pieces, and what a refusal leaves. The digest is another program's.
 ghost use Rattle.std.specs.Prelude.{◌<◌, ◌≤◌};
 
 use crate::messages::{Message, are, feed_pieces, finish_into, gives};
+use crate::runs::LIMIT;
+use crate::streams::{Cut, Then};
+use maildir_run::{list_text, rewrite};
 use mbox_text::{Entry, Splitter, TextFault, split_all};
 use std::alloc::{AllocError, Global};
+use std::io::Read;
 
 // The messages of a text that is fed in pieces of this size.
 fn split_pieces(alloc: Global, text: &[u8], size: usize) -> Result<Vec<Entry>, TextFault>
@@ -38,12 +42,39 @@ fn split_at(alloc: Global, text: &[u8], cut: usize) -> Result<Vec<Entry>, TextFa
     Ok(entries)
 }
 
+// One message, and what is listed of it. Rewritten it is the same.
+const QUOTED: &[u8] = b"From x\n>From a\n>>From b\n> From c\n>From\n\n";
+
+const QUOTED_LINE: &[u8] =
+    b"1 9cbed200d748885f7f6020b1ea28caa269815a3d0de56a9c0bee5f2f64ff8a82.1 new - 30 x\n";
+
+// Whether it is listed and rewritten as it is to be where it comes so.
+fn is_shown<R: Read>(alloc: Global, first: &mut R, again: &mut R) -> bool {
+    let mut listed = Vec::new(alloc);
+    let mut written = Vec::new(alloc);
+    list_text(alloc, first, &mut listed, LIMIT) == Ok(1)
+        && listed.as_slice() == QUOTED_LINE
+        && rewrite(alloc, again, &mut written, LIMIT) == Ok(1)
+        && written.as_slice() == QUOTED
+}
+
+fn byte_by_byte() -> Cut<'static> {
+    Cut::new(QUOTED, 1, Then::Ends)
+}
+
+// Cut behind the first `>Fro`.
+fn in_two() -> (&'static [u8], &'static [u8]) {
+    QUOTED.split_at(11)
+}
+
 #[test]
 fn any_pieces(rt: HostRuntime) {
-    const TEXT: &[u8] = b"From x\n>From a\n>>From b\n> From c\n>From\n\n";
     const WANT: &[Message<'_>] = &[(b"From x", b"From a\n>From b\n> From c\n>From\n")];
-    assert!(rt; gives(split_pieces(rt.alloc(), TEXT, 1), WANT));
-    assert!(rt; gives(split_at(rt.alloc(), TEXT, 11), WANT));
+    assert!(rt; gives(split_pieces(rt.alloc(), QUOTED, 1), WANT));
+    assert!(rt; gives(split_at(rt.alloc(), QUOTED, 11), WANT));
+    assert!(rt; is_shown(rt.alloc(), &mut byte_by_byte(), &mut byte_by_byte()));
+    let (front, rest) = in_two();
+    assert!(rt; is_shown(rt.alloc(), &mut front.chain(rest), &mut front.chain(rest)));
 }
 
 // A first message that puts the byte with this index in the lines at the end of a piece of 65,536 bytes.

@@ -198,7 +198,7 @@ fn the_sweep_comes_before_the_messages(rt: HostRuntime) {
 
 // A text whose run broke off, another one that shares a message with it, and the first again.
 #[test]
-fn two_texts(rt: HostRuntime) {
+fn another_text_after_a_stop(rt: HostRuntime) {
     const STOP: &[Row<'_>] = &[(5, &[], Mode::FailAfter)];
     const ONE: &[File<'_>] = &[(Sub::New, EMPTY_ONE, "")];
     const RUNS: &[Run<'_>] = &[

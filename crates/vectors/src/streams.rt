@@ -1,4 +1,7 @@
 // Sources and writers for tests: they cut, fail, end or never end.
+ghost use Rattle.std.specs.Prelude.{◌≡◌, ◌++◌, None, Some};
+ghost use Rattle.vectors.specs.declared.streams.Then.TheVariants.{Ends, Fails, GoesOn};
+
 use std::alloc::Global;
 use std::io;
 use std::io::{ErrorKind, Read, Write};
@@ -11,10 +14,12 @@ pub(crate) enum Then {
     GoesOn,
 }
 
-/// A source that gives its bytes in pieces of at most a size.
+/// A source that gives its bytes in pieces of at most a size. Where it fails behind them, the text is its bytes and then
+/// what is lost.
 #[derive(Drop)]
 pub(crate) struct Cut<'a> {
     pub bytes: &'a [u8],
+    pub lost: &'a [u8],
     pub piece: usize,
     pub then: Then,
     pub reads: u64,
@@ -24,17 +29,40 @@ impl<'a> Cut<'a> {
     pub(crate) fn new(bytes: &'a [u8], piece: usize, then: Then) -> Cut<'a> {
         Cut {
             bytes,
+            lost: &[],
             piece,
             then,
             reads: 0,
         }
     }
+
+    /// A source that breaks off behind so many bytes of a text, or at its end.
+    pub(crate) fn broken(text: &'a [u8], bytes: usize, piece: usize) -> Cut<'a>
+        ensures fails { result.then ≡ Fails }
+        ensures text { result.bytes.now ++ result.lost.now ≡ text.now }
+    {
+        let (bytes, lost) = text.split_at(bytes.min(text.len()));
+        Cut {
+            bytes,
+            lost,
+            piece,
+            then: Then::Fails,
+            reads: 0,
+        }
+    }
 }
 
+// It tells what it has to give and what is lost, but not what has no end.
 impl Read for Cut<'_> {
+    ghost remaining = { λ cut. elim cut.then [
+      | Ends ↦ Some cut.bytes.now
+      | Fails ↦ Some (cut.bytes.now ++ cut.lost.now)
+      | GoesOn ↦ None
+    ] };
+
     fn read(&mut self, buf: &mut [u8]) -> io::Result<usize> {
         self.reads = self.reads.saturating_add(1);
-        let n = self.piece.min(buf.len()).min(self.bytes.len());
+        let n = self.piece.max(1).min(buf.len()).min(self.bytes.len());
         let (front, rest) = self.bytes.split_at(n);
         buf[..n].copy_from_slice(front);
         self.bytes = rest;
