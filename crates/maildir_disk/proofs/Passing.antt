@@ -12,20 +12,20 @@ use Rattle.maildir_disk.specs.declared.listing.Look.{Look}
 use Rattle.maildir_disk.specs.Look.{IsSettled, IsFarAhead, Looked, Watched, WatchedOr}
 use Rattle.maildir_disk.specs.World.{World, margin_of, IsOfChange, Acts, Passes, Tells, Reads}
 
-all_acted-append : (xs ys : List Action) (s : Files) → all_acted (xs ++ ys) s ≡ all_acted ys (all_acted xs s)
+pub all_acted-append : (xs ys : List Action) (s : Files) → all_acted (xs ++ ys) s ≡ all_acted ys (all_acted xs s)
 all_acted-append [] ys s = refl
 all_acted-append (a ∷ xs) ys s = all_acted-append xs ys (acted a s)
 
 -- moves of other programs alone
-after-others : (xs : List Action) (call : Call) (s : Files) → after s call (map Other xs) ≡ all_acted xs s
+pub after-others : (xs : List Action) (call : Call) (s : Files) → after s call (map Other xs) ≡ all_acted xs s
 after-others [] call s = refl
 after-others (a ∷ xs) call s = after-others xs call (acted a s)
 
-after-append : (call : Call) (ms ns : List Move) (s : Files) → after s call (ms ++ ns) ≡ after (after s call ms) call ns
+pub after-append : (call : Call) (ms ns : List Move) (s : Files) → after s call (ms ++ ns) ≡ after (after s call ms) call ns
 after-append call [] ns s = refl
 after-append call (m ∷ ms) ns s = after-append call ms ns (moved call m s)
 
-others_whole : (xs : List Action) → IsWhole (map Other xs)
+pub others_whole : (xs : List Action) → IsWhole (map Other xs)
 others_whole [] = tt
 others_whole (a ∷ xs) = others_whole xs
 

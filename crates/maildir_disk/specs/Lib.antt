@@ -1,4 +1,5 @@
 pub mod World
+pub mod Writing
 pub mod Look
 pub mod Faults
 pub mod Paths

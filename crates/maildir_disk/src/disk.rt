@@ -1,7 +1,7 @@
 // What is asked of the file system, a step each.
 use std::alloc::Global;
 use std::fs::{DirBuilder, DirEntry, OpenFile, OpenOptions, ReadDir};
-use std::io::{ErrorKind, Write};
+use std::io::ErrorKind;
 use std::os::unix::fs::{DirBuilderExt, OpenOptionsExt};
 use std::rt::Files;
 use std::{fs, io};
@@ -48,14 +48,12 @@ fn name_of<R: Files + Drop>(alloc: Global, entry: io::Result<DirEntry<R>>) -> io
     Ok(String::from_str(alloc, entry?.file_name())?)
 }
 
-/// Makes the file hold these bytes, in place of what it held, and asks the system to keep them.
-pub(crate) fn write_synced(files: &impl Files, path: &str, bytes: &[u8]) -> io::Result<()> {
+/// Makes the file, or empties it where it is there, and opens it for writing.
+pub(crate) fn create<R: Files>(files: &R, path: &str) -> io::Result<R::File> {
     let mut options = OpenOptions::new();
     options.write(true).create(true).truncate(true);
     options.mode(FILE_MODE);
-    let mut file = options.open(files, path)?;
-    file.write_all(bytes)?;
-    file.sync_all()
+    options.open(files, path)
 }
 
 /// Moves a file, by one rename. The error is of the kind `NotFound` only where no file was there to be moved.

@@ -1,11 +1,14 @@
 // A Maildir on a file system, as a folder of the engine.
-ghost use Rattle.std.specs.Prelude.{◌≡◌};
-ghost use Rattle.maildir_run.specs.Calls.{CountsFailure, GoesUp, IsNotAbsent};
+ghost use Rattle.std.specs.Prelude.{◌≡◌, OnOk};
+ghost use Rattle.maildir_run.specs.Calls.{Called, CountsFailure, GoesUp, IsNotAbsent};
+ghost use Rattle.maildir_run.specs.Calls.Call.{Writing};
 ghost use Rattle.maildir_disk.specs.World.{Acts};
+ghost use Rattle.maildir_disk.specs.Writing.{KeepsHeld};
 
 use crate::faults::answer_of;
 use crate::listing::names_of_one_moment;
 use crate::system::System;
+use crate::writing::write_synced;
 use maildir_name::Place;
 use maildir_run::{Folder, FolderFault, Sub};
 use std::io;
@@ -88,8 +91,17 @@ impl<S: System> Folder for DiskFolder<S> {
         self.counted(answer)
     }
 
-    fn write(&mut self, name: &str, bytes: &[u8]) -> Result<(), FolderFault> {
-        let answer = answer_of(self.system.write_synced(name, bytes));
+    fn write(&mut self, name: &str, bytes: &[u8]) -> Result<(), FolderFault>
+        ensures honest { S.honest self.old.system → S.honest self.new.system }
+        ensures called { S.honest self.old.system → Called (Writing name.now bytes.now)
+            (S.world self.old.system).files result (S.world self.new.system).files }
+        ensures kept { S.honest self.old.system →
+            OnOk result (KeepsHeld (S.kept self.new.system) name.now (S.world self.new.system).files) }
+        ensures counted { GoesUp self.old.calls self.new.calls }
+        ensures cause { CountsFailure result self.old.failures self.new.failures }
+        ensures not_absent { IsNotAbsent result }
+    {
+        let answer = answer_of(write_synced(&mut self.system, name, bytes));
         self.counted(answer)
     }
 

@@ -1,5 +1,5 @@
 // A Maildir's calls on the file system, and the folder over them.
-ghost use Rattle.std.specs.Prelude.{◌≡◌, ◌++◌, ◌∷◌, IfErr, IfOk, string_bytes};
+ghost use Rattle.std.specs.Prelude.{◌≡◌, [], ◌++◌, ◌∷◌, IfErr, IfOk, string_bytes};
 ghost use Rattle.maildir_disk.specs.Paths.{folder_name, folder_of_place, root_of};
 
 use crate::disk;
@@ -10,8 +10,8 @@ use crate::system::System;
 use maildir_name::Place;
 use maildir_run::{Folder, FolderFault, Sub};
 use std::alloc::{AllocError, Global};
-use std::fs::File;
-use std::io::ErrorKind;
+use std::fs::{File, OpenFile};
+use std::io::{ErrorKind, Write};
 use std::rt::{Clock, Files};
 use std::time::{Duration, Instant, SystemTime};
 use std::{fs, io, thread};
@@ -88,7 +88,13 @@ impl<'a, R: Files + Clock> Host<'a, R> {
 impl<'a, R: Files + Clock> System for Host<'a, R> {
     ghost use Rattle.maildir_disk.specs.World.{no_world};
 
+    type File = R::File;
+
     ghost world = { λ _. no_world };
+
+    ghost name_of = { λ _. [] };
+
+    ghost kept = { λ _ _ _. ⊥ };
 
     ghost honest = { λ _. ⊥ };
 
@@ -112,8 +118,16 @@ impl<'a, R: Files + Clock> System for Host<'a, R> {
         thread::sleep(self.rt, pause);
     }
 
-    fn write_synced(&mut self, name: &str, bytes: &[u8]) -> io::Result<()> {
-        disk::write_synced(self.rt, self.path_in(Sub::Tmp, name)?.as_str(), bytes)
+    fn create(&mut self, name: &str) -> io::Result<R::File> {
+        disk::create(self.rt, self.path_in(Sub::Tmp, name)?.as_str())
+    }
+
+    fn append(&mut self, file: &mut R::File, bytes: &[u8]) -> io::Result<usize> {
+        file.write(bytes)
+    }
+
+    fn sync_file(&mut self, file: &R::File) -> io::Result<()> {
+        file.sync_all()
     }
 
     fn rename(&mut self, name: &str, place: Place, target: &str) -> io::Result<()> {

@@ -12,6 +12,7 @@ mod host;
 mod listing;
 mod lock;
 mod system;
+mod writing;
 
 pub use disk_folder::DiskFolder;
 pub use faults::{OpenFault, is_refused_growth};

@@ -1,8 +1,9 @@
 // The system calls that a Maildir needs.
-ghost use Rattle.std.specs.Prelude.{IfOk};
+ghost use Rattle.std.specs.Prelude.{◌≡◌, ◌≤◌, ℕ, List, length, IfOk, OnOk};
 ghost use Rattle.std.specs.Time.{system_time_nanos};
 ghost use Rattle.maildir_run.specs.Calls.{Called, names_of};
-ghost use Rattle.maildir_run.specs.Calls.Call.{Writing, Placing, Removing};
+ghost use Rattle.maildir_run.specs.Calls.Call.{Placing, Removing};
+ghost use Rattle.maildir_disk.specs.Writing.{Created, Appended, KeepsHeld};
 ghost use Rattle.maildir_disk.specs.World.{World, Acts, Passes, Tells, IsTimeOf, Reads};
 
 use maildir_name::Place;
@@ -12,8 +13,17 @@ use std::time::{Duration, Instant, SystemTime};
 
 /// A file system as far as one Maildir needs it. Other programs may act before, within and after each call.
 pub trait System {
+    /// A file of `tmp` that is open for writing.
+    type File: Drop;
+
     /// The files, the clock and the stamps as they are.
     ghost world: { Self → World };
+
+    /// Under this name of `tmp` the file was opened.
+    ghost name_of: { Self.File → List ℕ };
+
+    /// The file of this name in `tmp` holds these bytes, and a power cut leaves them in it.
+    ghost kept: { Self → List ℕ → List ℕ → Type 0 };
 
     /// Its calls do what their contracts say.
     ghost honest: { Self → Type 0 };
@@ -49,11 +59,26 @@ pub trait System {
         ensures honest { honest self.old → honest self.new }
         ensures acts { honest self.old → Acts (world self.old) (world self.new) };
 
-    /// Makes a file of `tmp` hold these bytes, and asks the system to keep them.
-    fn write_synced(&mut self, name: &str, bytes: &[u8]) -> io::Result<()>
+    /// Makes a file of `tmp`, or empties it where it is there, and opens it for writing.
+    fn create(&mut self, name: &str) -> io::Result<Self::File>
         ensures honest { honest self.old → honest self.new }
-        ensures called { honest self.old →
-            Called (Writing name.now bytes.now) (world self.old).files result (world self.new).files };
+        ensures name { honest self.old → IfOk result (λ file. name_of file ≡ name.now) }
+        ensures created { honest self.old → Created name.now (world self.old) result (world self.new) };
+
+    /// Appends a front of the bytes, and answers how many.
+    fn append(&mut self, file: &mut Self::File, bytes: &[u8]) -> io::Result<usize>
+        ensures most { IfOk result (λ n. n ≤ length bytes.now) }
+        ensures honest { honest self.old → honest self.new }
+        ensures name { name_of file.new ≡ name_of file.old }
+        ensures appended { honest self.old →
+            Appended (name_of file.old) bytes.now (world self.old) result (world self.new) };
+
+    /// Asks the system to keep what the file holds.
+    fn sync_file(&mut self, file: &Self::File) -> io::Result<()>
+        ensures honest { honest self.old → honest self.new }
+        ensures acts { honest self.old → Acts (world self.old) (world self.new) }
+        ensures kept { honest self.old →
+            OnOk result (KeepsHeld (kept self.new) (name_of file.now) (world self.new).files) };
 
     /// Moves a file out of `tmp`, by one rename. The error is of the kind `NotFound` only where no file was there.
     fn rename(&mut self, name: &str, place: Place, target: &str) -> io::Result<()>

@@ -15,7 +15,7 @@ find-after q (x ∷ xs) ys none =
       | false ↦ λ e. find-after q xs ys e
     ] none
 
-get-outsiders_other : (ours theirs : FileMap) (q : List ℕ) → is_converter_name q ≡ false → get (outsiders_of ours theirs) q ≡ get theirs q
+pub get-outsiders_other : (ours theirs : FileMap) (q : List ℕ) → is_converter_name q ≡ false → get (outsiders_of ours theirs) q ≡ get theirs q
 get-outsiders_other ours theirs q h =
     let mine = retain_keys ours is_converter_name in
     let other = retain_keys theirs (λ n. not (is_converter_name n)) in

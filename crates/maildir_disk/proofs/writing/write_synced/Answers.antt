@@ -1,0 +1,82 @@
+use Rattle.std.proofs.Common.{rules, arith, inl, inr, ◌≡◌, ◌∙◌, sym, ap, subst, ◌++◌, ◌-◌, length, take, drop}
+use Rattle.std.proofs.lemmas.List.{take_all, length-drop}
+use Rattle.std.proofs.Math.Seq.{take-add}
+use Rattle.maildir_disk.specs.Writing.{Comes, changed, Written}
+use Rattle.maildir_disk.proofs.Pieces.{written_created, written_on, written_changed, write_called, not_created, append_failed, write_failed}
+use Rattle.maildir_disk.proofs.writing.write_synced.Goals as goal
+use Rattle.maildir_disk.proofs.writing.write_synced.Goals.{in-Ok, in-Err+else-ne}
+
+pub returns-in_err-file-clause-called : goal.returns-in_err-file-clause-called
+returns-in_err-file-clause-called g c = λ honest.
+    not_created c.args.name.now c.args.bytes.now _ _ _ c.from_residual.ensures.0 (c.in_err-file.ensures.created honest)
+
+pub returns-then-at-bytes-clause-called : goal.returns-then-at-bytes-clause-called
+returns-then-at-bytes-clause-called g c = λ honest.
+    let start = g.S.System.world c.args.system.now in
+    let now = g.S.System.world c.loop.system in
+    let end = g.S.System.world c.sync_file.new.self in
+    let kept = c.loop.invariant.written (c.create.ensures.honest honest) in
+    let so_far : Written c.args.name.now (take c.loop.at c.args.bytes.now) start now =
+    rw (c.in_ok-file.ensures.name honest) at (kept.1 start (rw (c.in_ok-file.ensures.name honest) (written_created c.args.name.now start _ (c.in_ok-file.ensures.created honest)))) in
+    let all : Written c.args.name.now c.args.bytes.now start now = subst (λ held. Written c.args.name.now held start now) (take_all c.loop.at c.args.bytes.now (search rules)) so_far in
+    write_called c.args.name.now c.args.bytes.now start end c.sync_file.result (written_on c.args.name.now c.args.bytes.now start now end all (c.sync_file.ensures.acts kept.0))
+
+pub returns-in-Ok-eq0-clause-called : goal.returns-in-Ok-eq0-clause-called
+returns-in-Ok-eq0-clause-called g c = λ honest.
+    let start = g.S.System.world c.args.system.now in
+    let kept = c.loop.invariant.written (c.create.ensures.honest honest) in
+    let so_far = rw (c.in_ok-file.ensures.name honest) at (kept.1 start (rw (c.in_ok-file.ensures.name honest) (written_created c.args.name.now start _ (c.in_ok-file.ensures.created honest)))) in
+    append_failed c.args.name.now _ _ c.args.bytes.now start _ _ c.append.result so_far (rw (c.loop.invariant.named ∙ c.in_ok-file.ensures.name honest) at (c.append.ensures.appended kept.0))
+
+pub returns-then-ne-clause-called : goal.returns-then-ne-clause-called
+returns-then-ne-clause-called g c = λ honest.
+    let start = g.S.System.world c.args.system.now in
+    let kept = c.loop.invariant.written (c.create.ensures.honest honest) in
+    let so_far = rw (c.in_ok-file.ensures.name honest) at (kept.1 start (rw (c.in_ok-file.ensures.name honest) (written_created c.args.name.now start _ (c.in_ok-file.ensures.created honest)))) in
+    append_failed c.args.name.now _ _ c.args.bytes.now start _ _ c.append.result so_far (rw (c.loop.invariant.named ∙ c.in_ok-file.ensures.name honest) at (c.append.ensures.appended kept.0))
+
+pub returns-clause-called : goal.returns-clause-called
+returns-clause-called g c = λ honest.
+    let start = g.S.System.world c.args.system.now in
+    let kept = c.loop.invariant.written (c.create.ensures.honest honest) in
+    let so_far = rw (c.in_ok-file.ensures.name honest) at (kept.1 start (rw (c.in_ok-file.ensures.name honest) (written_created c.args.name.now start _ (c.in_ok-file.ensures.created honest)))) in
+    write_failed c.args.name.now _ c.args.bytes.now start _ so_far
+
+pub loop-preserved : goal.loop-preserved
+loop-preserved g c =
+    elim c.match-append.branch [
+      | in-Ok w ↦ record {
+        within = search rules;
+        named = c.append.ensures.name ∙ c.loop.invariant.named;
+        written = λ honest.
+            let kept = c.loop.invariant.written honest in (
+              c.append.ensures.honest kept.0,
+              λ start made.
+                  let name = g.S.System.name_of c.in_ok-file.file in
+                  let bytes = c.args.bytes.now in
+                  let at = c.loop.at in
+                  let n = w.in-Ok.n in
+                  let now = g.S.System.world c.loop.system in
+                  let end = g.S.System.world c.append.new.self in
+                  let rest : take (length bytes - at) (drop at bytes) ≡ drop at bytes = take_all _ _ (omega (arith, length-drop at bytes)) in
+                  let comes : Comes (changed name (λ held. held ++ take n (take (length bytes - at) (drop at bytes)))) now end = rw c.loop.invariant.named at (w.in-Ok.ensures.appended kept.0) in
+                  let more : Written name (take at bytes ++ take n (take (length bytes - at) (drop at bytes))) start end =
+                  written_changed name (take at bytes) (λ held. held ++ take n (take (length bytes - at) (drop at bytes))) start now end (kept.1 start made) comes in
+                  subst (λ held. Written name held start end) (ap (λ p. take at bytes ++ take n p) rest ∙ (sym (take-add at n bytes) ∙ ap (λ k. take k bytes) (sym w.at-is))) more,
+            );
+      }
+      | in-Err+else-ne w ↦ record {
+        within = search rules;
+        named = c.append.ensures.name ∙ c.loop.invariant.named;
+        written = λ honest.
+            let kept = c.loop.invariant.written honest in (
+              c.append.ensures.honest kept.0,
+              λ start made.
+                  let appended = rw c.loop.invariant.named at (w.in-Err.ensures.appended kept.0) in
+                  elim appended [
+                    | inl acts ↦ rw w.at-is (written_on _ _ start _ _ (kept.1 start made) acts)
+                    | inr other ↦ absurd (other.0 (search rules))
+                  ],
+            );
+      }
+    ]

@@ -1,0 +1,14 @@
+use Rattle.std.proofs.Common.{◌≡◌, ◌≤◌, [], length, take}
+use Rattle.maildir_disk.specs.World.{World}
+use Rattle.maildir_disk.specs.Writing.{Written}
+use Rattle.maildir_disk.proofs.writing.write_synced.Given as goal
+
+-- the file holds a front of the bytes, as if it had come into it when the file was made
+abbrev pub invariant-loop : goal.invariant-loop
+invariant-loop g l = record {
+  within : l.at ≤ length l.bytes;
+  named : g.S.System.name_of l.file ≡ g.S.System.name_of l.initial.file;
+  written : g.S.System.honest l.initial.system
+      → g.S.System.honest l.system
+      × ((start : World) → Written (g.S.System.name_of l.initial.file) [] start (g.S.System.world l.initial.system) → Written (g.S.System.name_of l.initial.file) (take l.at l.bytes) start (g.S.System.world l.system));
+}

@@ -1,0 +1,37 @@
+// A file of `tmp`, written and kept.
+ghost use Rattle.std.specs.Prelude.{OnOk};
+ghost use Rattle.maildir_run.specs.Calls.{Called};
+ghost use Rattle.maildir_run.specs.Calls.Call.{Writing};
+ghost use Rattle.maildir_disk.specs.Writing.{KeepsHeld};
+
+use crate::system::System;
+use std::io;
+use std::io::ErrorKind;
+
+/// Makes the file `name` of `tmp` hold these bytes, in place of what it held, and asks the system to keep them. A write
+/// that takes a front of the bytes is followed by one of the rest, and one that was interrupted is made again.
+pub(crate) fn write_synced<S: System>(system: &mut S, name: &str, bytes: &[u8]) -> io::Result<()>
+    ensures honest { S.honest system.old → S.honest system.new }
+    ensures called { S.honest system.old →
+        Called (Writing name.now bytes.now) (S.world system.old).files result (S.world system.new).files }
+    ensures kept { S.honest system.old →
+        OnOk result (KeepsHeld (S.kept system.new) name.now (S.world system.new).files) }
+{
+    let mut file = system.create(name)?;
+    let mut at = 0;
+    for _ in 0..u64::MAX {
+        if at >= bytes.len() {
+            return system.sync_file(&file);
+        }
+        match system.append(&mut file, &bytes[at..]) {
+            Ok(0) => return Err(io::Error::from(ErrorKind::WriteZero)),
+            Ok(n) => at += n,
+            Err(error) => {
+                if error.kind() != ErrorKind::Interrupted {
+                    return Err(error);
+                }
+            }
+        }
+    }
+    Err(io::Error::from(ErrorKind::TimedOut))
+}
