@@ -31,95 +31,40 @@ none_done start now leaves = record { homes_are = All-nil (IsHome now); kept = �
 pub no_messages : messages_of [] ≡ []
 no_messages = nil_from_length (messages_of []) (length-messages_of [])
 
-stands_keeps : (ms : List Message) (start now : Files) (fault : RunFault) → Stands ms start now → Keeps ms start (Err fault) now
+pub stands_keeps : (ms : List Message) (start now : Files) (fault : RunFault) → Stands ms start now → Keeps ms start (Err fault) now
 stands_keeps ms start now fault s = record { sound = s.sound; still = s.still; in_order = s.in_order; ends = tt }
 
 -- messages of which the first are done
-front_stands : (ms done more : List Message) (start now : Files) → AreNamed ms → AreDistinct ms → Sound ms start start → ms ≡ done ++ more → Progress done start now → Stands ms start now
+pub front_stands : (ms done more : List Message) (start now : Files) → AreNamed ms → AreDistinct ms → Sound ms start start → ms ≡ done ++ more → Progress done start now → Stands ms start now
 front_stands ms done more start now named distinct sound e p =
     subst (λ x. Stands x start now) (sym e) (progress_stands done more start now (subst AreNamed e named) (subst AreDistinct e distinct) (subst (λ x. Sound x start start) e sound) p)
-
--- a run that delivered nothing
-pub untouched_run : (t : List ℕ) (start now : Files) (fault : RunFault) → LeavesHomes start now → length t < 2 ^ 63 → Run t start (Err fault) now
-untouched_run t start now fault leaves small = record {
-  keeps = λ ms of sound.
-      stands_keeps ms start now fault (progress_stands [] ms start now (text_named t ms of small) (text_distinct t ms of small) sound (none_done start now leaves));
-  is_read = tt;
-}
 
 bodies_parts : (all rest : List Entry) → bodies_of (all ++ rest) ≡ bodies_of all ++ bodies_of rest
 bodies_parts all rest = map-append (λ (e : Entry). e.body) all rest
 
-came_stands : (ms : List Message) (all rest entries : List Entry) (start now : Files) → AreNamed ms → AreDistinct ms → Sound ms start start → ms ≡ messages_of (bodies_of entries) → entries ≡ all ++ rest → (All (IsSoundAt start) (messages_of (bodies_of all)) → CameTo (messages_of (bodies_of all)) start now) → Stands ms start now
-came_stands ms all rest entries start now named distinct sound e is come =
-    let more = messages_more (bodies_of all) (bodies_of rest) in
-    let parts : ms ≡ messages_of (bodies_of all) ++ more.0 = e ∙ ap messages_of (ap bodies_of is ∙ bodies_parts all rest) ∙ more.1 in
-    let came = come (sound_front start (bodies_of all) (bodies_of rest) (subst (All (IsSoundAt start)) (parts ∙ sym more.1) sound.own)) in
-    front_stands ms came.done (came.rest ++ more.0) start now named distinct sound (parts ∙ ap (λ xs. xs ++ more.0) came.is ∙ append_assoc came.done came.rest more.0) came.progress
+-- ---- the messages of each text that a source may have had
+-- after a fault those that were given are the first of them
+pub front_of : (before after : Option (List ℕ)) (text : List ℕ) (all : List Entry) → Consumes before after text → First text after all → (t : List ℕ) (ms : List Message) → Possible before after t → MessagesOf t ms → (more : List Message) × (ms ≡ messages_of (bodies_of all) ++ more)
+front_of before after text all read first t ms p of =
+    let is : t ≡ text ++ p.more = rw (← read_is before after text t read p) p.front in
+    elim of as (λ _. (more : List Message) × (ms ≡ messages_of (bodies_of all) ++ more)) [
+      | inl (entries, m, e) ↦
+          let r = first.told p.more p.left entries p.has p.whole (rw is at m) in
+          let more = messages_more (bodies_of all) (bodies_of r.0) in
+          (more.0, e ∙ ap messages_of (ap bodies_of r.1 ∙ bodies_parts all r.0) ∙ more.1)
+      | inr (none, e) ↦ ([], e ∙ sym (append-nil (messages_of (bodies_of all)) ∙ ap (λ xs. messages_of (bodies_of xs)) (first.none p.more p.left p.has p.whole (rw is at none)) ∙ no_messages))
+    ]
 
-none_done_here : (done rest : List Message) → [] ≡ done ++ rest → done ≡ []
-none_done_here [] rest e = refl
-none_done_here (x ∷ done) rest e = cc
-
--- a run that ended on its way
-pub came_run : (before source_now : Option (List ℕ)) (text : List ℕ) (all : List Entry) (start now : Files) (fault : RunFault) → Consumes before source_now text → First text source_now all → (All (IsSoundAt start) (messages_of (bodies_of all)) → CameTo (messages_of (bodies_of all)) start now) → (t : List ℕ) → length t < 2 ^ 63 → Possible before source_now t → Run t start (Err fault) now
-came_run before source_now text all start now fault read first come t small p =
-    let is : t ≡ text ++ p.more = rw (← read_is before source_now text t read p) p.front in
-    record {
-      keeps = λ ms of sound.
-          let named = text_named t ms of small in
-          let distinct = text_distinct t ms of small in
-          stands_keeps ms start now fault (elim of as (λ _. Stands ms start now) [
-            | inl (entries, m, e) ↦
-                let r = first.told p.more p.left entries p.has p.whole (rw is at m) in
-                came_stands ms all r.0 entries start now named distinct sound e r.1 come
-            | inr (none, e) ↦
-                let gone : messages_of (bodies_of all) ≡ [] = ap (λ xs. messages_of (bodies_of xs)) (first.none p.more p.left p.has p.whole (rw is at none)) ∙ no_messages in
-                let came = come (subst (All (IsSoundAt start)) (sym gone) (All-nil (IsSoundAt start))) in
-                front_stands ms came.done [] start now named distinct sound (e ∙ sym (append-nil came.done ∙ none_done_here came.done came.rest (sym gone ∙ came.is))) came.progress
-          ]);
-      is_read = tt;
-    }
-
--- a run that ended with Ok
-pub reached_run : (before source_now : Option (List ℕ)) (reads : ℕ) (text : List ℕ) (all : List Entry) (start now : Files) (there : BaseSet) (namer : Counts) (messages placed : ℕ) (report : Report) → GaveAll before source_now reads text all → (All (IsSoundAt start) (messages_of (bodies_of all)) → Reached (bodies_of all) start there namer messages placed now) → report.messages ≡ messages → report.there ≡ messages - placed → report.placed ≡ placed → report.swept ≤ leftover_count start → (t : List ℕ) → length t < 2 ^ 63 → Possible before source_now t → Run t start (Ok report) now
-reached_run before source_now reads text all start now there namer messages placed report gave come e1 e2 e3 few t small p =
+-- and with Ok all of them
+pub whole_text : (before after : Option (List ℕ)) (reads : ℕ) (text : List ℕ) (all : List Entry) → GaveAll before after reads text all → (t : List ℕ) → Possible before after t → Mbox t all
+whole_text before after reads text all gave t p =
     let at_end : p.left ≡ [] = rw p.has at gave.end in
-    let is : t ≡ text = rw (← read_is before source_now text t gave.read p) p.front ∙ ap (λ xs. text ++ xs) (p.whole at_end) ∙ append-nil text in
-    let whole : Mbox t all = rw is gave.all in
-    record {
-      keeps = λ ms of sound.
-          let named = text_named t ms of small in
-          let distinct = text_distinct t ms of small in
-          let e : ms ≡ messages_of (bodies_of all) = elim of as (λ _. ms ≡ messages_of (bodies_of all)) [
-            | inl (entries, m, e) ↦ e ∙ ap (λ es. messages_of (bodies_of es)) (mbox-one t entries all m whole)
-            | inr (none, e) ↦ absurd (none all whole)
-          ] in
-          let r = come (subst (All (IsSoundAt start)) e sound.own) in
-          let s = front_stands ms (messages_of (bodies_of all)) [] start now named distinct sound (e ∙ sym (append-nil (messages_of (bodies_of all)))) r.progress in
-          let len : length ms ≡ length (bodies_of all) = ap length e ∙ length-messages_of (bodies_of all) in
-          let count : there_count start ms ≡ there_count start (messages_of (bodies_of all)) = ap (there_count start) e in
-          let counted = r.counted in
-          let brought = r.brought in
-          record {
-            sound = s.sound;
-            still = s.still;
-            in_order = s.in_order;
-            ends = record {
-              delivered = record {
-                homes_are = subst (All (IsHome now)) (sym e) r.progress.homes_are;
-                swept = λ name ours. r.within.gone name ours refl;
-              };
-              reports = record {
-                messages = omega (arith, e1, counted, len);
-                there = omega (arith, e2, counted, brought, count);
-                placed = omega (arith, e3, counted, brought, count, len);
-                swept = few;
-              };
-            };
-          };
-      is_read = (all, whole);
-    }
+    let is : t ≡ text = rw (← read_is before after text t gave.read p) p.front ∙ ap (λ xs. text ++ xs) (p.whole at_end) ∙ append-nil text in
+    rw is gave.all
+
+pub whole_messages : (t : List ℕ) (all : List Entry) → Mbox t all → (ms : List Message) → MessagesOf t ms → ms ≡ messages_of (bodies_of all)
+whole_messages t all whole ms (inl (entries, m, e)) = e ∙ ap (λ es. messages_of (bodies_of es)) (mbox-one t entries all m whole)
+whole_messages t all whole ms (inr (none, e)) = absurd (none all whole)
 
 -- ---- a batch
 pub batch_bodies : (given whole entries : List Entry) → entries ≡ whole → bodies_of given ++ bodies_of entries ≡ bodies_of (given ++ whole)
@@ -128,19 +73,3 @@ batch_bodies given whole entries e = ap (λ es. bodies_of given ++ bodies_of es)
 pub batch_few : (given whole entries : List Entry) (reads : ℕ) → entries ≡ whole → length (given ++ whole) ≤ 65536 * reads → reads ≤ 2 ^ 40 → length (bodies_of given) + length entries ≤ 2 ^ 63
 batch_few given whole entries reads e few most = omega (arith, ap length e, length-append given whole, length-map given (λ (x : Entry). x.body))
 
--- whatever the fault
-pub run_err : (t : List ℕ) (start now : Files) (r : Result Report RunFault) → IsErr r → ((fault : RunFault) → Run t start (Err fault) now) → Run t start r now
-run_err t start now (Ok x) is run = let off : false ≡ true = is in cc
-run_err t start now (Err fault) is run = run fault
-
--- ---- undisturbed
-pub alone_run : (before source_now : Option (List ℕ)) (reads : ℕ) (text : List ℕ) (all : List Entry) (start now : Files) → GaveAll before source_now reads text all → now ≡ filled start (messages_of (bodies_of all)) (swept start) → (t : List ℕ) (ms : List Message) → Possible before source_now t → MessagesOf t ms → now ≡ alone ms start
-alone_run before source_now reads text all start now gave f t ms p of =
-    let at_end : p.left ≡ [] = rw p.has at gave.end in
-    let is : t ≡ text = rw (← read_is before source_now text t gave.read p) p.front ∙ ap (λ xs. text ++ xs) (p.whole at_end) ∙ append-nil text in
-    let whole : Mbox t all = rw is gave.all in
-    let e : ms ≡ messages_of (bodies_of all) = elim of as (λ _. ms ≡ messages_of (bodies_of all)) [
-      | inl (entries, m, e) ↦ e ∙ ap (λ es. messages_of (bodies_of es)) (mbox-one t entries all m whole)
-      | inr (none, e) ↦ absurd (none all whole)
-    ] in
-    f ∙ ap (λ x. filled start x (swept start)) (sym e)
