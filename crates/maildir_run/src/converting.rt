@@ -81,7 +81,7 @@ pub fn convert<F: Folder, R: Read>(
     let there = Bases::listed(alloc, &found.new, &found.cur)?;
     let mut engine = Engine::new(alloc, there, calls);
     'pieces: loop {
-        engine.deliver_all(folder, &whole)?;
+        engine.deliver_entries(folder, &whole)?;
         if ended {
             return Ok(engine.report(swept));
         }

@@ -3,16 +3,14 @@ use Rattle.std.specs.FinMap.{contains_key}
 use Rattle.maildir_run.specs.declared.calls.Calls.{Calls}
 use Rattle.maildir_run.specs.declared.fault.RunFault.TheVariants.{OutOfMemory}
 use Rattle.maildir_run.specs.Tasks.{seen, RanAll, messages_after, deliveries_of, listings, sweep_of}
-use Rattle.maildir_run.specs.Counting.{IsOfFolder}
 use Rattle.maildir_run.specs.Texts.{bodies_of, messages_of}
 use Rattle.maildir_run.proofs.Givens.{gave_more, gave_refused, broken_off, not_ended, at_end, given_first, given_read, given_few, never_again}
 use Rattle.maildir_run.proofs.Faults.{if_err, fault_is, unless_ok, ok_is_none, not_begun, not_spent}
 use Rattle.maildir_run.proofs.Exits.{none_few, three_few, given_within, begins_within, refused_of, read_nothing, batch_fits, batch_count, batch_begun, went_down}
-use Rattle.maildir_run.proofs.Told.{listings_place_none}
 use Rattle.maildir_run.proofs.Tasks.{ran_none, ran_ok, ran_err, ran_stop}
 use Rattle.maildir_run.proofs.Bringing.{brought_none}
-use Rattle.maildir_run.proofs.Converts.{front_of}
-use Rattle.maildir_run.proofs.Ending.{owed_err, owed_end, no_names, after_nothing, after_listings, after_sweep, after_some, run_tasks, some_ours, few_swept, few_tasks, few_bodies_of, swept_run, whole_run, early_ours, early_few, tells_listed, one_batch, told}
+use Rattle.maildir_run.proofs.PossibleMessages.{front_of}
+use Rattle.maildir_run.proofs.Owed.{owed_err, owed_end, no_names, after_nothing, after_listings, after_sweep, after_some, run_tasks, some_ours, few_swept, few_tasks, few_bodies_of, swept_run, whole_run, early_ours, early_few, tells_listed, one_batch, told}
 use Rattle.maildir_run.proofs.converting.convert.Goals as goal
 
 pub returns-in_err-messages : goal.returns-in_err-messages
@@ -164,8 +162,8 @@ pieces-init g c =
       brought = brought_none _ [] _ _ _ _ c.new-engine.ensures.namer;
     }
 
-pub deliver_all-requires : goal.deliver_all-requires
-deliver_all-requires g c =
+pub deliver_entries-requires : goal.deliver_entries-requires
+deliver_entries-requires g c =
     let i = c.pieces.invariant in
     let few = given_few c.pieces.ended _ _ _ _ _ i.text (i.given ++ c.pieces.whole.items) i.gave in
     batch_fits c.pieces.engine.messages c.args.reads i.given c.pieces.whole.items c.deref-in-pieces.result.now i.count few c.requires c.deref-in-pieces.ensures.value
@@ -184,16 +182,16 @@ pieces-preserved g c =
       given = i.given ++ whole;
       gave = more.gave;
       begun = λ e. batch_begun (i.given ++ whole) c.read.new.out.items (i.begun c.if-ended.false);
-      count = batch_count c.pieces.engine.messages c.deliver_all.new.self.messages i.given whole entries i.count c.in_ok-deliver_all.ensures.all is;
-      there = c.in_ok-deliver_all.ensures.there ∙ i.there;
-      brought = one_batch _ _ _ i.given whole entries c.args.reads _ _ _ _ _ _ _ _ _ _ _ i.there is few c.requires i.brought c.in_ok-deliver_all.ensures.brought;
+      count = batch_count c.pieces.engine.messages c.deliver_entries.new.self.messages i.given whole entries i.count c.in_ok-deliver_entries.ensures.all is;
+      there = c.in_ok-deliver_entries.ensures.there ∙ i.there;
+      brought = one_batch _ _ _ i.given whole entries c.args.reads _ _ _ _ _ _ _ _ _ _ _ i.there is few c.requires i.brought c.in_ok-deliver_entries.ensures.brought;
     }
 
-pub returns-in_err-deliver_all : goal.returns-in_err-deliver_all
-returns-in_err-deliver_all g c =
+pub returns-in_err-deliver_entries : goal.returns-in_err-deliver_entries
+returns-in_err-deliver_entries g c =
     let at = seen g.F.Folder.honest g.F.Folder.quiet g.F.Folder.files g.F.Folder.calls g.F.Folder.failures in
-    let r = c.from_residual-in_err-deliver_all in
-    let fault = c.in_err-deliver_all.field-0.0 in
+    let r = c.from_residual-in_err-deliver_entries in
+    let fault = c.in_err-deliver_entries.field-0.0 in
     let i = c.pieces.invariant in
     let whole = c.pieces.whole.items in
     let look = c.in_ok-found.ensures.ran in
@@ -204,7 +202,7 @@ returns-in_err-deliver_all g c =
     let tells = tells_listed c.new-engine.result.there c.in_ok-there.there c.deref-2.result.now c.in_ok-found.found.new.items c.deref-3.result.now c.in_ok-found.found.cur.items names (bodies_of (i.given ++ whole)) c.new-engine.ensures.there c.in_ok-there.ensures c.deref-2.ensures.value c.deref-3.ensures.value look.2.1 look.2.2 in
     let few = given_few c.pieces.ended _ _ _ _ _ i.text (i.given ++ whole) i.gave in
     let few_all = few_bodies_of (i.given ++ whole) c.args.reads few c.requires in
-    let brought = one_batch _ _ _ i.given whole c.deref-in-pieces.result.now c.args.reads _ _ _ _ _ _ _ _ _ _ _ i.there c.deref-in-pieces.ensures.value few c.requires i.brought c.in_err-deliver_all.ensures.brought in
+    let brought = one_batch _ _ _ i.given whole c.deref-in-pieces.result.now c.args.reads _ _ _ _ _ _ _ _ _ _ _ i.there c.deref-in-pieces.ensures.value few c.requires i.brought c.in_err-deliver_entries.ensures.brought in
     let first = subst (λ (x : Calls). RanAll (listings names ++ sweep_of names.tmp) (at c.args.folder.now) (at c.sweep.new.folder) c.new-calls.result.made x.made) (sym c.new-engine.ensures.calls) before in
     let ran = ran_err _ r.result _ _ _ _ _ r.ensures.1 (whole_run _ names _ (messages_of (bodies_of (i.given ++ whole))) _ _ _ _ _ _ tells first brought.ran) in
     let front = front_of _ _ i.text (i.given ++ whole) (given_read c.pieces.ended _ _ _ _ _ i.text (i.given ++ whole) i.gave) (given_first c.pieces.ended _ _ _ _ _ i.text (i.given ++ whole) i.gave) in
@@ -222,10 +220,10 @@ returns-in_err-deliver_all g c =
       calls = o.calls;
       cause = o.cause;
       numbered = o.numbered;
-      untouched = λ e. absurd (not_begun r.result fault r.ensures.1 c.in_err-deliver_all.ensures.causes e);
-      no_from_line = λ e. absurd (not_begun r.result fault r.ensures.1 c.in_err-deliver_all.ensures.causes e);
-      spent = λ e. absurd (not_spent r.result fault r.ensures.1 c.in_err-deliver_all.ensures.causes e);
-      causes = if_err _ r.result fault r.ensures.1 (inr c.in_err-deliver_all.ensures.causes);
+      untouched = λ e. absurd (not_begun r.result fault r.ensures.1 c.in_err-deliver_entries.ensures.causes e);
+      no_from_line = λ e. absurd (not_begun r.result fault r.ensures.1 c.in_err-deliver_entries.ensures.causes e);
+      spent = λ e. absurd (not_spent r.result fault r.ensures.1 c.in_err-deliver_entries.ensures.causes e);
+      causes = if_err _ r.result fault r.ensures.1 (inr c.in_err-deliver_entries.ensures.causes);
       budget = given_within c.pieces.ended _ _ _ _ _ i.text (i.given ++ whole) i.gave;
     }
 
@@ -244,7 +242,7 @@ returns-in_err-ended-2 g c =
     let tells = tells_listed c.new-engine.result.there c.in_ok-there.there c.deref-2.result.now c.in_ok-found.found.new.items c.deref-3.result.now c.in_ok-found.found.cur.items names (bodies_of (i.given ++ whole)) c.new-engine.ensures.there c.in_ok-there.ensures c.deref-2.ensures.value c.deref-3.ensures.value look.2.1 look.2.2 in
     let few = given_few c.pieces.ended _ _ _ _ _ i.text (i.given ++ whole) i.gave in
     let few_all = few_bodies_of (i.given ++ whole) c.args.reads few c.requires in
-    let brought = one_batch _ _ _ i.given whole c.deref-in-pieces.result.now c.args.reads _ _ _ _ _ _ _ _ _ _ _ i.there c.deref-in-pieces.ensures.value few c.requires i.brought c.in_ok-deliver_all.ensures.brought in
+    let brought = one_batch _ _ _ i.given whole c.deref-in-pieces.result.now c.args.reads _ _ _ _ _ _ _ _ _ _ _ i.there c.deref-in-pieces.ensures.value few c.requires i.brought c.in_ok-deliver_entries.ensures.brought in
     let first = subst (λ (x : Calls). RanAll (listings names ++ sweep_of names.tmp) (at c.args.folder.now) (at c.sweep.new.folder) c.new-calls.result.made x.made) (sym c.new-engine.ensures.calls) before in
     let ran = ran_stop _ fault r.result _ _ _ _ _ r.ensures.1 c.in_err-ended-2.ensures.causes (whole_run _ names _ (messages_of (bodies_of (i.given ++ whole))) _ _ _ _ _ _ tells first brought.ran) in
     let gave = not_ended c.pieces.ended _ _ _ _ _ i.text (i.given ++ whole) c.if-ended.false i.gave in
@@ -277,7 +275,7 @@ returns-then-ended g c =
     let at = seen g.F.Folder.honest g.F.Folder.quiet g.F.Folder.files g.F.Folder.calls g.F.Folder.failures in
     let i = c.pieces.invariant in
     let whole = c.pieces.whole.items in
-    let engine = c.deliver_all.new.self in
+    let engine = c.deliver_entries.new.self in
     let look = c.in_ok-found.ensures.ran in
     let names = look.0 in
     let removed = ap sweep_of (ap (map string_bytes) c.deref.ensures.value ∙ look.2.0) in
@@ -287,11 +285,11 @@ returns-then-ended g c =
     let few = given_few c.pieces.ended _ _ _ _ _ i.text (i.given ++ whole) i.gave in
     let few_all = few_bodies_of (i.given ++ whole) c.args.reads few c.requires in
     let entries = c.deref-in-pieces.result.now in
-    let brought = one_batch _ _ _ i.given whole entries c.args.reads _ _ _ _ _ _ _ _ _ _ _ i.there c.deref-in-pieces.ensures.value few c.requires i.brought c.in_ok-deliver_all.ensures.brought in
+    let brought = one_batch _ _ _ i.given whole entries c.args.reads _ _ _ _ _ _ _ _ _ _ _ i.there c.deref-in-pieces.ensures.value few c.requires i.brought c.in_ok-deliver_entries.ensures.brought in
     let first = subst (λ (x : Calls). RanAll (listings names ++ sweep_of names.tmp) (at c.args.folder.now) (at c.sweep.new.folder) c.new-calls.result.made x.made) (sym c.new-engine.ensures.calls) before in
     let ran = ran_ok _ c.report.result _ _ _ _ _ (whole_run _ names _ (messages_of (bodies_of (i.given ++ whole))) _ _ _ _ _ _ tells first brought.ran) in
     let all = at_end c.pieces.ended _ _ _ _ _ i.text (i.given ++ whole) c.if-ended.true i.gave in
-    let count = batch_count c.pieces.engine.messages engine.messages i.given whole entries i.count c.in_ok-deliver_all.ensures.all c.deref-in-pieces.ensures.value in
+    let count = batch_count c.pieces.engine.messages engine.messages i.given whole entries i.count c.in_ok-deliver_entries.ensures.all c.deref-in-pieces.ensures.value in
     let placed = brought.placed_are ∙ ap (λ p. 2 * p + length (deliveries_of (contains_key c.new-engine.result.there) (messages_after [] (bodies_of (i.given ++ whole))))) c.new-engine.ensures.placed in
     let told = told names (i.given ++ whole) c.report.result _ engine.messages engine.placed tells count placed c.report.ensures.messages c.report.ensures.there c.report.ensures.placed
     (c.report.ensures.swept ∙ c.in_ok-swept.ensures.count ∙ ap length removed) in

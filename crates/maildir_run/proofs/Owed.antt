@@ -1,9 +1,8 @@
 -- What a run owes where it ends, from the tasks that it performed.
 use Rattle.std.proofs.Common.{◌≡◌, ℕ, ◌+◌, ◌-◌, ◌*◌, ◌<◌, ◌≤◌, ◌^◌, Bool, true, false, cond, Option, List, String, Global, string_bytes, [], ◌∷◌, ◌++◌, map, length, All, Result, Ok, Err, IfOk, OnOk, IsPermutation, IsTrue, refl, sym, ap, subst, ◌∙◌, inl, inr, arith, append_assoc, length-append}
-use Rattle.std.specs.Prelude.{IsErr, count_by}
-use Rattle.std.specs.List.{filter, flat_map}
+use Rattle.std.specs.Prelude.{IsErr}
+use Rattle.std.specs.List.{filter}
 use Rattle.std.specs.FinMap.{get, contains_key, keys}
-use Rattle.std.specs.Io.KnownBytes.{Consumes}
 use Rattle.std.proofs.lemmas.List.{append-nil, length-map}
 use Rattle.std.proofs.lemmas.List.Elements.{All-head, All-tail, All-nil, All-cons}
 use Rattle.std.proofs.lemmas.List.Sums.{length-filter, count_by-le-length}
@@ -17,26 +16,23 @@ use Rattle.maildir_run.specs.declared.report.Report.{Report}
 use Rattle.maildir_run.specs.Alone.{swept, filled, alone}
 use Rattle.maildir_run.specs.Bases.{BaseSet}
 use Rattle.maildir_run.specs.Counting.{capped, CountsFault, IsNumbered, Makes, Numbers}
-use Rattle.maildir_run.specs.declared.planner.Step.{Step}
-use Rattle.maildir_run.specs.declared.planner.Step.TheVariants.{Remove}
 use Rattle.maildir_run.specs.Delivery.{Message, IsSoundAt, IsMissing, Delivered, AreDistinct, Sound, has_home, there_count, leftover_count}
 use Rattle.maildir_run.specs.Files.{Files}
 use Rattle.maildir_run.specs.Given.{GaveAll}
 use Rattle.maildir_run.specs.Plan.{is_listed, planned}
-use Rattle.maildir_run.specs.Progress.{LeavesHomes, TmpWithin, Knows, Progress, IsTarget, message_at}
+use Rattle.maildir_run.specs.Progress.{TmpWithin, Knows, Progress, IsTarget, message_at}
 use Rattle.maildir_run.specs.Quietly.{LeavesOthers}
 use Rattle.maildir_run.specs.Runs.{Possible, Keeps, Run, CountsRun, Link, Runs}
 use Rattle.mbox_text.specs.Mbox.{Mbox}
 use Rattle.maildir_run.specs.Tasks.{Task, Do, Seen, Ran, RanAll, Brought, Performs, AllDone, Stopped, reported, undisturbed, Names, listings, sweep_of, tasks_of, planned_tasks, messages_after, delivery_of, delivery_if, deliveries_of}
 use Rattle.maildir_run.specs.Calls.{Removing}
 use Rattle.maildir_run.specs.Texts.{messages_of, bodies_of, MessagesOf}
-use Rattle.maildir_run.proofs.Counts.{run_counts}
+use Rattle.maildir_run.proofs.CallCounts.{run_counts}
 use Rattle.maildir_run.proofs.Maps.{is_name-true}
 use Rattle.maildir_run.proofs.Faults.{unless_ok}
 use Rattle.maildir_run.proofs.MessageLemmas.{text_named, text_distinct, text_targets, messages_of-push, messages_distinct, messages_targets, length-messages_of}
 use Rattle.maildir_run.proofs.Chains.{chain_delivered}
-use Rattle.maildir_run.proofs.Converts.{stands_keeps, front_stands, whole_text, whole_messages, none_done, no_messages, batch_bodies, batch_few}
-use Rattle.maildir_run.proofs.Givens.{First}
+use Rattle.maildir_run.proofs.PossibleMessages.{stands_keeps, front_stands, whole_text, whole_messages, none_done, no_messages, batch_bodies, batch_few}
 use Rattle.maildir_run.proofs.QuietRuns.{swept_free}
 use Rattle.maildir_run.proofs.Steps.{leaves_trans}
 use Rattle.maildir_run.proofs.Surveys.{filter-length}
@@ -45,7 +41,7 @@ use Rattle.maildir_run.proofs.Planned.{planned_are}
 use Rattle.maildir_run.proofs.Tasks.{ran_then, stopped_before, reported_stops}
 use Rattle.std.proofs.lemmas.List.Concat.{flat_map-append}
 use Rattle.maildir_run.proofs.Bringing.{brought_then}
-use Rattle.maildir_run.proofs.Told.{PlacesNone, AreOurs, all_leave, stopped_leave, all_parts, stopped_parts, looked, looked_quietly, all_swept, swept_quietly, listings_place_none, sweep_places_none, all_progress, stopped_came, CameTo, all_filled, performs_others}
+use Rattle.maildir_run.proofs.TaskEffects.{PlacesNone, AreOurs, all_leave, stopped_leave, all_parts, stopped_parts, looked, looked_quietly, all_swept, swept_quietly, listings_place_none, sweep_places_none, all_progress, stopped_came, CameTo, all_filled, performs_others}
 
 -- ---- messages of one text
 pub after_these : (xs ys : List (List ℕ)) → messages_of (xs ++ ys) ≡ messages_of xs ++ messages_after xs ys

@@ -1,28 +1,22 @@
 -- What a run has kept at its exits, for each text that its source may have had.
-use Rattle.std.proofs.Common.{◌≡◌, ℕ, ◌+◌, ◌-◌, ◌*◌, ◌<◌, ◌≤◌, ◌^◌, true, false, Option, Result, Ok, Err, List, [], ◌∷◌, ◌++◌, length, All, refl, sym, ap, subst, ◌∙◌, inl, inr, arith, append_assoc}
-use Rattle.std.specs.Prelude.{IsErr}
+use Rattle.std.proofs.Common.{◌≡◌, ℕ, ◌+◌, ◌*◌, ◌≤◌, ◌^◌, Option, Err, List, [], ◌++◌, length, sym, ap, subst, ◌∙◌, inl, inr, arith}
 use Rattle.std.specs.Io.KnownBytes.{Consumes}
 use Rattle.std.proofs.lemmas.List.{append-nil, map-append, length-append, length-map, nil_from_length}
 use Rattle.std.proofs.lemmas.List.Elements.{All-nil}
 use Rattle.mbox_text.specs.declared.entry.Entry.{Entry}
 use Rattle.mbox_text.specs.Mbox.{Mbox}
 use Rattle.mbox_text.proofs.OneReading.{mbox-one}
-use Rattle.maildir_name.specs.Named.{Counts}
 use Rattle.maildir_run.specs.declared.fault.RunFault.{RunFault}
-use Rattle.maildir_run.specs.declared.report.Report.{Report}
 use Rattle.maildir_run.specs.Files.{Files}
-use Rattle.maildir_run.specs.Bases.{BaseSet}
-use Rattle.maildir_run.specs.Delivery.{Message, IsSoundAt, IsHome, AreNamed, AreDistinct, Sound, there_count, leftover_count}
+use Rattle.maildir_run.specs.Delivery.{Message, IsHome, AreNamed, AreDistinct, Sound}
 use Rattle.maildir_run.specs.Texts.{messages_of, bodies_of, MessagesOf}
-use Rattle.maildir_run.specs.Runs.{Possible, Keeps, Run}
-use Rattle.maildir_run.specs.Progress.{LeavesHomes, Progress, Reached}
+use Rattle.maildir_run.specs.Runs.{Possible, Keeps}
+use Rattle.maildir_run.specs.Progress.{LeavesHomes, Progress}
 use Rattle.maildir_run.specs.Given.{GaveAll}
-use Rattle.maildir_run.specs.Alone.{swept, filled, alone}
-use Rattle.maildir_run.proofs.MessageLemmas.{text_named, text_distinct, length-messages_of}
+use Rattle.maildir_run.proofs.MessageLemmas.{length-messages_of}
 use Rattle.maildir_run.proofs.Progress.{Stands, progress_stands}
-use Rattle.maildir_run.proofs.Batches.{messages_more, sound_front}
+use Rattle.maildir_run.proofs.Batches.{messages_more}
 use Rattle.maildir_run.proofs.Givens.{First}
-use Rattle.maildir_run.proofs.Told.{CameTo}
 use Rattle.maildir_run.proofs.Poured.{read_is}
 
 pub none_done : (start now : Files) → LeavesHomes start now → Progress [] start now
@@ -72,4 +66,3 @@ batch_bodies given whole entries e = ap (λ es. bodies_of given ++ bodies_of es)
 
 pub batch_few : (given whole entries : List Entry) (reads : ℕ) → entries ≡ whole → length (given ++ whole) ≤ 65536 * reads → reads ≤ 2 ^ 40 → length (bodies_of given) + length entries ≤ 2 ^ 63
 batch_few given whole entries reads e few most = omega (arith, ap length e, length-append given whole, length-map given (λ (x : Entry). x.body))
-
