@@ -10,7 +10,7 @@ use Rattle.std.proofs.lemmas.List.Sorted.{IsPermutation-refl}
 use Rattle.maildir_run.specs.declared.report.Report.{Report}
 use Rattle.maildir_run.specs.Texts.{MessagesOf}
 use Rattle.maildir_run.specs.Runs.{Run, CountsRun}
-use Rattle.maildir_run.proofs.Counted.{counted}
+use Rattle.maildir_run.proofs.Leftovers.{counted}
 use Rattle.maildir_run.proofs.Numbers.{count-cons}
 use Rattle.maildir_run.specs.Alone.{swept, added, filled, alone}
 use Rattle.maildir_run.proofs.Maps.{total, same, get_under}

@@ -1,12 +1,9 @@
 -- What is said of an answer by its fault.
 use Rattle.std.proofs.Common.{◌≡◌, ℕ, ◌⊎◌, false, true, Result, Ok, Err, refl, sym, ◌∙◌, subst, inl, inr}
 use Rattle.std.specs.Prelude.{IsErr, IsErrAnd, IfOk, IfErr}
-use Rattle.maildir_run.specs.declared.folder.FolderFault.{FolderFault}
-use Rattle.maildir_run.specs.declared.folder.FolderFault.TheVariants.{Absent, Failed}
-use Rattle.maildir_run.specs.declared.folder.FolderFault.TheVariants as folder
 use Rattle.maildir_run.specs.declared.fault.RunFault.{RunFault}
-use Rattle.maildir_run.specs.declared.fault.RunFault.TheVariants.{NoFromLine, TooManyReads, FolderAbsent, FolderFailed, OutputFault, OutOfMemory}
-use Rattle.maildir_run.specs.Counting.{answered, CountsFault, IsNumbered, IsOfFolder}
+use Rattle.maildir_run.specs.declared.fault.RunFault.TheVariants.{NoFromLine, TooManyReads, OutputFault, OutOfMemory}
+use Rattle.maildir_run.specs.Counting.{CountsFault, IsOfFolder}
 use Rattle.maildir_run.specs.Reading.{IsReading}
 
 -- ---- with any fault
@@ -27,19 +24,6 @@ fault_is (Ok x) fault named h e = absurd (cc)
 fault_is (Err x) fault named h e = let same : x ≡ named = cc in sym h ∙ same
 
 -- ---- the fault of a folder call
-pub numbered_fault : {A T : Type 0} (number : ℕ) (r : Result A FolderFault) (fault : RunFault) (answer : Result T RunFault) → Err fault ≡ answered number r → IsErrAnd answer (λ e. e ≡ fault) → IsNumbered answer number
-numbered_fault number r fault (Ok x) e is = absurd is
-numbered_fault number (Ok v) fault (Err f) e is = absurd (cc)
-numbered_fault number (Err Absent) fault (Err f) e is = let same : f ≡ FolderAbsent = cc in rw same tt
-numbered_fault number (Err Failed) fault (Err f) e is = let same : f ≡ FolderFailed number = cc in rw same refl
-numbered_fault number (Err folder.OutOfMemory) fault (Err f) e is = let same : f ≡ OutOfMemory = cc in rw same tt
-
-pub fault_of_folder : {A : Type 0} (number : ℕ) (r : Result A FolderFault) (fault : RunFault) → Err fault ≡ answered number r → IsOfFolder fault
-fault_of_folder number (Ok v) fault e = absurd (cc)
-fault_of_folder number (Err Absent) fault e = let same : fault ≡ FolderAbsent = cc in rw same tt
-fault_of_folder number (Err Failed) fault e = let same : fault ≡ FolderFailed number = cc in rw same tt
-fault_of_folder number (Err folder.OutOfMemory) fault e = let same : fault ≡ OutOfMemory = cc in rw same tt
-
 -- it is not one of reading
 pub not_begun : {T : Type 0} (r : Result T RunFault) (fault : RunFault) → IsErrAnd r (λ e. e ≡ fault) → IsOfFolder fault → r ≡ Err NoFromLine → ⊥
 not_begun r fault is of e = subst IsOfFolder (fault_is r fault NoFromLine is e) of

@@ -2,7 +2,7 @@
 use Rattle.std.proofs.Common.{◌≡◌, ℕ, ◌*◌, ◌<◌, ◌≤◌, Bool, true, false, Option, Some, Ok, List, [], ◌∷◌, ◌++◌, length, refl, sym, ◌∙◌, ap, subst, arith, append_assoc, inl, inr}
 use Rattle.std.specs.Prelude.{◌==◌}
 use Rattle.std.specs.Io.KnownBytes.{Consumes}
-use Rattle.std.proofs.KnownBytes.{Consumes-trans, Consumes-nil}
+use Rattle.std.proofs.KnownBytes.{Consumes-trans}
 use Rattle.std.proofs.lemmas.Bool.{eqb-true, eq-eqb}
 use Rattle.std.proofs.lemmas.List.{append-nil, length-append}
 use Rattle.mbox_text.specs.declared.entry.Entry.{Entry}
@@ -20,9 +20,6 @@ use Rattle.maildir_run.specs.declared.messages.Messages.{Messages}
 use Rattle.maildir_run.specs.Reading.{Breaks, Went}
 use Rattle.maildir_run.specs.Given.{Gave, GaveAll, IsGiven, Refused}
 use Rattle.maildir_run.proofs.Poured.{read_is, mbox-length}
-
-pub gave_none : (before : Option (List ℕ)) (splitter : Splitter) (left reads : ℕ) → Fed [] [] splitter → left ≡ reads → Gave before before splitter left reads [] []
-gave_none before splitter left reads fed e = record { read = Consumes-nil before; budget = omega (arith, e); spent = omega (arith, e); fed = fed }
 
 -- one more read, with what became whole by it
 pub record GaveMore (ended : Bool) (before now : Option (List ℕ)) (splitter : Splitter) (left reads : ℕ) (given : List Entry) : Type 0 where

@@ -1,4 +1,4 @@
--- What the homes of a converter's b hold, after an action of another program.
+-- What the homes of a converter's base hold, after an action of another program.
 use Rattle.std.proofs.Common.{◌≡◌, ℕ, Bool, true, false, cond, not, List, [], ◌∷◌, ◌++◌, Option, Some, None, IsPermutation, IsTrue, refl, sym, ap, subst, ◌∙◌, inl, inr}
 use Rattle.std.specs.FinMap.{get, insert, remove, values, entries, retain_keys, find, get-entries, get-from_entries, get-remove}
 use Rattle.std.specs.Option.{is_some}
@@ -8,7 +8,7 @@ use Rattle.maildir_name.specs.Names.{base, is_converter_name, is_converter_base}
 use Rattle.maildir_run.specs.Files.{name_cmp, is_name, FileMap, Files, has_base, held_under, homes, Action, ToCur, Reflag, DropTmp, Outside, outsiders_of, may_take, to_cur, reflag, acted}
 use Rattle.maildir_run.proofs.Maps.{total, is_name-true, get_under, under_same, under_insert, under_insert_other, under_remove, under_remove_other, values-insert, values-remove}
 
--- ---- one folder, under one b
+-- ---- one folder, under one base
 pub held_same : (b : List ℕ) (m n : FileMap) → ((q : List ℕ) → has_base b q ≡ true → get m q ≡ get n q) → held_under b m ≡ held_under b n
 held_same b m n alike = ap values (under_same (has_base b) m n alike)
 
@@ -43,7 +43,7 @@ get-outsiders_of ours theirs q h =
     ∙ find-both q (entries mine) (entries other) none
     ∙ sym (get-entries mine q) ∙ get_under is_converter_name ours q ∙ rw h refl
 
--- a name that has a converter's b is a converter's
+-- a name that has a converter's base is a converter's
 pub converters : (b q : List ℕ) → IsTrue (is_converter_base b) → has_base b q ≡ true → is_converter_name q ≡ true
 converters b q named h = ap is_converter_base (sym (is_name-true b (base q) h)) ∙ named
 

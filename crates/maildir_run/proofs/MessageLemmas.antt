@@ -113,3 +113,7 @@ text_named t ms (inr (none, e)) small = subst AreNamed (sym e) (All-nil (λ (m :
 pub text_distinct : (t : List ℕ) (ms : List Message) → MessagesOf t ms → length t < 2 ^ 63 → AreDistinct ms
 text_distinct t ms (inl (entries, is, e)) small = subst AreDistinct (sym e) (messages_distinct (bodies_of entries) (few_bodies t entries is small))
 text_distinct t ms (inr (none, e)) small = subst AreDistinct (sym e) (λ i j d lt below. absurd (omega arith))
+
+pub text_targets : (t : List ℕ) (ms : List Message) → MessagesOf t ms → length t < 2 ^ 63 → All (λ m. IsTarget m.target) ms
+text_targets t ms (inl (entries, is, e)) small = subst (All (λ m. IsTarget m.target)) (sym e) (messages_targets (bodies_of entries) (omega (arith, few_bodies t entries is small)))
+text_targets t ms (inr (none, e)) small = subst (All (λ m. IsTarget m.target)) (sym e) (All-nil (λ (m : Message). IsTarget m.target))

@@ -1,4 +1,4 @@
--- What a call's moves leave: of the homes of a b, and of a name in tmp.
+-- What a call's moves leave: of the homes of a base, and of a name in tmp.
 use Rattle.std.proofs.Common.{◌≡◌, ℕ, Bool, true, false, cond, List, [], ◌∷◌, ◌++◌, ◌⊎◌, Option, Some, None, IsPermutation, IsTrue, refl, sym, ap, subst, ◌∙◌, inl, inr, map, arith}
 use Rattle.std.specs.FinMap.{get, insert, remove, values, contains_key, entries, retain_keys, empty, get-entries, get-insert, get-remove, get-empty, same_map, len, len-empty, len-entries}
 use Rattle.std.specs.Option.{is_some}
@@ -13,7 +13,7 @@ use Rattle.maildir_run.specs.Calls.{Call, Listing, Writing, Placing, Removing, M
 use Rattle.maildir_run.proofs.Maps.{total, same, get_under, get-insert_same, get-remove_same}
 use Rattle.maildir_run.proofs.Homes.{Kept, equally, acted_kept, held-insert_other, held-insert_new, get-outsiders_of}
 
--- ---- a b at which nothing is placed
+-- ---- a base at which nothing is placed
 placed_kept : (b : List ℕ) (name : List ℕ) (p : Place) (target : List ℕ) → has_base b target ≡ false → (o : Option (List ℕ)) (s : Files) → Kept b s (placed s name p target o)
 placed_kept b name p target off None s = IsPermutation-refl _
 placed_kept b name New target off (Some bytes) s = equally b s (placed s name New target (Some bytes)) (rw (held-insert_other b s.new target bytes off) refl)
@@ -119,7 +119,7 @@ homes_none b old new h e = none_kept (homes new b) (subst (λ hs. IsPermutation 
 pub homes_one : (b x : List ℕ) (old new : Files) → Kept b old new → homes old b ≡ x ∷ [] → homes new b ≡ x ∷ []
 homes_one b x old new h e = one_kept x (homes new b) (subst (λ hs. IsPermutation hs (homes new b)) e h)
 
--- ---- no file under a b
+-- ---- no file under a base
 no_entries : (es : List (List ℕ × List ℕ)) → map (λ e. e.1) es ≡ [] → es ≡ []
 no_entries [] e = refl
 no_entries (x ∷ es) e = cc
@@ -142,7 +142,7 @@ held_none b m none =
     let is : retain_keys m (has_base b) ≡ empty = same_map total same _ _ (λ q. get_under (has_base b) m q ∙ guarded_none (has_base b q) _ (none q) ∙ sym (get-empty name_cmp q)) in
     no_values (retain_keys m (has_base b)) (ap len is ∙ len-empty name_cmp (List ℕ))
 
--- ---- a b that has no home, at which a call places
+-- ---- a base that has no home, at which a call places
 pub both_none : {X : Type 0} (xs ys : List X) → xs ++ ys ≡ [] → (xs ≡ []) × (ys ≡ [])
 both_none [] ys e = (refl, e)
 both_none (x ∷ xs) ys e = cc
@@ -162,7 +162,7 @@ pub record Arrived (b name : List ℕ) (had : Option (List ℕ)) (s : Files) : T
 homes_first : (xs ys : List (List ℕ)) (v : List ℕ) (zs : List (List ℕ)) → xs ++ ys ≡ [] → IsPermutation (v ∷ (xs ++ ys)) zs → zs ≡ v ∷ []
 homes_first xs ys v zs e h = one_kept v zs (subst (λ l. IsPermutation (v ∷ l) zs) e h)
 
--- a b that has no home, and then the file of tmp
+-- a base that has no home, and then the file of tmp
 placed_first : (b name : List ℕ) (p : Place) (target bytes : List ℕ) (s : Files) → has_base b target ≡ true → homes s b ≡ [] → homes (placed s name p target (Some bytes)) b ≡ bytes ∷ []
 placed_first b name New target bytes s on e =
     let parts = both_none (held_under b s.new) (held_under b s.cur) e in
@@ -257,7 +257,7 @@ pub after-append : (s : Files) (call : Call) (ms ns : List Move) → after s cal
 after-append s call [] ns = refl
 after-append s call (m ∷ ms) ns = after-append (moved call m s) call ms ns
 
--- whatever a call that places at a b without a home answers
+-- whatever a call that places at a base without a home answers
 pub placing : (b name : List ℕ) (p : Place) (target : List ℕ) → IsTrue (is_converter_base b) → IsTrue (is_converter_name name) → has_base b target ≡ true → (ms : List Move) (s : Files) → homes s b ≡ [] → Stage b name (get s.tmp name) (after s (Placing name p target) ms)
 placing b name p target named ours on ms s e = stage_after b name p target named ours on (get s.tmp name) ms s (inl record { homes_are = e; waiting = inl refl })
 

@@ -2,18 +2,15 @@
 use Rattle.std.proofs.Common.{◌≡◌, ℕ, ◌<◌, ◌≤◌, false, List, [], ◌∷◌, ◌++◌, All, IsPermutation, IsFalse, length, get_or, refl, sym, subst, ◌∙◌, inl, inr, ◌⊎◌, arith}
 use Rattle.std.specs.Prelude.{AllPairs}
 use Rattle.std.proofs.lemmas.Bool.{or_parts, cases_Bool, cases_lt}
-use Rattle.std.proofs.lemmas.List.Elements.{All-push, All-nil, All-from_get_or}
+use Rattle.std.proofs.lemmas.List.Elements.{All-push, All-from_get_or}
 use Rattle.std.proofs.lemmas.List.{get_or_append_left}
 use Rattle.std.proofs.lemmas.List.Folds.{list_any-append, list_any_none}
 use Rattle.std.proofs.lemmas.List.Sorted.{IsPermutation-refl, IsPermutation-sym, IsPermutation-trans}
 use Rattle.maildir_run.specs.Files.{Files, is_name, homes}
-use Rattle.maildir_run.specs.Delivery.{Message, IsMissing, IsHome, IsSoundAt, HasHome, is_any, AreNamed, AreDistinct, is_base_of, Sound, IsSwept, Delivered}
+use Rattle.maildir_run.specs.Delivery.{Message, IsMissing, IsHome, IsSoundAt, HasHome, is_any, AreNamed, AreDistinct, is_base_of, Sound}
 use Rattle.maildir_run.specs.Progress.{LeavesHomes, Brings, Progress}
 use Rattle.maildir_run.proofs.Maps.{is_name-true}
 use Rattle.maildir_run.proofs.Moves.{homes_none, homes_one, none_kept}
-
-pub progress_start : (s : Files) → Progress [] s s
-progress_start s = record { homes_are = All-nil _; kept = λ base named other. IsPermutation-refl _ }
 
 -- a call that leaves the homes
 pub progress_on : (done : List Message) (old mid now : Files) → AreNamed done → LeavesHomes mid now → Progress done old mid → Progress done old now
@@ -68,9 +65,6 @@ pub record Stands (ms : List Message) (old now : Files) : Type 0 where
 
 at_done : (P : Message → Type 0) (done rest : List Message) (k : ℕ) (d : Message) → k < length done → P (get_or done k d) → P (get_or (done ++ rest) k d)
 at_done P done rest k d lt h = subst P (sym (get_or_append_left done rest d k lt)) h
-
-nil_cons : {X : Type 0} (x : X) (xs : List X) → [] ≡ x ∷ xs → ⊥
-nil_cons x xs e = cc
 
 module _ (done rest : List Message) (old now : Files) (named : AreNamed (done ++ rest)) (distinct : AreDistinct (done ++ rest)) (sound : Sound (done ++ rest) old old) (p : Progress done old now) where
   base_apart : (k : ℕ) (d : Message) → length done ≤ k → k < length (done ++ rest) → IsFalse (is_base_of done (get_or (done ++ rest) k d).target.base)
@@ -133,6 +127,3 @@ progress_or_more done m old mid now named apart was brings p =
       | inl is ↦ inl (progress_on done old mid now named (nothing_brought m mid now was is brings) p)
       | inr home ↦ inr (progress_brought done m old mid now named apart brings home p)
     ]
-
-pub progress_delivered : (ms : List Message) (old now : Files) → Progress ms old now → IsSwept now → Delivered ms now
-progress_delivered ms old now p swept = record { homes_are = p.homes_are; swept = swept }

@@ -14,8 +14,8 @@ use Rattle.maildir_run.specs.Delivery.{has_home, is_any, leftover_count}
 use Rattle.maildir_run.specs.Plan.{is_listed}
 use Rattle.maildir_run.specs.Progress.{TmpWithin}
 use Rattle.maildir_run.proofs.Moves.{homes_none, both_none, after_kept}
-use Rattle.maildir_run.proofs.Listed.{listed_new, listed_cur}
-use Rattle.maildir_run.proofs.Counted.{counted, acted_count}
+use Rattle.maildir_run.proofs.ListedNowhere.{listed_new, listed_cur}
+use Rattle.maildir_run.proofs.Leftovers.{counted, acted_count}
 use Rattle.maildir_run.proofs.Steps.{listing_leaves, not_shown, called_tmp, within_on}
 use Rattle.maildir_run.proofs.Progress.{any_kept}
 

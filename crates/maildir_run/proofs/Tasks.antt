@@ -15,12 +15,12 @@ use Rattle.maildir_run.specs.declared.folder.FolderFault.TheVariants.{Absent, Fa
 use Rattle.maildir_run.specs.declared.folder.FolderFault.TheVariants as folder
 use Rattle.maildir_run.specs.declared.folder.Sub.{Sub}
 use Rattle.maildir_run.specs.Calls.{Call, Called, CalledQuietly, Listed, Listing, GoesUp, CountsFailure, folder_of, names_of}
-use Rattle.maildir_run.specs.Counting.{answered, capped, CountsFault, IsNumbered}
+use Rattle.maildir_run.specs.Counting.{run_answer, capped, CountsFault, IsNumbered}
 use Rattle.maildir_run.specs.Files.{Files}
 use Rattle.maildir_run.specs.Tasks.{Task, Ask, Do, Way, reported, undisturbed, AllDone, Stopped, Performs, Seen, Ran, RanAll, names_in}
 use Rattle.maildir_run.specs.Reading.{IsReading}
 use Rattle.maildir_run.proofs.Faults.{cause_read}
-use Rattle.maildir_run.proofs.Counts.{one_call, more_calls, no_call, reading_numbered}
+use Rattle.maildir_run.proofs.CallCounts.{one_call, more_calls, no_call, reading_numbered}
 
 -- ---- a way in which nothing need happen
 abbrev pub MayStop : Way → Type 0
@@ -180,19 +180,19 @@ ran_stop {A} {B} x fault (Err e) xs a b made made' is reading h = record {
 }
 
 -- ---- one call
-told : {A : Type 0} (w : Way) (xs : List Task) (old : Files) (r : Result A FolderFault) (new : Files) (number : ℕ) → Performs w xs old r new → Performs w xs old (answered number r) new
+told : {A : Type 0} (w : Way) (xs : List Task) (old : Files) (r : Result A FolderFault) (new : Files) (number : ℕ) → Performs w xs old r new → Performs w xs old (run_answer number r) new
 told w xs old (Ok v) new number h = h
 told w xs old (Err Absent) new number h = h
 told w xs old (Err Broken) new number h = h
 told w xs old (Err folder.OutOfMemory) new number h = h
 
-told_cause : {A : Type 0} (r : Result A FolderFault) (number old new : ℕ) → CountsFailure r old new → CountsFault (answered number r) old new
+told_cause : {A : Type 0} (r : Result A FolderFault) (number old new : ℕ) → CountsFailure r old new → CountsFault (run_answer number r) old new
 told_cause (Ok v) number old new h = h
 told_cause (Err Absent) number old new h = h
 told_cause (Err Broken) number old new h = h
 told_cause (Err folder.OutOfMemory) number old new h = h
 
-told_number : {A : Type 0} (r : Result A FolderFault) (number : ℕ) → IsNumbered (answered number r) number
+told_number : {A : Type 0} (r : Result A FolderFault) (number : ℕ) → IsNumbered (run_answer number r) number
 told_number (Ok v) number = tt
 told_number (Err Absent) number = tt
 told_number (Err Broken) number = refl
@@ -211,7 +211,7 @@ pub record Says {A : Type 0} (task : Task) (old new : Seen) (r : Result A Folder
   pub counted : GoesUp old.calls new.calls
   pub cause : CountsFailure r old.failures new.failures
 
-ran_one : {A : Type 0} (task : Task) (old new : Seen) (made made' : ℕ) (r : Result A FolderFault) (answer : Result A RunFault) → made' ≡ capped (made + 1) → answer ≡ answered made' r → Says task old new r → Ran (task ∷ []) old new made made' answer
+ran_one : {A : Type 0} (task : Task) (old new : Seen) (made made' : ℕ) (r : Result A FolderFault) (answer : Result A RunFault) → made' ≡ capped (made + 1) → answer ≡ run_answer made' r → Says task old new r → Ran (task ∷ []) old new made made' answer
 ran_one task old new made made' r answer up is h = subst (Ran (task ∷ []) old new made made') (sym is) (record {
   honest = h.honest;
   reported_of = λ q. told reported (task ∷ []) old.files r new.files made' (h.reported_of q);
@@ -219,7 +219,7 @@ ran_one task old new made made' r answer up is h = subst (Ran (task ∷ []) old 
   undisturbed_of = λ q. told undisturbed (task ∷ []) old.files r new.files made' (h.undisturbed_of q);
   n = 1;
   most = omega arith;
-  all = one_all (answered made' r) 1 refl;
+  all = one_all (run_answer made' r) 1 refl;
   makes = one_call _ _ _ _ up h.counted;
   cause = told_cause r made' _ _ h.cause;
   numbered = told_number r made';
@@ -241,14 +241,14 @@ ask_undisturbed : (sub : Sub) (old : Files) (r : Result (Vec (String Global) Glo
 ask_undisturbed sub old (Ok v) new h names = (new, (h.1, names), refl)
 ask_undisturbed sub old (Err e) new h names = inl h
 
-told_names_in : (r : Result (Vec (String Global) Global) FolderFault) (number : ℕ) → names_in (answered number r) ≡ names_in r
+told_names_in : (r : Result (Vec (String Global) Global) FolderFault) (number : ℕ) → names_in (run_answer number r) ≡ names_in r
 told_names_in (Ok v) number = refl
 told_names_in (Err Absent) number = refl
 told_names_in (Err Broken) number = refl
 told_names_in (Err folder.OutOfMemory) number = refl
 
 -- a write, a placement or a removal
-pub ran_do : {A : Type 0} (call : Call) (old new : Seen) (made made' : ℕ) (r : Result A FolderFault) (answer : Result A RunFault) → made' ≡ capped (made + 1) → answer ≡ answered made' r → (old.honest → new.honest) → (old.honest → Called call old.files r new.files) → (old.quiet → new.quiet) → (old.quiet → CalledQuietly call old.files r new.files) → GoesUp old.calls new.calls → CountsFailure r old.failures new.failures → Ran (Do call ∷ []) old new made made' answer
+pub ran_do : {A : Type 0} (call : Call) (old new : Seen) (made made' : ℕ) (r : Result A FolderFault) (answer : Result A RunFault) → made' ≡ capped (made + 1) → answer ≡ run_answer made' r → (old.honest → new.honest) → (old.honest → Called call old.files r new.files) → (old.quiet → new.quiet) → (old.quiet → CalledQuietly call old.files r new.files) → GoesUp old.calls new.calls → CountsFailure r old.failures new.failures → Ran (Do call ∷ []) old new made made' answer
 ran_do call old new made made' r answer up is honest called quiet alone counted cause = ran_one (Do call) old new made made' r answer up is (record {
   honest = honest;
   reported_of = λ h. do_reported call old.files r new.files (called h);
@@ -259,7 +259,7 @@ ran_do call old new made made' r answer up is honest called quiet alone counted 
 })
 
 -- a listing
-pub ran_ask : (sub : Sub) (old new : Seen) (made made' : ℕ) (r : Result (Vec (String Global) Global) FolderFault) (answer : Result (Vec (String Global) Global) RunFault) → made' ≡ capped (made + 1) → answer ≡ answered made' r → (old.honest → new.honest) → (old.honest → Listed sub old.files r new.files) → (old.quiet → new.quiet) → (old.quiet → CalledQuietly (Listing sub) old.files r new.files) → (old.quiet → IfOk r (λ v. IsPermutation (names_of v) (keys (folder_of sub old.files)))) → GoesUp old.calls new.calls → CountsFailure r old.failures new.failures → Ran (Ask sub (names_in answer) ∷ []) old new made made' answer
+pub ran_ask : (sub : Sub) (old new : Seen) (made made' : ℕ) (r : Result (Vec (String Global) Global) FolderFault) (answer : Result (Vec (String Global) Global) RunFault) → made' ≡ capped (made + 1) → answer ≡ run_answer made' r → (old.honest → new.honest) → (old.honest → Listed sub old.files r new.files) → (old.quiet → new.quiet) → (old.quiet → CalledQuietly (Listing sub) old.files r new.files) → (old.quiet → IfOk r (λ v. IsPermutation (names_of v) (keys (folder_of sub old.files)))) → GoesUp old.calls new.calls → CountsFailure r old.failures new.failures → Ran (Ask sub (names_in answer) ∷ []) old new made made' answer
 ran_ask sub old new made made' r answer up is honest called quiet alone names counted cause =
     subst (λ xs. Ran (Ask sub xs ∷ []) old new made made' answer) (sym (ap names_in is ∙ told_names_in r made'))
     (ran_one (Ask sub (names_in r)) old new made made' r answer up is (record {

@@ -17,11 +17,11 @@ abbrev pub capped : ℕ → ℕ
 capped n = min n 18446744073709551615
 
 -- the answer of a folder call, as the run gives it; this is the number of the call
-abbrev pub answered : {A : Type 0} → ℕ → Result A FolderFault → Result A RunFault
-answered number (Ok value) = Ok value
-answered number (Err Absent) = Err FolderAbsent
-answered number (Err Failed) = Err (FolderFailed number)
-answered number (Err folder.OutOfMemory) = Err OutOfMemory
+abbrev pub run_answer : {A : Type 0} → ℕ → Result A FolderFault → Result A RunFault
+run_answer number (Ok value) = Ok value
+run_answer number (Err Absent) = Err FolderAbsent
+run_answer number (Err Failed) = Err (FolderFailed number)
+run_answer number (Err folder.OutOfMemory) = Err OutOfMemory
 
 -- the count of failures goes up with `FolderAbsent` and `FolderFailed`, and with no other answer
 abbrev pub CountsFault : {A : Type 0} → Result A RunFault → ℕ → ℕ → Type 0

@@ -18,5 +18,5 @@ pub mod MemFolder
 pub mod Output
 pub mod Quietly
 pub mod Listing
-pub mod Listed
+pub mod ListedSoFar
 pub mod Tasks

@@ -1,6 +1,6 @@
 // The number of folder calls that a run made, for its faults.
 ghost use Rattle.std.specs.Prelude.{◌≡◌, ◌+◌, [], ◌∷◌, IfErr};
-ghost use Rattle.maildir_run.specs.Counting.{capped, answered as answered_by, IsOfFolder};
+ghost use Rattle.maildir_run.specs.Counting.{capped, run_answer, IsOfFolder};
 ghost use Rattle.maildir_run.specs.Calls.Call.{Writing, Placing, Removing};
 ghost use Rattle.maildir_run.specs.Tasks.{Ran, seen, names_in};
 ghost use Rattle.maildir_run.specs.Tasks.Task.{Ask, Do};
@@ -24,9 +24,9 @@ impl Calls {
     }
 
     /// Counts a call with this answer, and gives the answer as the run's: a call that failed has its number in the fault.
-    pub(crate) fn answered<T>(&mut self, answer: Result<T, FolderFault>) -> Result<T, RunFault>
+    pub(crate) fn answer<T>(&mut self, answer: Result<T, FolderFault>) -> Result<T, RunFault>
         ensures made { self.new.made ≡ capped (self.old.made + 1) }
-        ensures is { result ≡ answered_by self.new.made answer }
+        ensures is { result ≡ run_answer self.new.made answer }
         ensures causes { IfErr result IsOfFolder }
     {
         self.made = self.made.saturating_add(1);
@@ -49,7 +49,7 @@ impl Calls {
         ensures causes { IfErr result IsOfFolder }
     {
         let answer = folder.list(sub);
-        self.answered(answer)
+        self.answer(answer)
     }
 
     /// Writes a file into `tmp`.
@@ -64,7 +64,7 @@ impl Calls {
         ensures causes { IfErr result IsOfFolder }
     {
         let answer = folder.write(name, bytes);
-        self.answered(answer)
+        self.answer(answer)
     }
 
     /// Moves a file of `tmp` to `new` or `cur`.
@@ -80,7 +80,7 @@ impl Calls {
         ensures causes { IfErr result IsOfFolder }
     {
         let answer = folder.place(name, place, target);
-        self.answered(answer)
+        self.answer(answer)
     }
 
     /// Removes a file of `tmp`.
@@ -90,6 +90,6 @@ impl Calls {
         ensures causes { IfErr result IsOfFolder }
     {
         let answer = folder.remove(name);
-        self.answered(answer)
+        self.answer(answer)
     }
 }

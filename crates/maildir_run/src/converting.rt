@@ -11,6 +11,7 @@ ghost use Rattle.maildir_run.specs.Given.{Begins, Refused};
 ghost use Rattle.maildir_run.specs.Quietly.{LeavesOthers};
 ghost use Rattle.maildir_run.specs.Reading.{IsReading, ReadsAtLeast, ReadsAtMost, Taken};
 ghost use Rattle.maildir_run.specs.Runs.{CountsRun, Link, Possible, Run, Runs};
+ghost use Rattle.maildir_run.specs.Tasks.{Names, Performs, reported, planned_tasks};
 ghost use Rattle.maildir_run.specs.Texts.{MessagesOf};
 
 use crate::bases::Bases;
@@ -44,6 +45,8 @@ pub fn convert<F: Folder, R: Read>(
 ) -> Result<Report, RunFault>
     requires { reads ≤ 2 ^ 40 }
     ensures honest { F.honest folder.old → F.honest folder.new }
+    ensures as_planned { F.honest folder.old → (t : List ℕ) (ms : List Due) → Possible (R.remaining source.old) (R.remaining source.new) t → MessagesOf t ms →
+        (names : Names) × Performs reported (planned_tasks names ms) (F.files folder.old) result (F.files folder.new) }
     ensures run { F.honest folder.old → (t : List ℕ) → length t < 2 ^ 63 → Possible (R.remaining source.old) (R.remaining source.new) t → Run t (F.files folder.old) result (F.files folder.new) }
     ensures restartable { F.honest folder.old → (t : List ℕ) (ms : List Due) (links : List Link) (start : Files) → length t < 2 ^ 63 →
         Possible (R.remaining source.old) (R.remaining source.new) t → MessagesOf t ms → All (IsMissing start) ms →
@@ -78,7 +81,7 @@ pub fn convert<F: Folder, R: Read>(
     let there = Bases::listed(alloc, &found.new, &found.cur)?;
     let mut engine = Engine::new(alloc, there, calls);
     'pieces: loop {
-        engine.deliver_all(folder, &whole)?;
+        engine.deliver_entries(folder, &whole)?;
         if ended {
             return Ok(engine.report(swept));
         }

@@ -79,7 +79,7 @@ impl<'a> Engine<'a> {
     }
 
     /// Brings the messages of some entries, in their order.
-    pub(crate) fn deliver_all<F: Folder>(
+    pub(crate) fn deliver_entries<F: Folder>(
         &mut self,
         folder: &mut F,
         entries: &[Entry],

@@ -1,7 +1,7 @@
 use Rattle.std.proofs.Common.{◌++◌, ◌<◌, ◌^◌, List, length}
 use Rattle.mbox_text.specs.declared.entry.Entry.{Entry}
-use Rattle.maildir_run.specs.Listed.{HasListed}
-use Rattle.maildir_run.proofs.Listings.{ListedTo}
+use Rattle.maildir_run.specs.ListedSoFar.{HasListed}
+use Rattle.maildir_run.proofs.ListLines.{ListedTo}
 use Rattle.maildir_run.proofs.listing.Lister.list.Given as goal
 
 abbrev pub invariant-loop-entry : goal.invariant-loop-entry

@@ -2,7 +2,7 @@ use Rattle.std.proofs.Common.{◌≡◌, ◌+◌, [], ◌∷◌, length, arith, 
 use Rattle.std.proofs.lemmas.List.{length-append, length-map}
 use Rattle.mbox_text.specs.declared.entry.Entry.{Entry}
 use Rattle.maildir_run.specs.Listing.{listed}
-use Rattle.maildir_run.proofs.Listings.{bodies, lists_none, lists_err, listing-push, listed_more}
+use Rattle.maildir_run.proofs.ListLines.{bodies, lists_none, lists_err, listing-push, listed_more}
 use Rattle.maildir_run.proofs.listing.Lister.list_one.Goals as goal
 
 pub returns-in_default-clause-lists : goal.returns-in_default-clause-lists

@@ -1,5 +1,5 @@
 use Rattle.std.proofs.Common.{rules}
-use Rattle.maildir_run.proofs.calls.Calls.answered.Goals as goal
+use Rattle.maildir_run.proofs.calls.Calls.answer.Goals as goal
 
 pub returns-in-Ok-clause-made : goal.returns-in-Ok-clause-made
 returns-in-Ok-clause-made g c = c.saturating_add-self.ensures

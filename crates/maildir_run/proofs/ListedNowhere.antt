@@ -1,4 +1,4 @@
--- A b that two listings do not show has no home.
+-- A base that two listings do not show has no home.
 use Rattle.std.proofs.Common.{◌≡◌, ℕ, Bool, true, false, cond, ◌||◌, List, [], ◌∷◌, Option, Some, None, IsPermutation, IsTrue, IsFalse, refl, sym, ap, subst, ◌∙◌, inl, inr}
 use Rattle.std.specs.List.{list_any}
 use Rattle.std.specs.FinMap.{get, remove, insert, keys, contains_key-keys, get-remove}
@@ -32,7 +32,7 @@ pub unlisted : (b : List ℕ) (m : FileMap) (names : List (List ℕ)) → IsPerm
 unlisted b m names listed off =
     held_none b m (λ q on. nothing (get m q) (contains_key-keys m q ∙ none_alike b q on (keys m) (sym (list_any-IsPermutation (has_base b) names (keys m) listed) ∙ off)))
 
--- ---- nobody brings a file of this b into `new`
+-- ---- nobody brings a file of this base into `new`
 either : {X : Type 0} (t : Bool) (o : Option X) → o ≡ None → cond t None o ≡ None
 either true o e = refl
 either false o e = e
@@ -70,7 +70,7 @@ pub all_acted_new : (b : List ℕ) → IsTrue (is_converter_base b) → (actions
 all_acted_new b named [] s e = e
 all_acted_new b named (action ∷ actions) s e = all_acted_new b named actions (acted action s) (acted_new b named action s e)
 
--- after a listing of `new` that does not show it, `new` has no file of the b
+-- after a listing of `new` that does not show it, `new` has no file of the base
 pub listed_new : (b : List ℕ) → IsTrue (is_converter_base b) → (old : Files) (names : List (List ℕ)) (new : Files) → Lists New old names new → IsFalse (list_any (has_base b) names) → held_under b new.new ≡ []
 listed_new b named old names new listed off =
     let mid = after old (Listing New) listed.before in

@@ -2,7 +2,7 @@ use Rattle.std.proofs.Common.{◌+◌, ◌<◌, [], ◌++◌, length, take, drop
 use Rattle.maildir_run.specs.Texts.{bodies_of}
 use Rattle.maildir_run.proofs.Batches.{bodies_next, bodies_split, few_next}
 use Rattle.maildir_run.proofs.Bringing.{brought_then, brought_before}
-use Rattle.maildir_run.proofs.engine.Engine.deliver_all.Goals as goal
+use Rattle.maildir_run.proofs.engine.Engine.deliver_entries.Goals as goal
 
 pub returns-in_err-deliver-clause-brought : goal.returns-in_err-deliver-clause-brought
 returns-in_err-deliver-clause-brought g c = λ bodies named few.

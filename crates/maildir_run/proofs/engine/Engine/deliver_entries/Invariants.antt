@@ -3,7 +3,7 @@ use Rattle.std.specs.FinMap.{contains_key}
 use Rattle.maildir_name.specs.Named.{Named}
 use Rattle.maildir_run.specs.Tasks.{Brought, seen}
 use Rattle.maildir_run.specs.Texts.{bodies_of}
-use Rattle.maildir_run.proofs.engine.Engine.deliver_all.Given as goal
+use Rattle.maildir_run.proofs.engine.Engine.deliver_entries.Given as goal
 
 abbrev pub invariant-loop-entry : goal.invariant-loop-entry
 invariant-loop-entry g l =

@@ -15,7 +15,7 @@ use Rattle.maildir_name.specs.declared.target.Target.{Target}
 use Rattle.maildir_name.specs.Named.{Counts, Named}
 use Rattle.maildir_name.specs.Targets.{targets}
 use Rattle.maildir_name.proofs.TargetLemmas.{length-targets, targets-prefix}
-use Rattle.maildir_run.specs.Listed.{HasListed}
+use Rattle.maildir_run.specs.ListedSoFar.{HasListed}
 use Rattle.maildir_run.specs.Listing.{info, listed, lines_from, listing, place_word, shown_byte, shown_sender}
 use Rattle.maildir_run.proofs.Poured.{IsOutput}
 

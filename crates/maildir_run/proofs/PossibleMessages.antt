@@ -1,0 +1,68 @@
+-- What a run has kept at its exits, for each text that its source may have had.
+use Rattle.std.proofs.Common.{◌≡◌, ℕ, ◌+◌, ◌*◌, ◌≤◌, ◌^◌, Option, Err, List, [], ◌++◌, length, sym, ap, subst, ◌∙◌, inl, inr, arith}
+use Rattle.std.specs.Io.KnownBytes.{Consumes}
+use Rattle.std.proofs.lemmas.List.{append-nil, map-append, length-append, length-map, nil_from_length}
+use Rattle.std.proofs.lemmas.List.Elements.{All-nil}
+use Rattle.mbox_text.specs.declared.entry.Entry.{Entry}
+use Rattle.mbox_text.specs.Mbox.{Mbox}
+use Rattle.mbox_text.proofs.OneReading.{mbox-one}
+use Rattle.maildir_run.specs.declared.fault.RunFault.{RunFault}
+use Rattle.maildir_run.specs.Files.{Files}
+use Rattle.maildir_run.specs.Delivery.{Message, IsHome, AreNamed, AreDistinct, Sound}
+use Rattle.maildir_run.specs.Texts.{messages_of, bodies_of, MessagesOf}
+use Rattle.maildir_run.specs.Runs.{Possible, Keeps}
+use Rattle.maildir_run.specs.Progress.{LeavesHomes, Progress}
+use Rattle.maildir_run.specs.Given.{GaveAll}
+use Rattle.maildir_run.proofs.MessageLemmas.{length-messages_of}
+use Rattle.maildir_run.proofs.Progress.{Stands, progress_stands}
+use Rattle.maildir_run.proofs.Batches.{messages_more}
+use Rattle.maildir_run.proofs.Givens.{First}
+use Rattle.maildir_run.proofs.Poured.{read_is}
+
+pub none_done : (start now : Files) → LeavesHomes start now → Progress [] start now
+none_done start now leaves = record { homes_are = All-nil (IsHome now); kept = λ b named off. leaves.kept b named }
+
+pub no_messages : messages_of [] ≡ []
+no_messages = nil_from_length (messages_of []) (length-messages_of [])
+
+pub stands_keeps : (ms : List Message) (start now : Files) (fault : RunFault) → Stands ms start now → Keeps ms start (Err fault) now
+stands_keeps ms start now fault s = record { sound = s.sound; still = s.still; in_order = s.in_order; ends = tt }
+
+-- messages of which the first are done
+pub front_stands : (ms done more : List Message) (start now : Files) → AreNamed ms → AreDistinct ms → Sound ms start start → ms ≡ done ++ more → Progress done start now → Stands ms start now
+front_stands ms done more start now named distinct sound e p =
+    subst (λ x. Stands x start now) (sym e) (progress_stands done more start now (subst AreNamed e named) (subst AreDistinct e distinct) (subst (λ x. Sound x start start) e sound) p)
+
+bodies_parts : (all rest : List Entry) → bodies_of (all ++ rest) ≡ bodies_of all ++ bodies_of rest
+bodies_parts all rest = map-append (λ (e : Entry). e.body) all rest
+
+-- ---- the messages of each text that a source may have had
+-- after a fault those that were given are the first of them
+pub front_of : (before after : Option (List ℕ)) (text : List ℕ) (all : List Entry) → Consumes before after text → First text after all → (t : List ℕ) (ms : List Message) → Possible before after t → MessagesOf t ms → (more : List Message) × (ms ≡ messages_of (bodies_of all) ++ more)
+front_of before after text all read first t ms p of =
+    let is : t ≡ text ++ p.more = rw (← read_is before after text t read p) p.front in
+    elim of as (λ _. (more : List Message) × (ms ≡ messages_of (bodies_of all) ++ more)) [
+      | inl (entries, m, e) ↦
+          let r = first.told p.more p.left entries p.has p.whole (rw is at m) in
+          let more = messages_more (bodies_of all) (bodies_of r.0) in
+          (more.0, e ∙ ap messages_of (ap bodies_of r.1 ∙ bodies_parts all r.0) ∙ more.1)
+      | inr (none, e) ↦ ([], e ∙ sym (append-nil (messages_of (bodies_of all)) ∙ ap (λ xs. messages_of (bodies_of xs)) (first.none p.more p.left p.has p.whole (rw is at none)) ∙ no_messages))
+    ]
+
+-- and with Ok all of them
+pub whole_text : (before after : Option (List ℕ)) (reads : ℕ) (text : List ℕ) (all : List Entry) → GaveAll before after reads text all → (t : List ℕ) → Possible before after t → Mbox t all
+whole_text before after reads text all gave t p =
+    let at_end : p.left ≡ [] = rw p.has at gave.end in
+    let is : t ≡ text = rw (← read_is before after text t gave.read p) p.front ∙ ap (λ xs. text ++ xs) (p.whole at_end) ∙ append-nil text in
+    rw is gave.all
+
+pub whole_messages : (t : List ℕ) (all : List Entry) → Mbox t all → (ms : List Message) → MessagesOf t ms → ms ≡ messages_of (bodies_of all)
+whole_messages t all whole ms (inl (entries, m, e)) = e ∙ ap (λ es. messages_of (bodies_of es)) (mbox-one t entries all m whole)
+whole_messages t all whole ms (inr (none, e)) = absurd (none all whole)
+
+-- ---- a batch
+pub batch_bodies : (given whole entries : List Entry) → entries ≡ whole → bodies_of given ++ bodies_of entries ≡ bodies_of (given ++ whole)
+batch_bodies given whole entries e = ap (λ es. bodies_of given ++ bodies_of es) e ∙ sym (bodies_parts given whole)
+
+pub batch_few : (given whole entries : List Entry) (reads : ℕ) → entries ≡ whole → length (given ++ whole) ≤ 65536 * reads → reads ≤ 2 ^ 40 → length (bodies_of given) + length entries ≤ 2 ^ 63
+batch_few given whole entries reads e few most = omega (arith, ap length e, length-append given whole, length-map given (λ (x : Entry). x.body))
