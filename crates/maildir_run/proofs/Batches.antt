@@ -1,10 +1,9 @@
 -- One more entry of a batch.
-use Rattle.std.proofs.Common.{◌≡◌, ℕ, ◌+◌, ◌<◌, ◌≤◌, ◌^◌, List, [], ◌∷◌, ◌++◌, take, drop, length, get_or, All, sym, ap, subst, ◌∙◌, arith, length-append, append_assoc}
-use Rattle.std.proofs.lemmas.List.{take_more, map-append, append-nil, take-append-drop, get_or_append_left, length-map, length-take-le}
+use Rattle.std.proofs.Common.{◌≡◌, ℕ, ◌+◌, ◌<◌, ◌≤◌, ◌^◌, List, [], ◌∷◌, ◌++◌, take, drop, length, get_or, sym, ap, ◌∙◌, arith, length-append, append_assoc}
+use Rattle.std.proofs.lemmas.List.{take_more, map-append, append-nil, take-append-drop, length-map, length-take-le}
 use Rattle.mbox_text.specs.declared.entry.Entry.{Entry}
 use Rattle.maildir_name.specs.Targets.{target}
-use Rattle.maildir_run.specs.Files.{Files}
-use Rattle.maildir_run.specs.Delivery.{Message, IsSoundAt}
+use Rattle.maildir_run.specs.Delivery.{Message}
 use Rattle.maildir_run.specs.Texts.{messages_of, bodies_of}
 use Rattle.maildir_run.specs.Progress.{message_at}
 use Rattle.maildir_run.proofs.MessageLemmas.{messages_of-push}
@@ -20,14 +19,6 @@ messages_more a (y ∷ ys) =
           ∙ ap (λ ms. ms ++ r.0) (messages_of-push a y)
           ∙ append_assoc (messages_of a) (m ∷ []) r.0,
     )
-
-front_all : (P : Message → Type 0) (xs ys : List Message) → All P (xs ++ ys) → All P xs
-front_all P xs ys all = λ k d h. subst P (get_or_append_left xs ys d k h) (all k d (omega (arith, h, length-append xs ys)))
-
-pub sound_front : (start : Files) (a b : List (List ℕ)) → All (IsSoundAt start) (messages_of (a ++ b)) → All (IsSoundAt start) (messages_of a)
-sound_front start a b all =
-    let r = messages_more a b in
-    front_all (IsSoundAt start) (messages_of a) r.0 (subst (All (IsSoundAt start)) r.1 all)
 
 -- the bodies of the first entries, one more, and the others
 module _ (entries : List Entry) (i : ℕ) (entry : Entry) (h : i < length entries) (is : entry ≡ get_or entries i entry) where

@@ -1,14 +1,11 @@
 -- What the parts of a run leave.
-use Rattle.std.specs.Prelude.{◌≡◌, ℕ, ◌+◌, List, [], All, IsPermutation, IsTrue, IsFalse, None, Bool, length}
+use Rattle.std.specs.Prelude.{◌≡◌, ℕ, List, All, IsPermutation, IsTrue, IsFalse, None, Bool}
 use Rattle.std.specs.List.{list_any}
-use Rattle.std.specs.FinMap.{get, contains_key}
+use Rattle.std.specs.FinMap.{get}
 use Rattle.maildir_name.specs.declared.target.Target.{Target}
-use Rattle.maildir_name.specs.Named.{Counts, Named}
 use Rattle.maildir_name.specs.Names.{is_converter_base, is_converter_name}
 use Rattle.maildir_run.specs.Files.{Files, homes, is_name, has_base}
-use Rattle.maildir_run.specs.Bases.{BaseSet}
-use Rattle.maildir_run.specs.Delivery.{Message, IsHome, IsSoundAt, has_home, is_base_of, there_count}
-use Rattle.maildir_run.specs.Texts.{messages_of}
+use Rattle.maildir_run.specs.Delivery.{Message, IsHome, IsSoundAt, has_home, is_base_of}
 
 -- each converter's base keeps its homes
 pub record LeavesHomes (old new : Files) : Type 0 where
@@ -41,12 +38,3 @@ pub record IsTarget (target : Target) : Type 0 where
 -- this test tells of each converter's base whether it has a home
 abbrev pub Knows : (List ℕ → Bool) → Files → Type 0
 Knows is_there s = (b : List ℕ) → IsTrue (is_converter_base b) → is_there b ≡ has_home s b
-
--- How far a run has come that began with these files: these bodies were named, what was there is known, and each of their messages is at home.
-pub record Reached (bodies : List (List ℕ)) (start : Files) (there : BaseSet) (namer : Counts) (messages placed : ℕ) (now : Files) : Type 0 where
-  pub named : Named bodies namer
-  pub knows : Knows (contains_key there) start
-  pub progress : Progress (messages_of bodies) start now
-  pub within : TmpWithin [] now
-  pub counted : messages ≡ length bodies
-  pub brought : placed + there_count start (messages_of bodies) ≡ length bodies
