@@ -54,6 +54,21 @@ longer s t u v stamp before after change = record {
   less_ahead = change.less_ahead;
 }
 
+pub passes_on : (sub : Sub) (a b c : World) → Passes sub a b → Passes sub b c → Passes sub a c
+passes_on sub a b c p q =
+    record {
+      acts = acts_on a b c p.acts q.acts;
+      later = omega (arith, p.later, q.later);
+      stamp_is = elim q.stamp_is as (λ _. (c.stamp_of sub ≡ a.stamp_of sub) ⊎ IsOfChange a.time c.time (c.stamp_of sub)) [
+        | inr change ↦ inr (longer a.time b.time c.time c.time (c.stamp_of sub) p.later (omega arith) change)
+        | inl same ↦
+            elim p.stamp_is as (λ _. (c.stamp_of sub ≡ a.stamp_of sub) ⊎ IsOfChange a.time c.time (c.stamp_of sub)) [
+              | inl alike ↦ inl (same ∙ alike)
+              | inr change ↦ inr (subst (IsOfChange a.time c.time) (sym same) (longer a.time a.time b.time c.time (b.stamp_of sub) (omega arith) q.later change))
+            ]
+      ];
+    }
+
 -- a look that failed
 pub looked_fault : {E : Type 0} (sub : Sub) (a b : World) (outcome : Result Look E) → IsErr outcome → Acts a b → Looked sub a outcome b
 looked_fault sub a b (Ok _) is_err p = cc
@@ -148,7 +163,7 @@ pub listed_actions : {E : Type 0} (sub : Sub) (old new : Files) (outcome : Resul
 listed_actions sub old new (Ok names) lists = let made = actions_of sub (lists.before ++ Again ∷ lists.rest) old in (made.0, lists.left ∙ made.1)
 listed_actions sub old new (Err _) failed = let made = actions_of sub failed.moves old in (made.0, failed.left ∙ made.1)
 
-within : (time : ℕ) → time < time + margin_of time
+pub within : (time : ℕ) → time < time + margin_of time
 within time = elim (time % 1_000_000_000 == 0) as (λ t. time < time + cond t 2_050_000_000 50_000_000) [ true ↦ omega arith | false ↦ omega arith ]
 
 -- a change at this time may give the time as the stamp

@@ -1,14 +1,14 @@
 //! A Maildir on a file system, proved over what a few system calls are taken to do.
 //!
 //! [`System`] is those calls, and `specs/World.antt` says what is assumed of them. [`DiskFolder`] is a folder of the
-//! engine over any such system, and takes effect as reported where the system does as assumed. [`MemSystem`] is a
-//! system in memory that does.
+//! engine over any such system, and takes effect as reported where the system does as assumed.
 #![tactic(auto)]
 
 mod disk;
 mod disk_folder;
 mod faults;
 mod host;
+pub mod laws;
 mod listing;
 mod lock;
 mod system;
