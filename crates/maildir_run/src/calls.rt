@@ -1,4 +1,4 @@
-// The number of folder calls that a run made, for its faults.
+// The folder calls of a run, and their number for its faults.
 ghost use Rattle.std.specs.Prelude.{◌≡◌, ◌+◌, [], ◌∷◌, IfErr};
 ghost use Rattle.maildir_run.specs.Counting.{capped, run_answer, IsOfFolder};
 ghost use Rattle.maildir_run.specs.Calls.Call.{Writing, Placing, Removing};
