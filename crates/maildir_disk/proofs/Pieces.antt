@@ -12,7 +12,7 @@ use Rattle.maildir_run.proofs.Outsiders.{outside_reaches, get-outsiders_other}
 use Rattle.maildir_run.proofs.Homes.{get-outsiders_of}
 use Rattle.maildir_disk.proofs.Passing.{all_acted-append, after-others, after-append, others_whole, acts_on}
 use Rattle.maildir_disk.specs.World.{World, Acts}
-use Rattle.maildir_disk.specs.Writing.{Comes, rewritten, changed, Appended, Written}
+use Rattle.maildir_disk.specs.Writing.{Comes, rewritten, changed, Created, Appended, Written}
 
 -- ---- a change of one file, name by name
 abbrev mapped : Bool → (List ℕ → List ℕ) → Option (List ℕ) → Option (List ℕ)
@@ -289,3 +289,24 @@ pub append_failed : (name held piece bytes : List ℕ) (a b c : World) (outcome 
 append_failed name held piece bytes a b c outcome written appended =
     let left = written_appended name held piece a b c outcome written appended in
     write_failed name left.0 bytes a c left.1
+
+-- ---- what a system in memory shows of its calls
+pub created_fault : {A E : Type 0} (name : List ℕ) (a b : World) (outcome : Result A E) → IsErr outcome → Acts a b → Created name a outcome b
+created_fault name a b (Ok _) is_err acts = cc
+created_fault name a b (Err _) is_err acts = inl acts
+
+pub appended_fault : (name bytes : List ℕ) (a b : World) (outcome : Result ℕ Error) → IsErr outcome → Acts a b → Appended name bytes a outcome b
+appended_fault name bytes a b (Ok _) is_err acts = cc
+appended_fault name bytes a b (Err _) is_err acts = inl acts
+
+pub not_changed : (name : List ℕ) (change : List ℕ → List ℕ) (s : Files) → get s.tmp name ≡ None → s ≡ changed name change s
+not_changed name change s none = ap (λ o. record s { tmp = rewritten s.tmp name change o }) (sym none)
+
+pub changed_by_write : (name held : List ℕ) (change : List ℕ → List ℕ) (s : Files) → get s.tmp name ≡ Some held → effect (Writing name (change held)) s ≡ changed name change s
+changed_by_write name held change s has = ap (λ o. record s { tmp = rewritten s.tmp name change o }) (sym has)
+
+pub comes_to_none : (name : List ℕ) (change : List ℕ → List ℕ) (a b : World) → Acts a b → get b.files.tmp name ≡ None → Comes (changed name change) a b
+comes_to_none name change a b acts none = record { before = acts.actions; rest = []; left = not_changed name change b.files none ∙ ap (changed name change) acts.files_are }
+
+pub comes_by_write : (name held : List ℕ) (change : List ℕ → List ℕ) (a b c : World) → Acts a b → get b.files.tmp name ≡ Some held → c.files ≡ effect (Writing name (change held)) b.files → Comes (changed name change) a c
+comes_by_write name held change a b c acts has written = record { before = acts.actions; rest = []; left = written ∙ (changed_by_write name held change b.files has ∙ ap (changed name change) acts.files_are) }

@@ -1,7 +1,8 @@
 //! A Maildir on a file system, proved over what a few system calls are taken to do.
 //!
 //! [`System`] is those calls, and `specs/World.antt` says what is assumed of them. [`DiskFolder`] is a folder of the
-//! engine over any such system, and takes effect as reported where the system does as assumed.
+//! engine over any such system, and takes effect as reported where the system does as assumed. [`MemSystem`] is a
+//! system in memory that does.
 #![tactic(auto)]
 
 mod disk;
@@ -11,10 +12,12 @@ mod host;
 pub mod laws;
 mod listing;
 mod lock;
+mod mem_system;
 mod system;
 mod writing;
 
 pub use disk_folder::DiskFolder;
 pub use faults::{OpenFault, is_refused_growth};
 pub use host::Host;
+pub use mem_system::{MemFile, MemSystem, Stamps};
 pub use system::System;

@@ -1,0 +1,32 @@
+use Rattle.std.proofs.Common.{◌≡◌, [], refl, inl, inr, arith, true}
+use Rattle.std.specs.Duration.{as_nanos}
+use Rattle.maildir_run.specs.Calls.{names_of}
+use Rattle.maildir_disk.specs.World.{Reads}
+use Rattle.maildir_disk.specs.MemSystem.{world_of}
+use Rattle.maildir_disk.proofs.Passing.{passes_on}
+use Rattle.maildir_disk.proofs.mem_system.MemSystemSystem.names.Goals as goal
+
+pub returns-in_err-pass_shortly-in-Ok-clause-passes : goal.returns-in_err-pass_shortly-in-Ok-clause-passes
+returns-in_err-pass_shortly-in-Ok-clause-passes c = λ honest.
+    let same = (rw c.in-Ok.is at (c.list.ensures.alone honest)).1 in
+    passes_on c.args.sub (world_of c.args.self.now) _ _ (record { acts = record { actions = []; files_are = same }; later = omega arith; stamp_is = inl refl }) (c.pass_shortly.ensures.passes c.args.sub)
+
+pub returns-in-Ok-duration_since-clause-passes : goal.returns-in-Ok-duration_since-clause-passes
+returns-in-Ok-duration_since-clause-passes c = λ honest.
+    let same = (rw c.in-Ok.is at (c.list.ensures.alone honest)).1 in
+    passes_on c.args.sub (world_of c.args.self.now) _ _ (record { acts = record { actions = []; files_are = same }; later = omega arith; stamp_is = inl refl }) (c.pass_shortly.ensures.passes c.args.sub)
+
+pub returns-in_default-clause-passes : goal.returns-in_default-clause-passes
+returns-in_default-clause-passes c = λ honest.
+    let same = (rw c.in-Ok.is at (c.list.ensures.alone honest)).1 in
+    passes_on c.args.sub (world_of c.args.self.now) _ _ (record { acts = record { actions = []; files_are = same }; later = omega arith; stamp_is = inl refl }) (c.pass_shortly.ensures.passes c.args.sub)
+
+pub returns-in-Ok-duration_since-clause-names : goal.returns-in-Ok-duration_since-clause-names
+returns-in-Ok-duration_since-clause-names c = λ honest.
+    elim (c.pass_shortly.ensures.passes c.args.sub).stamp_is as (λ _. Reads c.args.sub (world_of c.args.self.now) (names_of c.new.result) (world_of c.pass_shortly.new.self)) [
+      | inl same ↦
+          let none : as_nanos c.in-Ok-duration_since.later ≡ 0 = omega (arith, same, c.in-Ok-duration_since.ensures.ok) in
+          let zero : c.is_zero.result ≡ true = c.is_zero.ensures.1 none in
+          cc
+      | inr since ↦ inr since
+    ]
