@@ -258,3 +258,6 @@ fn error_of(fault: FolderFault) -> io::Error {
         FolderFault::OutOfMemory => ErrorKind::OutOfMemory,
     })
 }
+
+#[cfg(test)]
+mod tests;
