@@ -1,4 +1,4 @@
-// A body as it is read: its lines without their quoting, and without the blank line that ends the message.
+// A body: its lines without their quoting, and without the blank line that ends the message.
 ghost use Rattle.std.specs.Prelude.{◌≡◌, ◌-◌, ◌<◌, ◌≤◌, ◌++◌, ◌⊎◌, [], ◌∷◌, true, length, take, drop, IfOk, OnOk, MatchBool};
 ghost use Rattle.std.specs.List.{flat_map};
 ghost use Rattle.mbox_text.specs.Lines.{lines, Ended, NoEnd};
@@ -12,7 +12,7 @@ use crate::quoting::{find_quotable, is_quoted};
 use memchr::memchr;
 use std::alloc::AllocError;
 
-/// Adds a line and its `\n` as it is read.
+/// Adds a line without its quoting, and its `\n`.
 pub(crate) fn add_line(body: &mut Vec<u8>, line: &[u8]) -> Result<(), AllocError>
     ensures { OnOk result (body.new.items ≡ (body.old.items ++ unquoted line.now) ++ 10 ∷ []) }
 {
@@ -40,7 +40,7 @@ pub(crate) fn drop_blank(body: &mut Vec<u8>)
     }
 }
 
-/// Adds a line as it is read.
+/// Adds a line without its quoting.
 pub(crate) fn add_unquoted(body: &mut Vec<u8>, line: &[u8]) -> Result<(), AllocError>
     ensures { OnOk result (body.new.items ≡ body.old.items ++ unquoted line.now) }
 {
@@ -51,8 +51,8 @@ pub(crate) fn add_unquoted(body: &mut Vec<u8>, line: &[u8]) -> Result<(), AllocE
     }
 }
 
-/// Adds the whole lines of the text up to the first From_ line as they are read, and says where that line or the last
-/// one begins.
+/// Adds the whole lines of the text up to the first From_ line without their quoting, and says where that line or the
+/// last one begins.
 pub(crate) fn take_lines(body: &mut Vec<u8>, text: &[u8]) -> Result<usize, AllocError>
     ensures within { IfOk result (λ n. n ≤ length text.now) }
     ensures added { IfOk result

@@ -8,7 +8,7 @@ use crate::bytes::Bytes;
 use crate::entry::Entry;
 use std::alloc::AllocError;
 
-/// A From_ line, and the whole lines that have come behind it as they are read.
+/// A From_ line, and the whole lines that have come behind it, without their quoting.
 #[derive(Drop)]
 pub(crate) struct PartialMessage {
     pub(crate) from_line: Vec<u8>,
