@@ -6,10 +6,10 @@ use Rattle.std.specs.declared.alloc.Global.{Global}
 use Rattle.std.specs.Duration.{as_nanos}
 use Rattle.maildir_run.specs.declared.folder.Sub.{Sub}
 use Rattle.maildir_run.specs.Calls.{Lists, names_of}
-use Rattle.maildir_disk.specs.declared.listing.Age.{Age}
-use Rattle.maildir_disk.specs.declared.listing.Age.TheVariants.{Settled, Young, Ahead}
-use Rattle.maildir_disk.specs.declared.listing.Look.{Look}
-use Rattle.maildir_disk.specs.declared.listing.Look.TheVariants.{Names, Again}
+use Rattle.maildir_disk.specs.declared.one_moment.Age.{Age}
+use Rattle.maildir_disk.specs.declared.one_moment.Age.TheVariants.{Settled, Young, Ahead}
+use Rattle.maildir_disk.specs.declared.one_moment.Look.{Look}
+use Rattle.maildir_disk.specs.declared.one_moment.Look.TheVariants.{Names, Again}
 use Rattle.maildir_disk.specs.World.{World, Acts, AreUnless, margin_of}
 
 -- no change from this time on gives this stamp

@@ -6,7 +6,7 @@ ghost use Rattle.maildir_disk.specs.World.{Acts};
 ghost use Rattle.maildir_disk.specs.Writing.{KeepsHeld};
 
 use crate::faults::answer_of;
-use crate::listing::names_of_one_moment;
+use crate::one_moment::names_of_one_moment;
 use crate::system::System;
 use crate::writing::write_synced;
 use maildir_name::Place;

@@ -10,9 +10,9 @@ mod disk_folder;
 mod faults;
 mod host;
 pub mod laws;
-mod listing;
 mod lock;
 mod mem_system;
+mod one_moment;
 mod system;
 mod writing;
 

@@ -1,5 +1,5 @@
 use Rattle.maildir_disk.specs.World.{Acts}
-use Rattle.maildir_disk.proofs.listing.names_of_one_moment.Given as goal
+use Rattle.maildir_disk.proofs.one_moment.names_of_one_moment.Given as goal
 
 -- the system stays honest, and nothing but other programs acted
 abbrev pub invariant-loop : goal.invariant-loop

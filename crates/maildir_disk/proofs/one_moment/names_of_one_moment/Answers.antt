@@ -1,8 +1,8 @@
 use Rattle.std.proofs.Common.{subst, sym}
 use Rattle.maildir_run.specs.Calls.{Failed, Listing}
 use Rattle.maildir_disk.proofs.Passing.{acts_on, listed_fault, failed_listing, lists_later}
-use Rattle.maildir_disk.proofs.listing.names_of_one_moment.Goals as goal
-use Rattle.maildir_disk.proofs.listing.names_of_one_moment.Goals.{else-loop-test, then-loop-test+in_ok-names+in-Again+in_ok-instant+then-ge}
+use Rattle.maildir_disk.proofs.one_moment.names_of_one_moment.Goals as goal
+use Rattle.maildir_disk.proofs.one_moment.names_of_one_moment.Goals.{else-loop-test, then-loop-test+in_ok-names+in-Again+in_ok-instant+then-ge}
 
 pub returns-in_err-start-clause-listed : goal.returns-in_err-start-clause-listed
 returns-in_err-start-clause-listed g c = λ honest.

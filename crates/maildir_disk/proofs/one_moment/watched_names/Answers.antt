@@ -4,7 +4,7 @@ use Rattle.std.specs.Time.{system_time_nanos}
 use Rattle.maildir_run.specs.Calls.{names_of}
 use Rattle.maildir_disk.specs.World.{Tells}
 use Rattle.maildir_disk.proofs.Passing.{acts_on, watched_fault, watched}
-use Rattle.maildir_disk.proofs.listing.watched_names.Goals as goal
+use Rattle.maildir_disk.proofs.one_moment.watched_names.Goals as goal
 
 pub returns-in_err-after-clause-watched : goal.returns-in_err-after-clause-watched
 returns-in_err-after-clause-watched g c = λ honest.

@@ -1,7 +1,7 @@
 use Rattle.std.specs.Time.{system_time_nanos}
 use Rattle.maildir_disk.specs.Look.{IsSettled, IsFarAhead}
 use Rattle.maildir_disk.proofs.Passing.{acts_on, looked_fault, lists_at, exact_if_settled, exact_if_ahead}
-use Rattle.maildir_disk.proofs.listing.take_names.Goals as goal
+use Rattle.maildir_disk.proofs.one_moment.take_names.Goals as goal
 
 pub returns-in_err-now-clause-looked : goal.returns-in_err-now-clause-looked
 returns-in_err-now-clause-looked g c = λ honest.
