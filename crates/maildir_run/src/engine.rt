@@ -63,7 +63,7 @@ impl<'a> Engine<'a> {
     /// Brings the next message, if it was not there. The set of bases is asked once.
     fn deliver<F: Folder>(&mut self, folder: &mut F, body: &[u8]) -> Result<(), RunFault>
         requires { self.old.messages < 2 ^ 63 }
-        ensures brought { let at = seen F.honest F.quiet F.files F.calls F.failures in (bodies : List (List ℕ)) → Named bodies self.old.namer → length bodies < 2 ^ 63 →
+        ensures brought { let at = seen F.honest F.quiet F.files F.may_leave F.calls F.failures in (bodies : List (List ℕ)) → Named bodies self.old.namer → length bodies < 2 ^ 63 →
             Brought (contains_key self.old.there) bodies (body.now ∷ []) (at folder.old) (at folder.new) self.old.calls.made self.new.calls.made self.old.placed self.new.placed self.new.namer result }
         ensures there { self.new.there ≡ self.old.there }
         ensures one { OnOk result (self.new.messages ≡ self.old.messages + 1) }
@@ -85,7 +85,7 @@ impl<'a> Engine<'a> {
         entries: &[Entry],
     ) -> Result<(), RunFault>
         requires { self.old.messages + length entries.now < 2 ^ 63 }
-        ensures brought { let at = seen F.honest F.quiet F.files F.calls F.failures in (bodies : List (List ℕ)) → Named bodies self.old.namer → length bodies + length entries.now ≤ 2 ^ 63 →
+        ensures brought { let at = seen F.honest F.quiet F.files F.may_leave F.calls F.failures in (bodies : List (List ℕ)) → Named bodies self.old.namer → length bodies + length entries.now ≤ 2 ^ 63 →
             Brought (contains_key self.old.there) bodies (bodies_of entries.now) (at folder.old) (at folder.new) self.old.calls.made self.new.calls.made self.old.placed self.new.placed self.new.namer result }
         ensures there { self.new.there ≡ self.old.there }
         ensures all { OnOk result (self.new.messages ≡ self.old.messages + length entries.now) }

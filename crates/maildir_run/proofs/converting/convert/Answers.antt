@@ -15,7 +15,7 @@ use Rattle.maildir_run.proofs.converting.convert.Goals as goal
 
 pub returns-in_err-messages : goal.returns-in_err-messages
 returns-in_err-messages g c =
-    let at = seen g.F.Folder.honest g.F.Folder.quiet g.F.Folder.files g.F.Folder.calls g.F.Folder.failures in
+    let at = seen g.F.Folder.honest g.F.Folder.quiet g.F.Folder.files g.F.Folder.may_leave g.F.Folder.calls g.F.Folder.failures in
     let r = c.from_residual in
     let fault = OutOfMemory in
     let s = at c.args.folder.now in
@@ -41,7 +41,7 @@ returns-in_err-messages g c =
 
 pub returns-in_err-ended : goal.returns-in_err-ended
 returns-in_err-ended g c =
-    let at = seen g.F.Folder.honest g.F.Folder.quiet g.F.Folder.files g.F.Folder.calls g.F.Folder.failures in
+    let at = seen g.F.Folder.honest g.F.Folder.quiet g.F.Folder.files g.F.Folder.may_leave g.F.Folder.calls g.F.Folder.failures in
     let r = c.from_residual-in_err-ended in
     let fault = c.in_err-ended.field-0.0 in
     let s = at c.args.folder.now in
@@ -121,7 +121,7 @@ returns-in_err-swept g c =
 
 pub returns-in_err-there : goal.returns-in_err-there
 returns-in_err-there g c =
-    let at = seen g.F.Folder.honest g.F.Folder.quiet g.F.Folder.files g.F.Folder.calls g.F.Folder.failures in
+    let at = seen g.F.Folder.honest g.F.Folder.quiet g.F.Folder.files g.F.Folder.may_leave g.F.Folder.calls g.F.Folder.failures in
     let r = c.from_residual-in_err-there in
     let fault = OutOfMemory in
     let look = c.in_ok-found.ensures.ran in
@@ -189,7 +189,7 @@ pieces-preserved g c =
 
 pub returns-in_err-deliver_entries : goal.returns-in_err-deliver_entries
 returns-in_err-deliver_entries g c =
-    let at = seen g.F.Folder.honest g.F.Folder.quiet g.F.Folder.files g.F.Folder.calls g.F.Folder.failures in
+    let at = seen g.F.Folder.honest g.F.Folder.quiet g.F.Folder.files g.F.Folder.may_leave g.F.Folder.calls g.F.Folder.failures in
     let r = c.from_residual-in_err-deliver_entries in
     let fault = c.in_err-deliver_entries.field-0.0 in
     let i = c.pieces.invariant in
@@ -229,7 +229,7 @@ returns-in_err-deliver_entries g c =
 
 pub returns-in_err-ended-2 : goal.returns-in_err-ended-2
 returns-in_err-ended-2 g c =
-    let at = seen g.F.Folder.honest g.F.Folder.quiet g.F.Folder.files g.F.Folder.calls g.F.Folder.failures in
+    let at = seen g.F.Folder.honest g.F.Folder.quiet g.F.Folder.files g.F.Folder.may_leave g.F.Folder.calls g.F.Folder.failures in
     let r = c.from_residual-in_err-ended-2 in
     let fault = c.in_err-ended-2.field-0.0 in
     let i = c.pieces.invariant in
@@ -272,7 +272,7 @@ returns-in_err-ended-2 g c =
 
 pub returns-then-ended : goal.returns-then-ended
 returns-then-ended g c =
-    let at = seen g.F.Folder.honest g.F.Folder.quiet g.F.Folder.files g.F.Folder.calls g.F.Folder.failures in
+    let at = seen g.F.Folder.honest g.F.Folder.quiet g.F.Folder.files g.F.Folder.may_leave g.F.Folder.calls g.F.Folder.failures in
     let i = c.pieces.invariant in
     let whole = c.pieces.whole.items in
     let engine = c.deliver_entries.new.self in
