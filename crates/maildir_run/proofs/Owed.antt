@@ -24,21 +24,23 @@ use Rattle.maildir_run.specs.Progress.{TmpWithin, Knows, Progress, IsTarget, mes
 use Rattle.maildir_run.specs.Quietly.{LeavesOthers}
 use Rattle.maildir_run.specs.Runs.{Possible, Keeps, Run, CountsRun, Link, Runs}
 use Rattle.mbox_text.specs.Mbox.{Mbox}
-use Rattle.maildir_run.specs.Tasks.{Task, Do, Seen, Ran, RanAll, Brought, Performs, AllDone, Stopped, reported, undisturbed, Names, listings, sweep_of, tasks_of, planned_tasks, messages_after, delivery_of, delivery_if, deliveries_of}
+use Rattle.maildir_run.specs.Tasks.{Task, Do, Seen, Ran, RanAll, Brought, Performs, Way, AllDone, Stopped, reported, undisturbed, leaving, Names, listings, sweep_of, tasks_of, planned_tasks, messages_after, delivery_of, delivery_if, deliveries_of}
 use Rattle.maildir_run.specs.Calls.{Removing}
+use Rattle.maildir_run.specs.Cuts.{Left}
 use Rattle.maildir_run.specs.Texts.{messages_of, bodies_of, MessagesOf}
 use Rattle.maildir_run.proofs.CallCounts.{run_counts}
 use Rattle.maildir_run.proofs.Maps.{is_name-true}
 use Rattle.maildir_run.proofs.Faults.{unless_ok}
 use Rattle.maildir_run.proofs.MessageLemmas.{text_named, text_distinct, text_targets, messages_of-push, messages_distinct, messages_targets, length-messages_of}
 use Rattle.maildir_run.proofs.Chains.{chain_delivered}
+use Rattle.maildir_run.proofs.Cuts.{left_as}
 use Rattle.maildir_run.proofs.PossibleMessages.{stands_keeps, front_stands, whole_text, whole_messages, none_done, no_messages, batch_bodies, batch_few}
 use Rattle.maildir_run.proofs.QuietRuns.{swept_free}
 use Rattle.maildir_run.proofs.Steps.{leaves_trans}
 use Rattle.maildir_run.proofs.Surveys.{filter-length}
 use Rattle.maildir_run.proofs.Numbers.{count-cons}
 use Rattle.maildir_run.proofs.Planned.{planned_are}
-use Rattle.maildir_run.proofs.Tasks.{ran_then, stopped_before, reported_stops}
+use Rattle.maildir_run.proofs.Tasks.{MayStop, ran_then, stopped_before, reported_stops, leaving_stops}
 use Rattle.std.proofs.lemmas.List.Concat.{flat_map-append}
 use Rattle.maildir_run.proofs.Bringing.{brought_then}
 use Rattle.maildir_run.proofs.TaskEffects.{PlacesNone, AreOurs, all_leave, stopped_leave, all_parts, stopped_parts, looked, looked_quietly, all_swept, swept_quietly, listings_place_none, sweep_places_none, all_progress, stopped_came, CameTo, all_filled, performs_others}
@@ -123,6 +125,7 @@ ran_numbers tasks start now made made' r ran e few =
 pub record Owed (before after : Option (List ℕ)) (start now : Seen) (r : Result Report RunFault) : Type 0 where
   pub honest : start.honest → now.honest
   pub as_planned : start.honest → (t : List ℕ) (ms : List Message) → Possible before after t → MessagesOf t ms → (names : Names) × Performs reported (planned_tasks names ms) start.files r now.files
+  pub left : start.honest → (t : List ℕ) (ms : List Message) → Possible before after t → MessagesOf t ms → Left (λ old new. (names : Names) × Performs leaving (planned_tasks names ms) old r new) start.may_leave now.may_leave
   pub run : start.honest → (t : List ℕ) → length t < 2 ^ 63 → Possible before after t → Run t start.files r now.files
   pub restartable : start.honest → (t : List ℕ) (ms : List Message) (links : List Link) (first : Files) → length t < 2 ^ 63 → Possible before after t → MessagesOf t ms → All (IsMissing first) ms → Runs t links first start.files → OnOk r (Delivered ms now.files)
   pub quiet : start.quiet → now.quiet
@@ -223,18 +226,21 @@ as_run before after start now r is_read planned t small p = record {
 }
 
 -- ---- at a fault, after a front of what was planned
-front_performs : (tasks rest all : List Task) (start : Files) (r : Result Report RunFault) (now : Files) → all ≡ tasks ++ rest → IsErr r → Performs reported tasks start r now → Performs reported all start r now
-front_performs tasks rest all start (Ok x) now e is h = let off : false ≡ true = is in cc
-front_performs tasks rest all start (Err fault) now e is h = subst (λ ts. Stopped reported ts start now) (sym e) (stopped_before reported reported_stops tasks rest start now h)
+front_performs : (w : Way) → MayStop w → (tasks rest all : List Task) (start : Files) (r : Result Report RunFault) (now : Files) → all ≡ tasks ++ rest → IsErr r → Performs w tasks start r now → Performs w all start r now
+front_performs w still tasks rest all start (Ok x) now e is h = let off : false ≡ true = is in cc
+front_performs w still tasks rest all start (Err fault) now e is h = subst (λ ts. Stopped w ts start now) (sym e) (stopped_before w still tasks rest start now h)
 
 pub owed_err : (before after : Option (List ℕ)) (names : Names) (tasks : List Task) → AreOurs tasks → ((t : List ℕ) (ms : List Message) → Possible before after t → MessagesOf t ms → (rest : List Task) × (planned_tasks names ms ≡ tasks ++ rest)) → (start now : Seen) (made made' : ℕ) (r : Result Report RunFault) → IsErr r → Ran tasks start now made made' r → made ≡ 0 → length tasks < 2 ^ 66 → Owed before after start now r
 owed_err before after names tasks ours front start now made made' r is ran e few =
     let planned : start.honest → (t : List ℕ) (ms : List Message) → Possible before after t → MessagesOf t ms → Performs reported (planned_tasks names ms) start.files r now.files = λ h t ms p of.
     let f = front t ms p of in
-    front_performs tasks f.0 (planned_tasks names ms) start.files r now.files f.1 is (ran.reported_of h) in
+    front_performs reported reported_stops tasks f.0 (planned_tasks names ms) start.files r now.files f.1 is (ran.reported_of h) in
     record {
       honest = ran.honest;
       as_planned = λ h t ms p of. (names, planned h t ms p of);
+      left = λ h t ms p of.
+          let f = front t ms p of in
+          left_as _ _ start.may_leave now.may_leave (λ old new q. (names, front_performs leaving leaving_stops tasks f.0 (planned_tasks names ms) old r new f.1 is q)) (ran.left h);
       run = λ h t small p. as_run before after start.files now.files r (λ t p. unless_ok _ r is) (λ t ms p of. (names, planned h t ms p of, unless_ok _ r is)) t small p;
       restartable = λ h t ms links old small p of missing runs. unless_ok _ r is;
       quiet = ran.quiet;
@@ -257,6 +263,8 @@ owed_end before after names reads text all gave few start now made made' report 
     record {
       honest = ran.honest;
       as_planned = λ h t ms p of. subst (λ x. (names : Names) × AllDone reported (planned_tasks names x) start.files now.files) (same t ms p of) (names, planned h);
+      left = λ h t ms p of.
+          left_as _ _ start.may_leave now.may_leave (λ old new q. (names, subst (λ ts. AllDone leaving ts old new) (sym (planned_are names these) ∙ ap (planned_tasks names) (same t ms p of)) q)) (ran.left h);
       run = run;
       restartable = λ h t ms links old short p of missing before. restarted (Ok report) t ms links old start.files now.files short of missing before (run h t short p);
       quiet = ran.quiet;

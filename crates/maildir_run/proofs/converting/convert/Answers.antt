@@ -23,6 +23,7 @@ returns-in_err-messages g c =
     record {
       honest = o.honest;
       as_planned = o.as_planned;
+      left = o.left;
       run = o.run;
       restartable = o.restartable;
       end = unless_ok _ r.result r.ensures.0;
@@ -50,6 +51,7 @@ returns-in_err-ended g c =
     record {
       honest = o.honest;
       as_planned = o.as_planned;
+      left = o.left;
       run = o.run;
       restartable = o.restartable;
       end = unless_ok _ r.result r.ensures.0;
@@ -75,6 +77,7 @@ returns-in_err-found g c =
     record {
       honest = o.honest;
       as_planned = o.as_planned;
+      left = o.left;
       run = o.run;
       restartable = o.restartable;
       end = unless_ok _ r.result r.ensures.0;
@@ -103,6 +106,7 @@ returns-in_err-swept g c =
     record {
       honest = o.honest;
       as_planned = o.as_planned;
+      left = o.left;
       run = o.run;
       restartable = o.restartable;
       end = unless_ok _ r.result r.ensures.0;
@@ -133,6 +137,7 @@ returns-in_err-there g c =
     record {
       honest = o.honest;
       as_planned = o.as_planned;
+      left = o.left;
       run = o.run;
       restartable = o.restartable;
       end = unless_ok _ r.result r.ensures.0;
@@ -211,6 +216,7 @@ returns-in_err-deliver_entries g c =
     record {
       honest = o.honest;
       as_planned = o.as_planned;
+      left = o.left;
       run = o.run;
       restartable = o.restartable;
       end = unless_ok _ r.result r.ensures.0;
@@ -254,6 +260,7 @@ returns-in_err-ended-2 g c =
     record {
       honest = o.honest;
       as_planned = o.as_planned;
+      left = o.left;
       run = o.run;
       restartable = o.restartable;
       end = unless_ok _ r.result r.ensures.0;
@@ -297,6 +304,7 @@ returns-then-ended g c =
     record {
       honest = o.honest;
       as_planned = o.as_planned;
+      left = o.left;
       run = o.run;
       restartable = o.restartable;
       end = all.end;
