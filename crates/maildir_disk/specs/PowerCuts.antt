@@ -1,13 +1,15 @@
 -- What a power cut may leave of the messages of a text.
 use Rattle.std.specs.Prelude.{◌≡◌, ◌≤◌, ℕ, List, [], ◌∷◌, length, All, Contains, IsTrue, Result}
-use Rattle.maildir_name.specs.Names.{is_converter_base}
+use Rattle.std.specs.FinMap.{get, contains_key}
+use Rattle.maildir_name.specs.Names.{is_converter_base, is_converter_name}
 use Rattle.maildir_run.specs.declared.fault.RunFault.{RunFault}
+use Rattle.maildir_run.specs.declared.folder.Sub.{Sub}
 use Rattle.maildir_run.specs.declared.folder.Sub.TheVariants.{Tmp}
 use Rattle.maildir_run.specs.declared.report.Report.{Report}
-use Rattle.maildir_run.specs.Calls.{Listing}
+use Rattle.maildir_run.specs.Calls.{Listing, folder_of}
 use Rattle.maildir_run.specs.Cuts.{Leaves}
 use Rattle.maildir_run.specs.Delivery.{Message}
-use Rattle.maildir_run.specs.Files.{Files, Action, acted, homes}
+use Rattle.maildir_run.specs.Files.{Files, Action, acted, all_acted, homes}
 use Rattle.maildir_run.specs.Progress.{LeavesHomes}
 use Rattle.maildir_run.specs.Runs.{Run}
 use Rattle.maildir_run.specs.Tasks.{Names, Performs, leaving, planned_tasks}
@@ -36,6 +38,23 @@ IsSingle s left = (b : List ℕ) → IsTrue (is_converter_base b) → length (ho
 -- what a cut leaves while other programs act, and nothing else happens
 abbrev pub LeavesOthers : Files → Files → Type 0
 LeavesOthers = Leaves (Listing Tmp)
+
+-- a converter's file of this name in `tmp` is found with what it holds, wherever it is found
+abbrev pub KeepsHeld : List ℕ → Files → (Files → Type 0) → Type 0
+KeepsHeld name s may_leave = (left : Files) → may_leave left → IsTrue (is_converter_name name) → get left.tmp name ≡ get s.tmp name
+
+-- At some moment of a call a cut left just the converter's names of a folder that were there. What others did after that moment came, or did not.
+pub record KeepsNames (sub : Sub) (old before new left : Files) : Type 0 where
+  pub moment : Files
+  pub actions : List Action
+  pub moment_is : moment ≡ all_acted actions old
+  pub rest : List Action
+  pub new_is : new ≡ all_acted rest moment
+  -- what a cut left at that moment
+  pub there : Files
+  pub earlier : LeavesOthers before there
+  pub later : LeavesOthers there left
+  pub names_are : (name : List ℕ) → IsTrue (is_converter_name name) → contains_key (folder_of sub there) name ≡ contains_key (folder_of sub moment) name
 
 -- a folder at one moment: its files, and what a cut would leave
 pub record Moment : Type 0 where
