@@ -24,7 +24,7 @@ use Rattle.maildir_disk.proofs.Pieces.{again}
 pub none_in : {X : Type 0} (y : X) → Contains [] y → ⊥
 none_in y (k, below, at) = omega (arith, below)
 
-first_in : {X : Type 0} (x : X) (xs : List X) → Contains (x ∷ xs) x
+pub first_in : {X : Type 0} (x : X) (xs : List X) → Contains (x ∷ xs) x
 first_in x xs = Contains-append_left (x ∷ []) xs x (Contains-push [] x)
 
 pub first_or : {X : Type 0} (x : X) (xs : List X) (y : X) → Contains (x ∷ xs) y → (y ≡ x) ⊎ Contains xs y

@@ -1,18 +1,11 @@
-use Rattle.std.proofs.Common.{rules, ◌≡◌, ℕ, ◌<◌, ◌^◌, List, length, Ok, Result, All, ◌+◌, ◌-◌, ◌*◌, ◌≤◌, ◌/◌, ◌%◌, Bool, true, false, nat_eq, nat_lt, [], ◌∷◌, ◌++◌, slice_index_or, slice_set, bit_and, bit_or, Fits, w8, w32, w64, Bor, MutBor}
-use Rattle.maildir_run.specs.declared.fault.RunFault.{RunFault}
-use Rattle.maildir_run.specs.declared.report.Report.{Report}
-use Rattle.maildir_run.specs.Delivery.{Message, AreNamed, Delivered, IsHome, IsMissing, IsSoundAt}
-use Rattle.maildir_run.specs.Files.{Files}
-use Rattle.maildir_run.specs.Runs.{Run}
-use Rattle.maildir_run.specs.Tasks.{Names, Performs, leaving, planned_tasks}
-use Rattle.maildir_run.specs.Texts.{MessagesOf}
-use Rattle.maildir_disk.specs.PowerCuts.{Event, Happen, HasBody, IsIntact, IsSingle, LeavesOthers, Moment}
+use Rattle.std.proofs.Common.{get_or}
+use Rattle.maildir_disk.proofs.CutChains.{single_sound, single_home}
 use Rattle.maildir_disk.proofs.cuts.one_name_each.Goals as goal
 
--- src/cuts.rt:35:1
 pub returns-clause-sound : goal.returns-clause-sound
-returns-clause-sound c = ?
+returns-clause-sound c = λ ms s left named sound intact single k d below.
+    single_sound (get_or ms k d) (named k d below) s left (sound k d below) (intact k d below) single
 
--- src/cuts.rt:35:1
 pub returns-clause-home : goal.returns-clause-home
-returns-clause-home c = ?
+returns-clause-home c = λ ms s left named home bodies single k d below.
+    single_home (get_or ms k d) (named k d below) s left (home k d below) (bodies k d below) single
