@@ -1,0 +1,114 @@
+-- What runs, actions and cuts leave that follow one another.
+use Rattle.std.proofs.Common.{◌≡◌, ℕ, ◌<◌, ◌≤◌, ◌^◌, List, [], ◌∷◌, ◌⊎◌, length, get_or, All, IsTrue, IsPermutation, Ok, sym, ap, subst, ◌∙◌, inl, inr, arith, refl}
+use Rattle.std.specs.List.{Contains}
+use Rattle.std.proofs.lemmas.List.Sorted.{IsPermutation-refl, IsPermutation-sym, length_permutation, Contains-permutation}
+use Rattle.maildir_name.specs.Names.{is_converter_base}
+use Rattle.maildir_run.specs.declared.report.Report.{Report}
+use Rattle.maildir_run.specs.Delivery.{Message, AreNamed, IsMissing, IsHome, IsSoundAt, Sound, Delivered}
+use Rattle.maildir_run.specs.Files.{Files, homes, acted}
+use Rattle.maildir_run.specs.Progress.{LeavesHomes}
+use Rattle.maildir_run.specs.Runs.{Run}
+use Rattle.maildir_run.specs.Texts.{MessagesOf}
+use Rattle.maildir_run.proofs.Homes.{acted_kept}
+use Rattle.maildir_run.proofs.MessageLemmas.{text_named, text_targets, text_distinct}
+use Rattle.maildir_run.proofs.Moves.{homes_none, homes_one}
+use Rattle.maildir_disk.specs.PowerCuts.{IsIntact, IsSingle, Moment, Event, Ran, Acted, Cut, Happens, Happen}
+use Rattle.maildir_disk.proofs.LeftHomes.{none_in, first_in, first_or, intact_on, others_hold}
+use Rattle.maildir_disk.proofs.LeftTasks.{run_holds, own_bodies}
+
+-- ---- at most one file
+only_one : (x : List ℕ) (ys : List (List ℕ)) → length ys ≤ 1 → ((y : List ℕ) → Contains ys y → y ≡ x) → (ys ≡ []) ⊎ (ys ≡ x ∷ [])
+only_one x [] few all = inl refl
+only_one x (y ∷ []) few all = inr (ap (λ z. z ∷ []) (all y (first_in y [])))
+only_one x (y ∷ z ∷ ys) few all = absurd (omega (arith, few))
+
+the_one : (x : List ℕ) (ys : List (List ℕ)) → length ys ≤ 1 → Contains ys x → ys ≡ x ∷ []
+the_one x [] few has = absurd (none_in x has)
+the_one x (y ∷ []) few has = elim (first_or y [] x has) as (λ _. y ∷ [] ≡ x ∷ []) [ inl is ↦ ap (λ z. z ∷ []) (sym is) | inr none ↦ absurd (none_in x none) ]
+the_one x (y ∷ z ∷ ys) few has = absurd (omega (arith, few))
+
+at_most_one : (m : Message) (s : Files) → IsSoundAt s m → length (homes s m.target.base) ≤ 1
+at_most_one m s (inl none) = let e = ap length none in omega (arith, e)
+at_most_one m s (inr one) = let e = ap length one in omega (arith, e)
+
+pub single_sound : (m : Message) → IsTrue (is_converter_base m.target.base) → (s left : Files) → IsSoundAt s m → IsIntact left m → IsSingle s left → IsSoundAt left m
+single_sound m named s left sound intact single =
+    let few = at_most_one m s sound in
+    let no_more = single m.target.base named in
+    only_one m.body (homes left m.target.base) (omega (arith, few, no_more)) intact
+
+pub single_home : (m : Message) → IsTrue (is_converter_base m.target.base) → (s left : Files) → IsHome s m → Contains (homes left m.target.base) m.body → IsSingle s left → IsHome left m
+single_home m named s left home has single =
+    let few = at_most_one m s (inr home) in
+    let no_more = single m.target.base named in
+    the_one m.body (homes left m.target.base) (omega (arith, few, no_more)) has
+
+-- ---- from one moment to the next
+missing_intact : (m : Message) (s : Files) → IsMissing s m → IsIntact s m
+missing_intact m s none bytes has = absurd (none_in bytes (subst (λ hs. Contains hs bytes) none has))
+
+home_intact : (m : Message) (s : Files) → IsHome s m → IsIntact s m
+home_intact m s home bytes has =
+    elim (first_or m.body [] bytes (subst (λ hs. Contains hs bytes) home has)) as (λ _. bytes ≡ m.body) [ inl is ↦ is | inr none ↦ absurd (none_in bytes none) ]
+
+sound_intact : (m : Message) (s : Files) → IsSoundAt s m → IsIntact s m
+sound_intact m s (inl none) = missing_intact m s none
+sound_intact m s (inr home) = home_intact m s home
+
+sound_on : (m : Message) (s t : Files) → IsPermutation (homes s m.target.base) (homes t m.target.base) → IsSoundAt s m → IsSoundAt t m
+sound_on m s t kept (inl none) = inl (homes_none m.target.base s t kept none)
+sound_on m s t kept (inr home) = inr (homes_one m.target.base m.body s t kept home)
+
+-- the folder is sound, and so is all that a cut would leave
+pub record Stands (ms : List Message) (moment : Moment) : Type 0 where
+  pub sound : All (IsSoundAt moment.files) ms
+  pub intact : All (IsIntact moment.left) ms
+
+module _ (t : List ℕ) (ms : List Message) (are : MessagesOf t ms) (small : length t < 2 ^ 63) where
+  named : AreNamed ms
+  named = text_named t ms are small
+
+  sound_now : (s : Files) → All (IsSoundAt s) ms → Sound ms s s
+  sound_now s sound = record { own = sound; others = λ b is other. IsPermutation-refl _ }
+
+  stands_after : (event : Event) (old new : Moment) → Stands ms old → Happens t event old new → Stands ms new
+  stands_after (Ran answer) old new stands (run, left) =
+      let planned = left ms are in
+      record {
+        sound = (run.keeps ms are (sound_now old.files stands.sound)).sound.own;
+        intact = λ k d below.
+            let m = get_or ms k d in
+            intact_on m old.left new.left
+            (run_holds m.target.base m.body (named k d below) planned.0 ms (text_targets t ms are small) (own_bodies ms (text_distinct t ms are small) k d below) old.left answer new.left planned.1)
+            (stands.intact k d below);
+      }
+  stands_after (Acted action) old new stands (e, leaves) = record {
+    sound = λ k d below.
+        let m = get_or ms k d in
+        subst (λ s. IsSoundAt s m) (sym e) (sound_on m old.files (acted action old.files) (acted_kept m.target.base (named k d below) action old.files) (stands.sound k d below));
+    intact = λ k d below.
+        let m = get_or ms k d in
+        intact_on m old.left new.left (others_hold m (named k d below) old.left new.left leaves) (stands.intact k d below);
+  }
+  stands_after Cut old new stands cut =
+      let sound : All (IsSoundAt new.files) ms = λ k d below.
+      let m = get_or ms k d in
+      sound_on m old.left new.files (cut.found.kept m.target.base (named k d below)) (single_sound m (named k d below) old.files old.left (stands.sound k d below) (stands.intact k d below) cut.single) in
+      record {
+        sound = sound;
+        intact = λ k d below.
+            let m = get_or ms k d in
+            sound_intact m new.left (sound_on m new.files new.left (cut.stays.kept m.target.base (named k d below)) (sound k d below));
+      }
+
+  stands_then : (events : List Event) (old new : Moment) → Stands ms old → Happen t events old new → Stands ms new
+  stands_then [] old new stands e = subst (Stands ms) (sym e) stands
+  stands_then (event ∷ events) old new stands (mid, first, then) = stands_then events mid new (stands_after event old mid stands first) then
+
+  pub cuts_stand : (events : List Event) (old new : Moment) → All (IsMissing old.files) ms → All (IsMissing old.left) ms → Happen t events old new → Stands ms new
+  cuts_stand events old new none none_left happen =
+      stands_then events old new (record { sound = λ k d below. inl (none k d below); intact = λ k d below. missing_intact (get_or ms k d) old.left (none_left k d below) }) happen
+
+  pub cuts_deliver : (events : List Event) (old mid : Moment) (new : Files) (report : Report) → All (IsMissing old.files) ms → All (IsMissing old.left) ms → Happen t events old mid → Run t mid.files (Ok report) new → Delivered ms new
+  cuts_deliver events old mid new report none none_left happen run =
+      (run.keeps ms are (sound_now mid.files (cuts_stand events old mid none none_left happen).sound)).ends.delivered
