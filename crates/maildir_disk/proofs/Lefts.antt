@@ -83,6 +83,9 @@ others_then = left_both (Listing Tmp)
 all_left : (call : Call) (a b : Files) → Leaves call a b → Left (Leaves call) (λ left. left ≡ a) (λ left. left ≡ b)
 all_left call a b h left e = (a, refl, subst (Leaves call a) (sym e) h)
 
+pub same_left : (call : Call) (a b : Files) → b ≡ a → Left (Leaves call) (λ left. left ≡ a) (λ left. left ≡ b)
+same_left call a b same = all_left call a b (record { kept = []; are = same })
+
 others_kept : (call : Call) (xs : List Action) (s : Files) → left_after s call (map (λ action. Came (Other action)) xs) ≡ all_acted xs s
 others_kept call [] s = refl
 others_kept call (x ∷ xs) s = others_kept call xs (acted x s)
@@ -101,7 +104,7 @@ pub called_left : {A E : Type 0} (call : Call) (a : Files) (outcome : Result A E
 called_left call a (Ok _) b h = all_left call a b (record { kept = map Came (h.before ++ Again ∷ h.rest); are = h.left ∙ sym (moves_kept call (h.before ++ Again ∷ h.rest) a) })
 called_left call a (Err _) b h = all_left call a b (record { kept = map Came h.moves; are = h.left ∙ sym (moves_kept call h.moves a) })
 
-on_ok : {A E : Type 0} (P : Type 0) (outcome : Result A E) → P → OnOk outcome P
+pub on_ok : {A E : Type 0} (P : Type 0) (outcome : Result A E) → P → OnOk outcome P
 on_ok P (Ok x) h = h
 on_ok P (Err e) h = tt
 
