@@ -8,7 +8,7 @@ use Rattle.maildir_run.specs.declared.folder.Sub.TheVariants.{Tmp}
 use Rattle.maildir_run.specs.declared.report.Report.{Report}
 use Rattle.maildir_run.specs.Calls.{Listing, folder_of}
 use Rattle.maildir_run.specs.Cuts.{Leaves}
-use Rattle.maildir_run.specs.Delivery.{Message}
+use Rattle.maildir_run.specs.Delivery.{Message, IsHome}
 use Rattle.maildir_run.specs.Files.{Files, Action, acted, all_acted, homes}
 use Rattle.maildir_run.specs.Progress.{LeavesHomes}
 use Rattle.maildir_run.specs.Runs.{Run}
@@ -30,6 +30,12 @@ HasBody s m = Contains (homes s m.target.base) m.body
 -- whatever a cut may leave, each message has a home there that holds its body
 abbrev pub Survive : List Message → (Files → Type 0) → Type 0
 Survive ms may_leave = (left : Files) → may_leave left → All (HasBody left) ms
+
+-- The messages are at home, and whatever a power cut leaves, each has a home there that holds its body, in the Maildir, which is found.
+pub record AreSafe (ms : List Message) (s : Files) (may_leave : Files → Type 0) (rooted : Type 0) : Type 0 where
+  pub home : All (IsHome s) ms
+  pub survive : Survive ms may_leave
+  pub found : rooted
 
 -- a cut leaves a file under one name: under no converter's base does it leave more files than there are
 abbrev pub IsSingle : Files → Files → Type 0
