@@ -1,59 +1,22 @@
 -- What runs, actions and cuts leave that follow one another.
-use Rattle.std.proofs.Common.{◌≡◌, ℕ, ◌<◌, ◌≤◌, ◌^◌, List, [], ◌∷◌, ◌⊎◌, length, get_or, All, IsTrue, IsPermutation, Ok, sym, ap, subst, ◌∙◌, inl, inr, arith, refl}
+use Rattle.std.proofs.Common.{ℕ, ◌<◌, ◌^◌, List, [], ◌∷◌, length, get_or, All, IsPermutation, Ok, sym, subst, inl, inr}
 use Rattle.std.specs.List.{Contains}
-use Rattle.std.proofs.lemmas.List.Sorted.{IsPermutation-refl, IsPermutation-sym, length_permutation, Contains-permutation}
-use Rattle.maildir_name.specs.Names.{is_converter_base}
+use Rattle.std.proofs.lemmas.List.Sorted.{IsPermutation-refl, IsPermutation-trans}
 use Rattle.maildir_run.specs.declared.report.Report.{Report}
-use Rattle.maildir_run.specs.Delivery.{Message, AreNamed, IsMissing, IsHome, IsSoundAt, Sound, Delivered}
+use Rattle.maildir_run.specs.Delivery.{Message, AreNamed, IsMissing, IsSoundAt, Sound, Delivered}
 use Rattle.maildir_run.specs.Files.{Files, homes, acted}
-use Rattle.maildir_run.specs.Progress.{LeavesHomes}
 use Rattle.maildir_run.specs.Runs.{Run}
 use Rattle.maildir_run.specs.Texts.{MessagesOf}
 use Rattle.maildir_run.proofs.Homes.{acted_kept}
-use Rattle.maildir_run.proofs.MessageLemmas.{text_named, text_targets, text_distinct}
+use Rattle.maildir_run.proofs.MessageLemmas.{text_named}
 use Rattle.maildir_run.proofs.Moves.{homes_none, homes_one}
-use Rattle.maildir_disk.specs.PowerCuts.{IsIntact, IsSingle, Moment, Event, Ran, Acted, Cut, Happens, Happen}
-use Rattle.maildir_disk.proofs.LeftHomes.{none_in, first_in, first_or, intact_on, others_hold}
-use Rattle.maildir_disk.proofs.LeftTasks.{run_holds, own_bodies}
+use Rattle.maildir_disk.specs.PowerCuts.{IsIntact, Moment, Event, Ran, Acted, Cut, Happens, Happen}
+use Rattle.maildir_disk.proofs.SingleHomes.{single_sound}
+use Rattle.maildir_disk.proofs.LeftHomes.{none_in, steady_kept, intact_on, others_hold}
+use Rattle.maildir_disk.proofs.LeftTasks.{run_intact}
 
--- ---- at most one file
-only_one : (x : List ℕ) (ys : List (List ℕ)) → length ys ≤ 1 → ((y : List ℕ) → Contains ys y → y ≡ x) → (ys ≡ []) ⊎ (ys ≡ x ∷ [])
-only_one x [] few all = inl refl
-only_one x (y ∷ []) few all = inr (ap (λ z. z ∷ []) (all y (first_in y [])))
-only_one x (y ∷ z ∷ ys) few all = absurd (omega (arith, few))
-
-the_one : (x : List ℕ) (ys : List (List ℕ)) → length ys ≤ 1 → Contains ys x → ys ≡ x ∷ []
-the_one x [] few has = absurd (none_in x has)
-the_one x (y ∷ []) few has = elim (first_or y [] x has) as (λ _. y ∷ [] ≡ x ∷ []) [ inl is ↦ ap (λ z. z ∷ []) (sym is) | inr none ↦ absurd (none_in x none) ]
-the_one x (y ∷ z ∷ ys) few has = absurd (omega (arith, few))
-
-at_most_one : (m : Message) (s : Files) → IsSoundAt s m → length (homes s m.target.base) ≤ 1
-at_most_one m s (inl none) = let e = ap length none in omega (arith, e)
-at_most_one m s (inr one) = let e = ap length one in omega (arith, e)
-
-pub single_sound : (m : Message) → IsTrue (is_converter_base m.target.base) → (s left : Files) → IsSoundAt s m → IsIntact left m → IsSingle s left → IsSoundAt left m
-single_sound m named s left sound intact single =
-    let few = at_most_one m s sound in
-    let no_more = single m.target.base named in
-    only_one m.body (homes left m.target.base) (omega (arith, few, no_more)) intact
-
-pub single_home : (m : Message) → IsTrue (is_converter_base m.target.base) → (s left : Files) → IsHome s m → Contains (homes left m.target.base) m.body → IsSingle s left → IsHome left m
-single_home m named s left home has single =
-    let few = at_most_one m s (inr home) in
-    let no_more = single m.target.base named in
-    the_one m.body (homes left m.target.base) (omega (arith, few, no_more)) has
-
--- ---- from one moment to the next
 missing_intact : (m : Message) (s : Files) → IsMissing s m → IsIntact s m
 missing_intact m s none bytes has = absurd (none_in bytes (subst (λ hs. Contains hs bytes) none has))
-
-home_intact : (m : Message) (s : Files) → IsHome s m → IsIntact s m
-home_intact m s home bytes has =
-    elim (first_or m.body [] bytes (subst (λ hs. Contains hs bytes) home has)) as (λ _. bytes ≡ m.body) [ inl is ↦ is | inr none ↦ absurd (none_in bytes none) ]
-
-sound_intact : (m : Message) (s : Files) → IsSoundAt s m → IsIntact s m
-sound_intact m s (inl none) = missing_intact m s none
-sound_intact m s (inr home) = home_intact m s home
 
 sound_on : (m : Message) (s t : Files) → IsPermutation (homes s m.target.base) (homes t m.target.base) → IsSoundAt s m → IsSoundAt t m
 sound_on m s t kept (inl none) = inl (homes_none m.target.base s t kept none)
@@ -76,11 +39,7 @@ module _ (t : List ℕ) (ms : List Message) (are : MessagesOf t ms) (small : len
       let planned = left ms are in
       record {
         sound = (run.keeps ms are (sound_now old.files stands.sound)).sound.own;
-        intact = λ k d below.
-            let m = get_or ms k d in
-            intact_on m old.left new.left
-            (run_holds m.target.base m.body (named k d below) planned.0 ms (text_targets t ms are small) (own_bodies ms (text_distinct t ms are small) k d below) old.left answer new.left planned.1)
-            (stands.intact k d below);
+        intact = run_intact t ms are small planned.0 old.left answer new.left planned.1 stands.intact;
       }
   stands_after (Acted action) old new stands (e, leaves) = record {
     sound = λ k d below.
@@ -90,16 +49,15 @@ module _ (t : List ℕ) (ms : List Message) (are : MessagesOf t ms) (small : len
         let m = get_or ms k d in
         intact_on m old.left new.left (others_hold m (named k d below) old.left new.left leaves) (stands.intact k d below);
   }
-  stands_after Cut old new stands cut =
-      let sound : All (IsSoundAt new.files) ms = λ k d below.
-      let m = get_or ms k d in
-      sound_on m old.left new.files (cut.found.kept m.target.base (named k d below)) (single_sound m (named k d below) old.files old.left (stands.sound k d below) (stands.intact k d below) cut.single) in
-      record {
-        sound = sound;
-        intact = λ k d below.
-            let m = get_or ms k d in
-            sound_intact m new.left (sound_on m new.files new.left (cut.stays.kept m.target.base (named k d below)) (sound k d below));
-      }
+  stands_after Cut old new stands cut = record {
+    sound = λ k d below.
+        let m = get_or ms k d in
+        sound_on m old.left new.files (cut.found.kept m.target.base (named k d below)) (single_sound m (named k d below) old.files old.left (stands.sound k d below) (stands.intact k d below) cut.single);
+    intact = λ k d below.
+        let m = get_or ms k d in
+        let b = m.target.base in
+        intact_on m old.left new.left (steady_kept b m.body old.left new.left (IsPermutation-trans _ _ _ (cut.found.kept b (named k d below)) (cut.stays.kept b (named k d below)))) (stands.intact k d below);
+  }
 
   stands_then : (events : List Event) (old new : Moment) → Stands ms old → Happen t events old new → Stands ms new
   stands_then [] old new stands e = subst (Stands ms) (sym e) stands

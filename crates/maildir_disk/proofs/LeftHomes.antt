@@ -10,13 +10,13 @@ use Rattle.maildir_name.specs.declared.target.Place.TheVariants.{New, Cur}
 use Rattle.maildir_name.specs.Names.{is_converter_name, is_converter_base}
 use Rattle.maildir_run.specs.Files.{FileMap, Files, is_name, has_base, held_under, homes, Action, ToCur, Reflag, DropTmp, Outside, may_take, acted}
 use Rattle.maildir_run.specs.declared.folder.Sub.TheVariants.{Tmp}
-use Rattle.maildir_run.specs.Calls.{Call, Listing, Placing, Move, Other, Again, Torn, placed, moved, PlacesElsewhere, StaysOrGoes}
-use Rattle.maildir_run.specs.Cuts.{Leaves, Came, Doubled, linked, doubled, left_after}
+use Rattle.maildir_run.specs.Calls.{Call, Listing, Writing, Placing, Move, Other, Again, Torn, placed, moved, PlacesElsewhere, StaysOrGoes}
+use Rattle.maildir_run.specs.Cuts.{Leaves, IsFoundWhole, Came, Doubled, linked, doubled, left_after}
 use Rattle.maildir_run.specs.Cuts as cuts
 use Rattle.maildir_run.specs.Delivery.{Message}
 use Rattle.maildir_run.proofs.Maps.{total, same, is_name-true, get-insert_same}
 use Rattle.maildir_run.proofs.Homes.{absent, acted_kept, equally, held-insert_other, held-insert_new, held-remove_old}
-use Rattle.maildir_run.proofs.Moves.{after_kept, after_tmp, stays}
+use Rattle.maildir_run.proofs.Moves.{after_kept, after_tmp}
 use Rattle.maildir_disk.specs.PowerCuts.{IsIntact, LeavesOthers}
 use Rattle.maildir_disk.proofs.Pieces.{again}
 
@@ -92,13 +92,10 @@ steady_right x old new first steady = record {
 abbrev pub Holds : (b x : List ℕ) (old new : Files) → Type 0
 Holds b x old new = Steady x (homes old b) (homes new b)
 
--- what `tmp` has under the name, if it has it, are these bytes
-abbrev pub Waits : List ℕ → List ℕ → Files → Type 0
-Waits name x s = (held : List ℕ) → get s.tmp name ≡ Some held → held ≡ x
-
-waits_on : (name x : List ℕ) (s t : Files) → StaysOrGoes name s t → Waits name x s → Waits name x t
-waits_on name x s t (inl stays) waits = λ held has. waits held (sym stays ∙ has)
-waits_on name x s t (inr gone) waits = λ held has. let e = sym gone ∙ has in cc
+-- a file that was written is found whole as long as nothing writes it
+whole_on : (name x : List ℕ) (s t : Files) → StaysOrGoes name s t → IsFoundWhole (Writing name x) s → IsFoundWhole (Writing name x) t
+whole_on name x s t (inl stays) whole = λ ours held has. whole ours held (sym stays ∙ has)
+whole_on name x s t (inr gone) whole = λ ours held has. let e = sym gone ∙ has in cc
 
 linked_tmp : (s : Files) (name target : List ℕ) (o : Option (List ℕ)) → (linked s name target o).tmp ≡ s.tmp
 linked_tmp s name target None = refl
@@ -186,24 +183,24 @@ module _ (b x : List ℕ) where
     pub leaves_elsewhere : (call : Call) → PlacesElsewhere b call → (s t : Files) → Leaves call s t → Holds b x s t
     leaves_elsewhere call off s t leaves = subst (Holds b x s) (sym leaves.are) (left_elsewhere call off leaves.kept s)
 
-    -- a call that places there what `tmp` has under a name, where these bytes wait
+    -- a call that places there what `tmp` has under a name, where these bytes were written
     module _ (name : List ℕ) (p : Place) (target : List ℕ) (ours : IsTrue (is_converter_name name)) (on : has_base b target ≡ true) where
-      placing_moved : (move : Move) (s : Files) → Waits name x s → Holds b x s (moved (Placing name p target) move s)
-      placing_moved (Other action) s waits = steady_kept s (acted action s) (acted_kept b named action s)
-      placing_moved Again s waits = placed_steady s name p target (get s.tmp name) on waits
-      placing_moved (Torn bytes) s waits = steady_same s
+      placing_moved : (move : Move) (s : Files) → IsFoundWhole (Writing name x) s → Holds b x s (moved (Placing name p target) move s)
+      placing_moved (Other action) s whole = steady_kept s (acted action s) (acted_kept b named action s)
+      placing_moved Again s whole = placed_steady s name p target (get s.tmp name) on (whole ours)
+      placing_moved (Torn bytes) s whole = steady_same s
 
-      left_placing : (kept : List cuts.Kept) (s : Files) → Waits name x s → Holds b x s (left_after s (Placing name p target) kept)
-      left_placing [] s waits = steady_same s
-      left_placing (Came move ∷ kept) s waits =
+      left_placing : (kept : List cuts.Kept) (s : Files) → IsFoundWhole (Writing name x) s → Holds b x s (left_after s (Placing name p target) kept)
+      left_placing [] s whole = steady_same s
+      left_placing (Came move ∷ kept) s whole =
           let t = moved (Placing name p target) move s in
-          steady_then s t (left_after s (Placing name p target) (Came move ∷ kept)) (placing_moved move s waits) (left_placing kept t (waits_on name x s t (after_tmp name ours (Placing name p target) tt (move ∷ []) s) waits))
-      left_placing (Doubled action ∷ kept) s waits =
+          steady_then s t (left_after s (Placing name p target) (Came move ∷ kept)) (placing_moved move s whole) (left_placing kept t (whole_on name x s t (after_tmp name ours (Placing name p target) tt (move ∷ []) s) whole))
+      left_placing (Doubled action ∷ kept) s whole =
           let t = doubled action s in
-          steady_then s t (left_after s (Placing name p target) (Doubled action ∷ kept)) (doubled_steady action s) (left_placing kept t (waits_on name x s t (inl (ap (λ m. get m name) (doubled_tmp action s))) waits))
+          steady_then s t (left_after s (Placing name p target) (Doubled action ∷ kept)) (doubled_steady action s) (left_placing kept t (whole_on name x s t (inl (ap (λ m. get m name) (doubled_tmp action s))) whole))
 
-      pub leaves_placing : (s t : Files) → Waits name x s → Leaves (Placing name p target) s t → Holds b x s t
-      leaves_placing s t waits leaves = subst (Holds b x s) (sym leaves.are) (left_placing leaves.kept s waits)
+      pub leaves_placing : (s t : Files) → IsFoundWhole (Writing name x) s → Leaves (Placing name p target) s t → Holds b x s t
+      leaves_placing s t whole leaves = subst (Holds b x s) (sym leaves.are) (left_placing leaves.kept s whole)
 
 -- ---- a message, of whose base this holds
 pub intact_on : (m : Message) (s t : Files) → Holds m.target.base m.body s t → IsIntact s m → IsIntact t m

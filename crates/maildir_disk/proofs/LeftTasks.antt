@@ -1,5 +1,5 @@
 -- What a cut leaves of the tasks of a run.
-use Rattle.std.proofs.Common.{◌≡◌, ℕ, ◌<◌, length, get_or, Bool, true, false, cond, List, [], ◌∷◌, ◌++◌, ◌⊎◌, All, IsTrue, IsFalse, Result, Ok, Err, sym, ap, subst, ◌∙◌, inl, inr}
+use Rattle.std.proofs.Common.{◌≡◌, ℕ, ◌<◌, ◌^◌, length, get_or, Bool, true, false, cond, List, [], ◌∷◌, ◌++◌, ◌⊎◌, All, IsTrue, IsFalse, Result, Ok, Err, sym, ap, subst, ◌∙◌, inl, inr}
 use Rattle.std.proofs.lemmas.Bool.{cases_Bool, cases_order, false≢true}
 use Rattle.std.proofs.lemmas.List.{get_or_default}
 use Rattle.std.proofs.lemmas.List.Elements.{All-head, All-tail}
@@ -7,16 +7,19 @@ use Rattle.maildir_name.specs.declared.target.Target.{Target}
 use Rattle.maildir_name.specs.Names.{base, is_converter_name, is_converter_base}
 use Rattle.maildir_run.specs.Calls.{Writing, Placing, PlacesElsewhere}
 use Rattle.maildir_run.specs.Cuts.{Leaves}
-use Rattle.maildir_run.specs.Delivery.{Message, AreDistinct}
+use Rattle.maildir_run.specs.Delivery.{Message, AreNamed, AreDistinct}
 use Rattle.maildir_run.specs.Files.{Files, is_name, has_base}
 use Rattle.maildir_run.specs.Plan.{is_listed}
 use Rattle.maildir_run.specs.Progress.{IsTarget}
 use Rattle.maildir_run.specs.Tasks.{Task, Do, call_of, AllDone, Stopped, Performs, leaving, Names, LeavesDone, listings, planned_tasks, sweep_of, delivery_of, delivery_if, deliveries_of}
+use Rattle.maildir_run.specs.Texts.{MessagesOf}
 use Rattle.maildir_run.proofs.Homes.{converters}
 use Rattle.maildir_run.proofs.Maps.{is_name-true, is_name-refl}
+use Rattle.maildir_run.proofs.MessageLemmas.{text_named, text_targets, text_distinct}
 use Rattle.maildir_run.proofs.Planned.{planned_are}
 use Rattle.maildir_run.proofs.TaskEffects.{PlacesNone, all_parts, stopped_parts, listings_place_none, sweep_places_none}
-use Rattle.maildir_disk.proofs.LeftHomes.{Holds, steady_same, steady_then, leaves_elsewhere, leaves_placing}
+use Rattle.maildir_disk.specs.PowerCuts.{IsIntact, HasBody}
+use Rattle.maildir_disk.proofs.LeftHomes.{Holds, steady_same, steady_then, leaves_elsewhere, leaves_placing, intact_on}
 
 -- ---- the parts of a list of tasks
 -- what a cut leaves of tasks that were all done, or of which one was refused
@@ -85,7 +88,7 @@ module _ (b x : List ℕ) (named : IsTrue (is_converter_base b)) where
         | inl front ↦ elsewhere_steady write tt ended old new front
         | inr (mid, wrote, put) ↦
             steady_then b x old mid new (elsewhere_steady write tt true old mid wrote)
-            (leaves_placing b x named t.base t.place t.name ours on mid new ((one_done write old mid wrote).1 ours) (one_left ended place mid new put))
+            (leaves_placing b x named t.base t.place t.name ours on mid new (one_done write old mid wrote).1 (one_left ended place mid new put))
       ]
 
   delivery_steady : (m : Message) → IsTarget m.target → (m.target.base ≡ b → m.body ≡ x) → AreSteady (delivery_of m.target m.body)
@@ -118,7 +121,7 @@ module _ (b x : List ℕ) (named : IsTrue (is_converter_base b)) where
       (both_steady (listings names) (sweep ++ deliveries) (all_elsewhere (listings names) (listings_place_none names))
       (both_steady sweep deliveries (all_elsewhere sweep (sweep_places_none names.tmp)) (deliveries_steady (is_listed names.new names.cur) ms are bodies)))
 
-  pub run_holds : {A E : Type 0} (names : Names) (ms : List Message) → All (λ m. IsTarget m.target) ms → All (λ m. m.target.base ≡ b → m.body ≡ x) ms → (old : Files) (r : Result A E) (new : Files) → Performs leaving (planned_tasks names ms) old r new → Holds b x old new
+  run_holds : {A E : Type 0} (names : Names) (ms : List Message) → All (λ m. IsTarget m.target) ms → All (λ m. m.target.base ≡ b → m.body ≡ x) ms → (old : Files) (r : Result A E) (new : Files) → Performs leaving (planned_tasks names ms) old r new → Holds b x old new
   run_holds names ms are bodies old r new h =
       let left = performs_left (planned_tasks names ms) old new r h in
       planned_steady names ms are bodies left.0 old new left.1
@@ -127,7 +130,7 @@ module _ (b x : List ℕ) (named : IsTrue (is_converter_base b)) where
 differ : (m n : Message) → IsFalse (is_name m.target.base n.target.base) → m.target.base ≡ n.target.base → ⊥
 differ m n apart alike = false≢true (sym apart ∙ (ap (is_name m.target.base) (sym alike) ∙ is_name-refl m.target.base))
 
-pub own_bodies : (ms : List Message) → AreDistinct ms → (k : ℕ) (d : Message) → k < length ms → All (λ n. n.target.base ≡ (get_or ms k d).target.base → n.body ≡ (get_or ms k d).body) ms
+own_bodies : (ms : List Message) → AreDistinct ms → (k : ℕ) (d : Message) → k < length ms → All (λ n. n.target.base ≡ (get_or ms k d).target.base → n.body ≡ (get_or ms k d).body) ms
 own_bodies ms distinct k d below j e there =
     let m = get_or ms k d in
     let n = get_or ms j d in
@@ -137,3 +140,18 @@ own_bodies ms distinct k d below j e there =
       | inr (inl before) ↦ absurd (differ n m (distinct j k d before below) alike)
       | inr (inr after) ↦ absurd (differ m n (distinct k j d after there) (sym alike))
     ])
+
+-- ---- the messages of a text
+module _ (t : List ℕ) (ms : List Message) (are : MessagesOf t ms) (small : length t < 2 ^ 63) (names : Names) {A E : Type 0} (before : Files) (r : Result A E) (now : Files) (ran : Performs leaving (planned_tasks names ms) before r now) where
+  text_holds : (b x : List ℕ) → IsTrue (is_converter_base b) → All (λ m. m.target.base ≡ b → m.body ≡ x) ms → Holds b x before now
+  text_holds b x named bodies = run_holds b x named names ms (text_targets t ms are small) bodies before r now ran
+
+  pub run_intact : All (IsIntact before) ms → All (IsIntact now) ms
+  run_intact intact k d below =
+      let m = get_or ms k d in
+      intact_on m before now (text_holds m.target.base m.body (text_named t ms are small k d below) (own_bodies ms (text_distinct t ms are small) k d below)) (intact k d below)
+
+  pub run_bodies : (others : List Message) → AreNamed others → All (λ m. All (λ n. n.target.base ≡ m.target.base → n.body ≡ m.body) ms) others → All (HasBody before) others → All (HasBody now) others
+  run_bodies others named alike bodies k d below =
+      let m = get_or others k d in
+      (text_holds m.target.base m.body (named k d below) (alike k d below)).still (bodies k d below)
