@@ -31,7 +31,7 @@ module _ (t : List ℕ) (ms : List Message) (are : MessagesOf t ms) (small : len
   named : AreNamed ms
   named = text_named t ms are small
 
-  sound_now : (s : Files) → All (IsSoundAt s) ms → Sound ms s s
+  pub sound_now : (s : Files) → All (IsSoundAt s) ms → Sound ms s s
   sound_now s sound = record { own = sound; others = λ b is other. IsPermutation-refl _ }
 
   stands_after : (event : Event) (old new : Moment) → Stands ms old → Happens t event old new → Stands ms new

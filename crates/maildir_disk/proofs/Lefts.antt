@@ -1,6 +1,6 @@
 -- What a cut leaves, from one moment of a call to the next.
 use Rattle.std.proofs.Common.{◌≡◌, inl, inr, ℕ, List, [], ◌∷◌, ◌++◌, map, Option, Some, None, IsTrue, refl, sym, ◌∙◌, ap, subst}
-use Rattle.std.specs.Prelude.{IsErr, OnErr, OnOk, Result, Ok, Err}
+use Rattle.std.specs.Prelude.{IsErr, IsOk, OnErr, OnOk, Result, Ok, Err}
 use Rattle.std.specs.FinMap.{get, contains_key}
 use Rattle.maildir_name.specs.Names.{is_converter_name}
 use Rattle.maildir_run.specs.declared.folder.Sub.{Sub}
@@ -107,6 +107,10 @@ called_left call a (Err _) b h = all_left call a b (record { kept = map Came h.m
 pub on_ok : {A E : Type 0} (P : Type 0) (outcome : Result A E) → P → OnOk outcome P
 on_ok P (Ok x) h = h
 on_ok P (Err e) h = tt
+
+pub if_ok : {A E : Type 0} (outcome : Result A E) (P : Type 0) → IsOk outcome → OnOk outcome P → P
+if_ok (Ok x) P is h = h
+if_ok (Err e) P is h = cc
 
 pub names_kept : {A E : Type 0} (sub : Sub) (a : World) (outcome : Result A E) (b : World) → Acts a b → OnOk outcome (Left (λ before left. KeepsNames sub a.files before b.files left) (λ left. left ≡ a.files) (λ left. left ≡ b.files))
 names_kept sub a outcome b acts = on_ok _ outcome (λ left e. (

@@ -43,7 +43,7 @@ module _ (m : Message) (named : IsTrue (is_converter_base m.target.base)) where
   found_cur moment there alike intact some =
       Contains-append_right _ _ m.body (only m.body (held_under m.target.base there.cur) (λ y h. intact y (Contains-append_right _ _ y h)) (λ none. some (none_alike there.cur moment.cur alike none)))
 
-  still_home : (actions : List Action) (s : Files) → IsHome s m → IsHome (all_acted actions s) m
+  pub still_home : (actions : List Action) (s : Files) → IsHome s m → IsHome (all_acted actions s) m
   still_home [] s home = home
   still_home (action ∷ actions) s home = still_home actions (acted action s) (homes_one m.target.base m.body s (acted action s) (acted_kept m.target.base named action s) home)
 
