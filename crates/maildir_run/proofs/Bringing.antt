@@ -10,6 +10,9 @@ use Rattle.maildir_name.proofs.TargetLemmas.{targets-push}
 use Rattle.maildir_run.specs.declared.fault.RunFault.{RunFault}
 use Rattle.maildir_run.specs.Progress.{message_at}
 use Rattle.maildir_run.specs.Tasks.{Seen, Ran, Brought, messages_after, delivery_of, delivery_if, deliveries_of}
+use Rattle.maildir_run.specs.Texts.{messages_of}
+use Rattle.maildir_run.proofs.MessageLemmas.{messages_of-push}
+use Rattle.maildir_run.proofs.PossibleMessages.{no_messages}
 use Rattle.maildir_run.proofs.Reach.{last_is}
 use Rattle.maildir_run.proofs.Tasks.{ran_none, ran_then, ran_before, ran_err}
 
@@ -19,6 +22,17 @@ messages_after-append before [] ys = ap (λ b. messages_after b ys) (sym (append
 messages_after-append before (x ∷ xs) ys =
     let m = message_at (target before x) x in
     ap (λ ms. m ∷ ms) (messages_after-append (before ++ x ∷ []) xs ys ∙ ap (λ b. messages_after (before ++ x ∷ []) xs ++ messages_after b ys) (append_assoc before (x ∷ []) xs))
+
+after_these : (xs ys : List (List ℕ)) → messages_of (xs ++ ys) ≡ messages_of xs ++ messages_after xs ys
+after_these xs [] = ap messages_of (append-nil xs) ∙ sym (append-nil (messages_of xs))
+after_these xs (y ∷ ys) =
+    let m = message_at (target xs y) y in
+    ap messages_of (sym (append_assoc xs (y ∷ []) ys)) ∙ after_these (xs ++ y ∷ []) ys
+    ∙ ap (λ ms. ms ++ messages_after (xs ++ y ∷ []) ys) (messages_of-push xs y)
+    ∙ append_assoc (messages_of xs) (m ∷ []) (messages_after (xs ++ y ∷ []) ys)
+
+pub all_messages : (bodies : List (List ℕ)) → messages_after [] bodies ≡ messages_of bodies
+all_messages bodies = ap (λ ms. ms ++ messages_after [] bodies) (sym no_messages) ∙ sym (after_these [] bodies)
 
 parts : (is_there : List ℕ → Bool) (before xs ys : List (List ℕ)) → deliveries_of is_there (messages_after before (xs ++ ys)) ≡ deliveries_of is_there (messages_after before xs) ++ deliveries_of is_there (messages_after (before ++ xs) ys)
 parts is_there before xs ys = ap (deliveries_of is_there) (messages_after-append before xs ys) ∙ flat_map-append (delivery_if is_there) (messages_after before xs) (messages_after (before ++ xs) ys)

@@ -38,3 +38,4 @@ pub mod Planned
 pub mod Bringing
 pub mod TaskEffects
 pub mod Owed
+pub mod Conversions

@@ -20,3 +20,4 @@ pub mod Quietly
 pub mod Listing
 pub mod ListedSoFar
 pub mod Tasks
+pub mod Conversion

@@ -23,15 +23,11 @@ returns-in_err-ended g c =
     record {
       all = unless_ok _ r.result r.ensures.0;
       end = unless_ok _ r.result r.ensures.0;
-      front =
-          on_err r.result b.front;
-      no_from_line = λ e.
-          b.nothing (fault_is r.result fault _ r.ensures.1 e);
-      spent = λ e.
-          b.spent (fault_is r.result fault _ r.ensures.1 e);
+      front = on_err r.result b.front;
+      no_from_line = λ e. b.nothing (fault_is r.result fault _ r.ensures.1 e);
+      spent = λ e. b.refused.spent (fault_is r.result fault _ r.ensures.1 e);
       causes = if_err _ r.result fault r.ensures.1 (inl c.in_err-ended.ensures.causes);
-      budget =
-          b.budget;
+      budget = b.refused.budget;
     }
 
 pub list-requires : goal.list-requires
@@ -54,12 +50,11 @@ returns-in_err-list g c =
           let fit = names_fit listing given _ _ _ _ c.read.new.out.items c.args.reads c.pieces.lister.count b c.requires in
           let s = rw c.deref.ensures.value at (c.in_err-list.ensures.lists given c.pieces.invariant.2 (rw c.deref.ensures.value fit)) in
           let w = batch_broken listing given _ _ _ _ _ c.read.new.out.items c.args.reads c.pieces.lister.count s.0 listing_output b s.1 s.2 in
-          on_err r.result w.0;
+          on_err r.result w;
       no_from_line = λ e. absurd (output_not_begun r.result fault r.ensures.1 c.in_err-list.ensures.causes e);
       spent = λ e. absurd (output_not_spent r.result fault r.ensures.1 c.in_err-list.ensures.causes e);
       causes = if_err _ r.result fault r.ensures.1 (output_causes fault c.in_err-list.ensures.causes);
-      budget =
-          (b.text, b.read, b.budget);
+      budget = (b.front.text, b.front.read, b.front.budget);
     }
 
 pub returns-then-ended : goal.returns-then-ended
@@ -72,16 +67,15 @@ returns-then-ended g c =
           let fit = names_fit listing given _ _ _ _ c.read.new.out.items c.args.reads c.pieces.lister.count b c.requires in
           let s = rw c.deref.ensures.value at (c.in_ok-list.ensures.lists given c.pieces.invariant.2 (rw c.deref.ensures.value fit)) in
           let all = poured_all listing given _ _ _ _ _ _ c.pieces.messages c.read.new.self.splitter c.read.new.self.reads c.pieces.whole.items c.read.new.out.items c.args.reads c.pieces.lister.count
-          s.0 c.pieces.invariant.1 (rw c.if-ended.true at c.in_ok-ended.ensures.went) s.1 s.2 in
+          s.0 c.pieces.invariant.1 s.1 s.2 (rw c.if-ended.true at c.in_ok-ended.ensures.went) in
           let count : c.list.new.self.count ≡ c.pieces.lister.count + length c.read.new.out.items = omega (arith, s.3.counted, c.pieces.invariant.2.counted, length-append given c.read.new.out.items) in
-          rw count all.0;
+          rw count all;
       end = went_to_end c.in_ok-ended.ended _ _ c.pieces.messages _ _ _ _ c.if-ended.true c.in_ok-ended.ensures.went;
       front = tt;
       no_from_line = λ e. absurd (ok_is_none _ _ e);
       spent = λ e. absurd (ok_is_none _ _ e);
       causes = tt;
-      budget =
-          (b.text, b.read, b.budget);
+      budget = (b.front.text, b.front.read, b.front.budget);
     }
 
 pub pieces-preserved : goal.pieces-preserved
@@ -91,8 +85,8 @@ pieces-preserved g c =
     c.pieces.invariant.1 c.in_ok-ended.ensures.went in
     let fit = names_fit listing given _ _ _ _ c.read.new.out.items c.args.reads c.pieces.lister.count b c.requires in
     let s = rw c.deref.ensures.value at (c.in_ok-list.ensures.lists given c.pieces.invariant.2 (rw c.deref.ensures.value fit)) in
-    let more = poured_more listing given _ _ _ _ _ _ c.pieces.messages c.read.new.self.splitter c.read.new.self.reads c.pieces.whole.items c.read.new.out.items c.clear.new.self.items c.args.reads c.pieces.lister.count
-    s.0 c.pieces.invariant.1 (rw c.if-ended.false at c.in_ok-ended.ensures.went) s.1 s.2 c.clear.ensures.items in
+    let more = poured_more listing given _ _ _ _ _ _ c.pieces.messages c.read.new.self.splitter c.read.new.self.reads c.pieces.whole.items c.read.new.out.items c.args.reads c.pieces.lister.count
+    s.0 c.pieces.invariant.1 s.1 s.2 c.clear.new.self.items (rw c.if-ended.false at c.in_ok-ended.ensures.went) c.clear.ensures.items in
     let count : c.list.new.self.count ≡ c.pieces.lister.count + length c.read.new.out.items = omega (arith, s.3.counted, c.pieces.invariant.2.counted, length-append given c.read.new.out.items) in
     (given ++ c.read.new.out.items, rw count more, s.3)
 

@@ -16,15 +16,11 @@ returns-in_err-ended g c =
     record {
       all = unless_ok _ r.result r.ensures.0;
       end = unless_ok _ r.result r.ensures.0;
-      front =
-          on_err r.result b.front;
-      no_from_line = λ e.
-          b.nothing (fault_is r.result fault _ r.ensures.1 e);
-      spent = λ e.
-          b.spent (fault_is r.result fault _ r.ensures.1 e);
+      front = on_err r.result b.front;
+      no_from_line = λ e. b.nothing (fault_is r.result fault _ r.ensures.1 e);
+      spent = λ e. b.refused.spent (fault_is r.result fault _ r.ensures.1 e);
       causes = if_err _ r.result fault r.ensures.1 (inl c.in_err-ended.ensures.causes);
-      budget =
-          b.budget;
+      budget = b.refused.budget;
     }
 
 pub returns-in_err-write_entries : goal.returns-in_err-write_entries
@@ -39,12 +35,11 @@ returns-in_err-write_entries g c =
       front =
           let w = batch_broken (flat_map spelling) c.pieces.invariant.0 _ _ _ _ _ c.read.new.out.items c.args.reads c.pieces.count (flat_map spelling c.deref.result.now) flat_output b
           (flat_more c.pieces.invariant.0 c.read.new.out.items c.deref.result.now c.deref.ensures.value) c.in_err-write_entries.ensures.written in
-          on_err r.result w.0;
+          on_err r.result w;
       no_from_line = λ e. absurd (output_not_begun r.result fault r.ensures.1 (inl c.in_err-write_entries.ensures.causes) e);
       spent = λ e. absurd (output_not_spent r.result fault r.ensures.1 (inl c.in_err-write_entries.ensures.causes) e);
       causes = if_err _ r.result fault r.ensures.1 (output_causes fault (inl c.in_err-write_entries.ensures.causes));
-      budget =
-          (b.text, b.read, b.budget);
+      budget = (b.front.text, b.front.read, b.front.budget);
     }
 
 pub overflow_add-count : goal.overflow_add-count
@@ -60,10 +55,10 @@ returns-then-ended g c = record {
   all =
       let p = c.pieces.invariant.1 in
       let all = poured_all (flat_map spelling) c.pieces.invariant.0 _ _ _ _ _ _ c.pieces.messages c.read.new.self.splitter c.read.new.self.reads c.pieces.whole.items c.read.new.out.items c.args.reads c.pieces.count
-      (flat_map spelling c.deref.result.now) p (rw c.if-ended.true at c.in_ok-ended.ensures.went) (flat_more c.pieces.invariant.0 c.read.new.out.items c.deref.result.now c.deref.ensures.value)
-      c.in_ok-write_entries.ensures.written in
+      (flat_map spelling c.deref.result.now) p (flat_more c.pieces.invariant.0 c.read.new.out.items c.deref.result.now c.deref.ensures.value) c.in_ok-write_entries.ensures.written
+      (rw c.if-ended.true at c.in_ok-ended.ensures.went) in
       let len : c.len.result ≡ length c.read.new.out.items = omega (arith, c.len.ensures, c.read.new.out.ok.0) in
-      rw len all.0;
+      rw len all;
   end = went_to_end c.in_ok-ended.ended _ _ c.pieces.messages _ _ _ _ c.if-ended.true c.in_ok-ended.ensures.went;
   front = tt;
   no_from_line = λ e. absurd (ok_is_none _ _ e);
@@ -72,15 +67,15 @@ returns-then-ended g c = record {
   budget =
       let b = batch (flat_map spelling) c.pieces.invariant.0 _ _ _ _ _ c.pieces.messages c.read.new.self.splitter c.read.new.self.reads c.pieces.whole.items c.read.new.out.items c.args.reads c.pieces.count c.in_ok-ended.ended
       c.pieces.invariant.1 c.in_ok-ended.ensures.went in
-      (b.text, b.read, b.budget);
+      (b.front.text, b.front.read, b.front.budget);
 }
 
 pub pieces-preserved : goal.pieces-preserved
 pieces-preserved g c =
     let p = c.pieces.invariant.1 in
-    let more = poured_more (flat_map spelling) c.pieces.invariant.0 _ _ _ _ _ _ c.pieces.messages c.read.new.self.splitter c.read.new.self.reads c.pieces.whole.items c.read.new.out.items c.clear.new.self.items c.args.reads c.pieces.count
-    (flat_map spelling c.deref.result.now) p (rw c.if-ended.false at c.in_ok-ended.ensures.went) (flat_more c.pieces.invariant.0 c.read.new.out.items c.deref.result.now c.deref.ensures.value)
-    c.in_ok-write_entries.ensures.written c.clear.ensures.items in
+    let more = poured_more (flat_map spelling) c.pieces.invariant.0 _ _ _ _ _ _ c.pieces.messages c.read.new.self.splitter c.read.new.self.reads c.pieces.whole.items c.read.new.out.items c.args.reads c.pieces.count
+    (flat_map spelling c.deref.result.now) p (flat_more c.pieces.invariant.0 c.read.new.out.items c.deref.result.now c.deref.ensures.value) c.in_ok-write_entries.ensures.written
+    c.clear.new.self.items (rw c.if-ended.false at c.in_ok-ended.ensures.went) c.clear.ensures.items in
     let len : c.len.result ≡ length c.read.new.out.items = omega (arith, c.len.ensures, c.read.new.out.ok.0) in
     (c.pieces.invariant.0 ++ c.read.new.out.items, rw len more)
 

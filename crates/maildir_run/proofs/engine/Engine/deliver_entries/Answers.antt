@@ -31,5 +31,6 @@ loop-entry-preserved g c =
           let then = rw (before.there, c.as_slice.ensures) at (c.in_ok-deliver.ensures.brought (bodies ++ bodies_of (take i entries)) first.named (few_next entries i entry lt c.entry-item.is bodies few)) in
           rw (bodies_next entries i entry lt c.entry-item.is []) (brought_then _ bodies _ _ _ _ _ _ _ _ _ _ _ _ _ _ first then);
       there = c.in_ok-deliver.ensures.there ∙ before.there;
+      swept = c.in_ok-deliver.ensures.swept ∙ before.swept;
       count = omega arith;
     }

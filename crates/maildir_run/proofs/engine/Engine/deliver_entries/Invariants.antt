@@ -12,5 +12,6 @@ invariant-loop-entry g l =
       brought : (bodies : List (List ℕ)) → Named bodies l.fn.self.namer → length bodies + length l.entries ≤ 2 ^ 63 →
           Brought {A = Unit {0}} (contains_key l.fn.self.there) bodies (bodies_of (take l.entry-index l.entries)) (at l.fn.folder) (at l.folder) l.fn.self.calls.made l.self.calls.made l.fn.self.placed l.self.placed l.self.namer (Ok tt);
       there : l.self.there ≡ l.fn.self.there;
+      swept : l.self.swept ≡ l.fn.self.swept;
       count : l.self.messages ≡ l.fn.self.messages + l.entry-index;
     }
