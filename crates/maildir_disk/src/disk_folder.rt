@@ -2,6 +2,7 @@
 ghost use Rattle.std.specs.Prelude.{◌≡◌, OnOk};
 ghost use Rattle.maildir_run.specs.Calls.{Called, CountsFailure, GoesUp, IsNotAbsent};
 ghost use Rattle.maildir_run.specs.Calls.Call.{Writing};
+ghost use Rattle.maildir_run.specs.Cuts.{Left, LeavesOf};
 ghost use Rattle.maildir_disk.specs.World.{Acts};
 ghost use Rattle.maildir_disk.specs.Writing.{KeepsHeld};
 
@@ -78,6 +79,9 @@ impl<S: System> DiskFolder<S> {
 impl<S: System> Folder for DiskFolder<S> {
     ghost files = { λ folder. (S.world folder.system).files };
 
+    // nothing is said of power cuts yet
+    ghost may_leave = { λ _ _. ⊥ };
+
     ghost honest = { λ folder. S.honest folder.system };
 
     ghost quiet = { λ _. ⊥ };
@@ -95,6 +99,7 @@ impl<S: System> Folder for DiskFolder<S> {
         ensures honest { S.honest self.old.system → S.honest self.new.system }
         ensures called { S.honest self.old.system → Called (Writing name.now bytes.now)
             (S.world self.old.system).files result (S.world self.new.system).files }
+        ensures left { S.honest self.old.system → Left (λ before now. LeavesOf (Writing name.now bytes.now) before result now) (λ _. ⊥) (λ _. ⊥) }
         ensures kept { S.honest self.old.system →
             OnOk result (KeepsHeld (S.kept self.new.system) name.now (S.world self.new.system).files) }
         ensures counted { GoesUp self.old.calls self.new.calls }

@@ -1,5 +1,5 @@
 -- Messages that are brought one after the other.
-use Rattle.std.proofs.Common.{◌≡◌, ℕ, ◌+◌, Bool, true, false, cond, List, [], ◌∷◌, ◌++◌, length, Result, Ok, Err, OnOk, sym, ap, subst, ◌∙◌, arith, append_assoc, length-append}
+use Rattle.std.proofs.Common.{◌≡◌, ℕ, ◌+◌, Bool, true, false, cond, List, [], ◌∷◌, ◌++◌, length, Result, Ok, Err, OnOk, refl, sym, ap, inr, subst, ◌∙◌, arith, append_assoc, length-append}
 use Rattle.std.specs.Prelude.{IsErrAnd}
 use Rattle.std.proofs.lemmas.List.{append-nil}
 use Rattle.std.proofs.lemmas.List.Concat.{flat_map-append}
@@ -8,13 +8,14 @@ use Rattle.maildir_name.specs.Named.{Counts, Named}
 use Rattle.maildir_name.specs.Targets.{target, targets}
 use Rattle.maildir_name.proofs.TargetLemmas.{targets-push}
 use Rattle.maildir_run.specs.declared.fault.RunFault.{RunFault}
+use Rattle.maildir_run.specs.declared.fault.RunFault.TheVariants.{OutOfMemory}
 use Rattle.maildir_run.specs.Progress.{message_at}
 use Rattle.maildir_run.specs.Tasks.{Seen, Ran, Brought, messages_after, delivery_of, delivery_if, deliveries_of}
 use Rattle.maildir_run.specs.Texts.{messages_of}
 use Rattle.maildir_run.proofs.MessageLemmas.{messages_of-push}
 use Rattle.maildir_run.proofs.PossibleMessages.{no_messages}
 use Rattle.maildir_run.proofs.Reach.{last_is}
-use Rattle.maildir_run.proofs.Tasks.{ran_none, ran_then, ran_before, ran_err}
+use Rattle.maildir_run.proofs.Tasks.{ran_none, ran_then, ran_before, ran_stop, ran_err}
 
 -- ---- messages that follow one another
 messages_after-append : (before xs ys : List (List ℕ)) → messages_after before (xs ++ ys) ≡ messages_after before xs ++ messages_after (before ++ xs) ys
@@ -52,6 +53,15 @@ brought_none is_there before s made placed namer named = record {
   ran = ran_none tt s made;
   named = subst (λ bs. Named bs namer) (sym (append-nil before)) named;
   placed_are = omega arith;
+}
+
+-- memory was refused before the first
+pub brought_refused : {A : Type 0} (answer : Result A RunFault) (is_there : List ℕ → Bool) (before more : List (List ℕ)) (s : Seen) (made placed : ℕ) (namer : Counts) → IsErrAnd answer (λ e. e ≡ OutOfMemory) → Brought is_there before more s s made made placed placed namer answer
+brought_refused (Ok x) is_there before more s made placed namer is = absurd is
+brought_refused {A} (Err e) is_there before more s made placed namer is = record {
+  ran = ran_before {A = A} e [] _ s s made made (ran_stop {B = A} (tt {0}) e (Err e) [] s s made made refl (inr (inr (inr is))) (ran_none (tt {0}) s made));
+  named = tt;
+  placed_are = tt;
 }
 
 -- some, and more

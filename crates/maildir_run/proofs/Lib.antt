@@ -1,6 +1,7 @@
 pub mod Maps
 pub mod Homes
 pub mod Moves
+pub mod Cuts
 pub mod ListedNowhere
 pub mod Chains
 pub mod Outsiders

@@ -17,6 +17,7 @@ use Rattle.maildir_run.specs.declared.report.Report.{Report}
 use Rattle.maildir_run.specs.Alone.{swept, filled, alone}
 use Rattle.maildir_run.specs.Conversion.{Conversion, Tells, run_tasks}
 use Rattle.maildir_run.specs.Counting.{capped, IsNumbered, Makes, Numbers}
+use Rattle.maildir_run.specs.Cuts.{Left}
 use Rattle.maildir_run.specs.Delivery.{Message, IsSoundAt, IsMissing, Delivered, AreDistinct, Sound, has_home, there_count, leftover_count}
 use Rattle.maildir_run.specs.Files.{Files}
 use Rattle.maildir_run.specs.Given.{GaveAll, Refused}
@@ -26,12 +27,13 @@ use Rattle.maildir_run.specs.Quietly.{LeavesOthers}
 use Rattle.maildir_run.specs.Reading.{ReadsAtLeast}
 use Rattle.maildir_run.specs.Runs.{Possible, Keeps, Run, CountsRun, Link, Runs}
 use Rattle.mbox_text.specs.Mbox.{Mbox}
-use Rattle.maildir_run.specs.Tasks.{Task, Do, Seen, Ran, Performs, AllDone, Stopped, reported, undisturbed, Names, listings, sweep_of, planned_tasks, delivery_of, delivery_if, deliveries_of}
+use Rattle.maildir_run.specs.Tasks.{Task, Do, Seen, Ran, Performs, AllDone, Stopped, reported, undisturbed, Names, listings, sweep_of, planned_tasks, delivery_of, delivery_if, deliveries_of, Way, leaving}
 use Rattle.maildir_run.specs.Calls.{Removing}
 use Rattle.maildir_run.specs.Texts.{messages_of, bodies_of, MessagesOf}
 use Rattle.maildir_run.proofs.CallCounts.{run_counts}
 use Rattle.maildir_run.proofs.Maps.{is_name-true}
 use Rattle.maildir_run.proofs.MessageLemmas.{text_named, text_distinct, text_targets, messages_distinct, messages_targets, length-messages_of}
+use Rattle.maildir_run.proofs.Cuts.{left_as}
 use Rattle.maildir_run.proofs.Chains.{chain_delivered}
 use Rattle.maildir_run.proofs.PossibleMessages.{stands_keeps, front_stands, whole_text, given_of, none_done}
 use Rattle.maildir_run.proofs.QuietRuns.{swept_free}
@@ -39,7 +41,7 @@ use Rattle.maildir_run.proofs.Steps.{leaves_trans}
 use Rattle.maildir_run.proofs.Surveys.{filter-length}
 use Rattle.maildir_run.proofs.Numbers.{count-cons}
 use Rattle.maildir_run.proofs.Planned.{planned_are}
-use Rattle.maildir_run.proofs.Tasks.{stopped_before, reported_stops}
+use Rattle.maildir_run.proofs.Tasks.{stopped_before, reported_stops, MayStop, leaving_stops}
 use Rattle.std.proofs.lemmas.List.Concat.{flat_map-append}
 use Rattle.maildir_run.proofs.TaskEffects.{PlacesNone, AreOurs, all_leave, stopped_leave, all_parts, stopped_parts, looked, looked_quietly, all_swept, swept_quietly, listings_place_none, sweep_places_none, all_progress, stopped_came, CameTo, all_filled, performs_others}
 
@@ -192,10 +194,10 @@ module _ (names : Names) (these more ms : List Message) (e : ms ≡ these ++ mor
       planned_are names ms ∙ ap (run_tasks names) e ∙ ap (λ ts. listings names ++ (sweep_of names.tmp ++ ts)) (flat_map-append (delivery_if is_there) these more)
       ∙ ap (λ ts. listings names ++ ts) (sym (append_assoc (sweep_of names.tmp) (deliveries_of is_there these) (deliveries_of is_there more)))
 
-  planned_performs : (r : Result Report RunFault) → OnOk r (ms ≡ these) → (start now : Files) → Performs reported (run_tasks names these) start r now → Performs reported (planned_tasks names ms) start r now
-  planned_performs (Ok x) same start now h = subst (λ ts. AllDone reported ts start now) (sym (planned_are names ms ∙ ap (run_tasks names) same)) h
-  planned_performs (Err fault) same start now h =
-      subst (λ ts. Stopped reported ts start now) (sym planned_front) (stopped_before reported reported_stops (run_tasks names these) (deliveries_of (is_listed names.new names.cur) more) start now h)
+  planned_performs : (w : Way) → MayStop w → (r : Result Report RunFault) → OnOk r (ms ≡ these) → (start now : Files) → Performs w (run_tasks names these) start r now → Performs w (planned_tasks names ms) start r now
+  planned_performs w still (Ok x) same start now h = subst (λ ts. AllDone w ts start now) (sym (planned_are names ms ∙ ap (run_tasks names) same)) h
+  planned_performs w still (Err fault) same start now h =
+      subst (λ ts. Stopped w ts start now) (sym planned_front) (stopped_before w still (run_tasks names these) (deliveries_of (is_listed names.new names.cur) more) start now h)
 
 -- the calls are those of the report
 calls_made : (names : Names) (ms : List Message) (start now : Seen) (made made' : ℕ) (r : Result Report RunFault) → Ran (run_tasks names ms) start now made made' r → IfOk r (Tells names ms) → IfOk r (λ report. CountsRun report start.calls now.calls)
@@ -233,10 +235,15 @@ module _ {before after : Option (List ℕ)} {reads : ℕ} {start now : Seen} {r 
   performs_here : start.honest → (t : List ℕ) (ms : List Message) → Possible before after t → MessagesOf t ms → Performs reported (planned_tasks run.names ms) start.files r now.files
   performs_here h t ms p of =
       let g = given_here t ms p of in
-      planned_performs run.names (messages_of (bodies_of run.given)) g.0 ms g.1 r g.2 start.files now.files (run.ran.reported_of h)
+      planned_performs run.names (messages_of (bodies_of run.given)) g.0 ms g.1 reported reported_stops r g.2 start.files now.files (run.ran.reported_of h)
 
   pub owes_planned : start.honest → (t : List ℕ) (ms : List Message) → Possible before after t → MessagesOf t ms → (names : Names) × Performs reported (planned_tasks names ms) start.files r now.files
   owes_planned h t ms p of = (run.names, performs_here h t ms p of)
+
+  pub owes_left : start.honest → (t : List ℕ) (ms : List Message) → Possible before after t → MessagesOf t ms → Left (λ old new. (names : Names) × Performs leaving (planned_tasks names ms) old r new) start.may_leave now.may_leave
+  owes_left h t ms p of =
+      let g = given_here t ms p of in
+      left_as _ _ start.may_leave now.may_leave (λ old new q. (run.names, planned_performs run.names (messages_of (bodies_of run.given)) g.0 ms g.1 leaving leaving_stops r g.2 old new q)) (run.ran.left h)
 
   pub owes_run : start.honest → (t : List ℕ) → length t < 2 ^ 63 → Possible before after t → Run t start.files r now.files
   owes_run h t small p = record {

@@ -16,10 +16,12 @@ use Rattle.maildir_run.specs.declared.folder.FolderFault.TheVariants as folder
 use Rattle.maildir_run.specs.declared.folder.Sub.{Sub}
 use Rattle.maildir_run.specs.Calls.{Call, Called, CalledQuietly, Listed, Listing, GoesUp, CountsFailure, folder_of, names_of}
 use Rattle.maildir_run.specs.Counting.{run_answer, capped, CountsFault, IsNumbered}
+use Rattle.maildir_run.specs.Cuts.{Left, LeavesOf}
 use Rattle.maildir_run.specs.Files.{Files}
-use Rattle.maildir_run.specs.Tasks.{Task, Ask, Do, Way, reported, undisturbed, AllDone, Stopped, Performs, Seen, Ran, RanAll, names_in}
+use Rattle.maildir_run.specs.Tasks.{Task, Ask, Do, Way, reported, undisturbed, leaving, AllDone, Stopped, Performs, Seen, Ran, RanAll, names_in}
 use Rattle.maildir_run.specs.Reading.{IsReading}
 use Rattle.maildir_run.proofs.Faults.{cause_read}
+use Rattle.maildir_run.proofs.Cuts.{left_as, left_then}
 use Rattle.maildir_run.proofs.CallCounts.{one_call, more_calls, no_call, reading_numbered}
 
 -- ---- a way in which nothing need happen
@@ -31,6 +33,9 @@ reported_stops task s = record { moves = []; left = refl }
 
 pub undisturbed_stops : MayStop undisturbed
 undisturbed_stops task s = ([], tt, refl)
+
+pub leaving_stops : MayStop leaving
+leaving_stops task s = record { kept = []; are = refl }
 
 -- ---- tasks after one another
 stopped_here : (w : Way) → MayStop w → (tasks : List Task) (s : Files) → Stopped w tasks s s
@@ -59,6 +64,7 @@ pub ran_none : {A : Type 0} (x : A) (s : Seen) (made : ℕ) → Ran [] s s made 
 ran_none x s made = record {
   honest = λ h. h;
   reported_of = λ h. refl;
+  left = λ h new may. (new, may, refl);
   quiet = λ q. q;
   undisturbed_of = λ q. refl;
   n = 0;
@@ -83,6 +89,7 @@ ran_then x r xs ys a b c made mid made' first then =
     record {
       honest = λ h. then.honest (first.honest h);
       reported_of = λ h. performs_then reported xs ys a.files b.files c.files r (first.reported_of h) (then.reported_of (first.honest h));
+      left = λ h. left_then _ _ _ a.may_leave b.may_leave c.may_leave (λ x y z. performs_then leaving xs ys x y z r) (first.left h) (then.left (first.honest h));
       quiet = λ q. then.quiet (first.quiet q);
       undisturbed_of = λ q. performs_then undisturbed xs ys a.files b.files c.files r (first.undisturbed_of q) (then.undisturbed_of (first.quiet q));
       n = first.n + then.n;
@@ -100,6 +107,7 @@ ran_before fault xs ys a b made made' h =
     record {
       honest = h.honest;
       reported_of = λ q. stopped_before reported reported_stops xs ys a.files b.files (h.reported_of q);
+      left = λ q. left_as _ _ a.may_leave b.may_leave (stopped_before leaving leaving_stops xs ys) (h.left q);
       quiet = h.quiet;
       undisturbed_of = λ q. stopped_before undisturbed undisturbed_stops xs ys a.files b.files (h.undisturbed_of q);
       n = h.n;
@@ -115,6 +123,7 @@ pub ran_ok : {A B : Type 0} (x : A) (y : B) (xs : List Task) (a b : Seen) (made 
 ran_ok x y xs a b made made' h = record {
   honest = h.honest;
   reported_of = h.reported_of;
+  left = h.left;
   quiet = h.quiet;
   undisturbed_of = h.undisturbed_of;
   n = h.n;
@@ -149,6 +158,7 @@ ran_err fault (Ok x) xs a b made made' is h = absurd is
 ran_err {A} {B} fault (Err e) xs a b made made' is h = subst (λ f. Ran {A = B} xs a b made made' (Err f)) (sym is) (record {
   honest = h.honest;
   reported_of = h.reported_of;
+  left = h.left;
   quiet = h.quiet;
   undisturbed_of = h.undisturbed_of;
   n = h.n;
@@ -169,6 +179,7 @@ ran_stop x fault (Ok y) xs a b made made' is reading h = absurd is
 ran_stop {A} {B} x fault (Err e) xs a b made made' is reading h = record {
   honest = h.honest;
   reported_of = λ q. all_stopped reported xs a.files b.files (h.reported_of q);
+  left = λ q. left_as _ _ a.may_leave b.may_leave (all_stopped leaving xs) (h.left q);
   quiet = h.quiet;
   undisturbed_of = λ q. all_stopped undisturbed xs a.files b.files (h.undisturbed_of q);
   n = h.n;
@@ -206,6 +217,7 @@ one_all (Err x) n e = tt
 pub record Says {A : Type 0} (task : Task) (old new : Seen) (r : Result A FolderFault) : Type 0 where
   pub honest : old.honest → new.honest
   pub reported_of : old.honest → Performs reported (task ∷ []) old.files r new.files
+  pub left : old.honest → Left (λ before now. Performs leaving (task ∷ []) before r now) old.may_leave new.may_leave
   pub quiet : old.quiet → new.quiet
   pub undisturbed_of : old.quiet → Performs undisturbed (task ∷ []) old.files r new.files
   pub counted : GoesUp old.calls new.calls
@@ -215,6 +227,7 @@ ran_one : {A : Type 0} (task : Task) (old new : Seen) (made made' : ℕ) (r : Re
 ran_one task old new made made' r answer up is h = subst (Ran (task ∷ []) old new made made') (sym is) (record {
   honest = h.honest;
   reported_of = λ q. told reported (task ∷ []) old.files r new.files made' (h.reported_of q);
+  left = λ q. left_as _ _ old.may_leave new.may_leave (λ before now. told leaving (task ∷ []) before r now made') (h.left q);
   quiet = h.quiet;
   undisturbed_of = λ q. told undisturbed (task ∷ []) old.files r new.files made' (h.undisturbed_of q);
   n = 1;
@@ -229,6 +242,10 @@ do_reported : {A : Type 0} (call : Call) (old : Files) (r : Result A FolderFault
 do_reported call old (Ok v) new h = (new, h, refl)
 do_reported call old (Err e) new h = inl h
 
+do_leaving : {A : Type 0} (call : Call) (r : Result A FolderFault) (old new : Files) → LeavesOf call old r new → Performs leaving (Do call ∷ []) old r new
+do_leaving call (Ok v) old new h = (new, h, refl)
+do_leaving call (Err e) old new h = inl h
+
 do_undisturbed : {A : Type 0} (call : Call) (old : Files) (r : Result A FolderFault) (new : Files) → CalledQuietly call old r new → Performs undisturbed (Do call ∷ []) old r new
 do_undisturbed call old (Ok v) new h = (new, h, refl)
 do_undisturbed call old (Err e) new h = inl h
@@ -236,6 +253,10 @@ do_undisturbed call old (Err e) new h = inl h
 ask_reported : (sub : Sub) (old : Files) (r : Result (Vec (String Global) Global) FolderFault) (new : Files) → Listed sub old r new → Performs reported (Ask sub (names_in r) ∷ []) old r new
 ask_reported sub old (Ok v) new h = (new, h, refl)
 ask_reported sub old (Err e) new h = inl h
+
+ask_leaving : (sub : Sub) (r : Result (Vec (String Global) Global) FolderFault) (old new : Files) → LeavesOf (Listing sub) old r new → Performs leaving (Ask sub (names_in r) ∷ []) old r new
+ask_leaving sub (Ok v) old new h = (new, h, refl)
+ask_leaving sub (Err e) old new h = inl h
 
 ask_undisturbed : (sub : Sub) (old : Files) (r : Result (Vec (String Global) Global) FolderFault) (new : Files) → CalledQuietly (Listing sub) old r new → IfOk r (λ v. IsPermutation (names_of v) (keys (folder_of sub old))) → Performs undisturbed (Ask sub (names_in r) ∷ []) old r new
 ask_undisturbed sub old (Ok v) new h names = (new, (h.1, names), refl)
@@ -248,10 +269,11 @@ told_names_in (Err Broken) number = refl
 told_names_in (Err folder.OutOfMemory) number = refl
 
 -- a write, a placement or a removal
-pub ran_do : {A : Type 0} (call : Call) (old new : Seen) (made made' : ℕ) (r : Result A FolderFault) (answer : Result A RunFault) → made' ≡ capped (made + 1) → answer ≡ run_answer made' r → (old.honest → new.honest) → (old.honest → Called call old.files r new.files) → (old.quiet → new.quiet) → (old.quiet → CalledQuietly call old.files r new.files) → GoesUp old.calls new.calls → CountsFailure r old.failures new.failures → Ran (Do call ∷ []) old new made made' answer
-ran_do call old new made made' r answer up is honest called quiet alone counted cause = ran_one (Do call) old new made made' r answer up is (record {
+pub ran_do : {A : Type 0} (call : Call) (old new : Seen) (made made' : ℕ) (r : Result A FolderFault) (answer : Result A RunFault) → made' ≡ capped (made + 1) → answer ≡ run_answer made' r → (old.honest → new.honest) → (old.honest → Called call old.files r new.files) → (old.honest → Left (λ before now. LeavesOf call before r now) old.may_leave new.may_leave) → (old.quiet → new.quiet) → (old.quiet → CalledQuietly call old.files r new.files) → GoesUp old.calls new.calls → CountsFailure r old.failures new.failures → Ran (Do call ∷ []) old new made made' answer
+ran_do call old new made made' r answer up is honest called left quiet alone counted cause = ran_one (Do call) old new made made' r answer up is (record {
   honest = honest;
   reported_of = λ h. do_reported call old.files r new.files (called h);
+  left = λ h. left_as _ _ old.may_leave new.may_leave (do_leaving call r) (left h);
   quiet = quiet;
   undisturbed_of = λ q. do_undisturbed call old.files r new.files (alone q);
   counted = counted;
@@ -259,12 +281,13 @@ ran_do call old new made made' r answer up is honest called quiet alone counted 
 })
 
 -- a listing
-pub ran_ask : (sub : Sub) (old new : Seen) (made made' : ℕ) (r : Result (Vec (String Global) Global) FolderFault) (answer : Result (Vec (String Global) Global) RunFault) → made' ≡ capped (made + 1) → answer ≡ run_answer made' r → (old.honest → new.honest) → (old.honest → Listed sub old.files r new.files) → (old.quiet → new.quiet) → (old.quiet → CalledQuietly (Listing sub) old.files r new.files) → (old.quiet → IfOk r (λ v. IsPermutation (names_of v) (keys (folder_of sub old.files)))) → GoesUp old.calls new.calls → CountsFailure r old.failures new.failures → Ran (Ask sub (names_in answer) ∷ []) old new made made' answer
-ran_ask sub old new made made' r answer up is honest called quiet alone names counted cause =
+pub ran_ask : (sub : Sub) (old new : Seen) (made made' : ℕ) (r : Result (Vec (String Global) Global) FolderFault) (answer : Result (Vec (String Global) Global) RunFault) → made' ≡ capped (made + 1) → answer ≡ run_answer made' r → (old.honest → new.honest) → (old.honest → Listed sub old.files r new.files) → (old.honest → Left (λ before now. LeavesOf (Listing sub) before r now) old.may_leave new.may_leave) → (old.quiet → new.quiet) → (old.quiet → CalledQuietly (Listing sub) old.files r new.files) → (old.quiet → IfOk r (λ v. IsPermutation (names_of v) (keys (folder_of sub old.files)))) → GoesUp old.calls new.calls → CountsFailure r old.failures new.failures → Ran (Ask sub (names_in answer) ∷ []) old new made made' answer
+ran_ask sub old new made made' r answer up is honest called left quiet alone names counted cause =
     subst (λ xs. Ran (Ask sub xs ∷ []) old new made made' answer) (sym (ap names_in is ∙ told_names_in r made'))
     (ran_one (Ask sub (names_in r)) old new made made' r answer up is (record {
       honest = honest;
       reported_of = λ h. ask_reported sub old.files r new.files (called h);
+      left = λ h. left_as _ _ old.may_leave new.may_leave (ask_leaving sub r) (left h);
       quiet = quiet;
       undisturbed_of = λ q. ask_undisturbed sub old.files r new.files (alone q) (names q);
       counted = counted;

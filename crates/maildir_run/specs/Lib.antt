@@ -1,5 +1,6 @@
 pub mod Files
 pub mod Calls
+pub mod Cuts
 pub mod Delivery
 pub mod Texts
 pub mod Runs

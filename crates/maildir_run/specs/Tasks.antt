@@ -15,6 +15,7 @@ use Rattle.maildir_run.specs.declared.folder.Sub.TheVariants.{Tmp, New, Cur}
 use Rattle.maildir_run.specs.declared.planner.Step.{Step}
 use Rattle.maildir_run.specs.declared.planner.Step.TheVariants.{Remove, Write, Place}
 use Rattle.maildir_run.specs.Calls.{Call, Listing, Writing, Placing, Removing, Move, Succeeded, Failed, Lists, IsReady, IsOwn, effect, after, folder_of, names_of}
+use Rattle.maildir_run.specs.Cuts.{Leaves, IsFoundWhole, Left}
 use Rattle.maildir_run.specs.Counting.{Makes, CountsFault, IsNumbered}
 use Rattle.maildir_run.specs.Delivery.{Message}
 use Rattle.maildir_run.specs.Files.{Files}
@@ -62,6 +63,14 @@ reported = record { done = Done; refused = Refused }
 abbrev pub undisturbed : Way
 undisturbed = record { done = DoneQuietly; refused = RefusedQuietly }
 
+-- what a cut leaves of a task that was done
+abbrev pub LeavesDone : Task → Files → Files → Type 0
+LeavesDone task old new = Leaves (call_of task) old new × IsFoundWhole (call_of task) new
+
+-- as a cut leaves it
+abbrev pub leaving : Way
+leaving = record { done = LeavesDone; refused = λ task. Leaves (call_of task) }
+
 -- all were done, in order
 abbrev pub AllDone : Way → List Task → Files → Files → Type 0
 AllDone w [] old new = new ≡ old
@@ -82,17 +91,19 @@ pub record Seen : Type 1 where
   pub honest : Type 0
   pub quiet : Type 0
   pub files : Files
+  pub may_leave : Files → Type 0
   pub calls : ℕ
   pub failures : ℕ
 
 -- what these say of a folder
-abbrev pub seen : {S : Type 0} → (S → Type 0) → (S → Type 0) → (S → Files) → (S → ℕ) → (S → ℕ) → S → Seen
-seen honest quiet files calls failures s = record { honest = honest s; quiet = quiet s; files = files s; calls = calls s; failures = failures s }
+abbrev pub seen : {S : Type 0} → (S → Type 0) → (S → Type 0) → (S → Files) → (S → Files → Type 0) → (S → ℕ) → (S → ℕ) → S → Seen
+seen honest quiet files may_leave calls failures s = record { honest = honest s; quiet = quiet s; files = files s; may_leave = may_leave s; calls = calls s; failures = failures s }
 
 -- A run that had made so many calls performed these tasks, with this answer: all of them with Ok, and with a fault up to the one that was refused.
 pub record Ran {A : Type 0} (tasks : List Task) (old new : Seen) (made made' : ℕ) (result : Result A RunFault) : Type 0 where
   pub honest : old.honest → new.honest
   pub reported_of : old.honest → Performs reported tasks old.files result new.files
+  pub left : old.honest → Left (λ before now. Performs leaving tasks before result now) old.may_leave new.may_leave
   pub quiet : old.quiet → new.quiet
   pub undisturbed_of : old.quiet → Performs undisturbed tasks old.files result new.files
   pub n : ℕ

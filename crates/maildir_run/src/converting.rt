@@ -6,13 +6,14 @@ ghost use Rattle.mbox_text.specs.Mbox.{Mbox};
 ghost use Rattle.maildir_run.specs.Alone.{alone as alone_after};
 ghost use Rattle.maildir_run.specs.Conversion.{Conversion};
 ghost use Rattle.maildir_run.specs.Counting.{CountsFault, IsOfFolder, Numbers};
+ghost use Rattle.maildir_run.specs.Cuts.{Left};
 ghost use Rattle.maildir_run.specs.Delivery.{Message as Due, Delivered, IsMissing, leftover_count};
 ghost use Rattle.maildir_run.specs.Files.{Files};
 ghost use Rattle.maildir_run.specs.Given.{Begins, Refused};
 ghost use Rattle.maildir_run.specs.Quietly.{LeavesOthers};
 ghost use Rattle.maildir_run.specs.Reading.{IsReading, ReadsAtLeast, ReadsAtMost, Taken};
 ghost use Rattle.maildir_run.specs.Runs.{CountsRun, Link, Possible, Run, Runs};
-ghost use Rattle.maildir_run.specs.Tasks.{Names, Performs, reported, planned_tasks, seen};
+ghost use Rattle.maildir_run.specs.Tasks.{Names, Performs, reported, leaving, planned_tasks, seen};
 ghost use Rattle.maildir_run.specs.Texts.{MessagesOf};
 
 use crate::calls::Calls;
@@ -46,6 +47,8 @@ pub fn convert<F: Folder, R: Read>(
     ensures honest { F.honest folder.old → F.honest folder.new }
     ensures as_planned { F.honest folder.old → (t : List ℕ) (ms : List Due) → Possible (R.remaining source.old) (R.remaining source.new) t → MessagesOf t ms →
         (names : Names) × Performs reported (planned_tasks names ms) (F.files folder.old) result (F.files folder.new) }
+    ensures left { F.honest folder.old → (t : List ℕ) (ms : List Due) → Possible (R.remaining source.old) (R.remaining source.new) t → MessagesOf t ms →
+        Left (λ before now. (names : Names) × Performs leaving (planned_tasks names ms) before result now) (F.may_leave folder.old) (F.may_leave folder.new) }
     ensures run { F.honest folder.old → (t : List ℕ) → length t < 2 ^ 63 → Possible (R.remaining source.old) (R.remaining source.new) t → Run t (F.files folder.old) result (F.files folder.new) }
     ensures restartable { F.honest folder.old → (t : List ℕ) (ms : List Due) (links : List Link) (start : Files) → length t < 2 ^ 63 →
         Possible (R.remaining source.old) (R.remaining source.new) t → MessagesOf t ms → All (IsMissing start) ms →
@@ -82,7 +85,7 @@ fn run<F: Folder, R: Read>(
     reads: u64,
 ) -> Result<Report, RunFault>
     requires { reads ≤ 2 ^ 40 }
-    ensures is { let at = seen F.honest F.quiet F.files F.calls F.failures in Conversion (R.remaining source.old) (R.remaining source.new) reads (at folder.old) (at folder.new) result }
+    ensures is { let at = seen F.honest F.quiet F.files F.may_leave F.calls F.failures in Conversion (R.remaining source.old) (R.remaining source.new) reads (at folder.old) (at folder.new) result }
     ensures causes { IfErr result (λ fault. IsReading fault ⊎ IsOfFolder fault) }
 {
     let mut messages = Messages::new(alloc, reads)?;

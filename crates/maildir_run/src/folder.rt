@@ -4,6 +4,7 @@ ghost use Rattle.std.specs.FinMap.{keys};
 ghost use Rattle.maildir_run.specs.Files.{Files};
 ghost use Rattle.maildir_run.specs.Calls.{Called, Listed, CalledQuietly, GoesUp, CountsFailure, IsNotAbsent, folder_of, names_of};
 ghost use Rattle.maildir_run.specs.Calls.Call.{Listing, Writing, Placing, Removing};
+ghost use Rattle.maildir_run.specs.Cuts.{Left, LeavesOf};
 ghost use Rattle.maildir_run.specs.declared.folder.FolderFault.TheVariants.{OutOfMemory};
 
 use maildir_name::Place;
@@ -56,6 +57,10 @@ pub trait Folder {
     /// The files that are there.
     ghost files: { Self → Files };
 
+    /// What a power cut now may leave: in `new` and `cur` the files that are found then, and in `tmp` what each of its
+    /// files holds, wherever it is found.
+    ghost may_leave: { Self → Files → Type 0 };
+
     /// It takes effect as reported.
     ghost honest: { Self → Type 0 };
 
@@ -76,6 +81,8 @@ pub trait Folder {
     fn list(&mut self, sub: Sub) -> Result<Vec<String>, FolderFault>
         ensures honest { honest self.old → honest self.new }
         ensures called { honest self.old → Listed sub (files self.old) result (files self.new) }
+        ensures left { honest self.old → Left (λ before now. LeavesOf (Listing sub) before result now)
+            (may_leave self.old) (may_leave self.new) }
 
         ensures quiet { quiet self.old → quiet self.new }
         ensures alone { quiet self.old →
@@ -96,6 +103,8 @@ pub trait Folder {
         ensures honest { honest self.old → honest self.new }
         ensures called { honest self.old →
             Called (Writing name.now bytes.now) (files self.old) result (files self.new) }
+        ensures left { honest self.old → Left (λ before now. LeavesOf (Writing name.now bytes.now) before result now)
+            (may_leave self.old) (may_leave self.new) }
 
         ensures quiet { quiet self.old → quiet self.new }
         ensures alone { quiet self.old →
@@ -114,6 +123,8 @@ pub trait Folder {
         ensures honest { honest self.old → honest self.new }
         ensures called { honest self.old →
             Called (Placing name.now place target.now) (files self.old) result (files self.new) }
+        ensures left { honest self.old → Left (λ before now. LeavesOf (Placing name.now place target.now) before result now)
+            (may_leave self.old) (may_leave self.new) }
 
         ensures quiet { quiet self.old → quiet self.new }
         ensures alone { quiet self.old →
@@ -131,6 +142,8 @@ pub trait Folder {
         ensures honest { honest self.old → honest self.new }
         ensures called { honest self.old →
             Called (Removing name.now) (files self.old) result (files self.new) }
+        ensures left { honest self.old → Left (λ before now. LeavesOf (Removing name.now) before result now)
+            (may_leave self.old) (may_leave self.new) }
 
         ensures quiet { quiet self.old → quiet self.new }
         ensures alone { quiet self.old →

@@ -4,6 +4,7 @@ ghost use Rattle.std.specs.FinMap.{get, keys, len};
 ghost use Rattle.std.specs.Option.{option_copied};
 ghost use Rattle.maildir_run.specs.Calls.{folder_of, names_of, Called, Listed, CalledQuietly, GoesUp, CountsFailure, IsNotAbsent};
 ghost use Rattle.maildir_run.specs.Calls.Call.{Listing, Writing, Placing, Removing};
+ghost use Rattle.maildir_run.specs.Cuts.{Left, LeavesOf};
 ghost use Rattle.maildir_run.specs.MemFiles.{no_files, with_file};
 ghost use Rattle.maildir_run.specs.Script.{IsCutShort};
 ghost use Rattle.maildir_run.specs.MemFolder.{files_of, call_count, all_call_count, failure_count, lines_of, fail_from_of, IsQuiet, IsUndisturbed, next_mode, next_acts, next_files, FollowsScript, SameCounts, SameScript, IsUnchanged, CountsCall};
@@ -131,6 +132,8 @@ impl MemFolder {
 impl Folder for MemFolder {
     ghost files = { files_of };
 
+    ghost may_leave = { λ folder left. left ≡ files_of folder };
+
     ghost honest = { λ _. Unit {0} };
 
     ghost quiet = { IsQuiet };
@@ -143,6 +146,7 @@ impl Folder for MemFolder {
 
     fn list(&mut self, sub: Sub) -> Result<Vec<String>, FolderFault>
         ensures called { Listed sub (files_of self.old) result (files_of self.new) }
+        ensures left { Left (λ before now. LeavesOf (Listing sub) before result now) (λ left. left ≡ files_of self.old) (λ left. left ≡ files_of self.new) }
         ensures scripted { FollowsScript (Listing sub) self.old result self.new }
         ensures in_order { IfOk result (λ names. names_of names ≡ keys (folder_of sub (files_of self.new))) }
         ensures script { SameScript self.old self.new }
@@ -166,6 +170,7 @@ impl Folder for MemFolder {
 
     fn write(&mut self, name: &str, bytes: &[u8]) -> Result<(), FolderFault>
         ensures called { Called (Writing name.now bytes.now) (files_of self.old) result (files_of self.new) }
+        ensures left { Left (λ before now. LeavesOf (Writing name.now bytes.now) before result now) (λ left. left ≡ files_of self.old) (λ left. left ≡ files_of self.new) }
         ensures scripted { FollowsScript (Writing name.now bytes.now) self.old result self.new }
         ensures script { SameScript self.old self.new }
 
@@ -188,6 +193,7 @@ impl Folder for MemFolder {
     fn place(&mut self, name: &str, place: Place, target: &str) -> Result<(), FolderFault>
         ensures called { Called (Placing name.now place target.now)
             (files_of self.old) result (files_of self.new) }
+        ensures left { Left (λ before now. LeavesOf (Placing name.now place target.now) before result now) (λ left. left ≡ files_of self.old) (λ left. left ≡ files_of self.new) }
         ensures scripted { FollowsScript (Placing name.now place target.now) self.old result self.new }
         ensures script { SameScript self.old self.new }
 
@@ -210,6 +216,7 @@ impl Folder for MemFolder {
 
     fn remove(&mut self, name: &str) -> Result<(), FolderFault>
         ensures called { Called (Removing name.now) (files_of self.old) result (files_of self.new) }
+        ensures left { Left (λ before now. LeavesOf (Removing name.now) before result now) (λ left. left ≡ files_of self.old) (λ left. left ≡ files_of self.new) }
         ensures scripted { FollowsScript (Removing name.now) self.old result self.new }
         ensures script { SameScript self.old self.new }
 

@@ -1,4 +1,4 @@
-use Rattle.maildir_run.proofs.Owed.{owes_planned, owes_run, owes_restart, owes_end, owes_alone, owes_others, owes_calls, owes_numbers, owes_unread, owes_spent}
+use Rattle.maildir_run.proofs.Owed.{owes_planned, owes_left, owes_run, owes_restart, owes_end, owes_alone, owes_others, owes_calls, owes_numbers, owes_unread, owes_spent}
 use Rattle.maildir_run.proofs.converting.convert.Goals as goal
 
 pub returns : goal.returns
@@ -8,6 +8,7 @@ returns g c =
     record {
       honest = run.ran.honest;
       as_planned = owes_planned run c.requires;
+      left = owes_left run c.requires;
       run = owes_run run c.requires;
       restartable = owes_restart run c.requires;
       end = owes_end run c.requires;

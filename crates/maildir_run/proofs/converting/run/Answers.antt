@@ -11,13 +11,13 @@ use Rattle.maildir_run.proofs.converting.run.Goals as goal
 
 pub returns-in_err-messages-clause-is : goal.returns-in_err-messages-clause-is
 returns-in_err-messages-clause-is g c =
-    let at = seen g.F.Folder.honest g.F.Folder.quiet g.F.Folder.files g.F.Folder.calls g.F.Folder.failures in
+    let at = seen g.F.Folder.honest g.F.Folder.quiet g.F.Folder.files g.F.Folder.may_leave g.F.Folder.calls g.F.Folder.failures in
     stops_unread _ _ _ (at c.args.folder.now) _ OutOfMemory c.from_residual.ensures.1 (inr (inr (inr refl)))
     (record { budget = read_nothing (g.R.Read.remaining c.args.source.now) (65536 * c.args.reads); spent = λ e. absurd (cc); unreadable = λ e. absurd (cc) })
 
 pub returns-in_err-ended-clause-is : goal.returns-in_err-ended-clause-is
 returns-in_err-ended-clause-is g c =
-    let at = seen g.F.Folder.honest g.F.Folder.quiet g.F.Folder.files g.F.Folder.calls g.F.Folder.failures in
+    let at = seen g.F.Folder.honest g.F.Folder.quiet g.F.Folder.files g.F.Folder.may_leave g.F.Folder.calls g.F.Folder.failures in
     stops_unread _ _ _ (at c.args.folder.now) _ _ c.from_residual-in_err-ended.ensures.1 c.in_err-ended.ensures.causes
     (refused_of _ _ _ c.args.reads _ c.in_ok-messages.ensures.1 c.in_err-ended.ensures.refused)
 

@@ -8,7 +8,7 @@ use Rattle.maildir_run.proofs.converting.run.Given as goal
 
 abbrev pub invariant-pieces : goal.invariant-pieces
 invariant-pieces g l =
-    let at = seen g.F.Folder.honest g.F.Folder.quiet g.F.Folder.files g.F.Folder.calls g.F.Folder.failures in
+    let at = seen g.F.Folder.honest g.F.Folder.quiet g.F.Folder.files g.F.Folder.may_leave g.F.Folder.calls g.F.Folder.failures in
     record {
       text : List ℕ;
       given : List Entry;

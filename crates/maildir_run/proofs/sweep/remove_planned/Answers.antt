@@ -3,10 +3,10 @@ use Rattle.maildir_run.specs.Calls.{Removing, Writing, Placing}
 use Rattle.maildir_run.specs.Delivery.{Message}
 use Rattle.maildir_run.specs.Tasks.{Do, task_of, tasks_of}
 use Rattle.std.proofs.Math.Seq.{drop-nil}
-use Rattle.std.proofs.lemmas.List.{append-nil}
+use Rattle.std.proofs.lemmas.List.{append-nil, take_all}
 use Rattle.maildir_run.specs.declared.planner.Step.{Step}
 use Rattle.maildir_run.specs.declared.planner.Step.TheVariants.{Remove, Write, Place}
-use Rattle.maildir_run.proofs.Tasks.{ran_more, ran_until, next_step, other_steps, next_count}
+use Rattle.maildir_run.proofs.Tasks.{ran_none, ran_ok, ran_more, ran_until, next_step, other_steps, next_count}
 use Rattle.maildir_run.proofs.sweep.remove_planned.Goals as goal
 use Rattle.maildir_run.proofs.sweep.remove_planned.Goals.{in-Remove+in_ok-remove, in_default}
 
@@ -14,6 +14,12 @@ none_removed : (step : Step) → ((name : List ℕ) → step ≡ Remove name →
 none_removed (Remove name) other = absurd (other name refl)
 none_removed (Write i) other = ap (λ (ms : List Message). map (λ (m : Message). Do (Writing m.target.base m.body)) (take 1 ms)) (drop-nil i)
 none_removed (Place i) other = ap (λ (ms : List Message). map (λ (m : Message). Do (Placing m.target.base m.target.place m.target.name)) (take 1 ms)) (drop-nil i)
+
+pub loop-step-init : goal.loop-step-init
+loop-step-init g c = record { ran = ran_none (tt {0}) _ _; count = refl; few = omega arith }
+
+pub returns-clause-ran : goal.returns-clause-ran
+returns-clause-ran g c = ran_ok (tt {0}) _ _ _ _ _ _ (rw (take_all _ _ c.loop-step-test.false) at c.loop-step.invariant.ran)
 
 pub returns-in_err-remove-clause-ran : goal.returns-in_err-remove-clause-ran
 returns-in_err-remove-clause-ran g c =

@@ -10,7 +10,7 @@ pub returns-in_err-steps : goal.returns-in_err-steps
 returns-in_err-steps g c =
     let r = c.from_residual in
     let fault = c.in_err-steps.field-0.0 in
-    let at = seen g.F.Folder.honest g.F.Folder.quiet g.F.Folder.files g.F.Folder.calls g.F.Folder.failures in
+    let at = seen g.F.Folder.honest g.F.Folder.quiet g.F.Folder.files g.F.Folder.may_leave g.F.Folder.calls g.F.Folder.failures in
     record {
       ran = ran_err {A = Unit {0}} _ r.result _ _ _ _ _ r.ensures.1
           (ran_before fault [] _ _ _ _ _ (ran_stop (tt {0}) fault _ [] _ _ _ _ refl (inr (inr (inr c.in_err-steps.ensures.refused))) (ran_none (tt {0}) (at c.args.folder.now) c.args.calls.now.made)));

@@ -1,8 +1,16 @@
-use Rattle.std.proofs.Common.{◌+◌, ◌<◌, [], ◌++◌, length, take, drop, ◌∙◌, arith}
+use Rattle.std.proofs.Common.{◌+◌, ◌<◌, [], ◌++◌, length, take, drop, ◌∙◌, arith, refl}
 use Rattle.maildir_run.specs.Texts.{bodies_of}
 use Rattle.maildir_run.proofs.Batches.{bodies_next, bodies_split, few_next}
-use Rattle.maildir_run.proofs.Bringing.{brought_then, brought_before}
+use Rattle.maildir_run.proofs.Bringing.{brought_none, brought_then, brought_before}
 use Rattle.maildir_run.proofs.engine.Engine.deliver_entries.Goals as goal
+
+pub loop-entry-init : goal.loop-entry-init
+loop-entry-init g c = record {
+  brought = λ bodies named few. brought_none _ bodies _ _ _ _ named;
+  there = refl;
+  swept = refl;
+  count = omega arith;
+}
 
 pub returns-in_err-deliver-clause-brought : goal.returns-in_err-deliver-clause-brought
 returns-in_err-deliver-clause-brought g c = λ bodies named few.

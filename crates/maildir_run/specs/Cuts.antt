@@ -1,0 +1,53 @@
+-- What a power cut may leave of a folder, from one call to the next. It is said of the files that are found then: in `new`
+-- and `cur` each with its name, and in `tmp` what each holds, wherever it is found.
+use Rattle.std.specs.Prelude.{◌≡◌, ℕ, List, [], ◌∷◌, IsTrue, Option, Some, None, Result, Ok, Err, if◌then◌else◌}
+use Rattle.std.specs.FinMap.{get, insert}
+use Rattle.maildir_name.specs.Names.{is_converter_name}
+use Rattle.maildir_run.specs.Calls.{Call, Listing, Writing, Placing, Removing, Move, moved}
+use Rattle.maildir_run.specs.Files.{Files, Action, ToCur, Reflag, DropTmp, Outside, may_take}
+
+-- one thing that is kept of a call
+pub data Kept : Type 0 where
+  -- a move of the call
+  Came : (move : Move) → Kept
+  -- a rename of another program in half: its file is under both names
+  Doubled : (action : Action) → Kept
+
+-- a file, which holds this if it is there, is under a free name of the same base in `cur` too
+abbrev pub linked : Files → List ℕ → List ℕ → Option (List ℕ) → Files
+linked s name target None = s
+linked s name target (Some bytes) = if may_take s.cur name target then record s { cur = insert s.cur target bytes } else s
+
+-- the files after a rename of which half was kept
+abbrev pub doubled : Action → Files → Files
+doubled (ToCur name target) s = linked s name target (get s.new name)
+doubled (Reflag name target) s = linked s name target (get s.cur name)
+doubled (DropTmp name) s = s
+doubled (Outside files) s = s
+
+-- the files after what was kept of a call, one after the other
+abbrev pub left_after : Files → Call → List Kept → Files
+left_after s call [] = s
+left_after s call (Came move ∷ kept) = left_after (moved call move s) call kept
+left_after s call (Doubled action ∷ kept) = left_after (doubled action s) call kept
+
+-- Of a call a cut leaves any of its moves, each by itself, or none.
+pub record Leaves (call : Call) (old new : Files) : Type 0 where
+  pub kept : List Kept
+  pub are : new ≡ left_after old call kept
+
+-- a file that was written is found with its bytes, wherever it is found
+abbrev pub IsFoundWhole : Call → Files → Type 0
+IsFoundWhole (Writing name bytes) s = IsTrue (is_converter_name name) → (held : List ℕ) → get s.tmp name ≡ Some held → held ≡ bytes
+IsFoundWhole (Listing _) s = Unit {0}
+IsFoundWhole (Placing _ _ _) s = Unit {0}
+IsFoundWhole (Removing _) s = Unit {0}
+
+-- what a cut leaves of a call with this answer
+abbrev pub LeavesOf : {A E : Type 0} → Call → Files → Result A E → Files → Type 0
+LeavesOf call old (Ok _) new = Leaves call old new × IsFoundWhole call new
+LeavesOf call old (Err _) new = Leaves call old new
+
+-- whatever a cut may leave now is this of something that a cut might have left before
+abbrev pub Left : (Files → Files → Type 0) → (Files → Type 0) → (Files → Type 0) → Type 0
+Left of before now = (new : Files) → now new → (old : Files) × before old × of old new
