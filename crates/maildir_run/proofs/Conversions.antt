@@ -1,5 +1,5 @@
 -- A run at its exits, from its parts.
-use Rattle.std.proofs.Common.{◌≡◌, ℕ, ◌+◌, ◌-◌, ◌*◌, ◌<◌, ◌≤◌, ◌^◌, Bool, cond, Option, List, [], ◌∷◌, ◌++◌, length, Result, Ok, Err, refl, sym, ap, subst, ◌∙◌, arith}
+use Rattle.std.proofs.Common.{◌≡◌, ℕ, ◌+◌, ◌-◌, ◌*◌, ◌<◌, ◌≤◌, ◌^◌, Bool, cond, Option, Some, None, List, [], ◌∷◌, ◌++◌, length, Result, refl, sym, ap, subst, ◌∙◌, arith}
 use Rattle.std.specs.Prelude.{IsErrAnd}
 use Rattle.std.specs.FinMap.{contains_key}
 use Rattle.std.proofs.lemmas.List.{length-map}
@@ -18,16 +18,17 @@ use Rattle.maildir_run.specs.Plan.{is_listed}
 use Rattle.maildir_run.specs.Reading.{IsReading}
 use Rattle.maildir_run.specs.Tasks.{Task, Names, Seen, Ran, Brought, listings, sweep_of, messages_after, delivery_of, delivery_if, deliveries_of}
 use Rattle.maildir_run.specs.Texts.{messages_of, bodies_of}
-use Rattle.maildir_run.proofs.Bringing.{brought_then, all_messages}
+use Rattle.maildir_run.proofs.Bringing.{brought_then}
+use Rattle.maildir_run.proofs.Batches.{all_messages}
 use Rattle.maildir_run.proofs.Faults.{if_err, fault_is}
 use Rattle.maildir_run.proofs.Givens.{refused_front}
 use Rattle.maildir_run.proofs.MessageLemmas.{length-messages_of}
 use Rattle.maildir_run.proofs.PossibleMessages.{batch_bodies, batch_few}
-use Rattle.maildir_run.proofs.Tasks.{ran_none, ran_then, ran_before, ran_err, ran_stop}
+use Rattle.maildir_run.proofs.Tasks.{ran_nothing, ran_then, ran_err}
 
 -- ---- at a fault
 module _ (before now : Option (List ℕ)) (reads : ℕ) (old new : Seen) (r : Result Report RunFault) (fault : RunFault) (is : IsErrAnd r (λ e. e ≡ fault)) where
-  pub stops : Refused before now reads fault → (fault ≡ NoFromLine → new.calls ≡ old.calls) → (given : List Entry) → Front before now reads given → (names : Names) → length names.tmp < 2 ^ 64 → (begun made : ℕ) → begun ≡ 0 → Ran (run_tasks names (messages_of (bodies_of given))) old new begun made r → Conversion before now reads old new r
+  pub stops : Refused before now reads fault → (fault ≡ NoFromLine → new.calls ≡ old.calls) → (given : List Entry) → Front before now reads given → (names : Names) → length names.tmp < 2 ^ 64 → (begun made : ℕ) → begun ≡ 0 → Ran (run_tasks names (messages_of (bodies_of given))) old new begun made (Some fault) → Conversion before now reads old new r
   stops refused untouched given front names few begun made none ran =
       let at_fault = (err_from_is_err_and r is).1 in
       record {
@@ -39,12 +40,12 @@ module _ (before now : Option (List ℕ)) (reads : ℕ) (old new : Seen) (r : Re
         names = names;
         few = few;
         made = made;
-        ran = rw none at ran;
+        ran = ran_err r is (rw none at ran);
         tells = rw at_fault tt;
       }
 
   -- which a folder call gave, or a growth
-  pub stops_in_folder : IsOfFolder fault → (given : List Entry) → Front before now reads given → (names : Names) → length names.tmp < 2 ^ 64 → (begun made : ℕ) → begun ≡ 0 → Ran (run_tasks names (messages_of (bodies_of given))) old new begun made r → Conversion before now reads old new r
+  pub stops_in_folder : IsOfFolder fault → (given : List Entry) → Front before now reads given → (names : Names) → length names.tmp < 2 ^ 64 → (begun made : ℕ) → begun ≡ 0 → Ran (run_tasks names (messages_of (bodies_of given))) old new begun made (Some fault) → Conversion before now reads old new r
   stops_in_folder of given front =
       stops (record { budget = (front.text, front.read, front.budget); spent = λ e. absurd (subst IsOfFolder e of); unreadable = λ e. absurd (subst IsOfFolder e of) }) (λ e. absurd (subst IsOfFolder e of)) given front
 
@@ -53,7 +54,7 @@ pub stops_unread : (before now : Option (List ℕ)) (reads : ℕ) (s : Seen) (r 
 stops_unread before now reads s r fault is reading refused =
     let names : Names = record { tmp = []; new = []; cur = [] } in
     stops before now reads s s r fault is refused (λ e. refl) [] (refused_front before now reads fault refused) names (omega arith) 0 0 refl
-    (ran_err {A = Unit {0}} fault r _ s s 0 0 is (ran_before fault [] (run_tasks names (messages_of (bodies_of []))) s s 0 0 (ran_stop (tt {0}) fault (Err fault) [] s s 0 0 refl reading (ran_none (tt {0}) s 0))))
+    (ran_nothing fault reading _ s 0)
 
 -- ---- the set of bases tells what was listed
 same_deliveries : (f g : List ℕ → Bool) → ((b : List ℕ) → f b ≡ g b) → (ms : List Message) → deliveries_of f ms ≡ deliveries_of g ms
@@ -66,18 +67,15 @@ tells_listed there new cur names bodies told new_is cur_is =
     ∙ same_deliveries (contains_key there) (is_listed names.new names.cur) (λ b. told b ∙ ap (λ l. is_listed l cur b) new_is ∙ ap (λ l. is_listed names.new l b) cur_is) (messages_of bodies)
 
 -- ---- the listings, the sweep and some messages
-pub all_ran : {X Y A : Type 0} (x : X) (y : Y) (r : Result A RunFault) (names : Names) (tmp : List (List ℕ)) (tasks : List Task) (ms : List Message) (a b c d : Seen) (made mid swept begun made' : ℕ) → made ≡ 0 → tmp ≡ names.tmp → begun ≡ swept → tasks ≡ deliveries_of (is_listed names.new names.cur) ms
-    → Ran (listings names) a b made mid (Ok x) → Ran (sweep_of tmp) b c mid swept (Ok y) → Ran tasks c d begun made' r → Ran (run_tasks names ms) a d 0 made' r
-all_ran x y r names tmp tasks ms a b c d made mid swept begun made' none tmp_is begun_is tasks_are look sweep deliver =
-    ran_then x r (listings names) _ a b d 0 mid made' (rw none at look)
-    (ran_then y r (sweep_of names.tmp) _ b c d mid swept made' (rw tmp_is at sweep) (rw (tasks_are, begun_is) at deliver))
+pub all_ran : {tasks : List Task} {tmp : List (List ℕ)} {a b c d : Seen} {made mid swept begun made' : ℕ} {fault : Option RunFault} (names : Names) (ms : List Message) → made ≡ 0 → tmp ≡ names.tmp → begun ≡ swept → tasks ≡ deliveries_of (is_listed names.new names.cur) ms
+    → Ran (listings names) a b made mid None → Ran (sweep_of tmp) b c mid swept None → Ran tasks c d begun made' fault → Ran (run_tasks names ms) a d 0 made' fault
+all_ran names ms none tmp_is begun_is tasks_are look sweep deliver = ran_then (rw none at look) (ran_then (rw tmp_is at sweep) (rw (tasks_are, begun_is) at deliver))
 
 -- one more batch
-pub one_batch : {A : Type 0} (r : Result A RunFault) (there there' : BaseSet) (given whole entries : List Entry) (reads : ℕ) (a b c : Seen) (made mid made' p q n : ℕ) (namer namer' : Counts) → there' ≡ there → entries ≡ whole → length (given ++ whole) ≤ 65536 * reads → reads ≤ 2 ^ 40 → Brought {A = Unit {0}} (contains_key there) [] (bodies_of given) a b made mid p q namer (Ok tt) → ((bodies : List (List ℕ)) → Named bodies namer → length bodies + length entries ≤ 2 ^ 63 → Brought (contains_key there') bodies (bodies_of entries) b c mid made' q n namer' r) → Brought (contains_key there) [] (bodies_of (given ++ whole)) a c made made' p n namer' r
-one_batch r there there' given whole entries reads a b c made mid made' p q n namer namer' same e few most first then =
-    subst (λ bs. Brought (contains_key there) [] bs a c made made' p n namer' r) (batch_bodies given whole entries e)
-    (brought_then (contains_key there) [] (bodies_of given) (bodies_of entries) a b c made mid made' p q n namer namer' r first
-    (subst (λ s. Brought (contains_key s) (bodies_of given) (bodies_of entries) b c mid made' q n namer' r) same (then (bodies_of given) first.named (batch_few given whole entries reads e few most))))
+pub one_batch : {there there' : BaseSet} {a b c : Seen} {made mid made' p q n : ℕ} {namer namer' : Counts} {fault : Option RunFault} (given whole entries : List Entry) (reads : ℕ) → there' ≡ there → entries ≡ whole → length (given ++ whole) ≤ 65536 * reads → reads ≤ 2 ^ 40 → Brought (contains_key there) [] (bodies_of given) a b made mid p q namer None → ((bodies : List (List ℕ)) → Named bodies namer → length bodies + length entries ≤ 2 ^ 63 → Brought (contains_key there') bodies (bodies_of entries) b c mid made' q n namer' fault) → Brought (contains_key there) [] (bodies_of (given ++ whole)) a c made made' p n namer' fault
+one_batch {there} {there'} {a} {b} {c} {made} {mid} {made'} {p} {q} {n} {namer} {namer'} {fault} given whole entries reads same e few most first then =
+    subst (λ bs. Brought (contains_key there) [] bs a c made made' p n namer' fault) (batch_bodies given whole entries e)
+    (brought_then first (subst (λ s. Brought (contains_key s) (bodies_of given) (bodies_of entries) b c mid made' q n namer' fault) same (then (bodies_of given) (first.named refl) (batch_few given whole entries reads e few most))))
 
 pub told : (names : Names) (all : List Entry) (report : Report) (tasks : List Task) (messages placed before : ℕ) → tasks ≡ deliveries_of (is_listed names.new names.cur) (messages_of (bodies_of all)) → messages ≡ length all → before ≡ 0 → 2 * placed ≡ 2 * before + length tasks → report.messages ≡ messages → report.there ≡ messages - placed → report.placed ≡ placed → report.swept ≡ length (sweep_of names.tmp) → Tells names (messages_of (bodies_of all)) report
 told names all report tasks messages placed before is count none brought e1 e2 e3 e4 = record {

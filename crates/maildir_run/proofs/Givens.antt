@@ -7,8 +7,7 @@ use Rattle.std.proofs.lemmas.Bool.{eqb-true, eq-eqb}
 use Rattle.std.proofs.lemmas.List.{append-nil, append_cancel_right, length-append}
 use Rattle.mbox_text.specs.declared.entry.Entry.{Entry}
 use Rattle.mbox_text.specs.declared.splitter.Splitter.{Splitter}
-use Rattle.mbox_text.specs.Lines.{lines}
-use Rattle.mbox_text.specs.Mbox.{Mbox, Block, IsUnreadable}
+use Rattle.mbox_text.specs.Mbox.{Mbox, IsUnreadable}
 use Rattle.mbox_text.specs.Fed.{Fed}
 use Rattle.mbox_text.specs.Fronts.{AllButLast}
 use Rattle.mbox_text.proofs.OneReading.{mbox-one}
@@ -21,6 +20,7 @@ use Rattle.maildir_run.specs.declared.messages.Messages.{Messages}
 use Rattle.maildir_run.specs.Reading.{Breaks, Went}
 use Rattle.maildir_run.specs.Given.{Front, Gave, GaveAll, IsGiven, Refused}
 use Rattle.maildir_run.specs.Runs.{Possible}
+use Rattle.maildir_run.proofs.MessageLemmas.{mbox-length}
 
 -- ---- what was read
 consumed : (before now : Option (List ℕ)) (had left text : List ℕ) → before ≡ Some had → now ≡ Some left → Consumes before now text → had ≡ text ++ left
@@ -33,20 +33,6 @@ consumed before now had left text e f read =
 pub read_is : (before now : Option (List ℕ)) (text t : List ℕ) → Consumes before now text → (p : Possible before now t) → p.read ≡ text
 read_is before now text t read p =
     append_cancel_right p.read text p.left (consumed before now (p.read ++ p.left) p.left text p.had p.has read)
-
--- a message has bytes
-some-block : (block : List ℕ) (e : Entry) → Block block e → 0 < length block
-unfolding lines
-some-block [] e b = let is = b.is in absurd (cc)
-some-block (c ∷ block) e b = omega arith
-
-pub mbox-length : (text : List ℕ) (entries : List Entry) → Mbox text entries → length entries ≤ length text
-unfolding Mbox
-mbox-length text [] h = omega arith
-mbox-length text (e ∷ es) h =
-    let b = some-block h.0 e h.3 in
-    let ih = mbox-length h.1 es h.5 in
-    omega (arith, ap length h.2, length-append h.0 h.1)
 
 -- one more read, with what became whole by it
 pub record GaveMore (ended : Bool) (before now : Option (List ℕ)) (splitter : Splitter) (left reads : ℕ) (given : List Entry) : Type 0 where

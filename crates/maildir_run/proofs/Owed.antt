@@ -16,7 +16,7 @@ use Rattle.maildir_run.specs.declared.fault.RunFault.TheVariants.{NoFromLine, To
 use Rattle.maildir_run.specs.declared.report.Report.{Report}
 use Rattle.maildir_run.specs.Alone.{swept, filled, alone}
 use Rattle.maildir_run.specs.Conversion.{Conversion, Tells, run_tasks}
-use Rattle.maildir_run.specs.Counting.{capped, IsNumbered, Makes, Numbers}
+use Rattle.maildir_run.specs.Counting.{fault_of, capped, IsNumbered, Makes, Numbers}
 use Rattle.maildir_run.specs.Cuts.{Left}
 use Rattle.maildir_run.specs.Delivery.{Message, IsSoundAt, IsMissing, Delivered, AreDistinct, Sound, has_home, there_count, leftover_count}
 use Rattle.maildir_run.specs.Files.{Files}
@@ -99,14 +99,14 @@ pub sweep_count : (names : List (List ℕ)) → length (sweep_of names) ≡ leng
 sweep_count names = length-map (filter is_converter_name names) (λ name. Do (Removing name))
 
 -- ---- the answers' numbers
-pub ran_numbers : {A : Type 0} (tasks : List Task) (start now : Seen) (made made' : ℕ) (r : Result A RunFault) → Ran tasks start now made made' r → made ≡ 0 → length tasks < 2 ^ 66 → Numbers r start.calls now.calls
+pub ran_numbers : {A : Type 0} (tasks : List Task) (start now : Seen) (made made' : ℕ) (r : Result A RunFault) → Ran tasks start now made made' (fault_of r) → made ≡ 0 → length tasks < 2 ^ 66 → Numbers r start.calls now.calls
 ran_numbers tasks start now made made' r ran e few =
     let most = ran.most in
     record {
       n = ran.n;
       few = omega arith;
       counted = ran.makes.counted;
-      numbered = subst (IsNumbered r) (ran.makes.numbered 0 e ∙ ap capped (omega arith)) ran.numbered;
+      numbered = subst (IsNumbered (fault_of r)) (ran.makes.numbered 0 e ∙ ap capped (omega arith)) ran.numbered;
     }
 
 -- ---- what the tasks of a run leave
@@ -200,11 +200,11 @@ module _ (names : Names) (these more ms : List Message) (e : ms ≡ these ++ mor
       subst (λ ts. Stopped w ts start now) (sym planned_front) (stopped_before w still (run_tasks names these) (deliveries_of (is_listed names.new names.cur) more) start now h)
 
 -- the calls are those of the report
-calls_made : (names : Names) (ms : List Message) (start now : Seen) (made made' : ℕ) (r : Result Report RunFault) → Ran (run_tasks names ms) start now made made' r → IfOk r (Tells names ms) → IfOk r (λ report. CountsRun report start.calls now.calls)
+calls_made : (names : Names) (ms : List Message) (start now : Seen) (made made' : ℕ) (r : Result Report RunFault) → Ran (run_tasks names ms) start now made made' (fault_of r) → IfOk r (Tells names ms) → IfOk r (λ report. CountsRun report start.calls now.calls)
 calls_made names ms start now made made' (Err fault) ran tells = tt
 calls_made names ms start now made made' (Ok report) ran tells =
     let placed = tells.placed in
-    let all_made : ran.n ≡ 3 + length (sweep_of names.tmp) + 2 * report.placed = ran.all ∙ (omega (arith, placed, length-append (sweep_of names.tmp) (deliveries_of (is_listed names.new names.cur) ms))) in
+    let all_made : ran.n ≡ 3 + length (sweep_of names.tmp) + 2 * report.placed = ran.all refl ∙ (omega (arith, placed, length-append (sweep_of names.tmp) (deliveries_of (is_listed names.new names.cur) ms))) in
     run_counts report (length (sweep_of names.tmp)) report.placed made made' start.calls now.calls tells.swept refl (subst (λ n. Makes n made made' start.calls now.calls) all_made ran.makes)
 
 -- ---- how many the tasks are

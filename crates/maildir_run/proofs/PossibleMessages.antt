@@ -1,6 +1,6 @@
 -- What a run has kept at its exits, for each text that its source may have had.
 use Rattle.std.proofs.Common.{◌≡◌, ℕ, ◌+◌, ◌*◌, ◌≤◌, ◌^◌, Option, Result, Ok, Err, OnOk, List, [], ◌++◌, length, sym, ap, subst, ◌∙◌, inl, inr, arith}
-use Rattle.std.proofs.lemmas.List.{append-nil, map-append, length-append, length-map, nil_from_length}
+use Rattle.std.proofs.lemmas.List.{append-nil, map-append, length-append, length-map}
 use Rattle.std.proofs.lemmas.List.Elements.{All-nil}
 use Rattle.mbox_text.specs.declared.entry.Entry.{Entry}
 use Rattle.mbox_text.specs.Mbox.{Mbox}
@@ -9,19 +9,16 @@ use Rattle.maildir_run.specs.declared.fault.RunFault.{RunFault}
 use Rattle.maildir_run.specs.Files.{Files}
 use Rattle.maildir_run.specs.Delivery.{Message, IsHome, AreNamed, AreDistinct, Sound}
 use Rattle.maildir_run.specs.Texts.{messages_of, bodies_of, MessagesOf}
+use Rattle.maildir_run.specs.Tasks.{messages_after}
 use Rattle.maildir_run.specs.Runs.{Possible, Keeps}
 use Rattle.maildir_run.specs.Progress.{LeavesHomes, Progress}
 use Rattle.maildir_run.specs.Given.{Front, GaveAll}
-use Rattle.maildir_run.proofs.MessageLemmas.{length-messages_of}
 use Rattle.maildir_run.proofs.Progress.{Stands, progress_stands}
-use Rattle.maildir_run.proofs.Batches.{messages_more}
+use Rattle.maildir_run.proofs.Batches.{after_these, no_messages}
 use Rattle.maildir_run.proofs.Givens.{read_is}
 
 pub none_done : (start now : Files) → LeavesHomes start now → Progress [] start now
 none_done start now leaves = record { homes_are = All-nil (IsHome now); kept = λ b named off. leaves.kept b named }
-
-pub no_messages : messages_of [] ≡ []
-no_messages = nil_from_length (messages_of []) (length-messages_of [])
 
 pub stands_keeps : (ms : List Message) (start now : Files) (fault : RunFault) → Stands ms start now → Keeps ms start (Err fault) now
 stands_keeps ms start now fault s = record { sound = s.sound; still = s.still; in_order = s.in_order; ends = tt }
@@ -42,8 +39,7 @@ front_of before after reads given f t ms p of =
     elim of as (λ _. (more : List Message) × (ms ≡ messages_of (bodies_of given) ++ more)) [
       | inl (entries, m, e) ↦
           let r = f.told p.more p.left entries p.has p.whole (rw is at m) in
-          let more = messages_more (bodies_of given) (bodies_of r.0) in
-          (more.0, e ∙ ap messages_of (ap bodies_of r.1 ∙ bodies_parts given r.0) ∙ more.1)
+          (messages_after (bodies_of given) (bodies_of r.0), e ∙ ap messages_of (ap bodies_of r.1 ∙ bodies_parts given r.0) ∙ after_these (bodies_of given) (bodies_of r.0))
       | inr (none, e) ↦ ([], e ∙ sym (append-nil (messages_of (bodies_of given)) ∙ ap (λ xs. messages_of (bodies_of xs)) (f.none p.more p.left p.has p.whole (rw is at none)) ∙ no_messages))
     ]
 

@@ -1,9 +1,10 @@
 -- What one call of a run gives, in the words of a run.
-use Rattle.std.proofs.Common.{◌≡◌, ℕ, Bool, true, false, ◌||◌, List, [], ◌∷◌, ◌++◌, Option, Some, None, Result, Ok, Err, OnOk, IsPermutation, IsTrue, IsFalse, refl, sym, ap, subst, ◌∙◌, inl, inr}
+use Rattle.std.proofs.Common.{◌≡◌, ℕ, true, false, ◌||◌, List, [], ◌∷◌, ◌++◌, Option, Some, None, Result, Ok, Err, OnOk, IsPermutation, IsTrue, IsFalse, refl, sym, ap, subst, ◌∙◌, inl, inr}
 use Rattle.std.specs.List.{list_any}
 use Rattle.std.specs.Option.{is_some}
 use Rattle.std.specs.FinMap.{get, keys, contains_key-keys}
-use Rattle.std.proofs.lemmas.Bool.{or_parts, cases_Bool}
+use Rattle.std.proofs.Math.Bool.{or-true}
+use Rattle.std.proofs.lemmas.Bool.{or_parts, cases_Bool, false_from_ne_true}
 use Rattle.std.proofs.lemmas.List.Sorted.{list_any-IsPermutation, IsPermutation-trans}
 use Rattle.maildir_run.specs.declared.folder.Sub.{Sub}
 use Rattle.maildir_run.specs.declared.folder.Sub.TheVariants.{Tmp}
@@ -114,10 +115,8 @@ leaves_brings m old new named missing leaves = record {
 
 elsewhere : (m : Message) (base target : List ℕ) → IsTrue (has_base m.target.base target) → IsFalse (is_name m.target.base base) → IsFalse (has_base base target)
 elsewhere m base target on off =
-    elim (cases_Bool (has_base base target)) as (λ _. IsFalse (has_base base target)) [
-      | inl e ↦ let alike : is_name m.target.base base ≡ true = subst (λ b. is_name m.target.base b ≡ true) (is_name-true m.target.base _ on ∙ sym (is_name-true base _ e)) (is_name-refl m.target.base) in cc
-      | inr e ↦ e
-    ]
+    false_from_ne_true (has_base base target) (λ e.
+    let alike : is_name m.target.base base ≡ true = subst (λ b. is_name m.target.base b ≡ true) (is_name-true m.target.base _ on ∙ sym (is_name-true base _ e)) (is_name-refl m.target.base) in cc)
 
 body_of : (name : List ℕ) (body bytes : List ℕ) (s : Files) → WrittenOrGone name body s → get s.tmp name ≡ Some bytes → bytes ≡ body
 body_of name body bytes s (inl e) h = cc
@@ -140,28 +139,20 @@ placing_home m name p target named ours on old new written missing done =
     (a.homes_are ∙ ap (λ x. x ∷ []) (body_of name m.body a.bytes old written a.was), a.gone)
 
 -- ---- what a listing shows is there
-or_true : (t : Bool) → (t || true) ≡ true
-or_true true = refl
-or_true false = refl
-
-none_some : (o : Option (List ℕ)) → o ≡ None → is_some o ≡ true → ⊥
-none_some None e h = cc
-none_some (Some x) e h = cc
-
 shown : (b : List ℕ) (ks : List (List ℕ)) → list_any (has_base b) ks ≡ true → (q : List ℕ) × (has_base b q ≡ true) × (list_any (is_name q) ks ≡ true)
 shown b [] e = cc
 shown b (k ∷ ks) e =
     elim (has_base b k) as (λ t. has_base b k ≡ t → (t || list_any (has_base b) ks) ≡ true → (q : List ℕ) × (has_base b q ≡ true) × (list_any (is_name q) (k ∷ ks) ≡ true)) [
       | true ↦ λ on e. (k, on, ap (λ t. t || list_any (is_name k) ks) (is_name-refl k))
-      | false ↦ λ off e. let r = shown b ks e in (r.0, r.1, rw r.2 (or_true (is_name r.0 k)))
+      | false ↦ λ off e. let r = shown b ks e in (r.0, r.1, rw r.2 (or-true (is_name r.0 k)))
     ] refl e
 
 pub not_shown : (b : List ℕ) (m : FileMap) (names : List (List ℕ)) → IsPermutation names (keys m) → held_under b m ≡ [] → IsTrue (list_any (has_base b) names) → ⊥
 not_shown b m names listed e on =
     let r = shown b (keys m) (sym (list_any-IsPermutation (has_base b) names (keys m) listed) ∙ on) in
     let is : is_some (get m r.0) ≡ true = contains_key-keys m r.0 ∙ r.2 in
-    let none : get m r.0 ≡ None = none_held b m e r.0 r.1 in
-    none_some (get m r.0) none is
+    let none : is_some (get m r.0) ≡ false = ap is_some (none_held b m e r.0 r.1) in
+    cc
 
 -- ---- a message is written and placed
 written_leaves : (name bytes : List ℕ) (old new : Files) → Failed (Writing name bytes) old new → LeavesHomes old new

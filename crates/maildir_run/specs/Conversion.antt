@@ -4,6 +4,7 @@ use Rattle.mbox_text.specs.declared.entry.Entry.{Entry}
 use Rattle.maildir_run.specs.declared.fault.RunFault.{RunFault}
 use Rattle.maildir_run.specs.declared.fault.RunFault.TheVariants.{NoFromLine}
 use Rattle.maildir_run.specs.declared.report.Report.{Report}
+use Rattle.maildir_run.specs.Counting.{fault_of}
 use Rattle.maildir_run.specs.Delivery.{Message}
 use Rattle.maildir_run.specs.Given.{Front, GaveAll, Refused}
 use Rattle.maildir_run.specs.Plan.{is_listed}
@@ -31,5 +32,5 @@ pub record Conversion (before now : Option (List ℕ)) (reads : ℕ) (old new : 
   pub names : Names
   pub few : length names.tmp < 2 ^ 64
   pub made : ℕ
-  pub ran : Ran (run_tasks names (messages_of (bodies_of given))) old new 0 made result
+  pub ran : Ran (run_tasks names (messages_of (bodies_of given))) old new 0 made (fault_of result)
   pub tells : IfOk result (Tells names (messages_of (bodies_of given)))

@@ -1,5 +1,5 @@
 -- What a run did with its folder: calls that were planned, in order, up to the first that was refused.
-use Rattle.std.specs.Prelude.{◌≡◌, ℕ, ◌+◌, ◌*◌, ◌≤◌, ◌⊎◌, Bool, List, [], ◌∷◌, ◌++◌, map, length, take, drop, IsPermutation, OnOk, Result, Ok, Err, if◌then◌else◌}
+use Rattle.std.specs.Prelude.{◌≡◌, ℕ, ◌+◌, ◌*◌, ◌≤◌, ◌⊎◌, Bool, List, [], ◌∷◌, ◌++◌, map, length, take, drop, IsPermutation, Option, Some, None, Result, Ok, Err, if◌then◌else◌}
 use Rattle.std.specs.FinMap.{keys}
 use Rattle.std.specs.List.{flat_map, filter}
 use Rattle.std.specs.declared.vec.Vec.{Vec}
@@ -16,7 +16,7 @@ use Rattle.maildir_run.specs.declared.planner.Step.{Step}
 use Rattle.maildir_run.specs.declared.planner.Step.TheVariants.{Remove, Write, Place}
 use Rattle.maildir_run.specs.Calls.{Call, Listing, Writing, Placing, Removing, Move, Succeeded, Failed, Lists, IsReady, IsOwn, effect, after, folder_of, names_of}
 use Rattle.maildir_run.specs.Cuts.{Leaves, IsFoundWhole, Left}
-use Rattle.maildir_run.specs.Counting.{Makes, CountsFault, IsNumbered}
+use Rattle.maildir_run.specs.Counting.{Makes, GoesUpWith, IsNumbered, fault_of}
 use Rattle.maildir_run.specs.Delivery.{Message}
 use Rattle.maildir_run.specs.Files.{Files}
 use Rattle.maildir_run.specs.Plan.{planned}
@@ -81,10 +81,14 @@ abbrev pub Stopped : Way → List Task → Files → Files → Type 0
 Stopped w [] old new = new ≡ old
 Stopped w (task ∷ tasks) old new = w.refused task old new ⊎ ((mid : Files) × w.done task old mid × Stopped w tasks mid new)
 
+-- all with no fault, and a front of them with one
+abbrev pub DoneUntil : {E : Type 0} → Way → List Task → Files → Option E → Files → Type 0
+DoneUntil w tasks old None new = AllDone w tasks old new
+DoneUntil w tasks old (Some _) new = Stopped w tasks old new
+
 -- all after Ok, and a front of them after a fault
 abbrev pub Performs : {A E : Type 0} → Way → List Task → Files → Result A E → Files → Type 0
-Performs w tasks old (Ok _) new = AllDone w tasks old new
-Performs w tasks old (Err _) new = Stopped w tasks old new
+Performs w tasks old result new = DoneUntil w tasks old (fault_of result) new
 
 -- what is seen of a folder at one moment
 pub record Seen : Type 1 where
@@ -99,23 +103,19 @@ pub record Seen : Type 1 where
 abbrev pub seen : {S : Type 0} → (S → Type 0) → (S → Type 0) → (S → Files) → (S → Files → Type 0) → (S → ℕ) → (S → ℕ) → S → Seen
 seen honest quiet files may_leave calls failures s = record { honest = honest s; quiet = quiet s; files = files s; may_leave = may_leave s; calls = calls s; failures = failures s }
 
--- A run that had made so many calls performed these tasks, with this answer: all of them with Ok, and with a fault up to the one that was refused.
-pub record Ran {A : Type 0} (tasks : List Task) (old new : Seen) (made made' : ℕ) (result : Result A RunFault) : Type 0 where
+-- A run that had made so many calls performed these tasks: all of them with no fault, and with one up to the one that was refused.
+pub record Ran (tasks : List Task) (old new : Seen) (made made' : ℕ) (fault : Option RunFault) : Type 0 where
   pub honest : old.honest → new.honest
-  pub reported_of : old.honest → Performs reported tasks old.files result new.files
-  pub left : old.honest → Left (λ before now. Performs leaving tasks before result now) old.may_leave new.may_leave
+  pub reported_of : old.honest → DoneUntil reported tasks old.files fault new.files
+  pub left : old.honest → Left (λ before now. DoneUntil leaving tasks before fault now) old.may_leave new.may_leave
   pub quiet : old.quiet → new.quiet
-  pub undisturbed_of : old.quiet → Performs undisturbed tasks old.files result new.files
+  pub undisturbed_of : old.quiet → DoneUntil undisturbed tasks old.files fault new.files
   pub n : ℕ
   pub most : n ≤ length tasks
-  pub all : OnOk result (n ≡ length tasks)
+  pub all : fault ≡ None → n ≡ length tasks
   pub makes : Makes n made made' old.calls new.calls
-  pub cause : CountsFault result old.failures new.failures
-  pub numbered : IsNumbered result made'
-
--- and with Ok
-abbrev pub RanAll : List Task → Seen → Seen → ℕ → ℕ → Type 0
-RanAll tasks old new made made' = Ran {A = Unit {0}} tasks old new made made' (Ok tt)
+  pub cause : GoesUpWith fault old.failures new.failures
+  pub numbered : IsNumbered fault made'
 
 -- ---- the tasks of a run
 -- the names that a listing answered
@@ -169,7 +169,7 @@ messages_after before [] = []
 messages_after before (body ∷ more) = message_at (target before body) body ∷ messages_after (before ++ body ∷ []) more
 
 -- Of the messages with the bodies `more`, which follow the bodies `before`, those that were missing were brought; each takes two calls.
-pub record Brought {A : Type 0} (is_there : List ℕ → Bool) (before more : List (List ℕ)) (old new : Seen) (made made' placed placed' : ℕ) (namer' : Counts) (result : Result A RunFault) : Type 0 where
-  pub ran : Ran (deliveries_of is_there (messages_after before more)) old new made made' result
-  pub named : OnOk result (Named (before ++ more) namer')
-  pub placed_are : OnOk result (2 * placed' ≡ 2 * placed + length (deliveries_of is_there (messages_after before more)))
+pub record Brought (is_there : List ℕ → Bool) (before more : List (List ℕ)) (old new : Seen) (made made' placed placed' : ℕ) (namer' : Counts) (fault : Option RunFault) : Type 0 where
+  pub ran : Ran (deliveries_of is_there (messages_after before more)) old new made made' fault
+  pub named : fault ≡ None → Named (before ++ more) namer'
+  pub placed_are : fault ≡ None → 2 * placed' ≡ 2 * placed + length (deliveries_of is_there (messages_after before more))

@@ -3,7 +3,7 @@ ghost use Rattle.std.specs.Prelude.{◌≡◌, ◌<◌, ◌≤◌, ◌+◌, ◌-
 ghost use Rattle.std.specs.FinMap.{contains_key};
 ghost use Rattle.maildir_name.specs.Named.{Named};
 ghost use Rattle.maildir_run.specs.Calls.{names_of};
-ghost use Rattle.maildir_run.specs.Counting.{IsOfFolder};
+ghost use Rattle.maildir_run.specs.Counting.{IsOfFolder, fault_of};
 ghost use Rattle.maildir_run.specs.Plan.{is_listed};
 ghost use Rattle.maildir_run.specs.Tasks.{Brought, Ran, seen, sweep_of};
 ghost use Rattle.maildir_run.specs.Texts.{bodies_of};
@@ -41,7 +41,7 @@ impl<'a> Engine<'a> {
         found: &'a Survey,
     ) -> Result<Engine<'a>, RunFault>
         ensures ran { let at = seen F.honest F.quiet F.files F.may_leave F.calls F.failures in (made : ℕ)
-            × Ran (sweep_of (names_of found.now.tmp)) (at folder.old) (at folder.new) calls.made made result
+            × Ran (sweep_of (names_of found.now.tmp)) (at folder.old) (at folder.new) calls.made made (fault_of result)
             × IfOk result (λ engine. engine.calls.made ≡ made) }
         ensures there { IfOk result (λ engine. (b : List ℕ) → contains_key engine.there b ≡ is_listed (names_of found.now.new) (names_of found.now.cur) b) }
         ensures namer { IfOk result (λ engine. Named [] engine.namer) }
@@ -80,7 +80,7 @@ impl<'a> Engine<'a> {
     fn deliver<F: Folder>(&mut self, folder: &mut F, body: &[u8]) -> Result<(), RunFault>
         requires { self.old.messages < 2 ^ 63 }
         ensures brought { let at = seen F.honest F.quiet F.files F.may_leave F.calls F.failures in (bodies : List (List ℕ)) → Named bodies self.old.namer → length bodies < 2 ^ 63 →
-            Brought (contains_key self.old.there) bodies (body.now ∷ []) (at folder.old) (at folder.new) self.old.calls.made self.new.calls.made self.old.placed self.new.placed self.new.namer result }
+            Brought (contains_key self.old.there) bodies (body.now ∷ []) (at folder.old) (at folder.new) self.old.calls.made self.new.calls.made self.old.placed self.new.placed self.new.namer (fault_of result) }
         ensures there { self.new.there ≡ self.old.there }
         ensures swept { self.new.swept ≡ self.old.swept }
         ensures one { OnOk result (self.new.messages ≡ self.old.messages + 1) }
@@ -103,7 +103,7 @@ impl<'a> Engine<'a> {
     ) -> Result<(), RunFault>
         requires { self.old.messages + length entries.now < 2 ^ 63 }
         ensures brought { let at = seen F.honest F.quiet F.files F.may_leave F.calls F.failures in (bodies : List (List ℕ)) → Named bodies self.old.namer → length bodies + length entries.now ≤ 2 ^ 63 →
-            Brought (contains_key self.old.there) bodies (bodies_of entries.now) (at folder.old) (at folder.new) self.old.calls.made self.new.calls.made self.old.placed self.new.placed self.new.namer result }
+            Brought (contains_key self.old.there) bodies (bodies_of entries.now) (at folder.old) (at folder.new) self.old.calls.made self.new.calls.made self.old.placed self.new.placed self.new.namer (fault_of result) }
         ensures there { self.new.there ≡ self.old.there }
         ensures swept { self.new.swept ≡ self.old.swept }
         ensures all { OnOk result (self.new.messages ≡ self.old.messages + length entries.now) }

@@ -6,7 +6,7 @@ use Rattle.maildir_run.proofs.Bringing.{brought_none}
 use Rattle.maildir_run.proofs.Conversions.{stops, stops_in_folder, stops_unread, all_ran, tells_listed, one_batch, told}
 use Rattle.maildir_run.proofs.Exits.{refused_of, read_nothing, batch_fits, batch_count, batch_begun, went_down}
 use Rattle.maildir_run.proofs.Givens.{gave_more, gave_refused, given_front, broken_front, given_few, not_ended, at_end, never_again}
-use Rattle.maildir_run.proofs.Tasks.{ran_then, ran_before, ran_ok, ran_err, ran_stop}
+use Rattle.maildir_run.proofs.Tasks.{ran_then, ran_before, ran_stop}
 use Rattle.maildir_run.proofs.converting.run.Goals as goal
 
 pub returns-in_err-messages-clause-is : goal.returns-in_err-messages-clause-is
@@ -27,7 +27,7 @@ returns-in_err-found-clause-is g c =
     let begins = rw c.in_ok-messages.ensures.1 at c.in_ok-ended.ensures.begins in
     let look = c.in_err-found.ensures.ran in
     stops_in_folder _ _ _ _ _ _ _ is c.in_err-found.ensures.causes _ (given_front c.in_ok-ended.ended _ _ _ _ _ begins.text _ begins.gave) look.0 look.1 _ _ c.new-calls.ensures
-    (ran_err _ _ _ _ _ _ _ is (ran_before _ _ _ _ _ _ _ look.2))
+    (ran_before _ look.2)
 
 pub returns-in_err-engine-clause-is : goal.returns-in_err-engine-clause-is
 returns-in_err-engine-clause-is g c =
@@ -36,7 +36,7 @@ returns-in_err-engine-clause-is g c =
     let look = c.in_ok-found.ensures.ran in
     let sweep = rw look.3.0 at c.in_err-engine.ensures.ran.1 in
     stops_in_folder _ _ _ _ _ _ _ is c.in_err-engine.ensures.causes _ (given_front c.in_ok-ended.ended _ _ _ _ _ begins.text _ begins.gave) look.0 look.1 _ _ c.new-calls.ensures
-    (ran_err _ _ _ _ _ _ _ is (ran_then _ _ _ _ _ _ _ _ _ _ look.2 (ran_before _ _ _ _ _ _ _ sweep)))
+    (ran_then look.2 (ran_before _ sweep))
 
 pub pieces-init : goal.pieces-init
 pieces-init g c =
@@ -75,7 +75,7 @@ pieces-preserved g c =
       count = batch_count c.pieces.engine.messages c.deliver_entries.new.self.messages i.given whole entries i.count c.in_ok-deliver_entries.ensures.all is;
       there = c.in_ok-deliver_entries.ensures.there ∙ i.there;
       swept = c.in_ok-deliver_entries.ensures.swept ∙ i.swept;
-      brought = one_batch _ _ _ i.given whole entries c.args.reads _ _ _ _ _ _ _ _ _ _ _ i.there is few c.requires i.brought c.in_ok-deliver_entries.ensures.brought;
+      brought = one_batch i.given whole entries c.args.reads i.there is few c.requires i.brought c.in_ok-deliver_entries.ensures.brought;
     }
 
 pub returns-in_err-deliver_entries-clause-is : goal.returns-in_err-deliver_entries-clause-is
@@ -87,9 +87,9 @@ returns-in_err-deliver_entries-clause-is g c =
     let begin = c.in_ok-engine.ensures.ran in
     let few = given_few c.pieces.ended _ _ _ _ _ i.text given i.gave in
     let listed = tells_listed c.in_ok-engine.engine.there _ _ look.0 (bodies_of given) c.in_ok-engine.ensures.there look.3.1 look.3.2 in
-    let brought = one_batch _ _ _ i.given c.pieces.whole.items c.deref.result.now c.args.reads _ _ _ _ _ _ _ _ _ _ _ i.there c.deref.ensures.value few c.requires i.brought c.in_err-deliver_entries.ensures.brought in
+    let brought = one_batch i.given c.pieces.whole.items c.deref.result.now c.args.reads i.there c.deref.ensures.value few c.requires i.brought c.in_err-deliver_entries.ensures.brought in
     stops_in_folder _ _ _ _ _ _ _ is c.in_err-deliver_entries.ensures.causes given (given_front c.pieces.ended _ _ _ _ _ i.text given i.gave) look.0 look.1 _ _ refl
-    (ran_err _ _ _ _ _ _ _ is (all_ran _ _ _ look.0 _ _ _ _ _ _ _ _ _ _ _ _ c.new-calls.ensures look.3.0 begin.2 listed look.2 begin.1 brought.ran))
+    (all_ran look.0 _ c.new-calls.ensures look.3.0 begin.2 listed look.2 begin.1 brought.ran)
 
 pub returns-in_err-ended-2-clause-is : goal.returns-in_err-ended-2-clause-is
 returns-in_err-ended-2-clause-is g c =
@@ -101,12 +101,12 @@ returns-in_err-ended-2-clause-is g c =
     let begin = c.in_ok-engine.ensures.ran in
     let few = given_few c.pieces.ended _ _ _ _ _ i.text given i.gave in
     let listed = tells_listed c.in_ok-engine.engine.there _ _ look.0 (bodies_of given) c.in_ok-engine.ensures.there look.3.1 look.3.2 in
-    let brought = one_batch _ _ _ i.given c.pieces.whole.items c.deref.result.now c.args.reads _ _ _ _ _ _ _ _ _ _ _ i.there c.deref.ensures.value few c.requires i.brought c.in_ok-deliver_entries.ensures.brought in
+    let brought = one_batch i.given c.pieces.whole.items c.deref.result.now c.args.reads i.there c.deref.ensures.value few c.requires i.brought c.in_ok-deliver_entries.ensures.brought in
     let gave = not_ended c.pieces.ended _ _ _ _ _ i.text given c.if-ended.false i.gave in
     let went = c.in_err-ended-2.ensures.went in
     stops _ _ _ _ _ _ fault is (gave_refused _ _ _ c.pieces.messages c.args.reads i.text given fault gave went) (λ e. absurd (never_again _ _ c.pieces.messages i.text given fault gave.fed (i.begun c.if-ended.false) went e))
     given (broken_front _ _ _ c.pieces.messages c.args.reads i.text given fault gave went) look.0 look.1 _ _ refl
-    (ran_stop _ fault _ _ _ _ _ _ is c.in_err-ended-2.ensures.causes (all_ran _ _ _ look.0 _ _ _ _ _ _ _ _ _ _ _ _ c.new-calls.ensures look.3.0 begin.2 listed look.2 begin.1 brought.ran))
+    (ran_stop fault c.in_err-ended-2.ensures.causes (all_ran look.0 _ c.new-calls.ensures look.3.0 begin.2 listed look.2 begin.1 brought.ran))
 
 pub returns-then-ended-clause-is : goal.returns-then-ended-clause-is
 returns-then-ended-clause-is g c =
@@ -118,7 +118,7 @@ returns-then-ended-clause-is g c =
     let counts = c.in_ok-engine.ensures.counts in
     let few = given_few c.pieces.ended _ _ _ _ _ i.text given i.gave in
     let listed = tells_listed c.in_ok-engine.engine.there _ _ look.0 (bodies_of given) c.in_ok-engine.ensures.there look.3.1 look.3.2 in
-    let brought = one_batch _ _ _ i.given c.pieces.whole.items entries c.args.reads _ _ _ _ _ _ _ _ _ _ _ i.there c.deref.ensures.value few c.requires i.brought c.in_ok-deliver_entries.ensures.brought in
+    let brought = one_batch i.given c.pieces.whole.items entries c.args.reads i.there c.deref.ensures.value few c.requires i.brought c.in_ok-deliver_entries.ensures.brought in
     let count = batch_count c.pieces.engine.messages c.deliver_entries.new.self.messages i.given c.pieces.whole.items entries i.count c.in_ok-deliver_entries.ensures.all c.deref.ensures.value in
     record {
       given = given;
@@ -129,8 +129,8 @@ returns-then-ended-clause-is g c =
       names = look.0;
       few = look.1;
       made = c.deliver_entries.new.self.calls.made;
-      ran = ran_ok _ c.report.result _ _ _ _ _ (all_ran _ _ _ look.0 _ _ _ _ _ _ _ _ _ _ _ _ c.new-calls.ensures look.3.0 begin.2 listed look.2 begin.1 brought.ran);
-      tells = told look.0 given c.report.result _ _ _ _ listed count counts.1 brought.placed_are c.report.ensures.messages c.report.ensures.there c.report.ensures.placed
+      ran = all_ran look.0 _ c.new-calls.ensures look.3.0 begin.2 listed look.2 begin.1 brought.ran;
+      tells = told look.0 given c.report.result _ _ _ _ listed count counts.1 (brought.placed_are refl) c.report.ensures.messages c.report.ensures.there c.report.ensures.placed
           (c.report.ensures.swept ∙ c.in_ok-deliver_entries.ensures.swept ∙ i.swept ∙ rw look.3.0 at counts.2);
     }
 

@@ -1,4 +1,4 @@
-use Rattle.std.proofs.Common.{◌≡◌, ℕ, suc, ◌<◌, false, cond, List, [], ◌++◌, length, Ok}
+use Rattle.std.proofs.Common.{◌≡◌, ℕ, suc, ◌<◌, false, cond, List, [], ◌++◌, length, None}
 use Rattle.std.specs.FinMap.{contains_key}
 use Rattle.mbox_text.specs.declared.entry.Entry.{Entry}
 use Rattle.maildir_run.specs.Given.{IsGiven}
@@ -17,7 +17,7 @@ invariant-pieces g l =
       count : l.engine.messages ≡ length given;
       there : l.engine.there ≡ l.initial.engine.there;
       swept : l.engine.swept ≡ l.initial.engine.swept;
-      brought : Brought {A = Unit {0}} (contains_key l.initial.engine.there) [] (bodies_of given) (at l.initial.folder) (at l.folder) l.initial.engine.calls.made l.engine.calls.made l.initial.engine.placed l.engine.placed l.engine.namer (Ok tt);
+      brought : Brought (contains_key l.initial.engine.there) [] (bodies_of given) (at l.initial.folder) (at l.folder) l.initial.engine.calls.made l.engine.calls.made l.initial.engine.placed l.engine.placed l.engine.namer None;
     }
 
 abbrev pub decreases-pieces : goal.decreases-pieces
