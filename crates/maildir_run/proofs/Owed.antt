@@ -1,10 +1,10 @@
 -- What a run owes where it ends, from the tasks that it performed.
-use Rattle.std.proofs.Common.{◌≡◌, ℕ, ◌+◌, ◌*◌, ◌<◌, ◌≤◌, ◌^◌, Bool, true, false, cond, Option, List, [], ◌∷◌, ◌++◌, map, length, All, Result, Ok, Err, IfOk, OnOk, IsPermutation, IsTrue, refl, sym, ap, subst, ◌∙◌, inl, inr, arith, append_assoc, length-append}
+use Rattle.std.proofs.Common.{◌≡◌, ℕ, ◌+◌, ◌*◌, ◌<◌, ◌≤◌, ◌^◌, Bool, true, false, cond, Option, List, [], ◌∷◌, ◌++◌, length, All, Result, Ok, Err, IfOk, OnOk, IsPermutation, IsTrue, refl, sym, ap, subst, ◌∙◌, inl, inr, arith, append_assoc, length-append}
 use Rattle.std.specs.Prelude.{IsErrOf}
 use Rattle.std.specs.List.{filter}
 use Rattle.std.specs.FinMap.{get, keys}
 use Rattle.std.proofs.lemmas.List.{append-nil, length-map}
-use Rattle.std.proofs.lemmas.List.Elements.{All-head, All-tail, All-nil, All-cons}
+use Rattle.std.proofs.lemmas.List.Elements.{All-head, All-tail}
 use Rattle.std.proofs.lemmas.List.Sums.{length-filter, count_by-le-length}
 use Rattle.std.proofs.lemmas.Result.{on_ok_weaker, IfErr-at_err}
 use Rattle.std.specs.Io.KnownBytes.{IsAtEnd}
@@ -36,31 +36,16 @@ use Rattle.maildir_run.proofs.MessageLemmas.{text_named, text_distinct, text_tar
 use Rattle.maildir_run.proofs.Cuts.{left_as}
 use Rattle.maildir_run.proofs.Chains.{chain_delivered}
 use Rattle.maildir_run.proofs.PossibleMessages.{stands_keeps, front_stands, whole_text, given_of, none_done}
-use Rattle.maildir_run.proofs.QuietRuns.{swept_free}
+use Rattle.maildir_run.proofs.QuietRuns.{swept_exact, swept_free}
 use Rattle.maildir_run.proofs.Steps.{leaves_trans}
 use Rattle.maildir_run.proofs.Surveys.{filter-length}
 use Rattle.maildir_run.proofs.Numbers.{count-cons}
 use Rattle.maildir_run.proofs.Planned.{planned_are}
 use Rattle.maildir_run.proofs.Tasks.{stopped_before, reported_stops, MayStop, leaving_stops}
 use Rattle.std.proofs.lemmas.List.Concat.{flat_map-append}
-use Rattle.maildir_run.proofs.TaskEffects.{PlacesNone, AreOurs, all_leave, stopped_leave, all_parts, stopped_parts, looked, looked_quietly, all_swept, swept_quietly, listings_place_none, sweep_places_none, all_progress, stopped_came, CameTo, all_filled, performs_others}
+use Rattle.maildir_run.proofs.TaskEffects.{PlacesNone, AreOurs, all_leave, stopped_leave, all_parts, stopped_parts, looked, looked_quietly, all_swept, sweep_ours, listings_place_none, sweep_places_none, all_progress, stopped_came, CameTo, all_filled, performs_others}
 
 -- ---- tasks that name converter's names alone
-ours_each : (names : List (List ℕ)) → All (λ name. IsTrue (is_converter_name name)) names → AreOurs (map (λ name. Do (Removing name)) names)
-ours_each [] h = tt
-ours_each (name ∷ names) h = (All-head (λ n. IsTrue (is_converter_name n)) name names h, ours_each names (All-tail (λ n. IsTrue (is_converter_name n)) name names h))
-
-ours_filtered : (names : List (List ℕ)) → All (λ name. IsTrue (is_converter_name name)) (filter is_converter_name names)
-ours_filtered [] = All-nil (λ name. IsTrue (is_converter_name name))
-ours_filtered (name ∷ names) =
-    elim (is_converter_name name) as (λ t. is_converter_name name ≡ t → All (λ n. IsTrue (is_converter_name n)) (cond t (name ∷ filter is_converter_name names) (filter is_converter_name names))) [
-      | true ↦ λ e. All-cons (λ n. IsTrue (is_converter_name n)) name (filter is_converter_name names) e (ours_filtered names)
-      | false ↦ λ e. ours_filtered names
-    ] refl
-
-pub sweep_ours : (names : List (List ℕ)) → AreOurs (sweep_of names)
-sweep_ours names = ours_each (filter is_converter_name names) (ours_filtered names)
-
 both_ours : (xs ys : List Task) → AreOurs xs → AreOurs ys → AreOurs (xs ++ ys)
 both_ours [] ys a b = b
 both_ours (x ∷ xs) ys a b = (a.0, both_ours xs ys a.1 b)
@@ -172,7 +157,7 @@ module _ (names : Names) (ms : List Message) (distinct : AreDistinct ms) (are : 
       let one = all_parts undisturbed (listings names) (sweep_of names.tmp ++ deliveries_of (is_listed names.new names.cur) ms) start now h in
       let two = all_parts undisturbed (sweep_of names.tmp) (deliveries_of (is_listed names.new names.cur) ms) one.0 now one.2 in
       let l = looked_quietly names start one.0 one.1 in
-      let clean : two.0 ≡ swept start = swept_quietly names.tmp one.0 two.0 (subst (λ s. IsPermutation names.tmp (keys s.tmp)) (sym l.0) l.1) two.1 ∙ ap swept l.0 in (
+      let clean : two.0 ≡ swept start = swept_exact names.tmp one.0 two.0 (subst (λ s. IsPermutation names.tmp (keys s.tmp)) (sym l.0) l.1) two.1 ∙ ap swept l.0 in (
         all_filled start (is_listed names.new names.cur) look.knows ms are two.0 now (λ name ours. ap (λ s. get s.tmp name) clean ∙ swept_free start name ours) two.2 ∙ ap (filled start ms) clean,
         tells.swept ∙ sweep_count names.tmp ∙ filter-length is_converter_name names.tmp (keys start.tmp) l.1,
       )

@@ -13,7 +13,7 @@ use Rattle.maildir_name.specs.Names.{is_converter_name, is_converter_base}
 use Rattle.maildir_run.specs.Files.{Files, FileMap, is_name, has_base, held_under, homes}
 use Rattle.maildir_run.specs.Calls.{Call, Listing, Writing, Placing, Removing, Again, after, effect, Called, Succeeded, Failed, Lists, PlacesElsewhere, WritesElsewhere, StaysOrGoes}
 use Rattle.maildir_run.specs.Delivery.{Message, IsMissing, IsHome, IsSoundAt}
-use Rattle.maildir_run.specs.Progress.{LeavesHomes, TmpWithin, Brings}
+use Rattle.maildir_run.specs.Progress.{LeavesHomes, TmpWithin, Brings, IsTarget}
 use Rattle.maildir_run.proofs.Maps.{is_name-true, is_name-refl, get-remove_same}
 use Rattle.maildir_run.proofs.Moves.{after_kept, after_tmp, after-append, homes_none, none_held, placing, placing_ok, WrittenOrGone, writing_ok}
 
@@ -58,16 +58,6 @@ without name names s gone within = record {
       ];
 }
 
--- a name that is no converter's
-pub without_other : (name : List ℕ) (names : List (List ℕ)) (s : Files) → IsFalse (is_converter_name name) → TmpWithin (name ∷ names) s → TmpWithin names s
-without_other name names s other within = record {
-  gone = λ q ours off.
-      elim (cases_Bool (is_name q name)) as (λ _. get s.tmp q ≡ None) [
-        | inl e ↦ let alike : is_converter_name q ≡ is_converter_name name = ap is_converter_name (is_name-true q name e) in cc
-        | inr e ↦ within.gone q ours (rw e off)
-      ];
-}
-
 gone_on : (name : List ℕ) (old new : Files) → StaysOrGoes name old new → get old.tmp name ≡ None → get new.tmp name ≡ None
 gone_on name old new (inl e) h = e ∙ h
 gone_on name old new (inr e) h = e
@@ -107,12 +97,6 @@ listing_leaves sub old names new listed = record {
       subst (λ s. IsPermutation (homes old base) (homes s base)) (sym listed.left) (after_kept base named (Listing sub) tt (listed.before ++ Again ∷ listed.rest) old);
 }
 
-pub leaves_brings : (m : Message) (old new : Files) → IsTrue (is_converter_base m.target.base) → IsMissing old m → LeavesHomes old new → Brings m old new
-leaves_brings m old new named missing leaves = record {
-  own = inl (homes_none m.target.base old new (leaves.kept m.target.base named) missing);
-  others = λ base is off. leaves.kept base is;
-}
-
 elsewhere : (m : Message) (base target : List ℕ) → IsTrue (has_base m.target.base target) → IsFalse (is_name m.target.base base) → IsFalse (has_base base target)
 elsewhere m base target on off =
     false_from_ne_true (has_base base target) (λ e.
@@ -121,22 +105,6 @@ elsewhere m base target on off =
 body_of : (name : List ℕ) (body bytes : List ℕ) (s : Files) → WrittenOrGone name body s → get s.tmp name ≡ Some bytes → bytes ≡ body
 body_of name body bytes s (inl e) h = cc
 body_of name body bytes s (inr e) h = cc
-
-pub placing_brings : (m : Message) (name : List ℕ) (p : Place) (target : List ℕ) → IsTrue (is_converter_base m.target.base) → IsTrue (is_converter_name name) → IsTrue (has_base m.target.base target) → (old new : Files) → WrittenOrGone name m.body old → IsMissing old m → Failed (Placing name p target) old new → Brings m old new
-placing_brings m name p target named ours on old new written missing c =
-    record {
-      own = subst (λ s. IsSoundAt s m) (sym c.left)
-          (elim (placing m.target.base name p target named ours on c.moves old missing) as (λ _. IsSoundAt (after old (Placing name p target) c.moves) m) [
-            | inl w ↦ inl w.homes_are
-            | inr a ↦ inr (a.homes_are ∙ ap (λ x. x ∷ []) (body_of name m.body a.bytes old written a.was))
-          ]);
-      others = λ base is off. called_kept base is (Placing name p target) (elsewhere m base target on off) old new c;
-    }
-
-pub placing_home : (m : Message) (name : List ℕ) (p : Place) (target : List ℕ) → IsTrue (is_converter_base m.target.base) → IsTrue (is_converter_name name) → IsTrue (has_base m.target.base target) → (old new : Files) → WrittenOrGone name m.body old → IsMissing old m → Succeeded (Placing name p target) old new → IsHome new m × (get new.tmp name ≡ None)
-placing_home m name p target named ours on old new written missing done =
-    let a = placing_ok m.target.base name p target named ours on old new done missing in
-    (a.homes_are ∙ ap (λ x. x ∷ []) (body_of name m.body a.bytes old written a.was), a.gone)
 
 -- ---- what a listing shows is there
 shown : (b : List ℕ) (ks : List (List ℕ)) → list_any (has_base b) ks ≡ true → (q : List ℕ) × (has_base b q ≡ true) × (list_any (is_name q) ks ≡ true)
@@ -158,12 +126,14 @@ not_shown b m names listed e on =
 written_leaves : (name bytes : List ℕ) (old new : Files) → Failed (Writing name bytes) old new → LeavesHomes old new
 written_leaves name bytes old new c = record { kept = λ base named. called_kept base named (Writing name bytes) tt old new c }
 
-pub write_brings : (m : Message) → IsTrue (is_converter_base m.target.base) → (name bytes : List ℕ) (old new : Files) → Failed (Writing name bytes) old new → IsMissing old m → Brings m old new
-write_brings m named name bytes old new c missing = leaves_brings m old new named missing (written_leaves name bytes old new c)
+pub write_brings : (m : Message) → IsTarget m.target → (old new : Files) → Failed (Writing m.target.base m.body) old new → IsMissing old m → Brings m old new
+write_brings m is old new c missing =
+    let leaves = written_leaves m.target.base m.body old new c in
+    record { own = inl (homes_none m.target.base old new (leaves.kept m.target.base is.named) missing); others = λ base named off. leaves.kept base named }
 
 -- the base is a converter's name
-pub base_name : (m : Message) → IsTrue (is_converter_base m.target.base) → IsTrue (has_base m.target.base m.target.base) → IsTrue (is_converter_name m.target.base)
-base_name m named whole = ap is_converter_base (sym (is_name-true m.target.base _ whole)) ∙ named
+pub base_name : (m : Message) → IsTarget m.target → IsTrue (is_converter_name m.target.base)
+base_name m is = ap is_converter_base (sym (is_name-true m.target.base _ is.whole)) ∙ is.named
 
 pub record Written (m : Message) (old mid : Files) : Type 0 where
   pub written : WrittenOrGone m.target.base m.body mid
@@ -171,36 +141,39 @@ pub record Written (m : Message) (old mid : Files) : Type 0 where
   pub leaves : LeavesHomes old mid
   pub within : TmpWithin [] old → TmpWithin (m.target.base ∷ []) mid
 
-pub write_ok : (m : Message) → IsTrue (is_converter_base m.target.base) → IsTrue (has_base m.target.base m.target.base) → (name bytes : List ℕ) → name ≡ m.target.base → bytes ≡ m.body → (old mid : Files) → Succeeded (Writing name bytes) old mid → IsMissing old m → Written m old mid
-write_ok m named whole name bytes e f old mid done missing =
-    let own : Succeeded (Writing m.target.base m.body) old mid = subst (λ n. Succeeded (Writing n m.body) old mid) e (subst (λ b. Succeeded (Writing name b) old mid) f done) in
-    let leaves : LeavesHomes old mid = written_leaves m.target.base m.body old mid (ok_moves (Writing m.target.base m.body) old mid own) in
+pub write_ok : (m : Message) → IsTarget m.target → (old mid : Files) → Succeeded (Writing m.target.base m.body) old mid → IsMissing old m → Written m old mid
+write_ok m is old mid done missing =
+    let moves = ok_moves (Writing m.target.base m.body) old mid done in
+    let leaves = written_leaves m.target.base m.body old mid moves in
     record {
-      written = writing_ok m.target.base m.body (base_name m named whole) old mid own;
-      missing = homes_none m.target.base old mid (leaves.kept m.target.base named) missing;
+      written = writing_ok m.target.base m.body (base_name m is) old mid done;
+      missing = homes_none m.target.base old mid (leaves.kept m.target.base is.named) missing;
       leaves = leaves;
-      within = writing_within m.target.base m.body old mid (ok_moves (Writing m.target.base m.body) old mid own);
+      within = writing_within m.target.base m.body old mid moves;
     }
 
-brings_on : (m : Message) (old mid new : Files) → LeavesHomes old mid → Brings m mid new → Brings m old new
-brings_on m old mid new leaves brings = record {
-  own = brings.own;
-  others = λ base is off. IsPermutation-trans _ _ _ (leaves.kept base is) (brings.others base is off);
-}
+module _ (m : Message) (is : IsTarget m.target) (old mid new : Files) (w : Written m old mid) where
+  abbrev put : Call
+  put = Placing m.target.base m.target.place m.target.name
 
-pub place_brings : (m : Message) → IsTrue (is_converter_base m.target.base) → IsTrue (has_base m.target.base m.target.base) → (name : List ℕ) → name ≡ m.target.base → (p : Place) (target : List ℕ) → IsTrue (has_base m.target.base target) → (old mid new : Files) → Written m old mid → Failed (Placing name p target) mid new → Brings m old new
-place_brings m named whole name e p target on old mid new w c =
-    brings_on m old mid new w.leaves (placing_brings m m.target.base p target named (base_name m named whole) on mid new w.written w.missing (subst (λ n. Failed (Placing n p target) mid new) e c))
+  pub place_brings : Failed put mid new → Brings m old new
+  place_brings c =
+      record {
+        own = subst (λ s. IsSoundAt s m) (sym c.left)
+            (elim (placing m.target.base m.target.base m.target.place m.target.name is.named (base_name m is) is.under c.moves mid w.missing) as (λ _. IsSoundAt (after mid put c.moves) m) [
+              | inl waits ↦ inl waits.homes_are
+              | inr a ↦ inr (a.homes_are ∙ ap (λ x. x ∷ []) (body_of m.target.base m.body a.bytes mid w.written a.was))
+            ]);
+        others = λ base named off. IsPermutation-trans _ _ _ (w.leaves.kept base named) (called_kept base named put (elsewhere m base m.target.name is.under off) mid new c);
+      }
 
-pub place_home : (m : Message) → IsTrue (is_converter_base m.target.base) → IsTrue (has_base m.target.base m.target.base) → (name : List ℕ) → name ≡ m.target.base → (p : Place) (target : List ℕ) → IsTrue (has_base m.target.base target) → (old mid new : Files) → Written m old mid → Succeeded (Placing name p target) mid new → IsHome new m × (TmpWithin [] old → TmpWithin [] new)
-place_home m named whole name e p target on old mid new w done =
-    let own : Succeeded (Placing m.target.base p target) mid new = subst (λ n. Succeeded (Placing n p target) mid new) e done in
-    let home = placing_home m m.target.base p target named (base_name m named whole) on mid new w.written w.missing own in
-    (home.0, λ within. placing_within m.target.base p target mid new own home.1 (w.within within))
+  pub place_home : Succeeded put mid new → IsHome new m × (TmpWithin [] old → TmpWithin [] new)
+  place_home done =
+      let a = placing_ok m.target.base m.target.base m.target.place m.target.name is.named (base_name m is) is.under mid new done w.missing in (
+        a.homes_are ∙ ap (λ x. x ∷ []) (body_of m.target.base m.body a.bytes mid w.written a.was),
+        λ within. placing_within m.target.base m.target.place m.target.name mid new done a.gone (w.within within),
+      )
 
 -- ---- the sweep
 pub leaves_trans : (a b c : Files) → LeavesHomes a b → LeavesHomes b c → LeavesHomes a c
 leaves_trans a b c first then = record { kept = λ base named. IsPermutation-trans _ _ _ (first.kept base named) (then.kept base named) }
-
-pub sweep_removed : (name : List ℕ) (names : List (List ℕ)) (shown : List ℕ) → shown ≡ name → IsTrue (is_converter_name shown) → (old new : Files) → Succeeded (Removing shown) old new → TmpWithin (name ∷ names) old → TmpWithin names new
-sweep_removed name names shown e ours old new done within = removing_within shown names ours old new done (subst (λ n. TmpWithin (n ∷ names) old) (sym e) within)
