@@ -5,7 +5,7 @@ use Rattle.mbox_text.specs.declared.entry.Entry.{Entry}
 use Rattle.maildir_name.specs.Targets.{target}
 use Rattle.maildir_run.specs.Texts.{messages_of, bodies_of}
 use Rattle.maildir_run.specs.Progress.{message_at}
-use Rattle.maildir_run.specs.Tasks.{messages_after}
+use Rattle.maildir_run.specs.Parts.{messages_after}
 use Rattle.maildir_run.proofs.MessageLemmas.{messages_of-push, length-messages_of}
 
 -- more bodies give more messages behind

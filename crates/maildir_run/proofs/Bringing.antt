@@ -11,7 +11,7 @@ use Rattle.maildir_run.specs.declared.fault.RunFault.{RunFault}
 use Rattle.maildir_run.specs.declared.fault.RunFault.TheVariants.{OutOfMemory}
 use Rattle.maildir_run.specs.Counting.{fault_of}
 use Rattle.maildir_run.specs.Progress.{message_at}
-use Rattle.maildir_run.specs.Tasks.{Seen, Ran, Brought, messages_after, delivery_of, delivery_if, deliveries_of}
+use Rattle.maildir_run.specs.Parts.{Seen, Ran, Brought, messages_after, delivery_of, delivery_if, deliveries_of}
 use Rattle.maildir_run.proofs.Reach.{last_is}
 use Rattle.maildir_run.proofs.Tasks.{ran_none, ran_nothing, ran_then, ran_before}
 

@@ -10,13 +10,13 @@ use Rattle.maildir_run.specs.declared.fault.RunFault.{RunFault}
 use Rattle.maildir_run.specs.declared.fault.RunFault.TheVariants.{NoFromLine}
 use Rattle.maildir_run.specs.declared.report.Report.{Report}
 use Rattle.maildir_run.specs.Bases.{BaseSet}
-use Rattle.maildir_run.specs.Conversion.{Conversion, Tells, run_tasks}
+use Rattle.maildir_run.specs.Parts.{Conversion, Tells, run_tasks, Seen, Ran, Brought, sweep_of, messages_after, delivery_of, delivery_if, deliveries_of}
 use Rattle.maildir_run.specs.Counting.{IsOfFolder}
 use Rattle.maildir_run.specs.Delivery.{Message}
 use Rattle.maildir_run.specs.Given.{Front, Refused}
 use Rattle.maildir_run.specs.Plan.{is_listed}
 use Rattle.maildir_run.specs.Reading.{IsReading}
-use Rattle.maildir_run.specs.Tasks.{Task, Names, Seen, Ran, Brought, listings, sweep_of, messages_after, delivery_of, delivery_if, deliveries_of}
+use Rattle.maildir_run.specs.Tasks.{Task, Names, listings}
 use Rattle.maildir_run.specs.Texts.{messages_of, bodies_of}
 use Rattle.maildir_run.proofs.Bringing.{brought_then}
 use Rattle.maildir_run.proofs.Batches.{all_messages}

@@ -4,6 +4,7 @@ use Rattle.std.specs.FinMap.Entries.{by_order}
 use Rattle.std.specs.FinMap.{get, insert, remove, entries, values, retain_keys, find, put, entries-insert, get-entries, get-insert, get-remove, get-retain_keys, same_map, IsAntisymmetric, slice_cmp-IsAntisymmetric, nat_cmp-IsAntisymmetric}
 use Rattle.std.specs.Cmp.{IsTotalOrder}
 use Rattle.std.proofs.lemmas.Cmp.{nat_list_cmp_total, eq_by_cmp_equiv}
+use Rattle.std.specs.Option.{is_some}
 use Rattle.std.specs.Ordering.{is_eq}
 use Rattle.std.specs.declared.cmp.Ordering.{Ordering}
 use Rattle.std.specs.declared.cmp.Ordering.TheVariants.{Less, Equal, Greater}
@@ -34,6 +35,10 @@ get_under p m q = get-retain_keys m p q (λ x e. ap p (sym (same q x e)))
 guarded : {X : Type 0} (b : Bool) (x y : Option X) → (b ≡ true → x ≡ y) → cond b x None ≡ cond b y None
 guarded true x y h = h refl
 guarded false x y h = refl
+
+pub nothing : {X : Type 0} (o : Option X) → is_some o ≡ false → o ≡ None
+nothing None e = refl
+nothing (Some x) e = cc
 
 -- two folders that answer alike under the test hold the same there
 pub under_same : (p : List ℕ → Bool) (m n : FileMap) → ((q : List ℕ) → p q ≡ true → get m q ≡ get n q) → retain_keys m p ≡ retain_keys n p

@@ -15,7 +15,7 @@ use Rattle.maildir_run.specs.declared.fault.RunFault.{RunFault}
 use Rattle.maildir_run.specs.declared.fault.RunFault.TheVariants.{NoFromLine, TooManyReads}
 use Rattle.maildir_run.specs.declared.report.Report.{Report}
 use Rattle.maildir_run.specs.Alone.{swept, filled, alone}
-use Rattle.maildir_run.specs.Conversion.{Conversion, Tells, run_tasks}
+use Rattle.maildir_run.specs.Parts.{Conversion, Tells, run_tasks, Seen, Ran, sweep_of, delivery_of, delivery_if, deliveries_of}
 use Rattle.maildir_run.specs.Counting.{fault_of, capped, IsNumbered, Makes, Numbers}
 use Rattle.maildir_run.specs.Cuts.{Left}
 use Rattle.maildir_run.specs.Delivery.{Message, IsSoundAt, IsMissing, Delivered, AreDistinct, Sound, has_home, there_count, leftover_count}
@@ -27,7 +27,7 @@ use Rattle.maildir_run.specs.Quietly.{LeavesOthers}
 use Rattle.maildir_run.specs.Reading.{ReadsAtLeast}
 use Rattle.maildir_run.specs.Runs.{Possible, Keeps, Run, CountsRun, Link, Runs}
 use Rattle.mbox_text.specs.Mbox.{Mbox}
-use Rattle.maildir_run.specs.Tasks.{Task, Do, Seen, Ran, Performs, AllDone, Stopped, reported, undisturbed, Names, listings, sweep_of, planned_tasks, delivery_of, delivery_if, deliveries_of, Way, leaving}
+use Rattle.maildir_run.specs.Tasks.{Task, Do, Performs, AllDone, Stopped, reported, undisturbed, Names, listings, planned_tasks, Way, leaving}
 use Rattle.maildir_run.specs.Calls.{Removing}
 use Rattle.maildir_run.specs.Texts.{messages_of, bodies_of, MessagesOf}
 use Rattle.maildir_run.proofs.CallCounts.{run_counts}

@@ -9,7 +9,7 @@ use Rattle.maildir_run.specs.declared.fault.RunFault.{RunFault}
 use Rattle.maildir_run.specs.Files.{Files}
 use Rattle.maildir_run.specs.Delivery.{Message, IsHome, AreNamed, AreDistinct, Sound}
 use Rattle.maildir_run.specs.Texts.{messages_of, bodies_of, MessagesOf}
-use Rattle.maildir_run.specs.Tasks.{messages_after}
+use Rattle.maildir_run.specs.Parts.{messages_after}
 use Rattle.maildir_run.specs.Runs.{Possible, Keeps}
 use Rattle.maildir_run.specs.Progress.{LeavesHomes, Progress}
 use Rattle.maildir_run.specs.Given.{Front, GaveAll}

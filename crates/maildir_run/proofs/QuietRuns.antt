@@ -1,7 +1,6 @@
 -- What a run's calls leave in a quiet folder.
 use Rattle.std.proofs.Common.{◌≡◌, ℕ, Bool, true, false, cond, not, ◌&&◌, ◌||◌, List, [], ◌∷◌, map, Option, Some, None, IsPermutation, IsTrue, IsFalse, refl, sym, ap, ◌∙◌, inl, inr}
 use Rattle.std.specs.List.{filter, list_any}
-use Rattle.std.specs.Option.{is_some}
 use Rattle.std.specs.FinMap.{get, insert, remove, keys, retain_keys, same_map, get-insert, get-remove, contains_key-keys}
 use Rattle.std.proofs.lemmas.Bool.{cases_Bool, false_from_ne_true}
 use Rattle.std.proofs.lemmas.Map.Views.{any-filter_same}
@@ -14,8 +13,9 @@ use Rattle.maildir_run.specs.Calls.{Call, Listing, Writing, Placing, Removing, M
 use Rattle.maildir_run.specs.Alone.{swept, added}
 use Rattle.maildir_run.specs.Delivery.{Message}
 use Rattle.maildir_run.specs.Quietly.{LeavesOthers}
-use Rattle.maildir_run.specs.Tasks.{Do, undisturbed, AllDone, sweep_of}
-use Rattle.maildir_run.proofs.Maps.{total, same, is_name-true, get_under, get-insert_same}
+use Rattle.maildir_run.specs.Tasks.{Do, undisturbed, AllDone}
+use Rattle.maildir_run.specs.Parts.{sweep_of}
+use Rattle.maildir_run.proofs.Maps.{nothing, total, same, is_name-true, get_under, get-insert_same}
 
 pub others_same : (s : Files) → LeavesOthers s s
 others_same s = record { in_tmp = λ q off. refl; in_new = λ q off. refl; in_cur = λ q off. refl }
@@ -86,10 +86,6 @@ all_removed (x ∷ names) old new (mid, one, more) =
       r.2 ∙ ap (λ s. s.cur) one.1,
     )
 
-unlisted_none : (o : Option (List ℕ)) → is_some o ≡ false → o ≡ None
-unlisted_none None e = refl
-unlisted_none (Some x) e = cc
-
 all_out : (c a : Bool) (o : Option (List ℕ)) → (a ≡ false → o ≡ None) → cond (c && a) None o ≡ cond (not c) o None
 all_out true true o h = refl
 all_out true false o h = h refl
@@ -101,7 +97,7 @@ swept_exact names start now listed done =
     let tmp : now.tmp ≡ retain_keys start.tmp (λ name. not (is_converter_name name)) = same_map total same _ _ (λ q.
     r.0 q
     ∙ ap (λ t. cond t None (get start.tmp q)) (any-filter_same (is_name q) is_converter_name (is_converter_name q) (λ k e. ap is_converter_name (sym (is_name-true q k e))) names)
-    ∙ all_out (is_converter_name q) (list_any (is_name q) names) (get start.tmp q) (λ off. unlisted_none (get start.tmp q) (contains_key-keys start.tmp q ∙ sym (list_any-IsPermutation (is_name q) names (keys start.tmp) listed) ∙ off))
+    ∙ all_out (is_converter_name q) (list_any (is_name q) names) (get start.tmp q) (λ off. nothing (get start.tmp q) (contains_key-keys start.tmp q ∙ sym (list_any-IsPermutation (is_name q) names (keys start.tmp) listed) ∙ off))
     ∙ sym (get_under (λ name. not (is_converter_name name)) start.tmp q)) in
     ap (λ m. record now { tmp = m }) tmp
     ∙ ap (λ m. record { tmp = (swept start).tmp; new = m; cur = now.cur }) r.1

@@ -1,5 +1,5 @@
 -- What one call of a run gives, in the words of a run.
-use Rattle.std.proofs.Common.{◌≡◌, ℕ, true, false, ◌||◌, List, [], ◌∷◌, ◌++◌, Option, Some, None, Result, Ok, Err, OnOk, IsPermutation, IsTrue, IsFalse, refl, sym, ap, subst, ◌∙◌, inl, inr}
+use Rattle.std.proofs.Common.{◌≡◌, ℕ, true, false, ◌||◌, List, [], ◌∷◌, ◌++◌, Some, None, Result, Ok, Err, OnOk, IsPermutation, IsTrue, IsFalse, refl, sym, ap, subst, ◌∙◌, inl, inr}
 use Rattle.std.specs.List.{list_any}
 use Rattle.std.specs.Option.{is_some}
 use Rattle.std.specs.FinMap.{get, keys, contains_key-keys}
@@ -14,7 +14,7 @@ use Rattle.maildir_run.specs.Files.{Files, FileMap, is_name, has_base, held_unde
 use Rattle.maildir_run.specs.Calls.{Call, Listing, Writing, Placing, Removing, Again, after, effect, Called, Succeeded, Failed, Lists, PlacesElsewhere, WritesElsewhere, StaysOrGoes}
 use Rattle.maildir_run.specs.Delivery.{Message, IsMissing, IsHome, IsSoundAt}
 use Rattle.maildir_run.specs.Progress.{LeavesHomes, TmpWithin, Brings, IsTarget}
-use Rattle.maildir_run.proofs.Maps.{is_name-true, is_name-refl, get-remove_same}
+use Rattle.maildir_run.proofs.Maps.{nothing, is_name-true, is_name-refl, get-remove_same}
 use Rattle.maildir_run.proofs.Moves.{after_kept, after_tmp, after-append, homes_none, none_held, placing, placing_ok, WrittenOrGone, writing_ok}
 
 -- ---- any answer is some list of moves, which is what `Failed` says
@@ -77,10 +77,6 @@ removing_within name names ours old new done within =
 pub placing_within : (name : List ℕ) (p : Place) (target : List ℕ) (old new : Files) → Succeeded (Placing name p target) old new → get new.tmp name ≡ None → TmpWithin (name ∷ []) old → TmpWithin [] new
 placing_within name p target old new done gone within =
     without name [] new gone (within_on (name ∷ []) old new (λ q is off. called_tmp q is (Placing name p target) tt old new (ok_moves (Placing name p target) old new done)) within)
-
-nothing : (o : Option (List ℕ)) → is_some o ≡ false → o ≡ None
-nothing None e = refl
-nothing (Some x) e = cc
 
 pub listing_within : (old : Files) (names : List (List ℕ)) (new : Files) → Lists Tmp old names new → TmpWithin names new
 listing_within old names new listed =

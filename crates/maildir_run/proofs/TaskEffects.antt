@@ -18,7 +18,8 @@ use Rattle.maildir_run.specs.Files.{Files, homes, is_name}
 use Rattle.maildir_run.specs.Plan.{is_listed}
 use Rattle.maildir_run.specs.Progress.{LeavesHomes, TmpWithin, Brings, Progress, Knows, IsTarget}
 use Rattle.maildir_run.specs.Quietly.{LeavesOthers}
-use Rattle.maildir_run.specs.Tasks.{Task, Ask, Do, call_of, Done, Way, reported, undisturbed, AllDone, Stopped, Performs, Names, listings, sweep_of, delivery_of, delivery_if, deliveries_of}
+use Rattle.maildir_run.specs.Tasks.{Task, Ask, Do, call_of, Done, Way, reported, undisturbed, AllDone, Stopped, Performs, Names, listings}
+use Rattle.maildir_run.specs.Parts.{sweep_of, delivery_of, delivery_if, deliveries_of}
 use Rattle.maildir_run.proofs.Maps.{is_name-true}
 use Rattle.maildir_run.proofs.Progress.{progress_home, progress_brought, progress_or_more}
 use Rattle.maildir_run.proofs.QuietRuns.{OfConverter, others_same, others_then, effect_others, own_others, brought_exact, step_tmp}

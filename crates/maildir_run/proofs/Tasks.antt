@@ -17,7 +17,8 @@ use Rattle.maildir_run.specs.Calls.{Call, Called, CalledQuietly, Listed, Listing
 use Rattle.maildir_run.specs.Counting.{fault_of, run_answer, capped, GoesUpWith, CountsFault, IsNumbered}
 use Rattle.maildir_run.specs.Cuts.{Left, LeavesOf}
 use Rattle.maildir_run.specs.Files.{Files}
-use Rattle.maildir_run.specs.Tasks.{Task, Ask, Do, Way, reported, undisturbed, leaving, AllDone, Stopped, DoneUntil, Performs, Seen, Ran, names_in}
+use Rattle.maildir_run.specs.Tasks.{Task, Ask, Do, Way, reported, undisturbed, leaving, AllDone, Stopped, DoneUntil, Performs}
+use Rattle.maildir_run.specs.Parts.{Seen, Ran, names_in}
 use Rattle.maildir_run.specs.Reading.{IsReading}
 use Rattle.maildir_run.proofs.Faults.{at_reading}
 use Rattle.maildir_run.proofs.Cuts.{left_as, left_then}

@@ -21,4 +21,4 @@ pub mod Quietly
 pub mod Listing
 pub mod ListedSoFar
 pub mod Tasks
-pub mod Conversion
+pub mod Parts

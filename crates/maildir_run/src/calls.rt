@@ -2,7 +2,7 @@
 ghost use Rattle.std.specs.Prelude.{◌≡◌, ◌+◌, [], ◌∷◌, IfErr};
 ghost use Rattle.maildir_run.specs.Counting.{capped, fault_of, run_answer, IsOfFolder};
 ghost use Rattle.maildir_run.specs.Calls.Call.{Writing, Placing, Removing};
-ghost use Rattle.maildir_run.specs.Tasks.{Ran, seen, names_in};
+ghost use Rattle.maildir_run.specs.Parts.{Ran, seen, names_in};
 ghost use Rattle.maildir_run.specs.Tasks.Task.{Ask, Do};
 
 use crate::fault::RunFault;

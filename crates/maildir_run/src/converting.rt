@@ -4,7 +4,7 @@ ghost use Rattle.std.specs.Io.KnownBytes.{IsAtEnd};
 ghost use Rattle.mbox_text.specs.declared.entry.Entry.{Entry as Message};
 ghost use Rattle.mbox_text.specs.Mbox.{Mbox};
 ghost use Rattle.maildir_run.specs.Alone.{alone as alone_after};
-ghost use Rattle.maildir_run.specs.Conversion.{Conversion};
+ghost use Rattle.maildir_run.specs.Parts.{Conversion, seen};
 ghost use Rattle.maildir_run.specs.Counting.{CountsFault, IsOfFolder, Numbers};
 ghost use Rattle.maildir_run.specs.Cuts.{Left};
 ghost use Rattle.maildir_run.specs.Delivery.{Message as Due, Delivered, IsMissing, leftover_count};
@@ -13,7 +13,7 @@ ghost use Rattle.maildir_run.specs.Given.{Begins, Refused};
 ghost use Rattle.maildir_run.specs.Quietly.{LeavesOthers};
 ghost use Rattle.maildir_run.specs.Reading.{IsReading, ReadsAtLeast, ReadsAtMost, Taken};
 ghost use Rattle.maildir_run.specs.Runs.{CountsRun, Link, Possible, Run, Runs};
-ghost use Rattle.maildir_run.specs.Tasks.{Names, Performs, reported, leaving, planned_tasks, seen};
+ghost use Rattle.maildir_run.specs.Tasks.{Names, Performs, reported, leaving, planned_tasks};
 ghost use Rattle.maildir_run.specs.Texts.{MessagesOf};
 
 use crate::calls::Calls;

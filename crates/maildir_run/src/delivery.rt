@@ -1,7 +1,7 @@
 // One message on its way to its target.
 ghost use Rattle.std.specs.Prelude.{IfErr};
 ghost use Rattle.maildir_run.specs.Counting.{IsOfFolder, fault_of};
-ghost use Rattle.maildir_run.specs.Tasks.{Ran, seen, delivery_of};
+ghost use Rattle.maildir_run.specs.Parts.{Ran, seen, delivery_of};
 
 use crate::calls::Calls;
 use crate::fault::RunFault;

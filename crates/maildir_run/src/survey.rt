@@ -2,7 +2,8 @@
 ghost use Rattle.std.specs.Prelude.{◌≡◌, ◌<◌, ◌^◌, length, IfOk, IfErr};
 ghost use Rattle.maildir_run.specs.Calls.{names_of};
 ghost use Rattle.maildir_run.specs.Counting.{IsOfFolder, fault_of};
-ghost use Rattle.maildir_run.specs.Tasks.{Ran, seen, listings, Names};
+ghost use Rattle.maildir_run.specs.Tasks.{listings, Names};
+ghost use Rattle.maildir_run.specs.Parts.{Ran, seen};
 
 use crate::calls::Calls;
 use crate::fault::RunFault;

@@ -1,7 +1,8 @@
 // The sweep: what broken runs left in `tmp` is removed.
 ghost use Rattle.std.specs.Prelude.{◌≡◌, [], length, map, string_bytes, IfOk, IfErr};
 ghost use Rattle.maildir_run.specs.Counting.{IsOfFolder, fault_of};
-ghost use Rattle.maildir_run.specs.Tasks.{Ran, seen, tasks_of, sweep_of};
+ghost use Rattle.maildir_run.specs.Tasks.{tasks_of};
+ghost use Rattle.maildir_run.specs.Parts.{Ran, seen, sweep_of};
 
 use crate::calls::Calls;
 use crate::fault::RunFault;

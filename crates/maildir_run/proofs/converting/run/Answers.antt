@@ -1,6 +1,6 @@
 use Rattle.std.proofs.Common.{◌*◌, [], ◌++◌, refl, ◌∙◌, inr}
 use Rattle.maildir_run.specs.declared.fault.RunFault.TheVariants.{OutOfMemory}
-use Rattle.maildir_run.specs.Tasks.{seen}
+use Rattle.maildir_run.specs.Parts.{seen}
 use Rattle.maildir_run.specs.Texts.{bodies_of}
 use Rattle.maildir_run.proofs.Bringing.{brought_none}
 use Rattle.maildir_run.proofs.Conversions.{stops, stops_in_folder, stops_unread, all_ran, tells_listed, one_batch, told}

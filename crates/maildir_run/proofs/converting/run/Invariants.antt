@@ -2,7 +2,7 @@ use Rattle.std.proofs.Common.{◌≡◌, ℕ, suc, ◌<◌, false, cond, List, [
 use Rattle.std.specs.FinMap.{contains_key}
 use Rattle.mbox_text.specs.declared.entry.Entry.{Entry}
 use Rattle.maildir_run.specs.Given.{IsGiven}
-use Rattle.maildir_run.specs.Tasks.{Brought, seen}
+use Rattle.maildir_run.specs.Parts.{Brought, seen}
 use Rattle.maildir_run.specs.Texts.{bodies_of}
 use Rattle.maildir_run.proofs.converting.run.Given as goal
 

@@ -1,5 +1,6 @@
 use Rattle.std.proofs.Common.{◌≡◌, ◌≤◌, [], take, length, None}
-use Rattle.maildir_run.specs.Tasks.{Ran, seen, tasks_of}
+use Rattle.maildir_run.specs.Tasks.{tasks_of}
+use Rattle.maildir_run.specs.Parts.{Ran, seen}
 use Rattle.maildir_run.proofs.sweep.remove_planned.Given as goal
 
 abbrev pub invariant-loop-step : goal.invariant-loop-step

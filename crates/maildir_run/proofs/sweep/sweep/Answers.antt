@@ -1,6 +1,7 @@
 use Rattle.std.proofs.Common.{[], map, string_bytes, sym, ap, subst, ◌∙◌, inr}
 use Rattle.maildir_run.specs.Counting.{IsOfFolder}
-use Rattle.maildir_run.specs.Tasks.{seen, tasks_of}
+use Rattle.maildir_run.specs.Tasks.{tasks_of}
+use Rattle.maildir_run.specs.Parts.{seen}
 use Rattle.maildir_run.proofs.Faults.{if_err, unless_ok}
 use Rattle.maildir_run.proofs.Planned.{plan_sweeps}
 use Rattle.maildir_run.proofs.Tasks.{ran_nothing, ran_err}

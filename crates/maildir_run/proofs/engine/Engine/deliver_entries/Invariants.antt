@@ -1,7 +1,7 @@
 use Rattle.std.proofs.Common.{◌≡◌, ℕ, ◌+◌, ◌≤◌, ◌^◌, List, take, length, None}
 use Rattle.std.specs.FinMap.{contains_key}
 use Rattle.maildir_name.specs.Named.{Named}
-use Rattle.maildir_run.specs.Tasks.{Brought, seen}
+use Rattle.maildir_run.specs.Parts.{Brought, seen}
 use Rattle.maildir_run.specs.Texts.{bodies_of}
 use Rattle.maildir_run.proofs.engine.Engine.deliver_entries.Given as goal
 
