@@ -1,14 +1,12 @@
 -- What a call has read where it ends, and the numbers of its calls and messages.
-use Rattle.std.proofs.Common.{◌≡◌, ℕ, suc, ◌+◌, ◌*◌, ◌<◌, ◌≤◌, ◌^◌, Bool, false, true, cond, Option, Ok, List, [], ◌++◌, length, refl, ap, subst, arith, length-append}
-use Rattle.std.specs.Io.KnownBytes.{IsAtEnd}
-use Rattle.std.proofs.KnownBytes.{Consumes-nil, Appends-nil}
+use Rattle.std.proofs.Common.{◌≡◌, ℕ, suc, ◌+◌, ◌*◌, ◌<◌, ◌≤◌, ◌^◌, Bool, false, true, cond, Option, Ok, List, [], ◌++◌, length, ap, subst, arith, length-append}
+use Rattle.std.proofs.KnownBytes.{Consumes-nil}
 use Rattle.mbox_text.specs.declared.entry.Entry.{Entry}
 use Rattle.mbox_text.specs.declared.splitter.Splitter.{Splitter}
 use Rattle.maildir_run.specs.declared.fault.RunFault.{RunFault}
 use Rattle.maildir_run.specs.declared.messages.Messages.{Messages}
 use Rattle.maildir_run.specs.Given.{Refused}
 use Rattle.maildir_run.specs.Reading.{ReadsAtMost, Went}
-use Rattle.maildir_run.specs.Output.{GivesFront}
 
 -- ---- what was read
 pub read_nothing : (source : Option (List ℕ)) (most : ℕ) → ReadsAtMost source source most
@@ -28,15 +26,7 @@ batch_count messages all given whole entries count more e = omega (arith, length
 pub batch_begun : (given more : List Entry) → 0 < length given → 0 < length (given ++ more)
 batch_begun given more h = omega (arith, length-append given more)
 
--- ---- a call that writes as it reads
-pub front_nothing : (output : List Entry → List ℕ) (source was : Option (List ℕ)) → GivesFront output source source was was
-front_nothing output source was = λ t entries p m. ([], output entries, refl, Appends-nil was)
-
 -- ---- one more read
-pub went_to_end : (ended : Bool) (before after : Option (List ℕ)) (old : Messages) (splitter : Splitter) (left : ℕ) (out out' : List Entry) → ended ≡ true → Went old before after out out' splitter left (Ok ended) → IsAtEnd after
-went_to_end true before after old splitter left out out' e w = w.2
-went_to_end false before after old splitter left out out' e w = absurd (cc)
-
 pub went_on : (ended : Bool) (before after : Option (List ℕ)) (old : Messages) (splitter : Splitter) (left : ℕ) (out out' : List Entry) → ended ≡ false → Went old before after out out' splitter left (Ok ended) → left < old.reads
 went_on true before after old splitter left out out' e w = absurd (cc)
 went_on false before after old splitter left out out' e w = omega (arith, w.4)

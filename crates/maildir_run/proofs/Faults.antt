@@ -3,7 +3,7 @@ use Rattle.std.proofs.Common.{◌≡◌, ◌⊎◌, false, true, None, Result, O
 use Rattle.std.specs.Prelude.{IsErr, IsErrAnd, IfOk, IfErr}
 use Rattle.maildir_run.specs.declared.fault.RunFault.{RunFault}
 use Rattle.maildir_run.specs.declared.fault.RunFault.TheVariants.{NoFromLine, ReadFault, TooManyReads, OutputFault, OutOfMemory}
-use Rattle.maildir_run.specs.Counting.{IsOfFolder, fault_of}
+use Rattle.maildir_run.specs.Counting.{fault_of}
 use Rattle.maildir_run.specs.Reading.{IsReading}
 
 -- ---- with any fault
@@ -15,9 +15,6 @@ pub is_fault : {A E : Type 0} (r : Result A E) → IsErr r → fault_of r ≡ No
 is_fault (Ok x) is e = let off : false ≡ true = is in cc
 is_fault (Err e) is none = cc
 
-pub ok_is_none : {A : Type 0} (x : A) (fault : RunFault) → Ok x ≡ Err fault → ⊥
-ok_is_none x fault e = cc
-
 -- the fault of a refused call, and of an answer
 pub if_err : {A E : Type 0} (P : E → Type 0) (r : Result A E) (fault : E) → IsErrAnd r (λ e. e ≡ fault) → P fault → IfErr r P
 if_err P (Ok x) fault is p = tt
@@ -26,14 +23,6 @@ if_err P (Err e) fault is p = subst P (sym is) p
 pub fault_is : {T : Type 0} (r : Result T RunFault) (fault named : RunFault) → IsErrAnd r (λ e. e ≡ fault) → r ≡ Err named → fault ≡ named
 fault_is (Ok x) fault named h e = absurd (cc)
 fault_is (Err x) fault named h e = let same : x ≡ named = cc in sym h ∙ same
-
--- ---- the fault of a folder call
--- it is not one of reading
-pub not_begun : {T : Type 0} (r : Result T RunFault) (fault : RunFault) → IsErrAnd r (λ e. e ≡ fault) → IsOfFolder fault → r ≡ Err NoFromLine → ⊥
-not_begun r fault is of e = subst IsOfFolder (fault_is r fault NoFromLine is e) of
-
-pub not_spent : {T : Type 0} (r : Result T RunFault) (fault : RunFault) → IsErrAnd r (λ e. e ≡ fault) → IsOfFolder fault → r ≡ Err TooManyReads → ⊥
-not_spent r fault is of e = subst IsOfFolder (fault_is r fault TooManyReads is e) of
 
 -- ---- the fault of a read, or of a growth
 pub at_reading : (P : RunFault → Type 0) → P NoFromLine → P ReadFault → P TooManyReads → P OutOfMemory → (fault : RunFault) → IsReading fault → P fault

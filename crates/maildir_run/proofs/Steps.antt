@@ -1,5 +1,5 @@
 -- What one call of a run gives, in the words of a run.
-use Rattle.std.proofs.Common.{◌≡◌, ℕ, true, false, ◌||◌, List, [], ◌∷◌, ◌++◌, Some, None, Result, Ok, Err, OnOk, IsPermutation, IsTrue, IsFalse, refl, sym, ap, subst, ◌∙◌, inl, inr}
+use Rattle.std.proofs.Common.{◌≡◌, ℕ, true, false, ◌||◌, List, [], ◌∷◌, ◌++◌, Some, None, IsPermutation, IsTrue, IsFalse, refl, sym, ap, subst, ◌∙◌, inl, inr}
 use Rattle.std.specs.List.{list_any}
 use Rattle.std.specs.Option.{is_some}
 use Rattle.std.specs.FinMap.{get, keys, contains_key-keys}
@@ -11,7 +11,7 @@ use Rattle.maildir_run.specs.declared.folder.Sub.TheVariants.{Tmp}
 use Rattle.maildir_name.specs.declared.target.Place.{Place}
 use Rattle.maildir_name.specs.Names.{is_converter_name, is_converter_base}
 use Rattle.maildir_run.specs.Files.{Files, FileMap, is_name, has_base, held_under, homes}
-use Rattle.maildir_run.specs.Calls.{Call, Listing, Writing, Placing, Removing, Again, after, effect, Called, Succeeded, Failed, Lists, PlacesElsewhere, WritesElsewhere, StaysOrGoes}
+use Rattle.maildir_run.specs.Calls.{Call, Listing, Writing, Placing, Removing, Again, after, effect, Succeeded, Failed, Lists, PlacesElsewhere, WritesElsewhere, StaysOrGoes}
 use Rattle.maildir_run.specs.Delivery.{Message, IsMissing, IsHome, IsSoundAt}
 use Rattle.maildir_run.specs.Progress.{LeavesHomes, TmpWithin, Brings, IsTarget}
 use Rattle.maildir_run.proofs.Maps.{nothing, is_name-true, is_name-refl, get-remove_same}
@@ -20,10 +20,6 @@ use Rattle.maildir_run.proofs.Moves.{after_kept, after_tmp, after-append, homes_
 -- ---- any answer is some list of moves, which is what `Failed` says
 pub ok_moves : (call : Call) (old new : Files) → Succeeded call old new → Failed call old new
 ok_moves call old new h = record { moves = h.before ++ Again ∷ h.rest; left = h.left }
-
-pub on_ok : {A E : Type 0} (P : Type 0) (call : Call) (old : Files) (r : Result A E) (new : Files) → Called call old r new → (Succeeded call old new → P) → OnOk r P
-on_ok P call old (Ok v) new h f = f h
-on_ok P call old (Err e) new h f = tt
 
 pub called_kept : (b : List ℕ) → IsTrue (is_converter_base b) → (call : Call) → PlacesElsewhere b call → (old new : Files) → Failed call old new → IsPermutation (homes old b) (homes new b)
 called_kept b named call h old new c =
