@@ -1,8 +1,8 @@
 -- What is said of an answer by its fault.
-use Rattle.std.proofs.Common.{◌≡◌, ◌⊎◌, false, true, None, Result, Ok, Err, sym, ◌∙◌, subst, inl, inr}
+use Rattle.std.proofs.Common.{◌≡◌, false, true, None, Result, Ok, Err, sym, ◌∙◌, subst, inl, inr}
 use Rattle.std.specs.Prelude.{IsErr, IsErrAnd, IfOk, IfErr}
 use Rattle.maildir_run.specs.declared.fault.RunFault.{RunFault}
-use Rattle.maildir_run.specs.declared.fault.RunFault.TheVariants.{NoFromLine, ReadFault, TooManyReads, OutputFault, OutOfMemory}
+use Rattle.maildir_run.specs.declared.fault.RunFault.TheVariants.{NoFromLine, ReadFault, TooManyReads, OutOfMemory}
 use Rattle.maildir_run.specs.Counting.{fault_of}
 use Rattle.maildir_run.specs.Reading.{IsReading}
 
@@ -30,16 +30,3 @@ at_reading P a b c d fault (inl e) = subst P (sym e) a
 at_reading P a b c d fault (inr (inl e)) = subst P (sym e) b
 at_reading P a b c d fault (inr (inr (inl e))) = subst P (sym e) c
 at_reading P a b c d fault (inr (inr (inr e))) = subst P (sym e) d
-
--- ---- the writer's faults are not those of reading
-pub output_not_begun : {T : Type 0} (r : Result T RunFault) (fault : RunFault) → IsErrAnd r (λ e. e ≡ fault) → (fault ≡ OutputFault) ⊎ (fault ≡ OutOfMemory) → r ≡ Err NoFromLine → ⊥
-output_not_begun r fault is (inl h) e = let f = fault_is r fault NoFromLine is e in cc
-output_not_begun r fault is (inr h) e = let f = fault_is r fault NoFromLine is e in cc
-
-pub output_not_spent : {T : Type 0} (r : Result T RunFault) (fault : RunFault) → IsErrAnd r (λ e. e ≡ fault) → (fault ≡ OutputFault) ⊎ (fault ≡ OutOfMemory) → r ≡ Err TooManyReads → ⊥
-output_not_spent r fault is (inl h) e = let f = fault_is r fault TooManyReads is e in cc
-output_not_spent r fault is (inr h) e = let f = fault_is r fault TooManyReads is e in cc
-
-pub output_causes : (fault : RunFault) → (fault ≡ OutputFault) ⊎ (fault ≡ OutOfMemory) → IsReading fault ⊎ (fault ≡ OutputFault)
-output_causes fault (inl e) = inr e
-output_causes fault (inr e) = inl (inr (inr (inr e)))

@@ -1,5 +1,5 @@
 -- What a run owes where it ends, from the tasks that it performed.
-use Rattle.std.proofs.Common.{◌≡◌, ℕ, ◌+◌, ◌*◌, ◌<◌, ◌≤◌, ◌^◌, Bool, true, false, cond, Option, List, [], ◌∷◌, ◌++◌, length, All, Result, Ok, Err, IfOk, OnOk, IsPermutation, IsTrue, refl, sym, ap, subst, ◌∙◌, inl, inr, arith, append_assoc, length-append}
+use Rattle.std.proofs.Common.{◌≡◌, ℕ, ◌+◌, ◌*◌, ◌<◌, ◌≤◌, ◌^◌, Bool, true, false, cond, Option, Some, None, List, [], ◌∷◌, ◌++◌, length, All, Result, Ok, Err, IfOk, OnOk, IsPermutation, IsTrue, refl, sym, ap, subst, ◌∙◌, inl, inr, arith, append_assoc, length-append}
 use Rattle.std.specs.Prelude.{IsErrOf}
 use Rattle.std.specs.List.{filter}
 use Rattle.std.specs.FinMap.{get, keys}
@@ -43,28 +43,20 @@ use Rattle.maildir_run.proofs.Numbers.{count-cons}
 use Rattle.maildir_run.proofs.Planned.{planned_are}
 use Rattle.maildir_run.proofs.Tasks.{stopped_before, reported_stops, MayStop, leaving_stops}
 use Rattle.std.proofs.lemmas.List.Concat.{flat_map-append}
-use Rattle.maildir_run.proofs.TaskEffects.{PlacesNone, AreOurs, all_leave, stopped_leave, all_parts, stopped_parts, looked, looked_quietly, all_swept, sweep_ours, listings_place_none, sweep_places_none, all_progress, stopped_came, CameTo, all_filled, performs_others}
+use Rattle.maildir_run.proofs.TaskEffects.{EachTask, each_of_both, PlacesNone, IsOurs, done_leaves, all_parts, stopped_parts, looked, looked_quietly, all_swept, sweep_ours, listings_place_none, sweep_places_none, all_progress, stopped_came, CameTo, all_filled, done_others}
 
 -- ---- tasks that name converter's names alone
-both_ours : (xs ys : List Task) → AreOurs xs → AreOurs ys → AreOurs (xs ++ ys)
-both_ours [] ys a b = b
-both_ours (x ∷ xs) ys a b = (a.0, both_ours xs ys a.1 b)
-
-both_none : (xs ys : List Task) → PlacesNone xs → PlacesNone ys → PlacesNone (xs ++ ys)
-both_none [] ys a b = b
-both_none (x ∷ xs) ys a b = (a.0, both_none xs ys a.1 b)
-
-delivery_ours : (t : Target) (body : List ℕ) → IsTarget t → AreOurs (delivery_of t body)
+delivery_ours : (t : Target) (body : List ℕ) → IsTarget t → EachTask IsOurs (delivery_of t body)
 delivery_ours t body is =
     let own : IsTrue (is_converter_name t.base) = ap is_converter_base (sym (is_name-true t.base (base t.base) is.whole)) ∙ is.named in
     let name : IsTrue (is_converter_name t.name) = ap is_converter_base (sym (is_name-true t.base (base t.name) is.under)) ∙ is.named in
     (own, ((own, name), tt))
 
-deliveries_ours : (is_there : List ℕ → Bool) (ms : List Message) → All (λ m. IsTarget m.target) ms → AreOurs (deliveries_of is_there ms)
+deliveries_ours : (is_there : List ℕ → Bool) (ms : List Message) → All (λ m. IsTarget m.target) ms → EachTask IsOurs (deliveries_of is_there ms)
 deliveries_ours is_there [] are = tt
 deliveries_ours is_there (m ∷ ms) are =
-    both_ours (delivery_if is_there m) (deliveries_of is_there ms)
-    (elim (is_there m.target.base) as (λ t. AreOurs (cond t [] (delivery_of m.target m.body))) [ true ↦ tt | false ↦ delivery_ours m.target m.body (All-head (λ (x : Message). IsTarget x.target) m ms are) ])
+    each_of_both IsOurs (delivery_if is_there m) (deliveries_of is_there ms)
+    (elim (is_there m.target.base) as (λ t. EachTask IsOurs (cond t [] (delivery_of m.target m.body))) [ true ↦ tt | false ↦ delivery_ours m.target m.body (All-head (λ (x : Message). IsTarget x.target) m ms are) ])
     (deliveries_ours is_there ms (All-tail (λ (x : Message). IsTarget x.target) m ms are))
 
 -- ---- how many they are
@@ -95,25 +87,25 @@ ran_numbers tasks start now made made' r ran e few =
     }
 
 -- ---- what the tasks of a run leave
-early_none : (names : Names) → PlacesNone (listings names ++ sweep_of names.tmp)
-early_none names = both_none (listings names) (sweep_of names.tmp) (listings_place_none names) (sweep_places_none names.tmp)
+early_none : (names : Names) → EachTask PlacesNone (listings names ++ sweep_of names.tmp)
+early_none names = each_of_both PlacesNone (listings names) (sweep_of names.tmp) (listings_place_none names) (sweep_places_none names.tmp)
 
-run_ours : (names : Names) (ms : List Message) → All (λ m. IsTarget m.target) ms → AreOurs (run_tasks names ms)
-run_ours names ms are = (tt, (tt, (tt, both_ours (sweep_of names.tmp) (deliveries_of (is_listed names.new names.cur) ms) (sweep_ours names.tmp) (deliveries_ours (is_listed names.new names.cur) ms are))))
+run_ours : (names : Names) (ms : List Message) → All (λ m. IsTarget m.target) ms → EachTask IsOurs (run_tasks names ms)
+run_ours names ms are = (tt, (tt, (tt, each_of_both IsOurs (sweep_of names.tmp) (deliveries_of (is_listed names.new names.cur) ms) (sweep_ours names.tmp) (deliveries_ours (is_listed names.new names.cur) ms are))))
 
 module _ (names : Names) (ms : List Message) (distinct : AreDistinct ms) (are : All (λ m. IsTarget m.target) ms) (start : Files) where
   began : (mid now : Files) → AllDone reported (listings names) start mid → AllDone reported (sweep_of names.tmp) mid now → Progress [] start now × TmpWithin [] now
   began mid now first then = (
-    none_done start now (leaves_trans start mid now (all_leave (listings names) (listings_place_none names) start mid first) (all_leave (sweep_of names.tmp) (sweep_places_none names.tmp) mid now then)),
+    none_done start now (leaves_trans start mid now (done_leaves None (listings names) (listings_place_none names) start mid first) (done_leaves None (sweep_of names.tmp) (sweep_places_none names.tmp) mid now then)),
     all_swept names.tmp mid now (looked names start mid first).within then,
   )
 
-  come_to : (now : Files) → Stopped reported (run_tasks names ms) start now → All (IsSoundAt start) ms → CameTo ms start now
-  come_to now h sound =
+  come_to : (fault : RunFault) (now : Files) → Stopped reported (run_tasks names ms) start now → All (IsSoundAt start) ms → CameTo ms start now
+  come_to fault now h sound =
       let early = listings names ++ sweep_of names.tmp in
       let last = deliveries_of (is_listed names.new names.cur) ms in
       elim (stopped_parts reported early last start now (subst (λ ts. Stopped reported ts start now) (sym (append_assoc (listings names) (sweep_of names.tmp) last)) h)) as (λ _. CameTo ms start now) [
-        | inl s ↦ record { done = []; rest = ms; is = refl; progress = none_done start now (stopped_leave early (early_none names) start now s) }
+        | inl s ↦ record { done = []; rest = ms; is = refl; progress = none_done start now (done_leaves (Some fault) early (early_none names) start now s) }
         | inr (mid, first, more) ↦
             let parts = all_parts reported (listings names) (sweep_of names.tmp) start mid first in
             let b = began parts.0 mid parts.1 parts.2 in
@@ -121,7 +113,7 @@ module _ (names : Names) (ms : List Message) (distinct : AreDistinct ms) (are : 
       ]
 
   stands : (now : Files) → Stopped reported (run_tasks names ms) start now → Sound ms start start → (fault : RunFault) → Keeps ms start (Err fault) now
-  stands now h sound fault = let came = come_to now h sound.own in stands_keeps ms start now fault (front_stands ms came.done came.rest start now (λ k d lt. (are k d lt).named) distinct sound came.is came.progress)
+  stands now h sound fault = let came = come_to fault now h sound.own in stands_keeps ms start now fault (front_stands ms came.done came.rest start now (λ k d lt. (are k d lt).named) distinct sound came.is came.progress)
 
   pub keeps : (now : Files) (r : Result Report RunFault) → Performs reported (run_tasks names ms) start r now → IfOk r (Tells names ms) → Sound ms start start → Keeps ms start r now
   keeps now (Err fault) h tells sound = stands now h sound fault
@@ -249,7 +241,7 @@ module _ {before after : Option (List ℕ)} {reads : ℕ} {start now : Seen} {r 
 
   pub owes_others : start.quiet → LeavesOthers start.files now.files
   owes_others q =
-      performs_others (run_tasks run.names (messages_of (bodies_of run.given))) (run_ours run.names (messages_of (bodies_of run.given)) (messages_targets (bodies_of run.given) few_bodies)) start.files r now.files (run.ran.undisturbed_of q)
+      done_others (fault_of r) (run_tasks run.names (messages_of (bodies_of run.given))) (run_ours run.names (messages_of (bodies_of run.given)) (messages_targets (bodies_of run.given) few_bodies)) start.files now.files (run.ran.undisturbed_of q)
 
   pub owes_calls : IfOk r (λ report. CountsRun report start.calls now.calls)
   owes_calls = calls_made run.names (messages_of (bodies_of run.given)) start now 0 run.made r run.ran run.tells

@@ -1,5 +1,5 @@
 -- What tasks that were performed leave.
-use Rattle.std.proofs.Common.{◌≡◌, ℕ, ◌≤◌, Bool, true, false, cond, List, [], ◌∷◌, ◌++◌, ◌⊎◌, map, length, All, Result, Ok, Err, IsPermutation, IsTrue, IsFalse, refl, sym, ap, subst, ◌∙◌, inl, inr, arith, append_assoc, length-append}
+use Rattle.std.proofs.Common.{Option, Some, None, ◌≡◌, ℕ, ◌≤◌, Bool, true, false, cond, List, [], ◌∷◌, ◌++◌, ◌⊎◌, map, length, All, IsPermutation, IsTrue, IsFalse, refl, sym, ap, subst, ◌∙◌, inl, inr, arith, append_assoc, length-append}
 use Rattle.std.specs.List.{filter}
 use Rattle.std.specs.FinMap.{get, keys}
 use Rattle.std.proofs.lemmas.Bool.{cases_Bool}
@@ -10,6 +10,7 @@ use Rattle.std.proofs.lemmas.Map.Views.{any-filter_same}
 use Rattle.std.proofs.lemmas.List.Sorted.{IsPermutation-refl, IsPermutation-trans}
 use Rattle.maildir_name.specs.declared.target.Target.{Target}
 use Rattle.maildir_name.specs.Names.{is_converter_name, is_converter_base}
+use Rattle.maildir_run.specs.declared.fault.RunFault.{RunFault}
 use Rattle.maildir_run.specs.declared.folder.Sub.TheVariants.{New, Cur}
 use Rattle.maildir_run.specs.Alone.{filled, added}
 use Rattle.maildir_run.specs.Calls.{Placing, Removing, Again, Failed, PlacesElsewhere}
@@ -18,7 +19,7 @@ use Rattle.maildir_run.specs.Files.{Files, homes, is_name}
 use Rattle.maildir_run.specs.Plan.{is_listed}
 use Rattle.maildir_run.specs.Progress.{LeavesHomes, TmpWithin, Brings, Progress, Knows, IsTarget}
 use Rattle.maildir_run.specs.Quietly.{LeavesOthers}
-use Rattle.maildir_run.specs.Tasks.{Task, Ask, Do, call_of, Done, Way, reported, undisturbed, AllDone, Stopped, Performs, Names, listings}
+use Rattle.maildir_run.specs.Tasks.{Task, Ask, Do, call_of, Done, Way, reported, undisturbed, AllDone, Stopped, Names, listings, DoneUntil}
 use Rattle.maildir_run.specs.Parts.{sweep_of, delivery_of, delivery_if, deliveries_of}
 use Rattle.maildir_run.proofs.Maps.{is_name-true}
 use Rattle.maildir_run.proofs.Progress.{progress_home, progress_brought, progress_or_more}
@@ -46,40 +47,43 @@ done_moves : (task : Task) (old new : Files) → Done task old new → Failed (c
 done_moves (Ask sub names) old new h = record { moves = h.before ++ Again ∷ h.rest; left = h.left }
 done_moves (Do call) old new h = ok_moves call old new h
 
--- the tasks place no file at all
-abbrev pub PlacesNone : List Task → Type 0
-PlacesNone [] = Unit {0}
-PlacesNone (task ∷ tasks) = ((b : List ℕ) → PlacesElsewhere b (call_of task)) × PlacesNone tasks
+-- each of the tasks is so
+abbrev pub EachTask : (Task → Type 0) → List Task → Type 0
+EachTask P [] = Unit {0}
+EachTask P (task ∷ tasks) = P task × EachTask P tasks
+
+pub each_of_both : (P : Task → Type 0) (xs ys : List Task) → EachTask P xs → EachTask P ys → EachTask P (xs ++ ys)
+each_of_both P [] ys a b = b
+each_of_both P (x ∷ xs) ys a b = (a.0, each_of_both P xs ys a.1 b)
+
+-- it places no file at all
+abbrev pub PlacesNone : Task → Type 0
+PlacesNone task = (b : List ℕ) → PlacesElsewhere b (call_of task)
 
 module _ (b : List ℕ) (named : IsTrue (is_converter_base b)) where
-  one_kept : (task : Task) → ((b : List ℕ) → PlacesElsewhere b (call_of task)) → (old new : Files) → Failed (call_of task) old new → IsPermutation (homes old b) (homes new b)
+  one_kept : (task : Task) → PlacesNone task → (old new : Files) → Failed (call_of task) old new → IsPermutation (homes old b) (homes new b)
   one_kept task off old new h = called_kept b named (call_of task) (off b) old new h
 
-  all_kept : (tasks : List Task) → PlacesNone tasks → (old new : Files) → AllDone reported tasks old new → IsPermutation (homes old b) (homes new b)
-  all_kept [] off old new e = subst (λ s. IsPermutation (homes old b) (homes s b)) (sym e) (IsPermutation-refl _)
-  all_kept (task ∷ tasks) off old new (mid, one, more) =
-      IsPermutation-trans _ _ _ (one_kept task off.0 old mid (done_moves task old mid one)) (all_kept tasks off.1 mid new more)
+  done_kept : (fault : Option RunFault) (tasks : List Task) → EachTask PlacesNone tasks → (old new : Files) → DoneUntil reported tasks old fault new → IsPermutation (homes old b) (homes new b)
+  done_kept None [] off old new e = subst (λ s. IsPermutation (homes old b) (homes s b)) (sym e) (IsPermutation-refl _)
+  done_kept (Some f) [] off old new e = subst (λ s. IsPermutation (homes old b) (homes s b)) (sym e) (IsPermutation-refl _)
+  done_kept (Some f) (task ∷ tasks) off old new (inl h) = one_kept task off.0 old new h
+  done_kept (Some f) (task ∷ tasks) off old new (inr (mid, one, more)) =
+      IsPermutation-trans _ _ _ (one_kept task off.0 old mid (done_moves task old mid one)) (done_kept (Some f) tasks off.1 mid new more)
+  done_kept None (task ∷ tasks) off old new (mid, one, more) =
+      IsPermutation-trans _ _ _ (one_kept task off.0 old mid (done_moves task old mid one)) (done_kept None tasks off.1 mid new more)
 
-  stopped_kept : (tasks : List Task) → PlacesNone tasks → (old new : Files) → Stopped reported tasks old new → IsPermutation (homes old b) (homes new b)
-  stopped_kept [] off old new e = subst (λ s. IsPermutation (homes old b) (homes s b)) (sym e) (IsPermutation-refl _)
-  stopped_kept (task ∷ tasks) off old new (inl h) = one_kept task off.0 old new h
-  stopped_kept (task ∷ tasks) off old new (inr (mid, one, more)) =
-      IsPermutation-trans _ _ _ (one_kept task off.0 old mid (done_moves task old mid one)) (stopped_kept tasks off.1 mid new more)
+pub done_leaves : (fault : Option RunFault) (tasks : List Task) → EachTask PlacesNone tasks → (old new : Files) → DoneUntil reported tasks old fault new → LeavesHomes old new
+done_leaves fault tasks off old new h = record { kept = λ b named. done_kept b named fault tasks off old new h }
 
-pub all_leave : (tasks : List Task) → PlacesNone tasks → (old new : Files) → AllDone reported tasks old new → LeavesHomes old new
-all_leave tasks off old new h = record { kept = λ b named. all_kept b named tasks off old new h }
-
-pub stopped_leave : (tasks : List Task) → PlacesNone tasks → (old new : Files) → Stopped reported tasks old new → LeavesHomes old new
-stopped_leave tasks off old new h = record { kept = λ b named. stopped_kept b named tasks off old new h }
-
-pub listings_place_none : (names : Names) → PlacesNone (listings names)
+pub listings_place_none : (names : Names) → EachTask PlacesNone (listings names)
 listings_place_none names = ((λ b. tt), ((λ b. tt), ((λ b. tt), tt)))
 
-removes_place_none : (names : List (List ℕ)) → PlacesNone (map (λ name. Do (Removing name)) names)
+removes_place_none : (names : List (List ℕ)) → EachTask PlacesNone (map (λ name. Do (Removing name)) names)
 removes_place_none [] = tt
 removes_place_none (name ∷ names) = ((λ b. tt), removes_place_none names)
 
-pub sweep_places_none : (names : List (List ℕ)) → PlacesNone (sweep_of names)
+pub sweep_places_none : (names : List (List ℕ)) → EachTask PlacesNone (sweep_of names)
 sweep_places_none names = removes_place_none (filter is_converter_name names)
 
 -- ---- the listings
@@ -99,20 +103,19 @@ pub looked_quietly : (names : Names) (old new : Files) → AllDone undisturbed (
 looked_quietly names old new (a, first, (b, second, (c, third, e))) = (e ∙ third.0 ∙ second.0 ∙ first.0, first.1)
 
 -- ---- the sweep
--- the tasks name converter's names alone
-abbrev pub AreOurs : List Task → Type 0
-AreOurs [] = Unit {0}
-AreOurs (task ∷ tasks) = OfConverter (call_of task) × AreOurs tasks
+-- the task names converter's names alone
+abbrev pub IsOurs : Task → Type 0
+IsOurs task = OfConverter (call_of task)
 
-pub sweep_ours : (names : List (List ℕ)) → AreOurs (sweep_of names)
+pub sweep_ours : (names : List (List ℕ)) → EachTask IsOurs (sweep_of names)
 sweep_ours [] = tt
 sweep_ours (name ∷ names) =
-    elim (is_converter_name name) as (λ t. is_converter_name name ≡ t → AreOurs (map (λ n. Do (Removing n)) (cond t (name ∷ filter is_converter_name names) (filter is_converter_name names)))) [
+    elim (is_converter_name name) as (λ t. is_converter_name name ≡ t → EachTask IsOurs (map (λ n. Do (Removing n)) (cond t (name ∷ filter is_converter_name names) (filter is_converter_name names)))) [
       | true ↦ λ e. (e, sweep_ours names)
       | false ↦ λ e. sweep_ours names
     ] refl
 
-each_swept : (names : List (List ℕ)) → AreOurs (map (λ name. Do (Removing name)) names) → (old new : Files) → TmpWithin names old → AllDone reported (map (λ name. Do (Removing name)) names) old new → TmpWithin [] new
+each_swept : (names : List (List ℕ)) → EachTask IsOurs (map (λ name. Do (Removing name)) names) → (old new : Files) → TmpWithin names old → AllDone reported (map (λ name. Do (Removing name)) names) old new → TmpWithin [] new
 each_swept [] ours old new within e = subst (TmpWithin []) (sym e) within
 each_swept (name ∷ names) ours old new within (mid, one, more) = each_swept names ours.1 mid new (removing_within name names ours.0 old mid one within) more
 
@@ -255,15 +258,9 @@ one_others (Do call) ours old new h = subst (LeavesOthers old) (sym h.1) (effect
 refused_others : (task : Task) → OfConverter (call_of task) → (old new : Files) → undisturbed.refused task old new → LeavesOthers old new
 refused_others task ours old new h = subst (LeavesOthers old) (sym h.2) (own_others (call_of task) ours h.0 old h.1)
 
-all_others : (tasks : List Task) → AreOurs tasks → (old new : Files) → AllDone undisturbed tasks old new → LeavesOthers old new
-all_others [] ours old new e = subst (LeavesOthers old) (sym e) (others_same old)
-all_others (task ∷ tasks) ours old new (mid, one, more) = others_then old mid new (one_others task ours.0 old mid one) (all_others tasks ours.1 mid new more)
-
-stopped_others : (tasks : List Task) → AreOurs tasks → (old new : Files) → Stopped undisturbed tasks old new → LeavesOthers old new
-stopped_others [] ours old new e = subst (LeavesOthers old) (sym e) (others_same old)
-stopped_others (task ∷ tasks) ours old new (inl h) = refused_others task ours.0 old new h
-stopped_others (task ∷ tasks) ours old new (inr (mid, one, more)) = others_then old mid new (one_others task ours.0 old mid one) (stopped_others tasks ours.1 mid new more)
-
-pub performs_others : {A E : Type 0} (tasks : List Task) → AreOurs tasks → (old : Files) (r : Result A E) (new : Files) → Performs undisturbed tasks old r new → LeavesOthers old new
-performs_others tasks ours old (Ok x) new h = all_others tasks ours old new h
-performs_others tasks ours old (Err e) new h = stopped_others tasks ours old new h
+pub done_others : (fault : Option RunFault) (tasks : List Task) → EachTask IsOurs tasks → (old new : Files) → DoneUntil undisturbed tasks old fault new → LeavesOthers old new
+done_others None [] ours old new e = subst (LeavesOthers old) (sym e) (others_same old)
+done_others (Some f) [] ours old new e = subst (LeavesOthers old) (sym e) (others_same old)
+done_others (Some f) (task ∷ tasks) ours old new (inl h) = refused_others task ours.0 old new h
+done_others (Some f) (task ∷ tasks) ours old new (inr (mid, one, more)) = others_then old mid new (one_others task ours.0 old mid one) (done_others (Some f) tasks ours.1 mid new more)
+done_others None (task ∷ tasks) ours old new (mid, one, more) = others_then old mid new (one_others task ours.0 old mid one) (done_others None tasks ours.1 mid new more)

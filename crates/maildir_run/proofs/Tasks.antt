@@ -42,17 +42,10 @@ stopped_here : (w : Way) → MayStop w → (tasks : List Task) (s : Files) → S
 stopped_here w still [] s = refl
 stopped_here w still (task ∷ tasks) s = inl (still task s)
 
-all_then : (w : Way) (xs ys : List Task) (a b c : Files) → AllDone w xs a b → AllDone w ys b c → AllDone w (xs ++ ys) a c
-all_then w [] ys a b c e h = subst (λ s. AllDone w ys s c) e h
-all_then w (x ∷ xs) ys a b c (mid, one, more) h = (mid, one, all_then w xs ys mid b c more h)
-
-stopped_then : (w : Way) (xs ys : List Task) (a b c : Files) → AllDone w xs a b → Stopped w ys b c → Stopped w (xs ++ ys) a c
-stopped_then w [] ys a b c e h = subst (λ s. Stopped w ys s c) e h
-stopped_then w (x ∷ xs) ys a b c (mid, one, more) h = inr (mid, one, stopped_then w xs ys mid b c more h)
-
-done_then : {E : Type 0} (w : Way) (xs ys : List Task) (a b c : Files) (fault : Option E) → AllDone w xs a b → DoneUntil w ys b fault c → DoneUntil w (xs ++ ys) a fault c
-done_then w xs ys a b c None first h = all_then w xs ys a b c first h
-done_then w xs ys a b c (Some e) first h = stopped_then w xs ys a b c first h
+done_then : (w : Way) (xs ys : List Task) (a b c : Files) (fault : Option RunFault) → AllDone w xs a b → DoneUntil w ys b fault c → DoneUntil w (xs ++ ys) a fault c
+done_then w [] ys a b c fault e h = subst (λ s. DoneUntil w ys s fault c) e h
+done_then w (x ∷ xs) ys a b c None (mid, one, more) h = (mid, one, done_then w xs ys mid b c None more h)
+done_then w (x ∷ xs) ys a b c (Some e) (mid, one, more) h = inr (mid, one, done_then w xs ys mid b c (Some e) more h)
 
 -- all, and then something else is refused
 all_stopped : (w : Way) (xs : List Task) (a b : Files) → AllDone w xs a b → Stopped w xs a b

@@ -4,7 +4,7 @@ use Rattle.mbox_text.specs.declared.entry.Entry.{Entry}
 use Rattle.maildir_run.specs.Listing.{listing}
 use Rattle.maildir_run.proofs.ListLines.{listing_output}
 use Rattle.maildir_run.proofs.Poured.{read_broken, batch, batch_broken, names_fit, poured_none, poured_all, poured_more}
-use Rattle.maildir_run.proofs.Faults.{if_err, fault_is, unless_ok, output_not_begun, output_not_spent, output_causes}
+use Rattle.maildir_run.proofs.Faults.{if_err, fault_is, unless_ok}
 use Rattle.maildir_run.proofs.Scripts.{on_err}
 use Rattle.maildir_run.proofs.Exits.{went_on}
 use Rattle.maildir_run.proofs.listing.list_text.Goals as goal
@@ -35,26 +35,20 @@ list-requires g c =
     c.pieces.invariant.1 c.in_ok-ended.ensures.went in
     rw c.deref.ensures.value b.from_lines
 
-pub returns-in_err-list : goal.returns-in_err-list
-returns-in_err-list g c =
-    let r = c.from_residual-in_err-list in
-    let fault = c.in_err-list.field-0.0 in
+pub returns-in_err-list-clause-front : goal.returns-in_err-list-clause-front
+returns-in_err-list-clause-front g c =
     let given : List Entry = c.pieces.invariant.0 in
     let b = batch listing c.pieces.invariant.0 _ _ _ _ _ c.pieces.messages c.read.new.self.splitter c.read.new.self.reads c.pieces.whole.items c.read.new.out.items c.args.reads c.pieces.lister.count c.in_ok-ended.ended
     c.pieces.invariant.1 c.in_ok-ended.ensures.went in
-    record {
-      all = unless_ok _ r.result r.ensures.0;
-      end = unless_ok _ r.result r.ensures.0;
-      front =
-          let fit = names_fit listing given _ _ _ _ c.read.new.out.items c.args.reads c.pieces.lister.count b c.requires in
-          let s = rw c.deref.ensures.value at (c.in_err-list.ensures.lists given c.pieces.invariant.2 (rw c.deref.ensures.value fit)) in
-          let w = batch_broken listing given _ _ _ _ _ c.read.new.out.items c.args.reads c.pieces.lister.count s.0 listing_output b s.1 s.2 in
-          on_err r.result w;
-      no_from_line = λ e. absurd (output_not_begun r.result fault r.ensures.1 c.in_err-list.ensures.causes e);
-      spent = λ e. absurd (output_not_spent r.result fault r.ensures.1 c.in_err-list.ensures.causes e);
-      causes = if_err _ r.result fault r.ensures.1 (output_causes fault c.in_err-list.ensures.causes);
-      budget = (b.front.text, b.front.read, b.front.budget);
-    }
+    let fit = names_fit listing given _ _ _ _ c.read.new.out.items c.args.reads c.pieces.lister.count b c.requires in
+    let s = rw c.deref.ensures.value at (c.in_err-list.ensures.lists given c.pieces.invariant.2 (rw c.deref.ensures.value fit)) in
+    on_err c.from_residual-in_err-list.result (batch_broken listing given _ _ _ _ _ c.read.new.out.items c.args.reads c.pieces.lister.count s.0 listing_output b s.1 s.2)
+
+pub returns-in_err-list-clause-budget : goal.returns-in_err-list-clause-budget
+returns-in_err-list-clause-budget g c =
+    let b = batch listing c.pieces.invariant.0 _ _ _ _ _ c.pieces.messages c.read.new.self.splitter c.read.new.self.reads c.pieces.whole.items c.read.new.out.items c.args.reads c.pieces.lister.count c.in_ok-ended.ended
+    c.pieces.invariant.1 c.in_ok-ended.ensures.went in
+    (b.front.text, b.front.read, b.front.budget)
 
 pub returns-then-ended-clause-all : goal.returns-then-ended-clause-all
 returns-then-ended-clause-all g c =

@@ -2,7 +2,7 @@ use Rattle.std.proofs.Common.{◌≡◌, ◌++◌, length, arith, inl}
 use Rattle.std.specs.List.{flat_map}
 use Rattle.mbox_text.specs.Spelling.{spelling}
 use Rattle.maildir_run.proofs.Poured.{flat_output, flat_more, read_broken, batch, batch_broken, count_fits, poured_all, poured_more}
-use Rattle.maildir_run.proofs.Faults.{if_err, fault_is, unless_ok, output_not_begun, output_not_spent, output_causes}
+use Rattle.maildir_run.proofs.Faults.{if_err, fault_is, unless_ok}
 use Rattle.maildir_run.proofs.Scripts.{on_err}
 use Rattle.maildir_run.proofs.Exits.{went_on}
 use Rattle.maildir_run.proofs.rewriting.rewrite.Goals as goal
@@ -22,24 +22,19 @@ returns-in_err-ended g c =
       budget = b.refused.budget;
     }
 
-pub returns-in_err-write_entries : goal.returns-in_err-write_entries
-returns-in_err-write_entries g c =
-    let r = c.from_residual-in_err-write_entries in
-    let fault = c.in_err-write_entries.field-0.0 in
+pub returns-in_err-write_entries-clause-front : goal.returns-in_err-write_entries-clause-front
+returns-in_err-write_entries-clause-front g c =
     let b = batch (flat_map spelling) c.pieces.invariant.0 _ _ _ _ _ c.pieces.messages c.read.new.self.splitter c.read.new.self.reads c.pieces.whole.items c.read.new.out.items c.args.reads c.pieces.count c.in_ok-ended.ended
     c.pieces.invariant.1 c.in_ok-ended.ensures.went in
-    record {
-      all = unless_ok _ r.result r.ensures.0;
-      end = unless_ok _ r.result r.ensures.0;
-      front =
-          let w = batch_broken (flat_map spelling) c.pieces.invariant.0 _ _ _ _ _ c.read.new.out.items c.args.reads c.pieces.count (flat_map spelling c.deref.result.now) flat_output b
-          (flat_more c.pieces.invariant.0 c.read.new.out.items c.deref.result.now c.deref.ensures.value) c.in_err-write_entries.ensures.written in
-          on_err r.result w;
-      no_from_line = λ e. absurd (output_not_begun r.result fault r.ensures.1 (inl c.in_err-write_entries.ensures.causes) e);
-      spent = λ e. absurd (output_not_spent r.result fault r.ensures.1 (inl c.in_err-write_entries.ensures.causes) e);
-      causes = if_err _ r.result fault r.ensures.1 (output_causes fault (inl c.in_err-write_entries.ensures.causes));
-      budget = (b.front.text, b.front.read, b.front.budget);
-    }
+    on_err c.from_residual-in_err-write_entries.result
+    (batch_broken (flat_map spelling) c.pieces.invariant.0 _ _ _ _ _ c.read.new.out.items c.args.reads c.pieces.count (flat_map spelling c.deref.result.now) flat_output b
+    (flat_more c.pieces.invariant.0 c.read.new.out.items c.deref.result.now c.deref.ensures.value) c.in_err-write_entries.ensures.written)
+
+pub returns-in_err-write_entries-clause-budget : goal.returns-in_err-write_entries-clause-budget
+returns-in_err-write_entries-clause-budget g c =
+    let b = batch (flat_map spelling) c.pieces.invariant.0 _ _ _ _ _ c.pieces.messages c.read.new.self.splitter c.read.new.self.reads c.pieces.whole.items c.read.new.out.items c.args.reads c.pieces.count c.in_ok-ended.ended
+    c.pieces.invariant.1 c.in_ok-ended.ensures.went in
+    (b.front.text, b.front.read, b.front.budget)
 
 pub overflow_add-count : goal.overflow_add-count
 overflow_add-count g c =
