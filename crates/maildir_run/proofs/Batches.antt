@@ -1,24 +1,27 @@
 -- One more entry of a batch.
 use Rattle.std.proofs.Common.{◌≡◌, ℕ, ◌+◌, ◌<◌, ◌≤◌, ◌^◌, List, [], ◌∷◌, ◌++◌, take, drop, length, get_or, sym, ap, ◌∙◌, arith, length-append, append_assoc}
-use Rattle.std.proofs.lemmas.List.{take_more, map-append, append-nil, take-append-drop, length-map, length-take-le}
+use Rattle.std.proofs.lemmas.List.{take_more, map-append, append-nil, take-append-drop, length-map, length-take-le, nil_from_length}
 use Rattle.mbox_text.specs.declared.entry.Entry.{Entry}
 use Rattle.maildir_name.specs.Targets.{target}
-use Rattle.maildir_run.specs.Delivery.{Message}
 use Rattle.maildir_run.specs.Texts.{messages_of, bodies_of}
 use Rattle.maildir_run.specs.Progress.{message_at}
-use Rattle.maildir_run.proofs.MessageLemmas.{messages_of-push}
+use Rattle.maildir_run.specs.Parts.{messages_after}
+use Rattle.maildir_run.proofs.MessageLemmas.{messages_of-push, length-messages_of}
 
 -- more bodies give more messages behind
-pub messages_more : (a b : List (List ℕ)) → (more : List Message) × (messages_of (a ++ b) ≡ messages_of a ++ more)
-messages_more a [] = ([], ap messages_of (append-nil a) ∙ sym (append-nil (messages_of a)))
-messages_more a (y ∷ ys) =
-    let r = messages_more (a ++ y ∷ []) ys in
-    let m = message_at (target a y) y in (
-      m ∷ r.0,
-      ap messages_of (sym (append_assoc a (y ∷ []) ys)) ∙ r.1
-          ∙ ap (λ ms. ms ++ r.0) (messages_of-push a y)
-          ∙ append_assoc (messages_of a) (m ∷ []) r.0,
-    )
+pub no_messages : messages_of [] ≡ []
+no_messages = nil_from_length (messages_of []) (length-messages_of [])
+
+pub after_these : (xs ys : List (List ℕ)) → messages_of (xs ++ ys) ≡ messages_of xs ++ messages_after xs ys
+after_these xs [] = ap messages_of (append-nil xs) ∙ sym (append-nil (messages_of xs))
+after_these xs (y ∷ ys) =
+    let m = message_at (target xs y) y in
+    ap messages_of (sym (append_assoc xs (y ∷ []) ys)) ∙ after_these (xs ++ y ∷ []) ys
+    ∙ ap (λ ms. ms ++ messages_after (xs ++ y ∷ []) ys) (messages_of-push xs y)
+    ∙ append_assoc (messages_of xs) (m ∷ []) (messages_after (xs ++ y ∷ []) ys)
+
+pub all_messages : (bodies : List (List ℕ)) → messages_after [] bodies ≡ messages_of bodies
+all_messages bodies = ap (λ ms. ms ++ messages_after [] bodies) (sym no_messages) ∙ sym (after_these [] bodies)
 
 -- the bodies of the first entries, one more, and the others
 module _ (entries : List Entry) (i : ℕ) (entry : Entry) (h : i < length entries) (is : entry ≡ get_or entries i entry) where

@@ -1,12 +1,10 @@
 -- The count of a run's calls, as one more is made.
-use Rattle.std.proofs.Common.{◌≡◌, ℕ, zero, suc, ◌+◌, ◌*◌, ◌%◌, ◌^◌, Err, refl, sym, ap, subst, ◌∙◌, inl, inr, arith, add-suc, add_assoc}
+use Rattle.std.proofs.Common.{◌≡◌, ℕ, zero, suc, ◌+◌, ◌*◌, ◌%◌, ◌^◌, refl, sym, ap, ◌∙◌, arith, add-suc, add_assoc}
 use Rattle.std.proofs.Math.Nat.{mod-mod, mod-add-mod}
-use Rattle.maildir_run.specs.declared.fault.RunFault.{RunFault}
 use Rattle.maildir_run.specs.declared.report.Report.{Report}
 use Rattle.maildir_run.specs.Runs.{CountsRun}
-use Rattle.maildir_run.specs.Reading.{IsReading}
 use Rattle.maildir_run.specs.Calls.{GoesUp}
-use Rattle.maildir_run.specs.Counting.{raised, capped, IsNumbered, Makes}
+use Rattle.maildir_run.specs.Counting.{raised, capped, Makes}
 
 capped_once : (k : ℕ) → capped (capped k + 1) ≡ capped (k + 1)
 capped_once k = grind arith
@@ -41,10 +39,3 @@ pub run_counts : (report : Report) (swept placed made made' calls calls' : ℕ) 
 run_counts report swept placed made made' calls calls' e f makes =
     ap (λ k. k % 2 ^ 128) makes.counted ∙ raised-mod (3 + swept + 2 * placed) calls
     ∙ ap (λ k. (calls + k) % 2 ^ 128) (omega (arith, e, f))
-
--- something else was refused, or nothing
-pub reading_numbered : (A : Type 0) (fault : RunFault) (n : ℕ) → IsReading fault → IsNumbered {A = A} (Err fault) n
-reading_numbered A fault n (inl e) = subst (λ f. IsNumbered {A = A} (Err f) n) (sym e) tt
-reading_numbered A fault n (inr (inl e)) = subst (λ f. IsNumbered {A = A} (Err f) n) (sym e) tt
-reading_numbered A fault n (inr (inr (inl e))) = subst (λ f. IsNumbered {A = A} (Err f) n) (sym e) tt
-reading_numbered A fault n (inr (inr (inr e))) = subst (λ f. IsNumbered {A = A} (Err f) n) (sym e) tt

@@ -1,40 +1,21 @@
 -- What a call has read where it ends, and the numbers of its calls and messages.
-use Rattle.std.proofs.Common.{◌≡◌, ℕ, suc, ◌+◌, ◌*◌, ◌<◌, ◌≤◌, ◌^◌, Bool, false, true, cond, Option, Ok, List, [], ◌++◌, length, refl, ap, subst, arith, length-append}
-use Rattle.std.specs.Io.KnownBytes.{IsAtEnd}
-use Rattle.std.proofs.KnownBytes.{Consumes-nil, Appends-nil}
+use Rattle.std.proofs.Common.{◌≡◌, ℕ, suc, ◌+◌, ◌*◌, ◌<◌, ◌≤◌, ◌^◌, Bool, false, true, cond, Option, Ok, List, [], ◌++◌, length, ap, subst, arith, length-append}
+use Rattle.std.proofs.KnownBytes.{Consumes-nil}
 use Rattle.mbox_text.specs.declared.entry.Entry.{Entry}
 use Rattle.mbox_text.specs.declared.splitter.Splitter.{Splitter}
 use Rattle.maildir_run.specs.declared.fault.RunFault.{RunFault}
 use Rattle.maildir_run.specs.declared.messages.Messages.{Messages}
-use Rattle.maildir_run.specs.Given.{IsGiven, Begins, Refused}
+use Rattle.maildir_run.specs.Given.{Refused}
 use Rattle.maildir_run.specs.Reading.{ReadsAtMost, Went}
-use Rattle.maildir_run.specs.Output.{GivesFront}
-use Rattle.maildir_run.proofs.Givens.{given_read, given_budget}
 
 -- ---- what was read
 pub read_nothing : (source : Option (List ℕ)) (most : ℕ) → ReadsAtMost source source most
 read_nothing source most = ([], Consumes-nil source, omega arith)
 
-pub given_within : (ended : Bool) (before now : Option (List ℕ)) (splitter : Splitter) (left reads : ℕ) (text : List ℕ) (given : List Entry) → IsGiven ended before now splitter left reads text given → ReadsAtMost before now (65536 * reads)
-given_within ended before now splitter left reads text given p = (text, given_read ended before now splitter left reads text given p, given_budget ended before now splitter left reads text given p)
-
-pub begins_within : (ended : Bool) (before now : Option (List ℕ)) (splitter : Splitter) (left n reads : ℕ) (whole : List Entry) → n ≡ reads → Begins ended before now splitter left n whole → ReadsAtMost before now (65536 * reads)
-begins_within ended before now splitter left n reads whole e b = subst (λ k. ReadsAtMost before now (65536 * k)) e (given_within ended before now splitter left n b.text whole b.gave)
-
 pub refused_of : (before now : Option (List ℕ)) (n reads : ℕ) (fault : RunFault) → n ≡ reads → Refused before now n fault → Refused before now reads fault
 refused_of before now n reads fault e h = subst (λ k. Refused before now k fault) e h
 
--- ---- nothing was done
-pub none_few : 0 < 2 ^ 66
-none_few = omega arith
-
 -- ---- the numbers of a run
-pub three_few : 3 < 2 ^ 66
-three_few = omega arith
-
-pub itself : (n : ℕ) → n ≤ n
-itself n = omega arith
-
 -- one more batch
 pub batch_fits : (messages reads : ℕ) (given whole entries : List Entry) → messages ≡ length given → length (given ++ whole) ≤ 65536 * reads → reads ≤ 2 ^ 40 → entries ≡ whole → messages + length entries < 2 ^ 63
 batch_fits messages reads given whole entries count few most e = omega (arith, length-append given whole, ap length e)
@@ -45,15 +26,7 @@ batch_count messages all given whole entries count more e = omega (arith, length
 pub batch_begun : (given more : List Entry) → 0 < length given → 0 < length (given ++ more)
 batch_begun given more h = omega (arith, length-append given more)
 
--- ---- a call that writes as it reads
-pub front_nothing : (output : List Entry → List ℕ) (source was : Option (List ℕ)) → GivesFront output source source was was
-front_nothing output source was = λ t entries p m. ([], output entries, refl, Appends-nil was)
-
 -- ---- one more read
-pub went_to_end : (ended : Bool) (before after : Option (List ℕ)) (old : Messages) (splitter : Splitter) (left : ℕ) (out out' : List Entry) → ended ≡ true → Went old before after out out' splitter left (Ok ended) → IsAtEnd after
-went_to_end true before after old splitter left out out' e w = w.2
-went_to_end false before after old splitter left out out' e w = absurd (cc)
-
 pub went_on : (ended : Bool) (before after : Option (List ℕ)) (old : Messages) (splitter : Splitter) (left : ℕ) (out out' : List Entry) → ended ≡ false → Went old before after out out' splitter left (Ok ended) → left < old.reads
 went_on true before after old splitter left out out' e w = absurd (cc)
 went_on false before after old splitter left out out' e w = omega (arith, w.4)

@@ -1,5 +1,5 @@
 -- The messages of a text have their From_ lines.
-use Rattle.std.proofs.Common.{◌≡◌, ℕ, true, eqb, List, [], ◌∷◌, ◌++◌, refl, ◌∙◌, inl, inr}
+use Rattle.std.proofs.Common.{◌≡◌, ℕ, Bool, Option, true, false, eqb, List, [], ◌∷◌, ◌++◌, refl, ◌∙◌, inl, inr}
 use Rattle.std.proofs.lemmas.Bool.{cases_Bool, eqb-true}
 use Rattle.mbox_text.specs.declared.entry.Entry.{Entry}
 use Rattle.mbox_text.specs.Lines.{NoEnd}
@@ -7,7 +7,8 @@ use Rattle.mbox_text.specs.Quoting.{begins_with, begins_from, from_bytes}
 use Rattle.mbox_text.specs.FromLine.{IsFromLine}
 use Rattle.mbox_text.specs.Mbox.{Mbox, Block, unended}
 use Rattle.mbox_text.specs.Spelling.{FromLines}
-use Rattle.mbox_text.specs.Fronts.{AllButLast}
+use Rattle.mbox_text.specs.declared.splitter.Splitter.{Splitter}
+use Rattle.maildir_run.specs.Given.{IsGiven}
 
 unended-no_end : (l : List ℕ) → NoEnd (unended l)
 unended-no_end [] = tt
@@ -26,15 +27,15 @@ unended-from : (l : List ℕ) → begins_from l ≡ true → begins_from (unende
 unfolding begins_from
 unended-from l b = begins_with-unended from_bytes l (refl, (refl, (refl, (refl, (refl, tt))))) ∙ b
 
-pub block-from_line : (block : List ℕ) (e : Entry) → Block block e → IsFromLine e.from_line
+block-from_line : (block : List ℕ) (e : Entry) → Block block e → IsFromLine e.from_line
 block-from_line block e b = rw b.from_line (unended-from b.first b.head, unended-no_end b.first)
 
-pub mbox-from_lines : (text : List ℕ) (entries : List Entry) → Mbox text entries → FromLines entries
+mbox-from_lines : (text : List ℕ) (entries : List Entry) → Mbox text entries → FromLines entries
 unfolding Mbox
 mbox-from_lines text [] h = tt
 mbox-from_lines text (e ∷ es) h = (block-from_line h.0 e h.3, mbox-from_lines h.1 es h.5)
 
-pub from_lines-behind : (front behind : List Entry) → FromLines (front ++ behind) → FromLines behind
+from_lines-behind : (front behind : List Entry) → FromLines (front ++ behind) → FromLines behind
 from_lines-behind [] behind h = h
 from_lines-behind (e ∷ front) behind h = from_lines-behind front behind h.1
 
@@ -46,7 +47,9 @@ none_behind : (given whole : List Entry) → given ++ whole ≡ [] → FromLines
 none_behind [] whole e = rw e tt
 none_behind (g ∷ given) whole e = absurd (cc)
 
-pub given-from_lines : (text : List ℕ) (given whole : List Entry) → AllButLast text (given ++ whole) → FromLines whole
-given-from_lines text given whole (inl a) =
-    from_lines-behind given whole (from_lines-before (given ++ whole) (a.1.0 ∷ []) (mbox-from_lines text ((given ++ whole) ++ a.1.0 ∷ []) a.1.1))
-given-from_lines text given whole (inr a) = none_behind given whole a.1
+pub given-from_lines : (ended : Bool) (before now : Option (List ℕ)) (splitter : Splitter) (left reads : ℕ) (text : List ℕ) (given whole : List Entry) → IsGiven ended before now splitter left reads text (given ++ whole) → FromLines whole
+given-from_lines true before now splitter left reads text given whole p = from_lines-behind given whole (mbox-from_lines text (given ++ whole) p.all)
+given-from_lines false before now splitter left reads text given whole p = elim p.fed.given_are [
+  | inl a ↦ from_lines-behind given whole (from_lines-before (given ++ whole) (a.1.0 ∷ []) (mbox-from_lines text ((given ++ whole) ++ a.1.0 ∷ []) a.1.1))
+  | inr a ↦ none_behind given whole a.1
+]

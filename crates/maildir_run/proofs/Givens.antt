@@ -1,10 +1,10 @@
 -- What one more read gives, and what a refused one leaves.
 use Rattle.std.proofs.Common.{◌≡◌, ℕ, ◌*◌, ◌<◌, ◌≤◌, Bool, true, false, Option, Some, Ok, List, [], ◌∷◌, ◌++◌, length, refl, sym, ◌∙◌, ap, subst, arith, append_assoc, inl, inr}
 use Rattle.std.specs.Prelude.{◌==◌}
-use Rattle.std.specs.Io.KnownBytes.{Consumes}
+use Rattle.std.specs.Io.KnownBytes.{Consumes, IsAtEnd}
 use Rattle.std.proofs.KnownBytes.{Consumes-trans}
 use Rattle.std.proofs.lemmas.Bool.{eqb-true, eq-eqb}
-use Rattle.std.proofs.lemmas.List.{append-nil, length-append}
+use Rattle.std.proofs.lemmas.List.{append-nil, append_cancel_right, length-append}
 use Rattle.mbox_text.specs.declared.entry.Entry.{Entry}
 use Rattle.mbox_text.specs.declared.splitter.Splitter.{Splitter}
 use Rattle.mbox_text.specs.Mbox.{Mbox, IsUnreadable}
@@ -18,8 +18,21 @@ use Rattle.maildir_run.specs.declared.fault.RunFault.{RunFault}
 use Rattle.maildir_run.specs.declared.fault.RunFault.TheVariants.{NoFromLine}
 use Rattle.maildir_run.specs.declared.messages.Messages.{Messages}
 use Rattle.maildir_run.specs.Reading.{Breaks, Went}
-use Rattle.maildir_run.specs.Given.{Gave, GaveAll, IsGiven, Refused}
-use Rattle.maildir_run.proofs.Poured.{read_is, mbox-length}
+use Rattle.maildir_run.specs.Given.{Front, Gave, GaveAll, IsGiven, Refused}
+use Rattle.maildir_run.specs.Runs.{Possible}
+use Rattle.maildir_run.proofs.MessageLemmas.{mbox-length}
+
+-- ---- what was read
+consumed : (before now : Option (List ℕ)) (had left text : List ℕ) → before ≡ Some had → now ≡ Some left → Consumes before now text → had ≡ text ++ left
+consumed before now had left text e f read =
+    let at_start : Consumes (Some had) now text = rw e at read in
+    let at_end : Consumes (Some had) (Some left) text = rw f at at_start in
+    at_end
+
+-- what was read is the front of each possible text
+pub read_is : (before now : Option (List ℕ)) (text t : List ℕ) → Consumes before now text → (p : Possible before now t) → p.read ≡ text
+read_is before now text t read p =
+    append_cancel_right p.read text p.left (consumed before now (p.read ++ p.left) p.left text p.had p.has read)
 
 -- one more read, with what became whole by it
 pub record GaveMore (ended : Bool) (before now : Option (List ℕ)) (splitter : Splitter) (left reads : ℕ) (given : List Entry) : Type 0 where
@@ -71,50 +84,72 @@ gave_refused before mid now old reads text given fault p b =
 pub never_again : (mid now : Option (List ℕ)) (old : Messages) (text : List ℕ) (given : List Entry) (fault : RunFault) → Fed text given old.splitter → 0 < length given → Breaks old mid now fault → fault ≡ NoFromLine → ⊥
 never_again mid now old text given fault fed some b e = let none = (b.3 e text given fed).0 in absurd (omega (arith, some, ap length none))
 
--- ---- the messages are the first of each possible text
-pub record First (text : List ℕ) (now : Option (List ℕ)) (all : List Entry) : Type 0 where
-  pub told : (more left : List ℕ) (entries : List Entry) → now ≡ Some left → (left ≡ [] → more ≡ []) → Mbox (text ++ more) entries → (rest : List Entry) × (entries ≡ all ++ rest)
-  pub none : (more left : List ℕ) → now ≡ Some left → (left ≡ [] → more ≡ []) → IsUnreadable (text ++ more) → all ≡ []
-
-unread_none : (text more : List ℕ) (given : List Entry) → AllButLast text given → IsUnreadable (text ++ more) → given ≡ []
-unread_none text more given (inl a) none = let r = (read_where (text ++ more)).0 (inr (begins_from-more text more a.0)) in absurd (none r.0 r.1)
-unread_none text more given (inr a) none = a.1
-
-pub given_first : (ended : Bool) (before now : Option (List ℕ)) (splitter : Splitter) (left reads : ℕ) (text : List ℕ) (given : List Entry) → IsGiven ended before now splitter left reads text given → First text now given
-given_first false before now splitter left reads text given p = record {
-  told = λ more rest entries has whole m. elim (all_stay text given p.fed.given_are more entries m) [
-    | inl none ↦ (entries, rw none refl)
-    | inr q ↦ (q.0 ∷ q.1, q.2)
-  ];
-  none = λ more rest has whole none. unread_none text more given p.fed.given_are none;
-}
-given_first true before now splitter left reads text given p = record {
-  told = λ more rest entries has whole m.
-      let at_end : rest ≡ [] = rw has at p.end in
-      let same : text ++ more ≡ text = rw (whole at_end) (append-nil text) in
-      ([], mbox-one text entries given (rw same at m) p.all ∙ sym (append-nil given));
-  none = λ more rest has whole none.
-      let at_end : rest ≡ [] = rw has at p.end in
-      let same : text ++ more ≡ text = rw (whole at_end) (append-nil text) in
-      absurd (none given (rw same p.all));
-}
-
-pub given_read : (ended : Bool) (before now : Option (List ℕ)) (splitter : Splitter) (left reads : ℕ) (text : List ℕ) (given : List Entry) → IsGiven ended before now splitter left reads text given → Consumes before now text
-given_read false before now splitter left reads text given p = p.read
-given_read true before now splitter left reads text given p = p.read
-
-pub given_budget : (ended : Bool) (before now : Option (List ℕ)) (splitter : Splitter) (left reads : ℕ) (text : List ℕ) (given : List Entry) → IsGiven ended before now splitter left reads text given → length text ≤ 65536 * reads
-given_budget false before now splitter left reads text given p = let within = p.budget in omega arith
-given_budget true before now splitter left reads text given p = p.budget
-
+-- ---- what was given is the first of each text that may begin so
 -- there are no more messages than bytes
 few_given : (text : List ℕ) (given : List Entry) → AllButLast text given → length given ≤ length text
 few_given text given (inl a) = omega (arith, mbox-length text (given ++ a.1.0 ∷ []) a.1.1, length-append given (a.1.0 ∷ []))
 few_given text given (inr a) = rw a.1 (omega arith)
 
+first_of : (text more : List ℕ) (given entries : List Entry) → AllButLast text given → Mbox (text ++ more) entries → (rest : List Entry) × (entries ≡ given ++ rest)
+first_of text more given entries a m = elim (all_stay text given a more entries m) [
+  | inl none ↦ (entries, rw none refl)
+  | inr q ↦ (q.0 ∷ q.1, q.2)
+]
+
+unread_none : (text more : List ℕ) (given : List Entry) → AllButLast text given → IsUnreadable (text ++ more) → given ≡ []
+unread_none text more given (inl a) none = let r = (read_where (text ++ more)).0 (inr (begins_from-more text more a.0)) in absurd (none r.0 r.1)
+unread_none text more given (inr a) none = a.1
+
+at_end_same : (text more left : List ℕ) (now : Option (List ℕ)) → IsAtEnd now → now ≡ Some left → (left ≡ [] → more ≡ []) → text ++ more ≡ text
+at_end_same text more left now end has whole = let none : left ≡ [] = rw has at end in rw (whole none) (append-nil text)
+
+pub given_front : (ended : Bool) (before now : Option (List ℕ)) (splitter : Splitter) (left reads : ℕ) (text : List ℕ) (given : List Entry) → IsGiven ended before now splitter left reads text given → Front before now reads given
+given_front false before now splitter left reads text given p =
+    let within = p.budget in
+    record {
+      text = text;
+      read = p.read;
+      budget = omega arith;
+      few = few_given text given p.fed.given_are;
+      told = λ more rest entries has whole m. first_of text more given entries p.fed.given_are m;
+      none = λ more rest has whole none. unread_none text more given p.fed.given_are none;
+    }
+given_front true before now splitter left reads text given p = record {
+  text = text;
+  read = p.read;
+  budget = p.budget;
+  few = mbox-length text given p.all;
+  told = λ more rest entries has whole m. ([], mbox-one text entries given (rw (at_end_same text more rest now p.end has whole) at m) p.all ∙ sym (append-nil given));
+  none = λ more rest has whole none. absurd (none given (rw (at_end_same text more rest now p.end has whole) p.all));
+}
+
 pub given_few : (ended : Bool) (before now : Option (List ℕ)) (splitter : Splitter) (left reads : ℕ) (text : List ℕ) (given : List Entry) → IsGiven ended before now splitter left reads text given → length given ≤ 65536 * reads
-given_few false before now splitter left reads text given p = let within = p.budget in let few = few_given text given p.fed.given_are in omega arith
-given_few true before now splitter left reads text given p = let within = p.budget in let few = mbox-length text given p.all in omega arith
+given_few ended before now splitter left reads text given p = let front = given_front ended before now splitter left reads text given p in omega (arith, front.few, front.budget)
+
+-- a read was refused behind these messages
+pub broken_front : (before mid now : Option (List ℕ)) (old : Messages) (reads : ℕ) (text : List ℕ) (given : List Entry) (fault : RunFault) → Gave before mid old.splitter old.reads reads text given → Breaks old mid now fault → Front before now reads given
+broken_front before mid now old reads text given fault p b =
+    let within = p.budget in
+    let few = few_given text given p.fed.given_are in
+    record {
+      text = text ++ b.0;
+      read = Consumes-trans before mid now text b.0 p.read b.1;
+      budget = omega (arith, length-append text b.0, b.2);
+      few = omega (arith, length-append text b.0);
+      told = λ more rest entries has whole m. first_of text (b.0 ++ more) given entries p.fed.given_are (rw append_assoc at m);
+      none = λ more rest has whole none. unread_none text (b.0 ++ more) given p.fed.given_are (rw append_assoc at none);
+    }
+
+-- nothing was given before a read was refused
+pub refused_front : (before now : Option (List ℕ)) (reads : ℕ) (fault : RunFault) → Refused before now reads fault → Front before now reads []
+refused_front before now reads fault refused = record {
+  text = refused.budget.0;
+  read = refused.budget.1;
+  budget = refused.budget.2;
+  few = omega arith;
+  told = λ more rest entries has whole m. (entries, refl);
+  none = λ more rest has whole none. refl;
+}
 
 pub gave_on : (ended : Bool) (before now : Option (List ℕ)) (splitter : Splitter) (left reads : ℕ) (given : List Entry) → ended ≡ false → GaveMore ended before now splitter left reads given → GaveMore false before now splitter left reads given
 gave_on ended before now splitter left reads given e more = subst (λ b. GaveMore b before now splitter left reads given) e more
@@ -130,25 +165,6 @@ some_left (x ∷ xs) n b is off e = omega arith
 
 pub gave_empty : (before now : Option (List ℕ)) (splitter : Splitter) (left reads : ℕ) (text : List ℕ) (given : List Entry) → given ≡ [] → Gave before now splitter left reads text given → Gave before now splitter left reads text []
 gave_empty before now splitter left reads text given e p = subst (Gave before now splitter left reads text) e p
-
--- a read was refused behind these messages
-pub record BrokenOff (before now : Option (List ℕ)) (reads : ℕ) (all : List Entry) : Type 0 where
-  pub text : List ℕ
-  pub read : Consumes before now text
-  pub first : First text now all
-
-pub broken_off : (before mid now : Option (List ℕ)) (old : Messages) (reads : ℕ) (text : List ℕ) (all : List Entry) (fault : RunFault) → Gave before mid old.splitter old.reads reads text all → Breaks old mid now fault → BrokenOff before now reads all
-broken_off before mid now old reads text all fault p b = record {
-  text = text ++ b.0;
-  read = Consumes-trans before mid now text b.0 p.read b.1;
-  first = record {
-    told = λ more rest entries has whole m. elim (all_stay text all p.fed.given_are (b.0 ++ more) entries (subst (λ s. Mbox s entries) (append_assoc text b.0 more) m)) [
-      | inl none ↦ (entries, rw none refl)
-      | inr q ↦ (q.0 ∷ q.1, q.2)
-    ];
-    none = λ more rest has whole none. unread_none text (b.0 ++ more) all p.fed.given_are (subst IsUnreadable (append_assoc text b.0 more) none);
-  };
-}
 
 pub not_ended : (ended : Bool) (before now : Option (List ℕ)) (splitter : Splitter) (left reads : ℕ) (text : List ℕ) (given : List Entry) → ended ≡ false → IsGiven ended before now splitter left reads text given → Gave before now splitter left reads text given
 not_ended ended before now splitter left reads text given e p = subst (λ b. IsGiven b before now splitter left reads text given) e p

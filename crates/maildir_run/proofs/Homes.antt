@@ -76,7 +76,7 @@ to_cur_kept b s name target bytes has may =
       | inr off ↦ equally b s (record s { new = remove s.new name; cur = insert s.cur target bytes }) (rw (held-remove_other b s.new name off, held-insert_other b s.cur target bytes (alike ∙ off)) refl)
     ]
 
-same_both : {X : Type 0} (b : Bool) (o : Option X) → o ≡ None → cond b None o ≡ None
+pub same_both : {X : Type 0} (b : Bool) (o : Option X) → o ≡ None → cond b None o ≡ None
 same_both true o e = refl
 same_both false o e = e
 

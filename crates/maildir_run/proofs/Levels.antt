@@ -15,6 +15,7 @@ use Rattle.maildir_run.specs.Runs.{Keeps}
 use Rattle.maildir_run.specs.Several.{IsThere}
 use Rattle.maildir_run.proofs.Maps.{is_name-true}
 use Rattle.maildir_run.proofs.Moves.{homes_none, homes_one}
+use Rattle.maildir_run.proofs.Reach.{none_of, home_known}
 use Rattle.maildir_run.proofs.Numbers.{has_digest_of, with_digest, AreNumbered, select, count-front, fewer_before, few_with_digest, any_at, Gap, gap}
 
 -- a body is there so often
@@ -30,14 +31,6 @@ pub record Rise (b : List ℕ) (c n : ℕ) (answer : Result Report RunFault) (s 
   pub from : n ≤ now
   pub to : now ≤ n + (c - n)
   pub done : OnOk answer (c ≤ now)
-
-none_of : (xs : List (List ℕ)) → is_any xs ≡ false → xs ≡ []
-none_of [] e = refl
-none_of (x ∷ xs) e = cc
-
-home_known : (m : Message) (s : Files) → has_home s m.target.base ≡ true → IsSoundAt s m → IsHome s m
-home_known m s on (inl none) = let off : has_home s m.target.base ≡ false = ap is_any none in cc
-home_known m s on (inr home) = home
 
 -- a number is that of no other
 other_number : (b x : List ℕ) (j k : ℕ) → j < k → k ≤ 2 ^ 63 → x ≡ numbered b (k + 1) → numbered b (j + 1) ≡ x → ⊥

@@ -39,3 +39,4 @@ pub mod Planned
 pub mod Bringing
 pub mod TaskEffects
 pub mod Owed
+pub mod Conversions

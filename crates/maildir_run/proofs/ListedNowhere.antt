@@ -1,8 +1,7 @@
 -- A base that two listings do not show has no home.
-use Rattle.std.proofs.Common.{◌≡◌, ℕ, Bool, true, false, cond, ◌||◌, List, [], ◌∷◌, Option, Some, None, IsPermutation, IsTrue, IsFalse, refl, sym, ap, subst, ◌∙◌, inl, inr}
+use Rattle.std.proofs.Common.{◌≡◌, ℕ, true, false, cond, ◌||◌, List, [], ◌∷◌, Option, Some, None, IsPermutation, IsTrue, IsFalse, refl, sym, ap, subst, ◌∙◌, inl, inr}
 use Rattle.std.specs.List.{list_any}
 use Rattle.std.specs.FinMap.{get, remove, insert, keys, contains_key-keys, get-remove}
-use Rattle.std.specs.Option.{is_some}
 use Rattle.std.proofs.lemmas.Bool.{or_parts, cases_Bool}
 use Rattle.std.proofs.lemmas.List.Sorted.{list_any-IsPermutation}
 use Rattle.maildir_run.specs.declared.folder.Sub.{Sub}
@@ -10,8 +9,8 @@ use Rattle.maildir_run.specs.declared.folder.Sub.TheVariants.{New, Cur}
 use Rattle.maildir_name.specs.Names.{is_converter_base, is_converter_name}
 use Rattle.maildir_run.specs.Files.{is_name, FileMap, Files, has_base, held_under, homes, Action, ToCur, Reflag, DropTmp, Outside, may_take, to_cur, reflag, acted, all_acted}
 use Rattle.maildir_run.specs.Calls.{Listing, Move, Other, Again, Torn, moved, after, Lists}
-use Rattle.maildir_run.proofs.Maps.{total, is_name-true}
-use Rattle.maildir_run.proofs.Homes.{held-outsiders_of}
+use Rattle.maildir_run.proofs.Maps.{nothing, total, is_name-true}
+use Rattle.maildir_run.proofs.Homes.{same_both, held-outsiders_of}
 use Rattle.maildir_run.proofs.Moves.{after_kept, after-append, homes_none, none_held, held_none}
 
 -- ---- what a listing shows
@@ -24,21 +23,13 @@ none_alike b q on (x ∷ names) off =
       | inr e ↦ rw e (none_alike b q on names parts.1)
     ]
 
-nothing : (o : Option (List ℕ)) → is_some o ≡ false → o ≡ None
-nothing None e = refl
-nothing (Some x) e = cc
-
 pub unlisted : (b : List ℕ) (m : FileMap) (names : List (List ℕ)) → IsPermutation names (keys m) → IsFalse (list_any (has_base b) names) → held_under b m ≡ []
 unlisted b m names listed off =
     held_none b m (λ q on. nothing (get m q) (contains_key-keys m q ∙ none_alike b q on (keys m) (sym (list_any-IsPermutation (has_base b) names (keys m) listed) ∙ off)))
 
 -- ---- nobody brings a file of this base into `new`
-either : {X : Type 0} (t : Bool) (o : Option X) → o ≡ None → cond t None o ≡ None
-either true o e = refl
-either false o e = e
-
 none_removed : (b : List ℕ) (m : FileMap) (name : List ℕ) → held_under b m ≡ [] → held_under b (remove m name) ≡ []
-none_removed b m name e = held_none b (remove m name) (λ q on. get-remove total m name q ∙ either (is_name q name) (get m q) (none_held b m e q on))
+none_removed b m name e = held_none b (remove m name) (λ q on. get-remove total m name q ∙ same_both (is_name q name) (get m q) (none_held b m e q on))
 
 to_cur_new : (b : List ℕ) (s : Files) (name target : List ℕ) (o : Option (List ℕ)) → held_under b s.new ≡ [] → held_under b (to_cur s name target o).new ≡ []
 to_cur_new b s name target None e = e

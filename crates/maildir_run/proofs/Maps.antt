@@ -1,13 +1,14 @@
 -- Folders by what they hold under a test of their names.
-use Rattle.std.proofs.Common.{◌≡◌, ℕ, Bool, true, false, cond, List, [], ◌∷◌, map, Option, Some, None, IsPermutation, refl, sym, ap, subst, ◌∙◌, inl, inr}
+use Rattle.std.proofs.Common.{◌≡◌, ℕ, Bool, true, false, cond, List, [], ◌∷◌, map, Option, Some, None, IsPermutation, refl, sym, ap, subst, ◌∙◌}
 use Rattle.std.specs.FinMap.Entries.{by_order}
 use Rattle.std.specs.FinMap.{get, insert, remove, entries, values, retain_keys, find, put, entries-insert, get-entries, get-insert, get-remove, get-retain_keys, same_map, IsAntisymmetric, slice_cmp-IsAntisymmetric, nat_cmp-IsAntisymmetric}
 use Rattle.std.specs.Cmp.{IsTotalOrder}
 use Rattle.std.proofs.lemmas.Cmp.{nat_list_cmp_total, eq_by_cmp_equiv}
+use Rattle.std.specs.Option.{is_some}
 use Rattle.std.specs.Ordering.{is_eq}
 use Rattle.std.specs.declared.cmp.Ordering.{Ordering}
 use Rattle.std.specs.declared.cmp.Ordering.TheVariants.{Less, Equal, Greater}
-use Rattle.std.proofs.lemmas.Bool.{cases_Bool}
+use Rattle.std.proofs.lemmas.Bool.{false_from_ne_true}
 use Rattle.std.proofs.lemmas.List.Sorted.{IsPermutation-refl, IsPermutation-sym, IsPermutation-trans, IsPermutation-cons, IsPermutation-middle}
 use Rattle.maildir_run.specs.Files.{name_cmp, is_name, FileMap}
 
@@ -35,6 +36,10 @@ guarded : {X : Type 0} (b : Bool) (x y : Option X) → (b ≡ true → x ≡ y) 
 guarded true x y h = h refl
 guarded false x y h = refl
 
+pub nothing : {X : Type 0} (o : Option X) → is_some o ≡ false → o ≡ None
+nothing None e = refl
+nothing (Some x) e = cc
+
 -- two folders that answer alike under the test hold the same there
 pub under_same : (p : List ℕ → Bool) (m n : FileMap) → ((q : List ℕ) → p q ≡ true → get m q ≡ get n q) → retain_keys m p ≡ retain_keys n p
 under_same p m n alike = same_map total same _ _ (λ q. get_under p m q ∙ guarded (p q) _ _ (alike q) ∙ sym (get_under p n q))
@@ -59,11 +64,7 @@ pub outside : {X : Type 0} (b : Bool) (x y : X) → b ≡ false → cond b x y �
 outside b x y e = ap (λ c. cond c x y) e
 
 pub apart : (p : List ℕ → Bool) (k q : List ℕ) → p k ≡ false → p q ≡ true → is_name q k ≡ false
-apart p k q off on =
-    elim (cases_Bool (is_name q k)) as (λ _. is_name q k ≡ false) [
-      | inl e ↦ let same_answer : p q ≡ p k = ap p (is_name-true q k e) in cc
-      | inr e ↦ e
-    ]
+apart p k q off on = false_from_ne_true (is_name q k) (λ e. let alike : p q ≡ p k = ap p (is_name-true q k e) in cc)
 
 pub under_insert_other : (p : List ℕ → Bool) (m : FileMap) (k v : List ℕ) → p k ≡ false → retain_keys (insert m k v) p ≡ retain_keys m p
 under_insert_other p m k v h = under_same p _ _ (λ q on. get-insert total m k v q ∙ outside (is_name q k) _ _ (apart p k q h on))

@@ -1,6 +1,6 @@
 -- The messages of a text: their bases are a converter's, and no two are the same.
-use Rattle.std.proofs.Common.{◌≡◌, ℕ, ◌+◌, ◌<◌, ◌≤◌, ◌^◌, List, [], ◌∷◌, ◌++◌, map, length, get_or, All, IsTrue, IsFalse, refl, sym, ap, subst, ◌∙◌, inl, inr, arith}
-use Rattle.std.proofs.lemmas.Bool.{cases_Bool}
+use Rattle.std.proofs.Common.{◌≡◌, ℕ, ◌<◌, ◌≤◌, ◌^◌, List, [], ◌∷◌, ◌++◌, map, length, get_or, All, IsTrue, IsFalse, refl, sym, ap, subst, ◌∙◌, inl, inr, arith}
+use Rattle.std.proofs.lemmas.Bool.{false_from_ne_true}
 use Rattle.std.proofs.lemmas.List.{length-append, length-map, get_or-map}
 use Rattle.std.proofs.lemmas.List.Elements.{All-nil}
 use Rattle.mbox_text.specs.declared.entry.Entry.{Entry}
@@ -69,11 +69,7 @@ messages_targets bodies few k d below =
     target_is (get_or (targets bodies) k d.target) (named.converter, named.own_base, named.same_base))
 
 different : (a b : List ℕ) → (a ≡ b → ⊥) → IsFalse (is_name a b)
-different a b apart =
-    elim (cases_Bool (is_name a b)) as (λ _. IsFalse (is_name a b)) [
-      | inl e ↦ absurd (apart (is_name-true a b e))
-      | inr e ↦ e
-    ]
+different a b apart = false_from_ne_true (is_name a b) (λ e. apart (is_name-true a b e))
 
 pub messages_distinct : (bodies : List (List ℕ)) → length bodies ≤ 2 ^ 63 → AreDistinct (messages_of bodies)
 messages_distinct bodies few i j d lt below =
@@ -83,26 +79,22 @@ messages_distinct bodies few i j d lt below =
     (λ e. distinct-targets bodies few i j d.target lt (omega (arith, below, as_many bodies)) (base_i ∙ (e ∙ sym base_j)))
 
 -- ---- a text has no more messages than bytes
-no_lines : lines [] ≡ []
+some-block : (block : List ℕ) (e : Entry) → Block block e → 0 < length block
 unfolding lines
-no_lines = refl
+some-block [] e b = let is = b.is in absurd (cc)
+some-block (c ∷ block) e b = omega arith
 
-block_bytes : (block : List ℕ) (entry : Entry) → Block block entry → 1 ≤ length block
-block_bytes [] entry b = let e : [] ≡ b.first ∷ b.others = sym no_lines ∙ b.is in cc
-block_bytes (c ∷ block) entry b = omega arith
-
-few_entries : (t : List ℕ) (entries : List Entry) → Mbox t entries → length entries ≤ length t
+pub mbox-length : (text : List ℕ) (entries : List Entry) → Mbox text entries → length entries ≤ length text
 unfolding Mbox
-few_entries t [] is = omega arith
-few_entries t (entry ∷ entries) (block, rest, joined, is, ended, others) =
-    let one = block_bytes block entry is in
-    let more = few_entries rest entries others in
-    let len : length t ≡ length block + length rest = ap length joined ∙ length-append block rest in
-    omega (arith, one, more, len)
+mbox-length text [] h = omega arith
+mbox-length text (e ∷ es) h =
+    let b = some-block h.0 e h.3 in
+    let ih = mbox-length h.1 es h.5 in
+    omega (arith, ap length h.2, length-append h.0 h.1)
 
 pub few_bodies : (t : List ℕ) (entries : List Entry) → Mbox t entries → length t < 2 ^ 63 → length (bodies_of entries) ≤ 2 ^ 63
 few_bodies t entries is small =
-    let few = few_entries t entries is in
+    let few = mbox-length t entries is in
     let len = length-map entries (λ (entry : Entry). entry.body) in
     omega (arith, few, len)
 

@@ -1,6 +1,7 @@
 -- For one text, what is said of several is what is said of it.
-use Rattle.std.proofs.Common.{◌≡◌, ℕ, zero, suc, ◌<◌, ◌&&◌, ◌||◌, ◌⊎◌, Bool, true, false, List, [], ◌∷◌, length, get_or, map, bytes_eq, All, Contains, refl, sym, ap, subst, ◌∙◌, inl, inr, arith}
+use Rattle.std.proofs.Common.{◌≡◌, ℕ, zero, suc, ◌<◌, ◌&&◌, ◌||◌, ◌⊎◌, true, false, List, [], ◌∷◌, length, get_or, map, bytes_eq, All, Contains, refl, sym, ap, subst, ◌∙◌, inl, inr, arith}
 use Rattle.std.specs.Cmp.Lexicographic.{bytes_decides}
+use Rattle.std.proofs.Math.Bool.{or-false}
 use Rattle.std.proofs.lemmas.Bool.{cases_lt, and_parts, or_parts}
 use Rattle.std.proofs.lemmas.Cmp.{eq_by_cmp_equiv}
 use Rattle.std.proofs.lemmas.List.Elements.{All-head, All-from_get_or}
@@ -24,17 +25,13 @@ same_place ms distinct i j d in_i in_j same =
       ]
     ]
 
-or_true : (t : Bool) → (t || false) ≡ true → t ≡ true
-or_true true e = refl
-or_true false e = e
-
 -- the text gives to each base the body of its message alone
 own_body : (text : Text) → AreDistinct text.messages → (i : ℕ) (d : Message) → i < length text.messages → (s : Files) → IsMissing s (get_or text.messages i d) ⊎ HoldsGiven (text ∷ []) s (get_or text.messages i d) → IsSoundAt s (get_or text.messages i d)
 own_body text distinct i d below s (inl none) = inl none
 own_body text distinct i d below s (inr holds) =
     let ms = text.messages in
     let m = get_or ms i d in
-    let a = any_at (λ (n : Message). is_name n.target.base m.target.base && bytes_eq n.body holds.body) ms d (or_true _ holds.given) in
+    let a = any_at (λ (n : Message). is_name n.target.base m.target.base && bytes_eq n.body holds.body) ms d (sym (or-false _) ∙ holds.given) in
     let parts = and_parts _ _ a.2 in
     let same : i ≡ a.0 = same_place ms distinct i a.0 d below a.1 parts.0 in
     let body : holds.body ≡ m.body = sym ((bytes_decides (get_or ms a.0 d).body holds.body).0 parts.1) ∙ ap (λ k. (get_or ms k d).body) (sym same) in

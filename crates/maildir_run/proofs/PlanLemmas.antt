@@ -1,14 +1,10 @@
 -- The plan of a list of targets, from those of each target alone.
-use Rattle.std.proofs.Common.{◌≡◌, ℕ, suc, ◌<◌, ◌≤◌, take, get_or, length, arith, ◌+◌, Bool, true, false, cond, List, [], ◌∷◌, ◌++◌, map, refl, sym, ap, ◌∙◌, add-zero, append_assoc}
-use Rattle.std.proofs.lemmas.List.{take_more, length-take-le}
+use Rattle.std.proofs.Common.{◌≡◌, ℕ, suc, ◌<◌, take, get_or, length, arith, ◌+◌, Bool, true, false, cond, List, [], ◌∷◌, ◌++◌, map, refl, sym, ap, ◌∙◌, add-zero, append_assoc}
+use Rattle.std.proofs.lemmas.List.{append-nil, take_more, length-take-le}
 use Rattle.maildir_name.specs.declared.target.Target.{Target}
 use Rattle.maildir_run.specs.declared.planner.Step.{Step}
 use Rattle.maildir_run.specs.declared.planner.Step.TheVariants.{Write, Place}
 use Rattle.maildir_run.specs.Plan.{is_listed, removals, delivery, deliveries_from, planned, numbered, each_alone}
-
-pub append_nil : {X : Type 0} (xs : List X) → xs ++ [] ≡ xs
-append_nil [] = refl
-append_nil (x ∷ xs) = ap (λ ys. x ∷ ys) (append_nil xs)
 
 one_numbered : (i : ℕ) (shown : Bool) → map (numbered i) (cond shown [] (Write 0 ∷ Place 0 ∷ []) ++ []) ≡ cond shown [] (Write i ∷ Place i ∷ [])
 one_numbered i true = refl
@@ -26,19 +22,13 @@ deliveries_each_alone i new cur (target ∷ targets) =
 pub planned_each_alone : (tmp new cur : List (List ℕ)) (targets : List Target) → planned tmp new cur targets ≡ planned tmp new cur [] ++ each_alone 0 new cur targets
 planned_each_alone tmp new cur targets =
     ap (λ xs. removals tmp ++ xs) (deliveries_each_alone 0 new cur targets)
-    ∙ ap (λ xs. xs ++ each_alone 0 new cur targets) (sym (append_nil (removals tmp)))
+    ∙ ap (λ xs. xs ++ each_alone 0 new cur targets) (sym (append-nil (removals tmp)))
 
 -- ---- the loops of the planner
-later : (i n : ℕ) → (i + 1) + n ≡ i + suc n
-later i n = omega arith
-
-below_is_within : (i n : ℕ) → i < n → i ≤ n
-below_is_within i n h = omega arith
-
 pub deliveries_from-push : (is_there : List ℕ → Bool) (i : ℕ) (targets : List Target) (target : Target) → deliveries_from is_there i (targets ++ target ∷ []) ≡ deliveries_from is_there i targets ++ delivery is_there (i + length targets) target
-deliveries_from-push is_there i [] target = append_nil (delivery is_there i target) ∙ ap (λ k. delivery is_there k target) (sym (add-zero i))
+deliveries_from-push is_there i [] target = append-nil (delivery is_there i target) ∙ ap (λ k. delivery is_there k target) (sym (add-zero i))
 deliveries_from-push is_there i (x ∷ targets) target =
-    ap (λ xs. delivery is_there i x ++ xs) (deliveries_from-push is_there (i + 1) targets target ∙ ap (λ k. deliveries_from is_there (i + 1) targets ++ delivery is_there k target) (later i (length targets)))
+    ap (λ xs. delivery is_there i x ++ xs) (deliveries_from-push is_there (i + 1) targets target ∙ ap (λ k. deliveries_from is_there (i + 1) targets ++ delivery is_there k target) (omega arith))
     ∙ sym (append_assoc (delivery is_there i x) (deliveries_from is_there (i + 1) targets) (delivery is_there (i + suc (length targets)) target))
 
 -- one more target of a list
@@ -46,7 +36,7 @@ pub deliveries-more : (is_there : List ℕ → Bool) (targets : List Target) (i 
 deliveries-more is_there targets i d h =
     ap (deliveries_from is_there 0) (take_more targets i d h)
     ∙ deliveries_from-push is_there 0 (take i targets) (get_or targets i d)
-    ∙ ap (λ k. deliveries_from is_there 0 (take i targets) ++ delivery is_there k (get_or targets i d)) (omega (arith, length-take-le i targets (below_is_within i (length targets) h)))
+    ∙ ap (λ k. deliveries_from is_there 0 (take i targets) ++ delivery is_there k (get_or targets i d)) (omega (arith, length-take-le i targets (omega arith)))
 
 pub deliveries-step : (is_there : List ℕ → Bool) (targets : List Target) (i : ℕ) (d : Target) (before now after : List Step) (shown : Bool) → i < length targets → is_there (get_or targets i d).base ≡ shown → now ≡ before ++ deliveries_from is_there 0 (take i targets) → after ≡ now ++ cond shown [] (Write i ∷ Place i ∷ []) → after ≡ before ++ deliveries_from is_there 0 (take (i + 1) targets)
 deliveries-step is_there targets i d before now after shown h is had added =

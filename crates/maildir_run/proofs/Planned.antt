@@ -9,7 +9,8 @@ use Rattle.maildir_run.specs.declared.planner.Step.TheVariants.{Remove, Write, P
 use Rattle.maildir_run.specs.Calls.{Removing}
 use Rattle.maildir_run.specs.Delivery.{Message}
 use Rattle.maildir_run.specs.Plan.{is_listed, planned, removals, delivery, deliveries_from}
-use Rattle.maildir_run.specs.Tasks.{Do, Names, listings, task_of, tasks_of, planned_tasks, sweep_of, delivery_of, delivery_if, deliveries_of}
+use Rattle.maildir_run.specs.Tasks.{Do, Names, listings, task_of, tasks_of, planned_tasks}
+use Rattle.maildir_run.specs.Parts.{sweep_of, delivery_of, delivery_if, deliveries_of}
 
 -- ---- the removals
 swept_each : (ms : List Message) (names : List (List ℕ)) → flat_map (task_of ms) (map Remove names) ≡ map (λ name. Do (Removing name)) names

@@ -1,7 +1,6 @@
 -- What a run has kept at its exits, for each text that its source may have had.
-use Rattle.std.proofs.Common.{◌≡◌, ℕ, ◌+◌, ◌*◌, ◌≤◌, ◌^◌, Option, Err, List, [], ◌++◌, length, sym, ap, subst, ◌∙◌, inl, inr, arith}
-use Rattle.std.specs.Io.KnownBytes.{Consumes}
-use Rattle.std.proofs.lemmas.List.{append-nil, map-append, length-append, length-map, nil_from_length}
+use Rattle.std.proofs.Common.{◌≡◌, ℕ, ◌+◌, ◌*◌, ◌≤◌, ◌^◌, Option, Result, Ok, Err, OnOk, List, [], ◌++◌, length, sym, ap, subst, ◌∙◌, inl, inr, arith}
+use Rattle.std.proofs.lemmas.List.{append-nil, map-append, length-append, length-map}
 use Rattle.std.proofs.lemmas.List.Elements.{All-nil}
 use Rattle.mbox_text.specs.declared.entry.Entry.{Entry}
 use Rattle.mbox_text.specs.Mbox.{Mbox}
@@ -10,20 +9,16 @@ use Rattle.maildir_run.specs.declared.fault.RunFault.{RunFault}
 use Rattle.maildir_run.specs.Files.{Files}
 use Rattle.maildir_run.specs.Delivery.{Message, IsHome, AreNamed, AreDistinct, Sound}
 use Rattle.maildir_run.specs.Texts.{messages_of, bodies_of, MessagesOf}
+use Rattle.maildir_run.specs.Parts.{messages_after}
 use Rattle.maildir_run.specs.Runs.{Possible, Keeps}
 use Rattle.maildir_run.specs.Progress.{LeavesHomes, Progress}
-use Rattle.maildir_run.specs.Given.{GaveAll}
-use Rattle.maildir_run.proofs.MessageLemmas.{length-messages_of}
+use Rattle.maildir_run.specs.Given.{Front, GaveAll}
 use Rattle.maildir_run.proofs.Progress.{Stands, progress_stands}
-use Rattle.maildir_run.proofs.Batches.{messages_more}
-use Rattle.maildir_run.proofs.Givens.{First}
-use Rattle.maildir_run.proofs.Poured.{read_is}
+use Rattle.maildir_run.proofs.Batches.{after_these, no_messages}
+use Rattle.maildir_run.proofs.Givens.{read_is}
 
 pub none_done : (start now : Files) → LeavesHomes start now → Progress [] start now
 none_done start now leaves = record { homes_are = All-nil (IsHome now); kept = λ b named off. leaves.kept b named }
-
-pub no_messages : messages_of [] ≡ []
-no_messages = nil_from_length (messages_of []) (length-messages_of [])
 
 pub stands_keeps : (ms : List Message) (start now : Files) (fault : RunFault) → Stands ms start now → Keeps ms start (Err fault) now
 stands_keeps ms start now fault s = record { sound = s.sound; still = s.still; in_order = s.in_order; ends = tt }
@@ -37,16 +32,15 @@ bodies_parts : (all rest : List Entry) → bodies_of (all ++ rest) ≡ bodies_of
 bodies_parts all rest = map-append (λ (e : Entry). e.body) all rest
 
 -- ---- the messages of each text that a source may have had
--- after a fault those that were given are the first of them
-pub front_of : (before after : Option (List ℕ)) (text : List ℕ) (all : List Entry) → Consumes before after text → First text after all → (t : List ℕ) (ms : List Message) → Possible before after t → MessagesOf t ms → (more : List Message) × (ms ≡ messages_of (bodies_of all) ++ more)
-front_of before after text all read first t ms p of =
-    let is : t ≡ text ++ p.more = rw (← read_is before after text t read p) p.front in
-    elim of as (λ _. (more : List Message) × (ms ≡ messages_of (bodies_of all) ++ more)) [
+-- those that were given are the first of them
+front_of : (before after : Option (List ℕ)) (reads : ℕ) (given : List Entry) → Front before after reads given → (t : List ℕ) (ms : List Message) → Possible before after t → MessagesOf t ms → (more : List Message) × (ms ≡ messages_of (bodies_of given) ++ more)
+front_of before after reads given f t ms p of =
+    let is : t ≡ f.text ++ p.more = rw (← read_is before after f.text t f.read p) p.front in
+    elim of as (λ _. (more : List Message) × (ms ≡ messages_of (bodies_of given) ++ more)) [
       | inl (entries, m, e) ↦
-          let r = first.told p.more p.left entries p.has p.whole (rw is at m) in
-          let more = messages_more (bodies_of all) (bodies_of r.0) in
-          (more.0, e ∙ ap messages_of (ap bodies_of r.1 ∙ bodies_parts all r.0) ∙ more.1)
-      | inr (none, e) ↦ ([], e ∙ sym (append-nil (messages_of (bodies_of all)) ∙ ap (λ xs. messages_of (bodies_of xs)) (first.none p.more p.left p.has p.whole (rw is at none)) ∙ no_messages))
+          let r = f.told p.more p.left entries p.has p.whole (rw is at m) in
+          (messages_after (bodies_of given) (bodies_of r.0), e ∙ ap messages_of (ap bodies_of r.1 ∙ bodies_parts given r.0) ∙ after_these (bodies_of given) (bodies_of r.0))
+      | inr (none, e) ↦ ([], e ∙ sym (append-nil (messages_of (bodies_of given)) ∙ ap (λ xs. messages_of (bodies_of xs)) (f.none p.more p.left p.has p.whole (rw is at none)) ∙ no_messages))
     ]
 
 -- and with Ok all of them
@@ -59,6 +53,13 @@ whole_text before after reads text all gave t p =
 pub whole_messages : (t : List ℕ) (all : List Entry) → Mbox t all → (ms : List Message) → MessagesOf t ms → ms ≡ messages_of (bodies_of all)
 whole_messages t all whole ms (inl (entries, m, e)) = e ∙ ap (λ es. messages_of (bodies_of es)) (mbox-one t entries all m whole)
 whole_messages t all whole ms (inr (none, e)) = absurd (none all whole)
+
+-- the messages that were given, and those that were not; with Ok there are no others
+pub given_of : {A E : Type 0} (r : Result A E) (before after : Option (List ℕ)) (reads : ℕ) (given : List Entry) → Front before after reads given → OnOk r ((text : List ℕ) × GaveAll before after reads text given) → (t : List ℕ) (ms : List Message) → Possible before after t → MessagesOf t ms → (more : List Message) × (ms ≡ messages_of (bodies_of given) ++ more) × OnOk r (ms ≡ messages_of (bodies_of given))
+given_of (Ok x) before after reads given front whole t ms p of =
+    let same = whole_messages t given (whole_text before after reads whole.0 given whole.1 t p) ms of in
+    ([], same ∙ sym (append-nil (messages_of (bodies_of given))), same)
+given_of (Err e) before after reads given front whole t ms p of = let f = front_of before after reads given front t ms p of in (f.0, f.1, tt)
 
 -- ---- a batch
 pub batch_bodies : (given whole entries : List Entry) → entries ≡ whole → bodies_of given ++ bodies_of entries ≡ bodies_of (given ++ whole)

@@ -1,12 +1,10 @@
 -- What a run's calls leave in a quiet folder.
-use Rattle.std.proofs.Common.{◌≡◌, ℕ, Bool, true, false, cond, not, ◌&&◌, ◌||◌, List, [], ◌∷◌, ◌++◌, Option, Some, None, IsPermutation, IsTrue, IsFalse, refl, sym, ap, subst, ◌∙◌, inl, inr}
-use Rattle.std.specs.List.{list_any}
-use Rattle.std.specs.Option.{is_some}
+use Rattle.std.proofs.Common.{◌≡◌, ℕ, Bool, true, false, cond, not, ◌&&◌, ◌||◌, List, [], ◌∷◌, map, Option, Some, None, IsPermutation, IsTrue, IsFalse, refl, sym, ap, ◌∙◌, inl, inr}
+use Rattle.std.specs.List.{filter, list_any}
 use Rattle.std.specs.FinMap.{get, insert, remove, keys, retain_keys, same_map, get-insert, get-remove, contains_key-keys}
-use Rattle.std.proofs.lemmas.Bool.{cases_Bool}
-use Rattle.std.proofs.lemmas.List.Folds.{list_any-append}
+use Rattle.std.proofs.lemmas.Bool.{cases_Bool, false_from_ne_true}
+use Rattle.std.proofs.lemmas.Map.Views.{any-filter_same}
 use Rattle.std.proofs.lemmas.List.Sorted.{list_any-IsPermutation}
-use Rattle.maildir_run.specs.declared.folder.Sub.{Sub}
 use Rattle.maildir_name.specs.declared.target.Place.{Place}
 use Rattle.maildir_name.specs.declared.target.Place.TheVariants.{New, Cur}
 use Rattle.maildir_name.specs.Names.{is_converter_name}
@@ -14,8 +12,10 @@ use Rattle.maildir_run.specs.Files.{Files, FileMap, is_name}
 use Rattle.maildir_run.specs.Calls.{Call, Listing, Writing, Placing, Removing, Move, Other, Again, Torn, after, effect, placed, torn, IsOwn}
 use Rattle.maildir_run.specs.Alone.{swept, added}
 use Rattle.maildir_run.specs.Delivery.{Message}
-use Rattle.maildir_run.specs.Quietly.{LeavesOthers, TakenOut}
-use Rattle.maildir_run.proofs.Maps.{total, same, is_name-true, get_under, get-insert_same}
+use Rattle.maildir_run.specs.Quietly.{LeavesOthers}
+use Rattle.maildir_run.specs.Tasks.{Do, undisturbed, AllDone}
+use Rattle.maildir_run.specs.Parts.{sweep_of}
+use Rattle.maildir_run.proofs.Maps.{nothing, total, same, is_name-true, get_under, get-insert_same}
 
 pub others_same : (s : Files) → LeavesOthers s s
 others_same s = record { in_tmp = λ q off. refl; in_new = λ q off. refl; in_cur = λ q off. refl }
@@ -36,10 +36,7 @@ OfConverter (Removing name) = IsTrue (is_converter_name name)
 
 another : (q name : List ℕ) → IsTrue (is_converter_name name) → IsFalse (is_converter_name q) → is_name q name ≡ false
 another q name ours off =
-    elim (cases_Bool (is_name q name)) as (λ _. is_name q name ≡ false) [
-      | inl e ↦ let alike : is_converter_name q ≡ is_converter_name name = ap is_converter_name (is_name-true q name e) in cc
-      | inr e ↦ e
-    ]
+    false_from_ne_true (is_name q name) (λ e. let alike : is_converter_name q ≡ is_converter_name name = ap is_converter_name (is_name-true q name e) in cc)
 
 insert_other : (m : FileMap) (q name bytes : List ℕ) → IsTrue (is_converter_name name) → IsFalse (is_converter_name q) → get (insert m name bytes) q ≡ get m q
 insert_other m q name bytes ours off = get-insert total m name bytes q ∙ ap (λ t. cond t (Some bytes) (get m q)) (another q name ours off)
@@ -73,78 +70,38 @@ own_others call h (Other action ∷ ms) s own = absurd own
 own_others call h (Again ∷ ms) s own = others_then s (effect call s) (after s call (Again ∷ ms)) (effect_others call h s) (own_others call h ms (effect call s) own)
 own_others call h (Torn bytes ∷ ms) s own = others_then s (torn call bytes s) (after s call (Torn bytes ∷ ms)) (torn_others call h bytes s) (own_others call h ms (torn call bytes s) own)
 
--- ---- listings
-own_listing : (sub : Sub) (ms : List Move) (s : Files) → IsOwn ms → after s (Listing sub) ms ≡ s
-own_listing sub [] s own = refl
-own_listing sub (Other action ∷ ms) s own = absurd own
-own_listing sub (Again ∷ ms) s own = own_listing sub ms s own
-own_listing sub (Torn bytes ∷ ms) s own = own_listing sub ms s own
-
--- ---- a call that answered Ok, as the run gives it
 -- ---- the sweep
-never : (c : Bool) (o : Option (List ℕ)) → cond (c && false) None o ≡ o
-never true o = refl
-never false o = refl
+either : (a b : Bool) (o : Option (List ℕ)) → cond b None (cond a None o) ≡ cond (a || b) None o
+either true true o = refl
+either true false o = refl
+either false b o = refl
 
-pub none_taken : (s : Files) → TakenOut [] s s
-none_taken s = record { in_tmp = λ q. sym (never (is_converter_name q) (get s.tmp q)); in_new = refl; in_cur = refl }
-
-combined : (c a t : Bool) (o : Option (List ℕ)) → (t ≡ true → c ≡ true) → cond t None (cond (c && a) None o) ≡ cond (c && (a || (t || false))) None o
-combined true true true o h = refl
-combined true true false o h = refl
-combined true false true o h = refl
-combined true false false o h = refl
-combined false a true o h = let e = h refl in cc
-combined false a false o h = refl
-
-skipped : (c a t : Bool) (o : Option (List ℕ)) → (t ≡ true → c ≡ false) → cond (c && a) None o ≡ cond (c && (a || (t || false))) None o
-skipped true true t o h = refl
-skipped true false true o h = let e = h refl in cc
-skipped true false false o h = refl
-skipped false a t o h = refl
-
-any_push : (q x : List ℕ) (xs : List (List ℕ)) → (list_any (is_name q) xs || (is_name q x || false)) ≡ list_any (is_name q) (xs ++ x ∷ [])
-any_push q x xs = sym (list_any-append (is_name q) xs (x ∷ []))
-
-pub taken_one : (xs : List (List ℕ)) (x : List ℕ) (start mid now : Files) → IsTrue (is_converter_name x) → now ≡ effect (Removing x) mid → TakenOut xs start mid → TakenOut (xs ++ x ∷ []) start now
-taken_one xs x start mid now ours e taken = subst (TakenOut (xs ++ x ∷ []) start) (sym e) (record {
-  in_tmp = λ q.
-      get-remove total mid.tmp x q
-      ∙ ap (cond (is_name q x) None) (taken.in_tmp q)
-      ∙ combined (is_converter_name q) (list_any (is_name q) xs) (is_name q x) (get start.tmp q) (λ same. ap is_converter_name (is_name-true q x same) ∙ ours)
-      ∙ ap (λ t. cond (is_converter_name q && t) None (get start.tmp q)) (any_push q x xs);
-  in_new = taken.in_new;
-  in_cur = taken.in_cur;
-})
-
-pub taken_skip : (xs : List (List ℕ)) (x : List ℕ) (start now : Files) → IsFalse (is_converter_name x) → TakenOut xs start now → TakenOut (xs ++ x ∷ []) start now
-taken_skip xs x start now other taken = record {
-  in_tmp = λ q.
-      taken.in_tmp q
-      ∙ skipped (is_converter_name q) (list_any (is_name q) xs) (is_name q x) (get start.tmp q) (λ same. ap is_converter_name (is_name-true q x same) ∙ other)
-      ∙ ap (λ t. cond (is_converter_name q && t) None (get start.tmp q)) (any_push q x xs);
-  in_new = taken.in_new;
-  in_cur = taken.in_cur;
-}
-
-unlisted_none : (o : Option (List ℕ)) → is_some o ≡ false → o ≡ None
-unlisted_none None e = refl
-unlisted_none (Some x) e = cc
+-- these names are out of `tmp`, and nothing else has changed
+all_removed : (names : List (List ℕ)) (old new : Files) → AllDone undisturbed (map (λ name. Do (Removing name)) names) old new → ((q : List ℕ) → get new.tmp q ≡ cond (list_any (is_name q) names) None (get old.tmp q)) × (new.new ≡ old.new) × (new.cur ≡ old.cur)
+all_removed [] old new e = ((λ q. ap (λ s. get s.tmp q) e), ap (λ s. s.new) e, ap (λ s. s.cur) e)
+all_removed (x ∷ names) old new (mid, one, more) =
+    let r = all_removed names mid new more in (
+      (λ q. r.0 q ∙ ap (λ s. cond (list_any (is_name q) names) None (get s.tmp q)) one.1 ∙ ap (cond (list_any (is_name q) names) None) (get-remove total old.tmp x q) ∙ either (is_name q x) (list_any (is_name q) names) (get old.tmp q)),
+      r.1 ∙ ap (λ s. s.new) one.1,
+      r.2 ∙ ap (λ s. s.cur) one.1,
+    )
 
 all_out : (c a : Bool) (o : Option (List ℕ)) → (a ≡ false → o ≡ None) → cond (c && a) None o ≡ cond (not c) o None
 all_out true true o h = refl
 all_out true false o h = h refl
 all_out false a o h = refl
 
-pub swept_exact : (names : List (List ℕ)) (start now : Files) → IsPermutation names (keys start.tmp) → TakenOut names start now → now ≡ swept start
-swept_exact names start now listed taken =
+pub swept_exact : (names : List (List ℕ)) (start now : Files) → IsPermutation names (keys start.tmp) → AllDone undisturbed (sweep_of names) start now → now ≡ swept start
+swept_exact names start now listed done =
+    let r = all_removed (filter is_converter_name names) start now done in
     let tmp : now.tmp ≡ retain_keys start.tmp (λ name. not (is_converter_name name)) = same_map total same _ _ (λ q.
-    taken.in_tmp q
-    ∙ all_out (is_converter_name q) (list_any (is_name q) names) (get start.tmp q) (λ off. unlisted_none (get start.tmp q) (contains_key-keys start.tmp q ∙ sym (list_any-IsPermutation (is_name q) names (keys start.tmp) listed) ∙ off))
+    r.0 q
+    ∙ ap (λ t. cond t None (get start.tmp q)) (any-filter_same (is_name q) is_converter_name (is_converter_name q) (λ k e. ap is_converter_name (sym (is_name-true q k e))) names)
+    ∙ all_out (is_converter_name q) (list_any (is_name q) names) (get start.tmp q) (λ off. nothing (get start.tmp q) (contains_key-keys start.tmp q ∙ sym (list_any-IsPermutation (is_name q) names (keys start.tmp) listed) ∙ off))
     ∙ sym (get_under (λ name. not (is_converter_name name)) start.tmp q)) in
     ap (λ m. record now { tmp = m }) tmp
-    ∙ ap (λ m. record { tmp = (swept start).tmp; new = m; cur = now.cur }) taken.in_new
-    ∙ ap (λ m. record { tmp = (swept start).tmp; new = start.new; cur = m }) taken.in_cur
+    ∙ ap (λ m. record { tmp = (swept start).tmp; new = m; cur = now.cur }) r.1
+    ∙ ap (λ m. record { tmp = (swept start).tmp; new = start.new; cur = m }) r.2
 
 -- ---- a message
 put_away : (m : FileMap) (k v : List ℕ) → get m k ≡ None → remove (insert m k v) k ≡ m
@@ -159,10 +116,9 @@ placed_exact : (old : Files) (b body : List ℕ) (p : Place) (name : List ℕ) �
 placed_exact old b body New name none = ap (λ m. record { tmp = m; new = insert old.new name body; cur = old.cur }) (put_away old.tmp b body none)
 placed_exact old b body Cur name none = ap (λ m. record { tmp = m; new = old.new; cur = insert old.cur name body }) (put_away old.tmp b body none)
 
-pub brought_exact : (old mid new : Files) (b own body : List ℕ) (p : Place) (name under : List ℕ) → own ≡ b → under ≡ name → mid ≡ effect (Writing own body) old → new ≡ effect (Placing own p under) mid → get old.tmp b ≡ None → new ≡ added old p name body
-brought_exact old mid new b own body p name under e1 e2 e3 e4 none =
-    e4 ∙ ap (λ n. effect (Placing own p n) mid) e2 ∙ ap (λ n. effect (Placing n p name) mid) e1
-    ∙ ap (λ s. effect (Placing b p name) s) (e3 ∙ ap (λ n. effect (Writing n body) old) e1)
+pub brought_exact : (old mid new : Files) (b body : List ℕ) (p : Place) (name : List ℕ) → mid ≡ effect (Writing b body) old → new ≡ effect (Placing b p name) mid → get old.tmp b ≡ None → new ≡ added old p name body
+brought_exact old mid new b body p name wrote put none =
+    put ∙ ap (effect (Placing b p name)) wrote
     ∙ ap (placed (record old { tmp = insert old.tmp b body }) b p name) (get-insert_same old.tmp b body)
     ∙ placed_exact old b body p name none
 

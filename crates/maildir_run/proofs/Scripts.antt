@@ -1,7 +1,7 @@
 -- What a script makes of a folder in memory is what other programs and a call may do.
 use Rattle.std.proofs.Common.{◌≡◌, ℕ, Bool, true, false, cond, not, List, [], ◌∷◌, ◌++◌, length, take, drop, get_or, ◌<◌, ◌+◌, ◌==◌, map, Some, None, Result, Ok, Err, IsTrue, IsFalse, IsOk, IsErrOf, OnErr, string_bytes, IsPermutation, ◌&&◌, ◌/◌, append-nil, refl, sym, ap, subst, ◌∙◌, inl, inr, append_assoc, suc}
 use Rattle.std.proofs.Math.Seq.{drop-cons}
-use Rattle.std.proofs.lemmas.Bool.{cases_Bool}
+use Rattle.std.proofs.lemmas.Bool.{false_from_ne_true}
 use Rattle.std.proofs.lemmas.List.{take_more, take-append-drop}
 use Rattle.std.proofs.lemmas.List.Sorted.{IsPermutation-refl}
 use Rattle.std.specs.FinMap.{insert, remove, get, keys, get-insert, get-remove, contains_key}
@@ -76,10 +76,7 @@ free_of false same e = refl
 
 other_name : (m : FileMap) (name target bytes : List ℕ) → get m name ≡ Some bytes → contains_key m target ≡ false → is_name name target ≡ false
 other_name m name target bytes has free =
-    elim (cases_Bool (is_name name target)) as (λ _. is_name name target ≡ false) [
-      | inl e ↦ let there : contains_key m target ≡ true = ap (contains_key m) (sym (is_name-true name target e)) ∙ ap is_some has in cc
-      | inr e ↦ e
-    ]
+    false_from_ne_true (is_name name target) (λ e. let there : contains_key m target ≡ true = ap (contains_key m) (sym (is_name-true name target e)) ∙ ap is_some has in cc)
 
 pub free_name : (m : FileMap) (name target : List ℕ) (answer : Bool) → get m target ≡ None → answer ≡ bytes_eq (base name) (base target) → answer ≡ may_take m name target
 free_name m name target answer none is = is ∙ sym (is_eq-slice_cmp (base name) (base target)) ∙ ap (λ o. not (is_some o) && is_name (base name) (base target)) (sym none)

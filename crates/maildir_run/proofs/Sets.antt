@@ -6,6 +6,7 @@ use Rattle.std.specs.Ordering.{nat_cmp}
 use Rattle.std.specs.Cmp.Lexicographic.{slice_cmp}
 use Rattle.std.specs.BTreeSet.{BTreeSet, UpdatesBy}
 use Rattle.std.specs.FinMap.{insert, empty, contains_key, find, get-from_entries, get-insert, get-empty, same_map}
+use Rattle.std.proofs.Math.Bool.{or-false}
 use Rattle.std.proofs.lemmas.List.{map-append, take_more}
 use Rattle.std.proofs.lemmas.Cmp.{eq_by_cmp_equiv}
 use Rattle.maildir_name.specs.Names.{base}
@@ -58,17 +59,13 @@ set_of-insert old new k updates =
 contains_key-insert : (s : BaseSet) (k b : List ℕ) → contains_key (insert s k (tt {0})) b ≡ (is_name b k || contains_key s b)
 contains_key-insert s k b = ap is_some (get-insert total s k (tt {0}) b) ∙ some_or (is_name b k) _
 
-or_false : (t : Bool) → t ≡ (t || false)
-or_false true = refl
-or_false false = refl
-
 turned : (a s rest : Bool) → ((a || s) || rest) ≡ (s || (a || rest))
 turned true true rest = refl
 turned true false rest = refl
 turned false s rest = refl
 
 pub contains_key-with_bases : (s : BaseSet) (names : List (List ℕ)) (b : List ℕ) → contains_key (with_bases s names) b ≡ (contains_key s b || list_any (has_base b) names)
-contains_key-with_bases s [] b = or_false (contains_key s b)
+contains_key-with_bases s [] b = sym (or-false (contains_key s b))
 contains_key-with_bases s (name ∷ names) b =
     contains_key-with_bases (insert s (base name) (tt {0})) names b
     ∙ ap (λ t. t || list_any (has_base b) names) (contains_key-insert s (base name) b)

@@ -45,11 +45,7 @@ counts_alike b (m ∷ ms) own =
 
 -- a test that no text passes fails at each
 none_at : {X : Type 0} (p : X → Bool) (xs : List X) (x : X) → list_any p xs ≡ false → Contains xs x → p x ≡ false
-none_at p xs x off (k, below, is) =
-    elim (cases_Bool (p x)) as (λ _. p x ≡ false) [
-      | inl on ↦ let any = list_any_at p xs k x below (ap p is ∙ on) in cc
-      | inr e ↦ e
-    ]
+none_at p xs x off (k, below, is) = false_from_ne_true (p x) (λ on. let any = list_any_at p xs k x below (ap p is ∙ on) in cc)
 
 -- a message for places past a list's end
 nobody : Message

@@ -1,28 +1,25 @@
 -- What one call of a run gives, in the words of a run.
-use Rattle.std.proofs.Common.{◌≡◌, ℕ, Bool, true, false, ◌||◌, List, [], ◌∷◌, ◌++◌, Option, Some, None, Result, Ok, Err, OnOk, IsPermutation, IsTrue, IsFalse, refl, sym, ap, subst, ◌∙◌, inl, inr}
+use Rattle.std.proofs.Common.{◌≡◌, ℕ, true, false, ◌||◌, List, [], ◌∷◌, ◌++◌, Some, None, IsPermutation, IsTrue, IsFalse, refl, sym, ap, subst, ◌∙◌, inl, inr}
 use Rattle.std.specs.List.{list_any}
 use Rattle.std.specs.Option.{is_some}
 use Rattle.std.specs.FinMap.{get, keys, contains_key-keys}
-use Rattle.std.proofs.lemmas.Bool.{or_parts, cases_Bool}
+use Rattle.std.proofs.Math.Bool.{or-true}
+use Rattle.std.proofs.lemmas.Bool.{or_parts, cases_Bool, false_from_ne_true}
 use Rattle.std.proofs.lemmas.List.Sorted.{list_any-IsPermutation, IsPermutation-trans}
 use Rattle.maildir_run.specs.declared.folder.Sub.{Sub}
 use Rattle.maildir_run.specs.declared.folder.Sub.TheVariants.{Tmp}
 use Rattle.maildir_name.specs.declared.target.Place.{Place}
 use Rattle.maildir_name.specs.Names.{is_converter_name, is_converter_base}
 use Rattle.maildir_run.specs.Files.{Files, FileMap, is_name, has_base, held_under, homes}
-use Rattle.maildir_run.specs.Calls.{Call, Listing, Writing, Placing, Removing, Again, after, effect, Called, Succeeded, Failed, Lists, PlacesElsewhere, WritesElsewhere, StaysOrGoes}
+use Rattle.maildir_run.specs.Calls.{Call, Listing, Writing, Placing, Removing, Again, after, effect, Succeeded, Failed, Lists, PlacesElsewhere, WritesElsewhere, StaysOrGoes}
 use Rattle.maildir_run.specs.Delivery.{Message, IsMissing, IsHome, IsSoundAt}
-use Rattle.maildir_run.specs.Progress.{LeavesHomes, TmpWithin, Brings}
-use Rattle.maildir_run.proofs.Maps.{is_name-true, is_name-refl, get-remove_same}
+use Rattle.maildir_run.specs.Progress.{LeavesHomes, TmpWithin, Brings, IsTarget}
+use Rattle.maildir_run.proofs.Maps.{nothing, is_name-true, is_name-refl, get-remove_same}
 use Rattle.maildir_run.proofs.Moves.{after_kept, after_tmp, after-append, homes_none, none_held, placing, placing_ok, WrittenOrGone, writing_ok}
 
 -- ---- any answer is some list of moves, which is what `Failed` says
 pub ok_moves : (call : Call) (old new : Files) → Succeeded call old new → Failed call old new
 ok_moves call old new h = record { moves = h.before ++ Again ∷ h.rest; left = h.left }
-
-pub on_ok : {A E : Type 0} (P : Type 0) (call : Call) (old : Files) (r : Result A E) (new : Files) → Called call old r new → (Succeeded call old new → P) → OnOk r P
-on_ok P call old (Ok v) new h f = f h
-on_ok P call old (Err e) new h f = tt
 
 pub called_kept : (b : List ℕ) → IsTrue (is_converter_base b) → (call : Call) → PlacesElsewhere b call → (old new : Files) → Failed call old new → IsPermutation (homes old b) (homes new b)
 called_kept b named call h old new c =
@@ -57,16 +54,6 @@ without name names s gone within = record {
       ];
 }
 
--- a name that is no converter's
-pub without_other : (name : List ℕ) (names : List (List ℕ)) (s : Files) → IsFalse (is_converter_name name) → TmpWithin (name ∷ names) s → TmpWithin names s
-without_other name names s other within = record {
-  gone = λ q ours off.
-      elim (cases_Bool (is_name q name)) as (λ _. get s.tmp q ≡ None) [
-        | inl e ↦ let alike : is_converter_name q ≡ is_converter_name name = ap is_converter_name (is_name-true q name e) in cc
-        | inr e ↦ within.gone q ours (rw e off)
-      ];
-}
-
 gone_on : (name : List ℕ) (old new : Files) → StaysOrGoes name old new → get old.tmp name ≡ None → get new.tmp name ≡ None
 gone_on name old new (inl e) h = e ∙ h
 gone_on name old new (inr e) h = e
@@ -87,10 +74,6 @@ pub placing_within : (name : List ℕ) (p : Place) (target : List ℕ) (old new 
 placing_within name p target old new done gone within =
     without name [] new gone (within_on (name ∷ []) old new (λ q is off. called_tmp q is (Placing name p target) tt old new (ok_moves (Placing name p target) old new done)) within)
 
-nothing : (o : Option (List ℕ)) → is_some o ≡ false → o ≡ None
-nothing None e = refl
-nothing (Some x) e = cc
-
 pub listing_within : (old : Files) (names : List (List ℕ)) (new : Files) → Lists Tmp old names new → TmpWithin names new
 listing_within old names new listed =
     let call = Listing Tmp in
@@ -106,73 +89,43 @@ listing_leaves sub old names new listed = record {
       subst (λ s. IsPermutation (homes old base) (homes s base)) (sym listed.left) (after_kept base named (Listing sub) tt (listed.before ++ Again ∷ listed.rest) old);
 }
 
-pub leaves_brings : (m : Message) (old new : Files) → IsTrue (is_converter_base m.target.base) → IsMissing old m → LeavesHomes old new → Brings m old new
-leaves_brings m old new named missing leaves = record {
-  own = inl (homes_none m.target.base old new (leaves.kept m.target.base named) missing);
-  others = λ base is off. leaves.kept base is;
-}
-
 elsewhere : (m : Message) (base target : List ℕ) → IsTrue (has_base m.target.base target) → IsFalse (is_name m.target.base base) → IsFalse (has_base base target)
 elsewhere m base target on off =
-    elim (cases_Bool (has_base base target)) as (λ _. IsFalse (has_base base target)) [
-      | inl e ↦ let alike : is_name m.target.base base ≡ true = subst (λ b. is_name m.target.base b ≡ true) (is_name-true m.target.base _ on ∙ sym (is_name-true base _ e)) (is_name-refl m.target.base) in cc
-      | inr e ↦ e
-    ]
+    false_from_ne_true (has_base base target) (λ e.
+    let alike : is_name m.target.base base ≡ true = subst (λ b. is_name m.target.base b ≡ true) (is_name-true m.target.base _ on ∙ sym (is_name-true base _ e)) (is_name-refl m.target.base) in cc)
 
 body_of : (name : List ℕ) (body bytes : List ℕ) (s : Files) → WrittenOrGone name body s → get s.tmp name ≡ Some bytes → bytes ≡ body
 body_of name body bytes s (inl e) h = cc
 body_of name body bytes s (inr e) h = cc
 
-pub placing_brings : (m : Message) (name : List ℕ) (p : Place) (target : List ℕ) → IsTrue (is_converter_base m.target.base) → IsTrue (is_converter_name name) → IsTrue (has_base m.target.base target) → (old new : Files) → WrittenOrGone name m.body old → IsMissing old m → Failed (Placing name p target) old new → Brings m old new
-placing_brings m name p target named ours on old new written missing c =
-    record {
-      own = subst (λ s. IsSoundAt s m) (sym c.left)
-          (elim (placing m.target.base name p target named ours on c.moves old missing) as (λ _. IsSoundAt (after old (Placing name p target) c.moves) m) [
-            | inl w ↦ inl w.homes_are
-            | inr a ↦ inr (a.homes_are ∙ ap (λ x. x ∷ []) (body_of name m.body a.bytes old written a.was))
-          ]);
-      others = λ base is off. called_kept base is (Placing name p target) (elsewhere m base target on off) old new c;
-    }
-
-pub placing_home : (m : Message) (name : List ℕ) (p : Place) (target : List ℕ) → IsTrue (is_converter_base m.target.base) → IsTrue (is_converter_name name) → IsTrue (has_base m.target.base target) → (old new : Files) → WrittenOrGone name m.body old → IsMissing old m → Succeeded (Placing name p target) old new → IsHome new m × (get new.tmp name ≡ None)
-placing_home m name p target named ours on old new written missing done =
-    let a = placing_ok m.target.base name p target named ours on old new done missing in
-    (a.homes_are ∙ ap (λ x. x ∷ []) (body_of name m.body a.bytes old written a.was), a.gone)
-
 -- ---- what a listing shows is there
-or_true : (t : Bool) → (t || true) ≡ true
-or_true true = refl
-or_true false = refl
-
-none_some : (o : Option (List ℕ)) → o ≡ None → is_some o ≡ true → ⊥
-none_some None e h = cc
-none_some (Some x) e h = cc
-
 shown : (b : List ℕ) (ks : List (List ℕ)) → list_any (has_base b) ks ≡ true → (q : List ℕ) × (has_base b q ≡ true) × (list_any (is_name q) ks ≡ true)
 shown b [] e = cc
 shown b (k ∷ ks) e =
     elim (has_base b k) as (λ t. has_base b k ≡ t → (t || list_any (has_base b) ks) ≡ true → (q : List ℕ) × (has_base b q ≡ true) × (list_any (is_name q) (k ∷ ks) ≡ true)) [
       | true ↦ λ on e. (k, on, ap (λ t. t || list_any (is_name k) ks) (is_name-refl k))
-      | false ↦ λ off e. let r = shown b ks e in (r.0, r.1, rw r.2 (or_true (is_name r.0 k)))
+      | false ↦ λ off e. let r = shown b ks e in (r.0, r.1, rw r.2 (or-true (is_name r.0 k)))
     ] refl e
 
 pub not_shown : (b : List ℕ) (m : FileMap) (names : List (List ℕ)) → IsPermutation names (keys m) → held_under b m ≡ [] → IsTrue (list_any (has_base b) names) → ⊥
 not_shown b m names listed e on =
     let r = shown b (keys m) (sym (list_any-IsPermutation (has_base b) names (keys m) listed) ∙ on) in
     let is : is_some (get m r.0) ≡ true = contains_key-keys m r.0 ∙ r.2 in
-    let none : get m r.0 ≡ None = none_held b m e r.0 r.1 in
-    none_some (get m r.0) none is
+    let none : is_some (get m r.0) ≡ false = ap is_some (none_held b m e r.0 r.1) in
+    cc
 
 -- ---- a message is written and placed
 written_leaves : (name bytes : List ℕ) (old new : Files) → Failed (Writing name bytes) old new → LeavesHomes old new
 written_leaves name bytes old new c = record { kept = λ base named. called_kept base named (Writing name bytes) tt old new c }
 
-pub write_brings : (m : Message) → IsTrue (is_converter_base m.target.base) → (name bytes : List ℕ) (old new : Files) → Failed (Writing name bytes) old new → IsMissing old m → Brings m old new
-write_brings m named name bytes old new c missing = leaves_brings m old new named missing (written_leaves name bytes old new c)
+pub write_brings : (m : Message) → IsTarget m.target → (old new : Files) → Failed (Writing m.target.base m.body) old new → IsMissing old m → Brings m old new
+write_brings m is old new c missing =
+    let leaves = written_leaves m.target.base m.body old new c in
+    record { own = inl (homes_none m.target.base old new (leaves.kept m.target.base is.named) missing); others = λ base named off. leaves.kept base named }
 
 -- the base is a converter's name
-pub base_name : (m : Message) → IsTrue (is_converter_base m.target.base) → IsTrue (has_base m.target.base m.target.base) → IsTrue (is_converter_name m.target.base)
-base_name m named whole = ap is_converter_base (sym (is_name-true m.target.base _ whole)) ∙ named
+pub base_name : (m : Message) → IsTarget m.target → IsTrue (is_converter_name m.target.base)
+base_name m is = ap is_converter_base (sym (is_name-true m.target.base _ is.whole)) ∙ is.named
 
 pub record Written (m : Message) (old mid : Files) : Type 0 where
   pub written : WrittenOrGone m.target.base m.body mid
@@ -180,36 +133,39 @@ pub record Written (m : Message) (old mid : Files) : Type 0 where
   pub leaves : LeavesHomes old mid
   pub within : TmpWithin [] old → TmpWithin (m.target.base ∷ []) mid
 
-pub write_ok : (m : Message) → IsTrue (is_converter_base m.target.base) → IsTrue (has_base m.target.base m.target.base) → (name bytes : List ℕ) → name ≡ m.target.base → bytes ≡ m.body → (old mid : Files) → Succeeded (Writing name bytes) old mid → IsMissing old m → Written m old mid
-write_ok m named whole name bytes e f old mid done missing =
-    let own : Succeeded (Writing m.target.base m.body) old mid = subst (λ n. Succeeded (Writing n m.body) old mid) e (subst (λ b. Succeeded (Writing name b) old mid) f done) in
-    let leaves : LeavesHomes old mid = written_leaves m.target.base m.body old mid (ok_moves (Writing m.target.base m.body) old mid own) in
+pub write_ok : (m : Message) → IsTarget m.target → (old mid : Files) → Succeeded (Writing m.target.base m.body) old mid → IsMissing old m → Written m old mid
+write_ok m is old mid done missing =
+    let moves = ok_moves (Writing m.target.base m.body) old mid done in
+    let leaves = written_leaves m.target.base m.body old mid moves in
     record {
-      written = writing_ok m.target.base m.body (base_name m named whole) old mid own;
-      missing = homes_none m.target.base old mid (leaves.kept m.target.base named) missing;
+      written = writing_ok m.target.base m.body (base_name m is) old mid done;
+      missing = homes_none m.target.base old mid (leaves.kept m.target.base is.named) missing;
       leaves = leaves;
-      within = writing_within m.target.base m.body old mid (ok_moves (Writing m.target.base m.body) old mid own);
+      within = writing_within m.target.base m.body old mid moves;
     }
 
-brings_on : (m : Message) (old mid new : Files) → LeavesHomes old mid → Brings m mid new → Brings m old new
-brings_on m old mid new leaves brings = record {
-  own = brings.own;
-  others = λ base is off. IsPermutation-trans _ _ _ (leaves.kept base is) (brings.others base is off);
-}
+module _ (m : Message) (is : IsTarget m.target) (old mid new : Files) (w : Written m old mid) where
+  abbrev put : Call
+  put = Placing m.target.base m.target.place m.target.name
 
-pub place_brings : (m : Message) → IsTrue (is_converter_base m.target.base) → IsTrue (has_base m.target.base m.target.base) → (name : List ℕ) → name ≡ m.target.base → (p : Place) (target : List ℕ) → IsTrue (has_base m.target.base target) → (old mid new : Files) → Written m old mid → Failed (Placing name p target) mid new → Brings m old new
-place_brings m named whole name e p target on old mid new w c =
-    brings_on m old mid new w.leaves (placing_brings m m.target.base p target named (base_name m named whole) on mid new w.written w.missing (subst (λ n. Failed (Placing n p target) mid new) e c))
+  pub place_brings : Failed put mid new → Brings m old new
+  place_brings c =
+      record {
+        own = subst (λ s. IsSoundAt s m) (sym c.left)
+            (elim (placing m.target.base m.target.base m.target.place m.target.name is.named (base_name m is) is.under c.moves mid w.missing) as (λ _. IsSoundAt (after mid put c.moves) m) [
+              | inl waits ↦ inl waits.homes_are
+              | inr a ↦ inr (a.homes_are ∙ ap (λ x. x ∷ []) (body_of m.target.base m.body a.bytes mid w.written a.was))
+            ]);
+        others = λ base named off. IsPermutation-trans _ _ _ (w.leaves.kept base named) (called_kept base named put (elsewhere m base m.target.name is.under off) mid new c);
+      }
 
-pub place_home : (m : Message) → IsTrue (is_converter_base m.target.base) → IsTrue (has_base m.target.base m.target.base) → (name : List ℕ) → name ≡ m.target.base → (p : Place) (target : List ℕ) → IsTrue (has_base m.target.base target) → (old mid new : Files) → Written m old mid → Succeeded (Placing name p target) mid new → IsHome new m × (TmpWithin [] old → TmpWithin [] new)
-place_home m named whole name e p target on old mid new w done =
-    let own : Succeeded (Placing m.target.base p target) mid new = subst (λ n. Succeeded (Placing n p target) mid new) e done in
-    let home = placing_home m m.target.base p target named (base_name m named whole) on mid new w.written w.missing own in
-    (home.0, λ within. placing_within m.target.base p target mid new own home.1 (w.within within))
+  pub place_home : Succeeded put mid new → IsHome new m × (TmpWithin [] old → TmpWithin [] new)
+  place_home done =
+      let a = placing_ok m.target.base m.target.base m.target.place m.target.name is.named (base_name m is) is.under mid new done w.missing in (
+        a.homes_are ∙ ap (λ x. x ∷ []) (body_of m.target.base m.body a.bytes mid w.written a.was),
+        λ within. placing_within m.target.base m.target.place m.target.name mid new done a.gone (w.within within),
+      )
 
 -- ---- the sweep
 pub leaves_trans : (a b c : Files) → LeavesHomes a b → LeavesHomes b c → LeavesHomes a c
 leaves_trans a b c first then = record { kept = λ base named. IsPermutation-trans _ _ _ (first.kept base named) (then.kept base named) }
-
-pub sweep_removed : (name : List ℕ) (names : List (List ℕ)) (shown : List ℕ) → shown ≡ name → IsTrue (is_converter_name shown) → (old new : Files) → Succeeded (Removing shown) old new → TmpWithin (name ∷ names) old → TmpWithin names new
-sweep_removed name names shown e ours old new done within = removing_within shown names ours old new done (subst (λ n. TmpWithin (n ∷ names) old) (sym e) within)

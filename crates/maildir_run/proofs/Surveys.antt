@@ -1,15 +1,15 @@
 -- What the three listings tell together.
-use Rattle.std.proofs.Common.{◌≡◌, ℕ, ◌≤◌, Bool, true, false, List, [], ◌∷◌, ◌++◌, IsPermutation, IsTrue, length, sum_by, cond, ◌+◌, refl, sym, ap, ◌∙◌, inl, inr, arith}
+use Rattle.std.proofs.Common.{◌≡◌, ℕ, ◌≤◌, Bool, List, [], ◌∷◌, ◌++◌, IsPermutation, IsTrue, length, cond, sym, ap, ◌∙◌, inl, inr, arith}
 use Rattle.std.specs.List.{list_any, filter}
 use Rattle.std.specs.FinMap.{keys, len, retain_keys}
 use Rattle.std.proofs.lemmas.Bool.{or_parts, or_cases, cases_Bool}
-use Rattle.std.proofs.lemmas.List.Sums.{sum_by-cons}
+use Rattle.std.proofs.lemmas.List.Sums.{length-filter}
 use Rattle.std.proofs.lemmas.List.Sorted.{IsPermutation-trans, sum_by-IsPermutation}
 use Rattle.maildir_run.specs.declared.folder.Sub.{Sub}
 use Rattle.maildir_run.specs.declared.folder.Sub.TheVariants.{Tmp, New, Cur}
 use Rattle.maildir_name.specs.Names.{is_converter_base, is_converter_name}
 use Rattle.maildir_run.specs.Files.{Files, has_base, held_under, homes}
-use Rattle.maildir_run.specs.Calls.{Listing, Move, Other, Again, Torn, moved, after, Lists}
+use Rattle.maildir_run.specs.Calls.{Listing, Move, Other, Again, Torn, moved, after, folder_of, Lists}
 use Rattle.maildir_run.specs.Delivery.{has_home, is_any, leftover_count}
 use Rattle.maildir_run.specs.Plan.{is_listed}
 use Rattle.maildir_run.specs.Progress.{TmpWithin}
@@ -18,6 +18,7 @@ use Rattle.maildir_run.proofs.ListedNowhere.{listed_new, listed_cur}
 use Rattle.maildir_run.proofs.Leftovers.{counted, acted_count}
 use Rattle.maildir_run.proofs.Steps.{listing_leaves, not_shown, called_tmp, within_on}
 use Rattle.maildir_run.proofs.Progress.{any_kept}
+use Rattle.maildir_run.proofs.Reach.{none_of}
 
 -- tmp gains no converter's name by a listing
 pub listed_within : (sub : Sub) (listed : List (List ℕ)) (old : Files) (names : List (List ℕ)) (new : Files) → Lists sub old names new → TmpWithin listed old → TmpWithin listed new
@@ -25,21 +26,10 @@ listed_within sub listed old names new h =
     within_on listed old new (λ q ours off. called_tmp q ours (Listing sub) tt old new (record { moves = h.before ++ Again ∷ h.rest; left = h.left }))
 
 -- ---- which bases have a home
-none_of : (xs : List (List ℕ)) → is_any xs ≡ false → xs ≡ []
-none_of [] e = refl
-none_of (x ∷ xs) e = cc
-
-new_shows_none : (b : List ℕ) → IsTrue (is_converter_base b) → (old : Files) (names : List (List ℕ)) (new : Files) → Lists New old names new → IsTrue (list_any (has_base b) names) → homes old b ≡ [] → ⊥
-new_shows_none b named old names new listed on e =
-    let mid = after old (Listing New) listed.before in
-    let none : homes mid b ≡ [] = homes_none b old mid (after_kept b named (Listing New) tt listed.before old) e in
-    not_shown b mid.new names listed.names_are (both_none (held_under b mid.new) (held_under b mid.cur) none).0 on
-
-cur_shows_none : (b : List ℕ) → IsTrue (is_converter_base b) → (old : Files) (names : List (List ℕ)) (new : Files) → Lists Cur old names new → IsTrue (list_any (has_base b) names) → homes old b ≡ [] → ⊥
-cur_shows_none b named old names new listed on e =
-    let mid = after old (Listing Cur) listed.before in
-    let none : homes mid b ≡ [] = homes_none b old mid (after_kept b named (Listing Cur) tt listed.before old) e in
-    not_shown b mid.cur names listed.names_are (both_none (held_under b mid.new) (held_under b mid.cur) none).1 on
+shows_none : (b : List ℕ) → IsTrue (is_converter_base b) → (sub : Sub) → ((s : Files) → homes s b ≡ [] → held_under b (folder_of sub s) ≡ []) → (old : Files) (names : List (List ℕ)) (new : Files) → Lists sub old names new → IsTrue (list_any (has_base b) names) → homes old b ≡ [] → ⊥
+shows_none b named sub none_held old names new listed on e =
+    let mid = after old (Listing sub) listed.before in
+    not_shown b (folder_of sub mid) names listed.names_are (none_held mid (homes_none b old mid (after_kept b named (Listing sub) tt listed.before old) e)) on
 
 two_listings : (b : List ℕ) → IsTrue (is_converter_base b) → (s t u : Files) (in_new in_cur : List (List ℕ)) → Lists New s in_new t → Lists Cur t in_cur u → is_listed in_new in_cur b ≡ has_home s b
 two_listings b named s t u in_new in_cur first second =
@@ -52,8 +42,8 @@ two_listings b named s t u in_new in_cur first second =
             | inr e ↦
                 let none = none_of (homes s b) e in
                 absurd (elim (or_cases (list_any (has_base b) in_new) (list_any (has_base b) in_cur) on) as (λ _. ⊥) [
-                  | inl shown ↦ new_shows_none b named s in_new t first shown none
-                  | inr shown ↦ cur_shows_none b named t in_cur u second shown (homes_none b s t kept_first none)
+                  | inl shown ↦ shows_none b named New (λ x e. (both_none (held_under b x.new) (held_under b x.cur) e).0) s in_new t first shown none
+                  | inr shown ↦ shows_none b named Cur (λ x e. (both_none (held_under b x.new) (held_under b x.cur) e).1) t in_cur u second shown (homes_none b s t kept_first none)
                 ])
           ]
       | inr off ↦
@@ -76,24 +66,8 @@ listing_count : (ms : List Move) (s : Files) → len (retain_keys (after s (List
 listing_count [] s = omega arith
 listing_count (m ∷ ms) s = let one = moved_count m s in let more = listing_count ms (moved (Listing Tmp) m s) in omega arith
 
-filter_cons : (p : List ℕ → Bool) (x : List ℕ) (xs : List (List ℕ)) → length (filter p (x ∷ xs)) ≡ cond (p x) 1 0 + length (filter p xs)
-filter_cons p x xs =
-    elim (p x) as (λ t. length (cond t (x ∷ filter p xs) (filter p xs)) ≡ cond t 1 0 + length (filter p xs)) [
-      | true ↦ omega arith
-      | false ↦ omega arith
-    ]
-
-sum_one : (p : List ℕ → Bool) (x : List ℕ) (xs : List (List ℕ)) → cond (p x) 1 0 + sum_by (λ y. cond (p y) 1 0) xs ≡ sum_by (λ y. cond (p y) 1 0) (x ∷ xs)
-sum_one p x xs = sym (sum_by-cons (λ y. cond (p y) 1 0) x xs)
-
-filter_sum : (p : List ℕ → Bool) (xs : List (List ℕ)) → length (filter p xs) ≡ sum_by (λ x. cond (p x) 1 0) xs
-filter_sum p [] = refl
-filter_sum p (x ∷ xs) =
-    let more = filter_sum p xs in
-    filter_cons p x xs ∙ ap (λ n. cond (p x) 1 0 + n) more ∙ sum_one p x xs
-
 pub filter-length : (p : List ℕ → Bool) (xs ys : List (List ℕ)) → IsPermutation xs ys → length (filter p xs) ≡ length (filter p ys)
-filter-length p xs ys h = filter_sum p xs ∙ sym (sum_by-IsPermutation (λ x. cond (p x) 1 0) xs ys h) ∙ sym (filter_sum p ys)
+filter-length p xs ys h = length-filter p xs ∙ sym (sum_by-IsPermutation (λ x. cond (p x) 1 0) xs ys h) ∙ sym (length-filter p ys)
 
 pub few_listed : (old : Files) (names : List (List ℕ)) (new : Files) → Lists Tmp old names new → length (filter is_converter_name names) ≤ leftover_count old
 few_listed old names new listed =

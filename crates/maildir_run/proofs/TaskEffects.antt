@@ -1,27 +1,31 @@
 -- What tasks that were performed leave.
-use Rattle.std.proofs.Common.{◌≡◌, ℕ, ◌≤◌, Bool, true, false, cond, List, [], ◌∷◌, ◌++◌, ◌⊎◌, map, length, All, Result, Ok, Err, IsPermutation, IsTrue, IsFalse, refl, sym, ap, subst, ◌∙◌, inl, inr, arith, append_assoc, length-append}
+use Rattle.std.proofs.Common.{Option, Some, None, ◌≡◌, ℕ, ◌≤◌, Bool, true, false, cond, List, [], ◌∷◌, ◌++◌, ◌⊎◌, map, length, All, IsPermutation, IsTrue, IsFalse, refl, sym, ap, subst, ◌∙◌, inl, inr, arith, append_assoc, length-append}
 use Rattle.std.specs.List.{filter}
 use Rattle.std.specs.FinMap.{get, keys}
 use Rattle.std.proofs.lemmas.Bool.{cases_Bool}
 use Rattle.std.proofs.Math.Seq.{get_or-append_seam}
 use Rattle.std.proofs.lemmas.List.{append-nil, get_or_append_left}
 use Rattle.std.proofs.lemmas.List.Elements.{All-head, All-tail}
+use Rattle.std.proofs.lemmas.Map.Views.{any-filter_same}
 use Rattle.std.proofs.lemmas.List.Sorted.{IsPermutation-refl, IsPermutation-trans}
 use Rattle.maildir_name.specs.declared.target.Target.{Target}
 use Rattle.maildir_name.specs.Names.{is_converter_name, is_converter_base}
+use Rattle.maildir_run.specs.declared.fault.RunFault.{RunFault}
 use Rattle.maildir_run.specs.declared.folder.Sub.TheVariants.{New, Cur}
-use Rattle.maildir_run.specs.Alone.{swept, filled, added}
+use Rattle.maildir_run.specs.Alone.{filled, added}
 use Rattle.maildir_run.specs.Calls.{Placing, Removing, Again, Failed, PlacesElsewhere}
 use Rattle.maildir_run.specs.Delivery.{IsSwept, Message, IsMissing, IsHome, IsSoundAt, AreNamed, AreDistinct, has_home, leftover_count}
 use Rattle.maildir_run.specs.Files.{Files, homes, is_name}
 use Rattle.maildir_run.specs.Plan.{is_listed}
-use Rattle.maildir_run.specs.Progress.{LeavesHomes, TmpWithin, Brings, Progress, Knows, IsTarget, message_at}
-use Rattle.maildir_run.specs.Quietly.{LeavesOthers, TakenOut}
-use Rattle.maildir_run.specs.Tasks.{Task, Ask, Do, call_of, Done, Way, reported, undisturbed, AllDone, Stopped, Performs, Names, listings, sweep_of, delivery_of, delivery_if, deliveries_of}
+use Rattle.maildir_run.specs.Progress.{LeavesHomes, TmpWithin, Brings, Progress, Knows, IsTarget}
+use Rattle.maildir_run.specs.Quietly.{LeavesOthers}
+use Rattle.maildir_run.specs.Tasks.{Task, Ask, Do, call_of, Done, Way, reported, undisturbed, AllDone, Stopped, Names, listings, DoneUntil}
+use Rattle.maildir_run.specs.Parts.{sweep_of, delivery_of, delivery_if, deliveries_of}
+use Rattle.maildir_run.proofs.Maps.{is_name-true}
 use Rattle.maildir_run.proofs.Progress.{progress_home, progress_brought, progress_or_more}
-use Rattle.maildir_run.proofs.QuietRuns.{OfConverter, others_same, others_then, effect_others, own_others, none_taken, taken_one, taken_skip, swept_exact, brought_exact, step_tmp}
+use Rattle.maildir_run.proofs.QuietRuns.{OfConverter, others_same, others_then, effect_others, own_others, brought_exact, step_tmp}
 use Rattle.maildir_run.proofs.Reach.{apart_front, still_missing, still_there, none_of, home_known}
-use Rattle.maildir_run.proofs.Steps.{ok_moves, called_kept, write_brings, write_ok, place_brings, place_home, sweep_removed, listing_within, without_other, base_name}
+use Rattle.maildir_run.proofs.Steps.{ok_moves, called_kept, write_brings, write_ok, place_brings, place_home, removing_within, listing_within, base_name}
 use Rattle.maildir_run.proofs.Surveys.{listed_within, three_listings, few_listed}
 
 -- ---- the parts of a list of tasks
@@ -43,40 +47,43 @@ done_moves : (task : Task) (old new : Files) → Done task old new → Failed (c
 done_moves (Ask sub names) old new h = record { moves = h.before ++ Again ∷ h.rest; left = h.left }
 done_moves (Do call) old new h = ok_moves call old new h
 
--- the tasks place no file at all
-abbrev pub PlacesNone : List Task → Type 0
-PlacesNone [] = Unit {0}
-PlacesNone (task ∷ tasks) = ((b : List ℕ) → PlacesElsewhere b (call_of task)) × PlacesNone tasks
+-- each of the tasks is so
+abbrev pub EachTask : (Task → Type 0) → List Task → Type 0
+EachTask P [] = Unit {0}
+EachTask P (task ∷ tasks) = P task × EachTask P tasks
+
+pub each_of_both : (P : Task → Type 0) (xs ys : List Task) → EachTask P xs → EachTask P ys → EachTask P (xs ++ ys)
+each_of_both P [] ys a b = b
+each_of_both P (x ∷ xs) ys a b = (a.0, each_of_both P xs ys a.1 b)
+
+-- it places no file at all
+abbrev pub PlacesNone : Task → Type 0
+PlacesNone task = (b : List ℕ) → PlacesElsewhere b (call_of task)
 
 module _ (b : List ℕ) (named : IsTrue (is_converter_base b)) where
-  one_kept : (task : Task) → ((b : List ℕ) → PlacesElsewhere b (call_of task)) → (old new : Files) → Failed (call_of task) old new → IsPermutation (homes old b) (homes new b)
+  one_kept : (task : Task) → PlacesNone task → (old new : Files) → Failed (call_of task) old new → IsPermutation (homes old b) (homes new b)
   one_kept task off old new h = called_kept b named (call_of task) (off b) old new h
 
-  all_kept : (tasks : List Task) → PlacesNone tasks → (old new : Files) → AllDone reported tasks old new → IsPermutation (homes old b) (homes new b)
-  all_kept [] off old new e = subst (λ s. IsPermutation (homes old b) (homes s b)) (sym e) (IsPermutation-refl _)
-  all_kept (task ∷ tasks) off old new (mid, one, more) =
-      IsPermutation-trans _ _ _ (one_kept task off.0 old mid (done_moves task old mid one)) (all_kept tasks off.1 mid new more)
+  done_kept : (fault : Option RunFault) (tasks : List Task) → EachTask PlacesNone tasks → (old new : Files) → DoneUntil reported tasks old fault new → IsPermutation (homes old b) (homes new b)
+  done_kept None [] off old new e = subst (λ s. IsPermutation (homes old b) (homes s b)) (sym e) (IsPermutation-refl _)
+  done_kept (Some f) [] off old new e = subst (λ s. IsPermutation (homes old b) (homes s b)) (sym e) (IsPermutation-refl _)
+  done_kept (Some f) (task ∷ tasks) off old new (inl h) = one_kept task off.0 old new h
+  done_kept (Some f) (task ∷ tasks) off old new (inr (mid, one, more)) =
+      IsPermutation-trans _ _ _ (one_kept task off.0 old mid (done_moves task old mid one)) (done_kept (Some f) tasks off.1 mid new more)
+  done_kept None (task ∷ tasks) off old new (mid, one, more) =
+      IsPermutation-trans _ _ _ (one_kept task off.0 old mid (done_moves task old mid one)) (done_kept None tasks off.1 mid new more)
 
-  stopped_kept : (tasks : List Task) → PlacesNone tasks → (old new : Files) → Stopped reported tasks old new → IsPermutation (homes old b) (homes new b)
-  stopped_kept [] off old new e = subst (λ s. IsPermutation (homes old b) (homes s b)) (sym e) (IsPermutation-refl _)
-  stopped_kept (task ∷ tasks) off old new (inl h) = one_kept task off.0 old new h
-  stopped_kept (task ∷ tasks) off old new (inr (mid, one, more)) =
-      IsPermutation-trans _ _ _ (one_kept task off.0 old mid (done_moves task old mid one)) (stopped_kept tasks off.1 mid new more)
+pub done_leaves : (fault : Option RunFault) (tasks : List Task) → EachTask PlacesNone tasks → (old new : Files) → DoneUntil reported tasks old fault new → LeavesHomes old new
+done_leaves fault tasks off old new h = record { kept = λ b named. done_kept b named fault tasks off old new h }
 
-pub all_leave : (tasks : List Task) → PlacesNone tasks → (old new : Files) → AllDone reported tasks old new → LeavesHomes old new
-all_leave tasks off old new h = record { kept = λ b named. all_kept b named tasks off old new h }
-
-pub stopped_leave : (tasks : List Task) → PlacesNone tasks → (old new : Files) → Stopped reported tasks old new → LeavesHomes old new
-stopped_leave tasks off old new h = record { kept = λ b named. stopped_kept b named tasks off old new h }
-
-pub listings_place_none : (names : Names) → PlacesNone (listings names)
+pub listings_place_none : (names : Names) → EachTask PlacesNone (listings names)
 listings_place_none names = ((λ b. tt), ((λ b. tt), ((λ b. tt), tt)))
 
-removes_place_none : (names : List (List ℕ)) → PlacesNone (map (λ name. Do (Removing name)) names)
+removes_place_none : (names : List (List ℕ)) → EachTask PlacesNone (map (λ name. Do (Removing name)) names)
 removes_place_none [] = tt
 removes_place_none (name ∷ names) = ((λ b. tt), removes_place_none names)
 
-pub sweep_places_none : (names : List (List ℕ)) → PlacesNone (sweep_of names)
+pub sweep_places_none : (names : List (List ℕ)) → EachTask PlacesNone (sweep_of names)
 sweep_places_none names = removes_place_none (filter is_converter_name names)
 
 -- ---- the listings
@@ -96,37 +103,27 @@ pub looked_quietly : (names : Names) (old new : Files) → AllDone undisturbed (
 looked_quietly names old new (a, first, (b, second, (c, third, e))) = (e ∙ third.0 ∙ second.0 ∙ first.0, first.1)
 
 -- ---- the sweep
-filter_within : (name : List ℕ) (names : List (List ℕ)) (s : Files) → is_converter_name name ≡ false → TmpWithin (name ∷ names) s → TmpWithin names s
-filter_within name names s off within = without_other name names s off within
+-- the task names converter's names alone
+abbrev pub IsOurs : Task → Type 0
+IsOurs task = OfConverter (call_of task)
+
+pub sweep_ours : (names : List (List ℕ)) → EachTask IsOurs (sweep_of names)
+sweep_ours [] = tt
+sweep_ours (name ∷ names) =
+    elim (is_converter_name name) as (λ t. is_converter_name name ≡ t → EachTask IsOurs (map (λ n. Do (Removing n)) (cond t (name ∷ filter is_converter_name names) (filter is_converter_name names)))) [
+      | true ↦ λ e. (e, sweep_ours names)
+      | false ↦ λ e. sweep_ours names
+    ] refl
+
+each_swept : (names : List (List ℕ)) → EachTask IsOurs (map (λ name. Do (Removing name)) names) → (old new : Files) → TmpWithin names old → AllDone reported (map (λ name. Do (Removing name)) names) old new → TmpWithin [] new
+each_swept [] ours old new within e = subst (TmpWithin []) (sym e) within
+each_swept (name ∷ names) ours old new within (mid, one, more) = each_swept names ours.1 mid new (removing_within name names ours.0 old mid one within) more
 
 pub all_swept : (names : List (List ℕ)) (old new : Files) → TmpWithin names old → AllDone reported (sweep_of names) old new → TmpWithin [] new
-all_swept [] old new within e = subst (TmpWithin []) (sym e) within
-all_swept (name ∷ names) old new within h =
-    elim (cases_Bool (is_converter_name name)) as (λ _. TmpWithin [] new) [
-      | inl on ↦
-          let r = subst (λ xs. AllDone reported (map (λ n. Do (Removing n)) xs) old new) (ap (λ t. cond t (name ∷ filter is_converter_name names) (filter is_converter_name names)) on) h in
-          all_swept names r.0 new (sweep_removed name names name refl on old r.0 r.1 within) r.2
-      | inr off ↦
-          all_swept names old new (filter_within name names old off within)
-          (subst (λ xs. AllDone reported (map (λ n. Do (Removing n)) xs) old new) (ap (λ t. cond t (name ∷ filter is_converter_name names) (filter is_converter_name names)) off) h)
-    ]
-
-taken_all : (xs names : List (List ℕ)) (start old new : Files) → TakenOut xs start old → AllDone undisturbed (sweep_of names) old new → TakenOut (xs ++ names) start new
-taken_all xs [] start old new taken e = subst (TakenOut (xs ++ []) start) (sym e) (subst (λ l. TakenOut l start old) (sym (append-nil xs)) taken)
-taken_all xs (name ∷ names) start old new taken h =
-    elim (cases_Bool (is_converter_name name)) as (λ _. TakenOut (xs ++ name ∷ names) start new) [
-      | inl on ↦
-          let r = subst (λ l. AllDone undisturbed (map (λ n. Do (Removing n)) l) old new) (ap (λ t. cond t (name ∷ filter is_converter_name names) (filter is_converter_name names)) on) h in
-          subst (λ l. TakenOut l start new) (append_assoc xs (name ∷ []) names)
-          (taken_all (xs ++ name ∷ []) names start r.0 new (taken_one xs name start old r.0 on r.1.1 taken) r.2)
-      | inr off ↦
-          subst (λ l. TakenOut l start new) (append_assoc xs (name ∷ []) names)
-          (taken_all (xs ++ name ∷ []) names start old new (taken_skip xs name start old off taken)
-          (subst (λ l. AllDone undisturbed (map (λ n. Do (Removing n)) l) old new) (ap (λ t. cond t (name ∷ filter is_converter_name names) (filter is_converter_name names)) off) h))
-    ]
-
-pub swept_quietly : (names : List (List ℕ)) (old new : Files) → IsPermutation names (keys old.tmp) → AllDone undisturbed (sweep_of names) old new → new ≡ swept old
-swept_quietly names old new listed h = swept_exact names old new listed (taken_all [] names old old new (none_taken old) h)
+all_swept names old new within =
+    each_swept (filter is_converter_name names) (sweep_ours names) old new (record {
+      gone = λ q ours off. within.gone q ours (sym (any-filter_same (is_name q) is_converter_name true (λ k e. ap is_converter_name (sym (is_name-true q k e)) ∙ ours) names) ∙ off);
+    })
 
 -- ---- one message
 pub record Delivered (m : Message) (old new : Files) : Type 0 where
@@ -134,23 +131,21 @@ pub record Delivered (m : Message) (old new : Files) : Type 0 where
   pub home : IsHome new m
   pub within : TmpWithin [] old → TmpWithin [] new
 
-pub delivered : (t : Target) (body : List ℕ) → IsTarget t → (old new : Files) → IsMissing old (message_at t body) → AllDone reported (delivery_of t body) old new → Delivered (message_at t body) old new
-delivered t body is old new missing (mid, wrote, (end, put, e)) =
-    let m = message_at t body in
-    let w = write_ok m is.named is.whole t.base body refl refl old mid wrote missing in
-    let home = place_home m is.named is.whole t.base refl t.place t.name is.under old mid end w put in
+pub delivered : (m : Message) → IsTarget m.target → (old new : Files) → IsMissing old m → AllDone reported (delivery_of m.target m.body) old new → Delivered m old new
+delivered m is old new missing (mid, wrote, (end, put, e)) =
+    let t = m.target in
+    let w = write_ok m is old mid wrote missing in
+    let home = place_home m is old mid end w put in
     subst (Delivered m old) (sym e) (record {
-      brings = place_brings m is.named is.whole t.base refl t.place t.name is.under old mid end w (ok_moves (Placing t.base t.place t.name) mid end put);
+      brings = place_brings m is old mid end w (ok_moves (Placing t.base t.place t.name) mid end put);
       home = home.0;
       within = home.1;
     })
 
-pub stopped_brings : (t : Target) (body : List ℕ) → IsTarget t → (old new : Files) → IsMissing old (message_at t body) → Stopped reported (delivery_of t body) old new → Brings (message_at t body) old new
-stopped_brings t body is old new missing (inl h) = write_brings (message_at t body) is.named t.base body old new h missing
-stopped_brings t body is old new missing (inr (mid, wrote, inl h)) =
-    let m = message_at t body in
-    place_brings m is.named is.whole t.base refl t.place t.name is.under old mid new (write_ok m is.named is.whole t.base body refl refl old mid wrote missing) h
-stopped_brings t body is old new missing (inr (mid, wrote, inr (end, put, e))) = (delivered t body is old new missing (mid, wrote, (end, put, e))).brings
+pub stopped_brings : (m : Message) → IsTarget m.target → (old new : Files) → IsMissing old m → Stopped reported (delivery_of m.target m.body) old new → Brings m old new
+stopped_brings m is old new missing (inl h) = write_brings m is old new h missing
+stopped_brings m is old new missing (inr (mid, wrote, inl h)) = place_brings m is old mid new (write_ok m is old mid wrote missing) h
+stopped_brings m is old new missing (inr (mid, wrote, inr (end, put, e))) = (delivered m is old new missing (mid, wrote, (end, put, e))).brings
 
 -- ---- messages, in order
 -- how far a run has come, of whose messages these are done
@@ -198,7 +193,7 @@ module _ (start : Files) (is_there : List ℕ → Bool) (knows : Knows is_there 
               let same : new ≡ old = as_shown reported m true old new on h in
               (subst (Progress (done ++ m ∷ []) start) (sym same) (progress_home done m start old (home_here done ms m old e on p) p), subst (TmpWithin []) (sym same) within)
           | inr off ↦
-              let d = delivered m.target m.body (at (λ m. IsTarget m.target) are done ms m e) old new (missing_here done ms m old e off p) (as_shown reported m false old new off h) in
+              let d = delivered m (at (λ m. IsTarget m.target) are done ms m e) old new (missing_here done ms m old e off p) (as_shown reported m false old new off h) in
               (progress_brought done m start old new (done_named done (m ∷ ms) e) (apart done ms m e) d.brings d.home p, d.within within)
         ]
 
@@ -218,7 +213,7 @@ module _ (start : Files) (is_there : List ℕ → Bool) (knows : Knows is_there 
               record { done = done; rest = m ∷ ms; is = e; progress = subst (Progress done start) (sym same) p }
           | inr off ↦
               let missing = missing_here done ms m old e off p in
-              let brings = stopped_brings m.target m.body (at (λ m. IsTarget m.target) are done ms m e) old new missing (subst (λ b. Stopped reported (cond b [] (delivery_of m.target m.body)) old new) off h) in
+              let brings = stopped_brings m (at (λ m. IsTarget m.target) are done ms m e) old new missing (subst (λ b. Stopped reported (cond b [] (delivery_of m.target m.body)) old new) off h) in
               elim (progress_or_more done m start old new (done_named done (m ∷ ms) e) (apart done ms m e) missing brings p) as (λ _. CameTo all start new) [
                 | inl q ↦ record { done = done; rest = m ∷ ms; is = e; progress = q }
                 | inr q ↦ record { done = done ++ m ∷ []; rest = ms; is = next done ms m e; progress = q }
@@ -249,17 +244,13 @@ module _ (start : Files) (is_there : List ℕ → Bool) (knows : Knows is_there 
         | inr off ↦
             let d = as_shown undisturbed m false old r.0 off r.1 in
             let end = d.2 in
-            (end.2 ∙ brought_exact old d.0 end.0 t.base t.base m.body t.place t.name t.name refl refl d.1.1 end.1.1 (free t.base (base_name m is.named is.whole)))
+            (end.2 ∙ brought_exact old d.0 end.0 t.base m.body t.place t.name d.1.1 end.1.1 (free t.base (base_name m is)))
             ∙ ap (λ b. cond b old (added old t.place t.name m.body)) (sym (home_is t false is off))
       ] in
       all_filled ms more r.0 new (λ name ours. ap (λ s. get s.tmp name) step ∙ ap (λ x. get x name) (step_tmp (has_home start t.base) old m) ∙ free name ours) r.2
       ∙ ap (filled start ms) step
 
 -- ---- other files
-abbrev pub AreOurs : List Task → Type 0
-AreOurs [] = Unit {0}
-AreOurs (task ∷ tasks) = OfConverter (call_of task) × AreOurs tasks
-
 one_others : (task : Task) → OfConverter (call_of task) → (old new : Files) → undisturbed.done task old new → LeavesOthers old new
 one_others (Ask sub names) ours old new h = subst (LeavesOthers old) (sym h.0) (others_same old)
 one_others (Do call) ours old new h = subst (LeavesOthers old) (sym h.1) (effect_others call ours old)
@@ -267,15 +258,9 @@ one_others (Do call) ours old new h = subst (LeavesOthers old) (sym h.1) (effect
 refused_others : (task : Task) → OfConverter (call_of task) → (old new : Files) → undisturbed.refused task old new → LeavesOthers old new
 refused_others task ours old new h = subst (LeavesOthers old) (sym h.2) (own_others (call_of task) ours h.0 old h.1)
 
-all_others : (tasks : List Task) → AreOurs tasks → (old new : Files) → AllDone undisturbed tasks old new → LeavesOthers old new
-all_others [] ours old new e = subst (LeavesOthers old) (sym e) (others_same old)
-all_others (task ∷ tasks) ours old new (mid, one, more) = others_then old mid new (one_others task ours.0 old mid one) (all_others tasks ours.1 mid new more)
-
-stopped_others : (tasks : List Task) → AreOurs tasks → (old new : Files) → Stopped undisturbed tasks old new → LeavesOthers old new
-stopped_others [] ours old new e = subst (LeavesOthers old) (sym e) (others_same old)
-stopped_others (task ∷ tasks) ours old new (inl h) = refused_others task ours.0 old new h
-stopped_others (task ∷ tasks) ours old new (inr (mid, one, more)) = others_then old mid new (one_others task ours.0 old mid one) (stopped_others tasks ours.1 mid new more)
-
-pub performs_others : {A E : Type 0} (tasks : List Task) → AreOurs tasks → (old : Files) (r : Result A E) (new : Files) → Performs undisturbed tasks old r new → LeavesOthers old new
-performs_others tasks ours old (Ok x) new h = all_others tasks ours old new h
-performs_others tasks ours old (Err e) new h = stopped_others tasks ours old new h
+pub done_others : (fault : Option RunFault) (tasks : List Task) → EachTask IsOurs tasks → (old new : Files) → DoneUntil undisturbed tasks old fault new → LeavesOthers old new
+done_others None [] ours old new e = subst (LeavesOthers old) (sym e) (others_same old)
+done_others (Some f) [] ours old new e = subst (LeavesOthers old) (sym e) (others_same old)
+done_others (Some f) (task ∷ tasks) ours old new (inl h) = refused_others task ours.0 old new h
+done_others (Some f) (task ∷ tasks) ours old new (inr (mid, one, more)) = others_then old mid new (one_others task ours.0 old mid one) (done_others (Some f) tasks ours.1 mid new more)
+done_others None (task ∷ tasks) ours old new (mid, one, more) = others_then old mid new (one_others task ours.0 old mid one) (done_others None tasks ours.1 mid new more)

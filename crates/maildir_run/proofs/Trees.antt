@@ -18,7 +18,7 @@ use Rattle.std.proofs.lemmas.Map.Text.{btree_map_updates_text, is_eq-slice_cmp}
 use Rattle.maildir_run.specs.Files.{name_cmp, is_name, FileMap}
 use Rattle.maildir_run.specs.FileTree.{map_of}
 use Rattle.maildir_run.proofs.Maps.{total, same}
-use Rattle.maildir_run.proofs.PlanLemmas.{append_nil}
+use Rattle.std.proofs.lemmas.List.{append-nil}
 
 abbrev Tree : Type 0
 Tree = BTreeMap (String Global) (Vec ℕ Global)
@@ -101,4 +101,4 @@ one_listed listed rest after name copy all so_far left same_bytes =
     ∙ so_far
 
 pub all_listed : (listed rest : List (String Global)) (all : List (List ℕ)) → map string_bytes listed ++ map string_bytes rest ≡ all → rest ≡ [] → map string_bytes listed ≡ all
-all_listed listed rest all so_far left = sym (append_nil (map string_bytes listed)) ∙ ap (λ xs. map string_bytes listed ++ map string_bytes xs) (sym left) ∙ so_far
+all_listed listed rest all so_far left = sym (append-nil (map string_bytes listed)) ∙ ap (λ xs. map string_bytes listed ++ map string_bytes xs) (sym left) ∙ so_far

@@ -1,5 +1,5 @@
 -- How a run counts its folder calls, and what its faults say of them.
-use Rattle.std.specs.Prelude.{◌≡◌, ℕ, zero, suc, ◌+◌, ◌%◌, ◌^◌, ◌<◌, min, Result, Ok, Err}
+use Rattle.std.specs.Prelude.{◌≡◌, ℕ, zero, suc, ◌+◌, ◌%◌, ◌^◌, ◌<◌, min, Option, Some, None, Result, Ok, Err}
 use Rattle.maildir_run.specs.declared.folder.FolderFault.{FolderFault}
 use Rattle.maildir_run.specs.declared.folder.FolderFault.TheVariants.{Absent, Failed}
 use Rattle.maildir_run.specs.declared.folder.FolderFault.TheVariants as folder
@@ -16,34 +16,47 @@ raised (suc n) count = (raised n count + 1) % 2 ^ 128
 abbrev pub capped : ℕ → ℕ
 capped n = min n 18446744073709551615
 
--- the answer of a folder call, as the run gives it; this is the number of the call
+-- the fault of an answer
+abbrev pub fault_of : {A E : Type 0} → Result A E → Option E
+fault_of (Ok _) = None
+fault_of (Err fault) = Some fault
+
+-- the fault of a folder call, as the run gives it; this is the number of the call
+abbrev pub run_fault : ℕ → FolderFault → RunFault
+run_fault number Absent = FolderAbsent
+run_fault number Failed = FolderFailed number
+run_fault number folder.OutOfMemory = OutOfMemory
+
+-- and its answer
 abbrev pub run_answer : {A : Type 0} → ℕ → Result A FolderFault → Result A RunFault
 run_answer number (Ok value) = Ok value
-run_answer number (Err Absent) = Err FolderAbsent
-run_answer number (Err Failed) = Err (FolderFailed number)
-run_answer number (Err folder.OutOfMemory) = Err OutOfMemory
+run_answer number (Err fault) = Err (run_fault number fault)
 
--- the count of failures goes up with `FolderAbsent` and `FolderFailed`, and with no other answer
+-- the count of failures goes up with `FolderAbsent` and `FolderFailed`, and with no other fault
+abbrev pub GoesUpWith : Option RunFault → ℕ → ℕ → Type 0
+GoesUpWith None old new = new ≡ old
+GoesUpWith (Some NoFromLine) old new = new ≡ old
+GoesUpWith (Some ReadFault) old new = new ≡ old
+GoesUpWith (Some TooManyReads) old new = new ≡ old
+GoesUpWith (Some FolderAbsent) old new = GoesUp old new
+GoesUpWith (Some (FolderFailed _)) old new = GoesUp old new
+GoesUpWith (Some OutputFault) old new = new ≡ old
+GoesUpWith (Some OutOfMemory) old new = new ≡ old
+
+-- it counts the fault of this answer
 abbrev pub CountsFault : {A : Type 0} → Result A RunFault → ℕ → ℕ → Type 0
-CountsFault (Ok _) old new = new ≡ old
-CountsFault (Err NoFromLine) old new = new ≡ old
-CountsFault (Err ReadFault) old new = new ≡ old
-CountsFault (Err TooManyReads) old new = new ≡ old
-CountsFault (Err FolderAbsent) old new = GoesUp old new
-CountsFault (Err (FolderFailed _)) old new = GoesUp old new
-CountsFault (Err OutputFault) old new = new ≡ old
-CountsFault (Err OutOfMemory) old new = new ≡ old
+CountsFault result old new = GoesUpWith (fault_of result) old new
 
 -- the number in `FolderFailed` is this
-abbrev pub IsNumbered : {A : Type 0} → Result A RunFault → ℕ → Type 0
-IsNumbered (Ok _) number = Unit {0}
-IsNumbered (Err NoFromLine) number = Unit {0}
-IsNumbered (Err ReadFault) number = Unit {0}
-IsNumbered (Err TooManyReads) number = Unit {0}
-IsNumbered (Err FolderAbsent) number = Unit {0}
-IsNumbered (Err (FolderFailed n)) number = n ≡ number
-IsNumbered (Err OutputFault) number = Unit {0}
-IsNumbered (Err OutOfMemory) number = Unit {0}
+abbrev pub IsNumbered : Option RunFault → ℕ → Type 0
+IsNumbered None number = Unit {0}
+IsNumbered (Some NoFromLine) number = Unit {0}
+IsNumbered (Some ReadFault) number = Unit {0}
+IsNumbered (Some TooManyReads) number = Unit {0}
+IsNumbered (Some FolderAbsent) number = Unit {0}
+IsNumbered (Some (FolderFailed n)) number = n ≡ number
+IsNumbered (Some OutputFault) number = Unit {0}
+IsNumbered (Some OutOfMemory) number = Unit {0}
 
 -- what a folder call of a run may be refused for, or a growth
 abbrev pub IsOfFolder : RunFault → Type 0
@@ -65,4 +78,4 @@ pub record Numbers {A : Type 0} (answer : Result A RunFault) (old new : ℕ) : T
   pub n : ℕ
   pub few : n < 2 ^ 66
   pub counted : new ≡ raised n old
-  pub numbered : IsNumbered answer (capped n)
+  pub numbered : IsNumbered (fault_of answer) (capped n)

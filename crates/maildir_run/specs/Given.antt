@@ -1,10 +1,10 @@
 -- How far a source was read, and which messages were given of it.
-use Rattle.std.specs.Prelude.{◌≡◌, ℕ, ◌+◌, ◌*◌, ◌<◌, ◌≤◌, Bool, true, false, List, length, Option}
+use Rattle.std.specs.Prelude.{◌≡◌, ℕ, ◌+◌, ◌*◌, ◌<◌, ◌≤◌, Bool, true, false, List, [], ◌++◌, length, Option, Some}
 use Rattle.std.specs.Io.KnownBytes.{Consumes, IsAtEnd}
 use Rattle.mbox_text.specs.declared.entry.Entry.{Entry}
 use Rattle.mbox_text.specs.declared.splitter.Splitter.{Splitter}
 use Rattle.mbox_text.specs.Fed.{Fed}
-use Rattle.mbox_text.specs.Mbox.{Mbox}
+use Rattle.mbox_text.specs.Mbox.{Mbox, IsUnreadable}
 use Rattle.maildir_run.specs.declared.fault.RunFault.{RunFault}
 use Rattle.maildir_run.specs.declared.fault.RunFault.TheVariants.{NoFromLine, TooManyReads}
 use Rattle.maildir_run.specs.Runs.{Possible}
@@ -28,6 +28,15 @@ pub record GaveAll (before now : Option (List ℕ)) (reads : ℕ) (text : List �
 abbrev pub IsGiven : Bool → Option (List ℕ) → Option (List ℕ) → Splitter → ℕ → ℕ → List ℕ → List Entry → Type 0
 IsGiven false before now splitter left reads text given = Gave before now splitter left reads text given
 IsGiven true before now splitter left reads text given = GaveAll before now reads text given
+
+-- this text was read, and these messages are the first of each text that may begin so; one that has none begins with none
+pub record Front (before now : Option (List ℕ)) (reads : ℕ) (given : List Entry) : Type 0 where
+  pub text : List ℕ
+  pub read : Consumes before now text
+  pub budget : length text ≤ 65536 * reads
+  pub few : length given ≤ length text
+  pub told : (more left : List ℕ) (entries : List Entry) → now ≡ Some left → (left ≡ [] → more ≡ []) → Mbox (text ++ more) entries → (rest : List Entry) × (entries ≡ given ++ rest)
+  pub none : (more left : List ℕ) → now ≡ Some left → (left ≡ [] → more ≡ []) → IsUnreadable (text ++ more) → given ≡ []
 
 -- the source was read up to its end, or up to where these messages are whole, of which there is one
 pub record Begins (ended : Bool) (before now : Option (List ℕ)) (splitter : Splitter) (left reads : ℕ) (whole : List Entry) : Type 0 where

@@ -21,3 +21,4 @@ pub mod Quietly
 pub mod Listing
 pub mod ListedSoFar
 pub mod Tasks
+pub mod Parts

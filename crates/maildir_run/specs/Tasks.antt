@@ -1,26 +1,17 @@
 -- What a run did with its folder: calls that were planned, in order, up to the first that was refused.
-use Rattle.std.specs.Prelude.{◌≡◌, ℕ, ◌+◌, ◌*◌, ◌≤◌, ◌⊎◌, Bool, List, [], ◌∷◌, ◌++◌, map, length, take, drop, IsPermutation, OnOk, Result, Ok, Err, if◌then◌else◌}
+use Rattle.std.specs.Prelude.{◌≡◌, ℕ, ◌⊎◌, List, [], ◌∷◌, ◌++◌, map, take, drop, IsPermutation, Option, Some, None, Result}
 use Rattle.std.specs.FinMap.{keys}
-use Rattle.std.specs.List.{flat_map, filter}
-use Rattle.std.specs.declared.vec.Vec.{Vec}
-use Rattle.std.specs.declared.string.String.{String}
-use Rattle.std.specs.declared.alloc.Global.{Global}
-use Rattle.maildir_name.specs.declared.target.Target.{Target}
-use Rattle.maildir_name.specs.Names.{is_converter_name}
-use Rattle.maildir_name.specs.Named.{Counts, Named}
-use Rattle.maildir_name.specs.Targets.{target}
-use Rattle.maildir_run.specs.declared.fault.RunFault.{RunFault}
+use Rattle.std.specs.List.{flat_map}
 use Rattle.maildir_run.specs.declared.folder.Sub.{Sub}
 use Rattle.maildir_run.specs.declared.folder.Sub.TheVariants.{Tmp, New, Cur}
 use Rattle.maildir_run.specs.declared.planner.Step.{Step}
 use Rattle.maildir_run.specs.declared.planner.Step.TheVariants.{Remove, Write, Place}
-use Rattle.maildir_run.specs.Calls.{Call, Listing, Writing, Placing, Removing, Move, Succeeded, Failed, Lists, IsReady, IsOwn, effect, after, folder_of, names_of}
-use Rattle.maildir_run.specs.Cuts.{Leaves, IsFoundWhole, Left}
-use Rattle.maildir_run.specs.Counting.{Makes, CountsFault, IsNumbered}
+use Rattle.maildir_run.specs.Calls.{Call, Listing, Writing, Placing, Removing, Move, Succeeded, Failed, Lists, IsReady, IsOwn, effect, after, folder_of}
+use Rattle.maildir_run.specs.Cuts.{Leaves, IsFoundWhole}
+use Rattle.maildir_run.specs.Counting.{fault_of}
 use Rattle.maildir_run.specs.Delivery.{Message}
 use Rattle.maildir_run.specs.Files.{Files}
 use Rattle.maildir_run.specs.Plan.{planned}
-use Rattle.maildir_run.specs.Progress.{message_at}
 
 -- a call that a run makes; a listing with the names that it answers
 pub data Task : Type 0 where
@@ -81,48 +72,16 @@ abbrev pub Stopped : Way → List Task → Files → Files → Type 0
 Stopped w [] old new = new ≡ old
 Stopped w (task ∷ tasks) old new = w.refused task old new ⊎ ((mid : Files) × w.done task old mid × Stopped w tasks mid new)
 
+-- all with no fault, and a front of them with one
+abbrev pub DoneUntil : {E : Type 0} → Way → List Task → Files → Option E → Files → Type 0
+DoneUntil w tasks old None new = AllDone w tasks old new
+DoneUntil w tasks old (Some _) new = Stopped w tasks old new
+
 -- all after Ok, and a front of them after a fault
 abbrev pub Performs : {A E : Type 0} → Way → List Task → Files → Result A E → Files → Type 0
-Performs w tasks old (Ok _) new = AllDone w tasks old new
-Performs w tasks old (Err _) new = Stopped w tasks old new
-
--- what is seen of a folder at one moment
-pub record Seen : Type 1 where
-  pub honest : Type 0
-  pub quiet : Type 0
-  pub files : Files
-  pub may_leave : Files → Type 0
-  pub calls : ℕ
-  pub failures : ℕ
-
--- what these say of a folder
-abbrev pub seen : {S : Type 0} → (S → Type 0) → (S → Type 0) → (S → Files) → (S → Files → Type 0) → (S → ℕ) → (S → ℕ) → S → Seen
-seen honest quiet files may_leave calls failures s = record { honest = honest s; quiet = quiet s; files = files s; may_leave = may_leave s; calls = calls s; failures = failures s }
-
--- A run that had made so many calls performed these tasks, with this answer: all of them with Ok, and with a fault up to the one that was refused.
-pub record Ran {A : Type 0} (tasks : List Task) (old new : Seen) (made made' : ℕ) (result : Result A RunFault) : Type 0 where
-  pub honest : old.honest → new.honest
-  pub reported_of : old.honest → Performs reported tasks old.files result new.files
-  pub left : old.honest → Left (λ before now. Performs leaving tasks before result now) old.may_leave new.may_leave
-  pub quiet : old.quiet → new.quiet
-  pub undisturbed_of : old.quiet → Performs undisturbed tasks old.files result new.files
-  pub n : ℕ
-  pub most : n ≤ length tasks
-  pub all : OnOk result (n ≡ length tasks)
-  pub makes : Makes n made made' old.calls new.calls
-  pub cause : CountsFault result old.failures new.failures
-  pub numbered : IsNumbered result made'
-
--- and with Ok
-abbrev pub RanAll : List Task → Seen → Seen → ℕ → ℕ → Type 0
-RanAll tasks old new made made' = Ran {A = Unit {0}} tasks old new made made' (Ok tt)
+Performs w tasks old result new = DoneUntil w tasks old (fault_of result) new
 
 -- ---- the tasks of a run
--- the names that a listing answered
-abbrev pub names_in : {E : Type 0} → Result (Vec (String Global) Global) E → List (List ℕ)
-names_in (Ok names) = names_of names
-names_in (Err _) = []
-
 -- three lists of names
 pub record Names : Type 0 where
   pub tmp : List (List ℕ)
@@ -146,30 +105,3 @@ tasks_of ms steps = flat_map (task_of ms) steps
 -- what is planned for these messages: the three listings, and the steps for what they answered
 abbrev pub planned_tasks : Names → List Message → List Task
 planned_tasks names ms = listings names ++ tasks_of ms (planned names.tmp names.new names.cur (map (λ m. m.target) ms))
-
--- the converter's names among these are removed
-abbrev pub sweep_of : List (List ℕ) → List Task
-sweep_of names = map (λ name. Do (Removing name)) (filter is_converter_name names)
-
--- a message is written in `tmp` under its base, and placed
-abbrev pub delivery_of : Target → List ℕ → List Task
-delivery_of t body = Do (Writing t.base body) ∷ Do (Placing t.base t.place t.name) ∷ []
-
--- unless this test tells that it is there
-abbrev pub delivery_if : (List ℕ → Bool) → Message → List Task
-delivery_if is_there m = if is_there m.target.base then [] else delivery_of m.target m.body
-
--- the messages that the test doesn't tell to be there are written and placed, in order
-abbrev pub deliveries_of : (List ℕ → Bool) → List Message → List Task
-deliveries_of is_there ms = flat_map (delivery_if is_there) ms
-
--- the messages with these bodies, which follow the bodies `before` in their text
-abbrev pub messages_after : List (List ℕ) → List (List ℕ) → List Message
-messages_after before [] = []
-messages_after before (body ∷ more) = message_at (target before body) body ∷ messages_after (before ++ body ∷ []) more
-
--- Of the messages with the bodies `more`, which follow the bodies `before`, those that were missing were brought; each takes two calls.
-pub record Brought {A : Type 0} (is_there : List ℕ → Bool) (before more : List (List ℕ)) (old new : Seen) (made made' placed placed' : ℕ) (namer' : Counts) (result : Result A RunFault) : Type 0 where
-  pub ran : Ran (deliveries_of is_there (messages_after before more)) old new made made' result
-  pub named : OnOk result (Named (before ++ more) namer')
-  pub placed_are : OnOk result (2 * placed' ≡ 2 * placed + length (deliveries_of is_there (messages_after before more)))

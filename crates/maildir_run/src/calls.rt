@@ -1,8 +1,8 @@
 // The folder calls of a run, and their number for its faults.
 ghost use Rattle.std.specs.Prelude.{◌≡◌, ◌+◌, [], ◌∷◌, IfErr};
-ghost use Rattle.maildir_run.specs.Counting.{capped, run_answer, IsOfFolder};
+ghost use Rattle.maildir_run.specs.Counting.{capped, fault_of, run_answer, IsOfFolder};
 ghost use Rattle.maildir_run.specs.Calls.Call.{Writing, Placing, Removing};
-ghost use Rattle.maildir_run.specs.Tasks.{Ran, seen, names_in};
+ghost use Rattle.maildir_run.specs.Parts.{Ran, seen, names_in};
 ghost use Rattle.maildir_run.specs.Tasks.Task.{Ask, Do};
 
 use crate::fault::RunFault;
@@ -45,7 +45,7 @@ impl Calls {
         sub: Sub,
     ) -> Result<Vec<String>, RunFault>
         ensures ran { let at = seen F.honest F.quiet F.files F.may_leave F.calls F.failures in
-            Ran (Ask sub (names_in result) ∷ []) (at folder.old) (at folder.new) self.old.made self.new.made result }
+            Ran (Ask sub (names_in result) ∷ []) (at folder.old) (at folder.new) self.old.made self.new.made (fault_of result) }
         ensures causes { IfErr result IsOfFolder }
     {
         let answer = folder.list(sub);
@@ -60,7 +60,7 @@ impl Calls {
         bytes: &[u8],
     ) -> Result<(), RunFault>
         ensures ran { let at = seen F.honest F.quiet F.files F.may_leave F.calls F.failures in
-            Ran (Do (Writing name.now bytes.now) ∷ []) (at folder.old) (at folder.new) self.old.made self.new.made result }
+            Ran (Do (Writing name.now bytes.now) ∷ []) (at folder.old) (at folder.new) self.old.made self.new.made (fault_of result) }
         ensures causes { IfErr result IsOfFolder }
     {
         let answer = folder.write(name, bytes);
@@ -76,7 +76,7 @@ impl Calls {
         target: &str,
     ) -> Result<(), RunFault>
         ensures ran { let at = seen F.honest F.quiet F.files F.may_leave F.calls F.failures in
-            Ran (Do (Placing name.now place target.now) ∷ []) (at folder.old) (at folder.new) self.old.made self.new.made result }
+            Ran (Do (Placing name.now place target.now) ∷ []) (at folder.old) (at folder.new) self.old.made self.new.made (fault_of result) }
         ensures causes { IfErr result IsOfFolder }
     {
         let answer = folder.place(name, place, target);
@@ -86,7 +86,7 @@ impl Calls {
     /// Removes a file of `tmp`.
     pub(crate) fn remove<F: Folder>(&mut self, folder: &mut F, name: &str) -> Result<(), RunFault>
         ensures ran { let at = seen F.honest F.quiet F.files F.may_leave F.calls F.failures in
-            Ran (Do (Removing name.now) ∷ []) (at folder.old) (at folder.new) self.old.made self.new.made result }
+            Ran (Do (Removing name.now) ∷ []) (at folder.old) (at folder.new) self.old.made self.new.made (fault_of result) }
         ensures causes { IfErr result IsOfFolder }
     {
         let answer = folder.remove(name);

@@ -4,6 +4,7 @@ ghost use Rattle.std.specs.Io.KnownBytes.{IsAtEnd};
 ghost use Rattle.mbox_text.specs.declared.entry.Entry.{Entry as Message};
 ghost use Rattle.mbox_text.specs.Mbox.{Mbox};
 ghost use Rattle.maildir_run.specs.Alone.{alone as alone_after};
+ghost use Rattle.maildir_run.specs.Parts.{Conversion, seen};
 ghost use Rattle.maildir_run.specs.Counting.{CountsFault, IsOfFolder, Numbers};
 ghost use Rattle.maildir_run.specs.Cuts.{Left};
 ghost use Rattle.maildir_run.specs.Delivery.{Message as Due, Delivered, IsMissing, leftover_count};
@@ -15,7 +16,6 @@ ghost use Rattle.maildir_run.specs.Runs.{CountsRun, Link, Possible, Run, Runs};
 ghost use Rattle.maildir_run.specs.Tasks.{Names, Performs, reported, leaving, planned_tasks};
 ghost use Rattle.maildir_run.specs.Texts.{MessagesOf};
 
-use crate::bases::Bases;
 use crate::calls::Calls;
 use crate::engine::Engine;
 use crate::fault::RunFault;
@@ -23,7 +23,6 @@ use crate::folder::Folder;
 use crate::messages::Messages;
 use crate::report::Report;
 use crate::survey::look;
-use crate::sweep::sweep;
 use mbox_text::Entry;
 use std::alloc::Global;
 use std::io::Read;
@@ -75,18 +74,30 @@ pub fn convert<F: Folder, R: Read>(
 
     ensures budget { ReadsAtMost (R.remaining source.old) (R.remaining source.new) (65536 * reads) }
 {
+    run(alloc, folder, source, reads)
+}
+
+/// The run itself. All that `convert` says follows from what it was given and which tasks it performed.
+fn run<F: Folder, R: Read>(
+    alloc: Global,
+    folder: &mut F,
+    source: &mut R,
+    reads: u64,
+) -> Result<Report, RunFault>
+    requires { reads ≤ 2 ^ 40 }
+    ensures is { let at = seen F.honest F.quiet F.files F.may_leave F.calls F.failures in Conversion (R.remaining source.old) (R.remaining source.new) reads (at folder.old) (at folder.new) result }
+    ensures causes { IfErr result (λ fault. IsReading fault ⊎ IsOfFolder fault) }
+{
     let mut messages = Messages::new(alloc, reads)?;
     let mut whole = Vec::new(alloc);
     let mut ended = read_first(&mut messages, source, &mut whole)?;
     let mut calls = Calls::new();
     let found = look(folder, &mut calls)?;
-    let swept = sweep(alloc, folder, &mut calls, &found.tmp)?;
-    let there = Bases::listed(alloc, &found.new, &found.cur)?;
-    let mut engine = Engine::new(alloc, there, calls);
+    let mut engine = Engine::begin(alloc, folder, calls, &found)?;
     'pieces: loop {
         engine.deliver_entries(folder, &whole)?;
         if ended {
-            return Ok(engine.report(swept));
+            return Ok(engine.report());
         }
         whole.clear();
         ended = messages.read(source, &mut whole)?;

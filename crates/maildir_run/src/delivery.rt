@@ -1,7 +1,7 @@
 // One message on its way to its target.
 ghost use Rattle.std.specs.Prelude.{IfErr};
-ghost use Rattle.maildir_run.specs.Counting.{IsOfFolder};
-ghost use Rattle.maildir_run.specs.Tasks.{Ran, seen, delivery_of};
+ghost use Rattle.maildir_run.specs.Counting.{IsOfFolder, fault_of};
+ghost use Rattle.maildir_run.specs.Parts.{Ran, seen, delivery_of};
 
 use crate::calls::Calls;
 use crate::fault::RunFault;
@@ -17,7 +17,7 @@ pub(crate) fn bring<F: Folder>(
     body: &[u8],
 ) -> Result<(), RunFault>
     ensures ran { let at = seen F.honest F.quiet F.files F.may_leave F.calls F.failures in
-        Ran (delivery_of target.now body.now) (at folder.old) (at folder.new) calls.old.made calls.new.made result }
+        Ran (delivery_of target.now body.now) (at folder.old) (at folder.new) calls.old.made calls.new.made (fault_of result) }
     ensures causes { IfErr result IsOfFolder }
 {
     let base = target.base.as_str();

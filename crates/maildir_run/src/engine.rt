@@ -1,9 +1,11 @@
 // A run over a folder, from its listings on: message after message.
-ghost use Rattle.std.specs.Prelude.{◌≡◌, ◌<◌, ◌≤◌, ◌+◌, ◌-◌, ◌^◌, [], ◌∷◌, List, ℕ, OnOk, length, IfErr};
+ghost use Rattle.std.specs.Prelude.{◌≡◌, ◌<◌, ◌≤◌, ◌+◌, ◌-◌, ◌^◌, [], ◌∷◌, List, ℕ, OnOk, length, IfOk, IfErr};
 ghost use Rattle.std.specs.FinMap.{contains_key};
 ghost use Rattle.maildir_name.specs.Named.{Named};
-ghost use Rattle.maildir_run.specs.Counting.{IsOfFolder};
-ghost use Rattle.maildir_run.specs.Tasks.{Brought, seen};
+ghost use Rattle.maildir_run.specs.Calls.{names_of};
+ghost use Rattle.maildir_run.specs.Counting.{IsOfFolder, fault_of};
+ghost use Rattle.maildir_run.specs.Plan.{is_listed};
+ghost use Rattle.maildir_run.specs.Parts.{Brought, Ran, seen, sweep_of};
 ghost use Rattle.maildir_run.specs.Texts.{bodies_of};
 
 use crate::bases::Bases;
@@ -12,6 +14,8 @@ use crate::delivery::bring;
 use crate::fault::RunFault;
 use crate::folder::Folder;
 use crate::report::Report;
+use crate::survey::Survey;
+use crate::sweep::sweep;
 use maildir_name::Namer;
 use mbox_text::Entry;
 use std::alloc::Global;
@@ -24,39 +28,51 @@ pub(crate) struct Engine<'a> {
     pub(crate) calls: Calls,
     pub(crate) messages: u64,
     pub(crate) placed: u64,
+    pub(crate) swept: u64,
     ghost within: { placed ≤ messages },
 }
 
 impl<'a> Engine<'a> {
-    /// A run that has brought nothing, after these calls.
-    pub(crate) fn new(alloc: Global, there: Bases<'a>, calls: Calls) -> Engine<'a>
-        ensures there { result.there ≡ there.entry }
-        ensures namer { Named [] result.namer }
-        ensures calls { result.calls ≡ calls }
-        ensures messages { result.messages ≡ 0 }
-        ensures placed { result.placed ≡ 0 }
+    /// A run that found these names, and removes what broken runs left in `tmp`.
+    pub(crate) fn begin<F: Folder>(
+        alloc: Global,
+        folder: &mut F,
+        calls: Calls,
+        found: &'a Survey,
+    ) -> Result<Engine<'a>, RunFault>
+        ensures ran { let at = seen F.honest F.quiet F.files F.may_leave F.calls F.failures in (made : ℕ)
+            × Ran (sweep_of (names_of found.now.tmp)) (at folder.old) (at folder.new) calls.made made (fault_of result)
+            × IfOk result (λ engine. engine.calls.made ≡ made) }
+        ensures there { IfOk result (λ engine. (b : List ℕ) → contains_key engine.there b ≡ is_listed (names_of found.now.new) (names_of found.now.cur) b) }
+        ensures namer { IfOk result (λ engine. Named [] engine.namer) }
+        ensures counts { IfOk result (λ engine. (engine.messages ≡ 0) × (engine.placed ≡ 0) × (engine.swept ≡ length (sweep_of (names_of found.now.tmp)))) }
+        ensures causes { IfErr result IsOfFolder }
     {
-        Engine {
+        let mut calls = calls;
+        let swept = sweep(alloc, folder, &mut calls, &found.tmp)?;
+        let there = Bases::listed(alloc, &found.new, &found.cur)?;
+        Ok(Engine {
             there,
             namer: Namer::new(alloc),
             calls,
             messages: 0,
             placed: 0,
-        }
+            swept,
+        })
     }
 
-    /// What the run did, which swept so many files before.
-    pub(crate) fn report(&self, swept: u64) -> Report
+    /// What the run did.
+    pub(crate) fn report(&self) -> Report
         ensures messages { result.messages ≡ self.now.messages }
         ensures there { result.there ≡ self.now.messages - self.now.placed }
         ensures placed { result.placed ≡ self.now.placed }
-        ensures swept { result.swept ≡ swept }
+        ensures swept { result.swept ≡ self.now.swept }
     {
         Report {
             messages: self.messages,
             there: self.messages - self.placed,
             placed: self.placed,
-            swept,
+            swept: self.swept,
         }
     }
 
@@ -64,8 +80,9 @@ impl<'a> Engine<'a> {
     fn deliver<F: Folder>(&mut self, folder: &mut F, body: &[u8]) -> Result<(), RunFault>
         requires { self.old.messages < 2 ^ 63 }
         ensures brought { let at = seen F.honest F.quiet F.files F.may_leave F.calls F.failures in (bodies : List (List ℕ)) → Named bodies self.old.namer → length bodies < 2 ^ 63 →
-            Brought (contains_key self.old.there) bodies (body.now ∷ []) (at folder.old) (at folder.new) self.old.calls.made self.new.calls.made self.old.placed self.new.placed self.new.namer result }
+            Brought (contains_key self.old.there) bodies (body.now ∷ []) (at folder.old) (at folder.new) self.old.calls.made self.new.calls.made self.old.placed self.new.placed self.new.namer (fault_of result) }
         ensures there { self.new.there ≡ self.old.there }
+        ensures swept { self.new.swept ≡ self.old.swept }
         ensures one { OnOk result (self.new.messages ≡ self.old.messages + 1) }
         ensures causes { IfErr result IsOfFolder }
     {
@@ -86,8 +103,9 @@ impl<'a> Engine<'a> {
     ) -> Result<(), RunFault>
         requires { self.old.messages + length entries.now < 2 ^ 63 }
         ensures brought { let at = seen F.honest F.quiet F.files F.may_leave F.calls F.failures in (bodies : List (List ℕ)) → Named bodies self.old.namer → length bodies + length entries.now ≤ 2 ^ 63 →
-            Brought (contains_key self.old.there) bodies (bodies_of entries.now) (at folder.old) (at folder.new) self.old.calls.made self.new.calls.made self.old.placed self.new.placed self.new.namer result }
+            Brought (contains_key self.old.there) bodies (bodies_of entries.now) (at folder.old) (at folder.new) self.old.calls.made self.new.calls.made self.old.placed self.new.placed self.new.namer (fault_of result) }
         ensures there { self.new.there ≡ self.old.there }
+        ensures swept { self.new.swept ≡ self.old.swept }
         ensures all { OnOk result (self.new.messages ≡ self.old.messages + length entries.now) }
         ensures causes { IfErr result IsOfFolder }
     {

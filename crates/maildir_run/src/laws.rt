@@ -18,7 +18,8 @@ ghost use Rattle.maildir_run.specs.Several.{Text, IsText, OfEach, SoundForAll, L
 ghost use Rattle.maildir_run.specs.Several.LinkOver.{RanOver};
 ghost use Rattle.maildir_run.specs.Alone.{alone};
 ghost use Rattle.maildir_run.specs.Plan.{is_listed, planned, each_alone};
-ghost use Rattle.maildir_run.specs.Tasks.{Names, planned_tasks, listings, sweep_of, deliveries_of};
+ghost use Rattle.maildir_run.specs.Tasks.{Names, planned_tasks, listings};
+ghost use Rattle.maildir_run.specs.Parts.{sweep_of, deliveries_of};
 
 /// The plan for some targets is the plan for none, followed by the steps of each target alone over an empty `tmp`.
 pub fn plan_is_each_alone()

@@ -1,8 +1,9 @@
 // What is there as a run begins.
-ghost use Rattle.std.specs.Prelude.{◌≡◌, IfOk, IfErr};
+ghost use Rattle.std.specs.Prelude.{◌≡◌, ◌<◌, ◌^◌, length, IfOk, IfErr};
 ghost use Rattle.maildir_run.specs.Calls.{names_of};
-ghost use Rattle.maildir_run.specs.Counting.{IsOfFolder};
-ghost use Rattle.maildir_run.specs.Tasks.{Ran, seen, listings, Names};
+ghost use Rattle.maildir_run.specs.Counting.{IsOfFolder, fault_of};
+ghost use Rattle.maildir_run.specs.Tasks.{listings, Names};
+ghost use Rattle.maildir_run.specs.Parts.{Ran, seen};
 
 use crate::calls::Calls;
 use crate::fault::RunFault;
@@ -19,7 +20,7 @@ pub(crate) struct Survey {
 /// Lists the three folders. `new` comes before `cur`, since a mail reader moves files from the one to the other.
 pub(crate) fn look<F: Folder>(folder: &mut F, calls: &mut Calls) -> Result<Survey, RunFault>
     ensures ran { let at = seen F.honest F.quiet F.files F.may_leave F.calls F.failures in
-        (names : Names) × Ran (listings names) (at folder.old) (at folder.new) calls.old.made calls.new.made result
+        (names : Names) × (length names.tmp < 2 ^ 64) × Ran (listings names) (at folder.old) (at folder.new) calls.old.made calls.new.made (fault_of result)
         × IfOk result (λ found. (names_of found.tmp ≡ names.tmp) × (names_of found.new ≡ names.new) × (names_of found.cur ≡ names.cur)) }
     ensures causes { IfErr result IsOfFolder }
 {

@@ -1,7 +1,8 @@
 // The sweep: what broken runs left in `tmp` is removed.
 ghost use Rattle.std.specs.Prelude.{◌≡◌, [], length, map, string_bytes, IfOk, IfErr};
-ghost use Rattle.maildir_run.specs.Counting.{IsOfFolder};
-ghost use Rattle.maildir_run.specs.Tasks.{Ran, seen, tasks_of, sweep_of};
+ghost use Rattle.maildir_run.specs.Counting.{IsOfFolder, fault_of};
+ghost use Rattle.maildir_run.specs.Tasks.{tasks_of};
+ghost use Rattle.maildir_run.specs.Parts.{Ran, seen, sweep_of};
 
 use crate::calls::Calls;
 use crate::fault::RunFault;
@@ -18,7 +19,7 @@ pub(crate) fn sweep<F: Folder>(
     listed: &[String],
 ) -> Result<u64, RunFault>
     ensures ran { let at = seen F.honest F.quiet F.files F.may_leave F.calls F.failures in
-        Ran (sweep_of (map string_bytes listed.now)) (at folder.old) (at folder.new) calls.old.made calls.new.made result }
+        Ran (sweep_of (map string_bytes listed.now)) (at folder.old) (at folder.new) calls.old.made calls.new.made (fault_of result) }
     ensures count { IfOk result (λ n. n ≡ length (sweep_of (map string_bytes listed.now))) }
     ensures causes { IfErr result IsOfFolder }
 {
@@ -33,7 +34,7 @@ fn remove_planned<F: Folder>(
     steps: &[Step],
 ) -> Result<u64, RunFault>
     ensures ran { let at = seen F.honest F.quiet F.files F.may_leave F.calls F.failures in
-        Ran (tasks_of [] steps.now) (at folder.old) (at folder.new) calls.old.made calls.new.made result }
+        Ran (tasks_of [] steps.now) (at folder.old) (at folder.new) calls.old.made calls.new.made (fault_of result) }
     ensures count { IfOk result (λ n. n ≡ length (tasks_of [] steps.now)) }
     ensures causes { IfErr result IsOfFolder }
 {

@@ -1,13 +1,12 @@
-use Rattle.std.proofs.Common.{◌≡◌, ◌+◌, ◌*◌, ◌++◌, List, [], length, arith, refl, inl, inr}
+use Rattle.std.proofs.Common.{◌≡◌, ◌+◌, ◌++◌, List, [], length, arith, inl}
 use Rattle.std.proofs.lemmas.List.{length-append}
 use Rattle.mbox_text.specs.declared.entry.Entry.{Entry}
 use Rattle.maildir_run.specs.Listing.{listing}
 use Rattle.maildir_run.proofs.ListLines.{listing_output}
 use Rattle.maildir_run.proofs.Poured.{read_broken, batch, batch_broken, names_fit, poured_none, poured_all, poured_more}
-use Rattle.maildir_run.specs.declared.fault.RunFault.TheVariants.{OutOfMemory}
-use Rattle.maildir_run.proofs.Faults.{if_err, fault_is, unless_ok, ok_is_none, not_begun, not_spent, output_not_begun, output_not_spent, output_causes}
+use Rattle.maildir_run.proofs.Faults.{if_err, fault_is, unless_ok}
 use Rattle.maildir_run.proofs.Scripts.{on_err}
-use Rattle.maildir_run.proofs.Exits.{read_nothing, front_nothing, went_to_end, went_on}
+use Rattle.maildir_run.proofs.Exits.{went_on}
 use Rattle.maildir_run.proofs.listing.list_text.Goals as goal
 
 pub pieces-init : goal.pieces-init
@@ -23,15 +22,11 @@ returns-in_err-ended g c =
     record {
       all = unless_ok _ r.result r.ensures.0;
       end = unless_ok _ r.result r.ensures.0;
-      front =
-          on_err r.result b.front;
-      no_from_line = λ e.
-          b.nothing (fault_is r.result fault _ r.ensures.1 e);
-      spent = λ e.
-          b.spent (fault_is r.result fault _ r.ensures.1 e);
+      front = on_err r.result b.front;
+      no_from_line = λ e. b.nothing (fault_is r.result fault _ r.ensures.1 e);
+      spent = λ e. b.refused.spent (fault_is r.result fault _ r.ensures.1 e);
       causes = if_err _ r.result fault r.ensures.1 (inl c.in_err-ended.ensures.causes);
-      budget =
-          b.budget;
+      budget = b.refused.budget;
     }
 
 pub list-requires : goal.list-requires
@@ -40,49 +35,32 @@ list-requires g c =
     c.pieces.invariant.1 c.in_ok-ended.ensures.went in
     rw c.deref.ensures.value b.from_lines
 
-pub returns-in_err-list : goal.returns-in_err-list
-returns-in_err-list g c =
-    let r = c.from_residual-in_err-list in
-    let fault = c.in_err-list.field-0.0 in
+pub returns-in_err-list-clause-front : goal.returns-in_err-list-clause-front
+returns-in_err-list-clause-front g c =
     let given : List Entry = c.pieces.invariant.0 in
     let b = batch listing c.pieces.invariant.0 _ _ _ _ _ c.pieces.messages c.read.new.self.splitter c.read.new.self.reads c.pieces.whole.items c.read.new.out.items c.args.reads c.pieces.lister.count c.in_ok-ended.ended
     c.pieces.invariant.1 c.in_ok-ended.ensures.went in
-    record {
-      all = unless_ok _ r.result r.ensures.0;
-      end = unless_ok _ r.result r.ensures.0;
-      front =
-          let fit = names_fit listing given _ _ _ _ c.read.new.out.items c.args.reads c.pieces.lister.count b c.requires in
-          let s = rw c.deref.ensures.value at (c.in_err-list.ensures.lists given c.pieces.invariant.2 (rw c.deref.ensures.value fit)) in
-          let w = batch_broken listing given _ _ _ _ _ c.read.new.out.items c.args.reads c.pieces.lister.count s.0 listing_output b s.1 s.2 in
-          on_err r.result w.0;
-      no_from_line = λ e. absurd (output_not_begun r.result fault r.ensures.1 c.in_err-list.ensures.causes e);
-      spent = λ e. absurd (output_not_spent r.result fault r.ensures.1 c.in_err-list.ensures.causes e);
-      causes = if_err _ r.result fault r.ensures.1 (output_causes fault c.in_err-list.ensures.causes);
-      budget =
-          (b.text, b.read, b.budget);
-    }
+    let fit = names_fit listing given _ _ _ _ c.read.new.out.items c.args.reads c.pieces.lister.count b c.requires in
+    let s = rw c.deref.ensures.value at (c.in_err-list.ensures.lists given c.pieces.invariant.2 (rw c.deref.ensures.value fit)) in
+    on_err c.from_residual-in_err-list.result (batch_broken listing given _ _ _ _ _ c.read.new.out.items c.args.reads c.pieces.lister.count s.0 listing_output b s.1 s.2)
 
-pub returns-then-ended : goal.returns-then-ended
-returns-then-ended g c =
+pub returns-in_err-list-clause-budget : goal.returns-in_err-list-clause-budget
+returns-in_err-list-clause-budget g c =
+    let b = batch listing c.pieces.invariant.0 _ _ _ _ _ c.pieces.messages c.read.new.self.splitter c.read.new.self.reads c.pieces.whole.items c.read.new.out.items c.args.reads c.pieces.lister.count c.in_ok-ended.ended
+    c.pieces.invariant.1 c.in_ok-ended.ensures.went in
+    (b.front.text, b.front.read, b.front.budget)
+
+pub returns-then-ended-clause-all : goal.returns-then-ended-clause-all
+returns-then-ended-clause-all g c =
     let given : List Entry = c.pieces.invariant.0 in
     let b = batch listing c.pieces.invariant.0 _ _ _ _ _ c.pieces.messages c.read.new.self.splitter c.read.new.self.reads c.pieces.whole.items c.read.new.out.items c.args.reads c.pieces.lister.count c.in_ok-ended.ended
     c.pieces.invariant.1 c.in_ok-ended.ensures.went in
-    record {
-      all =
-          let fit = names_fit listing given _ _ _ _ c.read.new.out.items c.args.reads c.pieces.lister.count b c.requires in
-          let s = rw c.deref.ensures.value at (c.in_ok-list.ensures.lists given c.pieces.invariant.2 (rw c.deref.ensures.value fit)) in
-          let all = poured_all listing given _ _ _ _ _ _ c.pieces.messages c.read.new.self.splitter c.read.new.self.reads c.pieces.whole.items c.read.new.out.items c.args.reads c.pieces.lister.count
-          s.0 c.pieces.invariant.1 (rw c.if-ended.true at c.in_ok-ended.ensures.went) s.1 s.2 in
-          let count : c.list.new.self.count ≡ c.pieces.lister.count + length c.read.new.out.items = omega (arith, s.3.counted, c.pieces.invariant.2.counted, length-append given c.read.new.out.items) in
-          rw count all.0;
-      end = went_to_end c.in_ok-ended.ended _ _ c.pieces.messages _ _ _ _ c.if-ended.true c.in_ok-ended.ensures.went;
-      front = tt;
-      no_from_line = λ e. absurd (ok_is_none _ _ e);
-      spent = λ e. absurd (ok_is_none _ _ e);
-      causes = tt;
-      budget =
-          (b.text, b.read, b.budget);
-    }
+    let fit = names_fit listing given _ _ _ _ c.read.new.out.items c.args.reads c.pieces.lister.count b c.requires in
+    let s = rw c.deref.ensures.value at (c.in_ok-list.ensures.lists given c.pieces.invariant.2 (rw c.deref.ensures.value fit)) in
+    let all = poured_all listing given _ _ _ _ _ _ c.pieces.messages c.read.new.self.splitter c.read.new.self.reads c.pieces.whole.items c.read.new.out.items c.args.reads c.pieces.lister.count
+    s.0 c.pieces.invariant.1 s.1 s.2 (rw c.if-ended.true at c.in_ok-ended.ensures.went) in
+    let count : c.list.new.self.count ≡ c.pieces.lister.count + length c.read.new.out.items = omega (arith, s.3.counted, c.pieces.invariant.2.counted, length-append given c.read.new.out.items) in
+    rw count all
 
 pub pieces-preserved : goal.pieces-preserved
 pieces-preserved g c =
@@ -91,23 +69,10 @@ pieces-preserved g c =
     c.pieces.invariant.1 c.in_ok-ended.ensures.went in
     let fit = names_fit listing given _ _ _ _ c.read.new.out.items c.args.reads c.pieces.lister.count b c.requires in
     let s = rw c.deref.ensures.value at (c.in_ok-list.ensures.lists given c.pieces.invariant.2 (rw c.deref.ensures.value fit)) in
-    let more = poured_more listing given _ _ _ _ _ _ c.pieces.messages c.read.new.self.splitter c.read.new.self.reads c.pieces.whole.items c.read.new.out.items c.clear.new.self.items c.args.reads c.pieces.lister.count
-    s.0 c.pieces.invariant.1 (rw c.if-ended.false at c.in_ok-ended.ensures.went) s.1 s.2 c.clear.ensures.items in
+    let more = poured_more listing given _ _ _ _ _ _ c.pieces.messages c.read.new.self.splitter c.read.new.self.reads c.pieces.whole.items c.read.new.out.items c.args.reads c.pieces.lister.count
+    s.0 c.pieces.invariant.1 s.1 s.2 c.clear.new.self.items (rw c.if-ended.false at c.in_ok-ended.ensures.went) c.clear.ensures.items in
     let count : c.list.new.self.count ≡ c.pieces.lister.count + length c.read.new.out.items = omega (arith, s.3.counted, c.pieces.invariant.2.counted, length-append given c.read.new.out.items) in
     (given ++ c.read.new.out.items, rw count more, s.3)
-
-pub returns-in_err-messages : goal.returns-in_err-messages
-returns-in_err-messages g c =
-    let r = c.from_residual in
-    record {
-      all = unless_ok _ r.result r.ensures.0;
-      end = unless_ok _ r.result r.ensures.0;
-      front = on_err r.result (front_nothing listing (g.R.Read.remaining c.args.source.now) (g.W.Write.contents c.args.out.now));
-      no_from_line = λ e. absurd (not_begun r.result OutOfMemory r.ensures.1 tt e);
-      spent = λ e. absurd (not_spent r.result OutOfMemory r.ensures.1 tt e);
-      causes = if_err _ r.result OutOfMemory r.ensures.1 (inl (inr (inr (inr refl))));
-      budget = read_nothing (g.R.Read.remaining c.args.source.now) (65536 * c.args.reads);
-    }
 
 pub pieces-smaller : goal.pieces-smaller
 pieces-smaller g c = went_on c.in_ok-ended.ended _ _ c.pieces.messages _ _ _ _ c.if-ended.false c.in_ok-ended.ensures.went

@@ -1,9 +1,9 @@
-use Rattle.std.proofs.Common.{◌≡◌, List, [], ◌∷◌, ◌++◌, true, false, sym, ap, ◌∙◌, get_or, append_assoc}
+use Rattle.std.proofs.Common.{append-nil, ◌≡◌, List, [], ◌∷◌, ◌++◌, true, false, sym, ap, ◌∙◌, get_or, append_assoc}
 use Rattle.std.specs.FinMap.{contains_key}
 use Rattle.maildir_name.specs.declared.target.Target.{Target}
 use Rattle.maildir_run.specs.declared.planner.Step.{Step}
 use Rattle.maildir_run.specs.declared.planner.Step.TheVariants.{Write, Place}
-use Rattle.maildir_run.proofs.PlanLemmas.{append_nil, deliveries-step}
+use Rattle.maildir_run.proofs.PlanLemmas.{deliveries-step}
 use Rattle.maildir_run.proofs.planner.add_deliveries.Goals as goal
 use Rattle.maildir_run.proofs.planner.add_deliveries.Goals.{then-not-contains+in_ok-push+in_ok-push-2, else-not-contains}
 
@@ -23,5 +23,5 @@ loop-i-preserved c =
       | else-not-contains w ↦
           deliveries-step (contains_key there) c.args.targets.now i d c.args.steps.now.items old c.if-not-contains.steps.items true
           c.loop-i-test.true (shown ∙ w.if-not-contains.false) c.loop-i.invariant
-          (ap (λ v. v.items) w.steps-is ∙ sym (append_nil old))
+          (ap (λ v. v.items) w.steps-is ∙ sym (append-nil old))
     ]

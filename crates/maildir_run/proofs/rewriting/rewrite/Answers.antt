@@ -1,11 +1,10 @@
-use Rattle.std.proofs.Common.{◌≡◌, ◌*◌, ◌++◌, length, arith, refl, inl, inr}
+use Rattle.std.proofs.Common.{◌≡◌, ◌++◌, length, arith, inl}
 use Rattle.std.specs.List.{flat_map}
 use Rattle.mbox_text.specs.Spelling.{spelling}
 use Rattle.maildir_run.proofs.Poured.{flat_output, flat_more, read_broken, batch, batch_broken, count_fits, poured_all, poured_more}
-use Rattle.maildir_run.specs.declared.fault.RunFault.TheVariants.{OutOfMemory}
-use Rattle.maildir_run.proofs.Faults.{if_err, fault_is, unless_ok, ok_is_none, not_begun, not_spent, output_not_begun, output_not_spent, output_causes}
+use Rattle.maildir_run.proofs.Faults.{if_err, fault_is, unless_ok}
 use Rattle.maildir_run.proofs.Scripts.{on_err}
-use Rattle.maildir_run.proofs.Exits.{read_nothing, front_nothing, went_to_end, went_on}
+use Rattle.maildir_run.proofs.Exits.{went_on}
 use Rattle.maildir_run.proofs.rewriting.rewrite.Goals as goal
 
 pub returns-in_err-ended : goal.returns-in_err-ended
@@ -16,36 +15,26 @@ returns-in_err-ended g c =
     record {
       all = unless_ok _ r.result r.ensures.0;
       end = unless_ok _ r.result r.ensures.0;
-      front =
-          on_err r.result b.front;
-      no_from_line = λ e.
-          b.nothing (fault_is r.result fault _ r.ensures.1 e);
-      spent = λ e.
-          b.spent (fault_is r.result fault _ r.ensures.1 e);
+      front = on_err r.result b.front;
+      no_from_line = λ e. b.nothing (fault_is r.result fault _ r.ensures.1 e);
+      spent = λ e. b.refused.spent (fault_is r.result fault _ r.ensures.1 e);
       causes = if_err _ r.result fault r.ensures.1 (inl c.in_err-ended.ensures.causes);
-      budget =
-          b.budget;
+      budget = b.refused.budget;
     }
 
-pub returns-in_err-write_entries : goal.returns-in_err-write_entries
-returns-in_err-write_entries g c =
-    let r = c.from_residual-in_err-write_entries in
-    let fault = c.in_err-write_entries.field-0.0 in
+pub returns-in_err-write_entries-clause-front : goal.returns-in_err-write_entries-clause-front
+returns-in_err-write_entries-clause-front g c =
     let b = batch (flat_map spelling) c.pieces.invariant.0 _ _ _ _ _ c.pieces.messages c.read.new.self.splitter c.read.new.self.reads c.pieces.whole.items c.read.new.out.items c.args.reads c.pieces.count c.in_ok-ended.ended
     c.pieces.invariant.1 c.in_ok-ended.ensures.went in
-    record {
-      all = unless_ok _ r.result r.ensures.0;
-      end = unless_ok _ r.result r.ensures.0;
-      front =
-          let w = batch_broken (flat_map spelling) c.pieces.invariant.0 _ _ _ _ _ c.read.new.out.items c.args.reads c.pieces.count (flat_map spelling c.deref.result.now) flat_output b
-          (flat_more c.pieces.invariant.0 c.read.new.out.items c.deref.result.now c.deref.ensures.value) c.in_err-write_entries.ensures.written in
-          on_err r.result w.0;
-      no_from_line = λ e. absurd (output_not_begun r.result fault r.ensures.1 (inl c.in_err-write_entries.ensures.causes) e);
-      spent = λ e. absurd (output_not_spent r.result fault r.ensures.1 (inl c.in_err-write_entries.ensures.causes) e);
-      causes = if_err _ r.result fault r.ensures.1 (output_causes fault (inl c.in_err-write_entries.ensures.causes));
-      budget =
-          (b.text, b.read, b.budget);
-    }
+    on_err c.from_residual-in_err-write_entries.result
+    (batch_broken (flat_map spelling) c.pieces.invariant.0 _ _ _ _ _ c.read.new.out.items c.args.reads c.pieces.count (flat_map spelling c.deref.result.now) flat_output b
+    (flat_more c.pieces.invariant.0 c.read.new.out.items c.deref.result.now c.deref.ensures.value) c.in_err-write_entries.ensures.written)
+
+pub returns-in_err-write_entries-clause-budget : goal.returns-in_err-write_entries-clause-budget
+returns-in_err-write_entries-clause-budget g c =
+    let b = batch (flat_map spelling) c.pieces.invariant.0 _ _ _ _ _ c.pieces.messages c.read.new.self.splitter c.read.new.self.reads c.pieces.whole.items c.read.new.out.items c.args.reads c.pieces.count c.in_ok-ended.ended
+    c.pieces.invariant.1 c.in_ok-ended.ensures.went in
+    (b.front.text, b.front.read, b.front.budget)
 
 pub overflow_add-count : goal.overflow_add-count
 overflow_add-count g c =
@@ -55,47 +44,23 @@ overflow_add-count g c =
     let len : c.len.result ≡ length c.read.new.out.items = omega (arith, c.len.ensures, c.read.new.out.ok.0) in
     omega (arith, fits, len)
 
-pub returns-then-ended : goal.returns-then-ended
-returns-then-ended g c = record {
-  all =
-      let p = c.pieces.invariant.1 in
-      let all = poured_all (flat_map spelling) c.pieces.invariant.0 _ _ _ _ _ _ c.pieces.messages c.read.new.self.splitter c.read.new.self.reads c.pieces.whole.items c.read.new.out.items c.args.reads c.pieces.count
-      (flat_map spelling c.deref.result.now) p (rw c.if-ended.true at c.in_ok-ended.ensures.went) (flat_more c.pieces.invariant.0 c.read.new.out.items c.deref.result.now c.deref.ensures.value)
-      c.in_ok-write_entries.ensures.written in
-      let len : c.len.result ≡ length c.read.new.out.items = omega (arith, c.len.ensures, c.read.new.out.ok.0) in
-      rw len all.0;
-  end = went_to_end c.in_ok-ended.ended _ _ c.pieces.messages _ _ _ _ c.if-ended.true c.in_ok-ended.ensures.went;
-  front = tt;
-  no_from_line = λ e. absurd (ok_is_none _ _ e);
-  spent = λ e. absurd (ok_is_none _ _ e);
-  causes = tt;
-  budget =
-      let b = batch (flat_map spelling) c.pieces.invariant.0 _ _ _ _ _ c.pieces.messages c.read.new.self.splitter c.read.new.self.reads c.pieces.whole.items c.read.new.out.items c.args.reads c.pieces.count c.in_ok-ended.ended
-      c.pieces.invariant.1 c.in_ok-ended.ensures.went in
-      (b.text, b.read, b.budget);
-}
+pub returns-then-ended-clause-all : goal.returns-then-ended-clause-all
+returns-then-ended-clause-all g c =
+    let p = c.pieces.invariant.1 in
+    let all = poured_all (flat_map spelling) c.pieces.invariant.0 _ _ _ _ _ _ c.pieces.messages c.read.new.self.splitter c.read.new.self.reads c.pieces.whole.items c.read.new.out.items c.args.reads c.pieces.count
+    (flat_map spelling c.deref.result.now) p (flat_more c.pieces.invariant.0 c.read.new.out.items c.deref.result.now c.deref.ensures.value) c.in_ok-write_entries.ensures.written
+    (rw c.if-ended.true at c.in_ok-ended.ensures.went) in
+    let len : c.len.result ≡ length c.read.new.out.items = omega (arith, c.len.ensures, c.read.new.out.ok.0) in
+    rw len all
 
 pub pieces-preserved : goal.pieces-preserved
 pieces-preserved g c =
     let p = c.pieces.invariant.1 in
-    let more = poured_more (flat_map spelling) c.pieces.invariant.0 _ _ _ _ _ _ c.pieces.messages c.read.new.self.splitter c.read.new.self.reads c.pieces.whole.items c.read.new.out.items c.clear.new.self.items c.args.reads c.pieces.count
-    (flat_map spelling c.deref.result.now) p (rw c.if-ended.false at c.in_ok-ended.ensures.went) (flat_more c.pieces.invariant.0 c.read.new.out.items c.deref.result.now c.deref.ensures.value)
-    c.in_ok-write_entries.ensures.written c.clear.ensures.items in
+    let more = poured_more (flat_map spelling) c.pieces.invariant.0 _ _ _ _ _ _ c.pieces.messages c.read.new.self.splitter c.read.new.self.reads c.pieces.whole.items c.read.new.out.items c.args.reads c.pieces.count
+    (flat_map spelling c.deref.result.now) p (flat_more c.pieces.invariant.0 c.read.new.out.items c.deref.result.now c.deref.ensures.value) c.in_ok-write_entries.ensures.written
+    c.clear.new.self.items (rw c.if-ended.false at c.in_ok-ended.ensures.went) c.clear.ensures.items in
     let len : c.len.result ≡ length c.read.new.out.items = omega (arith, c.len.ensures, c.read.new.out.ok.0) in
     (c.pieces.invariant.0 ++ c.read.new.out.items, rw len more)
-
-pub returns-in_err-messages : goal.returns-in_err-messages
-returns-in_err-messages g c =
-    let r = c.from_residual in
-    record {
-      all = unless_ok _ r.result r.ensures.0;
-      end = unless_ok _ r.result r.ensures.0;
-      front = on_err r.result (front_nothing (flat_map spelling) (g.R.Read.remaining c.args.source.now) (g.W.Write.contents c.args.out.now));
-      no_from_line = λ e. absurd (not_begun r.result OutOfMemory r.ensures.1 tt e);
-      spent = λ e. absurd (not_spent r.result OutOfMemory r.ensures.1 tt e);
-      causes = if_err _ r.result OutOfMemory r.ensures.1 (inl (inr (inr (inr refl))));
-      budget = read_nothing (g.R.Read.remaining c.args.source.now) (65536 * c.args.reads);
-    }
 
 pub pieces-smaller : goal.pieces-smaller
 pieces-smaller g c = went_on c.in_ok-ended.ended _ _ c.pieces.messages _ _ _ _ c.if-ended.false c.in_ok-ended.ensures.went

@@ -6,7 +6,7 @@ use Rattle.std.proofs.Math.Seq.{drop-nil}
 use Rattle.std.proofs.lemmas.List.{append-nil, take_all}
 use Rattle.maildir_run.specs.declared.planner.Step.{Step}
 use Rattle.maildir_run.specs.declared.planner.Step.TheVariants.{Remove, Write, Place}
-use Rattle.maildir_run.proofs.Tasks.{ran_none, ran_ok, ran_more, ran_until, next_step, other_steps, next_count}
+use Rattle.maildir_run.proofs.Tasks.{ran_none, ran_then, ran_before, ran_err, next_step, other_steps, next_count}
 use Rattle.maildir_run.proofs.sweep.remove_planned.Goals as goal
 use Rattle.maildir_run.proofs.sweep.remove_planned.Goals.{in-Remove+in_ok-remove, in_default}
 
@@ -16,16 +16,16 @@ none_removed (Write i) other = ap (λ (ms : List Message). map (λ (m : Message)
 none_removed (Place i) other = ap (λ (ms : List Message). map (λ (m : Message). Do (Placing m.target.base m.target.place m.target.name)) (take 1 ms)) (drop-nil i)
 
 pub loop-step-init : goal.loop-step-init
-loop-step-init g c = record { ran = ran_none (tt {0}) _ _; count = refl; few = omega arith }
+loop-step-init g c = record { ran = ran_none _ _; count = refl; few = omega arith }
 
 pub returns-clause-ran : goal.returns-clause-ran
-returns-clause-ran g c = ran_ok (tt {0}) _ _ _ _ _ _ (rw (take_all _ _ c.loop-step-test.false) at c.loop-step.invariant.ran)
+returns-clause-ran g c = rw (take_all _ _ c.loop-step-test.false) at c.loop-step.invariant.ran
 
 pub returns-in_err-remove-clause-ran : goal.returns-in_err-remove-clause-ran
 returns-in_err-remove-clause-ran g c =
     let tasks = ap (task_of []) c.in-Remove.is ∙ ap (λ n. Do (Removing n) ∷ []) (sym c.as_str.ensures) in
-    ran_until _ _ _ _ _ _ _ _ _ _ _ _ (other_steps (task_of []) c.args.steps.now c.loop-step.step-index c.step-item.result c.loop-step-test.true c.step-item.is _ tasks)
-    c.from_residual.ensures.1 c.loop-step.invariant.ran c.in_err-remove.ensures.ran
+    rw (other_steps (task_of []) c.args.steps.now c.loop-step.step-index c.step-item.result c.loop-step-test.true c.step-item.is _ tasks)
+    (ran_err _ c.from_residual.ensures.1 (ran_then c.loop-step.invariant.ran (ran_before _ c.in_err-remove.ensures.ran)))
 
 pub loop-step-preserved : goal.loop-step-preserved
 loop-step-preserved g c =
@@ -36,7 +36,7 @@ loop-step-preserved g c =
       | in-Remove+in_ok-remove w ↦
           let tasks = ap (task_of []) w.in-Remove.is ∙ ap (λ n. Do (Removing n) ∷ []) (sym w.as_str.ensures) in
           rw (w.folder-is, w.calls-is, w.swept-is) (record {
-            ran = ran_more _ _ _ _ _ _ _ _ _ _ (next_step (task_of []) steps i c.step-item.result c.loop-step-test.true c.step-item.is _ tasks) before.ran w.in_ok-remove.ensures.ran;
+            ran = rw (next_step (task_of []) steps i c.step-item.result c.loop-step-test.true c.step-item.is _ tasks) (ran_then before.ran w.in_ok-remove.ensures.ran);
             count = next_count (task_of []) steps i c.step-item.result c.loop-step-test.true c.step-item.is _ tasks _ before.count;
             few = omega (arith, before.few);
           })

@@ -1,9 +1,10 @@
-use Rattle.std.proofs.Common.{[], map, string_bytes, refl, sym, ap, subst, ◌∙◌, inr}
+use Rattle.std.proofs.Common.{[], map, string_bytes, sym, ap, subst, ◌∙◌, inr}
 use Rattle.maildir_run.specs.Counting.{IsOfFolder}
-use Rattle.maildir_run.specs.Tasks.{seen, tasks_of}
+use Rattle.maildir_run.specs.Tasks.{tasks_of}
+use Rattle.maildir_run.specs.Parts.{seen}
 use Rattle.maildir_run.proofs.Faults.{if_err, unless_ok}
 use Rattle.maildir_run.proofs.Planned.{plan_sweeps}
-use Rattle.maildir_run.proofs.Tasks.{ran_none, ran_before, ran_err, ran_stop}
+use Rattle.maildir_run.proofs.Tasks.{ran_nothing, ran_err}
 use Rattle.maildir_run.proofs.sweep.sweep.Goals as goal
 
 pub returns-in_err-steps : goal.returns-in_err-steps
@@ -12,8 +13,7 @@ returns-in_err-steps g c =
     let fault = c.in_err-steps.field-0.0 in
     let at = seen g.F.Folder.honest g.F.Folder.quiet g.F.Folder.files g.F.Folder.may_leave g.F.Folder.calls g.F.Folder.failures in
     record {
-      ran = ran_err {A = Unit {0}} _ r.result _ _ _ _ _ r.ensures.1
-          (ran_before fault [] _ _ _ _ _ (ran_stop (tt {0}) fault _ [] _ _ _ _ refl (inr (inr (inr c.in_err-steps.ensures.refused))) (ran_none (tt {0}) (at c.args.folder.now) c.args.calls.now.made)));
+      ran = ran_err _ r.ensures.1 (ran_nothing fault (inr (inr (inr c.in_err-steps.ensures.refused))) _ (at c.args.folder.now) c.args.calls.now.made);
       count = unless_ok _ r.result r.ensures.0;
       causes = if_err _ r.result fault r.ensures.1 (subst IsOfFolder (sym c.in_err-steps.ensures.refused) tt);
     }

@@ -1,7 +1,7 @@
 use Rattle.std.proofs.Common.{◌≡◌, false, sym, ap, ◌∙◌, refl}
 use Rattle.std.specs.FinMap.{contains_key}
-use Rattle.maildir_run.proofs.Faults.{unless_ok}
-use Rattle.maildir_run.proofs.Tasks.{ran_err, ran_ok}
+use Rattle.maildir_run.proofs.Faults.{is_fault}
+use Rattle.maildir_run.proofs.Tasks.{ran_err}
 use Rattle.maildir_run.proofs.Bringing.{brought_refused, brought_one, brought_nothing}
 use Rattle.maildir_run.proofs.engine.Engine.deliver.Goals as goal
 use Rattle.maildir_run.proofs.engine.Engine.deliver.Goals.{then-not-contains+in_ok-bring, else-not-contains}
@@ -15,7 +15,7 @@ returns-in_err-bring-clause-brought g c = λ bodies named few.
     let is_there = contains_key c.args.self.now.there in
     let told = c.in_ok-target.ensures.next bodies named few in
     let off : is_there t.base ≡ false = ap is_there (sym c.as_str.ensures) ∙ sym c.contains.ensures ∙ c.if-not-contains.true in
-    brought_one is_there bodies c.args.body.now t told.0 _ _ _ _ _ _ _ _ off (ran_err _ _ _ _ _ _ _ c.from_residual-in_err-bring.ensures.1 c.in_err-bring.ensures.ran) told.1 (unless_ok _ c.from_residual-in_err-bring.result c.from_residual-in_err-bring.ensures.0)
+    brought_one is_there bodies c.args.body.now t told.0 _ _ _ off (ran_err _ c.from_residual-in_err-bring.ensures.1 c.in_err-bring.ensures.ran) told.1 (λ e. absurd (is_fault c.from_residual-in_err-bring.result c.from_residual-in_err-bring.ensures.0 e))
 
 pub returns-clause-brought : goal.returns-clause-brought
 returns-clause-brought g c = λ bodies named few.
@@ -25,7 +25,7 @@ returns-clause-brought g c = λ bodies named few.
     let test : is_there t.base ≡ c.contains.result = ap is_there (sym c.as_str.ensures) ∙ sym c.contains.ensures in
     elim c.if-not-contains.branch [
       | then-not-contains+in_ok-bring w ↦
-          rw (w.self-is, w.folder-is) (brought_one is_there bodies c.args.body.now t told.0 _ _ _ _ _ _ _ _ (test ∙ w.if-not-contains.true) (ran_ok _ _ _ _ _ _ _ w.in_ok-bring.ensures.ran) told.1 refl)
+          rw (w.self-is, w.folder-is) (brought_one is_there bodies c.args.body.now t told.0 _ _ _ (test ∙ w.if-not-contains.true) w.in_ok-bring.ensures.ran told.1 (λ e. refl))
       | else-not-contains w ↦
-          rw (w.self-is, w.folder-is) (brought_nothing is_there bodies c.args.body.now t told.0 _ _ _ _ _ (test ∙ w.if-not-contains.false) told.1)
+          rw (w.self-is, w.folder-is) (brought_nothing is_there bodies c.args.body.now t told.0 _ _ _ _ (test ∙ w.if-not-contains.false) told.1)
     ]

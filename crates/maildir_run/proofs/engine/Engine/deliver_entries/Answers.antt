@@ -8,6 +8,7 @@ pub loop-entry-init : goal.loop-entry-init
 loop-entry-init g c = record {
   brought = λ bodies named few. brought_none _ bodies _ _ _ _ named;
   there = refl;
+  swept = refl;
   count = omega arith;
 }
 
@@ -19,9 +20,9 @@ returns-in_err-deliver-clause-brought g c = λ bodies named few.
     let lt : i < length entries = c.loop-entry-test.true in
     let before = c.loop-entry.invariant in
     let first = before.brought bodies named few in
-    let then = rw (before.there, c.as_slice.ensures) at (c.in_err-deliver.ensures.brought (bodies ++ bodies_of (take i entries)) first.named (few_next entries i entry lt c.entry-item.is bodies few)) in
+    let then = rw (before.there, c.as_slice.ensures) at (c.in_err-deliver.ensures.brought (bodies ++ bodies_of (take i entries)) (first.named refl) (few_next entries i entry lt c.entry-item.is bodies few)) in
     rw (bodies_split entries i entry lt c.entry-item.is [])
-    (brought_before _ c.from_residual.result _ bodies _ (bodies_of (drop (i + 1) entries)) _ _ _ _ _ _ _ c.from_residual.ensures.1 (brought_then _ bodies _ _ _ _ _ _ _ _ _ _ _ _ _ _ first then))
+    (brought_before c.from_residual.result _ bodies _ (bodies_of (drop (i + 1) entries)) _ _ _ _ _ _ _ c.from_residual.ensures.1 (brought_then first then))
 
 pub loop-entry-preserved : goal.loop-entry-preserved
 loop-entry-preserved g c =
@@ -35,8 +36,9 @@ loop-entry-preserved g c =
     record {
       brought = λ bodies named few.
           let first = before.brought bodies named few in
-          let then = rw (before.there, c.as_slice.ensures) at (c.in_ok-deliver.ensures.brought (bodies ++ bodies_of (take i entries)) first.named (few_next entries i entry lt c.entry-item.is bodies few)) in
-          rw (bodies_next entries i entry lt c.entry-item.is []) (brought_then _ bodies _ _ _ _ _ _ _ _ _ _ _ _ _ _ first then);
+          let then = rw (before.there, c.as_slice.ensures) at (c.in_ok-deliver.ensures.brought (bodies ++ bodies_of (take i entries)) (first.named refl) (few_next entries i entry lt c.entry-item.is bodies few)) in
+          rw (bodies_next entries i entry lt c.entry-item.is []) (brought_then first then);
       there = c.in_ok-deliver.ensures.there ∙ before.there;
+      swept = c.in_ok-deliver.ensures.swept ∙ before.swept;
       count = omega arith;
     }

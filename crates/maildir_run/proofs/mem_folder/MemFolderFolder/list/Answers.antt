@@ -1,29 +1,23 @@
 use Rattle.std.proofs.Common.{rules}
-use Rattle.maildir_run.specs.Calls.{Listing}
-use Rattle.maildir_run.specs.MemFolder.{FollowsScript}
 use Rattle.maildir_run.proofs.Cuts.{listed_left}
 use Rattle.maildir_run.proofs.Followed.{follows_listed, never_cut}
 use Rattle.maildir_run.proofs.mem_folder.MemFolderFolder.list.Goals as goal
 
 pub returns-in_err-mode-clause-called : goal.returns-in_err-mode-clause-called
 returns-in_err-mode-clause-called c =
-    let follows : FollowsScript (Listing c.args.sub) c.args.self.now c.from_residual.result c.begin_call.new.self = search rules in
-    follows_listed c.args.sub c.args.self.now c.begin_call.new.self c.from_residual.result follows (search rules)
+    follows_listed c.args.sub c.args.self.now c.begin_call.new.self c.from_residual.result (search rules) (search rules)
 
 pub returns-clause-called : goal.returns-clause-called
 returns-clause-called c =
-    let follows : FollowsScript (Listing c.args.sub) c.args.self.now c.counted.result c.counted.new.self = search rules in
-    follows_listed c.args.sub c.args.self.now c.counted.new.self c.counted.result follows (search rules)
+    follows_listed c.args.sub c.args.self.now c.counted.new.self c.counted.result (search rules) (search rules)
 
 pub returns-in_err-mode-clause-left : goal.returns-in_err-mode-clause-left
 returns-in_err-mode-clause-left c =
-    let follows : FollowsScript (Listing c.args.sub) c.args.self.now c.from_residual.result c.begin_call.new.self = search rules in
-    listed_left c.args.sub _ c.from_residual.result _ (follows_listed c.args.sub c.args.self.now c.begin_call.new.self c.from_residual.result follows (search rules))
+    listed_left c.args.sub _ c.from_residual.result _ (follows_listed c.args.sub c.args.self.now c.begin_call.new.self c.from_residual.result (search rules) (search rules))
 
 pub returns-clause-left : goal.returns-clause-left
 returns-clause-left c =
-    let follows : FollowsScript (Listing c.args.sub) c.args.self.now c.counted.result c.counted.new.self = search rules in
-    listed_left c.args.sub _ c.counted.result _ (follows_listed c.args.sub c.args.self.now c.counted.new.self c.counted.result follows (search rules))
+    listed_left c.args.sub _ c.counted.result _ (follows_listed c.args.sub c.args.self.now c.counted.new.self c.counted.result (search rules) (search rules))
 
 pub returns-in_err-mode-clause-alone : goal.returns-in_err-mode-clause-alone
 returns-in_err-mode-clause-alone c = λ quiet. absurd (never_cut c.args.self.now _ _ quiet c.in_err-mode.ensures.err)

@@ -1,29 +1,24 @@
 use Rattle.std.proofs.Common.{rules}
 use Rattle.maildir_run.specs.Calls.{Removing}
-use Rattle.maildir_run.specs.MemFolder.{FollowsScript}
 use Rattle.maildir_run.proofs.Cuts.{called_left}
 use Rattle.maildir_run.proofs.Followed.{follows_called, never_cut}
 use Rattle.maildir_run.proofs.mem_folder.MemFolderFolder.remove.Goals as goal
 
 pub returns-in_err-mode-clause-called : goal.returns-in_err-mode-clause-called
 returns-in_err-mode-clause-called c =
-    let follows : FollowsScript (Removing c.args.name.now) c.args.self.now c.from_residual.result c.begin_call.new.self = search rules in
-    follows_called (Removing c.args.name.now) c.args.self.now c.begin_call.new.self c.from_residual.result follows
+    follows_called (Removing c.args.name.now) c.args.self.now c.begin_call.new.self c.from_residual.result (search rules)
 
 pub returns-clause-called : goal.returns-clause-called
 returns-clause-called c =
-    let follows : FollowsScript (Removing c.args.name.now) c.args.self.now c.counted.result c.counted.new.self = search rules in
-    follows_called (Removing c.args.name.now) c.args.self.now c.counted.new.self c.counted.result follows
+    follows_called (Removing c.args.name.now) c.args.self.now c.counted.new.self c.counted.result (search rules)
 
 pub returns-in_err-mode-clause-left : goal.returns-in_err-mode-clause-left
 returns-in_err-mode-clause-left c =
-    let follows : FollowsScript (Removing c.args.name.now) c.args.self.now c.from_residual.result c.begin_call.new.self = search rules in
-    called_left (Removing c.args.name.now) _ c.from_residual.result _ (follows_called (Removing c.args.name.now) c.args.self.now c.begin_call.new.self c.from_residual.result follows)
+    called_left (Removing c.args.name.now) _ c.from_residual.result _ (follows_called (Removing c.args.name.now) c.args.self.now c.begin_call.new.self c.from_residual.result (search rules))
 
 pub returns-clause-left : goal.returns-clause-left
 returns-clause-left c =
-    let follows : FollowsScript (Removing c.args.name.now) c.args.self.now c.counted.result c.counted.new.self = search rules in
-    called_left (Removing c.args.name.now) _ c.counted.result _ (follows_called (Removing c.args.name.now) c.args.self.now c.counted.new.self c.counted.result follows)
+    called_left (Removing c.args.name.now) _ c.counted.result _ (follows_called (Removing c.args.name.now) c.args.self.now c.counted.new.self c.counted.result (search rules))
 
 pub returns-in_err-mode-clause-alone : goal.returns-in_err-mode-clause-alone
 returns-in_err-mode-clause-alone c = λ quiet. absurd (never_cut c.args.self.now _ _ quiet c.in_err-mode.ensures.err)

@@ -1,10 +1,10 @@
-use Rattle.std.proofs.Common.{◌≡◌, ℕ, suc, ◌<◌, false, cond, List, [], ◌++◌, length, Ok}
+use Rattle.std.proofs.Common.{◌≡◌, ℕ, suc, ◌<◌, false, cond, List, [], ◌++◌, length, None}
 use Rattle.std.specs.FinMap.{contains_key}
 use Rattle.mbox_text.specs.declared.entry.Entry.{Entry}
 use Rattle.maildir_run.specs.Given.{IsGiven}
-use Rattle.maildir_run.specs.Tasks.{Brought, seen}
+use Rattle.maildir_run.specs.Parts.{Brought, seen}
 use Rattle.maildir_run.specs.Texts.{bodies_of}
-use Rattle.maildir_run.proofs.converting.convert.Given as goal
+use Rattle.maildir_run.proofs.converting.run.Given as goal
 
 abbrev pub invariant-pieces : goal.invariant-pieces
 invariant-pieces g l =
@@ -16,7 +16,8 @@ invariant-pieces g l =
       begun : l.ended ≡ false → 0 < length (given ++ l.whole.items);
       count : l.engine.messages ≡ length given;
       there : l.engine.there ≡ l.initial.engine.there;
-      brought : Brought {A = Unit {0}} (contains_key l.initial.engine.there) [] (bodies_of given) (at l.initial.folder) (at l.folder) l.initial.engine.calls.made l.engine.calls.made l.initial.engine.placed l.engine.placed l.engine.namer (Ok tt);
+      swept : l.engine.swept ≡ l.initial.engine.swept;
+      brought : Brought (contains_key l.initial.engine.there) [] (bodies_of given) (at l.initial.folder) (at l.folder) l.initial.engine.calls.made l.engine.calls.made l.initial.engine.placed l.engine.placed l.engine.namer None;
     }
 
 abbrev pub decreases-pieces : goal.decreases-pieces
