@@ -125,7 +125,7 @@ all_acted_then_changed (a ∷ xs) name change s ours =
     all_acted_then_changed xs name change (acted a s) ours ∙ ap (all_acted xs) (acted_then_changed a name change s ours)
 
 -- two files of one name, one after the other
-again : {X : Type 0} (here : Bool) (x y : Option X) (z : Option X) → cond here x (cond here y z) ≡ cond here x z
+pub again : {X : Type 0} (here : Bool) (x y : Option X) (z : Option X) → cond here x (cond here y z) ≡ cond here x z
 again true x y z = refl
 again false x y z = refl
 

@@ -5,3 +5,4 @@ pub mod Misread
 pub mod MemSystem
 pub mod Faults
 pub mod Paths
+pub mod PowerCuts

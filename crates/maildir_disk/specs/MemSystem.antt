@@ -1,8 +1,8 @@
 -- What a Maildir in memory with a clock shows.
-use Rattle.std.specs.Prelude.{◌≡◌, ℕ, List, Some, IsFalse}
-use Rattle.std.specs.FinMap.{get}
+use Rattle.std.specs.Prelude.{◌≡◌, ℕ, List}
 use Rattle.std.specs.Time.{system_time_nanos}
 use Rattle.std.specs.String.{string_bytes}
+use Rattle.maildir_run.specs.Files.{Files}
 use Rattle.maildir_run.specs.MemFolder.{files_of}
 use Rattle.maildir_disk.specs.declared.mem_system.MemSystem.{MemSystem}
 use Rattle.maildir_disk.specs.declared.mem_system.MemFile.{MemFile}
@@ -16,6 +16,6 @@ world_of system = record { files = files_of system.folder; time = system_time_na
 abbrev pub opened_as : MemFile → List ℕ
 opened_as file = string_bytes file.name
 
--- nothing was written since the last sync, and the file of this name in `tmp` holds these bytes
-abbrev pub IsKept : MemSystem → List ℕ → List ℕ → Type 0
-IsKept system name held = IsFalse system.unsynced × (get (files_of system.folder).tmp name ≡ Some held)
+-- a cut leaves the files as they are
+abbrev pub all_is_left : MemSystem → Files → Type 0
+all_is_left system left = left ≡ files_of system.folder

@@ -22,3 +22,7 @@ folder_of_place place.Cur = Cur
 -- the path of the Maildir that a folder on the disk was opened at
 abbrev pub root_of : {R : Type 0} → DiskFolder (Host R) → List ℕ
 root_of folder = string_bytes folder.system.root
+
+-- the system that a folder on the disk is on
+abbrev pub system_of : {S : Type 0} → DiskFolder S → S
+system_of folder = folder.system

@@ -35,10 +35,6 @@ Appended name bytes old (Ok n) new = Comes (changed name (λ held. held ++ take 
 Appended name bytes old (Err error) new =
     Acts old new ⊎ ((error_kind error ≡ Interrupted → ⊥) × (held : List ℕ) × Comes (changed name (λ _. held)) old new)
 
--- what a name holds in `tmp` is kept
-abbrev pub KeepsHeld : (List ℕ → List ℕ → Type 0) → List ℕ → Files → Type 0
-KeepsHeld kept name s = (held : List ℕ) → get s.tmp name ≡ Some held → kept name held
-
 -- The file that was made holds these bytes, as if they had come into it when it was made. Under a name that is no converter's other programs may make files of their own, and nothing is known.
 abbrev pub Written : List ℕ → List ℕ → World → World → Type 0
 Written name bytes old new = Comes (effect (Writing name bytes)) old new ⊎ (IsFalse (is_converter_name name) × Acts old new)

@@ -1,10 +1,11 @@
 // A Maildir on a file system, as a folder of the engine.
-ghost use Rattle.std.specs.Prelude.{◌≡◌, OnOk};
+ghost use Rattle.std.specs.Prelude.{◌≡◌, List, All, OnOk};
 ghost use Rattle.maildir_run.specs.Calls.{Called, CountsFailure, GoesUp, IsNotAbsent};
 ghost use Rattle.maildir_run.specs.Calls.Call.{Writing};
 ghost use Rattle.maildir_run.specs.Cuts.{Left, LeavesOf};
+ghost use Rattle.maildir_run.specs.Delivery.{AreNamed, IsHome, Message};
+ghost use Rattle.maildir_disk.specs.PowerCuts.{AreIntact, LeavesOthers, Survive};
 ghost use Rattle.maildir_disk.specs.World.{Acts};
-ghost use Rattle.maildir_disk.specs.Writing.{KeepsHeld};
 
 use crate::faults::answer_of;
 use crate::one_moment::names_of_one_moment;
@@ -47,6 +48,10 @@ impl<S: System> DiskFolder<S> {
     pub fn sync(&mut self) -> Result<(), FolderFault>
         ensures honest { S.honest self.old.system → S.honest self.new.system }
         ensures acts { S.honest self.old.system → Acts (S.world self.old.system) (S.world self.new.system) }
+        ensures left { S.honest self.old.system → Left LeavesOthers (S.may_leave self.old.system) (S.may_leave self.new.system) }
+        ensures rooted { S.honest self.old.system → OnOk result (S.rooted self.new.system) }
+        ensures survive { S.honest self.old.system → (ms : List Message) → AreNamed ms → All (IsHome (S.world self.old.system).files) ms →
+            AreIntact ms (S.may_leave self.old.system) → OnOk result (Survive ms (S.may_leave self.new.system)) }
         ensures not_absent { IsNotAbsent result }
     {
         answer_of(self.sync_all())
@@ -55,6 +60,10 @@ impl<S: System> DiskFolder<S> {
     fn sync_all(&mut self) -> io::Result<()>
         ensures honest { S.honest self.old.system → S.honest self.new.system }
         ensures acts { S.honest self.old.system → Acts (S.world self.old.system) (S.world self.new.system) }
+        ensures left { S.honest self.old.system → Left LeavesOthers (S.may_leave self.old.system) (S.may_leave self.new.system) }
+        ensures rooted { S.honest self.old.system → OnOk result (S.rooted self.new.system) }
+        ensures survive { S.honest self.old.system → (ms : List Message) → AreNamed ms → All (IsHome (S.world self.old.system).files) ms →
+            AreIntact ms (S.may_leave self.old.system) → OnOk result (Survive ms (S.may_leave self.new.system)) }
     {
         self.system.sync_folder(Place::New)?;
         self.system.sync_folder(Place::Cur)?;
@@ -79,8 +88,7 @@ impl<S: System> DiskFolder<S> {
 impl<S: System> Folder for DiskFolder<S> {
     ghost files = { λ folder. (S.world folder.system).files };
 
-    // nothing is said of power cuts yet
-    ghost may_leave = { λ _ _. ⊥ };
+    ghost may_leave = { λ folder. S.may_leave folder.system };
 
     ghost honest = { λ folder. S.honest folder.system };
 
@@ -99,9 +107,8 @@ impl<S: System> Folder for DiskFolder<S> {
         ensures honest { S.honest self.old.system → S.honest self.new.system }
         ensures called { S.honest self.old.system → Called (Writing name.now bytes.now)
             (S.world self.old.system).files result (S.world self.new.system).files }
-        ensures left { S.honest self.old.system → Left (λ before now. LeavesOf (Writing name.now bytes.now) before result now) (λ _. ⊥) (λ _. ⊥) }
-        ensures kept { S.honest self.old.system →
-            OnOk result (KeepsHeld (S.kept self.new.system) name.now (S.world self.new.system).files) }
+        ensures left { S.honest self.old.system → Left (λ before now. LeavesOf (Writing name.now bytes.now) before result now)
+            (S.may_leave self.old.system) (S.may_leave self.new.system) }
         ensures counted { GoesUp self.old.calls self.new.calls }
         ensures cause { CountsFailure result self.old.failures self.new.failures }
         ensures not_absent { IsNotAbsent result }

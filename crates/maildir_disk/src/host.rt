@@ -94,7 +94,9 @@ impl<'a, R: Files + Clock> System for Host<'a, R> {
 
     ghost name_of = { λ _. [] };
 
-    ghost kept = { λ _ _ _. ⊥ };
+    ghost may_leave = { λ _ _. ⊥ };
+
+    ghost rooted = { λ _. ⊥ };
 
     ghost honest = { λ _. ⊥ };
 

@@ -5,6 +5,7 @@
 //! system in memory that does.
 #![tactic(auto)]
 
+pub mod cuts;
 mod disk;
 mod disk_folder;
 mod faults;

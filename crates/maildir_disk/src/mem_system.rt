@@ -1,9 +1,11 @@
 // The system calls of a Maildir in memory.
 ghost use Rattle.std.specs.Prelude.{◌≡◌, ◌≤◌, ◌++◌, IfOk};
 ghost use Rattle.std.specs.Time.{system_time_nanos};
+ghost use Rattle.maildir_run.specs.Cuts.{Left};
 ghost use Rattle.maildir_run.specs.MemFolder.{IsQuiet, files_of};
 ghost use Rattle.maildir_disk.specs.World.{Acts, IsOfChange, Passes};
-ghost use Rattle.maildir_disk.specs.MemSystem.{IsKept, opened_as, world_of};
+ghost use Rattle.maildir_disk.specs.MemSystem.{all_is_left, opened_as, world_of};
+ghost use Rattle.maildir_disk.specs.PowerCuts.{LeavesOthers};
 
 use crate::system::System;
 use maildir_name::Place;
@@ -44,7 +46,6 @@ pub struct MemSystem {
     // of each of the three folders
     stamp: SystemTime,
     turns: Vec<Vec<Act>>,
-    unsynced: bool,
 }
 
 impl MemSystem {
@@ -69,7 +70,6 @@ impl MemSystem {
             instant,
             stamp: clock,
             turns,
-            unsynced: false,
         }
     }
 
@@ -104,6 +104,7 @@ impl MemSystem {
         ensures honest { IsQuiet self.old.folder → IsQuiet self.new.folder }
         ensures acts { Acts (world_of self.old) (world_of self.new) }
         ensures passes { (sub : Sub) → Passes sub (world_of self.old) (world_of self.new) }
+        ensures left { Left LeavesOthers (all_is_left self.old) (all_is_left self.new) }
     {
         self.pass(Duration::from_micros(CALL_MICROS))
             .map_err(error_of)
@@ -131,7 +132,7 @@ impl MemSystem {
 }
 
 impl System for MemSystem {
-    ghost use Rattle.maildir_disk.specs.MemSystem.{IsKept, opened_as, world_of};
+    ghost use Rattle.maildir_disk.specs.MemSystem.{all_is_left, opened_as, world_of};
 
     type File = MemFile;
 
@@ -139,7 +140,9 @@ impl System for MemSystem {
 
     ghost name_of = { opened_as };
 
-    ghost kept = { IsKept };
+    ghost may_leave = { all_is_left };
+
+    ghost rooted = { λ _. Unit {0} };
 
     ghost honest = { λ system. IsQuiet system.folder };
 
@@ -183,7 +186,6 @@ impl System for MemSystem {
         };
         self.pass_shortly()?;
         self.stamp = stamp_at(self.clock, self.stamps);
-        self.unsynced = true;
         match self.folder.write(name, &[]) {
             Ok(()) => Ok(file),
             Err(fault) => Err(error_of(fault)),
@@ -197,7 +199,6 @@ impl System for MemSystem {
             return Ok(taken);
         };
         let holds = joined(self.alloc, held, &bytes[..taken])?;
-        self.unsynced = true;
         match self.folder.write(file.name.as_str(), &holds) {
             Ok(()) => Ok(taken),
             Err(fault) => Err(error_of(fault)),
@@ -205,9 +206,7 @@ impl System for MemSystem {
     }
 
     fn sync_file(&mut self, _file: &MemFile) -> io::Result<()> {
-        self.pass_shortly()?;
-        self.unsynced = false;
-        Ok(())
+        self.pass_shortly()
     }
 
     fn rename(&mut self, name: &str, place: Place, target: &str) -> io::Result<()> {

@@ -3,8 +3,10 @@ ghost use Rattle.std.specs.Prelude.{◌≡◌};
 ghost use Rattle.std.specs.Duration.{as_nanos};
 ghost use Rattle.std.specs.Time.{system_time_nanos};
 ghost use Rattle.maildir_run.specs.Calls.{Listed};
+ghost use Rattle.maildir_run.specs.Cuts.{Left};
 ghost use Rattle.maildir_disk.specs.World.{margin_of};
 ghost use Rattle.maildir_disk.specs.Look.{IsAged, Looked, WatchedOr};
+ghost use Rattle.maildir_disk.specs.PowerCuts.{LeavesOthers};
 
 use crate::system::System;
 use maildir_run::Sub;
@@ -33,6 +35,7 @@ pub(crate) fn names_of_one_moment<S: System>(system: &mut S, sub: Sub) -> io::Re
     ensures honest { S.honest system.old → S.honest system.new }
     ensures listed { S.honest system.old →
         Listed sub (S.world system.old).files result (S.world system.new).files }
+    ensures left { S.honest system.old → Left LeavesOthers (S.may_leave system.old) (S.may_leave system.new) }
 {
     let patience = Duration::from_secs(PATIENCE_SECS);
     let start = system.instant()?;
@@ -61,6 +64,7 @@ enum Look {
 fn take_names<S: System>(system: &mut S, sub: Sub) -> io::Result<Look>
     ensures honest { S.honest system.old → S.honest system.new }
     ensures looked { S.honest system.old → Looked sub (S.world system.old) result (S.world system.new) }
+    ensures left { S.honest system.old → Left LeavesOthers (S.may_leave system.old) (S.may_leave system.new) }
 {
     let stamp = system.stamp(sub)?;
     let now = system.now()?;
@@ -91,6 +95,7 @@ fn watched_names<S: System>(
     ensures honest { S.honest system.old → S.honest system.new }
     ensures watched { S.honest system.old →
         WatchedOr sub (system_time_nanos stamp) (S.world system.old) result (S.world system.new) }
+    ensures left { S.honest system.old → Left LeavesOthers (S.may_leave system.old) (S.may_leave system.new) }
 {
     let names = system.names(sub)?;
     let after = system.stamp(sub)?;

@@ -1,9 +1,13 @@
 // The system calls that a Maildir needs.
-ghost use Rattle.std.specs.Prelude.{◌≡◌, ◌≤◌, ℕ, List, length, IfOk, OnOk};
+ghost use Rattle.std.specs.Prelude.{◌≡◌, ◌≤◌, ℕ, List, [], length, IfOk, OnOk};
 ghost use Rattle.std.specs.Time.{system_time_nanos};
 ghost use Rattle.maildir_run.specs.Calls.{Called, names_of};
-ghost use Rattle.maildir_run.specs.Calls.Call.{Placing, Removing};
-ghost use Rattle.maildir_disk.specs.Writing.{Created, Appended, KeepsHeld};
+ghost use Rattle.maildir_run.specs.Calls.Call.{Writing, Placing, Removing};
+ghost use Rattle.maildir_run.specs.Cuts.{Leaves, Left};
+ghost use Rattle.maildir_run.specs.Files.{Files};
+ghost use Rattle.maildir_disk.specs.Paths.{folder_of_place};
+ghost use Rattle.maildir_disk.specs.PowerCuts.{LeavesOthers, KeepsHeld, KeepsNames};
+ghost use Rattle.maildir_disk.specs.Writing.{Created, Appended};
 ghost use Rattle.maildir_disk.specs.World.{World, Acts, Passes, Tells, IsTimeOf, Reads};
 
 use maildir_name::Place;
@@ -22,8 +26,12 @@ pub trait System {
     /// Under this name of `tmp` the file was opened.
     ghost name_of: { Self.File → List ℕ };
 
-    /// The file of this name in `tmp` holds these bytes, and a power cut leaves them in it.
-    ghost kept: { Self → List ℕ → List ℕ → Type 0 };
+    /// What a power cut now may leave: in `new` and `cur` the files that are found then, and in `tmp` what each of its
+    /// files holds, wherever it is found.
+    ghost may_leave: { Self → Files → Type 0 };
+
+    /// A power cut leaves the Maildir and its three folders.
+    ghost rooted: { Self → Type 0 };
 
     /// Its calls do what their contracts say.
     ghost honest: { Self → Type 0 };
@@ -33,37 +41,43 @@ pub trait System {
         ensures honest { honest self.old → honest self.new }
         ensures passes { honest self.old → Passes sub (world self.old) (world self.new) }
         ensures names { honest self.old →
-            IfOk result (λ names. Reads sub (world self.old) (names_of names) (world self.new)) };
+            IfOk result (λ names. Reads sub (world self.old) (names_of names) (world self.new)) }
+        ensures left { honest self.old → Left LeavesOthers (may_leave self.old) (may_leave self.new) };
 
     /// The modification time of a folder.
     fn stamp(&mut self, sub: Sub) -> io::Result<SystemTime>
         ensures honest { honest self.old → honest self.new }
         ensures passes { honest self.old → Passes sub (world self.old) (world self.new) }
         ensures stamp { honest self.old →
-            IfOk result (λ stamp. Tells sub (world self.old) (system_time_nanos stamp) (world self.new)) };
+            IfOk result (λ stamp. Tells sub (world self.old) (system_time_nanos stamp) (world self.new)) }
+        ensures left { honest self.old → Left LeavesOthers (may_leave self.old) (may_leave self.new) };
 
     /// The wall clock.
     fn now(&mut self) -> io::Result<SystemTime>
         ensures honest { honest self.old → honest self.new }
         ensures acts { honest self.old → Acts (world self.old) (world self.new) }
         ensures now { honest self.old →
-            IfOk result (λ now. IsTimeOf (world self.old) (system_time_nanos now) (world self.new)) };
+            IfOk result (λ now. IsTimeOf (world self.old) (system_time_nanos now) (world self.new)) }
+        ensures left { honest self.old → Left LeavesOthers (may_leave self.old) (may_leave self.new) };
 
     /// The clock by which patience is measured, and which nobody sets.
     fn instant(&mut self) -> io::Result<Instant>
         ensures honest { honest self.old → honest self.new }
-        ensures acts { honest self.old → Acts (world self.old) (world self.new) };
+        ensures acts { honest self.old → Acts (world self.old) (world self.new) }
+        ensures left { honest self.old → Left LeavesOthers (may_leave self.old) (may_leave self.new) };
 
     /// Waits.
     fn sleep(&mut self, pause: Duration)
         ensures honest { honest self.old → honest self.new }
-        ensures acts { honest self.old → Acts (world self.old) (world self.new) };
+        ensures acts { honest self.old → Acts (world self.old) (world self.new) }
+        ensures left { honest self.old → Left LeavesOthers (may_leave self.old) (may_leave self.new) };
 
     /// Makes a file of `tmp`, or empties it where it is there, and opens it for writing.
     fn create(&mut self, name: &str) -> io::Result<Self::File>
         ensures honest { honest self.old → honest self.new }
         ensures name { honest self.old → IfOk result (λ file. name_of file ≡ name.now) }
-        ensures created { honest self.old → Created name.now (world self.old) result (world self.new) };
+        ensures created { honest self.old → Created name.now (world self.old) result (world self.new) }
+        ensures left { honest self.old → Left (Leaves (Writing name.now [])) (may_leave self.old) (may_leave self.new) };
 
     /// Appends a front of the bytes, and answers how many.
     fn append(&mut self, file: &mut Self::File, bytes: &[u8]) -> io::Result<usize>
@@ -71,34 +85,43 @@ pub trait System {
         ensures honest { honest self.old → honest self.new }
         ensures name { name_of file.new ≡ name_of file.old }
         ensures appended { honest self.old →
-            Appended (name_of file.old) bytes.now (world self.old) result (world self.new) };
+            Appended (name_of file.old) bytes.now (world self.old) result (world self.new) }
+        ensures left { honest self.old → Left (Leaves (Writing (name_of file.old) [])) (may_leave self.old) (may_leave self.new) };
 
     /// Asks the system to keep what the file holds.
     fn sync_file(&mut self, file: &Self::File) -> io::Result<()>
         ensures honest { honest self.old → honest self.new }
         ensures acts { honest self.old → Acts (world self.old) (world self.new) }
         ensures kept { honest self.old →
-            OnOk result (KeepsHeld (kept self.new) (name_of file.now) (world self.new).files) };
+            OnOk result (KeepsHeld (name_of file.now) (world self.new).files (may_leave self.new)) }
+        ensures left { honest self.old → Left LeavesOthers (may_leave self.old) (may_leave self.new) };
 
     /// Moves a file out of `tmp`, by one rename. The error is of the kind `NotFound` only where no file was there.
     fn rename(&mut self, name: &str, place: Place, target: &str) -> io::Result<()>
         ensures honest { honest self.old → honest self.new }
         ensures called { honest self.old →
-            Called (Placing name.now place target.now) (world self.old).files result (world self.new).files };
+            Called (Placing name.now place target.now) (world self.old).files result (world self.new).files }
+        ensures left { honest self.old → Left (Leaves (Placing name.now place target.now)) (may_leave self.old) (may_leave self.new) };
 
     /// Removes a file of `tmp`. Ok also where there was none.
     fn unlink(&mut self, name: &str) -> io::Result<()>
         ensures honest { honest self.old → honest self.new }
         ensures called { honest self.old →
-            Called (Removing name.now) (world self.old).files result (world self.new).files };
+            Called (Removing name.now) (world self.old).files result (world self.new).files }
+        ensures left { honest self.old → Left (Leaves (Removing name.now)) (may_leave self.old) (may_leave self.new) };
 
     /// Asks the system to keep the names in `new` or `cur` as they are.
     fn sync_folder(&mut self, place: Place) -> io::Result<()>
         ensures honest { honest self.old → honest self.new }
-        ensures acts { honest self.old → Acts (world self.old) (world self.new) };
+        ensures acts { honest self.old → Acts (world self.old) (world self.new) }
+        ensures left { honest self.old → Left LeavesOthers (may_leave self.old) (may_leave self.new) }
+        ensures names { honest self.old → OnOk result (Left (λ before left. KeepsNames (folder_of_place place) (world self.old).files before (world self.new).files left)
+            (may_leave self.old) (may_leave self.new)) };
 
-    /// Asks the system to keep the Maildir's three folders, and the Maildir.
+    /// Asks the system to keep the Maildir and its three folders.
     fn sync_root(&mut self) -> io::Result<()>
         ensures honest { honest self.old → honest self.new }
-        ensures acts { honest self.old → Acts (world self.old) (world self.new) };
+        ensures acts { honest self.old → Acts (world self.old) (world self.new) }
+        ensures left { honest self.old → Left LeavesOthers (may_leave self.old) (may_leave self.new) }
+        ensures rooted { honest self.old → OnOk result (rooted self.new) };
 }

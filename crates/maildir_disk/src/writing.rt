@@ -1,8 +1,7 @@
 // A file of `tmp`, written and kept.
-ghost use Rattle.std.specs.Prelude.{OnOk};
 ghost use Rattle.maildir_run.specs.Calls.{Called};
 ghost use Rattle.maildir_run.specs.Calls.Call.{Writing};
-ghost use Rattle.maildir_disk.specs.Writing.{KeepsHeld};
+ghost use Rattle.maildir_run.specs.Cuts.{Left, LeavesOf};
 
 use crate::system::System;
 use std::io;
@@ -14,8 +13,8 @@ pub(crate) fn write_synced<S: System>(system: &mut S, name: &str, bytes: &[u8]) 
     ensures honest { S.honest system.old → S.honest system.new }
     ensures called { S.honest system.old →
         Called (Writing name.now bytes.now) (S.world system.old).files result (S.world system.new).files }
-    ensures kept { S.honest system.old →
-        OnOk result (KeepsHeld (S.kept system.new) name.now (S.world system.new).files) }
+    ensures left { S.honest system.old → Left (λ before now. LeavesOf (Writing name.now bytes.now) before result now)
+        (S.may_leave system.old) (S.may_leave system.new) }
 {
     let mut file = system.create(name)?;
     let mut at = 0;

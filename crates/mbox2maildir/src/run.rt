@@ -1,18 +1,23 @@
 // The program's work: its words, its streams and its status.
-ghost use Rattle.std.specs.Prelude.{◌≡◌, ◌⊎◌, ◌↔◌, ◌++◌, ◌+◌, ◌*◌, ◌-◌, ◌^◌, min, max, map, codes, length, string_bytes, IfErr, IfSome, IsNone, IsSome, OnErr, OnOk};
+ghost use Rattle.std.specs.Prelude.{◌≡◌, ◌⊎◌, ◌↔◌, ℕ, List, All, ◌<◌, ◌++◌, ◌+◌, ◌*◌, ◌-◌, ◌^◌, min, max, map, codes, length, string_bytes, IfErr, IfSome, IsNone, IsSome, OnErr, OnOk};
 ghost use Rattle.std.specs.Io.KnownBytes.{Appends, IsAtEnd, Keeps};
 ghost use Rattle.std.specs.List.{flat_map};
 ghost use Rattle.mbox_text.specs.Spelling.{spelling};
+ghost use Rattle.maildir_run.specs.Delivery.{IsSoundAt, Message};
 ghost use Rattle.maildir_run.specs.Listing.{listing as listing_of};
 ghost use Rattle.maildir_run.specs.Output.{GivesFront};
+ghost use Rattle.maildir_run.specs.Runs.{Possible};
+ghost use Rattle.maildir_run.specs.Texts.{MessagesOf};
+ghost use Rattle.maildir_disk.specs.Paths.{system_of};
+ghost use Rattle.maildir_disk.specs.PowerCuts.{AreIntact, AreSafe};
 ghost use Rattle.mbox2maildir.specs.Report.{PrintsReports, report_line};
 ghost use Rattle.mbox2maildir.specs.Words.{AreOfAForm};
 ghost use Rattle.mbox2maildir.specs.Written.{WritesAll};
 
 use crate::command::Command;
 use crate::fault::Fault;
-use maildir_disk::{DiskFolder, Host};
-use maildir_run::{Report, RunFault, convert, list_text, rewrite};
+use maildir_disk::{DiskFolder, Host, System};
+use maildir_run::{Folder, Report, RunFault, convert, list_text, rewrite};
 use std::alloc::Global;
 use std::fmt::Display;
 use std::fs::File;
@@ -177,15 +182,26 @@ fn deliver_sources<R: Files<File = File> + Clock, I: Read, W: Write>(
 }
 
 // Delivers the messages of one source, by a run of its own, syncs the Maildir and then prints the run's line at once:
-// each line that was printed stays true, whatever becomes of the next source.
-fn deliver<R: Files<File = File> + Clock, I: Read, W: Write>(
+// each line that was printed stays true, whatever becomes of the next source, and through a power cut.
+fn deliver<S: System, I: Read, W: Write>(
     alloc: Global,
-    folder: &mut DiskFolder<Host<'_, R>>,
+    folder: &mut DiskFolder<S>,
     source: &mut I,
     out: &mut W,
 ) -> Result<(), Fault>
     ensures printed { OnOk result (PrintsReports (W.contents out.old) (W.contents out.new) 1) }
     ensures end { OnOk result (IsAtEnd (I.remaining source.new)) }
+
+    // where the system does as assumed, and the folder began sound for the text
+    ensures honest { ⟦<DiskFolder<S> as Folder>⟧.honest folder.old → ⟦<DiskFolder<S> as Folder>⟧.honest folder.new }
+    ensures intact { let f = ⟦<DiskFolder<S> as Folder>⟧ in f.honest folder.old → (t : List ℕ) (ms : List Message) → length t < 2 ^ 63 →
+        Possible (I.remaining source.old) (I.remaining source.new) t → MessagesOf t ms → AreIntact ms (f.may_leave folder.old) → AreIntact ms (f.may_leave folder.new) }
+    ensures safe { let f = ⟦<DiskFolder<S> as Folder>⟧ in f.honest folder.old → (t : List ℕ) (ms : List Message) → length t < 2 ^ 63 →
+        Possible (I.remaining source.old) (I.remaining source.new) t → MessagesOf t ms → All (IsSoundAt (f.files folder.old)) ms → AreIntact ms (f.may_leave folder.old) →
+        OnOk result (AreSafe ms (f.files folder.new) (f.may_leave folder.new) (S.rooted (system_of folder.new))) }
+    ensures line { let f = ⟦<DiskFolder<S> as Folder>⟧ in f.honest folder.old → (t : List ℕ) (ms : List Message) → length t < 2 ^ 63 →
+        Possible (I.remaining source.old) (I.remaining source.new) t → MessagesOf t ms → All (IsSoundAt (f.files folder.old)) ms → AreIntact ms (f.may_leave folder.old) →
+        Keeps (W.contents out.old) (W.contents out.new) ⊎ AreSafe ms (f.files folder.new) (f.may_leave folder.new) (S.rooted (system_of folder.new)) }
 {
     let report = convert(alloc, folder, source, READS)?;
     folder

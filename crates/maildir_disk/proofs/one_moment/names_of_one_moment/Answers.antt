@@ -1,6 +1,8 @@
 use Rattle.std.proofs.Common.{subst, sym}
+use Rattle.maildir_run.specs.declared.folder.Sub.TheVariants.{Tmp}
 use Rattle.maildir_run.specs.Calls.{Failed, Listing}
-use Rattle.maildir_disk.proofs.Passing.{acts_on, listed_fault, failed_listing, lists_later}
+use Rattle.maildir_disk.proofs.Passing.{acts_none, acts_on, listed_fault, failed_listing, lists_later}
+use Rattle.maildir_disk.proofs.Lefts.{left_none, others_then}
 use Rattle.maildir_disk.proofs.one_moment.names_of_one_moment.Goals as goal
 use Rattle.maildir_disk.proofs.one_moment.names_of_one_moment.Goals.{else-loop-test, then-loop-test+in_ok-names+in-Again+in_ok-instant+then-ge}
 
@@ -29,6 +31,9 @@ returns-in_err-instant-clause-listed g c = λ honest.
     let still = c.take_names.ensures.honest kept.0 in
     listed_fault c.args.sub _ _ _ c.from_residual-in_err-instant.ensures.0 (acts_on _ _ _ (acts_on _ _ _ so_far looked) (c.instant-in-loop.ensures.acts still))
 
+pub loop-init : goal.loop-init
+loop-init g c = λ honest. (honest, acts_none _, left_none (Listing Tmp) _)
+
 pub loop-preserved : goal.loop-preserved
 loop-preserved g c = λ honest.
     let kept = c.loop.invariant honest in
@@ -36,7 +41,8 @@ loop-preserved g c = λ honest.
     let still = c.take_names.ensures.honest kept.0 in
     let timed = c.instant-in-loop.ensures.honest still in
     let told = acts_on _ _ _ looked (c.instant-in-loop.ensures.acts still) in
-    (c.sleep.ensures.honest timed, acts_on _ _ _ kept.1 (acts_on _ _ _ told (c.sleep.ensures.acts timed)))
+    let left = others_then _ _ _ kept.2 (others_then _ _ _ (c.take_names.ensures.left kept.0) (c.instant-in-loop.ensures.left still)) in
+    (c.sleep.ensures.honest timed, acts_on _ _ _ kept.1 (acts_on _ _ _ told (c.sleep.ensures.acts timed)), others_then _ _ _ left (c.sleep.ensures.left timed))
 
 pub returns-clause-listed : goal.returns-clause-listed
 returns-clause-listed g c = λ honest.
@@ -49,4 +55,30 @@ returns-clause-listed g c = λ honest.
           let still = w.take_names.ensures.honest kept.0 in
           let told = acts_on _ _ _ looked (w.instant-in-loop.ensures.acts still) in
           subst (λ s. Failed (Listing c.args.sub) (g.S.System.world c.args.system.now).files (g.S.System.world s).files) (sym w.system-is) (failed_listing c.args.sub _ _ (acts_on _ _ _ so_far told))
+    ]
+
+pub returns-in_err-names-clause-left : goal.returns-in_err-names-clause-left
+returns-in_err-names-clause-left g c = λ honest.
+    let kept = c.loop.invariant (c.instant.ensures.honest honest) in
+    others_then _ _ _ (others_then _ _ _ (c.instant.ensures.left honest) kept.2) (c.take_names.ensures.left kept.0)
+
+pub returns-in-Names-clause-left : goal.returns-in-Names-clause-left
+returns-in-Names-clause-left g c = λ honest.
+    let kept = c.loop.invariant (c.instant.ensures.honest honest) in
+    others_then _ _ _ (others_then _ _ _ (c.instant.ensures.left honest) kept.2) (c.take_names.ensures.left kept.0)
+
+pub returns-in_err-instant-clause-left : goal.returns-in_err-instant-clause-left
+returns-in_err-instant-clause-left g c = λ honest.
+    let kept = c.loop.invariant (c.instant.ensures.honest honest) in
+    let so_far = others_then _ _ _ (others_then _ _ _ (c.instant.ensures.left honest) kept.2) (c.take_names.ensures.left kept.0) in
+    others_then _ _ _ so_far (c.instant-in-loop.ensures.left (c.take_names.ensures.honest kept.0))
+
+pub returns-clause-left : goal.returns-clause-left
+returns-clause-left g c = λ honest.
+    let kept = c.loop.invariant (c.instant.ensures.honest honest) in
+    let so_far = others_then _ _ _ (c.instant.ensures.left honest) kept.2 in
+    elim c.loop-test.branch [
+      | else-loop-test w ↦ rw w.system-is so_far
+      | then-loop-test+in_ok-names+in-Again+in_ok-instant+then-ge w ↦
+          rw w.system-is (others_then _ _ _ (others_then _ _ _ so_far (w.take_names.ensures.left kept.0)) (w.instant-in-loop.ensures.left (w.take_names.ensures.honest kept.0)))
     ]

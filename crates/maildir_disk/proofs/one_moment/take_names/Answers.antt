@@ -1,6 +1,7 @@
 use Rattle.std.specs.Time.{system_time_nanos}
 use Rattle.maildir_disk.specs.Look.{IsSettled, IsFarAhead}
 use Rattle.maildir_disk.proofs.Passing.{acts_on, looked_fault, lists_at, exact_if_settled, exact_if_ahead}
+use Rattle.maildir_disk.proofs.Lefts.{others_then}
 use Rattle.maildir_disk.proofs.one_moment.take_names.Goals as goal
 
 pub returns-in_err-now-clause-looked : goal.returns-in_err-now-clause-looked
@@ -28,6 +29,9 @@ returns-in_default-2 g c = record {
       let timed = c.now.ensures.honest told in
       let watched = rw c.in_default-2.is at (c.in_ok-names.ensures.watched timed) in
       acts_on _ _ _ (acts_on _ _ _ (c.stamp.ensures.passes honest).acts (c.now.ensures.acts told)) watched;
+  left = λ honest.
+      let told = c.stamp.ensures.honest honest in
+      others_then _ _ _ (others_then _ _ _ (c.stamp.ensures.left honest) (c.now.ensures.left told)) (c.watched_names.ensures.left (c.now.ensures.honest told));
 }
 
 pub returns-in-Settled-clause-looked : goal.returns-in-Settled-clause-looked
@@ -74,4 +78,39 @@ returns-in_default-of g c = record {
       let read = c.watched_names.ensures.honest timed in
       let watched = rw c.in-Some.is at (c.in_ok-names.ensures.watched timed) in
       acts_on _ _ _ (acts_on _ _ _ (c.stamp.ensures.passes honest).acts (c.now.ensures.acts told)) (acts_on _ _ _ watched.acts (c.now-2.ensures.acts read));
+  left = λ honest.
+      let told = c.stamp.ensures.honest honest in
+      let timed = c.now.ensures.honest told in
+      let so_far = others_then _ _ _ (others_then _ _ _ (c.stamp.ensures.left honest) (c.now.ensures.left told)) (c.watched_names.ensures.left timed) in
+      others_then _ _ _ so_far (c.now-2.ensures.left (c.watched_names.ensures.honest timed));
 }
+
+pub returns-in_err-now-clause-left : goal.returns-in_err-now-clause-left
+returns-in_err-now-clause-left g c = λ honest. others_then _ _ _ (c.stamp.ensures.left honest) (c.now.ensures.left (c.stamp.ensures.honest honest))
+
+pub returns-in-Young-clause-left : goal.returns-in-Young-clause-left
+returns-in-Young-clause-left g c = λ honest. others_then _ _ _ (c.stamp.ensures.left honest) (c.now.ensures.left (c.stamp.ensures.honest honest))
+
+pub returns-in_err-names-clause-left : goal.returns-in_err-names-clause-left
+returns-in_err-names-clause-left g c = λ honest.
+    let told = c.stamp.ensures.honest honest in
+    others_then _ _ _ (others_then _ _ _ (c.stamp.ensures.left honest) (c.now.ensures.left told)) (c.watched_names.ensures.left (c.now.ensures.honest told))
+
+pub returns-in-Settled-clause-left : goal.returns-in-Settled-clause-left
+returns-in-Settled-clause-left g c = λ honest.
+    let told = c.stamp.ensures.honest honest in
+    others_then _ _ _ (others_then _ _ _ (c.stamp.ensures.left honest) (c.now.ensures.left told)) (c.watched_names.ensures.left (c.now.ensures.honest told))
+
+pub returns-in_err-later-clause-left : goal.returns-in_err-later-clause-left
+returns-in_err-later-clause-left g c = λ honest.
+    let told = c.stamp.ensures.honest honest in
+    let timed = c.now.ensures.honest told in
+    let so_far = others_then _ _ _ (others_then _ _ _ (c.stamp.ensures.left honest) (c.now.ensures.left told)) (c.watched_names.ensures.left timed) in
+    others_then _ _ _ so_far (c.now-2.ensures.left (c.watched_names.ensures.honest timed))
+
+pub returns-in-Ahead-clause-left : goal.returns-in-Ahead-clause-left
+returns-in-Ahead-clause-left g c = λ honest.
+    let told = c.stamp.ensures.honest honest in
+    let timed = c.now.ensures.honest told in
+    let so_far = others_then _ _ _ (others_then _ _ _ (c.stamp.ensures.left honest) (c.now.ensures.left told)) (c.watched_names.ensures.left timed) in
+    others_then _ _ _ so_far (c.now-2.ensures.left (c.watched_names.ensures.honest timed))

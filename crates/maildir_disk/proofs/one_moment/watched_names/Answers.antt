@@ -4,6 +4,7 @@ use Rattle.std.specs.Time.{system_time_nanos}
 use Rattle.maildir_run.specs.Calls.{names_of}
 use Rattle.maildir_disk.specs.World.{Tells}
 use Rattle.maildir_disk.proofs.Passing.{acts_on, watched_fault, watched}
+use Rattle.maildir_disk.proofs.Lefts.{others_then}
 use Rattle.maildir_disk.proofs.one_moment.watched_names.Goals as goal
 
 pub returns-in_err-after-clause-watched : goal.returns-in_err-after-clause-watched
@@ -26,3 +27,12 @@ pub returns-else-eq-clause-watched : goal.returns-else-eq-clause-watched
 returns-else-eq-clause-watched g c = λ honest.
     let read = c.names.ensures.honest honest in
     acts_on _ _ _ (c.names.ensures.passes honest).acts (c.stamp.ensures.passes read).acts
+
+pub returns-in_err-after-clause-left : goal.returns-in_err-after-clause-left
+returns-in_err-after-clause-left g c = λ honest. others_then _ _ _ (c.names.ensures.left honest) (c.stamp.ensures.left (c.names.ensures.honest honest))
+
+pub returns-then-eq-clause-left : goal.returns-then-eq-clause-left
+returns-then-eq-clause-left g c = λ honest. others_then _ _ _ (c.names.ensures.left honest) (c.stamp.ensures.left (c.names.ensures.honest honest))
+
+pub returns-else-eq-clause-left : goal.returns-else-eq-clause-left
+returns-else-eq-clause-left g c = λ honest. others_then _ _ _ (c.names.ensures.left honest) (c.stamp.ensures.left (c.names.ensures.honest honest))

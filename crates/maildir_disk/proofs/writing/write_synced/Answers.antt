@@ -1,8 +1,11 @@
-use Rattle.std.proofs.Common.{rules, arith, inl, inr, ◌≡◌, ◌∙◌, sym, ap, subst, ◌++◌, ◌-◌, length, take, drop}
+use Rattle.std.proofs.Common.{rules, refl, arith, inl, inr, ◌≡◌, ◌∙◌, sym, ap, subst, ◌++◌, ◌-◌, [], length, take, drop}
 use Rattle.std.proofs.lemmas.List.{take_all, length-drop}
 use Rattle.std.proofs.Math.Seq.{take-add}
 use Rattle.maildir_disk.specs.Writing.{Comes, changed, Written}
-use Rattle.maildir_disk.proofs.Pieces.{written_created, written_on, written_changed, write_called, not_created, append_failed, write_failed}
+use Rattle.maildir_run.specs.Calls.{Writing}
+use Rattle.maildir_run.proofs.Cuts.{left_as}
+use Rattle.maildir_disk.proofs.Lefts.{left_none, left_both, left_more, left_fault, left_written, leaves_torn}
+use Rattle.maildir_disk.proofs.Pieces.{written_created, written_on, written_changed, write_called, write_succeeded, not_created, append_failed, write_failed}
 use Rattle.maildir_disk.proofs.writing.write_synced.Goals as goal
 use Rattle.maildir_disk.proofs.writing.write_synced.Goals.{in-Ok, in-Err+else-ne}
 
@@ -42,6 +45,13 @@ returns-clause-called g c = λ honest.
     let so_far = rw (c.in_ok-file.ensures.name honest) at (kept.1 start (rw (c.in_ok-file.ensures.name honest) (written_created c.args.name.now start _ (c.in_ok-file.ensures.created honest)))) in
     write_failed c.args.name.now _ c.args.bytes.now start _ so_far
 
+pub loop-init : goal.loop-init
+loop-init g c = record {
+  within = search rules;
+  named = refl;
+  written = λ honest. (honest, (λ start made. made), left_none (Writing (g.S.System.name_of c.in_ok-file.file) []) _);
+}
+
 pub loop-preserved : goal.loop-preserved
 loop-preserved g c =
     elim c.match-append.branch [
@@ -63,6 +73,7 @@ loop-preserved g c =
                   let more : Written name (take at bytes ++ take n (take (length bytes - at) (drop at bytes))) start end =
                   written_changed name (take at bytes) (λ held. held ++ take n (take (length bytes - at) (drop at bytes))) start now end (kept.1 start made) comes in
                   subst (λ held. Written name held start end) (ap (λ p. take at bytes ++ take n p) rest ∙ (sym (take-add at n bytes) ∙ ap (λ k. take k bytes) (sym w.at-is))) more,
+              left_both _ _ _ _ kept.2 (rw c.loop.invariant.named at (c.append.ensures.left kept.0)),
             );
       }
       | in-Err+else-ne w ↦ record {
@@ -77,6 +88,47 @@ loop-preserved g c =
                     | inl acts ↦ rw w.at-is (written_on _ _ start _ _ (kept.1 start made) acts)
                     | inr other ↦ absurd (other.0 (search rules))
                   ],
+              left_both _ _ _ _ kept.2 (rw c.loop.invariant.named at (c.append.ensures.left kept.0)),
             );
       }
     ]
+
+pub returns-in_err-file-clause-left : goal.returns-in_err-file-clause-left
+returns-in_err-file-clause-left g c = λ honest.
+    left_fault (Writing c.args.name.now c.args.bytes.now) _ _ _ c.from_residual.ensures.0 (left_as _ _ _ _ (leaves_torn c.args.name.now [] c.args.bytes.now) (c.create.ensures.left honest))
+
+pub returns-then-at-bytes-clause-left : goal.returns-then-at-bytes-clause-left
+returns-then-at-bytes-clause-left g c = λ honest.
+    let name = c.args.name.now in
+    let bytes = c.args.bytes.now in
+    let start = g.S.System.world c.args.system.now in
+    let now = g.S.System.world c.loop.system in
+    let end = g.S.System.world c.sync_file.new.self in
+    let kept = c.loop.invariant.written (c.create.ensures.honest honest) in
+    let named = c.in_ok-file.ensures.name honest in
+    let so_far : Written name (take c.loop.at bytes) start now = rw named at (kept.1 start (rw named (written_created name start _ (c.in_ok-file.ensures.created honest)))) in
+    let all : Written name bytes start now = subst (λ held. Written name held start now) (take_all c.loop.at bytes (search rules)) so_far in
+    let left = left_both (Writing name []) _ _ _ (c.create.ensures.left honest) (rw named at kept.2) in
+    left_written name bytes c.sync_file.result _ _ start.files end.files (write_succeeded name bytes start end (written_on name bytes start now end all (c.sync_file.ensures.acts kept.0)))
+    (rw (c.loop.invariant.named ∙ named) at (c.sync_file.ensures.kept kept.0))
+    (left_as _ _ _ _ (leaves_torn name [] bytes) (left_more _ _ _ _ left (c.sync_file.ensures.left kept.0)))
+
+pub returns-in-Ok-eq0-clause-left : goal.returns-in-Ok-eq0-clause-left
+returns-in-Ok-eq0-clause-left g c = λ honest.
+    let kept = c.loop.invariant.written (c.create.ensures.honest honest) in
+    let named = c.in_ok-file.ensures.name honest in
+    let so_far = left_both (Writing c.args.name.now []) _ _ _ (c.create.ensures.left honest) (rw named at kept.2) in
+    left_as _ _ _ _ (leaves_torn c.args.name.now [] c.args.bytes.now) (left_both _ _ _ _ so_far (rw (c.loop.invariant.named ∙ named) at (c.append.ensures.left kept.0)))
+
+pub returns-then-ne-clause-left : goal.returns-then-ne-clause-left
+returns-then-ne-clause-left g c = λ honest.
+    let kept = c.loop.invariant.written (c.create.ensures.honest honest) in
+    let named = c.in_ok-file.ensures.name honest in
+    let so_far = left_both (Writing c.args.name.now []) _ _ _ (c.create.ensures.left honest) (rw named at kept.2) in
+    left_as _ _ _ _ (leaves_torn c.args.name.now [] c.args.bytes.now) (left_both _ _ _ _ so_far (rw (c.loop.invariant.named ∙ named) at (c.append.ensures.left kept.0)))
+
+pub returns-clause-left : goal.returns-clause-left
+returns-clause-left g c = λ honest.
+    let kept = c.loop.invariant.written (c.create.ensures.honest honest) in
+    let so_far = left_both (Writing c.args.name.now []) _ _ _ (c.create.ensures.left honest) (rw (c.in_ok-file.ensures.name honest) at kept.2) in
+    left_as _ _ _ _ (leaves_torn c.args.name.now [] c.args.bytes.now) so_far

@@ -1,4 +1,6 @@
 use Rattle.std.proofs.Common.{◌≡◌, ◌≤◌, [], length, take}
+use Rattle.maildir_run.specs.Calls.{Writing}
+use Rattle.maildir_run.specs.Cuts.{Leaves, Left}
 use Rattle.maildir_disk.specs.World.{World}
 use Rattle.maildir_disk.specs.Writing.{Written}
 use Rattle.maildir_disk.proofs.writing.write_synced.Given as goal
@@ -10,5 +12,6 @@ invariant-loop g l = record {
   named : g.S.System.name_of l.file ≡ g.S.System.name_of l.initial.file;
   written : g.S.System.honest l.initial.system
       → g.S.System.honest l.system
-      × ((start : World) → Written (g.S.System.name_of l.initial.file) [] start (g.S.System.world l.initial.system) → Written (g.S.System.name_of l.initial.file) (take l.at l.bytes) start (g.S.System.world l.system));
+      × ((start : World) → Written (g.S.System.name_of l.initial.file) [] start (g.S.System.world l.initial.system) → Written (g.S.System.name_of l.initial.file) (take l.at l.bytes) start (g.S.System.world l.system))
+      × Left (Leaves (Writing (g.S.System.name_of l.initial.file) [])) (g.S.System.may_leave l.initial.system) (g.S.System.may_leave l.system);
 }

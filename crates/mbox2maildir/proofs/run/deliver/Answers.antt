@@ -1,4 +1,6 @@
-use Rattle.std.proofs.Common.{OnOk, Ok, Err}
+use Rattle.std.proofs.Common.{OnOk, Ok, Err, inr, rules}
+use Rattle.maildir_disk.proofs.Lefts.{on_ok}
+use Rattle.maildir_disk.proofs.Safety.{intact_after_run, intact_after_both, safe_after_both}
 use Rattle.mbox2maildir.specs.Report.{PrintsReports}
 use Rattle.mbox2maildir.proofs.Reports.{one_report}
 use Rattle.mbox2maildir.proofs.run.deliver.Goals as goal
@@ -8,3 +10,37 @@ returns-clause-printed g c =
     let printed = one_report (g.W.Write.contents c.args.out.now) (g.W.Write.contents c.print_report.new.out) (g.W.Write.contents c.flush.new.out) c.in_ok-report.report
     c.in_ok-print_report.ensures.printed c.flush.ensures.same in
     elim c.flush.result as (λ answer. OnOk answer (PrintsReports (g.W.Write.contents c.args.out.now) (g.W.Write.contents c.flush.new.out) 1)) [ Ok _ ↦ printed | Err _ ↦ tt ]
+
+pub returns-in_err-map_err-clause-intact : goal.returns-in_err-map_err-clause-intact
+returns-in_err-map_err-clause-intact g c = λ honest t ms small p are intact.
+    intact_after_both t ms are small _ _ _ c.convert.result (c.convert.ensures.left honest t ms p are) (c.sync.ensures.left (c.convert.ensures.honest honest)) intact
+
+pub returns-in_err-print_report-clause-intact : goal.returns-in_err-print_report-clause-intact
+returns-in_err-print_report-clause-intact g c = λ honest t ms small p are intact.
+    intact_after_both t ms are small _ _ _ c.convert.result (c.convert.ensures.left honest t ms p are) (c.sync.ensures.left (c.convert.ensures.honest honest)) intact
+
+pub returns-clause-intact : goal.returns-clause-intact
+returns-clause-intact g c = λ honest t ms small p are intact.
+    intact_after_both t ms are small _ _ _ c.convert.result (c.convert.ensures.left honest t ms p are) (c.sync.ensures.left (c.convert.ensures.honest honest)) intact
+
+pub returns-in_err-report-clause-intact : goal.returns-in_err-report-clause-intact
+returns-in_err-report-clause-intact g c = λ honest t ms small p are intact.
+    intact_after_run t ms are small _ _ c.convert.result (c.convert.ensures.left honest t ms p are) intact
+
+pub returns-in_err-print_report-clause-line : goal.returns-in_err-print_report-clause-line
+returns-in_err-print_report-clause-line g c = λ honest t ms small p are sound intact.
+    let still = c.convert.ensures.honest honest in
+    inr (safe_after_both t ms are small _ _ _ _ _ _ _ c.in_ok-report.report c.sync.result (c.in_ok-report.ensures.run honest t small p) sound (c.in_ok-report.ensures.left honest t ms p are) intact
+    (c.sync.ensures.acts still) (search rules) (c.sync.ensures.survive still ms) (c.sync.ensures.rooted still))
+
+pub returns-clause-line : goal.returns-clause-line
+returns-clause-line g c = λ honest t ms small p are sound intact.
+    let still = c.convert.ensures.honest honest in
+    inr (safe_after_both t ms are small _ _ _ _ _ _ _ c.in_ok-report.report c.sync.result (c.in_ok-report.ensures.run honest t small p) sound (c.in_ok-report.ensures.left honest t ms p are) intact
+    (c.sync.ensures.acts still) (search rules) (c.sync.ensures.survive still ms) (c.sync.ensures.rooted still))
+
+pub returns-clause-safe : goal.returns-clause-safe
+returns-clause-safe g c = λ honest t ms small p are sound intact.
+    let still = c.convert.ensures.honest honest in
+    on_ok _ c.flush.result (safe_after_both t ms are small _ _ _ _ _ _ _ c.in_ok-report.report c.sync.result (c.in_ok-report.ensures.run honest t small p) sound (c.in_ok-report.ensures.left honest t ms p are) intact
+    (c.sync.ensures.acts still) (search rules) (c.sync.ensures.survive still ms) (c.sync.ensures.rooted still))

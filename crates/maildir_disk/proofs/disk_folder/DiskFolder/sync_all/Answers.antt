@@ -1,4 +1,8 @@
+use Rattle.std.proofs.Common.{get_or}
 use Rattle.maildir_disk.proofs.Passing.{acts_on}
+use Rattle.maildir_disk.proofs.Lefts.{on_ok, others_then}
+use Rattle.maildir_disk.proofs.LeftHomes.{others_hold}
+use Rattle.maildir_disk.proofs.Syncs.{kept_names}
 use Rattle.maildir_disk.proofs.disk_folder.DiskFolder.sync_all.Goals as goal
 
 pub returns-in_err-sync_folder-2-clause-acts : goal.returns-in_err-sync_folder-2-clause-acts
@@ -11,3 +15,25 @@ returns-clause-acts g c = λ honest.
     let first = c.sync_folder.ensures.honest honest in
     let second = c.sync_folder-2.ensures.honest first in
     acts_on _ _ _ (acts_on _ _ _ (c.sync_folder.ensures.acts honest) (c.sync_folder-2.ensures.acts first)) (c.sync_root.ensures.acts second)
+
+pub returns-in_err-sync_folder-2-clause-left : goal.returns-in_err-sync_folder-2-clause-left
+returns-in_err-sync_folder-2-clause-left g c = λ honest.
+    others_then _ _ _ (c.sync_folder.ensures.left honest) (c.sync_folder-2.ensures.left (c.sync_folder.ensures.honest honest))
+
+pub returns-clause-left : goal.returns-clause-left
+returns-clause-left g c = λ honest.
+    let first = c.sync_folder.ensures.honest honest in
+    let second = c.sync_folder-2.ensures.honest first in
+    others_then _ _ _ (others_then _ _ _ (c.sync_folder.ensures.left honest) (c.sync_folder-2.ensures.left first)) (c.sync_root.ensures.left second)
+
+pub returns-clause-survive : goal.returns-clause-survive
+returns-clause-survive g c = λ honest ms named home intact.
+    let first = c.sync_folder.ensures.honest honest in
+    let second = c.sync_folder-2.ensures.honest first in
+    on_ok _ c.sync_root.result (λ left may k d below.
+    let m = get_or ms k d in
+    let three = c.sync_root.ensures.left second left may in
+    let two = c.in_ok-sync_folder-2.ensures.names first three.0 three.1 in
+    let one = c.in_ok-sync_folder.ensures.names honest two.0 two.1 in
+    let ours = named k d below in
+    (others_hold m ours three.0 left three.2).still (kept_names m ours _ _ _ one.0 two.0 three.0 (home k d below) (intact one.0 one.1 k d below) one.2 two.2))

@@ -1,10 +1,12 @@
-use Rattle.std.proofs.Common.{◌≡◌, ◌∙◌, ap, sym, Some, None}
+use Rattle.std.proofs.Common.{◌≡◌, ◌∙◌, ap, sym, [], Some, None}
 use Rattle.std.specs.FinMap.{get}
 use Rattle.std.specs.Option.{option_copied}
 use Rattle.maildir_run.specs.Calls.{Writing, effect}
 use Rattle.maildir_run.specs.MemFolder.{files_of}
 use Rattle.maildir_disk.specs.MemSystem.{opened_as, world_of}
 use Rattle.maildir_disk.proofs.Pieces.{appended_fault, comes_to_none, comes_by_write}
+use Rattle.maildir_run.proofs.Cuts.{left_as}
+use Rattle.maildir_disk.proofs.Lefts.{acts_left, called_left, left_both, leaves_torn}
 use Rattle.maildir_disk.proofs.mem_system.MemSystemSystem.append.Goals as goal
 
 pub returns-in_err-pass_shortly-clause-appended : goal.returns-in_err-pass_shortly-clause-appended
@@ -29,3 +31,24 @@ returns-in-Ok-clause-appended c = λ honest.
     let name = ap (λ n. effect (Writing n c.deref.result.now) mid) c.as_str-2.ensures.value in
     let bytes = ap (λ b. effect (Writing (opened_as c.args.file.now) b) mid) (c.deref.ensures.value ∙ c.in_ok-holds.ensures) in
     comes_by_write (opened_as c.args.file.now) c.in-Some.held.now _ _ (world_of c.pass_shortly.new.self) _ acts has (written ∙ (name ∙ bytes))
+
+pub returns-in_err-pass_shortly-clause-left : goal.returns-in_err-pass_shortly-clause-left
+returns-in_err-pass_shortly-clause-left c = λ honest. acts_left (Writing (opened_as c.args.file.now) []) _ _ c.pass_shortly.ensures.acts
+
+pub returns-in_default-clause-left : goal.returns-in_default-clause-left
+returns-in_default-clause-left c = λ honest. acts_left (Writing (opened_as c.args.file.now) []) _ _ c.pass_shortly.ensures.acts
+
+pub returns-in_err-holds-clause-left : goal.returns-in_err-holds-clause-left
+returns-in_err-holds-clause-left c = λ honest. acts_left (Writing (opened_as c.args.file.now) []) _ _ c.pass_shortly.ensures.acts
+
+pub returns-in-Ok-clause-left : goal.returns-in-Ok-clause-left
+returns-in-Ok-clause-left c = λ honest.
+    let call = Writing (opened_as c.args.file.now) [] in
+    let written = rw c.as_str-2.ensures.value at (called_left (Writing c.as_str-2.result.now c.deref.result.now) _ _ _ c.write.ensures.called) in
+    left_both call _ _ _ (acts_left call _ _ c.pass_shortly.ensures.acts) (left_as _ _ _ _ (leaves_torn (opened_as c.args.file.now) c.deref.result.now []) written)
+
+pub returns-clause-left : goal.returns-clause-left
+returns-clause-left c = λ honest.
+    let call = Writing (opened_as c.args.file.now) [] in
+    let written = rw c.as_str-2.ensures.value at (called_left (Writing c.as_str-2.result.now c.deref.result.now) _ _ _ c.write.ensures.called) in
+    left_both call _ _ _ (acts_left call _ _ c.pass_shortly.ensures.acts) (left_as _ _ _ _ (leaves_torn (opened_as c.args.file.now) c.deref.result.now []) written)

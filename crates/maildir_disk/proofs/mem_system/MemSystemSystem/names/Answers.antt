@@ -1,9 +1,11 @@
 use Rattle.std.proofs.Common.{◌≡◌, [], refl, inl, inr, arith, true}
 use Rattle.std.specs.Duration.{as_nanos}
-use Rattle.maildir_run.specs.Calls.{names_of}
+use Rattle.maildir_run.specs.Calls.{Listing, names_of}
 use Rattle.maildir_disk.specs.World.{Reads}
 use Rattle.maildir_disk.specs.MemSystem.{world_of}
 use Rattle.maildir_disk.proofs.Passing.{passes_on}
+use Rattle.maildir_run.specs.declared.folder.Sub.TheVariants.{Tmp}
+use Rattle.maildir_disk.proofs.Lefts.{acts_left, same_left}
 use Rattle.maildir_disk.proofs.mem_system.MemSystemSystem.names.Goals as goal
 
 pub returns-in_err-pass_shortly-in-Ok-clause-passes : goal.returns-in_err-pass_shortly-in-Ok-clause-passes
@@ -30,3 +32,21 @@ returns-in-Ok-duration_since-clause-names c = λ honest.
           cc
       | inr since ↦ inr since
     ]
+
+pub returns-in_err-pass_shortly-in-Ok-clause-left : goal.returns-in_err-pass_shortly-in-Ok-clause-left
+returns-in_err-pass_shortly-in-Ok-clause-left c = λ honest.
+    let same = (rw c.in-Ok.is at (c.list.ensures.alone honest)).1 in
+    acts_left (Listing Tmp) (world_of c.args.self.now) _ (passes_on c.args.sub (world_of c.args.self.now) _ _ (record { acts = record { actions = []; files_are = same }; later = omega arith; stamp_is = inl refl }) (c.pass_shortly.ensures.passes c.args.sub)).acts
+
+pub returns-in-Ok-duration_since-clause-left : goal.returns-in-Ok-duration_since-clause-left
+returns-in-Ok-duration_since-clause-left c = λ honest.
+    let same = (rw c.in-Ok.is at (c.list.ensures.alone honest)).1 in
+    acts_left (Listing Tmp) (world_of c.args.self.now) _ (passes_on c.args.sub (world_of c.args.self.now) _ _ (record { acts = record { actions = []; files_are = same }; later = omega arith; stamp_is = inl refl }) (c.pass_shortly.ensures.passes c.args.sub)).acts
+
+pub returns-in_default-clause-left : goal.returns-in_default-clause-left
+returns-in_default-clause-left c = λ honest.
+    let same = (rw c.in-Ok.is at (c.list.ensures.alone honest)).1 in
+    acts_left (Listing Tmp) (world_of c.args.self.now) _ (passes_on c.args.sub (world_of c.args.self.now) _ _ (record { acts = record { actions = []; files_are = same }; later = omega arith; stamp_is = inl refl }) (c.pass_shortly.ensures.passes c.args.sub)).acts
+
+pub returns-in-Err-clause-left : goal.returns-in-Err-clause-left
+returns-in-Err-clause-left c = λ honest. same_left (Listing Tmp) _ _ (rw c.in-Err.is at (c.list.ensures.err honest))

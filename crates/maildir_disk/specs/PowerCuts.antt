@@ -1,0 +1,93 @@
+-- What a power cut may leave of the messages of a text.
+use Rattle.std.specs.Prelude.{◌≡◌, ◌≤◌, ℕ, List, [], ◌∷◌, length, All, Contains, IsTrue, Result}
+use Rattle.std.specs.FinMap.{get, contains_key}
+use Rattle.maildir_name.specs.Names.{is_converter_base, is_converter_name}
+use Rattle.maildir_run.specs.declared.fault.RunFault.{RunFault}
+use Rattle.maildir_run.specs.declared.folder.Sub.{Sub}
+use Rattle.maildir_run.specs.declared.folder.Sub.TheVariants.{Tmp}
+use Rattle.maildir_run.specs.declared.report.Report.{Report}
+use Rattle.maildir_run.specs.Calls.{Listing, folder_of}
+use Rattle.maildir_run.specs.Cuts.{Leaves}
+use Rattle.maildir_run.specs.Delivery.{Message, IsHome}
+use Rattle.maildir_run.specs.Files.{Files, Action, acted, all_acted, homes}
+use Rattle.maildir_run.specs.Progress.{LeavesHomes}
+use Rattle.maildir_run.specs.Runs.{Run}
+use Rattle.maildir_run.specs.Tasks.{Names, Performs, leaving, planned_tasks}
+use Rattle.maildir_run.specs.Texts.{MessagesOf}
+
+-- whatever is found of the message in `new` or `cur` holds its body
+abbrev pub IsIntact : Files → Message → Type 0
+IsIntact s m = (bytes : List ℕ) → Contains (homes s m.target.base) bytes → bytes ≡ m.body
+
+-- and whatever a cut may leave of the messages
+abbrev pub AreIntact : List Message → (Files → Type 0) → Type 0
+AreIntact ms may_leave = (left : Files) → may_leave left → All (IsIntact left) ms
+
+-- a home of the message holds its body
+abbrev pub HasBody : Files → Message → Type 0
+HasBody s m = Contains (homes s m.target.base) m.body
+
+-- whatever a cut may leave, each message has a home there that holds its body
+abbrev pub Survive : List Message → (Files → Type 0) → Type 0
+Survive ms may_leave = (left : Files) → may_leave left → All (HasBody left) ms
+
+-- The messages are at home, and whatever a power cut leaves, each has a home there that holds its body, in the Maildir, which is found.
+pub record AreSafe (ms : List Message) (s : Files) (may_leave : Files → Type 0) (rooted : Type 0) : Type 0 where
+  pub home : All (IsHome s) ms
+  pub survive : Survive ms may_leave
+  pub found : rooted
+
+-- a cut leaves a file under one name: under no converter's base does it leave more files than there are
+abbrev pub IsSingle : Files → Files → Type 0
+IsSingle s left = (b : List ℕ) → IsTrue (is_converter_base b) → length (homes left b) ≤ length (homes s b)
+
+-- what a cut leaves while other programs act, and nothing else happens
+abbrev pub LeavesOthers : Files → Files → Type 0
+LeavesOthers = Leaves (Listing Tmp)
+
+-- a converter's file of this name in `tmp` is found with what it holds, wherever it is found
+abbrev pub KeepsHeld : List ℕ → Files → (Files → Type 0) → Type 0
+KeepsHeld name s may_leave = (left : Files) → may_leave left → IsTrue (is_converter_name name) → get left.tmp name ≡ get s.tmp name
+
+-- At some moment of a call a cut left just the converter's names of a folder that were there. What others did after that moment came, or did not.
+pub record KeepsNames (sub : Sub) (old before new left : Files) : Type 0 where
+  pub moment : Files
+  pub actions : List Action
+  pub moment_is : moment ≡ all_acted actions old
+  pub rest : List Action
+  pub new_is : new ≡ all_acted rest moment
+  -- what a cut left at that moment
+  pub there : Files
+  pub earlier : LeavesOthers before there
+  pub later : LeavesOthers there left
+  pub names_are : (name : List ℕ) → IsTrue (is_converter_name name) → contains_key (folder_of sub there) name ≡ contains_key (folder_of sub moment) name
+
+-- a folder at one moment: its files, and what a cut would leave
+pub record Moment : Type 0 where
+  pub files : Files
+  pub left : Files
+
+-- what comes to a folder: a run with this answer, an action of another program, or a power cut
+pub data Event : Type 0 where
+  Ran : (answer : Result Report RunFault) → Event
+  Acted : (action : Action) → Event
+  Cut : Event
+
+-- A cut left what it would have left, each file under one name, and a later one would leave the same.
+pub record IsCut (old new : Moment) : Type 0 where
+  pub found : LeavesHomes old.left new.files
+  pub stays : LeavesHomes new.files new.left
+  pub single : IsSingle old.files old.left
+
+-- an event leads from one moment to another
+abbrev pub Happens : List ℕ → Event → Moment → Moment → Type 0
+Happens t (Ran answer) old new =
+    Run t old.files answer new.files
+    × ((ms : List Message) → MessagesOf t ms → (names : Names) × Performs leaving (planned_tasks names ms) old.left answer new.left)
+Happens t (Acted action) old new = (new.files ≡ acted action old.files) × LeavesOthers old.left new.left
+Happens t Cut old new = IsCut old new
+
+-- a finite chain of runs over a text, with any answers, of other programs' actions and of power cuts
+abbrev pub Happen : List ℕ → List Event → Moment → Moment → Type 0
+Happen t [] old new = new ≡ old
+Happen t (event ∷ events) old new = (mid : Moment) × Happens t event old mid × Happen t events mid new

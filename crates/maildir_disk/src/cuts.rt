@@ -1,0 +1,52 @@
+//! Laws on power cuts over the definitions alone. Each law is the contract of a function, and no function here does anything.
+ghost use Rattle.std.specs.Prelude.{◌≡◌, ℕ, ◌<◌, ◌^◌, List, length, Ok, Result, All};
+ghost use Rattle.maildir_run.specs.declared.fault.RunFault.{RunFault};
+ghost use Rattle.maildir_run.specs.declared.report.Report.{Report};
+ghost use Rattle.maildir_run.specs.Delivery.{Message, AreNamed, Delivered, IsHome, IsMissing, IsSoundAt};
+ghost use Rattle.maildir_run.specs.Files.{Files};
+ghost use Rattle.maildir_run.specs.Runs.{Run};
+ghost use Rattle.maildir_run.specs.Tasks.{Names, Performs, leaving, planned_tasks};
+ghost use Rattle.maildir_run.specs.Texts.{MessagesOf};
+ghost use Rattle.maildir_disk.specs.PowerCuts.{Event, Happen, HasBody, IsIntact, IsSingle, LeavesOthers, Moment};
+
+/// What a cut leaves of a run that did its planned calls, whatever it answered: where what it would have left of the run's
+/// messages before held their bodies, it does after it. And a message that a cut would have left before it is left after
+/// it, of this text or of any other that gives no other body to one of its bases.
+pub fn left_of_a_run()
+    ensures intact { (t : List ℕ) (ms : List Message) (names : Names) (before now : Files) (answer : Result Report RunFault) →
+        MessagesOf t ms → length t < 2 ^ 63 → Performs leaving (planned_tasks names ms) before answer now →
+        All (IsIntact before) ms → All (IsIntact now) ms }
+    ensures bodies { (t : List ℕ) (ms others : List Message) (names : Names) (before now : Files) (answer : Result Report RunFault) →
+        MessagesOf t ms → length t < 2 ^ 63 → Performs leaving (planned_tasks names ms) before answer now → AreNamed others →
+        All (λ m. All (λ n. n.target.base ≡ m.target.base → n.body ≡ m.body) ms) others →
+        All (HasBody before) others → All (HasBody now) others }
+{}
+
+/// What other programs do takes nothing away from what a cut leaves, and changes no bytes of it.
+pub fn left_by_others()
+    ensures intact { (ms : List Message) (before now : Files) → AreNamed ms → LeavesOthers before now →
+        All (IsIntact before) ms → All (IsIntact now) ms }
+    ensures bodies { (ms : List Message) (before now : Files) → AreNamed ms → LeavesOthers before now →
+        All (HasBody before) ms → All (HasBody now) ms }
+{}
+
+/// Where a cut leaves a file under one name, it leaves a sound folder sound, and each message that is at home and survives
+/// in exactly one file.
+pub fn one_name_each()
+    ensures sound { (ms : List Message) (s left : Files) → AreNamed ms → All (IsSoundAt s) ms → All (IsIntact left) ms →
+        IsSingle s left → All (IsSoundAt left) ms }
+    ensures home { (ms : List Message) (s left : Files) → AreNamed ms → All (IsHome s) ms → All (HasBody left) ms →
+        IsSingle s left → All (IsHome left) ms }
+{}
+
+/// Whatever runs over a text, with any answers, other programs' actions and power cuts follow one another: a folder that
+/// had none of the text's messages, and of which a cut would have left none, is sound for them. One more run that answers
+/// Ok delivers them.
+pub fn after_any_cuts()
+    ensures sound { (t : List ℕ) (ms : List Message) (events : List Event) (old new : Moment) →
+        MessagesOf t ms → length t < 2 ^ 63 → All (IsMissing old.files) ms → All (IsMissing old.left) ms →
+        Happen t events old new → All (IsSoundAt new.files) ms × All (IsIntact new.left) ms }
+    ensures delivered { (t : List ℕ) (ms : List Message) (events : List Event) (old mid : Moment) (new : Files) (report : Report) →
+        MessagesOf t ms → length t < 2 ^ 63 → All (IsMissing old.files) ms → All (IsMissing old.left) ms →
+        Happen t events old mid → Run t mid.files (Ok report) new → Delivered ms new }
+{}
