@@ -11,13 +11,14 @@ use Rattle.maildir_run.specs.Delivery.{Message, AreNamed, AreDistinct}
 use Rattle.maildir_run.specs.Files.{Files, is_name, has_base}
 use Rattle.maildir_run.specs.Plan.{is_listed}
 use Rattle.maildir_run.specs.Progress.{IsTarget}
-use Rattle.maildir_run.specs.Tasks.{Task, Do, call_of, AllDone, Stopped, Performs, leaving, Names, LeavesDone, listings, planned_tasks, sweep_of, delivery_of, delivery_if, deliveries_of}
+use Rattle.maildir_run.specs.Tasks.{Task, Do, call_of, AllDone, Stopped, Performs, leaving, Names, LeavesDone, listings, planned_tasks}
+use Rattle.maildir_run.specs.Parts.{sweep_of, delivery_of, delivery_if, deliveries_of}
 use Rattle.maildir_run.specs.Texts.{MessagesOf}
 use Rattle.maildir_run.proofs.Homes.{converters}
 use Rattle.maildir_run.proofs.Maps.{is_name-true, is_name-refl}
 use Rattle.maildir_run.proofs.MessageLemmas.{text_named, text_targets, text_distinct}
 use Rattle.maildir_run.proofs.Planned.{planned_are}
-use Rattle.maildir_run.proofs.TaskEffects.{PlacesNone, all_parts, stopped_parts, listings_place_none, sweep_places_none}
+use Rattle.maildir_run.proofs.TaskEffects.{EachTask, PlacesNone, all_parts, stopped_parts, listings_place_none, sweep_places_none}
 use Rattle.maildir_disk.specs.PowerCuts.{IsIntact, HasBody}
 use Rattle.maildir_disk.proofs.LeftHomes.{Holds, steady_same, steady_then, leaves_elsewhere, leaves_placing, intact_on}
 
@@ -70,7 +71,7 @@ module _ (b x : List ℕ) (named : IsTrue (is_converter_base b)) where
   elsewhere_steady : (task : Task) → PlacesElsewhere b (call_of task) → AreSteady (task ∷ [])
   elsewhere_steady task off ended old new h = leaves_elsewhere b x named (call_of task) off old new (one_left ended task old new h)
 
-  all_elsewhere : (tasks : List Task) → PlacesNone tasks → AreSteady tasks
+  all_elsewhere : (tasks : List Task) → EachTask PlacesNone tasks → AreSteady tasks
   all_elsewhere [] off = none_steady
   all_elsewhere (task ∷ tasks) off = both_steady (task ∷ []) tasks (elsewhere_steady task (off.0 b)) (all_elsewhere tasks off.1)
 
