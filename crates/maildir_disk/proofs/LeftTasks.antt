@@ -9,10 +9,10 @@ use Rattle.maildir_run.specs.Calls.{Writing, Placing, PlacesElsewhere}
 use Rattle.maildir_run.specs.Cuts.{Leaves}
 use Rattle.maildir_run.specs.Delivery.{Message, AreNamed, AreDistinct}
 use Rattle.maildir_run.specs.Files.{Files, is_name, has_base}
+use Rattle.maildir_run.specs.Parts.{sweep_of, delivery_of, delivery_if, deliveries_of}
 use Rattle.maildir_run.specs.Plan.{is_listed}
 use Rattle.maildir_run.specs.Progress.{IsTarget}
 use Rattle.maildir_run.specs.Tasks.{Task, Do, call_of, AllDone, Stopped, Performs, leaving, Names, LeavesDone, listings, planned_tasks}
-use Rattle.maildir_run.specs.Parts.{sweep_of, delivery_of, delivery_if, deliveries_of}
 use Rattle.maildir_run.specs.Texts.{MessagesOf}
 use Rattle.maildir_run.proofs.Homes.{converters}
 use Rattle.maildir_run.proofs.Maps.{is_name-true, is_name-refl}

@@ -10,12 +10,12 @@ use Rattle.maildir_run.specs.Runs.{Run}
 use Rattle.maildir_run.specs.Tasks.{Names, Performs, leaving, planned_tasks}
 use Rattle.maildir_run.specs.Texts.{MessagesOf}
 use Rattle.maildir_run.proofs.MessageLemmas.{text_named}
-use Rattle.maildir_disk.specs.PowerCuts.{AreIntact, AreSafe, LeavesOthers, Survive}
+use Rattle.maildir_disk.specs.PowerCuts.{AreAlike, AreIntact, AreSafe, LeavesOthers, Survive}
 use Rattle.maildir_disk.specs.World.{World, Acts}
 use Rattle.maildir_disk.proofs.CutChains.{sound_now}
 use Rattle.maildir_disk.proofs.Lefts.{if_ok}
 use Rattle.maildir_disk.proofs.LeftHomes.{intact_on, others_hold}
-use Rattle.maildir_disk.proofs.LeftTasks.{run_intact}
+use Rattle.maildir_disk.proofs.LeftTasks.{run_intact, run_bodies}
 use Rattle.maildir_disk.proofs.Syncs.{still_home}
 
 module _ (t : List ℕ) (ms : List Message) (are : MessagesOf t ms) (small : length t < 2 ^ 63) where
@@ -30,6 +30,16 @@ module _ (t : List ℕ) (ms : List Message) (are : MessagesOf t ms) (small : len
       let m = get_or ms k d in
       intact_on m was.0 left (others_hold m (text_named t ms are small k d below) was.0 left was.2) (intact was.0 was.1 k d below)
 
+  pub survive_after_run : (others : List Message) (before now : Files → Type 0) (answer : Result Report RunFault) → AreNamed others → AreAlike others ms → Left (λ old new. (names : Names) × Performs leaving (planned_tasks names ms) old answer new) before now → Survive others before → Survive others now
+  survive_after_run others before now answer named alike run survive left may =
+      let was = run left may in
+      run_bodies t ms are small was.2.0 was.0 answer left was.2.1 others named alike (survive was.0 was.1)
+
+  survive_after_others : (others : List Message) (before now : Files → Type 0) → AreNamed others → Left LeavesOthers before now → Survive others before → Survive others now
+  survive_after_others others before now named acts survive left may k d below =
+      let was = acts left may in
+      (others_hold (get_or others k d) (named k d below) was.0 left was.2).still (survive was.0 was.1 k d below)
+
   home_after_run : (old new : Files) (report : Report) → Run t old (Ok report) new → All (IsSoundAt old) ms → All (IsHome new) ms
   home_after_run old new report run sound = (run.keeps ms are (sound_now t ms are small old sound)).ends.delivered.homes_are
 
@@ -41,6 +51,10 @@ module _ (t : List ℕ) (ms : List Message) (are : MessagesOf t ms) (small : len
   -- a run and a sync
   pub intact_after_both : (before between now : Files → Type 0) (answer : Result Report RunFault) → Left (λ old new. (names : Names) × Performs leaving (planned_tasks names ms) old answer new) before between → Left LeavesOthers between now → AreIntact ms before → AreIntact ms now
   intact_after_both before between now answer run others intact = intact_after_others between now others (intact_after_run before between answer run intact)
+
+  pub survive_after_both : (others : List Message) (before between now : Files → Type 0) (answer : Result Report RunFault) → AreNamed others → AreAlike others ms → Left (λ old new. (names : Names) × Performs leaving (planned_tasks names ms) old answer new) before between → Left LeavesOthers between now → Survive others before → Survive others now
+  survive_after_both others before between now answer named alike run acts survive =
+      survive_after_others others between now named acts (survive_after_run others before between answer named alike run survive)
 
   pub safe_after_both : {A E : Type 0} (old : Files) (mid new : World) (before between now : Files → Type 0) (rooted : Type 0) (report : Report) (synced : Result A E) → Run t old (Ok report) mid.files → All (IsSoundAt old) ms → Left (λ old new. (names : Names) × Performs {E = RunFault} leaving (planned_tasks names ms) old (Ok report) new) before between → AreIntact ms before → Acts mid new → IsOk synced → (AreNamed ms → All (IsHome mid.files) ms → AreIntact ms between → OnOk synced (Survive ms now)) → OnOk synced rooted → AreSafe ms new.files now rooted
   safe_after_both old mid new before between now rooted report synced run sound left intact acts ok survive found =

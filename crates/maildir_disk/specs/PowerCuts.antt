@@ -31,6 +31,10 @@ HasBody s m = Contains (homes s m.target.base) m.body
 abbrev pub Survive : List Message → (Files → Type 0) → Type 0
 Survive ms may_leave = (left : Files) → may_leave left → All (HasBody left) ms
 
+-- where two messages have the same base, they have the same body
+abbrev pub AreAlike : List Message → List Message → Type 0
+AreAlike others ms = All (λ m. All (λ n. n.target.base ≡ m.target.base → n.body ≡ m.body) ms) others
+
 -- The messages are at home, and whatever a power cut leaves, each has a home there that holds its body, in the Maildir, which is found.
 pub record AreSafe (ms : List Message) (s : Files) (may_leave : Files → Type 0) (rooted : Type 0) : Type 0 where
   pub home : All (IsHome s) ms

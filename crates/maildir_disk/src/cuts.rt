@@ -7,7 +7,7 @@ ghost use Rattle.maildir_run.specs.Files.{Files};
 ghost use Rattle.maildir_run.specs.Runs.{Run};
 ghost use Rattle.maildir_run.specs.Tasks.{Names, Performs, leaving, planned_tasks};
 ghost use Rattle.maildir_run.specs.Texts.{MessagesOf};
-ghost use Rattle.maildir_disk.specs.PowerCuts.{Event, Happen, HasBody, IsIntact, IsSingle, LeavesOthers, Moment};
+ghost use Rattle.maildir_disk.specs.PowerCuts.{AreAlike, Event, Happen, HasBody, IsIntact, IsSingle, LeavesOthers, Moment};
 
 /// What a cut leaves of a run that did its planned calls, whatever it answered: where what it would have left of the run's
 /// messages before held their bodies, it does after it. And a message that a cut would have left before it is left after
@@ -18,8 +18,7 @@ pub fn left_of_a_run()
         All (IsIntact before) ms → All (IsIntact now) ms }
     ensures bodies { (t : List ℕ) (ms others : List Message) (names : Names) (before now : Files) (answer : Result Report RunFault) →
         MessagesOf t ms → length t < 2 ^ 63 → Performs leaving (planned_tasks names ms) before answer now → AreNamed others →
-        All (λ m. All (λ n. n.target.base ≡ m.target.base → n.body ≡ m.body) ms) others →
-        All (HasBody before) others → All (HasBody now) others }
+        AreAlike others ms → All (HasBody before) others → All (HasBody now) others }
 {}
 
 /// What other programs do takes nothing away from what a cut leaves, and changes no bytes of it.

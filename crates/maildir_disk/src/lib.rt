@@ -1,8 +1,8 @@
 //! A Maildir on a file system, proved over what a few system calls are taken to do.
 //!
 //! [`System`] is those calls, and `specs/World.antt` says what is assumed of them. [`DiskFolder`] is a folder of the
-//! engine over any such system, and takes effect as reported where the system does as assumed. [`MemSystem`] is a
-//! system in memory that does.
+//! engine over any such system, and takes effect as reported where the system does as assumed. [`cuts`] has the laws on
+//! what a power cut leaves of it. [`MemSystem`] is a system in memory that does as assumed.
 #![tactic(auto)]
 
 pub mod cuts;

@@ -257,6 +257,3 @@ fn error_of(fault: FolderFault) -> io::Error {
         FolderFault::OutOfMemory => ErrorKind::OutOfMemory,
     })
 }
-
-#[cfg(test)]
-mod tests;

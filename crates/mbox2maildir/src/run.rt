@@ -3,13 +3,13 @@ ghost use Rattle.std.specs.Prelude.{◌≡◌, ◌⊎◌, ◌↔◌, ℕ, List, 
 ghost use Rattle.std.specs.Io.KnownBytes.{Appends, IsAtEnd, Keeps};
 ghost use Rattle.std.specs.List.{flat_map};
 ghost use Rattle.mbox_text.specs.Spelling.{spelling};
-ghost use Rattle.maildir_run.specs.Delivery.{IsSoundAt, Message};
+ghost use Rattle.maildir_run.specs.Delivery.{AreNamed, IsSoundAt, Message};
 ghost use Rattle.maildir_run.specs.Listing.{listing as listing_of};
 ghost use Rattle.maildir_run.specs.Output.{GivesFront};
 ghost use Rattle.maildir_run.specs.Runs.{Possible};
 ghost use Rattle.maildir_run.specs.Texts.{MessagesOf};
 ghost use Rattle.maildir_disk.specs.Paths.{system_of};
-ghost use Rattle.maildir_disk.specs.PowerCuts.{AreIntact, AreSafe};
+ghost use Rattle.maildir_disk.specs.PowerCuts.{AreAlike, AreIntact, AreSafe, Survive};
 ghost use Rattle.mbox2maildir.specs.Report.{PrintsReports, report_line};
 ghost use Rattle.mbox2maildir.specs.Words.{AreOfAForm};
 ghost use Rattle.mbox2maildir.specs.Written.{WritesAll};
@@ -196,6 +196,9 @@ fn deliver<S: System, I: Read, W: Write>(
     ensures honest { ⟦<DiskFolder<S> as Folder>⟧.honest folder.old → ⟦<DiskFolder<S> as Folder>⟧.honest folder.new }
     ensures intact { let f = ⟦<DiskFolder<S> as Folder>⟧ in f.honest folder.old → (t : List ℕ) (ms : List Message) → length t < 2 ^ 63 →
         Possible (I.remaining source.old) (I.remaining source.new) t → MessagesOf t ms → AreIntact ms (f.may_leave folder.old) → AreIntact ms (f.may_leave folder.new) }
+    ensures still { let f = ⟦<DiskFolder<S> as Folder>⟧ in f.honest folder.old → (t : List ℕ) (ms others : List Message) → length t < 2 ^ 63 →
+        Possible (I.remaining source.old) (I.remaining source.new) t → MessagesOf t ms → AreNamed others → AreAlike others ms →
+        Survive others (f.may_leave folder.old) → Survive others (f.may_leave folder.new) }
     ensures safe { let f = ⟦<DiskFolder<S> as Folder>⟧ in f.honest folder.old → (t : List ℕ) (ms : List Message) → length t < 2 ^ 63 →
         Possible (I.remaining source.old) (I.remaining source.new) t → MessagesOf t ms → All (IsSoundAt (f.files folder.old)) ms → AreIntact ms (f.may_leave folder.old) →
         OnOk result (AreSafe ms (f.files folder.new) (f.may_leave folder.new) (S.rooted (system_of folder.new))) }

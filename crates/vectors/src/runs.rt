@@ -1,6 +1,6 @@
 // What the rows on runs share. The digests are those of other programs.
 use crate::streams::{Cut, Then};
-use maildir_run::{FolderFault, MemFolder, Report, RunFault, Sub, convert};
+use maildir_run::{Folder, FolderFault, MemFolder, Report, RunFault, Sub, convert};
 use std::alloc::{AllocError, Global};
 
 pub(crate) const LIMIT: u64 = 1_099_511_627_776;
@@ -29,9 +29,9 @@ pub(crate) type File<'a> = (Sub, &'a str, &'a str);
 pub(crate) type Answer = Result<(u64, u64, u64, u64), RunFault>;
 
 /// A run over a source that may make so many reads of it.
-pub(crate) fn run_from(
+pub(crate) fn run_from<F: Folder>(
     alloc: Global,
-    folder: &mut MemFolder,
+    folder: &mut F,
     source: &mut Cut<'_>,
     reads: u64,
 ) -> Answer {
@@ -45,7 +45,7 @@ pub(crate) fn run_from(
 }
 
 /// A run over a text that comes whole.
-pub(crate) fn run_over(alloc: Global, folder: &mut MemFolder, text: &[u8]) -> Answer {
+pub(crate) fn run_over<F: Folder>(alloc: Global, folder: &mut F, text: &[u8]) -> Answer {
     let mut source = Cut::new(text, 65_536, Then::Ends);
     run_from(alloc, folder, &mut source, LIMIT)
 }

@@ -47,7 +47,8 @@ impl Deed<'_> {
     }
 }
 
-fn acts_of(alloc: Global, deeds: &[Deed<'_>]) -> Result<Vec<Act>, AllocError> {
+/// What other programs do, deed after deed.
+pub(crate) fn acts_of(alloc: Global, deeds: &[Deed<'_>]) -> Result<Vec<Act>, AllocError> {
     let mut acts = Vec::new(alloc);
     for deed in deeds {
         acts.push(deed.act(alloc)?)?;

@@ -1,6 +1,6 @@
 use Rattle.std.proofs.Common.{OnOk, Ok, Err, inr, rules}
 use Rattle.maildir_disk.proofs.Lefts.{on_ok}
-use Rattle.maildir_disk.proofs.Safety.{intact_after_run, intact_after_both, safe_after_both}
+use Rattle.maildir_disk.proofs.Safety.{intact_after_run, intact_after_both, survive_after_run, survive_after_both, safe_after_both}
 use Rattle.mbox2maildir.specs.Report.{PrintsReports}
 use Rattle.mbox2maildir.proofs.Reports.{one_report}
 use Rattle.mbox2maildir.proofs.run.deliver.Goals as goal
@@ -44,3 +44,19 @@ returns-clause-safe g c = λ honest t ms small p are sound intact.
     let still = c.convert.ensures.honest honest in
     on_ok _ c.flush.result (safe_after_both t ms are small _ _ _ _ _ _ _ c.in_ok-report.report c.sync.result (c.in_ok-report.ensures.run honest t small p) sound (c.in_ok-report.ensures.left honest t ms p are) intact
     (c.sync.ensures.acts still) (search rules) (c.sync.ensures.survive still ms) (c.sync.ensures.rooted still))
+
+pub returns-in_err-map_err-clause-still : goal.returns-in_err-map_err-clause-still
+returns-in_err-map_err-clause-still g c = λ honest t ms others small p are named alike survive.
+    survive_after_both t ms are small others _ _ _ c.convert.result named alike (c.convert.ensures.left honest t ms p are) (c.sync.ensures.left (c.convert.ensures.honest honest)) survive
+
+pub returns-in_err-print_report-clause-still : goal.returns-in_err-print_report-clause-still
+returns-in_err-print_report-clause-still g c = λ honest t ms others small p are named alike survive.
+    survive_after_both t ms are small others _ _ _ c.convert.result named alike (c.convert.ensures.left honest t ms p are) (c.sync.ensures.left (c.convert.ensures.honest honest)) survive
+
+pub returns-clause-still : goal.returns-clause-still
+returns-clause-still g c = λ honest t ms others small p are named alike survive.
+    survive_after_both t ms are small others _ _ _ c.convert.result named alike (c.convert.ensures.left honest t ms p are) (c.sync.ensures.left (c.convert.ensures.honest honest)) survive
+
+pub returns-in_err-report-clause-still : goal.returns-in_err-report-clause-still
+returns-in_err-report-clause-still g c = λ honest t ms others small p are named alike survive.
+    survive_after_run t ms are small others _ _ c.convert.result named alike (c.convert.ensures.left honest t ms p are) survive

@@ -1,6 +1,13 @@
+use Rattle.std.proofs.Common.{rules}
 use Rattle.maildir_run.specs.Calls.{Removing}
 use Rattle.maildir_disk.proofs.Lefts.{left_always}
 use Rattle.maildir_disk.proofs.disk_folder.DiskFolderFolder.remove.Goals as goal
 
 pub returns-clause-left : goal.returns-clause-left
 returns-clause-left g c = λ honest. rw c.counted.ensures.system (left_always (Removing c.args.name.now) _ _ _ (λ s. tt) (c.unlink.ensures.left honest))
+
+pub returns-clause-called : goal.returns-clause-called
+returns-clause-called g c = search rules
+
+pub returns-clause-cause : goal.returns-clause-cause
+returns-clause-cause g c = search rules

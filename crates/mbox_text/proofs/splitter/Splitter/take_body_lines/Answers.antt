@@ -1,4 +1,4 @@
-use Rattle.std.proofs.Common.{vec_len, arith, sym}
+use Rattle.std.proofs.Common.{vec_len, arith, rules, sym}
 use Rattle.std.proofs.lemmas.Bool.{eqb-true}
 use Rattle.std.proofs.lemmas.List.{nil_from_length}
 use Rattle.mbox_text.proofs.Fields.{lines_taken}
@@ -9,3 +9,6 @@ returns-in-Some-clause-held c =
     lines_taken c.take_lines.result c.args.self.now.message c.in-Some.message c.args.self.now.line.items c.take_lines.new.body.items c.args.text.now c.in-Some.is
     (nil_from_length c.args.self.now.line.items (omega (arith, eqb-true (vec_len c.args.self.now.line) 0 (sym c.if-not-is_empty.ensures), c.args.self.now.line.ok)))
     c.take_lines.ensures.added c.take_lines.ensures.ended c.take_lines.ensures.none
+
+pub returns-in-None-clause-held : goal.returns-in-None-clause-held
+returns-in-None-clause-held c = search rules

@@ -1,0 +1,5 @@
+use Rattle.std.proofs.Common.{rules}
+use Rattle.maildir_disk.proofs.disk_folder.DiskFolder.counted.Goals as goal
+
+pub returns : goal.returns
+returns g c = search rules
