@@ -5,7 +5,7 @@ use Rattle.std.specs.declared.string.String.{String}
 use Rattle.std.specs.declared.alloc.Global.{Global}
 use Rattle.maildir_run.specs.declared.folder.FolderFault.{FolderFault}
 use Rattle.maildir_run.specs.declared.folder.Sub.{Sub}
-use Rattle.maildir_run.specs.Calls.{Call, Called, Listed, Listing, Writing, Placing, Removing, Move, Again, Succeeded, after, moved}
+use Rattle.maildir_run.specs.Calls.{Call, Called, Listed, Listing, Writing, Move, Again, Succeeded, after, moved}
 use Rattle.maildir_run.specs.Cuts.{Came, Leaves, LeavesOf, IsFoundWhole, Left, left_after}
 use Rattle.maildir_run.specs.Files.{Files}
 use Rattle.maildir_run.proofs.Moves.{writing_ok}
@@ -18,14 +18,12 @@ leaves_moves : (call : Call) (old new : Files) (moves : List Move) → new ≡ a
 leaves_moves call old new moves e = record { kept = map Came moves; are = e ∙ sym (left_moves old call moves) }
 
 found_whole : (call : Call) (old new : Files) → Succeeded call old new → IsFoundWhole call new
-found_whole (Listing sub) old new done = tt
-found_whole (Placing name p target) old new done = tt
-found_whole (Removing name) old new done = tt
 found_whole (Writing name bytes) old new done = λ ours held has.
     elim (writing_ok name bytes ours old new done) as (λ _. held ≡ bytes) [
       | inl is ↦ let e = sym has ∙ is in cc
       | inr gone ↦ let e = sym has ∙ gone in cc
     ]
+found_whole other old new done = tt
 
 leaves_called : {A : Type 0} (call : Call) (old : Files) (r : Result A FolderFault) (new : Files) → Called call old r new → LeavesOf call old r new
 leaves_called call old (Ok x) new h = (leaves_moves call old new (h.before ++ Again ∷ h.rest) h.left, found_whole call old new h)

@@ -5,7 +5,7 @@ use Rattle.maildir_run.specs.declared.folder.Sub.{Sub}
 use Rattle.maildir_run.specs.declared.folder.FolderFault.{FolderFault}
 use Rattle.maildir_run.specs.declared.mem_folder.MemFolder.{MemFolder}
 use Rattle.maildir_run.specs.declared.script.Mode.{Mode}
-use Rattle.maildir_run.specs.declared.script.Mode.TheVariants.{Plain, FailBefore, FailAfter, Half, Twice}
+use Rattle.maildir_run.specs.declared.script.Mode.TheVariants.{Plain, Twice}
 use Rattle.maildir_run.specs.Files.{Files}
 use Rattle.maildir_run.specs.Calls.{Call, Listing, Called, Listed, folder_of, names_of}
 use Rattle.maildir_run.specs.Script.{IsCutShort, acts_at, Answers}
@@ -21,9 +21,7 @@ follows_called call old new (Err f) (inr w) = cut_fails call (next_acts old) (fi
 listing_leaves : {A : Type 0} (mode : Mode) (sub : Sub) (s t : Files) (x : A) → Answers mode (Listing sub) s (Ok x) t → t ≡ s
 listing_leaves Plain sub s t x a = a.2
 listing_leaves Twice sub s t x a = a.2
-listing_leaves FailBefore sub s t x a = cc a.0
-listing_leaves FailAfter sub s t x a = cc a.0
-listing_leaves Half sub s t x a = cc a.0
+listing_leaves other sub s t x a = cc a.0
 
 pub follows_listed : (sub : Sub) (old new : MemFolder) (result : Result (Vec (String Global) Global) FolderFault) → FollowsScript (Listing sub) old result new → IfOk result (λ names. names_of names ≡ keys (folder_of sub (files_of new))) → Listed sub (files_of old) result (files_of new)
 follows_listed sub old new (Ok names) (inl a) is = listed_then sub (next_acts old) (files_of old) (files_of new) (names_of names) (listing_leaves (next_mode old) sub (next_files old) (files_of new) names a) is

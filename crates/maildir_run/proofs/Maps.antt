@@ -19,9 +19,8 @@ pub same : IsAntisymmetric name_cmp
 same = slice_cmp-IsAntisymmetric nat_cmp-IsAntisymmetric
 
 equal_of : (r : Ordering) → is_eq r ≡ true → r ≡ Equal
-equal_of Less e = cc
 equal_of Equal e = refl
-equal_of Greater e = cc
+equal_of other e = cc
 
 pub is_name-true : (a b : List ℕ) → is_name a b ≡ true → a ≡ b
 is_name-true a b e = same a b (equal_of (name_cmp a b) e)

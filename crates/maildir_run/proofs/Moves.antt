@@ -20,16 +20,12 @@ placed_kept b name New target off (Some bytes) s = equally b s (placed s name Ne
 placed_kept b name Cur target off (Some bytes) s = equally b s (placed s name Cur target (Some bytes)) (rw (held-insert_other b s.cur target bytes off) refl)
 
 effect_kept : (b : List ℕ) (call : Call) → PlacesElsewhere b call → (s : Files) → Kept b s (effect call s)
-effect_kept b (Listing sub) h s = IsPermutation-refl _
-effect_kept b (Writing name bytes) h s = IsPermutation-refl _
 effect_kept b (Placing name p target) h s = placed_kept b name p target h (get s.tmp name) s
-effect_kept b (Removing name) h s = IsPermutation-refl _
+effect_kept b other h s = IsPermutation-refl _
 
 pub torn_kept : (b : List ℕ) (call : Call) (bytes : List ℕ) (s : Files) → Kept b s (torn call bytes s)
-torn_kept b (Listing sub) bytes s = IsPermutation-refl _
 torn_kept b (Writing name _) bytes s = IsPermutation-refl _
-torn_kept b (Placing name p target) bytes s = IsPermutation-refl _
-torn_kept b (Removing name) bytes s = IsPermutation-refl _
+torn_kept b other bytes s = IsPermutation-refl _
 
 moved_kept : (b : List ℕ) → IsTrue (is_converter_base b) → (call : Call) → PlacesElsewhere b call → (m : Move) (s : Files) → Kept b s (moved call m s)
 moved_kept b named call h (Other action) s = acted_kept b named action s
@@ -89,10 +85,8 @@ effect_tmp q (Placing name p target) h s = placed_tmp q name p target (get s.tmp
 effect_tmp q (Removing name) h s = dropped q name s
 
 torn_tmp : (q : List ℕ) (call : Call) → WritesElsewhere q call → (bytes : List ℕ) (s : Files) → StaysOrGoes q s (torn call bytes s)
-torn_tmp q (Listing sub) h bytes s = inl refl
 torn_tmp q (Writing name _) h bytes s = written_elsewhere q name bytes s h
-torn_tmp q (Placing name p target) h bytes s = inl refl
-torn_tmp q (Removing name) h bytes s = inl refl
+torn_tmp q other h bytes s = inl refl
 
 moved_tmp : (q : List ℕ) → IsTrue (is_converter_name q) → (call : Call) → WritesElsewhere q call → (m : Move) (s : Files) → StaysOrGoes q s (moved call m s)
 moved_tmp q ours call h (Other action) s = acted_tmp q ours action s

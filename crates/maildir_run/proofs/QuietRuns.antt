@@ -59,10 +59,8 @@ effect_others (Placing name p target) h s = placed_others s name p target (get s
 effect_others (Removing name) h s = record { in_tmp = λ q off. remove_other s.tmp q name h off; in_new = λ q off. refl; in_cur = λ q off. refl }
 
 torn_others : (call : Call) → OfConverter call → (bytes : List ℕ) (s : Files) → LeavesOthers s (torn call bytes s)
-torn_others (Listing sub) h bytes s = others_same s
 torn_others (Writing name _) h bytes s = wrote s name bytes h
-torn_others (Placing name p target) h bytes s = others_same s
-torn_others (Removing name) h bytes s = others_same s
+torn_others other h bytes s = others_same s
 
 pub own_others : (call : Call) → OfConverter call → (ms : List Move) (s : Files) → IsOwn ms → LeavesOthers s (after s call ms)
 own_others call h [] s own = others_same s

@@ -20,7 +20,7 @@ use Rattle.maildir_run.specs.declared.script.Mode.{Mode}
 use Rattle.maildir_run.specs.declared.script.Mode.TheVariants.{Plain, FailBefore, FailAfter, Half, Twice}
 use Rattle.maildir_run.specs.declared.script.ScriptLine.{ScriptLine}
 use Rattle.maildir_run.specs.Files.{Files, FileMap, Action, ToCur, Reflag, DropTmp, Outside, acted, all_acted, is_name, may_take, AgreeOnConverters, LeavesConverters}
-use Rattle.maildir_run.specs.Calls.{Call, Listing, Writing, Placing, Removing, Move, Other, Again, Torn, placed, effect, after, IsOthers, IsWhole, IsReady, folder_of, Failed, Lists, Called}
+use Rattle.maildir_run.specs.Calls.{Call, Listing, Writing, Placing, Move, Other, Again, Torn, placed, effect, after, IsOthers, IsWhole, IsReady, folder_of, Failed, Lists, Called}
 use Rattle.maildir_run.specs.MemFiles.{with_file, without_file}
 use Rattle.maildir_run.specs.Script.{performed, all_performed, acts_at, IsCutShort, IsPart, Answers, halved, fails, done}
 use Rattle.maildir_run.proofs.Maps.{total, is_name-true, outside, apart, remove-insert}
@@ -195,9 +195,7 @@ listed_then sub acts old new names is names_are =
 
 halved_moves : (call : Call) (s : Files) → (ms : List Move) × (halved call s ≡ after s call ms)
 halved_moves (Writing name bytes) s = (Torn (take (length bytes / 2) bytes) ∷ [], refl)
-halved_moves (Listing sub) s = ([], refl)
-halved_moves (Placing name p target) s = ([], refl)
-halved_moves (Removing name) s = ([], refl)
+halved_moves other s = ([], refl)
 
 done_moves : (mode : Mode) (call : Call) (s : Files) → (ms : List Move) × (done mode call s ≡ after s call ms)
 done_moves Plain call s = (Again ∷ [], refl)
@@ -213,9 +211,7 @@ part_moves mode call old new (inr once) = (Again ∷ [], once.1)
 pub answered : {A : Type 0} (mode : Mode) (call : Call) (old new : Files) (result : Result A FolderFault) → Answers mode call old result new → Called call old result new
 answered Plain call old new (Ok x) a = record { before = []; rest = []; others = tt; ready = a.1; whole = tt; left = a.2 }
 answered Twice call old new (Ok x) a = record { before = []; rest = Again ∷ []; others = tt; ready = a.1; whole = tt; left = a.2 }
-answered FailBefore call old new (Ok x) a = cc (a.0)
-answered FailAfter call old new (Ok x) a = cc (a.0)
-answered Half call old new (Ok x) a = cc (a.0)
+answered other call old new (Ok x) a = cc (a.0)
 answered mode call old new (Err fault.Absent) a = record { moves = []; left = a.2 }
 answered mode call old new (Err fault.Failed) a = let ms = done_moves mode call old in record { moves = ms.0; left = a.1 ∙ ms.1 }
 answered mode call old new (Err fault.OutOfMemory) a = let ms = part_moves mode call old new a.1 in record { moves = ms.0; left = ms.1 }
@@ -224,9 +220,7 @@ answered mode call old new (Err fault.OutOfMemory) a = let ms = part_moves mode 
 nothing_placed : (mode : Mode) (name : List ℕ) (p : Place) (target : List ℕ) (s : Files) → IsFalse (fails mode) → get s.tmp name ≡ None → done mode (Placing name p target) s ≡ s
 nothing_placed Plain name p target s plain none = ap (placed s name p target) none
 nothing_placed Twice name p target s plain none = let once = ap (placed s name p target) none in ap (effect (Placing name p target)) once ∙ once
-nothing_placed FailBefore name p target s plain none = cc
-nothing_placed FailAfter name p target s plain none = cc
-nothing_placed Half name p target s plain none = cc
+nothing_placed other name p target s plain none = cc
 
 pub placed_in : {A : Type 0} (mode : Mode) (name : List ℕ) (p : Place) (target : List ℕ) (old new : Files) (result : Result A FolderFault) (there : Bool) → IsFalse (fails mode) → (IsTrue there → IsReady (Placing name p target) old) → (IsFalse there → get old.tmp name ≡ None) → (IsTrue there → IsOk result) → (IsFalse there → IsErrOf result fault.Absent) → new ≡ done mode (Placing name p target) old → Answers mode (Placing name p target) old result new
 placed_in mode name p target old new (Ok x) true plain ready none ok absent is = (plain, ready refl, is)

@@ -11,7 +11,6 @@ use Rattle.std.specs.declared.alloc.Global.{Global}
 use Rattle.maildir_run.specs.declared.fault.RunFault.{RunFault}
 use Rattle.maildir_run.specs.declared.folder.FolderFault.{FolderFault}
 use Rattle.maildir_run.specs.declared.folder.FolderFault.TheVariants.{Absent, Failed as Broken}
-use Rattle.maildir_run.specs.declared.folder.FolderFault.TheVariants as folder
 use Rattle.maildir_run.specs.declared.folder.Sub.{Sub}
 use Rattle.maildir_run.specs.Calls.{Call, Called, CalledQuietly, Listed, Listing, GoesUp, CountsFailure, folder_of, names_of}
 use Rattle.maildir_run.specs.Counting.{fault_of, run_answer, capped, GoesUpWith, CountsFault, IsNumbered}
@@ -141,16 +140,13 @@ told w xs old (Ok v) new number h = h
 told w xs old (Err e) new number h = h
 
 told_cause : {A : Type 0} (r : Result A FolderFault) (number old new : ℕ) → CountsFailure r old new → CountsFault (run_answer number r) old new
-told_cause (Ok v) number old new h = h
 told_cause (Err Absent) number old new h = h
 told_cause (Err Broken) number old new h = h
-told_cause (Err folder.OutOfMemory) number old new h = h
+told_cause other number old new h = h
 
 told_number : {A : Type 0} (r : Result A FolderFault) (number : ℕ) → IsNumbered (fault_of (run_answer number r)) number
-told_number (Ok v) number = tt
-told_number (Err Absent) number = tt
 told_number (Err Broken) number = refl
-told_number (Err folder.OutOfMemory) number = tt
+told_number other number = tt
 
 told_names : (r : Result (Vec (String Global) Global) FolderFault) (number : ℕ) → names_in (run_answer number r) ≡ names_in r
 told_names (Ok v) number = refl

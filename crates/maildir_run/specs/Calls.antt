@@ -52,9 +52,7 @@ pub data Move : Type 0 where
 -- the files after a call was torn
 abbrev pub torn : Call → List ℕ → Files → Files
 torn (Writing name _) bytes s = record s { tmp = insert s.tmp name bytes }
-torn (Listing _) bytes s = s
-torn (Placing _ _ _) bytes s = s
-torn (Removing _) bytes s = s
+torn other bytes s = s
 
 -- the files after one move of a call
 abbrev pub moved : Call → Move → Files → Files
@@ -91,9 +89,7 @@ IsOwn (Torn _ ∷ ms) = IsOwn ms
 -- a placement finds its file in `tmp`; the other calls need nothing
 abbrev pub IsReady : Call → Files → Type 0
 IsReady (Placing name _ _) s = IsTrue (contains_key s.tmp name)
-IsReady (Listing _) s = Unit {0}
-IsReady (Writing _ _) s = Unit {0}
-IsReady (Removing _) s = Unit {0}
+IsReady other s = Unit {0}
 
 -- The call answered Ok: other programs acted, then its effect came, then others acted and it may have come again, and nothing was torn.
 pub record Succeeded (call : Call) (old new : Files) : Type 0 where
@@ -144,31 +140,24 @@ GoesUp old new = new ≡ (old + 1) % 2 ^ 128
 
 -- the count of failures goes up with `Absent` and `Failed`, and with no other answer
 abbrev pub CountsFailure : {A : Type 0} → Result A FolderFault → ℕ → ℕ → Type 0
-CountsFailure (Ok _) old new = new ≡ old
-CountsFailure (Err OutOfMemory) old new = new ≡ old
 CountsFailure (Err Absent) old new = GoesUp old new
 CountsFailure (Err fault.Failed) old new = GoesUp old new
+CountsFailure other old new = new ≡ old
 
 -- `Absent` comes from a placement alone
 abbrev pub IsNotAbsent : {A : Type 0} → Result A FolderFault → Type 0
-IsNotAbsent (Ok _) = Unit {0}
 IsNotAbsent (Err Absent) = ⊥
-IsNotAbsent (Err fault.Failed) = Unit {0}
-IsNotAbsent (Err OutOfMemory) = Unit {0}
+IsNotAbsent other = Unit {0}
 
 -- the call places no file under this base
 abbrev pub PlacesElsewhere : List ℕ → Call → Type 0
 PlacesElsewhere b (Placing _ _ target) = IsFalse (has_base b target)
-PlacesElsewhere b (Listing _) = Unit {0}
-PlacesElsewhere b (Writing _ _) = Unit {0}
-PlacesElsewhere b (Removing _) = Unit {0}
+PlacesElsewhere b other = Unit {0}
 
 -- the call does not write this name
 abbrev pub WritesElsewhere : List ℕ → Call → Type 0
 WritesElsewhere name (Writing own _) = IsFalse (is_name name own)
-WritesElsewhere name (Listing _) = Unit {0}
-WritesElsewhere name (Placing _ _ _) = Unit {0}
-WritesElsewhere name (Removing _) = Unit {0}
+WritesElsewhere name other = Unit {0}
 
 -- in `tmp` a name is as it was, or gone
 abbrev pub StaysOrGoes : List ℕ → Files → Files → Type 0

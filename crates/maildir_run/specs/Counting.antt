@@ -4,7 +4,7 @@ use Rattle.maildir_run.specs.declared.folder.FolderFault.{FolderFault}
 use Rattle.maildir_run.specs.declared.folder.FolderFault.TheVariants.{Absent, Failed}
 use Rattle.maildir_run.specs.declared.folder.FolderFault.TheVariants as folder
 use Rattle.maildir_run.specs.declared.fault.RunFault.{RunFault}
-use Rattle.maildir_run.specs.declared.fault.RunFault.TheVariants.{NoFromLine, ReadFault, TooManyReads, FolderAbsent, FolderFailed, OutputFault, OutOfMemory}
+use Rattle.maildir_run.specs.declared.fault.RunFault.TheVariants.{FolderAbsent, FolderFailed, OutOfMemory}
 use Rattle.maildir_run.specs.Calls.{GoesUp}
 
 -- a count of 128 bits after it went up so often
@@ -34,14 +34,9 @@ run_answer number (Err fault) = Err (run_fault number fault)
 
 -- the count of failures goes up with `FolderAbsent` and `FolderFailed`, and with no other fault
 abbrev pub GoesUpWith : Option RunFault → ℕ → ℕ → Type 0
-GoesUpWith None old new = new ≡ old
-GoesUpWith (Some NoFromLine) old new = new ≡ old
-GoesUpWith (Some ReadFault) old new = new ≡ old
-GoesUpWith (Some TooManyReads) old new = new ≡ old
 GoesUpWith (Some FolderAbsent) old new = GoesUp old new
 GoesUpWith (Some (FolderFailed _)) old new = GoesUp old new
-GoesUpWith (Some OutputFault) old new = new ≡ old
-GoesUpWith (Some OutOfMemory) old new = new ≡ old
+GoesUpWith other old new = new ≡ old
 
 -- it counts the fault of this answer
 abbrev pub CountsFault : {A : Type 0} → Result A RunFault → ℕ → ℕ → Type 0
@@ -49,24 +44,15 @@ CountsFault result old new = GoesUpWith (fault_of result) old new
 
 -- the number in `FolderFailed` is this
 abbrev pub IsNumbered : Option RunFault → ℕ → Type 0
-IsNumbered None number = Unit {0}
-IsNumbered (Some NoFromLine) number = Unit {0}
-IsNumbered (Some ReadFault) number = Unit {0}
-IsNumbered (Some TooManyReads) number = Unit {0}
-IsNumbered (Some FolderAbsent) number = Unit {0}
 IsNumbered (Some (FolderFailed n)) number = n ≡ number
-IsNumbered (Some OutputFault) number = Unit {0}
-IsNumbered (Some OutOfMemory) number = Unit {0}
+IsNumbered other number = Unit {0}
 
 -- what a folder call of a run may be refused for, or a growth
 abbrev pub IsOfFolder : RunFault → Type 0
-IsOfFolder NoFromLine = ⊥
-IsOfFolder ReadFault = ⊥
-IsOfFolder TooManyReads = ⊥
 IsOfFolder FolderAbsent = Unit {0}
 IsOfFolder (FolderFailed _) = Unit {0}
-IsOfFolder OutputFault = ⊥
 IsOfFolder OutOfMemory = Unit {0}
+IsOfFolder other = ⊥
 
 -- so many calls were made: the folder counts them, and so does the run
 pub record Makes (n made made' calls calls' : ℕ) : Type 0 where

@@ -3,8 +3,8 @@
 use Rattle.std.specs.Prelude.{◌≡◌, ℕ, List, [], ◌∷◌, IsTrue, Option, Some, None, Result, Ok, Err, if◌then◌else◌}
 use Rattle.std.specs.FinMap.{get, insert}
 use Rattle.maildir_name.specs.Names.{is_converter_name}
-use Rattle.maildir_run.specs.Calls.{Call, Listing, Writing, Placing, Removing, Move, moved}
-use Rattle.maildir_run.specs.Files.{Files, Action, ToCur, Reflag, DropTmp, Outside, may_take}
+use Rattle.maildir_run.specs.Calls.{Call, Writing, Move, moved}
+use Rattle.maildir_run.specs.Files.{Files, Action, ToCur, Reflag, may_take}
 
 -- one thing that is kept of a call
 pub data Kept : Type 0 where
@@ -22,8 +22,7 @@ linked s name target (Some bytes) = if may_take s.cur name target then record s 
 abbrev pub doubled : Action → Files → Files
 doubled (ToCur name target) s = linked s name target (get s.new name)
 doubled (Reflag name target) s = linked s name target (get s.cur name)
-doubled (DropTmp name) s = s
-doubled (Outside files) s = s
+doubled other s = s
 
 -- the files after what was kept of a call, one after the other
 abbrev pub left_after : Files → Call → List Kept → Files
@@ -39,9 +38,7 @@ pub record Leaves (call : Call) (old new : Files) : Type 0 where
 -- a file that was written is found with its bytes, wherever it is found
 abbrev pub IsFoundWhole : Call → Files → Type 0
 IsFoundWhole (Writing name bytes) s = IsTrue (is_converter_name name) → (held : List ℕ) → get s.tmp name ≡ Some held → held ≡ bytes
-IsFoundWhole (Listing _) s = Unit {0}
-IsFoundWhole (Placing _ _ _) s = Unit {0}
-IsFoundWhole (Removing _) s = Unit {0}
+IsFoundWhole other s = Unit {0}
 
 -- what a cut leaves of a call with this answer
 abbrev pub LeavesOf : {A E : Type 0} → Call → Files → Result A E → Files → Type 0

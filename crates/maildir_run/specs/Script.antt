@@ -55,9 +55,7 @@ mode_of lines fail_from call = if is_from fail_from call then FailBefore else mo
 -- the files after a write left half of its bytes; other calls leave nothing
 abbrev pub halved : Call → Files → Files
 halved (Writing name bytes) s = torn (Writing name bytes) (take (length bytes / 2) bytes) s
-halved (Listing _) s = s
-halved (Placing _ _ _) s = s
-halved (Removing _) s = s
+halved other s = s
 
 -- the files after a call in a mode (this project's own rule)
 abbrev pub done : Mode → Call → Files → Files
