@@ -71,7 +71,7 @@ impl<S: System> DiskFolder<S> {
     }
 
     // Counts a call that gave this answer.
-    fn counted<T>(&mut self, answer: Result<T, FolderFault>) -> Result<T, FolderFault>
+    fn count_call<T>(&mut self, answer: Result<T, FolderFault>) -> Result<T, FolderFault>
         ensures same { result ≡ answer }
         ensures system { self.new.system ≡ self.old.system }
         ensures calls { GoesUp self.old.calls self.new.calls }
@@ -100,7 +100,7 @@ impl<S: System> Folder for DiskFolder<S> {
 
     fn list(&mut self, sub: Sub) -> Result<Vec<String>, FolderFault> {
         let answer = answer_of(names_of_one_moment(&mut self.system, sub));
-        self.counted(answer)
+        self.count_call(answer)
     }
 
     fn write(&mut self, name: &str, bytes: &[u8]) -> Result<(), FolderFault>
@@ -114,7 +114,7 @@ impl<S: System> Folder for DiskFolder<S> {
         ensures not_absent { IsNotAbsent result }
     {
         let answer = answer_of(write_synced(&mut self.system, name, bytes));
-        self.counted(answer)
+        self.count_call(answer)
     }
 
     fn place(&mut self, name: &str, place: Place, target: &str) -> Result<(), FolderFault> {
@@ -122,12 +122,12 @@ impl<S: System> Folder for DiskFolder<S> {
             Err(error) if error.kind() == ErrorKind::NotFound => Err(FolderFault::Absent),
             outcome => answer_of(outcome),
         };
-        self.counted(answer)
+        self.count_call(answer)
     }
 
     fn remove(&mut self, name: &str) -> Result<(), FolderFault> {
         let answer = answer_of(self.system.unlink(name));
-        self.counted(answer)
+        self.count_call(answer)
     }
 
     ghost quiet_is_honest = { λ _ quiet. absurd quiet };

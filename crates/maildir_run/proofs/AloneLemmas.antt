@@ -10,7 +10,7 @@ use Rattle.std.proofs.lemmas.List.Sorted.{IsPermutation-refl}
 use Rattle.maildir_run.specs.declared.report.Report.{Report}
 use Rattle.maildir_run.specs.Texts.{MessagesOf}
 use Rattle.maildir_run.specs.Runs.{Run, CountsRun}
-use Rattle.maildir_run.proofs.Leftovers.{counted}
+use Rattle.maildir_run.proofs.Leftovers.{leftovers_are}
 use Rattle.maildir_run.proofs.Numbers.{count-cons}
 use Rattle.maildir_run.specs.Alone.{swept, added, filled, alone}
 use Rattle.maildir_run.proofs.Maps.{total, same, get_under}
@@ -57,7 +57,7 @@ three_calls t ms s new report are d run before after made =
     let there = all_there s ms d.homes_are in
     let is_placed = reports.placed in
     let is_swept = reports.swept in
-    let leftovers : leftover_count s ≡ 0 = counted s.tmp ∙ ap len (none_kept s.tmp d.swept) ∙ len-empty name_cmp (List ℕ) in
+    let leftovers : leftover_count s ≡ 0 = leftovers_are s.tmp ∙ ap len (none_kept s.tmp d.swept) ∙ len-empty name_cmp (List ℕ) in
     let placed : report.placed ≡ 0 = omega (arith, is_placed, there) in
     let swept : report.swept ≡ 0 = omega (arith, is_swept, leftovers) in
     (placed, swept, made ∙ ap (λ n. (before + n) % 2 ^ 128) (omega (arith, placed, swept)))

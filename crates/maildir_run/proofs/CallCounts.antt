@@ -10,10 +10,10 @@ capped_once : (k : ℕ) → capped (capped k + 1) ≡ capped (k + 1)
 capped_once k = grind arith
 
 pub one_call : (made made' calls calls' : ℕ) → made' ≡ capped (made + 1) → GoesUp calls calls' → Makes 1 made made' calls calls'
-one_call made made' calls calls' e up = record { counted = up; numbered = λ k is. e ∙ ap (λ m. capped (m + 1)) is ∙ capped_once k }
+one_call made made' calls calls' e up = record { count_is = up; numbered = λ k is. e ∙ ap (λ m. capped (m + 1)) is ∙ capped_once k }
 
 pub no_call : (made calls : ℕ) → Makes 0 made made calls calls
-no_call made calls = record { counted = refl; numbered = λ k is. is ∙ ap capped (omega arith) }
+no_call made calls = record { count_is = refl; numbered = λ k is. is ∙ ap capped (omega arith) }
 
 raised-add : (m n count : ℕ) → raised (m + n) count ≡ raised n (raised m count)
 raised-add m zero count = ap (λ k. raised k count) (omega arith)
@@ -21,7 +21,7 @@ raised-add m (suc n) count = rw add-suc (ap (λ c. (c + 1) % 2 ^ 128) (raised-ad
 
 pub more_calls : (m n a b c x y z : ℕ) → Makes m a b x y → Makes n b c y z → Makes (m + n) a c x z
 more_calls m n a b c x y z first then = record {
-  counted = then.counted ∙ ap (raised n) first.counted ∙ sym (raised-add m n x);
+  count_is = then.count_is ∙ ap (raised n) first.count_is ∙ sym (raised-add m n x);
   numbered = λ k is. then.numbered (k + m) (first.numbered k is) ∙ ap capped (add_assoc k m n);
 }
 
@@ -37,5 +37,5 @@ raised-mod (suc n) count =
 -- ---- at an exit
 pub run_counts : (report : Report) (swept placed made made' calls calls' : ℕ) → report.swept ≡ swept → report.placed ≡ placed → Makes (3 + swept + 2 * placed) made made' calls calls' → CountsRun report calls calls'
 run_counts report swept placed made made' calls calls' e f makes =
-    ap (λ k. k % 2 ^ 128) makes.counted ∙ raised-mod (3 + swept + 2 * placed) calls
+    ap (λ k. k % 2 ^ 128) makes.count_is ∙ raised-mod (3 + swept + 2 * placed) calls
     ∙ ap (λ k. (calls + k) % 2 ^ 128) (omega (arith, e, f))

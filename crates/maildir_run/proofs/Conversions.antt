@@ -77,8 +77,8 @@ one_batch {there} {there'} {a} {b} {c} {made} {mid} {made'} {p} {q} {n} {namer} 
     subst (λ bs. Brought (contains_key there) [] bs a c made made' p n namer' fault) (batch_bodies given whole entries e)
     (brought_then first (subst (λ s. Brought (contains_key s) (bodies_of given) (bodies_of entries) b c mid made' q n namer' fault) same (then (bodies_of given) (first.named refl) (batch_few given whole entries reads e few most))))
 
-pub told : (names : Names) (all : List Entry) (report : Report) (tasks : List Task) (messages placed before : ℕ) → tasks ≡ deliveries_of (is_listed names.new names.cur) (messages_of (bodies_of all)) → messages ≡ length all → before ≡ 0 → 2 * placed ≡ 2 * before + length tasks → report.messages ≡ messages → report.there ≡ messages - placed → report.placed ≡ placed → report.swept ≡ length (sweep_of names.tmp) → Tells names (messages_of (bodies_of all)) report
-told names all report tasks messages placed before is count none brought e1 e2 e3 e4 = record {
+pub report_tells : (names : Names) (all : List Entry) (report : Report) (tasks : List Task) (messages placed before : ℕ) → tasks ≡ deliveries_of (is_listed names.new names.cur) (messages_of (bodies_of all)) → messages ≡ length all → before ≡ 0 → 2 * placed ≡ 2 * before + length tasks → report.messages ≡ messages → report.there ≡ messages - placed → report.placed ≡ placed → report.swept ≡ length (sweep_of names.tmp) → Tells names (messages_of (bodies_of all)) report
+report_tells names all report tasks messages placed before is count none brought e1 e2 e3 e4 = record {
   messages = e1 ∙ count ∙ sym (length-messages_of (bodies_of all) ∙ length-map all (λ (x : Entry). x.body));
   there = rw (e1, e3) e2;
   placed = omega (arith, e3, brought, none, ap length is);

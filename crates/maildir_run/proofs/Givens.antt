@@ -111,7 +111,7 @@ given_front false before now splitter left reads text given p =
       read = p.read;
       budget = omega arith;
       few = few_given text given p.fed.given_are;
-      told = λ more rest entries has whole m. first_of text more given entries p.fed.given_are m;
+      tells = λ more rest entries has whole m. first_of text more given entries p.fed.given_are m;
       none = λ more rest has whole none. unread_none text more given p.fed.given_are none;
     }
 given_front true before now splitter left reads text given p = record {
@@ -119,7 +119,7 @@ given_front true before now splitter left reads text given p = record {
   read = p.read;
   budget = p.budget;
   few = mbox-length text given p.all;
-  told = λ more rest entries has whole m. ([], mbox-one text entries given (rw (at_end_same text more rest now p.end has whole) at m) p.all ∙ sym (append-nil given));
+  tells = λ more rest entries has whole m. ([], mbox-one text entries given (rw (at_end_same text more rest now p.end has whole) at m) p.all ∙ sym (append-nil given));
   none = λ more rest has whole none. absurd (none given (rw (at_end_same text more rest now p.end has whole) p.all));
 }
 
@@ -136,7 +136,7 @@ broken_front before mid now old reads text given fault p b =
       read = Consumes-trans before mid now text b.0 p.read b.1;
       budget = omega (arith, length-append text b.0, b.2);
       few = omega (arith, length-append text b.0);
-      told = λ more rest entries has whole m. first_of text (b.0 ++ more) given entries p.fed.given_are (rw append_assoc at m);
+      tells = λ more rest entries has whole m. first_of text (b.0 ++ more) given entries p.fed.given_are (rw append_assoc at m);
       none = λ more rest has whole none. unread_none text (b.0 ++ more) given p.fed.given_are (rw append_assoc at none);
     }
 
@@ -147,7 +147,7 @@ refused_front before now reads fault refused = record {
   read = refused.budget.1;
   budget = refused.budget.2;
   few = omega arith;
-  told = λ more rest entries has whole m. (entries, refl);
+  tells = λ more rest entries has whole m. (entries, refl);
   none = λ more rest has whole none. refl;
 }
 

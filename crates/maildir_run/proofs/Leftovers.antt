@@ -30,8 +30,8 @@ keys_filter p (e ∷ es) =
     ]
 
 -- the number as a length of the map
-pub counted : (m : FileMap) → length (filter is_converter_name (keys m)) ≡ len (retain_keys m is_converter_name)
-counted m = keys_filter is_converter_name (entries m) ∙ sym (len-entries (retain_keys m is_converter_name) ∙ ap length (entries_under is_converter_name m))
+pub leftovers_are : (m : FileMap) → length (filter is_converter_name (keys m)) ≡ len (retain_keys m is_converter_name)
+leftovers_are m = keys_filter is_converter_name (entries m) ∙ sym (len-entries (retain_keys m is_converter_name) ∙ ap length (entries_under is_converter_name m))
 
 one_less : (t : Bool) (n : ℕ) → cond t (n - 1) n ≤ n
 one_less true n = omega arith
@@ -53,4 +53,4 @@ acted_count (Outside files) s =
     rw (under_same is_converter_name (outsiders_of s.tmp files.tmp) s.tmp (λ q on. get-outsiders_of s.tmp files.tmp q on)) (omega arith)
 
 pub leftovers : (action : Action) (s : Files) → leftover_count (acted action s) ≤ leftover_count s
-leftovers action s = let after = counted (acted action s).tmp in let before = counted s.tmp in omega (arith, after, before, acted_count action s)
+leftovers action s = let after = leftovers_are (acted action s).tmp in let before = leftovers_are s.tmp in omega (arith, after, before, acted_count action s)

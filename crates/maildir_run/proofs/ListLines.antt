@@ -16,7 +16,7 @@ use Rattle.maildir_name.specs.Named.{Counts, Named}
 use Rattle.maildir_name.specs.Targets.{targets}
 use Rattle.maildir_name.proofs.TargetLemmas.{length-targets, targets-prefix}
 use Rattle.maildir_run.specs.ListedSoFar.{HasListed}
-use Rattle.maildir_run.specs.Listing.{info, listed, lines_from, listing, place_word, shown_byte, shown_sender}
+use Rattle.maildir_run.specs.Listing.{info, message_line, lines_from, listing, place_word, shown_byte, shown_sender}
 use Rattle.maildir_run.proofs.Poured.{IsOutput}
 
 -- the bodies of some messages
@@ -33,7 +33,7 @@ lines-append index (x ∷ es) more [] others e = absurd (omega (arith, e))
 lines-append index (x ∷ es) more (t ∷ ts) others e =
     let n : (index + 1) + length es ≡ index + length (x ∷ es) = omega arith in
     let ih = lines-append (index + 1) es more ts others (omega (arith, e)) in
-    rw (ih, n) (sym (append_assoc (listed index x t) (lines_from (index + 1) es ts) (lines_from (index + length (x ∷ es)) more others)))
+    rw (ih, n) (sym (append_assoc (message_line index x t) (lines_from (index + 1) es ts) (lines_from (index + length (x ∷ es)) more others)))
 
 targets-parts : (es more : List Entry) → targets (bodies (es ++ more)) ≡ targets (bodies es) ++ drop (length (bodies es)) (targets (bodies (es ++ more)))
 targets-parts es more =
@@ -56,14 +56,14 @@ listing_output = record {
 
 -- one more line
 pub listing-push : (given : List Entry) (e : Entry) (target : Target) → targets (bodies given ++ e.body ∷ []) ≡ targets (bodies given) ++ target ∷ []
-    → listing (given ++ e ∷ []) ≡ listing given ++ listed (length given + 1) e target
+    → listing (given ++ e ∷ []) ≡ listing given ++ message_line (length given + 1) e target
 unfolding listing lines_from
 listing-push given e target is =
     let all : bodies (given ++ e ∷ []) ≡ bodies given ++ e.body ∷ [] = map-append (λ entry. entry.body) given (e ∷ []) in
     let n : 1 + length given ≡ length given + 1 = omega arith in
     ap (λ bs. lines_from 1 (given ++ e ∷ []) (targets bs)) all ∙ ap (λ ts. lines_from 1 (given ++ e ∷ []) ts) is
     ∙ lines-append 1 given (e ∷ []) (targets (bodies given)) (target ∷ []) (many given)
-    ∙ ap (λ z. lines_from 1 given (targets (bodies given)) ++ z) (append-nil (listed (1 + length given) e target) ∙ ap (λ k. listed k e target) n)
+    ∙ ap (λ z. lines_from 1 given (targets (bodies given)) ++ z) (append-nil (message_line (1 + length given) e target) ∙ ap (λ k. message_line k e target) n)
 
 -- a sender that is not empty
 pub sender-some : (sender : List ℕ) → eqb (length sender) 0 ≡ false → shown_sender sender ≡ map shown_byte sender
@@ -82,11 +82,11 @@ lists_err (Err x) given entries was P e = let n = lists_none given entries was i
 -- one more message was listed
 pub listed_more : (given : List Entry) (namer namer' : Counts) (count count' : ℕ) (e : Entry) (body : List ℕ) → HasListed given namer count → body ≡ e.body → Named (bodies given ++ body ∷ []) namer' → count' ≡ length given + 1
     → HasListed (given ++ e ∷ []) namer' count'
-listed_more given namer namer' count count' e body h is named counted =
+listed_more given namer namer' count count' e body h is named count_goes =
     let all : bodies (given ++ e ∷ []) ≡ bodies given ++ e.body ∷ [] = map-append (λ entry. entry.body) given (e ∷ []) in
     record {
       named = rw (all, ← is) named;
-      counted = omega (arith, counted, length-append given (e ∷ []));
+      count_is = omega (arith, count_goes, length-append given (e ∷ []));
     }
 
 -- each entry has its From_ line
@@ -100,11 +100,11 @@ pub record ListedTo (given entries : List Entry) (i : ℕ) (was is : Option (Lis
   pub lines : List ℕ
   pub are : listing (given ++ take i entries) ≡ listing given ++ lines
   pub out : Appends was is lines
-  pub listed : HasListed (given ++ take i entries) namer count
+  pub has_listed : HasListed (given ++ take i entries) namer count
 
 pub listed_to_none : (given entries : List Entry) (was : Option (List ℕ)) (namer : Counts) (count : ℕ) → HasListed given namer count → ListedTo given entries 0 was was namer count
 listed_to_none given entries was namer count h =
-    record { lines = []; are = ap listing (append-nil given) ∙ sym (append-nil (listing given)); out = Appends-nil was; listed = rw (append-nil given) h }
+    record { lines = []; are = ap listing (append-nil given) ∙ sym (append-nil (listing given)); out = Appends-nil was; has_listed = rw (append-nil given) h }
 
 next : (given entries : List Entry) (i : ℕ) (e : Entry) → i < length entries → e ≡ get_or entries i e → (given ++ take i entries) ++ e ∷ [] ≡ given ++ take (i + 1) entries
 next given entries i e l is =
@@ -124,7 +124,7 @@ listed_to_more given entries i e was is is' namer namer' count count' line l at 
       lines = t.lines ++ line;
       are = ap listing (sym n) ∙ eq ∙ ap (λ z. z ++ line) t.are ∙ append_assoc (listing given) t.lines line;
       out = Appends-trans was is is' t.lines line t.out out;
-      listed = rw n at h;
+      has_listed = rw n at h;
     }
 
 pub listed_to_front : (given entries : List Entry) (i : ℕ) (e : Entry) (was is is' : Option (List ℕ)) (namer : Counts) (count : ℕ) (line : List ℕ) → i < length entries → e ≡ get_or entries i e
@@ -143,13 +143,13 @@ pub listed_to_all : (given entries : List Entry) (i : ℕ) (was is : Option (Lis
     → (lines : List ℕ) × (listing (given ++ entries) ≡ listing given ++ lines) × Appends was is lines × HasListed (given ++ entries) namer count
 listed_to_all given entries i was is namer count l t =
     let whole : take i entries ≡ entries = take_all i entries l in
-    (t.lines, rw whole at t.are, t.out, rw whole at t.listed)
+    (t.lines, rw whole at t.are, t.out, rw whole at t.has_listed)
 
 -- the line from its parts
 pub line-is : (index size : ℕ) (entry : Entry) (target : Target) (front sent line line' line'' : List ℕ)
     → front ≡ decimal index ++ 32 ∷ (target.base ++ 32 ∷ (place_word target.place ++ 32 ∷ (info target.name ++ 32 ∷ (decimal size ++ 32 ∷ []))))
-    → size ≡ length entry.body → line ≡ front → sent ≡ sender entry.from_line → line' ≡ line ++ shown_sender sent → line'' ≡ line' ++ 10 ∷ [] → line'' ≡ listed index entry target
-unfolding listed
+    → size ≡ length entry.body → line ≡ front → sent ≡ sender entry.from_line → line' ≡ line ++ shown_sender sent → line'' ≡ line' ++ 10 ∷ [] → line'' ≡ message_line index entry target
+unfolding message_line
 line-is index size entry target front sent line line' line'' is_front is_size is_line is_sent is_more is_all =
     rw (is_all, is_more, is_line, is_front, is_sent, is_size) (simp append_assoc)
 

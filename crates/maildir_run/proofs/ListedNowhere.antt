@@ -50,8 +50,7 @@ acted_new b named (Outside files) s e = held-outsiders_of b s.new files.new name
 
 moved_new : (b : List ℕ) → IsTrue (is_converter_base b) → (sub : Sub) (m : Move) (s : Files) → held_under b s.new ≡ [] → held_under b (moved (Listing sub) m s).new ≡ []
 moved_new b named sub (Other action) s e = acted_new b named action s e
-moved_new b named sub Again s e = e
-moved_new b named sub (Torn bytes) s e = e
+moved_new b named sub other s e = e
 
 listing_new : (b : List ℕ) → IsTrue (is_converter_base b) → (sub : Sub) (ms : List Move) (s : Files) → held_under b s.new ≡ [] → held_under b (after s (Listing sub) ms).new ≡ []
 listing_new b named sub [] s e = e

@@ -237,8 +237,7 @@ module _ (b name : List ℕ) (p : Place) (target : List ℕ) (named : IsTrue (is
   pub waits_after : (ms : List Move) (s : Files) → IsOthers ms → Waits b name had s → Waits b name had (after s (Placing name p target) ms)
   waits_after [] s others w = w
   waits_after (Other action ∷ ms) s others w = waits_after ms (acted action s) others (waits_on b name had s (acted action s) (acted_kept b named action s) (acted_tmp name ours action s) w)
-  waits_after (Again ∷ ms) s others w = absurd others
-  waits_after (Torn bytes ∷ ms) s others w = absurd others
+  waits_after (other ∷ ms) s others w = absurd others
 
   ready : (s : Files) → Waits b name had s → IsTrue (contains_key s.tmp name) → Arrived b name had (effect (Placing name p target) s)
   ready s w has =

@@ -82,7 +82,7 @@ ran_numbers tasks start now made made' r ran e few =
     record {
       n = ran.n;
       few = omega arith;
-      counted = ran.makes.counted;
+      count_is = ran.makes.count_is;
       numbered = subst (IsNumbered (fault_of r)) (ran.makes.numbered 0 e ∙ ap capped (omega arith)) ran.numbered;
     }
 

@@ -38,7 +38,7 @@ front_of before after reads given f t ms p of =
     let is : t ≡ f.text ++ p.more = rw (← read_is before after f.text t f.read p) p.front in
     elim of as (λ _. (more : List Message) × (ms ≡ messages_of (bodies_of given) ++ more)) [
       | inl (entries, m, e) ↦
-          let r = f.told p.more p.left entries p.has p.whole (rw is at m) in
+          let r = f.tells p.more p.left entries p.has p.whole (rw is at m) in
           (messages_after (bodies_of given) (bodies_of r.0), e ∙ ap messages_of (ap bodies_of r.1 ∙ bodies_parts given r.0) ∙ after_these (bodies_of given) (bodies_of r.0))
       | inr (none, e) ↦ ([], e ∙ sym (append-nil (messages_of (bodies_of given)) ∙ ap (λ xs. messages_of (bodies_of xs)) (f.none p.more p.left p.has p.whole (rw is at none)) ∙ no_messages))
     ]

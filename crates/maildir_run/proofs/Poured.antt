@@ -28,7 +28,7 @@ pub record IsOutput (output : List Entry → List ℕ) : Type 0 where
 gives_front : (output : List Entry → List ℕ) (before now was is : Option (List ℕ)) (reads : ℕ) (given : List Entry) → IsOutput output → Front before now reads given → AppendsFront was is (output given) → GivesFront output before now was is
 gives_front output before now was is reads given o f h t entries p m =
     let e : t ≡ f.text ++ p.more = rw (← read_is before now f.text t f.read p) p.front in
-    let r = f.told p.more p.left entries p.has p.whole (rw e at m) in
+    let r = f.tells p.more p.left entries p.has p.whole (rw e at m) in
     let z = o.front given r.0 in
     front_more was is (output given) z.0 (output entries) h (ap output r.1 ∙ z.1)
 
@@ -42,7 +42,7 @@ pub record Poured (output : List Entry → List ℕ) (given : List Entry) (befor
   pub text : List ℕ
   pub gave : Gave before now splitter left reads text given
   pub written : Appends was is (output given)
-  pub counted : count ≡ length given
+  pub count_is : count ≡ length given
   pub empty : whole ≡ []
 
 -- a read that was refused
@@ -68,7 +68,7 @@ read_broken output given before mid now was is messages whole reads count fault 
 pub record Batch (output : List Entry → List ℕ) (given : List Entry) (before now was is : Option (List ℕ)) (whole : List Entry) (reads count : ℕ) : Type 0 where
   pub front : Front before now reads (given ++ whole)
   pub written : Appends was is (output given)
-  pub counted : count ≡ length given
+  pub count_is : count ≡ length given
   pub from_lines : FromLines whole
 
 pub batch : (output : List Entry → List ℕ) (given : List Entry) (before mid now was is : Option (List ℕ)) (messages : Messages) (splitter : Splitter) (left : ℕ) (old whole : List Entry) (reads count : ℕ) (ended : Bool)
@@ -78,14 +78,14 @@ batch output given before mid now was is messages splitter left old whole reads 
     record {
       front = given_front ended before now splitter left reads more.text (given ++ whole) more.gave;
       written = p.written;
-      counted = p.counted;
+      count_is = p.count_is;
       from_lines = given-from_lines ended before now splitter left reads more.text given whole more.gave;
     }
 
 -- the count is far from its type's end
 pub count_fits : (output : List Entry → List ℕ) (given : List Entry) (before now was is : Option (List ℕ)) (whole : List Entry) (reads count : ℕ) → Batch output given before now was is whole reads count → reads ≤ 2 ^ 40
     → count + length whole < 2 ^ 64
-count_fits output given before now was is whole reads count b most = omega (arith, length-append given whole, b.front.few, b.front.budget, b.counted)
+count_fits output given before now was is whole reads count b most = omega (arith, length-append given whole, b.front.few, b.front.budget, b.count_is)
 
 -- there are numbers for all messages
 pub names_fit : (output : List Entry → List ℕ) (given : List Entry) (before now was is : Option (List ℕ)) (whole : List Entry) (reads count : ℕ) → Batch output given before now was is whole reads count → reads ≤ 2 ^ 40
@@ -114,7 +114,7 @@ module _ (output : List Entry → List ℕ) (given : List Entry) (before mid now
   written = rw e (Appends-trans was is is' (output given) bytes p.written h)
 
   total : count + length whole ≡ length (given ++ whole)
-  total = omega (arith, length-append given whole, p.counted)
+  total = omega (arith, length-append given whole, p.count_is)
 
   -- and the source is at its end
   pub poured_all : Went messages mid now old whole splitter left (Ok true) → GivesAll output before was is' (count + length whole)
@@ -126,7 +126,7 @@ module _ (output : List Entry → List ℕ) (given : List Entry) (before mid now
   pub poured_more : (after : List Entry) → Went messages mid now old whole splitter left (Ok false) → after ≡ [] → Poured output (given ++ whole) before now was is' splitter left after reads (count + length whole)
   poured_more after w none =
       let more = gave_more false before mid now messages splitter left reads p.text given old whole p.empty p.gave w in
-      record { text = more.text; gave = more.gave; written = written; counted = total; empty = none }
+      record { text = more.text; gave = more.gave; written = written; count_is = total; empty = none }
 
 -- nothing was read
 pub poured_none : (output : List Entry → List ℕ) (before was : Option (List ℕ)) (splitter : Splitter) (reads left : ℕ) (whole : List Entry) → IsOutput output → Fed [] [] splitter → left ≡ reads → whole ≡ []
@@ -135,7 +135,7 @@ poured_none output before was splitter reads left whole o f l none = record {
   text = [];
   gave = record { read = Consumes-nil before; budget = omega (arith, l); spent = omega (arith, l); fed = f };
   written = rw o.none (Appends-nil was);
-  counted = refl;
+  count_is = refl;
   empty = none;
 }
 

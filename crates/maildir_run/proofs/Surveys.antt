@@ -15,7 +15,7 @@ use Rattle.maildir_run.specs.Plan.{is_listed}
 use Rattle.maildir_run.specs.Progress.{TmpWithin}
 use Rattle.maildir_run.proofs.Moves.{homes_none, both_none, after_kept}
 use Rattle.maildir_run.proofs.ListedNowhere.{listed_new, listed_cur}
-use Rattle.maildir_run.proofs.Leftovers.{counted, acted_count}
+use Rattle.maildir_run.proofs.Leftovers.{leftovers_are, acted_count}
 use Rattle.maildir_run.proofs.Steps.{listing_leaves, not_shown, called_tmp, within_on}
 use Rattle.maildir_run.proofs.Progress.{any_kept}
 use Rattle.maildir_run.proofs.Reach.{none_of}
@@ -74,4 +74,4 @@ few_listed old names new listed =
     let mid = after old (Listing Tmp) listed.before in
     let same = filter-length is_converter_name names (keys mid.tmp) listed.names_are in
     let few = listing_count listed.before old in
-    rw (same, counted mid.tmp, counted old.tmp) few
+    rw (same, leftovers_are mid.tmp, leftovers_are old.tmp) few

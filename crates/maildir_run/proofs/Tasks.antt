@@ -135,9 +135,9 @@ ran_err (Ok x) is h = absurd is
 ran_err {B} {xs} {a} {b} {made} {made'} (Err e) is h = subst (λ f. Ran xs a b made made' (Some f)) (sym is) h
 
 -- ---- one call
-told : {A : Type 0} (w : Way) (xs : List Task) (old : Files) (r : Result A FolderFault) (new : Files) (number : ℕ) → Performs w xs old r new → Performs w xs old (run_answer number r) new
-told w xs old (Ok v) new number h = h
-told w xs old (Err e) new number h = h
+run_performs : {A : Type 0} (w : Way) (xs : List Task) (old : Files) (r : Result A FolderFault) (new : Files) (number : ℕ) → Performs w xs old r new → Performs w xs old (run_answer number r) new
+run_performs w xs old (Ok v) new number h = h
+run_performs w xs old (Err e) new number h = h
 
 told_cause : {A : Type 0} (r : Result A FolderFault) (number old new : ℕ) → CountsFailure r old new → CountsFault (run_answer number r) old new
 told_cause (Err Absent) number old new h = h
@@ -155,10 +155,10 @@ told_names (Err e) number = refl
 ran_one : {A : Type 0} (task : Task) (old new : Seen) (made made' : ℕ) (r : Result A FolderFault) (answer : Result A RunFault) → made' ≡ capped (made + 1) → answer ≡ run_answer made' r → (old.honest → new.honest) → (old.honest → Performs reported (task ∷ []) old.files r new.files) → (old.honest → Left (λ before now. Performs leaving (task ∷ []) before r now) old.may_leave new.may_leave) → (old.quiet → new.quiet) → (old.quiet → Performs undisturbed (task ∷ []) old.files r new.files) → GoesUp old.calls new.calls → CountsFailure r old.failures new.failures → Ran (task ∷ []) old new made made' (fault_of answer)
 ran_one task old new made made' r answer up is honest called left quiet alone counted cause = subst (λ x. Ran (task ∷ []) old new made made' (fault_of x)) (sym is) (record {
   honest = honest;
-  reported_of = λ h. told reported (task ∷ []) old.files r new.files made' (called h);
-  left = λ h. left_as _ _ old.may_leave new.may_leave (λ before now. told leaving (task ∷ []) before r now made') (left h);
+  reported_of = λ h. run_performs reported (task ∷ []) old.files r new.files made' (called h);
+  left = λ h. left_as _ _ old.may_leave new.may_leave (λ before now. run_performs leaving (task ∷ []) before r now made') (left h);
   quiet = quiet;
-  undisturbed_of = λ q. told undisturbed (task ∷ []) old.files r new.files made' (alone q);
+  undisturbed_of = λ q. run_performs undisturbed (task ∷ []) old.files r new.files made' (alone q);
   n = 1;
   most = omega arith;
   all = λ e. refl;

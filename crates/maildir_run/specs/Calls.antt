@@ -69,22 +69,19 @@ after s call (m ∷ ms) = after (moved call m s) call ms
 abbrev pub IsOthers : List Move → Type 0
 IsOthers [] = Unit {0}
 IsOthers (Other _ ∷ ms) = IsOthers ms
-IsOthers (Again ∷ ms) = ⊥
-IsOthers (Torn _ ∷ ms) = ⊥
+IsOthers (other ∷ ms) = ⊥
 
 -- nothing is torn
 abbrev pub IsWhole : List Move → Type 0
 IsWhole [] = Unit {0}
-IsWhole (Other _ ∷ ms) = IsWhole ms
-IsWhole (Again ∷ ms) = IsWhole ms
 IsWhole (Torn _ ∷ ms) = ⊥
+IsWhole (other ∷ ms) = IsWhole ms
 
 -- the moves are the call's own alone
 abbrev pub IsOwn : List Move → Type 0
 IsOwn [] = Unit {0}
 IsOwn (Other _ ∷ ms) = ⊥
-IsOwn (Again ∷ ms) = IsOwn ms
-IsOwn (Torn _ ∷ ms) = IsOwn ms
+IsOwn (own ∷ ms) = IsOwn ms
 
 -- a placement finds its file in `tmp`; the other calls need nothing
 abbrev pub IsReady : Call → Files → Type 0

@@ -56,12 +56,12 @@ IsOfFolder other = ⊥
 
 -- so many calls were made: the folder counts them, and so does the run
 pub record Makes (n made made' calls calls' : ℕ) : Type 0 where
-  pub counted : calls' ≡ raised n calls
+  pub count_is : calls' ≡ raised n calls
   pub numbered : (k : ℕ) → made ≡ capped k → made' ≡ capped (k + n)
 
 -- A run made so many folder calls, fewer than 2^66, and a `FolderFailed` has their number, or 2^64 - 1 if that is smaller.
 pub record Numbers {A : Type 0} (answer : Result A RunFault) (old new : ℕ) : Type 0 where
   pub n : ℕ
   pub few : n < 2 ^ 66
-  pub counted : new ≡ raised n old
+  pub count_is : new ≡ raised n old
   pub numbered : IsNumbered (fault_of answer) (capped n)

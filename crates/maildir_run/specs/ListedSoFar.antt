@@ -8,7 +8,7 @@ use Rattle.maildir_run.specs.Listing.{listing}
 -- so many messages were listed, and these are they, in order; the namer was given their bodies
 pub record HasListed (given : List Entry) (namer : Counts) (count : ℕ) : Type 0 where
   pub named : Named (map (λ entry. entry.body) given) namer
-  pub counted : count ≡ length given
+  pub count_is : count ≡ length given
 
 -- With Ok these messages were listed too, behind any that were listed before. Their lines were written, and a front of them after a refusal.
 abbrev pub ListsMore : {E : Type 0} → Counts → ℕ → List Entry → Option (List ℕ) → Option (List ℕ) → Result (Unit {0}) E → Counts → ℕ → Type 0

@@ -29,15 +29,15 @@ shown_sender [] = codes "-"
 shown_sender (c ∷ sender) = map shown_byte (c ∷ sender)
 
 -- the line of a message: its number, base, place, info, the body's length in bytes, and the sender
-unfoldable pub listed : ℕ → Entry → Target → List ℕ
-listed index entry target =
+unfoldable pub message_line : ℕ → Entry → Target → List ℕ
+message_line index entry target =
     decimal index ++ 32 ∷ (target.base ++ 32 ∷ (place_word target.place ++ 32 ∷ (info target.name ++ 32 ∷ (decimal (length entry.body) ++ 32 ∷ (shown_sender (sender entry.from_line) ++ 10 ∷ [])))))
 
 -- the lines of some messages with their targets, counted from a number
 unfoldable pub lines_from : ℕ → List Entry → List Target → List ℕ
 lines_from index [] ts = []
 lines_from index (entry ∷ entries) [] = []
-lines_from index (entry ∷ entries) (target ∷ ts) = listed index entry target ++ lines_from (index + 1) entries ts
+lines_from index (entry ∷ entries) (target ∷ ts) = message_line index entry target ++ lines_from (index + 1) entries ts
 
 -- the listing of the messages of a text
 unfoldable pub listing : List Entry → List ℕ

@@ -68,17 +68,14 @@ done Twice call s = effect call (effect call s)
 -- whether a call answers `Failed` in a mode
 abbrev pub fails : Mode → Bool
 fails Plain = false
-fails FailBefore = true
-fails FailAfter = true
-fails Half = true
 fails Twice = false
+fails other = true
 
 -- whether a call takes memory: a placement does if its file is there, and a removal does not
 abbrev pub TakesMemory : Call → Files → Type 0
-TakesMemory (Writing _ _) s = Unit {0}
-TakesMemory (Listing _) s = Unit {0}
-TakesMemory (Placing name place target) s = IsReady (Placing name place target) s
 TakesMemory (Removing _) s = ⊥
+TakesMemory (Placing name place target) s = IsReady (Placing name place target) s
+TakesMemory other s = Unit {0}
 
 -- what a call leaves that found no memory: nothing, or what its first time left
 abbrev pub IsPart : Mode → Call → Files → Files → Type 0

@@ -36,7 +36,7 @@ impl<'a> Bases<'a> {
     }
 
     /// The bases of the names that were listed in `new` and in `cur`.
-    pub(crate) fn listed(
+    pub(crate) fn of_listings(
         alloc: Global,
         new: &'a [String],
         cur: &'a [String],

@@ -50,7 +50,7 @@ impl<'a> Engine<'a> {
     {
         let mut calls = calls;
         let swept = sweep(alloc, folder, &mut calls, &found.tmp)?;
-        let there = Bases::listed(alloc, &found.new, &found.cur)?;
+        let there = Bases::of_listings(alloc, &found.new, &found.cur)?;
         Ok(Engine {
             there,
             namer: Namer::new(alloc),

@@ -2,7 +2,7 @@
 ghost use Rattle.std.specs.Prelude.{◌≡◌, ◌++◌, [], ◌∷◌, IfOk, OnOk, string_bytes};
 ghost use Rattle.std.specs.Fmt.{decimal};
 ghost use Rattle.mbox_text.specs.FromLine.{IsFromLine};
-ghost use Rattle.maildir_run.specs.Listing.{info, listed, place_word, shown_byte, shown_sender};
+ghost use Rattle.maildir_run.specs.Listing.{info, message_line, place_word, shown_byte, shown_sender};
 
 use maildir_name::{Place, Target};
 use mbox_text::{Entry, sender_of};
@@ -17,7 +17,7 @@ pub(crate) fn line_of(
     target: &Target,
 ) -> Result<Vec<u8>, AllocError>
     requires { IsFromLine entry.now.from_line }
-    ensures { IfOk result (λ line. line.items ≡ listed index entry.now target.now) }
+    ensures { IfOk result (λ line. line.items ≡ message_line index entry.now target.now) }
 {
     let front = front_of(alloc, index, target, entry.body.as_slice().len())?;
     let mut line = Vec::from_slice(alloc, front.as_bytes())?;
@@ -66,13 +66,13 @@ fn add_sender(line: &mut Vec<u8>, sender: &[u8]) -> Result<(), AllocError>
         return Ok(());
     }
     for byte in sender {
-        line.push(shown(*byte))?;
+        line.push(show_byte(*byte))?;
     }
     Ok(())
 }
 
 // A byte of a sender as it is shown.
-fn shown(byte: u8) -> u8
+fn show_byte(byte: u8) -> u8
     ensures { result ≡ shown_byte byte }
 {
     if 0x21 <= byte && byte <= 0x7e {

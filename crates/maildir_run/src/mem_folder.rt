@@ -117,7 +117,7 @@ impl MemFolder {
     }
 
     // Counts a failure if the call has failed.
-    fn counted<T>(&mut self, answer: Result<T, FolderFault>) -> Result<T, FolderFault>
+    fn count_call<T>(&mut self, answer: Result<T, FolderFault>) -> Result<T, FolderFault>
         ensures answer { result ≡ answer }
         ensures cause { CountsFailure answer (failure_count self.old) (failure_count self.new) }
         ensures rest { self.new ≡ record self.old { failures = failure_count self.new } }
@@ -165,7 +165,7 @@ impl Folder for MemFolder {
     {
         let mode = self.begin_call()?;
         let answer = self.files.list_in(mode, sub);
-        self.counted(answer)
+        self.count_call(answer)
     }
 
     fn write(&mut self, name: &str, bytes: &[u8]) -> Result<(), FolderFault>
@@ -187,7 +187,7 @@ impl Folder for MemFolder {
     {
         let mode = self.begin_call()?;
         let answer = self.files.write_in(mode, name, bytes);
-        self.counted(answer)
+        self.count_call(answer)
     }
 
     fn place(&mut self, name: &str, place: Place, target: &str) -> Result<(), FolderFault>
@@ -211,7 +211,7 @@ impl Folder for MemFolder {
     {
         let mode = self.begin_call()?;
         let answer = self.files.place_in(mode, name, place, target);
-        self.counted(answer)
+        self.count_call(answer)
     }
 
     fn remove(&mut self, name: &str) -> Result<(), FolderFault>
@@ -232,6 +232,6 @@ impl Folder for MemFolder {
     {
         let mode = self.begin_call()?;
         let answer = self.files.remove_in(mode, name);
-        self.counted(answer)
+        self.count_call(answer)
     }
 }

@@ -37,7 +37,7 @@ pub fn plan(
         ≡ planned (map string_bytes tmp.now) (map string_bytes new.now) (map string_bytes cur.now) targets.now) }
     ensures refused { IfErr result (λ fault. fault ≡ RunFault.OutOfMemory) }
 {
-    let there = Bases::listed(alloc, new, cur)?;
+    let there = Bases::of_listings(alloc, new, cur)?;
     let mut steps = Vec::new(alloc);
     add_removals(&mut steps, tmp)?;
     add_deliveries(&mut steps, &there, targets)?;

@@ -3,7 +3,7 @@ use Rattle.maildir_run.specs.declared.fault.RunFault.TheVariants.{OutOfMemory}
 use Rattle.maildir_run.specs.Parts.{seen}
 use Rattle.maildir_run.specs.Texts.{bodies_of}
 use Rattle.maildir_run.proofs.Bringing.{brought_none}
-use Rattle.maildir_run.proofs.Conversions.{stops, stops_in_folder, stops_unread, all_ran, tells_listed, one_batch, told}
+use Rattle.maildir_run.proofs.Conversions.{stops, stops_in_folder, stops_unread, all_ran, tells_listed, one_batch, report_tells}
 use Rattle.maildir_run.proofs.Exits.{refused_of, read_nothing, batch_fits, batch_count, batch_begun, went_down}
 use Rattle.maildir_run.proofs.Givens.{gave_more, gave_refused, given_front, broken_front, given_few, not_ended, at_end, never_again}
 use Rattle.maildir_run.proofs.Tasks.{ran_then, ran_before, ran_stop}
@@ -130,7 +130,7 @@ returns-then-ended-clause-is g c =
       few = look.1;
       made = c.deliver_entries.new.self.calls.made;
       ran = all_ran look.0 _ c.new-calls.ensures look.3.0 begin.2 listed look.2 begin.1 brought.ran;
-      tells = told look.0 given c.report.result _ _ _ _ listed count counts.1 (brought.placed_are refl) c.report.ensures.messages c.report.ensures.there c.report.ensures.placed
+      tells = report_tells look.0 given c.report.result _ _ _ _ listed count counts.1 (brought.placed_are refl) c.report.ensures.messages c.report.ensures.there c.report.ensures.placed
           (c.report.ensures.swept ∙ c.in_ok-deliver_entries.ensures.swept ∙ i.swept ∙ rw look.3.0 at counts.2);
     }
 

@@ -12,7 +12,7 @@ use Rattle.maildir_run.proofs.listing.list_text.Goals as goal
 pub pieces-init : goal.pieces-init
 pieces-init g c =
     let none = c.new-lister.ensures in
-    ([], rw none.counted (poured_none listing _ _ c.in_ok-messages.messages.splitter c.args.reads c.in_ok-messages.messages.reads c.new-whole.result.items listing_output c.in_ok-messages.ensures.0 c.in_ok-messages.ensures.1 c.new-whole.ensures.items), none)
+    ([], rw none.count_is (poured_none listing _ _ c.in_ok-messages.messages.splitter c.args.reads c.in_ok-messages.messages.reads c.new-whole.result.items listing_output c.in_ok-messages.ensures.0 c.in_ok-messages.ensures.1 c.new-whole.ensures.items), none)
 
 pub returns-in_err-ended : goal.returns-in_err-ended
 returns-in_err-ended g c =
@@ -59,7 +59,7 @@ returns-then-ended-clause-all g c =
     let s = rw c.deref.ensures.value at (c.in_ok-list.ensures.lists given c.pieces.invariant.2 (rw c.deref.ensures.value fit)) in
     let all = poured_all listing given _ _ _ _ _ _ c.pieces.messages c.read.new.self.splitter c.read.new.self.reads c.pieces.whole.items c.read.new.out.items c.args.reads c.pieces.lister.count
     s.0 c.pieces.invariant.1 s.1 s.2 (rw c.if-ended.true at c.in_ok-ended.ensures.went) in
-    let count : c.list.new.self.count ≡ c.pieces.lister.count + length c.read.new.out.items = omega (arith, s.3.counted, c.pieces.invariant.2.counted, length-append given c.read.new.out.items) in
+    let count : c.list.new.self.count ≡ c.pieces.lister.count + length c.read.new.out.items = omega (arith, s.3.count_is, c.pieces.invariant.2.count_is, length-append given c.read.new.out.items) in
     rw count all
 
 pub pieces-preserved : goal.pieces-preserved
@@ -71,7 +71,7 @@ pieces-preserved g c =
     let s = rw c.deref.ensures.value at (c.in_ok-list.ensures.lists given c.pieces.invariant.2 (rw c.deref.ensures.value fit)) in
     let more = poured_more listing given _ _ _ _ _ _ c.pieces.messages c.read.new.self.splitter c.read.new.self.reads c.pieces.whole.items c.read.new.out.items c.args.reads c.pieces.lister.count
     s.0 c.pieces.invariant.1 s.1 s.2 c.clear.new.self.items (rw c.if-ended.false at c.in_ok-ended.ensures.went) c.clear.ensures.items in
-    let count : c.list.new.self.count ≡ c.pieces.lister.count + length c.read.new.out.items = omega (arith, s.3.counted, c.pieces.invariant.2.counted, length-append given c.read.new.out.items) in
+    let count : c.list.new.self.count ≡ c.pieces.lister.count + length c.read.new.out.items = omega (arith, s.3.count_is, c.pieces.invariant.2.count_is, length-append given c.read.new.out.items) in
     (given ++ c.read.new.out.items, rw count more, s.3)
 
 pub pieces-smaller : goal.pieces-smaller

@@ -17,7 +17,7 @@ loop-entry-preserved g c = λ given h l.
     let entries : List Entry = c.args.entries.now in
     let i : ℕ = c.loop-entry.entry-index in
     let t = c.loop-entry.invariant given h l in
-    let s = c.in_ok-list_one.ensures.lists (given ++ take i entries) t.listed (room given entries i c.entry-item.result c.loop-entry-test.true l) in
+    let s = c.in_ok-list_one.ensures.lists (given ++ take i entries) t.has_listed (room given entries i c.entry-item.result c.loop-entry-test.true l) in
     listed_to_more given entries i c.entry-item.result _ _ _ _ _ _ _ s.0 c.loop-entry-test.true c.entry-item.is t s.1 s.2 s.3
 
 pub returns-in_err-list_one-clause-lists : goal.returns-in_err-list_one-clause-lists
@@ -25,7 +25,7 @@ returns-in_err-list_one-clause-lists g c = λ given h l.
     let entries : List Entry = c.args.entries.now in
     let i : ℕ = c.loop-entry.entry-index in
     let t = c.loop-entry.invariant given h l in
-    let s = c.in_err-list_one.ensures.lists (given ++ take i entries) t.listed (room given entries i c.entry-item.result c.loop-entry-test.true l) in
+    let s = c.in_err-list_one.ensures.lists (given ++ take i entries) t.has_listed (room given entries i c.entry-item.result c.loop-entry-test.true l) in
     lists_broken c.from_residual.result given entries _ _ _ c.from_residual.ensures.0
     (listed_to_front given entries i c.entry-item.result _ _ _ _ _ s.0 c.loop-entry-test.true c.entry-item.is t s.1 s.2)
 

@@ -1,7 +1,7 @@
 use Rattle.std.proofs.Common.{◌≡◌, ◌+◌, [], ◌∷◌, length, arith, ap, ◌∙◌}
 use Rattle.std.proofs.lemmas.List.{length-append, length-map}
 use Rattle.mbox_text.specs.declared.entry.Entry.{Entry}
-use Rattle.maildir_run.specs.Listing.{listed}
+use Rattle.maildir_run.specs.Listing.{message_line}
 use Rattle.maildir_run.proofs.ListLines.{bodies, lists_none, lists_err, listing-push, listed_more}
 use Rattle.maildir_run.proofs.listing.Lister.list_one.Goals as goal
 
@@ -16,12 +16,12 @@ returns-in-Ok-write_bytes-clause-lists g c = λ given h l.
     let entry : Entry = c.args.entry.now in
     let size : length (bodies given) ≡ length given = length-map given (λ e. e.body) in
     let next = c.in-Ok.ensures.next (bodies given) h.named (omega (arith, l, size, length-append given (entry ∷ []))) in
-    let counted : c.saturating_add-self.result ≡ length given + 1 = omega (arith, c.saturating_add-self.ensures, h.counted, l, length-append given (entry ∷ [])) in
-    let line : c.deref.result.now ≡ listed (length given + 1) entry c.in-Ok.target = c.deref.ensures.value ∙ c.in_ok-line.ensures ∙ ap (λ k. listed k entry c.in-Ok.target) counted in (
-      listed (length given + 1) entry c.in-Ok.target,
+    let count : c.saturating_add-self.result ≡ length given + 1 = omega (arith, c.saturating_add-self.ensures, h.count_is, l, length-append given (entry ∷ [])) in
+    let line : c.deref.result.now ≡ message_line (length given + 1) entry c.in-Ok.target = c.deref.ensures.value ∙ c.in_ok-line.ensures ∙ ap (λ k. message_line k entry c.in-Ok.target) count in (
+      message_line (length given + 1) entry c.in-Ok.target,
       listing-push given entry c.in-Ok.target (rw c.as_slice.ensures at next.0),
       rw line at c.in-Ok-write_bytes.ensures.written,
-      listed_more given _ _ _ _ entry c.as_slice.result.now h c.as_slice.ensures next.1 counted,
+      listed_more given _ _ _ _ entry c.as_slice.result.now h c.as_slice.ensures next.1 count,
     )
 
 pub returns-clause-lists : goal.returns-clause-lists
@@ -29,6 +29,6 @@ returns-clause-lists g c = λ given h l.
     let entry : Entry = c.args.entry.now in
     let size : length (bodies given) ≡ length given = length-map given (λ e. e.body) in
     let next = c.in-Ok.ensures.next (bodies given) h.named (omega (arith, l, size, length-append given (entry ∷ []))) in
-    let counted : c.saturating_add-self.result ≡ length given + 1 = omega (arith, c.saturating_add-self.ensures, h.counted, l, length-append given (entry ∷ [])) in
-    let line : c.deref.result.now ≡ listed (length given + 1) entry c.in-Ok.target = c.deref.ensures.value ∙ c.in_ok-line.ensures ∙ ap (λ k. listed k entry c.in-Ok.target) counted in
-    (listed (length given + 1) entry c.in-Ok.target, listing-push given entry c.in-Ok.target (rw c.as_slice.ensures at next.0), rw line at c.in-Err.ensures.written, tt)
+    let count : c.saturating_add-self.result ≡ length given + 1 = omega (arith, c.saturating_add-self.ensures, h.count_is, l, length-append given (entry ∷ [])) in
+    let line : c.deref.result.now ≡ message_line (length given + 1) entry c.in-Ok.target = c.deref.ensures.value ∙ c.in_ok-line.ensures ∙ ap (λ k. message_line k entry c.in-Ok.target) count in
+    (message_line (length given + 1) entry c.in-Ok.target, listing-push given entry c.in-Ok.target (rw c.as_slice.ensures at next.0), rw line at c.in-Err.ensures.written, tt)

@@ -10,15 +10,13 @@ returns-in_err-mode-clause-called c =
 
 pub returns-clause-called : goal.returns-clause-called
 returns-clause-called c =
-    follows_called (Writing c.args.name.now c.args.bytes.now) c.args.self.now c.counted.new.self c.counted.result (search rules)
+    follows_called (Writing c.args.name.now c.args.bytes.now) c.args.self.now c.count_call.new.self c.count_call.result (search rules)
 
 pub returns-in_err-mode-clause-left : goal.returns-in_err-mode-clause-left
-returns-in_err-mode-clause-left c =
-    called_left (Writing c.args.name.now c.args.bytes.now) _ c.from_residual.result _ (follows_called (Writing c.args.name.now c.args.bytes.now) c.args.self.now c.begin_call.new.self c.from_residual.result (search rules))
+returns-in_err-mode-clause-left c = called_left (Writing c.args.name.now c.args.bytes.now) _ c.from_residual.result _ (returns-in_err-mode-clause-called c)
 
 pub returns-clause-left : goal.returns-clause-left
-returns-clause-left c =
-    called_left (Writing c.args.name.now c.args.bytes.now) _ c.counted.result _ (follows_called (Writing c.args.name.now c.args.bytes.now) c.args.self.now c.counted.new.self c.counted.result (search rules))
+returns-clause-left c = called_left (Writing c.args.name.now c.args.bytes.now) _ c.count_call.result _ (returns-clause-called c)
 
 pub returns-in_err-mode-clause-alone : goal.returns-in_err-mode-clause-alone
 returns-in_err-mode-clause-alone c = λ quiet. absurd (never_cut c.args.self.now _ _ quiet c.in_err-mode.ensures.err)
