@@ -52,6 +52,8 @@ impl<S: System> DiskFolder<S> {
         ensures rooted { S.honest self.old.system → OnOk result (S.rooted self.new.system) }
         ensures survive { S.honest self.old.system → (ms : List Message) → AreNamed ms → All (IsHome (S.world self.old.system).files) ms →
             AreIntact ms (S.may_leave self.old.system) → OnOk result (Survive ms (S.may_leave self.new.system)) }
+        ensures calls { self.new.calls ≡ self.old.calls }
+        ensures failures { self.new.failures ≡ self.old.failures }
         ensures not_absent { IsNotAbsent result }
     {
         answer_of(self.sync_all())
@@ -64,6 +66,8 @@ impl<S: System> DiskFolder<S> {
         ensures rooted { S.honest self.old.system → OnOk result (S.rooted self.new.system) }
         ensures survive { S.honest self.old.system → (ms : List Message) → AreNamed ms → All (IsHome (S.world self.old.system).files) ms →
             AreIntact ms (S.may_leave self.old.system) → OnOk result (Survive ms (S.may_leave self.new.system)) }
+        ensures calls { self.new.calls ≡ self.old.calls }
+        ensures failures { self.new.failures ≡ self.old.failures }
     {
         self.system.sync_folder(Place::New)?;
         self.system.sync_folder(Place::Cur)?;

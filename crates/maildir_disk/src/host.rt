@@ -94,6 +94,8 @@ impl<'a, R: Files + Clock> System for Host<'a, R> {
 
     ghost name_of = { λ _. [] };
 
+    ghost is_current = { λ _ _. ⊥ };
+
     ghost may_leave = { λ _ _. ⊥ };
 
     ghost rooted = { λ _. ⊥ };

@@ -140,6 +140,8 @@ impl System for MemSystem {
 
     ghost name_of = { opened_as };
 
+    ghost is_current = { λ _ _. Unit {0} };
+
     ghost may_leave = { all_is_left };
 
     ghost rooted = { λ _. Unit {0} };

@@ -26,8 +26,12 @@ pub trait System {
     /// Under this name of `tmp` the file was opened.
     ghost name_of: { Self.File → List ℕ };
 
-    /// What a power cut now may leave: in `new` and `cur` the files that are found then, and in `tmp` what each of its
-    /// files holds, wherever it is found.
+    /// No file was made under its name since it was opened.
+    ghost is_current: { Self → Self.File → Type 0 };
+
+    /// What a power cut may leave, now or later, of what has happened until now; what the system does by itself later adds
+    /// nothing to it. In `new` and `cur` it is the files that are found then, and of `tmp` what each file that is there now
+    /// would be found to hold, wherever it is found.
     ghost may_leave: { Self → Files → Type 0 };
 
     /// A power cut leaves the Maildir and its three folders.
@@ -76,6 +80,7 @@ pub trait System {
     fn create(&mut self, name: &str) -> io::Result<Self::File>
         ensures honest { honest self.old → honest self.new }
         ensures name { honest self.old → IfOk result (λ file. name_of file ≡ name.now) }
+        ensures current { honest self.old → IfOk result (λ file. is_current self.new file) }
         ensures created { honest self.old → Created name.now (world self.old) result (world self.new) }
         ensures left { honest self.old → Left (Leaves (Writing name.now [])) (may_leave self.old) (may_leave self.new) };
 
@@ -84,7 +89,8 @@ pub trait System {
         ensures most { IfOk result (λ n. n ≤ length bytes.now) }
         ensures honest { honest self.old → honest self.new }
         ensures name { name_of file.new ≡ name_of file.old }
-        ensures appended { honest self.old →
+        ensures current { honest self.old → is_current self.old file.old → is_current self.new file.new }
+        ensures appended { honest self.old → is_current self.old file.old →
             Appended (name_of file.old) bytes.now (world self.old) result (world self.new) }
         ensures left { honest self.old → Left (Leaves (Writing (name_of file.old) [])) (may_leave self.old) (may_leave self.new) };
 
@@ -92,7 +98,7 @@ pub trait System {
     fn sync_file(&mut self, file: &Self::File) -> io::Result<()>
         ensures honest { honest self.old → honest self.new }
         ensures acts { honest self.old → Acts (world self.old) (world self.new) }
-        ensures kept { honest self.old →
+        ensures kept { honest self.old → is_current self.old file.now →
             OnOk result (KeepsHeld (name_of file.now) (world self.new).files (may_leave self.new)) }
         ensures left { honest self.old → Left LeavesOthers (may_leave self.old) (may_leave self.new) };
 

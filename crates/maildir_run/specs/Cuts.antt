@@ -1,5 +1,5 @@
--- What a power cut may leave of a folder, from one call to the next. It is said of the files that are found then: in `new`
--- and `cur` each with its name, and in `tmp` what each holds, wherever it is found.
+-- What a power cut may leave of a folder, from one call to the next. In `new` and `cur` it is the files that are found then;
+-- of `tmp` it is what each file that is there now would be found to hold, wherever it is found.
 use Rattle.std.specs.Prelude.{◌≡◌, ℕ, List, [], ◌∷◌, IsTrue, Option, Some, None, Result, Ok, Err, if◌then◌else◌}
 use Rattle.std.specs.FinMap.{get, insert}
 use Rattle.maildir_name.specs.Names.{is_converter_name}

@@ -57,8 +57,8 @@ pub trait Folder {
     /// The files that are there.
     ghost files: { Self → Files };
 
-    /// What a power cut now may leave: in `new` and `cur` the files that are found then, and in `tmp` what each of its
-    /// files holds, wherever it is found.
+    /// What a power cut may leave, now or later, of what has happened until now. In `new` and `cur` it is the files that
+    /// are found then, and of `tmp` what each file that is there now would be found to hold, wherever it is found.
     ghost may_leave: { Self → Files → Type 0 };
 
     /// It takes effect as reported.

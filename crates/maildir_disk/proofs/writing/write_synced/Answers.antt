@@ -18,7 +18,7 @@ returns-then-at-bytes-clause-called g c = λ honest.
     let start = g.S.System.world c.args.system.now in
     let now = g.S.System.world c.loop.system in
     let end = g.S.System.world c.sync_file.new.self in
-    let kept = c.loop.invariant.written (c.create.ensures.honest honest) in
+    let kept = c.loop.invariant.written (c.create.ensures.honest honest) (c.in_ok-file.ensures.current honest) in
     let so_far : Written c.args.name.now (take c.loop.at c.args.bytes.now) start now =
     rw (c.in_ok-file.ensures.name honest) at (kept.1 start (rw (c.in_ok-file.ensures.name honest) (written_created c.args.name.now start _ (c.in_ok-file.ensures.created honest)))) in
     let all : Written c.args.name.now c.args.bytes.now start now = subst (λ held. Written c.args.name.now held start now) (take_all c.loop.at c.args.bytes.now (search rules)) so_far in
@@ -27,21 +27,21 @@ returns-then-at-bytes-clause-called g c = λ honest.
 pub returns-in-Ok-eq0-clause-called : goal.returns-in-Ok-eq0-clause-called
 returns-in-Ok-eq0-clause-called g c = λ honest.
     let start = g.S.System.world c.args.system.now in
-    let kept = c.loop.invariant.written (c.create.ensures.honest honest) in
+    let kept = c.loop.invariant.written (c.create.ensures.honest honest) (c.in_ok-file.ensures.current honest) in
     let so_far = rw (c.in_ok-file.ensures.name honest) at (kept.1 start (rw (c.in_ok-file.ensures.name honest) (written_created c.args.name.now start _ (c.in_ok-file.ensures.created honest)))) in
-    append_failed c.args.name.now _ _ c.args.bytes.now start _ _ c.append.result so_far (rw (c.loop.invariant.named ∙ c.in_ok-file.ensures.name honest) at (c.append.ensures.appended kept.0))
+    append_failed c.args.name.now _ _ c.args.bytes.now start _ _ c.append.result so_far (rw (c.loop.invariant.named ∙ c.in_ok-file.ensures.name honest) at (c.append.ensures.appended kept.0 kept.3))
 
 pub returns-then-ne-clause-called : goal.returns-then-ne-clause-called
 returns-then-ne-clause-called g c = λ honest.
     let start = g.S.System.world c.args.system.now in
-    let kept = c.loop.invariant.written (c.create.ensures.honest honest) in
+    let kept = c.loop.invariant.written (c.create.ensures.honest honest) (c.in_ok-file.ensures.current honest) in
     let so_far = rw (c.in_ok-file.ensures.name honest) at (kept.1 start (rw (c.in_ok-file.ensures.name honest) (written_created c.args.name.now start _ (c.in_ok-file.ensures.created honest)))) in
-    append_failed c.args.name.now _ _ c.args.bytes.now start _ _ c.append.result so_far (rw (c.loop.invariant.named ∙ c.in_ok-file.ensures.name honest) at (c.append.ensures.appended kept.0))
+    append_failed c.args.name.now _ _ c.args.bytes.now start _ _ c.append.result so_far (rw (c.loop.invariant.named ∙ c.in_ok-file.ensures.name honest) at (c.append.ensures.appended kept.0 kept.3))
 
 pub returns-clause-called : goal.returns-clause-called
 returns-clause-called g c = λ honest.
     let start = g.S.System.world c.args.system.now in
-    let kept = c.loop.invariant.written (c.create.ensures.honest honest) in
+    let kept = c.loop.invariant.written (c.create.ensures.honest honest) (c.in_ok-file.ensures.current honest) in
     let so_far = rw (c.in_ok-file.ensures.name honest) at (kept.1 start (rw (c.in_ok-file.ensures.name honest) (written_created c.args.name.now start _ (c.in_ok-file.ensures.created honest)))) in
     write_failed c.args.name.now _ c.args.bytes.now start _ so_far
 
@@ -49,7 +49,7 @@ pub loop-init : goal.loop-init
 loop-init g c = record {
   within = search rules;
   named = refl;
-  written = λ honest. (honest, (λ start made. made), left_none (Writing (g.S.System.name_of c.in_ok-file.file) []) _);
+  written = λ honest current. (honest, (λ start made. made), left_none (Writing (g.S.System.name_of c.in_ok-file.file) []) _, current);
 }
 
 pub loop-preserved : goal.loop-preserved
@@ -58,8 +58,8 @@ loop-preserved g c =
       | in-Ok w ↦ record {
         within = search rules;
         named = c.append.ensures.name ∙ c.loop.invariant.named;
-        written = λ honest.
-            let kept = c.loop.invariant.written honest in (
+        written = λ honest current.
+            let kept = c.loop.invariant.written honest current in (
               c.append.ensures.honest kept.0,
               λ start made.
                   let name = g.S.System.name_of c.in_ok-file.file in
@@ -69,26 +69,28 @@ loop-preserved g c =
                   let now = g.S.System.world c.loop.system in
                   let end = g.S.System.world c.append.new.self in
                   let rest : take (length bytes - at) (drop at bytes) ≡ drop at bytes = take_all _ _ (omega (arith, length-drop at bytes)) in
-                  let comes : Comes (changed name (λ held. held ++ take n (take (length bytes - at) (drop at bytes)))) now end = rw c.loop.invariant.named at (w.in-Ok.ensures.appended kept.0) in
+                  let comes : Comes (changed name (λ held. held ++ take n (take (length bytes - at) (drop at bytes)))) now end = rw c.loop.invariant.named at (w.in-Ok.ensures.appended kept.0 kept.3) in
                   let more : Written name (take at bytes ++ take n (take (length bytes - at) (drop at bytes))) start end =
                   written_changed name (take at bytes) (λ held. held ++ take n (take (length bytes - at) (drop at bytes))) start now end (kept.1 start made) comes in
                   subst (λ held. Written name held start end) (ap (λ p. take at bytes ++ take n p) rest ∙ (sym (take-add at n bytes) ∙ ap (λ k. take k bytes) (sym w.at-is))) more,
               left_both _ _ _ _ kept.2 (rw c.loop.invariant.named at (c.append.ensures.left kept.0)),
+              c.append.ensures.current kept.0 kept.3,
             );
       }
       | in-Err+else-ne w ↦ record {
         within = search rules;
         named = c.append.ensures.name ∙ c.loop.invariant.named;
-        written = λ honest.
-            let kept = c.loop.invariant.written honest in (
+        written = λ honest current.
+            let kept = c.loop.invariant.written honest current in (
               c.append.ensures.honest kept.0,
               λ start made.
-                  let appended = rw c.loop.invariant.named at (w.in-Err.ensures.appended kept.0) in
+                  let appended = rw c.loop.invariant.named at (w.in-Err.ensures.appended kept.0 kept.3) in
                   elim appended [
                     | inl acts ↦ rw w.at-is (written_on _ _ start _ _ (kept.1 start made) acts)
                     | inr other ↦ absurd (other.0 (search rules))
                   ],
               left_both _ _ _ _ kept.2 (rw c.loop.invariant.named at (c.append.ensures.left kept.0)),
+              c.append.ensures.current kept.0 kept.3,
             );
       }
     ]
@@ -104,31 +106,31 @@ returns-then-at-bytes-clause-left g c = λ honest.
     let start = g.S.System.world c.args.system.now in
     let now = g.S.System.world c.loop.system in
     let end = g.S.System.world c.sync_file.new.self in
-    let kept = c.loop.invariant.written (c.create.ensures.honest honest) in
+    let kept = c.loop.invariant.written (c.create.ensures.honest honest) (c.in_ok-file.ensures.current honest) in
     let named = c.in_ok-file.ensures.name honest in
     let so_far : Written name (take c.loop.at bytes) start now = rw named at (kept.1 start (rw named (written_created name start _ (c.in_ok-file.ensures.created honest)))) in
     let all : Written name bytes start now = subst (λ held. Written name held start now) (take_all c.loop.at bytes (search rules)) so_far in
     let left = left_both (Writing name []) _ _ _ (c.create.ensures.left honest) (rw named at kept.2) in
     left_written name bytes c.sync_file.result _ _ start.files end.files (write_succeeded name bytes start end (written_on name bytes start now end all (c.sync_file.ensures.acts kept.0)))
-    (rw (c.loop.invariant.named ∙ named) at (c.sync_file.ensures.kept kept.0))
+    (rw (c.loop.invariant.named ∙ named) at (c.sync_file.ensures.kept kept.0 kept.3))
     (left_as _ _ _ _ (leaves_torn name [] bytes) (left_more _ _ _ _ left (c.sync_file.ensures.left kept.0)))
 
 pub returns-in-Ok-eq0-clause-left : goal.returns-in-Ok-eq0-clause-left
 returns-in-Ok-eq0-clause-left g c = λ honest.
-    let kept = c.loop.invariant.written (c.create.ensures.honest honest) in
+    let kept = c.loop.invariant.written (c.create.ensures.honest honest) (c.in_ok-file.ensures.current honest) in
     let named = c.in_ok-file.ensures.name honest in
     let so_far = left_both (Writing c.args.name.now []) _ _ _ (c.create.ensures.left honest) (rw named at kept.2) in
     left_as _ _ _ _ (leaves_torn c.args.name.now [] c.args.bytes.now) (left_both _ _ _ _ so_far (rw (c.loop.invariant.named ∙ named) at (c.append.ensures.left kept.0)))
 
 pub returns-then-ne-clause-left : goal.returns-then-ne-clause-left
 returns-then-ne-clause-left g c = λ honest.
-    let kept = c.loop.invariant.written (c.create.ensures.honest honest) in
+    let kept = c.loop.invariant.written (c.create.ensures.honest honest) (c.in_ok-file.ensures.current honest) in
     let named = c.in_ok-file.ensures.name honest in
     let so_far = left_both (Writing c.args.name.now []) _ _ _ (c.create.ensures.left honest) (rw named at kept.2) in
     left_as _ _ _ _ (leaves_torn c.args.name.now [] c.args.bytes.now) (left_both _ _ _ _ so_far (rw (c.loop.invariant.named ∙ named) at (c.append.ensures.left kept.0)))
 
 pub returns-clause-left : goal.returns-clause-left
 returns-clause-left g c = λ honest.
-    let kept = c.loop.invariant.written (c.create.ensures.honest honest) in
+    let kept = c.loop.invariant.written (c.create.ensures.honest honest) (c.in_ok-file.ensures.current honest) in
     let so_far = left_both (Writing c.args.name.now []) _ _ _ (c.create.ensures.left honest) (rw (c.in_ok-file.ensures.name honest) at kept.2) in
     left_as _ _ _ _ (leaves_torn c.args.name.now [] c.args.bytes.now) so_far

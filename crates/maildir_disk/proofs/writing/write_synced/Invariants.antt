@@ -11,7 +11,9 @@ invariant-loop g l = record {
   within : l.at ≤ length l.bytes;
   named : g.S.System.name_of l.file ≡ g.S.System.name_of l.initial.file;
   written : g.S.System.honest l.initial.system
+      → g.S.System.is_current l.initial.system l.initial.file
       → g.S.System.honest l.system
       × ((start : World) → Written (g.S.System.name_of l.initial.file) [] start (g.S.System.world l.initial.system) → Written (g.S.System.name_of l.initial.file) (take l.at l.bytes) start (g.S.System.world l.system))
-      × Left (Leaves (Writing (g.S.System.name_of l.initial.file) [])) (g.S.System.may_leave l.initial.system) (g.S.System.may_leave l.system);
+      × Left (Leaves (Writing (g.S.System.name_of l.initial.file) [])) (g.S.System.may_leave l.initial.system) (g.S.System.may_leave l.system)
+      × g.S.System.is_current l.system l.file;
 }

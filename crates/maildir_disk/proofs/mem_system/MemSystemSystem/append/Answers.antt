@@ -10,20 +10,20 @@ use Rattle.maildir_disk.proofs.Lefts.{acts_left, called_left, left_both, leaves_
 use Rattle.maildir_disk.proofs.mem_system.MemSystemSystem.append.Goals as goal
 
 pub returns-in_err-pass_shortly-clause-appended : goal.returns-in_err-pass_shortly-clause-appended
-returns-in_err-pass_shortly-clause-appended c = λ honest. appended_fault _ _ _ _ _ c.from_residual.ensures.0 c.pass_shortly.ensures.acts
+returns-in_err-pass_shortly-clause-appended c = λ honest current. appended_fault _ _ _ _ _ c.from_residual.ensures.0 c.pass_shortly.ensures.acts
 
 pub returns-in_err-holds-clause-appended : goal.returns-in_err-holds-clause-appended
-returns-in_err-holds-clause-appended c = λ honest. appended_fault _ _ _ _ _ c.from_residual-in_err-holds.ensures.0 c.pass_shortly.ensures.acts
+returns-in_err-holds-clause-appended c = λ honest current. appended_fault _ _ _ _ _ c.from_residual-in_err-holds.ensures.0 c.pass_shortly.ensures.acts
 
 pub returns-in_default-clause-appended : goal.returns-in_default-clause-appended
-returns-in_default-clause-appended c = λ honest.
+returns-in_default-clause-appended c = λ honest current.
     let acts = c.pass_shortly.ensures.acts in
     let mid = files_of c.pass_shortly.new.self.folder in
     let none : get mid.tmp (opened_as c.args.file.now) ≡ None = rw c.as_str.ensures.value at (sym c.bytes_of.ensures ∙ ap option_copied c.in_default.is) in
     comes_to_none (opened_as c.args.file.now) _ _ (world_of c.pass_shortly.new.self) acts none
 
 pub returns-in-Ok-clause-appended : goal.returns-in-Ok-clause-appended
-returns-in-Ok-clause-appended c = λ honest.
+returns-in-Ok-clause-appended c = λ honest current.
     let acts = c.pass_shortly.ensures.acts in
     let mid = files_of c.pass_shortly.new.self.folder in
     let written = (rw c.in-Ok.is at (c.write.ensures.alone (c.pass_shortly.ensures.honest honest))).1 in
