@@ -1,8 +1,7 @@
 -- What a cut leaves, from one moment of a call to the next.
-use Rattle.std.proofs.Common.{◌≡◌, inl, inr, ℕ, List, [], ◌∷◌, ◌++◌, map, Option, Some, None, IsTrue, refl, sym, ◌∙◌, ap, subst}
+use Rattle.std.proofs.Common.{◌≡◌, inl, inr, ℕ, List, [], ◌∷◌, ◌++◌, map, refl, sym, ◌∙◌, ap, subst}
 use Rattle.std.specs.Prelude.{IsErr, IsOk, OnErr, OnOk, Result, Ok, Err}
-use Rattle.std.specs.FinMap.{get, contains_key}
-use Rattle.maildir_name.specs.Names.{is_converter_name}
+use Rattle.std.specs.FinMap.{contains_key}
 use Rattle.maildir_run.specs.declared.folder.Sub.{Sub}
 use Rattle.maildir_run.specs.declared.folder.Sub.TheVariants.{Tmp}
 use Rattle.maildir_run.specs.Calls.{Call, Listing, Writing, Called, Move, Other, Again, Torn, Succeeded, after, moved, folder_of}

@@ -7,7 +7,7 @@ use Rattle.std.proofs.lemmas.List.Elements.{Contains-append_left, Contains-appen
 use Rattle.maildir_name.specs.Names.{base, is_converter_name, is_converter_base}
 use Rattle.maildir_run.specs.declared.folder.Sub.TheVariants.{New, Cur}
 use Rattle.maildir_run.specs.Delivery.{Message, IsHome}
-use Rattle.maildir_run.specs.Files.{FileMap, Files, Action, acted, all_acted, has_base, held_under, homes}
+use Rattle.maildir_run.specs.Files.{FileMap, Files, Action, acted, all_acted, held_under}
 use Rattle.maildir_run.proofs.Homes.{acted_kept}
 use Rattle.maildir_run.proofs.ListedNowhere.{all_acted_new}
 use Rattle.maildir_run.proofs.Maps.{is_name-true}

@@ -8,7 +8,7 @@ use Rattle.maildir_run.specs.declared.folder.Sub.{Sub}
 use Rattle.maildir_run.specs.declared.folder.Sub.TheVariants.{New, Cur}
 use Rattle.maildir_name.specs.Names.{is_converter_base, is_converter_name}
 use Rattle.maildir_run.specs.Files.{is_name, FileMap, Files, has_base, held_under, homes, Action, ToCur, Reflag, DropTmp, Outside, may_take, to_cur, reflag, acted, all_acted}
-use Rattle.maildir_run.specs.Calls.{Listing, Move, Other, Again, Torn, moved, after, Lists}
+use Rattle.maildir_run.specs.Calls.{Listing, Move, Other, Again, moved, after, Lists}
 use Rattle.maildir_run.proofs.Maps.{nothing, total, is_name-true}
 use Rattle.maildir_run.proofs.Homes.{same_both, held-outsiders_of}
 use Rattle.maildir_run.proofs.Moves.{after_kept, after-append, homes_none, none_held, held_none}

@@ -9,7 +9,7 @@ use Rattle.maildir_run.specs.declared.script.Mode.{Mode}
 use Rattle.maildir_run.specs.declared.script.Mode.TheVariants.{Plain, FailBefore, FailAfter, Half, Twice}
 use Rattle.maildir_run.specs.declared.script.ScriptLine.{ScriptLine}
 use Rattle.maildir_run.specs.Files.{Files, ToCur, Reflag, DropTmp, acted}
-use Rattle.maildir_run.specs.Calls.{Call, Writing, Listing, Placing, Removing, effect, torn, IsReady}
+use Rattle.maildir_run.specs.Calls.{Call, Writing, Placing, Removing, effect, torn, IsReady}
 use Rattle.maildir_run.specs.MemFiles.{with_file, without_file}
 
 -- the files after an act; one whose condition fails changes nothing (maildir(5), and this project's own rule)
