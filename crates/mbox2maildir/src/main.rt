@@ -1,11 +1,7 @@
 //! Turns an mbox text into files of a Maildir, and can be started again after any stop.
 #![tactic(auto)]
 
-mod command;
-mod fault;
-mod run;
-
-use crate::run::{run, tell};
+use maildir_commands::{run, tell};
 use maildir_disk::is_refused_growth;
 use maildir_run::RunFault;
 use std::process::ExitCode;

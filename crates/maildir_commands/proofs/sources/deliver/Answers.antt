@@ -1,0 +1,62 @@
+use Rattle.std.proofs.Common.{OnOk, Ok, Err, inr, rules}
+use Rattle.maildir_disk.proofs.Lefts.{on_ok}
+use Rattle.maildir_disk.proofs.Safety.{intact_after_run, intact_after_both, survive_after_run, survive_after_both, safe_after_both}
+use Rattle.maildir_commands.specs.Report.{PrintsReports}
+use Rattle.maildir_commands.proofs.Reports.{one_report}
+use Rattle.maildir_commands.proofs.sources.deliver.Goals as goal
+
+pub returns-clause-printed : goal.returns-clause-printed
+returns-clause-printed g c =
+    let printed = one_report (g.W.Write.contents c.args.out.now) (g.W.Write.contents c.print_report.new.out) (g.W.Write.contents c.flush.new.out) c.in_ok-report.report
+    c.in_ok-print_report.ensures.printed c.flush.ensures.same in
+    elim c.flush.result as (λ answer. OnOk answer (PrintsReports (g.W.Write.contents c.args.out.now) (g.W.Write.contents c.flush.new.out) 1)) [ Ok _ ↦ printed | Err _ ↦ tt ]
+
+pub returns-in_err-map_err-clause-intact : goal.returns-in_err-map_err-clause-intact
+returns-in_err-map_err-clause-intact g c = λ honest t ms small p are intact.
+    intact_after_both t ms are small _ _ _ c.convert.result (c.convert.ensures.left honest t ms p are) (c.sync.ensures.left (c.convert.ensures.honest honest)) intact
+
+pub returns-in_err-print_report-clause-intact : goal.returns-in_err-print_report-clause-intact
+returns-in_err-print_report-clause-intact g c = λ honest t ms small p are intact.
+    intact_after_both t ms are small _ _ _ c.convert.result (c.convert.ensures.left honest t ms p are) (c.sync.ensures.left (c.convert.ensures.honest honest)) intact
+
+pub returns-clause-intact : goal.returns-clause-intact
+returns-clause-intact g c = λ honest t ms small p are intact.
+    intact_after_both t ms are small _ _ _ c.convert.result (c.convert.ensures.left honest t ms p are) (c.sync.ensures.left (c.convert.ensures.honest honest)) intact
+
+pub returns-in_err-report-clause-intact : goal.returns-in_err-report-clause-intact
+returns-in_err-report-clause-intact g c = λ honest t ms small p are intact.
+    intact_after_run t ms are small _ _ c.convert.result (c.convert.ensures.left honest t ms p are) intact
+
+pub returns-in_err-print_report-clause-line : goal.returns-in_err-print_report-clause-line
+returns-in_err-print_report-clause-line g c = λ honest t ms small p are sound intact.
+    let still = c.convert.ensures.honest honest in
+    inr (safe_after_both t ms are small _ _ _ _ _ _ _ c.in_ok-report.report c.sync.result (c.in_ok-report.ensures.run honest t small p) sound (c.in_ok-report.ensures.left honest t ms p are) intact
+    (c.sync.ensures.acts still) (search rules) (c.sync.ensures.survive still ms) (c.sync.ensures.rooted still))
+
+pub returns-clause-line : goal.returns-clause-line
+returns-clause-line g c = λ honest t ms small p are sound intact.
+    let still = c.convert.ensures.honest honest in
+    inr (safe_after_both t ms are small _ _ _ _ _ _ _ c.in_ok-report.report c.sync.result (c.in_ok-report.ensures.run honest t small p) sound (c.in_ok-report.ensures.left honest t ms p are) intact
+    (c.sync.ensures.acts still) (search rules) (c.sync.ensures.survive still ms) (c.sync.ensures.rooted still))
+
+pub returns-clause-safe : goal.returns-clause-safe
+returns-clause-safe g c = λ honest t ms small p are sound intact.
+    let still = c.convert.ensures.honest honest in
+    on_ok _ c.flush.result (safe_after_both t ms are small _ _ _ _ _ _ _ c.in_ok-report.report c.sync.result (c.in_ok-report.ensures.run honest t small p) sound (c.in_ok-report.ensures.left honest t ms p are) intact
+    (c.sync.ensures.acts still) (search rules) (c.sync.ensures.survive still ms) (c.sync.ensures.rooted still))
+
+pub returns-in_err-map_err-clause-still : goal.returns-in_err-map_err-clause-still
+returns-in_err-map_err-clause-still g c = λ honest t ms others small p are named alike survive.
+    survive_after_both t ms are small others _ _ _ c.convert.result named alike (c.convert.ensures.left honest t ms p are) (c.sync.ensures.left (c.convert.ensures.honest honest)) survive
+
+pub returns-in_err-print_report-clause-still : goal.returns-in_err-print_report-clause-still
+returns-in_err-print_report-clause-still g c = λ honest t ms others small p are named alike survive.
+    survive_after_both t ms are small others _ _ _ c.convert.result named alike (c.convert.ensures.left honest t ms p are) (c.sync.ensures.left (c.convert.ensures.honest honest)) survive
+
+pub returns-clause-still : goal.returns-clause-still
+returns-clause-still g c = λ honest t ms others small p are named alike survive.
+    survive_after_both t ms are small others _ _ _ c.convert.result named alike (c.convert.ensures.left honest t ms p are) (c.sync.ensures.left (c.convert.ensures.honest honest)) survive
+
+pub returns-in_err-report-clause-still : goal.returns-in_err-report-clause-still
+returns-in_err-report-clause-still g c = λ honest t ms others small p are named alike survive.
+    survive_after_run t ms are small others _ _ c.convert.result named alike (c.convert.ensures.left honest t ms p are) survive

@@ -1,0 +1,13 @@
+use Rattle.std.proofs.Common.{◌≡◌, ◌+◌, subst, arith}
+use Rattle.maildir_commands.specs.Report.{PrintsReports}
+use Rattle.maildir_commands.proofs.Reports.{more_reports}
+use Rattle.maildir_commands.proofs.sources.deliver_sources.Goals as goal
+
+pub loop-path-preserved : goal.loop-path-preserved
+loop-path-preserved g c =
+    let was = g.W.Write.contents c.args.out.now in
+    let is = g.W.Write.contents c.deliver-in-loop-path.new.out in
+    let i = c.loop-path.path-index in
+    let count : (1 + i) + 1 ≡ 1 + (i + 1) = omega arith in
+    subst (PrintsReports was is) count
+    (more_reports was (g.W.Write.contents c.loop-path.out) is (1 + i) 1 c.loop-path.invariant c.in_ok-deliver.ensures.printed)

@@ -1,0 +1,33 @@
+// What the words of the command line ask for.
+ghost use Rattle.std.specs.Prelude.{◌↔◌, map, string_bytes, IsSome};
+ghost use Rattle.maildir_commands.specs.Words.{AreOfAForm};
+
+/// A command. Without FILE it reads standard input.
+#[derive(Clone, Copy, Debug)]
+pub enum Command<'a> {
+    /// `rewrite [FILE]`, or no words at all: write the text in its regular spelling.
+    Rewrite(Option<&'a str>),
+    /// `list [FILE]`: write a line for each message.
+    List(Option<&'a str>),
+    /// `convert MAILDIR [FILE]...`: deliver the messages of each file, in the order of the words.
+    Convert(&'a str, &'a [String]),
+}
+
+impl<'a> Command<'a> {
+    /// The command of these words, which are compared as they stand; `None` where they are of no form.
+    pub fn of(words: &'a [String]) -> Option<Command<'a>>
+        ensures { IsSome result ↔ AreOfAForm (map string_bytes words.now) }
+    {
+        let Some((word, rest)) = words.split_first() else {
+            return Some(Command::Rewrite(None));
+        };
+        match (word.as_str(), rest) {
+            ("rewrite", []) => Some(Command::Rewrite(None)),
+            ("rewrite", [file]) => Some(Command::Rewrite(Some(file.as_str()))),
+            ("list", []) => Some(Command::List(None)),
+            ("list", [file]) => Some(Command::List(Some(file.as_str()))),
+            ("convert", [maildir, files @ ..]) => Some(Command::Convert(maildir.as_str(), files)),
+            _ => None,
+        }
+    }
+}
