@@ -4,10 +4,10 @@ use Rattle.std.specs.Prelude.{IsErr, IsOk, OnErr, OnOk, Result, Ok, Err}
 use Rattle.std.specs.FinMap.{contains_key}
 use Rattle.maildir_run.specs.declared.folder.Sub.{Sub}
 use Rattle.maildir_run.specs.declared.folder.Sub.TheVariants.{Tmp}
-use Rattle.maildir_run.specs.Calls.{Call, Listing, Writing, Called, Move, Other, Again, Torn, Succeeded, after, moved, folder_of}
+use Rattle.maildir_run.specs.Calls.{Call, Listing, Writing, Called, Other, Again, Torn, Succeeded, moved, folder_of}
 use Rattle.maildir_run.specs.Cuts.{Kept, Came, Doubled, Leaves, LeavesOf, IsFoundWhole, Left, left_after, doubled}
 use Rattle.maildir_run.specs.Files.{Files, Action, acted, all_acted}
-use Rattle.maildir_run.proofs.Cuts.{left_as, left_then}
+use Rattle.maildir_run.proofs.Cuts.{all_left, leaves_moves, left_as, left_then}
 use Rattle.maildir_run.proofs.Moves.{writing_ok}
 use Rattle.maildir_disk.specs.PowerCuts.{LeavesOthers, KeepsHeld, KeepsNames}
 use Rattle.maildir_disk.specs.World.{World, Acts}
@@ -79,11 +79,8 @@ pub others_then : (a b c : Files → Type 0) → Left LeavesOthers a b → Left 
 others_then = left_both (Listing Tmp)
 
 -- ---- where a cut leaves what is there, and that alone
-all_left : (call : Call) (a b : Files) → Leaves call a b → Left (Leaves call) (λ left. left ≡ a) (λ left. left ≡ b)
-all_left call a b h left e = (a, refl, subst (Leaves call a) (sym e) h)
-
 pub same_left : (call : Call) (a b : Files) → b ≡ a → Left (Leaves call) (λ left. left ≡ a) (λ left. left ≡ b)
-same_left call a b same = all_left call a b (record { kept = []; are = same })
+same_left call a b same = all_left (Leaves call) a b (record { kept = []; are = same })
 
 others_kept : (call : Call) (xs : List Action) (s : Files) → left_after s call (map (λ action. Came (Other action)) xs) ≡ all_acted xs s
 others_kept call [] s = refl
@@ -93,15 +90,11 @@ acts_leave : (call : Call) (a b : World) → Acts a b → Leaves call a.files b.
 acts_leave call a b acts = record { kept = map (λ action. Came (Other action)) acts.actions; are = acts.files_are ∙ sym (others_kept call acts.actions a.files) }
 
 pub acts_left : (call : Call) (a b : World) → Acts a b → Left (Leaves call) (λ left. left ≡ a.files) (λ left. left ≡ b.files)
-acts_left call a b acts = all_left call a.files b.files (acts_leave call a b acts)
-
-moves_kept : (call : Call) (moves : List Move) (s : Files) → left_after s call (map Came moves) ≡ after s call moves
-moves_kept call [] s = refl
-moves_kept call (move ∷ moves) s = moves_kept call moves (moved call move s)
+acts_left call a b acts = all_left (Leaves call) a.files b.files (acts_leave call a b acts)
 
 pub called_left : {A E : Type 0} (call : Call) (a : Files) (outcome : Result A E) (b : Files) → Called call a outcome b → Left (Leaves call) (λ left. left ≡ a) (λ left. left ≡ b)
-called_left call a (Ok _) b h = all_left call a b (record { kept = map Came (h.before ++ Again ∷ h.rest); are = h.left ∙ sym (moves_kept call (h.before ++ Again ∷ h.rest) a) })
-called_left call a (Err _) b h = all_left call a b (record { kept = map Came h.moves; are = h.left ∙ sym (moves_kept call h.moves a) })
+called_left call a (Ok _) b h = all_left (Leaves call) a b (leaves_moves call a b (h.before ++ Again ∷ h.rest) h.left)
+called_left call a (Err _) b h = all_left (Leaves call) a b (leaves_moves call a b h.moves h.left)
 
 pub on_ok : {A E : Type 0} (P : Type 0) (outcome : Result A E) → P → OnOk outcome P
 on_ok P (Ok x) h = h

@@ -14,7 +14,7 @@ left_moves : (s : Files) (call : Call) (moves : List Move) → left_after s call
 left_moves s call [] = refl
 left_moves s call (move ∷ moves) = left_moves (moved call move s) call moves
 
-leaves_moves : (call : Call) (old new : Files) (moves : List Move) → new ≡ after old call moves → Leaves call old new
+pub leaves_moves : (call : Call) (old new : Files) (moves : List Move) → new ≡ after old call moves → Leaves call old new
 leaves_moves call old new moves e = record { kept = map Came moves; are = e ∙ sym (left_moves old call moves) }
 
 found_whole : (call : Call) (old new : Files) → Succeeded call old new → IsFoundWhole call new
@@ -34,7 +34,7 @@ leaves_listed sub old (Ok x) new h = (leaves_moves (Listing sub) old new (h.befo
 leaves_listed sub old (Err e) new h = leaves_moves (Listing sub) old new h.moves h.left
 
 -- ---- where a cut leaves what is there, and that alone
-all_left : (of : Files → Files → Type 0) (old new : Files) → of old new → Left of (λ left. left ≡ old) (λ left. left ≡ new)
+pub all_left : (of : Files → Files → Type 0) (old new : Files) → of old new → Left of (λ left. left ≡ old) (λ left. left ≡ new)
 all_left of old new h left e = (old, refl, subst (of old) (sym e) h)
 
 pub called_left : {A : Type 0} (call : Call) (old : Files) (r : Result A FolderFault) (new : Files) → Called call old r new → Left (λ before now. LeavesOf call before r now) (λ left. left ≡ old) (λ left. left ≡ new)
