@@ -45,7 +45,7 @@ fn deliver_first<'a, R: Files<File = File> + Clock, W: Write>(
 }
 
 /// Delivers the messages of standard input, or of each file where files are named.
-pub fn deliver_sources<R: Files<File = File> + Clock, I: Read, W: Write>(
+pub(crate) fn deliver_sources<R: Files<File = File> + Clock, I: Read, W: Write>(
     rt: &R,
     alloc: Global,
     maildir: &str,
@@ -68,7 +68,9 @@ pub fn deliver_sources<R: Files<File = File> + Clock, I: Read, W: Write>(
 }
 
 /// Delivers the messages of one source, by a run of its own, syncs the Maildir and then prints the run's line at once:
-/// each line that was printed stays true, whatever becomes of the next source, and through a power cut.
+/// each line that was printed stays true, whatever becomes of the next source, and through a power cut (this project's
+/// own rule). The fault is the run's, the sync's (the folder call behind the run's last, or want of memory), or
+/// `OutputFault` where the line could not be written.
 pub fn deliver<S: System, I: Read, W: Write>(
     alloc: Global,
     folder: &mut DiskFolder<S>,

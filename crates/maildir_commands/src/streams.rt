@@ -9,17 +9,17 @@ use std::io::Write;
 use std::rt::Files;
 
 /// How many reads a run makes at most.
-pub const READS: u64 = 1 << 40;
+pub(crate) const READS: u64 = 1 << 40;
 
 /// Opens a file that is named as a source.
-pub fn open<R: Files>(rt: &R, path: &str) -> Result<R::File, Fault>
+pub(crate) fn open<R: Files>(rt: &R, path: &str) -> Result<R::File, Fault>
     ensures { IfErr result (λ fault. (fault ≡ Fault.Source) ⊎ (fault ≡ Fault.Run RunFault.OutOfMemory)) }
 {
     fs::open(rt, path).map_err(|error| Fault::of_source(&error))
 }
 
 /// Hands on all that was written.
-pub fn flush<W: Write>(out: &mut W) -> Result<(), Fault>
+pub(crate) fn flush<W: Write>(out: &mut W) -> Result<(), Fault>
     ensures same { Keeps (W.contents out.old) (W.contents out.new) }
     ensures causes { IfErr result (λ fault. fault ≡ Fault.Run RunFault.OutputFault) }
 {
