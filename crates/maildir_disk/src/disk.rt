@@ -125,11 +125,10 @@ pub(crate) fn rename(files: &impl Files, from: &str, to: &str) -> io::Result<()>
     }
 }
 
-/// Removes a file where there is one, or a folder that is empty.
+/// Removes a file where there is one.
 pub(crate) fn remove(files: &impl Files, path: &str) -> io::Result<()> {
     match fs::remove_file(files, path) {
         Err(error) if error.kind() == ErrorKind::NotFound => Ok(()),
-        Err(error) if error.kind() == ErrorKind::IsADirectory => fs::remove_dir(files, path),
         outcome => outcome,
     }
 }
