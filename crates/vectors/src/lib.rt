@@ -16,6 +16,8 @@ mod bases;
 #[cfg(test)]
 mod converting;
 #[cfg(test)]
+mod disk_folder;
+#[cfg(test)]
 mod disturbed;
 #[cfg(test)]
 mod fault_texts;
