@@ -1,12 +1,12 @@
 // The sources of a conversion, each with a run of its own and its line.
-ghost use Rattle.std.specs.Prelude.{◌≡◌, ◌⊎◌, ℕ, List, All, ◌<◌, ◌+◌, ◌*◌, ◌-◌, ◌^◌, min, max, length, IfErr, OnOk};
+ghost use Rattle.std.specs.Prelude.{◌≡◌, ◌⊎◌, ℕ, List, All, ◌<◌, ◌+◌, ◌*◌, ◌-◌, ◌^◌, min, max, length, IfErr, IfOk, OnOk};
 ghost use Rattle.std.specs.Io.KnownBytes.{Appends, IsAtEnd, Keeps};
 ghost use Rattle.maildir_run.specs.Alone.{alone as alone_after};
 ghost use Rattle.maildir_run.specs.Delivery.{AreNamed, IsSoundAt, Message};
 ghost use Rattle.maildir_run.specs.Quietly.{LeavesOthers};
 ghost use Rattle.maildir_run.specs.Runs.{CountsRun, Possible, Reports};
 ghost use Rattle.maildir_run.specs.Texts.{MessagesOf};
-ghost use Rattle.maildir_disk.specs.Paths.{system_of};
+ghost use Rattle.maildir_disk.specs.Paths.{root_of, system_of};
 ghost use Rattle.maildir_disk.specs.PowerCuts.{AreAlike, AreIntact, AreSafe, Survive};
 ghost use Rattle.maildir_commands.specs.Report.{PrintsReport, PrintsReports, report_line};
 
@@ -24,7 +24,8 @@ fn open_folder<'a, R: Files<File = File> + Clock>(
     alloc: Global,
     maildir: &str,
 ) -> Result<DiskFolder<Host<'a, R>>, Fault>
-    ensures { IfErr result (λ fault. (fault ≡ Fault.Folder) ⊎ (fault ≡ Fault.Locked) ⊎ (fault ≡ Fault.Run RunFault.OutOfMemory)) }
+    ensures path { IfOk result (λ folder. root_of folder ≡ maildir.now) }
+    ensures causes { IfErr result (λ fault. (fault ≡ Fault.Folder) ⊎ (fault ≡ Fault.Locked) ⊎ (fault ≡ Fault.Run RunFault.OutOfMemory)) }
 {
     DiskFolder::open_at(rt, alloc, maildir).map_err(Fault::of_folder)
 }
