@@ -1,12 +1,12 @@
 // The sources of a conversion, each with a run of its own and its line.
-ghost use Rattle.std.specs.Prelude.{◌≡◌, ◌⊎◌, ℕ, List, All, ◌<◌, ◌+◌, ◌*◌, ◌-◌, ◌^◌, min, max, length, IfErr, OnOk};
+ghost use Rattle.std.specs.Prelude.{◌≡◌, ◌⊎◌, ℕ, List, All, ◌<◌, ◌+◌, ◌*◌, ◌-◌, ◌^◌, min, max, length, IfErr, IfOk, OnOk};
 ghost use Rattle.std.specs.Io.KnownBytes.{Appends, IsAtEnd, Keeps};
 ghost use Rattle.maildir_run.specs.Alone.{alone as alone_after};
 ghost use Rattle.maildir_run.specs.Delivery.{AreNamed, IsSoundAt, Message};
 ghost use Rattle.maildir_run.specs.Quietly.{LeavesOthers};
-ghost use Rattle.maildir_run.specs.Runs.{Possible, Reports};
+ghost use Rattle.maildir_run.specs.Runs.{CountsRun, Possible, Reports};
 ghost use Rattle.maildir_run.specs.Texts.{MessagesOf};
-ghost use Rattle.maildir_disk.specs.Paths.{system_of};
+ghost use Rattle.maildir_disk.specs.Paths.{root_of, system_of};
 ghost use Rattle.maildir_disk.specs.PowerCuts.{AreAlike, AreIntact, AreSafe, Survive};
 ghost use Rattle.maildir_commands.specs.Report.{PrintsReport, PrintsReports, report_line};
 
@@ -24,7 +24,8 @@ fn open_folder<'a, R: Files<File = File> + Clock>(
     alloc: Global,
     maildir: &str,
 ) -> Result<DiskFolder<Host<'a, R>>, Fault>
-    ensures { IfErr result (λ fault. (fault ≡ Fault.Folder) ⊎ (fault ≡ Fault.Locked) ⊎ (fault ≡ Fault.Run RunFault.OutOfMemory)) }
+    ensures path { IfOk result (λ folder. root_of folder ≡ maildir.now) }
+    ensures causes { IfErr result (λ fault. (fault ≡ Fault.Folder) ⊎ (fault ≡ Fault.Locked) ⊎ (fault ≡ Fault.Run RunFault.OutOfMemory)) }
 {
     DiskFolder::open_at(rt, alloc, maildir).map_err(Fault::of_folder)
 }
@@ -81,10 +82,11 @@ pub fn deliver<S: System, I: Read, W: Write>(
 ) -> Result<(), Fault>
     ensures end { OnOk result (IsAtEnd (I.remaining source.new)) }
 
-    // its line is of a report that is true of the run, where the system does as assumed and the folder began sound for the text
+    // its line is of a report that counts the calls that were made, and that is true of the run, where the system does as
+    // assumed and the folder began sound for the text
     ensures printed { let f = ⟦<DiskFolder<S> as Folder>⟧ in OnOk result (PrintsReport (W.contents out.old) (W.contents out.new) (λ report.
-        f.honest folder.old → (t : List ℕ) (ms : List Message) → length t < 2 ^ 63 → Possible (I.remaining source.old) (I.remaining source.new) t → MessagesOf t ms →
-        All (IsSoundAt (f.files folder.old)) ms → Reports ms (f.files folder.old) report)) }
+        CountsRun report (f.calls folder.old) (f.calls folder.new) × (f.honest folder.old → (t : List ℕ) (ms : List Message) → length t < 2 ^ 63 →
+        Possible (I.remaining source.old) (I.remaining source.new) t → MessagesOf t ms → All (IsSoundAt (f.files folder.old)) ms → Reports ms (f.files folder.old) report))) }
 
     // where the system does as assumed, and the folder began sound for the text
     ensures honest { ⟦<DiskFolder<S> as Folder>⟧.honest folder.old → OnOk result (⟦<DiskFolder<S> as Folder>⟧.honest folder.new) }

@@ -64,6 +64,8 @@ impl MemSystem {
         ensures honest { ⟦<MemSystem as System>⟧.honest result }
         ensures quiet { turns.items ≡ [] → ⟦<MemSystem as System>⟧.quiet result }
         ensures files { files_of result.folder ≡ files_of folder }
+        ensures clock { result.clock ≡ clock }
+        ensures turns { result.turns ≡ turns }
     {
         folder.script(Vec::new(alloc), None);
         MemSystem {

@@ -11,7 +11,10 @@ returns-clause-printed g c =
     on_ok _ c.flush.result (record {
       report = report;
       line = Appends-kept _ _ _ (report_line report) c.in_ok-print_report.ensures.printed c.flush.ensures.same;
-      said = λ honest t ms small p are sound. reports_after_run t ms are small _ _ report (c.in_ok-report.ensures.run honest t small p) sound;
+      said = (
+        rw c.sync.ensures.calls c.in_ok-report.ensures.calls,
+        λ honest t ms small p are sound. reports_after_run t ms are small _ _ report (c.in_ok-report.ensures.run honest t small p) sound,
+      );
     })
 
 pub returns-in_err-map_err-clause-intact : goal.returns-in_err-map_err-clause-intact
