@@ -6,3 +6,4 @@ pub mod MemSystem
 pub mod Faults
 pub mod Paths
 pub mod PowerCuts
+pub mod SeveralCuts

@@ -1,10 +1,9 @@
 // A Maildir on a file system, as a folder of the engine.
-ghost use Rattle.std.specs.Prelude.{◌≡◌, List, All, OnOk};
+ghost use Rattle.std.specs.Prelude.{◌≡◌, OnOk};
 ghost use Rattle.maildir_run.specs.Calls.{Called, CountsFailure, GoesUp, IsNotAbsent};
 ghost use Rattle.maildir_run.specs.Calls.Call.{Writing};
 ghost use Rattle.maildir_run.specs.Cuts.{Left, LeavesOf};
-ghost use Rattle.maildir_run.specs.Delivery.{AreNamed, IsHome, Message};
-ghost use Rattle.maildir_disk.specs.PowerCuts.{AreIntact, LeavesOthers, Survive};
+ghost use Rattle.maildir_disk.specs.PowerCuts.{LeavesOthers, Syncs};
 ghost use Rattle.maildir_disk.specs.World.{Acts};
 
 use crate::faults::answer_of;
@@ -38,6 +37,13 @@ impl<S: System> DiskFolder<S> {
         }
     }
 
+    /// The system calls that it is over.
+    pub fn into_system(self) -> S
+        ensures { result ≡ self.system }
+    {
+        self.system
+    }
+
     /// Asks the system to keep what `new`, `cur`, the Maildir and its parent name, so that no power cut undoes a
     /// placement that was answered. It is no call of the folder, and is not counted.
     ///
@@ -50,8 +56,8 @@ impl<S: System> DiskFolder<S> {
         ensures acts { S.honest self.old.system → Acts (S.world self.old.system) (S.world self.new.system) }
         ensures left { S.honest self.old.system → Left LeavesOthers (S.may_leave self.old.system) (S.may_leave self.new.system) }
         ensures rooted { S.honest self.old.system → OnOk result (S.rooted self.new.system) }
-        ensures survive { S.honest self.old.system → (ms : List Message) → AreNamed ms → All (IsHome (S.world self.old.system).files) ms →
-            AreIntact ms (S.may_leave self.old.system) → OnOk result (Survive ms (S.may_leave self.new.system)) }
+        ensures synced { S.honest self.old.system → OnOk result (Left (λ before left. Syncs (S.world self.old.system).files before (S.world self.new.system).files left)
+            (S.may_leave self.old.system) (S.may_leave self.new.system)) }
         ensures calls { self.new.calls ≡ self.old.calls }
         ensures failures { self.new.failures ≡ self.old.failures }
         ensures not_absent { IsNotAbsent result }
@@ -64,8 +70,8 @@ impl<S: System> DiskFolder<S> {
         ensures acts { S.honest self.old.system → Acts (S.world self.old.system) (S.world self.new.system) }
         ensures left { S.honest self.old.system → Left LeavesOthers (S.may_leave self.old.system) (S.may_leave self.new.system) }
         ensures rooted { S.honest self.old.system → OnOk result (S.rooted self.new.system) }
-        ensures survive { S.honest self.old.system → (ms : List Message) → AreNamed ms → All (IsHome (S.world self.old.system).files) ms →
-            AreIntact ms (S.may_leave self.old.system) → OnOk result (Survive ms (S.may_leave self.new.system)) }
+        ensures synced { S.honest self.old.system → OnOk result (Left (λ before left. Syncs (S.world self.old.system).files before (S.world self.new.system).files left)
+            (S.may_leave self.old.system) (S.may_leave self.new.system)) }
         ensures calls { self.new.calls ≡ self.old.calls }
         ensures failures { self.new.failures ≡ self.old.failures }
     {

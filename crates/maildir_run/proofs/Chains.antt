@@ -37,8 +37,8 @@ pub chain_parts : {L S : Type 0} (step : L → S → S → Type 0) (xs ys : List
 chain_parts step [] ys old new chain = (old, refl, chain)
 chain_parts step (x ∷ xs) ys old new (next, first, then) = let r = chain_parts step xs ys next new then in (r.0, (next, first, r.1), r.2)
 
-sound_now : (ms : List Message) (a s : Files) → Sound ms a s → Sound ms s s
-sound_now ms a s sound = record { own = sound.own; others = λ b named other. IsPermutation-refl _ }
+pub sound_now : (ms : List Message) (s : Files) → All (IsSoundAt s) ms → Sound ms s s
+sound_now ms s own = record { own = own; others = λ b named other. IsPermutation-refl _ }
 
 sound_trans : (ms : List Message) (a b c : Files) → Sound ms a b → Sound ms b c → Sound ms a c
 sound_trans ms a b c first then = record {
@@ -47,7 +47,7 @@ sound_trans ms a b c first then = record {
 }
 
 pub sound_at_start : (ms : List Message) (s : Files) → All (IsMissing s) ms → Sound ms s s
-sound_at_start ms s missing = record { own = λ k d h. inl (missing k d h); others = λ b named other. IsPermutation-refl _ }
+sound_at_start ms s missing = sound_now ms s (λ k d h. inl (missing k d h))
 
 acted_sound_at : (m : Message) → IsTrue (is_converter_base m.target.base) → (action : Action) (s : Files) → IsSoundAt s m → IsSoundAt (acted action s) m
 acted_sound_at m named action s (inl none) = inl (homes_none m.target.base s (acted action s) (acted_kept m.target.base named action s) none)
@@ -62,7 +62,7 @@ acted_sound ms named a s action sound = record {
 -- ---- a chain over a text whose messages these are
 module _ (t : List ℕ) (ms : List Message) (are : MessagesOf t ms) (named : AreNamed ms) where
   linked_sound : (link : Link) (a old new : Files) → Sound ms a old → Linked t link old new → Sound ms a new
-  linked_sound (Ran answer) a old new sound run = sound_trans ms a old new sound (run.keeps ms are (sound_now ms a old sound)).sound
+  linked_sound (Ran answer) a old new sound run = sound_trans ms a old new sound (run.keeps ms are (sound_now ms old sound.own)).sound
   linked_sound (Acted action) a old new sound e = subst (Sound ms a) (sym e) (acted_sound ms named a old action sound)
 
   pub chain_sound : (links : List Link) (old new : Files) → All (IsMissing old) ms → Runs t links old new → Sound ms old new
@@ -70,7 +70,7 @@ module _ (t : List ℕ) (ms : List Message) (are : MessagesOf t ms) (named : Are
 
   pub chain_delivered : (links : List Link) (old mid new : Files) (report : Report) → All (IsMissing old) ms → Runs t links old mid → Run t mid (Ok report) new → Delivered ms new
   chain_delivered links old mid new report missing runs last =
-      (last.keeps ms are (sound_now ms old mid (chain_sound links old mid missing runs))).ends.delivered
+      (last.keeps ms are (sound_now ms mid (chain_sound links old mid missing runs).own)).ends.delivered
 
 still_swept : (name : List ℕ) → IsTrue (is_converter_name name) → (action : Action) (s : Files) → get s.tmp name ≡ None → get (acted action s).tmp name ≡ None
 still_swept name ours action s h =

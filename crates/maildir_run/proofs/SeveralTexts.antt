@@ -19,7 +19,7 @@ use Rattle.maildir_run.specs.Delivery.{Message, IsMissing, IsHome, IsSoundAt, So
 use Rattle.maildir_run.specs.Runs.{Run}
 use Rattle.maildir_run.specs.Several.{Text, IsText, OfEach, is_base_of_any, HoldsGiven, SoundForAll, LinkOver, RanOver, ActedOver, LinkedOver, RunsOver, HaveOwnDigests, IsUnknown, count_in, most_delivered, most_tried, StandsAfter}
 use Rattle.maildir_run.proofs.Maps.{is_name-refl}
-use Rattle.maildir_run.proofs.Chains.{chain_fold, chain_keeps, chain_at}
+use Rattle.maildir_run.proofs.Chains.{chain_fold, chain_keeps, chain_at, sound_now}
 use Rattle.maildir_run.proofs.Homes.{acted_kept}
 use Rattle.maildir_run.proofs.Moves.{homes_none, homes_one}
 use Rattle.maildir_run.proofs.MessageLemmas.{text_named}
@@ -127,7 +127,7 @@ module _ (texts : List Text) (are : All IsText texts) (own : HaveOwnDigests text
       (levels (get_or text.messages i d).body (record { text = text; among = among; m = get_or text.messages i d; inside = Contains-get_or text.messages i d below; is = refl }))
 
   level_sound : (text : Text) → Contains texts text → (s : Files) → AreLevel s → Sound text.messages s s
-  level_sound text among s levels = record { own = level_sound_at text among s levels; others = λ b named off. IsPermutation-refl _ }
+  level_sound text among s levels = sound_now text.messages s (level_sound_at text among s levels)
 
   ran_rise : (text : Text) → Contains texts text → (answer : Result Report RunFault) (old new : Files) → AreLevel old → Run text.bytes old answer new → (b : List ℕ) → IsBodyOf texts b → (l : Level b old) → Rise b (count_in b text) l.n answer new
   ran_rise text among answer old new levels run b is l =

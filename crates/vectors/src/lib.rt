@@ -15,6 +15,8 @@ mod bases;
 #[cfg(test)]
 mod converting;
 #[cfg(test)]
+mod cuts;
+#[cfg(test)]
 mod disturbed;
 #[cfg(test)]
 mod fault_texts;
