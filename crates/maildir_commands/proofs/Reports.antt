@@ -1,17 +1,21 @@
 -- Lines of runs that are printed one after the other.
-use Rattle.std.proofs.Common.{ℕ, ◌+◌, Option, List, [], ◌∷◌, ◌++◌, length, refl, sym, ◌∙◌, ap, subst, append-nil}
-use Rattle.std.proofs.KnownBytes.{Appends-kept, Appends-trans}
+use Rattle.std.proofs.Common.{◌≡◌, OnOk, Result, Ok, Err, ℕ, ◌+◌, Option, List, [], ◌∷◌, ◌++◌, length, refl, sym, ◌∙◌, ap, subst, append-nil}
+use Rattle.std.proofs.KnownBytes.{Appends-trans}
 use Rattle.std.proofs.lemmas.List.{length-append}
 use Rattle.std.proofs.lemmas.List.Concat.{flat_map-append}
-use Rattle.std.specs.Io.KnownBytes.{Appends, Keeps}
+use Rattle.std.specs.Io.KnownBytes.{Appends}
 use Rattle.std.specs.List.{flat_map}
 use Rattle.maildir_run.specs.declared.report.Report.{Report}
-use Rattle.maildir_commands.specs.Report.{PrintsReports, report_line}
+use Rattle.maildir_commands.specs.Report.{PrintsReport, PrintsReports, report_line}
 
--- one line, and a flush behind it
-pub one_report : (was mid is : Option (List ℕ)) (report : Report) → Appends was mid (report_line report) → Keeps mid is → PrintsReports was is 1
-one_report was mid is report printed same =
-    (report ∷ [], refl, subst (Appends was is) (sym (append-nil (report_line report))) (Appends-kept was mid is (report_line report) printed same))
+-- one line
+pub one_report : (was is : Option (List ℕ)) (as_said : Report → Type 0) → PrintsReport was is as_said → PrintsReports was is 1
+one_report was is as_said printed =
+    (printed.report ∷ [], refl, subst (Appends was is) (sym (append-nil (report_line printed.report))) printed.line)
+
+pub one_answered : {A E : Type 0} (was is : Option (List ℕ)) (as_said : Report → Type 0) (runs : ℕ) (outcome : Result A E) → runs ≡ 1 → OnOk outcome (PrintsReport was is as_said) → OnOk outcome (PrintsReports was is runs)
+one_answered was is as_said runs (Ok _) one printed = subst (PrintsReports was is) (sym one) (one_report was is as_said printed)
+one_answered was is as_said runs (Err _) one printed = tt
 
 -- so many lines, and more behind them
 pub more_reports : (was mid is : Option (List ℕ)) (n m : ℕ) → PrintsReports was mid n → PrintsReports mid is m → PrintsReports was is (n + m)

@@ -1,12 +1,14 @@
 // The sources of a conversion, each with a run of its own and its line.
 ghost use Rattle.std.specs.Prelude.{◌≡◌, ◌⊎◌, ℕ, List, All, ◌<◌, ◌+◌, ◌*◌, ◌-◌, ◌^◌, min, max, length, IfErr, OnOk};
 ghost use Rattle.std.specs.Io.KnownBytes.{Appends, IsAtEnd, Keeps};
+ghost use Rattle.maildir_run.specs.Alone.{alone as alone_after};
 ghost use Rattle.maildir_run.specs.Delivery.{AreNamed, IsSoundAt, Message};
-ghost use Rattle.maildir_run.specs.Runs.{Possible};
+ghost use Rattle.maildir_run.specs.Quietly.{LeavesOthers};
+ghost use Rattle.maildir_run.specs.Runs.{Possible, Reports};
 ghost use Rattle.maildir_run.specs.Texts.{MessagesOf};
 ghost use Rattle.maildir_disk.specs.Paths.{system_of};
 ghost use Rattle.maildir_disk.specs.PowerCuts.{AreAlike, AreIntact, AreSafe, Survive};
-ghost use Rattle.maildir_commands.specs.Report.{PrintsReports, report_line};
+ghost use Rattle.maildir_commands.specs.Report.{PrintsReport, PrintsReports, report_line};
 
 use crate::fault::Fault;
 use crate::streams::{READS, flush, open};
@@ -77,11 +79,15 @@ pub fn deliver<S: System, I: Read, W: Write>(
     source: &mut I,
     out: &mut W,
 ) -> Result<(), Fault>
-    ensures printed { OnOk result (PrintsReports (W.contents out.old) (W.contents out.new) 1) }
     ensures end { OnOk result (IsAtEnd (I.remaining source.new)) }
 
+    // its line is of a report that is true of the run, where the system does as assumed and the folder began sound for the text
+    ensures printed { let f = ⟦<DiskFolder<S> as Folder>⟧ in OnOk result (PrintsReport (W.contents out.old) (W.contents out.new) (λ report.
+        f.honest folder.old → (t : List ℕ) (ms : List Message) → length t < 2 ^ 63 → Possible (I.remaining source.old) (I.remaining source.new) t → MessagesOf t ms →
+        All (IsSoundAt (f.files folder.old)) ms → Reports ms (f.files folder.old) report)) }
+
     // where the system does as assumed, and the folder began sound for the text
-    ensures honest { ⟦<DiskFolder<S> as Folder>⟧.honest folder.old → ⟦<DiskFolder<S> as Folder>⟧.honest folder.new }
+    ensures honest { ⟦<DiskFolder<S> as Folder>⟧.honest folder.old → OnOk result (⟦<DiskFolder<S> as Folder>⟧.honest folder.new) }
     ensures intact { let f = ⟦<DiskFolder<S> as Folder>⟧ in f.honest folder.old → (t : List ℕ) (ms : List Message) → length t < 2 ^ 63 →
         Possible (I.remaining source.old) (I.remaining source.new) t → MessagesOf t ms → AreIntact ms (f.may_leave folder.old) → AreIntact ms (f.may_leave folder.new) }
     ensures still { let f = ⟦<DiskFolder<S> as Folder>⟧ in f.honest folder.old → (t : List ℕ) (ms others : List Message) → length t < 2 ^ 63 →
@@ -93,6 +99,12 @@ pub fn deliver<S: System, I: Read, W: Write>(
     ensures line { let f = ⟦<DiskFolder<S> as Folder>⟧ in f.honest folder.old → (t : List ℕ) (ms : List Message) → length t < 2 ^ 63 →
         Possible (I.remaining source.old) (I.remaining source.new) t → MessagesOf t ms → All (IsSoundAt (f.files folder.old)) ms → AreIntact ms (f.may_leave folder.old) →
         Keeps (W.contents out.old) (W.contents out.new) ⊎ AreSafe ms (f.files folder.new) (f.may_leave folder.new) (S.rooted (system_of folder.new)) }
+
+    // where nobody disturbs it
+    ensures quiet { ⟦<DiskFolder<S> as Folder>⟧.quiet folder.old → OnOk result (⟦<DiskFolder<S> as Folder>⟧.quiet folder.new) }
+    ensures alone { let f = ⟦<DiskFolder<S> as Folder>⟧ in f.quiet folder.old → (t : List ℕ) (ms : List Message) →
+        Possible (I.remaining source.old) (I.remaining source.new) t → MessagesOf t ms → OnOk result (f.files folder.new ≡ alone_after ms (f.files folder.old)) }
+    ensures others { let f = ⟦<DiskFolder<S> as Folder>⟧ in f.quiet folder.old → LeavesOthers (f.files folder.old) (f.files folder.new) }
 {
     let report = convert(alloc, folder, source, READS)?;
     folder

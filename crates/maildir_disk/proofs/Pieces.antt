@@ -129,7 +129,7 @@ pub again : {X : Type 0} (here : Bool) (x y : Option X) (z : Option X) → cond 
 again true x y z = refl
 again false x y z = refl
 
-insert_again : (m : FileMap) (name a b : List ℕ) → insert (insert m name a) name b ≡ insert m name b
+pub insert_again : (m : FileMap) (name a b : List ℕ) → insert (insert m name a) name b ≡ insert m name b
 insert_again m name a b =
     same_map total same _ _ (λ q.
     get-insert total (insert m name a) name b q
@@ -137,7 +137,7 @@ insert_again m name a b =
     ∙ again (is_name q name) (Some b) (Some a) (get m q)
     ∙ sym (get-insert total m name b q))
 
-changed_again : (name held : List ℕ) (change : List ℕ → List ℕ) (s : Files) → changed name change (effect (Writing name held) s) ≡ effect (Writing name (change held)) s
+pub changed_again : (name held : List ℕ) (change : List ℕ → List ℕ) (s : Files) → changed name change (effect (Writing name held) s) ≡ effect (Writing name (change held)) s
 changed_again name held change s =
     ap (λ o. record s { tmp = rewritten (insert s.tmp name held) name change o }) (get-insert_same s.tmp name held)
     ∙ ap (λ m. record s { tmp = m }) (insert_again s.tmp name held (change held))

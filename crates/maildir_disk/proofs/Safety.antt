@@ -6,7 +6,7 @@ use Rattle.maildir_run.specs.declared.report.Report.{Report}
 use Rattle.maildir_run.specs.Cuts.{Left}
 use Rattle.maildir_run.specs.Delivery.{Message, AreNamed, IsHome, IsSoundAt}
 use Rattle.maildir_run.specs.Files.{Files}
-use Rattle.maildir_run.specs.Runs.{Run}
+use Rattle.maildir_run.specs.Runs.{Reports, Run}
 use Rattle.maildir_run.specs.Tasks.{Names, Performs, leaving, planned_tasks}
 use Rattle.maildir_run.specs.Texts.{MessagesOf}
 use Rattle.maildir_run.proofs.MessageLemmas.{text_named}
@@ -42,6 +42,9 @@ module _ (t : List ℕ) (ms : List Message) (are : MessagesOf t ms) (small : len
 
   home_after_run : (old new : Files) (report : Report) → Run t old (Ok report) new → All (IsSoundAt old) ms → All (IsHome new) ms
   home_after_run old new report run sound = (run.keeps ms are (sound_now ms old sound)).ends.delivered.homes_are
+
+  pub reports_after_run : (old new : Files) (report : Report) → Run t old (Ok report) new → All (IsSoundAt old) ms → Reports ms old report
+  reports_after_run old new report run sound = (run.keeps ms are (sound_now t ms are small old sound)).ends.reports
 
   home_after_others : (old new : World) → Acts old new → All (IsHome old.files) ms → All (IsHome new.files) ms
   home_after_others old new acts home k d below =

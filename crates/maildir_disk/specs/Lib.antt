@@ -1,5 +1,7 @@
 pub mod World
 pub mod Writing
+pub mod Placing
+pub mod Quiet
 pub mod Look
 pub mod Misread
 pub mod MemSystem

@@ -10,7 +10,7 @@ pub record World : Type 0 where
   pub files : Files
   -- the wall clock
   pub time : ℕ
-  -- the modification time of each of the three folders
+  -- when each of the three folders was last changed
   pub stamp_of : Sub → ℕ
 
 -- no files, at no time

@@ -1,8 +1,10 @@
 // A Maildir on a file system, as a folder of the engine.
-ghost use Rattle.std.specs.Prelude.{◌≡◌, OnOk};
-ghost use Rattle.maildir_run.specs.Calls.{Called, CountsFailure, GoesUp, IsNotAbsent};
-ghost use Rattle.maildir_run.specs.Calls.Call.{Writing};
+ghost use Rattle.std.specs.Prelude.{◌≡◌, IsErrOf, OnOk};
+ghost use Rattle.maildir_run.specs.Calls.{Called, CalledQuietly, CountsFailure, GoesUp, IsNotAbsent};
+ghost use Rattle.maildir_run.specs.Calls.Call.{Placing, Writing};
 ghost use Rattle.maildir_run.specs.Cuts.{Left, LeavesOf};
+ghost use Rattle.maildir_disk.specs.Quiet.{SameFiles};
+ghost use Rattle.maildir_disk.specs.Placing.{WasGone};
 ghost use Rattle.maildir_disk.specs.PowerCuts.{LeavesOthers, Syncs};
 ghost use Rattle.maildir_disk.specs.World.{Acts};
 
@@ -52,12 +54,14 @@ impl<S: System> DiskFolder<S> {
     /// [`FolderFault::Failed`] where one of the four could not be synced, [`FolderFault::OutOfMemory`] where a
     /// growth was refused.
     pub fn sync(&mut self) -> Result<(), FolderFault>
-        ensures honest { S.honest self.old.system → S.honest self.new.system }
+        ensures honest { S.honest self.old.system → OnOk result (S.honest self.new.system) }
         ensures acts { S.honest self.old.system → Acts (S.world self.old.system) (S.world self.new.system) }
         ensures left { S.honest self.old.system → Left LeavesOthers (S.may_leave self.old.system) (S.may_leave self.new.system) }
         ensures rooted { S.honest self.old.system → OnOk result (S.rooted self.new.system) }
         ensures synced { S.honest self.old.system → OnOk result (Left (λ before left. Syncs (S.world self.old.system).files before (S.world self.new.system).files left)
             (S.may_leave self.old.system) (S.may_leave self.new.system)) }
+        ensures quiet { S.quiet self.old.system → OnOk result (S.quiet self.new.system) }
+        ensures alone { S.quiet self.old.system → SameFiles (S.world self.old.system) (S.world self.new.system) }
         ensures calls { self.new.calls ≡ self.old.calls }
         ensures failures { self.new.failures ≡ self.old.failures }
         ensures not_absent { IsNotAbsent result }
@@ -66,12 +70,14 @@ impl<S: System> DiskFolder<S> {
     }
 
     fn sync_all(&mut self) -> io::Result<()>
-        ensures honest { S.honest self.old.system → S.honest self.new.system }
+        ensures honest { S.honest self.old.system → OnOk result (S.honest self.new.system) }
         ensures acts { S.honest self.old.system → Acts (S.world self.old.system) (S.world self.new.system) }
         ensures left { S.honest self.old.system → Left LeavesOthers (S.may_leave self.old.system) (S.may_leave self.new.system) }
         ensures rooted { S.honest self.old.system → OnOk result (S.rooted self.new.system) }
         ensures synced { S.honest self.old.system → OnOk result (Left (λ before left. Syncs (S.world self.old.system).files before (S.world self.new.system).files left)
             (S.may_leave self.old.system) (S.may_leave self.new.system)) }
+        ensures quiet { S.quiet self.old.system → OnOk result (S.quiet self.new.system) }
+        ensures alone { S.quiet self.old.system → SameFiles (S.world self.old.system) (S.world self.new.system) }
         ensures calls { self.new.calls ≡ self.old.calls }
         ensures failures { self.new.failures ≡ self.old.failures }
     {
@@ -102,7 +108,7 @@ impl<S: System> Folder for DiskFolder<S> {
 
     ghost honest = { λ folder. S.honest folder.system };
 
-    ghost quiet = { λ _. ⊥ };
+    ghost quiet = { λ folder. S.quiet folder.system };
 
     ghost calls = { λ folder. folder.calls };
 
@@ -119,6 +125,9 @@ impl<S: System> Folder for DiskFolder<S> {
             (S.world self.old.system).files result (S.world self.new.system).files }
         ensures left { S.honest self.old.system → Left (λ before now. LeavesOf (Writing name.now bytes.now) before result now)
             (S.may_leave self.old.system) (S.may_leave self.new.system) }
+        ensures quiet { S.quiet self.old.system → S.quiet self.new.system }
+        ensures alone { S.quiet self.old.system → CalledQuietly (Writing name.now bytes.now)
+            (S.world self.old.system).files result (S.world self.new.system).files }
         ensures counted { GoesUp self.old.calls self.new.calls }
         ensures cause { CountsFailure result self.old.failures self.new.failures }
         ensures not_absent { IsNotAbsent result }
@@ -127,7 +136,20 @@ impl<S: System> Folder for DiskFolder<S> {
         self.count_call(answer)
     }
 
-    fn place(&mut self, name: &str, place: Place, target: &str) -> Result<(), FolderFault> {
+    fn place(&mut self, name: &str, place: Place, target: &str) -> Result<(), FolderFault>
+        ensures honest { S.honest self.old.system → S.honest self.new.system }
+        ensures called { S.honest self.old.system → Called (Placing name.now place target.now)
+            (S.world self.old.system).files result (S.world self.new.system).files }
+        ensures gone { S.honest self.old.system → IsErrOf result FolderFault.Absent →
+            WasGone name.now (Placing name.now place target.now) (S.world self.old.system).files (S.world self.new.system).files }
+        ensures left { S.honest self.old.system → Left (λ before now. LeavesOf (Placing name.now place target.now) before result now)
+            (S.may_leave self.old.system) (S.may_leave self.new.system) }
+        ensures quiet { S.quiet self.old.system → S.quiet self.new.system }
+        ensures alone { S.quiet self.old.system → CalledQuietly (Placing name.now place target.now)
+            (S.world self.old.system).files result (S.world self.new.system).files }
+        ensures counted { GoesUp self.old.calls self.new.calls }
+        ensures cause { CountsFailure result self.old.failures self.new.failures }
+    {
         let answer = match self.system.rename(name, place, target) {
             Err(error) if error.kind() == ErrorKind::NotFound => Err(FolderFault::Absent),
             outcome => answer_of(outcome),
@@ -140,5 +162,5 @@ impl<S: System> Folder for DiskFolder<S> {
         self.count_call(answer)
     }
 
-    ghost quiet_is_honest = { λ _ quiet. absurd quiet };
+    ghost quiet_is_honest = { λ folder. S.quiet_is_honest folder.system };
 }

@@ -7,13 +7,16 @@ ghost use Rattle.maildir_disk.specs.declared.faults.OpenFault.TheVariants.{Folde
 use maildir_run::FolderFault;
 use std::io;
 use std::io::ErrorKind;
+use thiserror::Error;
 
 /// Why a Maildir was not opened.
-#[derive(Clone, Copy, Debug, Drop, PartialEq, Eq)]
+#[derive(Clone, Copy, Debug, Drop, Error, PartialEq, Eq)]
 pub enum OpenFault {
     /// Another holds its lock.
+    #[error("the Maildir is locked")]
     Locked,
     /// A folder of it could not be opened or made, or a growth was refused.
+    #[error("{0}")]
     Folder(FolderFault),
 }
 

@@ -22,6 +22,8 @@ pub struct Host<'a, R> {
     rt: &'a R,
     alloc: Global,
     root: String,
+    // whether the Maildir was made as it was opened
+    made: bool,
     // held as long as the folder is open
     _lock: Option<File>,
 }
@@ -34,7 +36,8 @@ impl<'a, R: Files<File = File> + Clock> DiskFolder<Host<'a, R>> {
     /// # Errors
     ///
     /// [`OpenFault::Locked`] where another holds the lock; nothing in the folder was looked at or changed.
-    /// [`FolderFault::Failed`] where one of the four is no folder and cannot be made one; those that were made stay.
+    /// [`FolderFault::Failed`] where the Maildir may not be opened to be locked, and nothing in it was changed; and where one
+    /// of the four is no folder and cannot be made one. Those that were made stay.
     /// [`FolderFault::OutOfMemory`] where a growth was refused.
     pub fn open_at(rt: &'a R, alloc: Global, path: &str) -> Result<Self, OpenFault>
         ensures path { IfOk result (λ folder. root_of folder ≡ path.now) }
@@ -43,7 +46,7 @@ impl<'a, R: Files<File = File> + Clock> DiskFolder<Host<'a, R>> {
         ensures not_absent { IfErr result (λ fault. ¬ (fault ≡ OpenFault.Folder FolderFault.Absent)) }
     {
         let root = answer_of(String::from_str(alloc, path).map_err(io::Error::from))?;
-        answer_of(disk::make_folder(rt, path))?;
+        let made = answer_of(disk::make_folder(rt, path))?;
         let lock = match lock_folder(rt, path) {
             Err(error) if error.kind() == ErrorKind::WouldBlock => return Err(OpenFault::Locked),
             outcome => answer_of(outcome)?,
@@ -52,6 +55,7 @@ impl<'a, R: Files<File = File> + Clock> DiskFolder<Host<'a, R>> {
             rt,
             alloc,
             root,
+            made,
             _lock: lock,
         };
         answer_of(host.make_folders())?;
@@ -102,12 +106,16 @@ impl<'a, R: Files + Clock> System for Host<'a, R> {
 
     ghost honest = { λ _. ⊥ };
 
+    ghost quiet = { λ _. ⊥ };
+
+    ghost quiet_is_honest = { λ _ quiet. quiet };
+
     fn names(&mut self, sub: Sub) -> io::Result<Vec<String>> {
         disk::names(self.rt, self.alloc, self.path_of(sub)?.as_str())
     }
 
     fn stamp(&mut self, sub: Sub) -> io::Result<SystemTime> {
-        fs::metadata(self.rt, self.path_of(sub)?.as_str())?.modified()
+        disk::time_of_change(self.rt, self.path_of(sub)?.as_str())
     }
 
     fn now(&mut self) -> io::Result<SystemTime> {
@@ -123,7 +131,8 @@ impl<'a, R: Files + Clock> System for Host<'a, R> {
     }
 
     fn create(&mut self, name: &str) -> io::Result<R::File> {
-        disk::create(self.rt, self.path_in(Sub::Tmp, name)?.as_str())
+        let (folder, path) = (self.path_of(Sub::Tmp)?, self.path_in(Sub::Tmp, name)?);
+        disk::create(self.rt, folder.as_str(), path.as_str())
     }
 
     fn append(&mut self, file: &mut R::File, bytes: &[u8]) -> io::Result<usize> {
@@ -152,7 +161,11 @@ impl<'a, R: Files + Clock> System for Host<'a, R> {
         let root = self.root.as_str();
         disk::sync_folder(self.rt, root)?;
         let parent = format!(in self.alloc; "{root}/..")?;
-        disk::sync_folder_if_allowed(self.rt, parent.as_str())
+        if self.made {
+            disk::sync_folder(self.rt, parent.as_str())
+        } else {
+            disk::sync_folder_if_possible(self.rt, parent.as_str())
+        }
     }
 }
 

@@ -1,6 +1,5 @@
 // One converter at a time in a Maildir.
 use std::fs::{File, TryLockError};
-use std::io::ErrorKind;
 use std::rt::Files;
 use std::{fs, io};
 
@@ -9,19 +8,12 @@ use std::{fs, io};
 const NO_LOCKS: [i32; 4] = [9, 37, 38, 95];
 
 /// Locks a folder as long as the answer lives, by flock(2): the lock is gone when the process is, however it ends. An
-/// error of the kind `WouldBlock` tells that another holds it. `None` where the file system has no locks, and where the
-/// folder may not be opened for one.
+/// error of the kind `WouldBlock` tells that another holds it. `None` where the file system has no locks.
 pub(crate) fn lock_folder<R: Files<File = File>>(
     files: &R,
     path: &str,
 ) -> io::Result<Option<File>> {
-    match fs::open(files, path) {
-        Err(error) if error.kind() == ErrorKind::PermissionDenied => Ok(None),
-        outcome => lock(outcome?),
-    }
-}
-
-fn lock(folder: File) -> io::Result<Option<File>> {
+    let folder = fs::open(files, path)?;
     match folder.try_lock() {
         Ok(()) => Ok(Some(folder)),
         Err(TryLockError::Error(error)) if tells_no_locks(&error) => Ok(None),

@@ -1,10 +1,13 @@
 // The system calls of a Maildir in memory.
-ghost use Rattle.std.specs.Prelude.{◌≡◌, ◌≤◌, ◌++◌, IfOk};
+ghost use Rattle.std.specs.Prelude.{◌≡◌, ◌≤◌, ◌++◌, [], IfOk};
+ghost use Rattle.std.specs.IoError.{error_kind};
 ghost use Rattle.std.specs.Time.{system_time_nanos};
+ghost use Rattle.std.specs.declared.io.ErrorKind.TheVariants.{NotFound};
 ghost use Rattle.maildir_run.specs.Cuts.{Left};
 ghost use Rattle.maildir_run.specs.MemFolder.{IsQuiet, files_of};
 ghost use Rattle.maildir_disk.specs.World.{Acts, IsOfChange, Passes};
-ghost use Rattle.maildir_disk.specs.MemSystem.{all_is_left, opened_as, world_of};
+ghost use Rattle.maildir_disk.specs.Quiet.{SameFiles};
+ghost use Rattle.maildir_disk.specs.MemSystem.{HasNoTurns, all_is_left, opened_as, world_of};
 ghost use Rattle.maildir_disk.specs.PowerCuts.{LeavesOthers};
 
 use crate::system::System;
@@ -59,6 +62,7 @@ impl MemSystem {
         turns: Vec<Vec<Act>>,
     ) -> Self
         ensures honest { ⟦<MemSystem as System>⟧.honest result }
+        ensures quiet { turns.items ≡ [] → ⟦<MemSystem as System>⟧.quiet result }
         ensures files { files_of result.folder ≡ files_of folder }
     {
         folder.script(Vec::new(alloc), None);
@@ -78,6 +82,9 @@ impl MemSystem {
         ensures honest { IsQuiet self.old.folder → IsQuiet self.new.folder }
         ensures acts { Acts (world_of self.old) (world_of self.new) }
         ensures passes { (sub : Sub) → Passes sub (world_of self.old) (world_of self.new) }
+        ensures quiet { HasNoTurns self.old → HasNoTurns self.new }
+        ensures alone { HasNoTurns self.old → SameFiles (world_of self.old) (world_of self.new) }
+        ensures same { HasNoTurns self.old → self.new.stamp ≡ self.old.stamp }
     {
         self.tick(pause);
         match self.turns.pop() {
@@ -90,6 +97,7 @@ impl MemSystem {
     fn tick(&mut self, pause: Duration)
         ensures folder { self.new.folder ≡ self.old.folder }
         ensures stamp { self.new.stamp ≡ self.old.stamp }
+        ensures turns { self.new.turns ≡ self.old.turns }
         ensures later { system_time_nanos self.old.clock ≤ system_time_nanos self.new.clock }
     {
         if let Some(later) = self.clock.checked_add(pause) {
@@ -105,6 +113,9 @@ impl MemSystem {
         ensures acts { Acts (world_of self.old) (world_of self.new) }
         ensures passes { (sub : Sub) → Passes sub (world_of self.old) (world_of self.new) }
         ensures left { Left LeavesOthers (all_is_left self.old) (all_is_left self.new) }
+        ensures quiet { HasNoTurns self.old → HasNoTurns self.new }
+        ensures alone { HasNoTurns self.old → SameFiles (world_of self.old) (world_of self.new) }
+        ensures same { HasNoTurns self.old → self.new.stamp ≡ self.old.stamp }
     {
         self.pass(Duration::from_micros(CALL_MICROS))
             .map_err(error_of)
@@ -132,7 +143,7 @@ impl MemSystem {
 }
 
 impl System for MemSystem {
-    ghost use Rattle.maildir_disk.specs.MemSystem.{all_is_left, opened_as, world_of};
+    ghost use Rattle.maildir_disk.specs.MemSystem.{HasNoTurns, all_is_left, opened_as, world_of};
 
     type File = MemFile;
 
@@ -147,6 +158,10 @@ impl System for MemSystem {
     ghost rooted = { λ _. Unit {0} };
 
     ghost honest = { λ system. IsQuiet system.folder };
+
+    ghost quiet = { HasNoTurns };
+
+    ghost quiet_is_honest = { λ _ quiet. quiet.no_script };
 
     fn names(&mut self, sub: Sub) -> io::Result<Vec<String>> {
         let stamp = self.stamp;
@@ -213,7 +228,10 @@ impl System for MemSystem {
 
     fn rename(&mut self, name: &str, place: Place, target: &str) -> io::Result<()> {
         self.stamp = stamp_at(self.clock, self.stamps);
-        self.folder.place(name, place, target).map_err(error_of)
+        match self.folder.place(name, place, target) {
+            Ok(()) => Ok(()),
+            Err(fault) => Err(error_of(fault)),
+        }
     }
 
     fn unlink(&mut self, name: &str) -> io::Result<()> {
@@ -252,7 +270,9 @@ fn joined(alloc: Global, front: &[u8], rest: &[u8]) -> io::Result<Vec<u8>>
     Ok(bytes)
 }
 
-fn error_of(fault: FolderFault) -> io::Error {
+fn error_of(fault: FolderFault) -> io::Error
+    ensures { error_kind result ≡ NotFound → fault ≡ FolderFault.Absent }
+{
     io::Error::from(match fault {
         FolderFault::Absent => ErrorKind::NotFound,
         FolderFault::Failed => ErrorKind::Other,

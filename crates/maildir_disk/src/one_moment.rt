@@ -1,9 +1,10 @@
 // The names in a folder, as of one moment.
-ghost use Rattle.std.specs.Prelude.{◌≡◌};
+ghost use Rattle.std.specs.Prelude.{◌≡◌, IfOk};
 ghost use Rattle.std.specs.Duration.{as_nanos};
 ghost use Rattle.std.specs.Time.{system_time_nanos};
 ghost use Rattle.maildir_run.specs.Calls.{Listed};
 ghost use Rattle.maildir_run.specs.Cuts.{Left};
+ghost use Rattle.maildir_disk.specs.Quiet.{AreNames, FoundNames, LookedAt, SameFiles};
 ghost use Rattle.maildir_disk.specs.World.{margin_of};
 ghost use Rattle.maildir_disk.specs.Look.{IsAged, Looked, WatchedOr};
 ghost use Rattle.maildir_disk.specs.PowerCuts.{LeavesOthers};
@@ -36,6 +37,9 @@ pub(crate) fn names_of_one_moment<S: System>(system: &mut S, sub: Sub) -> io::Re
     ensures listed { S.honest system.old →
         Listed sub (S.world system.old).files result (S.world system.new).files }
     ensures left { S.honest system.old → Left LeavesOthers (S.may_leave system.old) (S.may_leave system.new) }
+    ensures quiet { S.quiet system.old → S.quiet system.new }
+    ensures alone { S.quiet system.old → SameFiles (S.world system.old) (S.world system.new) }
+    ensures exact { S.quiet system.old → IfOk result (AreNames sub (S.world system.old).files) }
 {
     let patience = Duration::from_secs(PATIENCE_SECS);
     let start = system.instant()?;
@@ -65,6 +69,9 @@ fn take_names<S: System>(system: &mut S, sub: Sub) -> io::Result<Look>
     ensures honest { S.honest system.old → S.honest system.new }
     ensures looked { S.honest system.old → Looked sub (S.world system.old) result (S.world system.new) }
     ensures left { S.honest system.old → Left LeavesOthers (S.may_leave system.old) (S.may_leave system.new) }
+    ensures quiet { S.quiet system.old → S.quiet system.new }
+    ensures alone { S.quiet system.old → SameFiles (S.world system.old) (S.world system.new) }
+    ensures exact { S.quiet system.old → IfOk result (LookedAt sub (S.world system.old).files) }
 {
     let stamp = system.stamp(sub)?;
     let now = system.now()?;
@@ -96,6 +103,9 @@ fn watched_names<S: System>(
     ensures watched { S.honest system.old →
         WatchedOr sub (system_time_nanos stamp) (S.world system.old) result (S.world system.new) }
     ensures left { S.honest system.old → Left LeavesOthers (S.may_leave system.old) (S.may_leave system.new) }
+    ensures quiet { S.quiet system.old → S.quiet system.new }
+    ensures alone { S.quiet system.old → SameFiles (S.world system.old) (S.world system.new) }
+    ensures exact { S.quiet system.old → IfOk result (FoundNames sub (S.world system.old).files) }
 {
     let names = system.names(sub)?;
     let after = system.stamp(sub)?;

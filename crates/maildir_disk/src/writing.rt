@@ -1,5 +1,5 @@
 // A file of `tmp`, written and kept.
-ghost use Rattle.maildir_run.specs.Calls.{Called};
+ghost use Rattle.maildir_run.specs.Calls.{Called, CalledQuietly};
 ghost use Rattle.maildir_run.specs.Calls.Call.{Writing};
 ghost use Rattle.maildir_run.specs.Cuts.{Left, LeavesOf};
 
@@ -15,6 +15,9 @@ pub(crate) fn write_synced<S: System>(system: &mut S, name: &str, bytes: &[u8]) 
         Called (Writing name.now bytes.now) (S.world system.old).files result (S.world system.new).files }
     ensures left { S.honest system.old → Left (λ before now. LeavesOf (Writing name.now bytes.now) before result now)
         (S.may_leave system.old) (S.may_leave system.new) }
+    ensures quiet { S.quiet system.old → S.quiet system.new }
+    ensures alone { S.quiet system.old →
+        CalledQuietly (Writing name.now bytes.now) (S.world system.old).files result (S.world system.new).files }
 {
     let mut file = system.create(name)?;
     let mut at = 0;

@@ -1,15 +1,18 @@
-use Rattle.std.proofs.Common.{OnOk, Ok, Err, inr, rules}
+use Rattle.std.proofs.Common.{inr, rules}
+use Rattle.std.proofs.KnownBytes.{Appends-kept}
 use Rattle.maildir_disk.proofs.Lefts.{on_ok}
-use Rattle.maildir_disk.proofs.Safety.{intact_after_run, intact_after_both, survive_after_run, survive_after_both, safe_after_both}
-use Rattle.maildir_commands.specs.Report.{PrintsReports}
-use Rattle.maildir_commands.proofs.Reports.{one_report}
+use Rattle.maildir_disk.proofs.Safety.{intact_after_run, intact_after_both, survive_after_run, survive_after_both, safe_after_both, reports_after_run}
+use Rattle.maildir_commands.specs.Report.{report_line}
 use Rattle.maildir_commands.proofs.sources.deliver.Goals as goal
 
 pub returns-clause-printed : goal.returns-clause-printed
 returns-clause-printed g c =
-    let printed = one_report (g.W.Write.contents c.args.out.now) (g.W.Write.contents c.print_report.new.out) (g.W.Write.contents c.flush.new.out) c.in_ok-report.report
-    c.in_ok-print_report.ensures.printed c.flush.ensures.same in
-    elim c.flush.result as (λ answer. OnOk answer (PrintsReports (g.W.Write.contents c.args.out.now) (g.W.Write.contents c.flush.new.out) 1)) [ Ok _ ↦ printed | Err _ ↦ tt ]
+    let report = c.in_ok-report.report in
+    on_ok _ c.flush.result (record {
+      report = report;
+      line = Appends-kept _ _ _ (report_line report) c.in_ok-print_report.ensures.printed c.flush.ensures.same;
+      said = λ honest t ms small p are sound. reports_after_run t ms are small _ _ report (c.in_ok-report.ensures.run honest t small p) sound;
+    })
 
 pub returns-in_err-map_err-clause-intact : goal.returns-in_err-map_err-clause-intact
 returns-in_err-map_err-clause-intact g c = λ honest t ms small p are intact.

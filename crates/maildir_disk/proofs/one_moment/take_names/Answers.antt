@@ -1,3 +1,4 @@
+use Rattle.std.proofs.Common.{◌∙◌}
 use Rattle.std.specs.Time.{system_time_nanos}
 use Rattle.maildir_disk.specs.Look.{IsSettled, IsFarAhead}
 use Rattle.maildir_disk.proofs.Passing.{acts_on, looked_fault, lists_at, exact_if_settled, exact_if_ahead}
@@ -32,6 +33,11 @@ returns-in_default-2 g c = record {
   left = λ honest.
       let told = c.stamp.ensures.honest honest in
       others_then _ _ _ (others_then _ _ _ (c.stamp.ensures.left honest) (c.now.ensures.left told)) (c.watched_names.ensures.left (c.now.ensures.honest told));
+  quiet = λ quiet. c.watched_names.ensures.quiet (c.now.ensures.quiet (c.stamp.ensures.quiet quiet));
+  alone = λ quiet.
+      let told = c.stamp.ensures.quiet quiet in
+      c.watched_names.ensures.alone (c.now.ensures.quiet told) ∙ (c.now.ensures.alone told ∙ c.stamp.ensures.alone quiet);
+  exact = λ quiet. tt;
 }
 
 pub returns-in-Settled-clause-looked : goal.returns-in-Settled-clause-looked
@@ -83,6 +89,13 @@ returns-in_default-of g c = record {
       let timed = c.now.ensures.honest told in
       let so_far = others_then _ _ _ (others_then _ _ _ (c.stamp.ensures.left honest) (c.now.ensures.left told)) (c.watched_names.ensures.left timed) in
       others_then _ _ _ so_far (c.now-2.ensures.left (c.watched_names.ensures.honest timed));
+  quiet = λ quiet. c.now-2.ensures.quiet (c.watched_names.ensures.quiet (c.now.ensures.quiet (c.stamp.ensures.quiet quiet)));
+  alone = λ quiet.
+      let told = c.stamp.ensures.quiet quiet in
+      let timed = c.now.ensures.quiet told in
+      let read = c.watched_names.ensures.quiet timed in
+      c.now-2.ensures.alone read ∙ (c.watched_names.ensures.alone timed ∙ (c.now.ensures.alone told ∙ c.stamp.ensures.alone quiet));
+  exact = λ quiet. tt;
 }
 
 pub returns-in_err-now-clause-left : goal.returns-in_err-now-clause-left

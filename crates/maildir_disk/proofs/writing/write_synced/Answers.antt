@@ -2,10 +2,11 @@ use Rattle.std.proofs.Common.{rules, refl, arith, inl, inr, ◌≡◌, ◌∙◌
 use Rattle.std.proofs.lemmas.List.{take_all, length-drop}
 use Rattle.std.proofs.Math.Seq.{take-add}
 use Rattle.maildir_disk.specs.Writing.{Comes, changed, Written}
-use Rattle.maildir_run.specs.Calls.{Writing}
+use Rattle.maildir_run.specs.Calls.{Writing, effect}
 use Rattle.maildir_run.proofs.Cuts.{left_as}
 use Rattle.maildir_disk.proofs.Lefts.{left_none, left_both, left_more, left_fault, left_written, leaves_torn}
-use Rattle.maildir_disk.proofs.Pieces.{written_created, written_on, written_changed, write_called, write_succeeded, not_created, append_failed, write_failed}
+use Rattle.maildir_disk.proofs.Pieces.{changed_again, written_created, written_on, written_changed, write_called, write_succeeded, not_created, append_failed, write_failed}
+use Rattle.maildir_disk.proofs.QuietWrites.{not_created_quietly, written_quietly, appended_quietly, torn_quietly}
 use Rattle.maildir_disk.proofs.writing.write_synced.Goals as goal
 use Rattle.maildir_disk.proofs.writing.write_synced.Goals.{in-Ok, in-Err+else-ne}
 
@@ -50,6 +51,7 @@ loop-init g c = record {
   within = search rules;
   named = refl;
   written = λ honest current. (honest, (λ start made. made), left_none (Writing (g.S.System.name_of c.in_ok-file.file) []) _, current);
+  alone = λ quiet current. (quiet, (λ s made. made), current);
 }
 
 pub loop-preserved : goal.loop-preserved
@@ -76,6 +78,21 @@ loop-preserved g c =
               left_both _ _ _ _ kept.2 (rw c.loop.invariant.named at (c.append.ensures.left kept.0)),
               c.append.ensures.current kept.0 kept.3,
             );
+        alone = λ quiet current.
+            let kept = c.loop.invariant.alone quiet current in
+            let name = g.S.System.name_of c.in_ok-file.file in
+            let bytes = c.args.bytes.now in
+            let at = c.loop.at in
+            let n = w.in-Ok.n in
+            let rest : take (length bytes - at) (drop at bytes) ≡ drop at bytes = take_all _ _ (omega (arith, length-drop at bytes)) in (
+              c.append.ensures.quiet kept.0,
+              λ s made.
+                  let piece = take (length bytes - at) (drop at bytes) in
+                  let new : (g.S.System.world c.append.new.self).files ≡ changed name (λ held. held ++ take n piece) (g.S.System.world c.loop.system).files = rw c.loop.invariant.named at (w.in-Ok.ensures.alone kept.0 kept.2) in
+                  let more = new ∙ (ap (changed name (λ held. held ++ take n piece)) (kept.1 s made) ∙ changed_again name (take at bytes) (λ held. held ++ take n piece) s) in
+                  more ∙ ap (λ held. effect (Writing name held) s) (ap (λ p. take at bytes ++ take n p) rest ∙ (sym (take-add at n bytes) ∙ ap (λ k. take k bytes) (sym w.at-is))),
+              c.append.ensures.current (g.met.S.System.quiet_is_honest _ kept.0) kept.2,
+            );
       }
       | in-Err+else-ne w ↦ record {
         within = search rules;
@@ -91,6 +108,16 @@ loop-preserved g c =
                   ],
               left_both _ _ _ _ kept.2 (rw c.loop.invariant.named at (c.append.ensures.left kept.0)),
               c.append.ensures.current kept.0 kept.3,
+            );
+        alone = λ quiet current.
+            let kept = c.loop.invariant.alone quiet current in (
+              c.append.ensures.quiet kept.0,
+              λ s made.
+                  elim (w.in-Err.ensures.alone kept.0 kept.2) [
+                    | inl same ↦ rw w.at-is (same ∙ kept.1 s made)
+                    | inr other ↦ absurd (other.0 (search rules))
+                  ],
+              c.append.ensures.current (g.met.S.System.quiet_is_honest _ kept.0) kept.2,
             );
       }
     ]
@@ -134,3 +161,64 @@ returns-clause-left g c = λ honest.
     let kept = c.loop.invariant.written (c.create.ensures.honest honest) (c.in_ok-file.ensures.current honest) in
     let so_far = left_both (Writing c.args.name.now []) _ _ _ (c.create.ensures.left honest) (rw (c.in_ok-file.ensures.name honest) at kept.2) in
     left_as _ _ _ _ (leaves_torn c.args.name.now [] c.args.bytes.now) so_far
+
+-- ---- in a quiet system
+pub returns-in_err-file-clause-alone : goal.returns-in_err-file-clause-alone
+returns-in_err-file-clause-alone g c = λ quiet.
+    not_created_quietly c.args.name.now c.args.bytes.now _ _ _ c.from_residual.ensures.0 (c.in_err-file.ensures.alone quiet)
+
+pub returns-then-at-bytes-clause-quiet : goal.returns-then-at-bytes-clause-quiet
+returns-then-at-bytes-clause-quiet g c = λ quiet.
+    let kept = c.loop.invariant.alone (c.create.ensures.quiet quiet) (c.in_ok-file.ensures.current (g.met.S.System.quiet_is_honest _ quiet)) in
+    c.sync_file.ensures.quiet kept.0
+
+pub returns-then-at-bytes-clause-alone : goal.returns-then-at-bytes-clause-alone
+returns-then-at-bytes-clause-alone g c = λ quiet.
+    let honest = g.met.S.System.quiet_is_honest _ quiet in
+    let named = c.in_ok-file.ensures.name honest in
+    let kept = c.loop.invariant.alone (c.create.ensures.quiet quiet) (c.in_ok-file.ensures.current honest) in
+    let s = (g.S.System.world c.args.system.now).files in
+    let made = (c.in_ok-file.ensures.alone quiet).1 in
+    let so_far : (g.S.System.world c.loop.system).files ≡ effect (Writing c.args.name.now (take c.loop.at c.args.bytes.now)) s = rw named at (kept.1 s (rw named made)) in
+    let all = so_far ∙ ap (λ held. effect (Writing c.args.name.now held) s) (take_all c.loop.at c.args.bytes.now (search rules)) in
+    written_quietly c.args.name.now c.args.bytes.now s _ c.sync_file.result (c.sync_file.ensures.alone kept.0 ∙ all)
+
+pub returns-in-Ok-eq0-clause-quiet : goal.returns-in-Ok-eq0-clause-quiet
+returns-in-Ok-eq0-clause-quiet g c = λ quiet.
+    let kept = c.loop.invariant.alone (c.create.ensures.quiet quiet) (c.in_ok-file.ensures.current (g.met.S.System.quiet_is_honest _ quiet)) in
+    c.append.ensures.quiet kept.0
+
+pub returns-in-Ok-eq0-clause-alone : goal.returns-in-Ok-eq0-clause-alone
+returns-in-Ok-eq0-clause-alone g c = λ quiet.
+    let honest = g.met.S.System.quiet_is_honest _ quiet in
+    let named = c.in_ok-file.ensures.name honest in
+    let kept = c.loop.invariant.alone (c.create.ensures.quiet quiet) (c.in_ok-file.ensures.current honest) in
+    let s = (g.S.System.world c.args.system.now).files in
+    let so_far = rw named at (kept.1 s (rw named (c.in_ok-file.ensures.alone quiet).1)) in
+    appended_quietly c.args.name.now _ _ c.args.bytes.now s _ _ c.append.result so_far (rw (c.loop.invariant.named ∙ named) at (c.append.ensures.alone kept.0 kept.2))
+
+pub returns-then-ne-clause-quiet : goal.returns-then-ne-clause-quiet
+returns-then-ne-clause-quiet g c = λ quiet.
+    let kept = c.loop.invariant.alone (c.create.ensures.quiet quiet) (c.in_ok-file.ensures.current (g.met.S.System.quiet_is_honest _ quiet)) in
+    c.append.ensures.quiet kept.0
+
+pub returns-then-ne-clause-alone : goal.returns-then-ne-clause-alone
+returns-then-ne-clause-alone g c = λ quiet.
+    let honest = g.met.S.System.quiet_is_honest _ quiet in
+    let named = c.in_ok-file.ensures.name honest in
+    let kept = c.loop.invariant.alone (c.create.ensures.quiet quiet) (c.in_ok-file.ensures.current honest) in
+    let s = (g.S.System.world c.args.system.now).files in
+    let so_far = rw named at (kept.1 s (rw named (c.in_ok-file.ensures.alone quiet).1)) in
+    appended_quietly c.args.name.now _ _ c.args.bytes.now s _ _ c.append.result so_far (rw (c.loop.invariant.named ∙ named) at (c.append.ensures.alone kept.0 kept.2))
+
+pub returns-clause-quiet : goal.returns-clause-quiet
+returns-clause-quiet g c = λ quiet.
+    (c.loop.invariant.alone (c.create.ensures.quiet quiet) (c.in_ok-file.ensures.current (g.met.S.System.quiet_is_honest _ quiet))).0
+
+pub returns-clause-alone : goal.returns-clause-alone
+returns-clause-alone g c = λ quiet.
+    let honest = g.met.S.System.quiet_is_honest _ quiet in
+    let named = c.in_ok-file.ensures.name honest in
+    let kept = c.loop.invariant.alone (c.create.ensures.quiet quiet) (c.in_ok-file.ensures.current honest) in
+    let s = (g.S.System.world c.args.system.now).files in
+    torn_quietly c.args.name.now _ c.args.bytes.now s _ (rw named at (kept.1 s (rw named (c.in_ok-file.ensures.alone quiet).1)))
