@@ -44,7 +44,7 @@ module _ (t : List ℕ) (ms : List Message) (are : MessagesOf t ms) (small : len
   home_after_run old new report run sound = (run.keeps ms are (sound_now ms old sound)).ends.delivered.homes_are
 
   pub reports_after_run : (old new : Files) (report : Report) → Run t old (Ok report) new → All (IsSoundAt old) ms → Reports ms old report
-  reports_after_run old new report run sound = (run.keeps ms are (sound_now t ms are small old sound)).ends.reports
+  reports_after_run old new report run sound = (run.keeps ms are (sound_now ms old sound)).ends.reports
 
   home_after_others : (old new : World) → Acts old new → All (IsHome old.files) ms → All (IsHome new.files) ms
   home_after_others old new acts home k d below =

@@ -4,6 +4,7 @@ pub mod Placing
 pub mod Quiet
 pub mod Look
 pub mod Misread
+pub mod Cases
 pub mod MemSystem
 pub mod Faults
 pub mod Paths

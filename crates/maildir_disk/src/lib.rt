@@ -5,6 +5,7 @@
 //! what a power cut leaves of it. [`MemSystem`] is a system in memory that does as assumed.
 #![tactic(auto)]
 
+mod cases;
 pub mod cuts;
 mod disk;
 mod disk_folder;
