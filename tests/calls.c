@@ -4,8 +4,10 @@
    has no number. CLOCK is what the clocks show, in milliseconds since 1970, and each sleep moves it on at once. FOLDER is
    the path of a folder with a slash behind it: its first CHANGES readings see it change, and each takes READING
    milliseconds. OUTPUT is how many bytes standard output takes. Where SHORT is set, a read and a write move one byte at
-   most and every other write is interrupted; where GONE is set, what is to be moved is removed before. It needs no
-   headers, so that any C compiler makes it. */
+   most and every other write is interrupted; where GONE is set, what is to be moved is removed before. PLANTED is put where
+   a file is to be made, and REPLACED in place of what is opened to be written and is there: by the first letter a link or
+   a hard link to the path behind it, a pipe, a directory or a file. The time of modification is shown as the time of change,
+   which no test can set, and 1970 in its place. It needs no headers, so that any C compiler makes it. */
 typedef unsigned long size_t;
 typedef long ssize_t;
 
@@ -19,9 +21,16 @@ int *__errno_location(void);
 int strcmp(const char *, const char *);
 int snprintf(char *, size_t, const char *, ...);
 int utimensat(int, const char *, const struct moment *, int);
+int symlink(const char *, const char *);
+int link(const char *, const char *);
+int mkfifo(const char *, unsigned);
+int remove(const char *);
+int mkdir(const char *, unsigned);
+int close(int);
+int openat(int, const char *, int, ...);
 
 enum { OUTPUT = 1, ERRORS = 2, CALLS = 3, OPEN = 64 };
-enum { INTERRUPTED = 4, NO_SPACE = 28, HERE = -100, CREATE = 0100 };
+enum { INTERRUPTED = 4, NO_SPACE = 28, HERE = -100, WRITING = 03, CREATE = 0100 };
 
 /* The function that stands behind this one. */
 #define REAL(name) ((__typeof__(&name))dlsym((void *)-1, #name))
@@ -86,11 +95,38 @@ static int opened(int file, const char *path) {
     return file;
 }
 
+static void plant(const char *what, const char *path) {
+    switch (what ? *what : 0) {
+    case 'l':
+        symlink(what + 1, path);
+        break;
+    case 'h':
+        link(what + 1, path);
+        break;
+    case 'p':
+        mkfifo(path, 0600);
+        break;
+    case 'd':
+        REAL(mkdir)(path, 0700);
+        break;
+    case 'f':
+        REAL(close)(REAL(openat)(HERE, path, CREATE, 0600));
+        break;
+    }
+}
+
 int openat(int folder, const char *path, int flags, ...) {
     __builtin_va_list rest;
     __builtin_va_start(rest, flags);
     unsigned mode = flags & CREATE ? __builtin_va_arg(rest, unsigned) : 0;
     __builtin_va_end(rest);
+    const char *replaced = getenv("REPLACED");
+    if (flags & CREATE)
+        plant(getenv("PLANTED"), path);
+    else if (flags & WRITING && replaced && *replaced) {
+        remove(path);
+        plant(replaced, path);
+    }
     return is_to_fail("open", path) ? -1 : opened(REAL(openat)(folder, path, flags, mode), path);
 }
 
@@ -153,7 +189,14 @@ int mkdir(const char *path, unsigned mode) {
 }
 
 int statx(int folder, const char *path, int flags, unsigned mask, void *found) {
-    return is_to_fail("look at", path) ? -1 : REAL(statx)(folder, path, flags, mask, found);
+    int status = is_to_fail("look at", path) ? -1 : REAL(statx)(folder, path, flags, mask, found);
+    /* the time of change is before that of modification */
+    struct moment *moments = (struct moment *)((char *)found + 96);
+    if (status == 0) {
+        moments[0] = moments[1];
+        moments[1] = (struct moment){0};
+    }
+    return status;
 }
 
 int unlink(const char *path) {

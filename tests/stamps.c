@@ -1,5 +1,5 @@
 /* Stands before the C library's `statx` in the program that it is loaded into (LD_PRELOAD), and rounds times of
-   modification down to what the environment's ROUND says, in seconds: so does a file system that keeps no parts of a
+   change down to what the environment's ROUND says, in seconds: so does a file system that keeps no parts of a
    second, or counts by two. It needs no headers, so that any C compiler makes it. */
 struct moment {
     long seconds;
@@ -9,9 +9,9 @@ struct moment {
 
 /* What the system tells of a file: statx(2). */
 struct found {
-    unsigned char other[112];
-    struct moment modified;
-    unsigned char rest[128];
+    unsigned char other[96];
+    struct moment changed;
+    unsigned char rest[144];
 };
 
 char *getenv(const char *);
@@ -21,8 +21,8 @@ int statx(int folder, const char *path, int flags, unsigned mask, struct found *
     int (*real)(int, const char *, int, unsigned, struct found *) = dlsym((void *)-1, "statx");
     int status = real(folder, path, flags, mask, found);
     if (status == 0) {
-        found->modified.seconds -= found->modified.seconds % (*getenv("ROUND") - '0');
-        found->modified.nanos = 0;
+        found->changed.seconds -= found->changed.seconds % (*getenv("ROUND") - '0');
+        found->changed.nanos = 0;
     }
     return status;
 }

@@ -125,11 +125,10 @@ pub(crate) fn rename(files: &impl Files, from: &str, to: &str) -> io::Result<()>
     }
 }
 
-/// Removes a file where there is one, or a folder that is empty.
+/// Removes a file where there is one.
 pub(crate) fn remove(files: &impl Files, path: &str) -> io::Result<()> {
     match fs::remove_file(files, path) {
         Err(error) if error.kind() == ErrorKind::NotFound => Ok(()),
-        Err(error) if error.kind() == ErrorKind::IsADirectory => fs::remove_dir(files, path),
         outcome => outcome,
     }
 }
@@ -142,15 +141,18 @@ pub(crate) fn sync_folder(files: &impl Files, path: &str) -> io::Result<()> {
 /// As `sync_folder`, and Ok where the system cannot be asked: where the folder may not be opened, and on a file system that
 /// has no sync for it (fsync(2): EINVAL, EROFS).
 pub(crate) fn sync_folder_if_possible(files: &impl Files, path: &str) -> io::Result<()> {
-    match sync_folder(files, path) {
-        Err(error) if cannot_be_asked(error.kind()) => Ok(()),
-        outcome => outcome,
+    match fs::open(files, path) {
+        Err(error) if error.kind() == ErrorKind::PermissionDenied => Ok(()),
+        opened => match opened?.sync_all() {
+            Err(error) if has_no_sync(error.kind()) => Ok(()),
+            outcome => outcome,
+        },
     }
 }
 
-fn cannot_be_asked(kind: ErrorKind) -> bool {
+fn has_no_sync(kind: ErrorKind) -> bool {
     matches!(
         kind,
-        ErrorKind::PermissionDenied | ErrorKind::InvalidInput | ErrorKind::ReadOnlyFilesystem
+        ErrorKind::InvalidInput | ErrorKind::ReadOnlyFilesystem
     )
 }

@@ -17,6 +17,8 @@ mod converting;
 #[cfg(test)]
 mod cuts;
 #[cfg(test)]
+mod disk_folder;
+#[cfg(test)]
 mod disturbed;
 #[cfg(test)]
 mod fault_texts;

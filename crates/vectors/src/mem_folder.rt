@@ -1,12 +1,8 @@
-// The calls of the folder in memory, by hand and through the trait's bound.
+// The calls of the folder in memory, through the trait's bound and by hand.
 use crate::runs::{File, folder_of, holds};
 use maildir_name::Place;
 use maildir_run::{Folder, FolderFault, MemFolder, Sub};
 use std::alloc::Global;
-
-fn write_through<F: Folder>(folder: &mut F) -> Result<(), FolderFault> {
-    folder.write("u", b"ab")
-}
 
 /// Whether these are the names, in this order.
 pub(crate) fn are_named(names: &[String], want: &[&str]) -> bool {
@@ -18,19 +14,19 @@ pub(crate) fn are_named(names: &[String], want: &[&str]) -> bool {
     names.len() == want.len()
 }
 
-// Whether a folder lists these names, in this order.
-fn lists(folder: &mut MemFolder, sub: Sub, want: &[&str]) -> bool {
+/// Whether a folder lists these names, in this order.
+pub(crate) fn lists<F: Folder>(folder: &mut F, sub: Sub, want: &[&str]) -> bool {
     match folder.list(sub) {
         Ok(names) => are_named(&names, want),
         Err(_) => false,
     }
 }
 
-// Whether the calls of a folder that is empty answer as they are to.
-fn answers(folder: &mut MemFolder) -> bool {
+/// Whether the calls of a folder that is empty answer as they are to.
+pub(crate) fn answers<F: Folder>(folder: &mut F) -> bool {
     folder.place("u", Place::New, "u") == Err(FolderFault::Absent)
         && folder.remove("u") == Ok(())
-        && write_through(folder) == Ok(())
+        && folder.write("u", b"ab") == Ok(())
         && lists(folder, Sub::Tmp, &["u"])
         && folder.place("u", Place::Cur, "u:2,") == Ok(())
 }
