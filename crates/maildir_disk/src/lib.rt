@@ -2,7 +2,8 @@
 //!
 //! [`System`] is those calls, and `specs/World.antt` says what is assumed of them. [`DiskFolder`] is a folder of the
 //! engine over any such system, and takes effect as reported where the system does as assumed. [`cuts`] has the laws on
-//! what a power cut leaves of it. [`MemSystem`] is a system in memory that does as assumed.
+//! what a power cut leaves of it. [`MemSystem`] is a system in memory that does as assumed, and may lose what was not
+//! synced.
 #![tactic(auto)]
 
 mod cases;
