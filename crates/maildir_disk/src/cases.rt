@@ -38,6 +38,17 @@ pub(crate) struct Cases {
 }
 
 impl Cases {
+    /// Nothing is lost.
+    pub(crate) fn none(alloc: Global) -> Self
+        ensures cases { lefts_of result ≡ [] }
+        ensures room { result.room ≡ 0 }
+    {
+        Cases {
+            folders: Vec::new(alloc),
+            room: 0,
+        }
+    }
+
     /// From now on each case may be left with the change or without it, and so may the files as they are.
     pub(crate) fn may_lose(
         &mut self,

@@ -16,11 +16,13 @@ pub mod laws;
 mod lock;
 mod mem_system;
 mod one_moment;
+mod stamps;
 mod system;
 mod writing;
 
 pub use disk_folder::DiskFolder;
 pub use faults::{OpenFault, is_refused_growth};
 pub use host::Host;
-pub use mem_system::{MemFile, MemSystem, Stamps};
+pub use mem_system::{MemFile, MemSystem};
+pub use stamps::Stamps;
 pub use system::System;

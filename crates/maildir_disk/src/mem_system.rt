@@ -2,7 +2,6 @@
 ghost use Rattle.std.specs.Prelude.{◌≡◌, ◌≤◌, ◌++◌, ◌∷◌, [], All, IfErr, IfOk, IsTrue, OnOk, get_or, length};
 ghost use Rattle.std.specs.FinMap.{contains_key};
 ghost use Rattle.std.specs.IoError.{error_kind};
-ghost use Rattle.std.specs.Time.{system_time_nanos};
 ghost use Rattle.std.specs.declared.io.ErrorKind.TheVariants.{NotFound};
 ghost use Rattle.maildir_run.specs.Calls.{Called, CalledQuietly, effect};
 ghost use Rattle.maildir_run.specs.Calls.Call.{Writing, Placing, Removing};
@@ -10,7 +9,7 @@ ghost use Rattle.maildir_run.specs.Cuts.{Leaves, Left};
 ghost use Rattle.maildir_run.specs.MemFiles.{no_files};
 ghost use Rattle.maildir_run.specs.MemFolder.{IsQuiet, files_of};
 ghost use Rattle.maildir_disk.specs.Cases.{HasRoom, Keeps, lefts_of};
-ghost use Rattle.maildir_disk.specs.World.{Acts, IsOfChange, Passes};
+ghost use Rattle.maildir_disk.specs.World.{Acts, Passes};
 ghost use Rattle.maildir_disk.specs.Paths.{folder_of_place};
 ghost use Rattle.maildir_disk.specs.Placing.{WasGone};
 ghost use Rattle.maildir_disk.specs.Quiet.{AppendedQuietly, SameFiles};
@@ -19,25 +18,17 @@ ghost use Rattle.maildir_disk.specs.MemSystem.{HasNoTurns, MayLose, MayLoseFront
 ghost use Rattle.maildir_disk.specs.PowerCuts.{LeavesOthers};
 
 use crate::cases::{Cases, Change};
+use crate::faults::error_of;
+use crate::stamps::{Stamps, stamp_at, tick};
 use crate::system::System;
 use maildir_name::Place;
 use maildir_run::{Act, Folder, FolderFault, MemFolder, Sub};
 use std::alloc::Global;
-use std::io;
-use std::io::ErrorKind;
-use std::time::{Duration, Instant, SystemTime, UNIX_EPOCH};
+use std::io::{self, ErrorKind};
+use std::time::{Duration, Instant, SystemTime};
 
 // How long a call takes.
 const CALL_MICROS: u64 = 10;
-
-/// Which stamps a system in memory gives.
-#[derive(Clone, Copy, Debug, PartialEq, Eq)]
-pub enum Stamps {
-    /// The clock as it is.
-    Fine,
-    /// The clock without its part of a second.
-    WholeSeconds,
-}
 
 /// A file of `tmp` in memory that is open for writing.
 #[derive(Drop)]
@@ -49,9 +40,9 @@ pub struct MemFile {
 /// once, as the turns say, which are taken from the end. A folder that is changed while it is read gives no names, and a
 /// write takes half of its bytes.
 ///
-/// Once it may [`lose`](MemSystem::lose), a power cut leaves each change or loses it, each by itself, until a sync keeps it:
-/// a file that was made or not, any front of the bytes that were appended, a rename or not, and one of another program in
-/// half. Before its root is synced, the whole Maildir may be gone.
+/// Once it may [`lose`](MemSystem::lose), a power cut leaves each change or loses it until a sync keeps it: a file that was
+/// made, any front of the bytes that were appended, a rename, half of another program's. Before the Maildir is synced it
+/// may be gone.
 #[derive(Drop)]
 pub struct MemSystem {
     alloc: Global,
@@ -93,10 +84,7 @@ impl MemSystem {
             instant,
             stamp: clock,
             turns,
-            cases: Cases {
-                folders: Vec::new(alloc),
-                room: 0,
-            },
+            cases: Cases::none(alloc),
             is_rooted: true,
             calls_left: u64::MAX,
         }
@@ -115,7 +103,7 @@ impl MemSystem {
         self.is_rooted = false;
     }
 
-    /// So many calls are answered, waits and looks at the clock among them, and from then on each one fails without effect.
+    /// So many calls are answered, and from then on each one fails without effect. To wait is no call.
     pub fn fail_after(&mut self, calls: u64)
         ensures { self.new ≡ record self.old { calls_left = calls } }
     {
@@ -391,18 +379,6 @@ fn begin(calls_left: &mut u64) -> io::Result<()>
     Ok(())
 }
 
-// Both clocks go on, as far as they go.
-fn tick(clock: &mut SystemTime, instant: &mut Instant, pause: Duration)
-    ensures { system_time_nanos clock.old ≤ system_time_nanos clock.new }
-{
-    if let Some(later) = clock.checked_add(pause) {
-        *clock = later;
-    }
-    if let Some(later) = instant.checked_add(pause) {
-        *instant = later;
-    }
-}
-
 fn sub_of(place: Place) -> Sub
     ensures { result ≡ folder_of_place place }
 {
@@ -412,34 +388,10 @@ fn sub_of(place: Place) -> Sub
     }
 }
 
-fn stamp_at(clock: SystemTime, stamps: Stamps) -> SystemTime
-    ensures { IsOfChange (system_time_nanos clock) (system_time_nanos clock) (system_time_nanos result) }
-{
-    match clock.duration_since(UNIX_EPOCH) {
-        Ok(since) if stamps == Stamps::WholeSeconds => {
-            match clock.checked_sub(Duration::from_nanos(u64::from(since.subsec_nanos()))) {
-                Some(second) => second,
-                None => clock,
-            }
-        }
-        _ => clock,
-    }
-}
-
 fn joined(alloc: Global, front: &[u8], rest: &[u8]) -> io::Result<Vec<u8>>
     ensures { IfOk result (λ bytes. bytes.items ≡ front.now ++ rest.now) }
 {
     let mut bytes = Vec::from_slice(alloc, front)?;
     bytes.extend_from_slice(rest)?;
     Ok(bytes)
-}
-
-fn error_of(fault: FolderFault) -> io::Error
-    ensures { error_kind result ≡ NotFound → fault ≡ FolderFault.Absent }
-{
-    io::Error::from(match fault {
-        FolderFault::Absent => ErrorKind::NotFound,
-        FolderFault::Failed => ErrorKind::Other,
-        FolderFault::OutOfMemory => ErrorKind::OutOfMemory,
-    })
 }
