@@ -15,6 +15,13 @@ type Mailbox<'a> = (&'a [u8], &'a [(&'a str, &'a str)]);
 
 const MAILBOXES: &[Mailbox<'_>] = &[
     (
+        b"From x\nz",
+        &[(
+            "594e519ae499312b29433b7dd8a97ff068defcba9755b6d5d00e84c524d67b06.1",
+            "z",
+        )],
+    ),
+    (
         b"From x\nabc\n\nFrom y\nhello\n",
         &[
             (
@@ -26,13 +33,6 @@ const MAILBOXES: &[Mailbox<'_>] = &[
                 "hello\n",
             ),
         ],
-    ),
-    (
-        b"From x\nz",
-        &[(
-            "594e519ae499312b29433b7dd8a97ff068defcba9755b6d5d00e84c524d67b06.1",
-            "z",
-        )],
     ),
 ];
 
@@ -132,28 +132,42 @@ fn broken_off(
     })
 }
 
-// Whether all goes well where a run and its sync are broken off after so many calls, whatever a cut leaves: what is found is
-// sound, and once they are made again each message survives the next cut; where they had answered Ok it survives the first
-// one. Then also whether they had, and whether a message was lost in some case.
-fn goes_well(
+// What is wrong with it, if anything is: what a cut leaves is to be sound, and no message of a run lost that answered Ok
+// with its sync.
+fn fault_of(broken: Broken, all: usize) -> Option<&'static str> {
+    if broken.cases >= ROOM {
+        Some("too many cases")
+    } else if broken.found.is_none() {
+        Some("not a whole message")
+    } else if broken.done && broken.found != Some(all) {
+        Some("a message lost")
+    } else if !broken.again {
+        Some("a run that fails")
+    } else if broken.then != Some(all) {
+        Some("a message lost later")
+    } else {
+        None
+    }
+}
+
+// A run and its sync are broken off after so many calls, in each case of what a cut leaves then: what is wrong with one,
+// whether they had answered Ok, and whether a message was lost in some case.
+fn breaks_after(
     rt: HostRuntime,
     mailbox: Mailbox<'_>,
     calls: u64,
-) -> Result<(bool, bool, bool), Fail> {
-    let all = Some(mailbox.1.len());
+) -> Result<(Option<&'static str>, bool, bool), Fail> {
+    let all = mailbox.1.len();
     let mut lost = false;
     for case in 0..ROOM {
-        let one = broken_off(rt, mailbox, calls, case, case % 3)?;
-        let kept = one.found == all || (one.found.is_some() && !one.done);
-        if one.cases >= ROOM || !kept || !one.again || one.then != all {
-            return Ok((false, one.done, lost));
-        }
-        lost = lost || one.found != all;
-        if case.saturating_add(1) >= one.cases {
-            return Ok((true, one.done, lost));
+        let broken = broken_off(rt, mailbox, calls, case, case % 3)?;
+        let fault = fault_of(broken, all);
+        lost = lost || broken.found != Some(all);
+        if fault.is_some() || case.saturating_add(1) >= broken.cases {
+            return Ok((fault, broken.done, lost));
         }
     }
-    Ok((false, false, lost))
+    Ok((None, false, lost))
 }
 
 // A run and its sync, broken off at each call.
@@ -163,8 +177,8 @@ fn each_call_and_each_case(rt: HostRuntime) -> Result<(), Fail> {
         let mut lost = false;
         let mut done = false;
         for calls in 0..200u64 {
-            let (well, is_done, is_lost) = goes_well(rt, *mailbox, calls)?;
-            assert!(rt; well, "{calls}");
+            let (fault, is_done, is_lost) = breaks_after(rt, *mailbox, calls)?;
+            assert!(rt; fault.is_none(), "{calls}, {}", fault.unwrap_or(""));
             lost = lost || is_lost;
             done = is_done;
             if done {
