@@ -6,6 +6,7 @@ ghost use Rattle.maildir_run.specs.Calls.Call.{Writing};
 ghost use Rattle.maildir_run.specs.Cuts.{Leaves, Left};
 ghost use Rattle.maildir_run.specs.Files.{Action, Files, all_acted};
 ghost use Rattle.maildir_run.specs.MemFolder.{IsQuiet, IsUndisturbed, SameScript, files_of};
+ghost use Rattle.maildir_run.specs.Script.{all_performed, performed};
 ghost use Rattle.maildir_disk.specs.Cases.{Adds, HasRoom, IsOfChange, Keeps, Loses, LosesBytes, lefts_of, made, may_find, nth_left};
 ghost use Rattle.maildir_disk.specs.PowerCuts.{LeavesOthers};
 
@@ -128,6 +129,8 @@ impl Cases {
         ensures acts { (actions : List Action) × (files_of folder.new ≡ all_acted actions (files_of folder.old)) }
         ensures left { Left LeavesOthers (may_find folder.old self.old) (may_find folder.new self.new) }
         ensures keeps { OnOk result (Keeps (may_find folder.old self.old) (may_find folder.new self.new) self.old self.new) }
+        ensures done { OnOk result (files_of folder.new ≡ all_performed acts.now (files_of folder.old)) }
+        ensures refused { IfErr result (λ fault. fault ≡ FolderFault.OutOfMemory) }
     {
         for act in acts {
             self.act_once(folder, act)?;
@@ -140,6 +143,8 @@ impl Cases {
         ensures acts { (actions : List Action) × (files_of folder.new ≡ all_acted actions (files_of folder.old)) }
         ensures left { Left LeavesOthers (may_find folder.old self.old) (may_find folder.new self.new) }
         ensures keeps { OnOk result (Keeps (may_find folder.old self.old) (may_find folder.new self.new) self.old self.new) }
+        ensures done { OnOk result (files_of folder.new ≡ performed act.now (files_of folder.old)) }
+        ensures refused { IfErr result (λ fault. fault ≡ FolderFault.OutOfMemory) }
     {
         self.may_lose(folder, &Change::Half(act))?;
         self.may_lose(folder, &Change::Other(act))?;

@@ -1,5 +1,5 @@
 // The system calls of a Maildir in memory.
-ghost use Rattle.std.specs.Prelude.{◌≡◌, ◌≤◌, ◌++◌, ◌∷◌, [], All, IfErr, IfOk, IsTrue, OnOk, get_or, length};
+ghost use Rattle.std.specs.Prelude.{◌≡◌, ◌≤◌, ◌+◌, ◌++◌, ◌∷◌, [], All, IfErr, IfOk, IsTrue, OnOk, get_or, length};
 ghost use Rattle.std.specs.FinMap.{contains_key};
 ghost use Rattle.std.specs.IoError.{error_kind};
 ghost use Rattle.std.specs.declared.io.ErrorKind.TheVariants.{NotFound};
@@ -8,6 +8,7 @@ ghost use Rattle.maildir_run.specs.Calls.Call.{Writing, Placing, Removing};
 ghost use Rattle.maildir_run.specs.Cuts.{Leaves, Left};
 ghost use Rattle.maildir_run.specs.MemFiles.{no_files};
 ghost use Rattle.maildir_run.specs.MemFolder.{IsQuiet, files_of};
+ghost use Rattle.maildir_run.specs.Script.{all_performed};
 ghost use Rattle.maildir_disk.specs.Cases.{HasRoom, Keeps, lefts_of};
 ghost use Rattle.maildir_disk.specs.World.{Acts, Passes};
 ghost use Rattle.maildir_disk.specs.Paths.{folder_of_place};
@@ -19,12 +20,12 @@ ghost use Rattle.maildir_disk.specs.PowerCuts.{LeavesOthers};
 
 use crate::cases::{Cases, Change};
 use crate::faults::error_of;
-use crate::stamps::{Stamps, stamp_at, tick};
+use crate::stamps::{Stamps, begin, stamp_at, tick};
 use crate::system::System;
 use maildir_name::Place;
 use maildir_run::{Act, Folder, FolderFault, MemFolder, Sub};
 use std::alloc::Global;
-use std::io::{self, ErrorKind};
+use std::io;
 use std::time::{Duration, Instant, SystemTime};
 
 // How long a call takes.
@@ -73,6 +74,7 @@ impl MemSystem {
         ensures honest { ⟦<MemSystem as System>⟧.honest result }
         ensures quiet { turns.items ≡ [] → ⟦<MemSystem as System>⟧.quiet result }
         ensures files { files_of result.folder ≡ files_of folder }
+        ensures stamps { result.stamps ≡ stamps }
         ensures left { cases_of result ≡ files_of folder ∷ [] }
     {
         folder.script(Vec::new(alloc), None);
@@ -97,6 +99,7 @@ impl MemSystem {
         ensures quiet { ⟦<MemSystem as System>⟧.quiet self.old → ⟦<MemSystem as System>⟧.quiet self.new }
         ensures files { files_of self.new.folder ≡ files_of self.old.folder }
         ensures room { self.new.cases.room ≡ room }
+        ensures calls { self.new.calls_left ≡ self.old.calls_left }
         ensures left { cases_of self.new ≡ lefts_of self.old.cases ++ (files_of self.old.folder ∷ (no_files ∷ [])) }
     {
         self.cases.room = room;
@@ -133,6 +136,7 @@ impl MemSystem {
         ensures quiet { ⟦<MemSystem as System>⟧.quiet self.old → ⟦<MemSystem as System>⟧.quiet self.new }
         ensures found { files_of self.new.folder ≡ get_or (cases_of self.old) case (files_of self.old.folder) }
         ensures stays { All (λ left. left ≡ files_of self.new.folder) (cases_of self.new) }
+        ensures calls { self.new.calls_left ≡ self.old.calls_left }
     {
         let behind = case.saturating_sub(self.cases.folders.len());
         if case < self.cases.folders.len() {
@@ -155,6 +159,9 @@ impl MemSystem {
         ensures same { HasNoTurns self.old → self.new.stamp ≡ self.old.stamp }
         ensures left { Left LeavesOthers (may_be_left self.old) (may_be_left self.new) }
         ensures keeps { OnOk result (Keeps (may_be_left self.old) (may_be_left self.new) self.old.cases self.new.cases) }
+        ensures root { self.new.is_rooted ≡ self.old.is_rooted }
+        ensures calls { self.new.calls_left ≡ self.old.calls_left }
+        ensures refused { IfErr result (λ fault. fault ≡ FolderFault.OutOfMemory) }
     {
         tick(&mut self.clock, &mut self.instant, pause);
         match self.turns.pop() {
@@ -173,6 +180,8 @@ impl MemSystem {
         ensures alone { HasNoTurns self.old → SameFiles (world_of self.old) (world_of self.new) }
         ensures same { HasNoTurns self.old → self.new.stamp ≡ self.old.stamp }
         ensures keeps { OnOk result (Keeps (may_be_left self.old) (may_be_left self.new) self.old.cases self.new.cases) }
+        ensures root { self.new.is_rooted ≡ self.old.is_rooted }
+        ensures calls { OnOk result (self.old.calls_left ≡ self.new.calls_left + 1) }
     {
         begin(&mut self.calls_left)?;
         self.pass(Duration::from_micros(CALL_MICROS))
@@ -186,6 +195,10 @@ impl MemSystem {
         ensures passes { (sub : Sub) → Passes sub (world_of self.old) (world_of self.new) }
         ensures left { Left LeavesOthers (may_be_left self.old) (may_be_left self.new) }
         ensures keeps { OnOk result (Keeps (may_be_left self.old) (may_be_left self.new) self.old.cases self.new.cases) }
+        ensures done { OnOk result (files_of self.new.folder ≡ all_performed acts.now (files_of self.old.folder)) }
+        ensures root { self.new.is_rooted ≡ self.old.is_rooted }
+        ensures calls { self.new.calls_left ≡ self.old.calls_left }
+        ensures refused { IfErr result (λ fault. fault ≡ FolderFault.OutOfMemory) }
     {
         self.stamp = stamp_at(self.clock, self.stamps);
         self.cases.act(&mut self.folder, acts)
@@ -366,17 +379,6 @@ impl System for MemSystem {
         self.is_rooted = true;
         Ok(())
     }
-}
-
-// A call begins, or fails.
-fn begin(calls_left: &mut u64) -> io::Result<()>
-    ensures { IfErr result (λ error. error_kind error ≡ ErrorKind.Other) }
-{
-    if *calls_left == 0 {
-        return Err(io::Error::from(ErrorKind::Other));
-    }
-    *calls_left -= 1;
-    Ok(())
 }
 
 fn sub_of(place: Place) -> Sub

@@ -1,8 +1,10 @@
-// The clocks and stamps of a system in memory.
-ghost use Rattle.std.specs.Prelude.{◌≤◌};
+// The clocks and stamps of a system in memory, and the calls that it answers.
+ghost use Rattle.std.specs.Prelude.{◌≡◌, ◌≤◌, ◌+◌, ◌↔◌, IfErr, IsErr, OnOk};
+ghost use Rattle.std.specs.IoError.{error_kind};
 ghost use Rattle.std.specs.Time.{system_time_nanos};
 ghost use Rattle.maildir_disk.specs.World.{IsOfChange};
 
+use std::io::{self, ErrorKind};
 use std::time::{Duration, Instant, SystemTime, UNIX_EPOCH};
 
 /// Which stamps a system in memory gives.
@@ -12,6 +14,19 @@ pub enum Stamps {
     Fine,
     /// The clock without its part of a second.
     WholeSeconds,
+}
+
+/// A call begins, or fails where none is left.
+pub(crate) fn begin(calls_left: &mut u64) -> io::Result<()>
+    ensures fails { IsErr result ↔ (calls_left.old ≡ 0) }
+    ensures kind { IfErr result (λ error. error_kind error ≡ ErrorKind.Other) }
+    ensures goes { OnOk result (calls_left.old ≡ calls_left.new + 1) }
+{
+    if *calls_left == 0 {
+        return Err(io::Error::from(ErrorKind::Other));
+    }
+    *calls_left -= 1;
+    Ok(())
 }
 
 /// Both clocks go on, as far as they go.
