@@ -4,7 +4,9 @@ pub mod Placing
 pub mod Quiet
 pub mod Look
 pub mod Misread
+pub mod Cases
 pub mod MemSystem
 pub mod Faults
 pub mod Paths
 pub mod PowerCuts
+pub mod SeveralCuts

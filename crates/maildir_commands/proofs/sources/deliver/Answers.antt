@@ -37,19 +37,19 @@ pub returns-in_err-print_report-clause-line : goal.returns-in_err-print_report-c
 returns-in_err-print_report-clause-line g c = λ honest t ms small p are sound intact.
     let still = c.convert.ensures.honest honest in
     inr (safe_after_both t ms are small _ _ _ _ _ _ _ c.in_ok-report.report c.sync.result (c.in_ok-report.ensures.run honest t small p) sound (c.in_ok-report.ensures.left honest t ms p are) intact
-    (c.sync.ensures.acts still) (search rules) (c.sync.ensures.survive still ms) (c.sync.ensures.rooted still))
+    (c.sync.ensures.acts still) (search rules) (c.sync.ensures.synced still) (c.sync.ensures.rooted still))
 
 pub returns-clause-line : goal.returns-clause-line
 returns-clause-line g c = λ honest t ms small p are sound intact.
     let still = c.convert.ensures.honest honest in
     inr (safe_after_both t ms are small _ _ _ _ _ _ _ c.in_ok-report.report c.sync.result (c.in_ok-report.ensures.run honest t small p) sound (c.in_ok-report.ensures.left honest t ms p are) intact
-    (c.sync.ensures.acts still) (search rules) (c.sync.ensures.survive still ms) (c.sync.ensures.rooted still))
+    (c.sync.ensures.acts still) (search rules) (c.sync.ensures.synced still) (c.sync.ensures.rooted still))
 
 pub returns-clause-safe : goal.returns-clause-safe
 returns-clause-safe g c = λ honest t ms small p are sound intact.
     let still = c.convert.ensures.honest honest in
     on_ok _ c.flush.result (safe_after_both t ms are small _ _ _ _ _ _ _ c.in_ok-report.report c.sync.result (c.in_ok-report.ensures.run honest t small p) sound (c.in_ok-report.ensures.left honest t ms p are) intact
-    (c.sync.ensures.acts still) (search rules) (c.sync.ensures.survive still ms) (c.sync.ensures.rooted still))
+    (c.sync.ensures.acts still) (search rules) (c.sync.ensures.synced still) (c.sync.ensures.rooted still))
 
 pub returns-in_err-map_err-clause-still : goal.returns-in_err-map_err-clause-still
 returns-in_err-map_err-clause-still g c = λ honest t ms others small p are named alike survive.
