@@ -10,7 +10,7 @@ use Rattle.maildir_run.specs.MemFiles.{no_files}
 use Rattle.maildir_run.specs.MemFolder.{files_of}
 use Rattle.maildir_disk.specs.declared.cases.Cases.{Cases}
 use Rattle.maildir_disk.specs.declared.cases.Change.{Change}
-use Rattle.maildir_disk.specs.Cases.{Adds, IsOfChange, Loses, lefts_of, made, may_find, nth_left}
+use Rattle.maildir_disk.specs.Cases.{Adds, IsAdded, Loses, lefts_of, made, may_find, nth_left}
 use Rattle.maildir_disk.specs.Writing.{changed}
 use Rattle.maildir_disk.proofs.LeftHomes.{none_in, first_in, first_or}
 use Rattle.maildir_run.specs.Files.{Files}
@@ -78,14 +78,14 @@ module _ (change : Change) (old : Cases) where
       ]
 
   -- all of them, and then the files as they are
-  pub all_more : (mid new : Cases) (now x : Files) → x ≡ now → Adds With (lefts_of old) (lefts_of mid) → Adds (λ left. left ≡ x) (lefts_of mid) (lefts_of new) → Adds (IsOfChange change now old) (lefts_of old) (lefts_of new)
+  pub all_more : (mid new : Cases) (now x : Files) → x ≡ now → Adds With (lefts_of old) (lefts_of mid) → Adds (λ left. left ≡ x) (lefts_of mid) (lefts_of new) → Adds (IsAdded change now old) (lefts_of old) (lefts_of new)
   all_more mid new now x is more last =
-      adds_on (IsOfChange change now old) (lefts_of old) (lefts_of mid) (lefts_of new)
-      (adds_as With (IsOfChange change now old) (λ left with. inr with) (lefts_of old) (lefts_of mid) more)
-      (adds_as (λ left. left ≡ x) (IsOfChange change now old) (λ left e. inl (e ∙ is)) (lefts_of mid) (lefts_of new) last)
+      adds_on (IsAdded change now old) (lefts_of old) (lefts_of mid) (lefts_of new)
+      (adds_as With (IsAdded change now old) (λ left with. inr with) (lefts_of old) (lefts_of mid) more)
+      (adds_as (λ left. left ≡ x) (IsAdded change now old) (λ left e. inl (e ∙ is)) (lefts_of mid) (lefts_of new) last)
 
-  pub with_more : (mid : Cases) (now : Files) → Adds With (lefts_of old) (lefts_of mid) → Adds (IsOfChange change now old) (lefts_of old) (lefts_of mid)
-  with_more mid now more = adds_as With (IsOfChange change now old) (λ left with. inr with) (lefts_of old) (lefts_of mid) more
+  pub with_more : (mid : Cases) (now : Files) → Adds With (lefts_of old) (lefts_of mid) → Adds (IsAdded change now old) (lefts_of old) (lefts_of mid)
+  with_more mid now more = adds_as With (IsAdded change now old) (λ left with. inr with) (lefts_of old) (lefts_of mid) more
 
   pub all_lost : (mid new : Cases) (now x : Files) (n : ℕ) → x ≡ now → n ≡ length (lefts_of old) → Adds With (lefts_of old) (lefts_of mid) → Adds (λ left. left ≡ x) (lefts_of mid) (lefts_of new) → AreWith n mid → Contains (lefts_of new) x → Loses change now old new
   all_lost mid new now x n is count more last with there = record {

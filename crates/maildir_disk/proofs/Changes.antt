@@ -21,7 +21,7 @@ use Rattle.maildir_disk.specs.declared.cases.Cases.{Cases}
 use Rattle.maildir_disk.specs.declared.cases.Change.{Change}
 use Rattle.maildir_disk.specs.declared.cases.Change.TheVariants.{Make, Hold, Place, Remove, Half}
 use Rattle.maildir_disk.specs.declared.cases.Change.TheVariants as change
-use Rattle.maildir_disk.specs.Cases.{Adds, HasRoom, IsOfChange, Keeps, Loses, LosesBytes, lefts_of, made, may_find}
+use Rattle.maildir_disk.specs.Cases.{Adds, HasRoom, IsAdded, KeepsCases, Loses, LosesBytes, lefts_of, made, may_find}
 use Rattle.maildir_disk.specs.PowerCuts.{KeepsNames, LeavesOthers}
 use Rattle.maildir_disk.specs.World.{World}
 use Rattle.maildir_disk.specs.Writing.{changed, rewritten}
@@ -56,12 +56,12 @@ made_leaves (change.Other act) s = let action = an_action act.now s in record { 
 made_leaves (Half act) s = half_leaves act.now s
 
 -- ---- what a cut may leave
-module _ (change : Change) (folder then : MemFolder) (old new : Cases) (more : Adds (IsOfChange change (files_of folder) old) (lefts_of old) (lefts_of new)) where
+module _ (change : Change) (folder then : MemFolder) (old new : Cases) (more : Adds (IsAdded change (files_of folder) old) (lefts_of old) (lefts_of new)) where
   -- a call whose change may be lost, as it leaves the folder
   pub left_by_change : Leaves (call_of change) (files_of folder) (files_of then) → Left (Leaves (call_of change)) (may_find folder old) (may_find then new)
   left_by_change own left (inl e) = (files_of folder, inl refl, subst (Leaves (call_of change) (files_of folder)) (sym e) own)
   left_by_change own left (inr has) =
-      elim (there_or_added (IsOfChange change (files_of folder) old) (lefts_of old) (lefts_of new) more left has) as (λ _. (was : Files) × may_find folder old was × Leaves (call_of change) was left) [
+      elim (there_or_added (IsAdded change (files_of folder) old) (lefts_of old) (lefts_of new) more left has) as (λ _. (was : Files) × may_find folder old was × Leaves (call_of change) was left) [
         | inl before ↦ (left, inr before, leaves_none (call_of change) left)
         | inr (inl now) ↦ (left, inl now, leaves_none (call_of change) left)
         | inr (inr (was, had, is)) ↦ (was, inr had, subst (Leaves (call_of change) was) (sym is) (made_leaves change was))
@@ -75,8 +75,8 @@ module _ (change : Change) (folder then : MemFolder) (old new : Cases) (more : A
   made_there loses is left (inl e) = inl (ap (made change) e ∙ sym is)
   made_there loses is left (inr has) = inr (loses.also left has)
 
-  pub keeps_lost : new.room ≡ old.room → (HasRoom new → Loses change (files_of folder) old new) → Keeps (may_find folder old) (may_find then new) old new
-  keeps_lost room loses = record { room = room; no_fewer = no_fewer (IsOfChange change (files_of folder) old) (lefts_of old) (lefts_of new) more; there = λ has. lost_there (loses has) }
+  pub keeps_lost : new.room ≡ old.room → (HasRoom new → Loses change (files_of folder) old new) → KeepsCases (may_find folder old) (may_find then new) old new
+  keeps_lost room loses = record { room = room; no_fewer = no_fewer (IsAdded change (files_of folder) old) (lefts_of old) (lefts_of new) more; there = λ has. lost_there (loses has) }
 
 pub called_leaves : {A E : Type 0} (call : Call) (a : Files) (outcome : Result A E) (b : Files) → Called call a outcome b → Leaves call a b
 called_leaves call a (Ok x) b h = leaves_moves call a b (h.before ++ Again ∷ h.rest) h.left
@@ -90,12 +90,12 @@ pub left_early : (call : Call) (a b : Files → Type 0) → Left LeavesOthers a 
 left_early call a b first = left_as LeavesOthers (Leaves call) a b (others_leave call) first
 
 -- a change after others acted, with what came of its call
-pub left_made : {A E : Type 0} (change : Change) (before : Files → Type 0) (folder then : MemFolder) (old new : Cases) (outcome : Result A E) → Left LeavesOthers before (may_find folder old) → Adds (IsOfChange change (files_of folder) old) (lefts_of old) (lefts_of new) → Called (call_of change) (files_of folder) outcome (files_of then) → Left (Leaves (call_of change)) before (may_find then new)
+pub left_made : {A E : Type 0} (change : Change) (before : Files → Type 0) (folder then : MemFolder) (old new : Cases) (outcome : Result A E) → Left LeavesOthers before (may_find folder old) → Adds (IsAdded change (files_of folder) old) (lefts_of old) (lefts_of new) → Called (call_of change) (files_of folder) outcome (files_of then) → Left (Leaves (call_of change)) before (may_find then new)
 left_made change before folder then old new outcome first more called =
     left_after (call_of change) before (may_find folder old) (may_find then new) first (left_by_change change folder then old new more (called_leaves (call_of change) (files_of folder) outcome (files_of then) called))
 
 -- and where it was not made
-pub left_unmade : (change : Change) (before : Files → Type 0) (folder : MemFolder) (old new : Cases) → Left LeavesOthers before (may_find folder old) → Adds (IsOfChange change (files_of folder) old) (lefts_of old) (lefts_of new) → Left (Leaves (call_of change)) before (may_find folder new)
+pub left_unmade : (change : Change) (before : Files → Type 0) (folder : MemFolder) (old new : Cases) → Left LeavesOthers before (may_find folder old) → Adds (IsAdded change (files_of folder) old) (lefts_of old) (lefts_of new) → Left (Leaves (call_of change)) before (may_find folder new)
 left_unmade change before folder old new first more =
     left_after (call_of change) before (may_find folder old) (may_find folder new) first (left_by_change change folder folder old new more (leaves_none (call_of change) (files_of folder)))
 
@@ -106,9 +106,9 @@ same_found of folder same cases now e h left may =
     (r.0, elim r.1 as (λ _. may_find folder cases r.0) [ inl is ↦ inl (is ∙ e) | inr has ↦ inr has ], r.2)
 
 -- a change that may be lost, behind what keeps the cases
-pub lost_after : (change : Change) (before : Files → Type 0) (folder then : MemFolder) (old mid new : Cases) → Keeps before (may_find folder mid) old mid → Adds (IsOfChange change (files_of folder) mid) (lefts_of mid) (lefts_of new) → new.room ≡ mid.room → (HasRoom new → Loses change (files_of folder) mid new) → files_of then ≡ made change (files_of folder) → HasRoom new → (left : Files) → before left → may_find then new left × may_find then new (made change left)
+pub lost_after : (change : Change) (before : Files → Type 0) (folder then : MemFolder) (old mid new : Cases) → KeepsCases before (may_find folder mid) old mid → Adds (IsAdded change (files_of folder) mid) (lefts_of mid) (lefts_of new) → new.room ≡ mid.room → (HasRoom new → Loses change (files_of folder) mid new) → files_of then ≡ made change (files_of folder) → HasRoom new → (left : Files) → before left → may_find then new left × may_find then new (made change left)
 lost_after change before folder then old mid new keeps more room loses is has left may =
-    let longer = no_fewer (IsOfChange change (files_of folder) mid) (lefts_of mid) (lefts_of new) more in
+    let longer = no_fewer (IsAdded change (files_of folder) mid) (lefts_of mid) (lefts_of new) more in
     let in_mid : HasRoom mid = omega (arith, has, longer, room) in
     let there = keeps.there in_mid left may in
     (lost_there change folder then mid new more (loses has) left there, made_there change folder then mid new more (loses has) is left there)
@@ -137,7 +137,7 @@ left_of_bytes name before folder then old new first bytes own = left_after (Writ
 pub front_of : (held bytes : List ℕ) (n k : ℕ) → k ≤ n → take (length held + k) (held ++ take n bytes) ≡ held ++ take k bytes
 front_of held bytes n k le = take-append-add held (take n bytes) k ∙ ap (λ l. held ++ l) (take-take k n bytes le)
 
-pub bytes_after : (name holds : List ℕ) (held : ℕ) (before : Files → Type 0) (folder then : MemFolder) (old mid new : Cases) → Keeps before (may_find folder mid) old mid → length (lefts_of mid) ≤ length (lefts_of new) → new.room ≡ mid.room → (HasRoom new → LosesBytes name holds held folder mid new) → HasRoom new → (n : ℕ) → held < n → n ≤ length holds → (left : Files) → before left → may_find then new left × may_find then new (changed name (λ _. take n holds) left)
+pub bytes_after : (name holds : List ℕ) (held : ℕ) (before : Files → Type 0) (folder then : MemFolder) (old mid new : Cases) → KeepsCases before (may_find folder mid) old mid → length (lefts_of mid) ≤ length (lefts_of new) → new.room ≡ mid.room → (HasRoom new → LosesBytes name holds held folder mid new) → HasRoom new → (n : ℕ) → held < n → n ≤ length holds → (left : Files) → before left → may_find then new left × may_find then new (changed name (λ _. take n holds) left)
 bytes_after name holds held before folder then old mid new keeps longer room loses has n above below left may =
     let in_mid : HasRoom mid = omega (arith, has, longer, room) in
     let there = keeps.there in_mid left may in
@@ -155,10 +155,10 @@ acted_leaves a old (Err e) new ok err = record { kept = []; are = err }
 pub acted_on : (a b c : Files) → (actions : List Action) × (b ≡ all_acted actions a) → (actions : List Action) × (c ≡ all_acted actions b) → (actions : List Action) × (c ≡ all_acted actions a)
 acted_on a b c first then = (first.0 ++ then.0, then.1 ∙ (ap (all_acted then.0) first.1 ∙ sym (all_acted-append first.0 then.0 a)))
 
-pub keeps_none : (folder : MemFolder) (cases : Cases) → Keeps (may_find folder cases) (may_find folder cases) cases cases
+pub keeps_none : (folder : MemFolder) (cases : Cases) → KeepsCases (may_find folder cases) (may_find folder cases) cases cases
 keeps_none folder cases = record { room = refl; no_fewer = omega arith; there = λ room left may. may }
 
-pub keeps_on : (a b c : Files → Type 0) (old mid new : Cases) → Keeps a b old mid → Keeps b c mid new → Keeps a c old new
+pub keeps_on : (a b c : Files → Type 0) (old mid new : Cases) → KeepsCases a b old mid → KeepsCases b c mid new → KeepsCases a c old new
 keeps_on a b c old mid new first then = record {
   room = then.room ∙ first.room;
   no_fewer = omega (arith, first.no_fewer, then.no_fewer);

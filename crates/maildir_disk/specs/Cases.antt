@@ -41,8 +41,8 @@ abbrev pub Adds : (Files → Type 0) → List Files → List Files → Type 0
 Adds P old new = (more : List Files) × (new ≡ old ++ more) × All P more
 
 -- what a change adds: the files as they are, or a case with the change
-abbrev pub IsOfChange : Change → Files → Cases → Files → Type 0
-IsOfChange change now old left = (left ≡ now) ⊎ ((was : Files) × Contains (lefts_of old) was × (left ≡ made change was))
+abbrev pub IsAdded : Change → Files → Cases → Files → Type 0
+IsAdded change now old left = (left ≡ now) ⊎ ((was : Files) × Contains (lefts_of old) was × (left ≡ made change was))
 
 -- The change may be lost: the files as they are are a case then, and so is each case with the change. Without it the cases are there too.
 pub record Loses (change : Change) (now : Files) (old new : Cases) : Type 0 where
@@ -56,7 +56,7 @@ pub record LosesBytes (name holds : List ℕ) (held : ℕ) (folder : MemFolder) 
   pub fronts : (n : ℕ) → held < n → n ≤ length holds → (left : Files) → may_find folder old left → Contains (lefts_of new) (changed name (λ _. take n holds) left)
 
 -- What a cut might have left it may leave still, as far as there is room.
-pub record Keeps (before now : Files → Type 0) (old new : Cases) : Type 0 where
+pub record KeepsCases (before now : Files → Type 0) (old new : Cases) : Type 0 where
   pub room : new.room ≡ old.room
   pub no_fewer : length (lefts_of old) ≤ length (lefts_of new)
   pub there : HasRoom new → (left : Files) → before left → now left

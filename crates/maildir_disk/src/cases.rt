@@ -7,7 +7,7 @@ ghost use Rattle.maildir_run.specs.Cuts.{Leaves, Left};
 ghost use Rattle.maildir_run.specs.Files.{Action, Files, all_acted};
 ghost use Rattle.maildir_run.specs.MemFolder.{IsQuiet, IsUndisturbed, SameScript, files_of};
 ghost use Rattle.maildir_run.specs.Script.{all_performed, performed};
-ghost use Rattle.maildir_disk.specs.Cases.{Adds, HasRoom, IsOfChange, Keeps, Loses, LosesBytes, lefts_of, made, may_find, nth_left};
+ghost use Rattle.maildir_disk.specs.Cases.{Adds, HasRoom, IsAdded, KeepsCases, Loses, LosesBytes, lefts_of, made, may_find, nth_left};
 ghost use Rattle.maildir_disk.specs.PowerCuts.{LeavesOthers};
 
 use maildir_name::Place;
@@ -57,7 +57,7 @@ impl Cases {
         change: &Change<'_>,
     ) -> Result<(), FolderFault>
         ensures room { self.new.room ≡ self.old.room }
-        ensures more { Adds (IsOfChange change.now (files_of folder.now) self.old) (lefts_of self.old) (lefts_of self.new) }
+        ensures more { Adds (IsAdded change.now (files_of folder.now) self.old) (lefts_of self.old) (lefts_of self.new) }
         ensures loses { OnOk result (HasRoom self.new → Loses change.now (files_of folder.now) self.old self.new) }
         ensures refused { IfErr result (λ fault. fault ≡ FolderFault.OutOfMemory) }
     {
@@ -128,7 +128,7 @@ impl Cases {
         ensures script { SameScript folder.old folder.new }
         ensures acts { (actions : List Action) × (files_of folder.new ≡ all_acted actions (files_of folder.old)) }
         ensures left { Left LeavesOthers (may_find folder.old self.old) (may_find folder.new self.new) }
-        ensures keeps { OnOk result (Keeps (may_find folder.old self.old) (may_find folder.new self.new) self.old self.new) }
+        ensures keeps { OnOk result (KeepsCases (may_find folder.old self.old) (may_find folder.new self.new) self.old self.new) }
         ensures done { OnOk result (files_of folder.new ≡ all_performed acts.now (files_of folder.old)) }
         ensures refused { IfErr result (λ fault. fault ≡ FolderFault.OutOfMemory) }
     {
@@ -142,7 +142,7 @@ impl Cases {
         ensures script { SameScript folder.old folder.new }
         ensures acts { (actions : List Action) × (files_of folder.new ≡ all_acted actions (files_of folder.old)) }
         ensures left { Left LeavesOthers (may_find folder.old self.old) (may_find folder.new self.new) }
-        ensures keeps { OnOk result (Keeps (may_find folder.old self.old) (may_find folder.new self.new) self.old self.new) }
+        ensures keeps { OnOk result (KeepsCases (may_find folder.old self.old) (may_find folder.new self.new) self.old self.new) }
         ensures done { OnOk result (files_of folder.new ≡ performed act.now (files_of folder.old)) }
         ensures refused { IfErr result (λ fault. fault ≡ FolderFault.OutOfMemory) }
     {

@@ -9,7 +9,7 @@ ghost use Rattle.maildir_run.specs.Cuts.{Leaves, Left};
 ghost use Rattle.maildir_run.specs.MemFiles.{no_files};
 ghost use Rattle.maildir_run.specs.MemFolder.{IsQuiet, files_of};
 ghost use Rattle.maildir_run.specs.Script.{all_performed};
-ghost use Rattle.maildir_disk.specs.Cases.{HasRoom, Keeps, lefts_of};
+ghost use Rattle.maildir_disk.specs.Cases.{HasRoom, KeepsCases, lefts_of};
 ghost use Rattle.maildir_disk.specs.World.{Acts, Passes};
 ghost use Rattle.maildir_disk.specs.Paths.{folder_of_place};
 ghost use Rattle.maildir_disk.specs.Placing.{WasGone};
@@ -160,7 +160,7 @@ impl MemSystem {
         ensures alone { HasNoTurns self.old → SameFiles (world_of self.old) (world_of self.new) }
         ensures same { HasNoTurns self.old → self.new.stamp ≡ self.old.stamp }
         ensures left { Left LeavesOthers (may_be_left self.old) (may_be_left self.new) }
-        ensures keeps { OnOk result (Keeps (may_be_left self.old) (may_be_left self.new) self.old.cases self.new.cases) }
+        ensures keeps { OnOk result (KeepsCases (may_be_left self.old) (may_be_left self.new) self.old.cases self.new.cases) }
         ensures root { self.new.is_rooted ≡ self.old.is_rooted }
         ensures calls { self.new.calls_left ≡ self.old.calls_left }
         ensures refused { IfErr result (λ fault. fault ≡ FolderFault.OutOfMemory) }
@@ -181,7 +181,7 @@ impl MemSystem {
         ensures quiet { HasNoTurns self.old → HasNoTurns self.new }
         ensures alone { HasNoTurns self.old → SameFiles (world_of self.old) (world_of self.new) }
         ensures same { HasNoTurns self.old → self.new.stamp ≡ self.old.stamp }
-        ensures keeps { OnOk result (Keeps (may_be_left self.old) (may_be_left self.new) self.old.cases self.new.cases) }
+        ensures keeps { OnOk result (KeepsCases (may_be_left self.old) (may_be_left self.new) self.old.cases self.new.cases) }
         ensures root { self.new.is_rooted ≡ self.old.is_rooted }
         ensures calls { OnOk result (self.old.calls_left ≡ self.new.calls_left + 1) }
     {
@@ -196,7 +196,7 @@ impl MemSystem {
         ensures acts { Acts (world_of self.old) (world_of self.new) }
         ensures passes { (sub : Sub) → Passes sub (world_of self.old) (world_of self.new) }
         ensures left { Left LeavesOthers (may_be_left self.old) (may_be_left self.new) }
-        ensures keeps { OnOk result (Keeps (may_be_left self.old) (may_be_left self.new) self.old.cases self.new.cases) }
+        ensures keeps { OnOk result (KeepsCases (may_be_left self.old) (may_be_left self.new) self.old.cases self.new.cases) }
         ensures done { OnOk result (files_of self.new.folder ≡ all_performed acts.now (files_of self.old.folder)) }
         ensures root { self.new.is_rooted ≡ self.old.is_rooted }
         ensures calls { self.new.calls_left ≡ self.old.calls_left }
