@@ -18,7 +18,7 @@ use Rattle.maildir_disk.proofs.LeftTasks.{run_intact}
 missing_intact : (m : Message) (s : Files) → IsMissing s m → IsIntact s m
 missing_intact m s none bytes has = absurd (none_in bytes (subst (λ hs. Contains hs bytes) none has))
 
-sound_on : (m : Message) (s t : Files) → IsPermutation (homes s m.target.base) (homes t m.target.base) → IsSoundAt s m → IsSoundAt t m
+pub sound_on : (m : Message) (s t : Files) → IsPermutation (homes s m.target.base) (homes t m.target.base) → IsSoundAt s m → IsSoundAt t m
 sound_on m s t kept (inl none) = inl (homes_none m.target.base s t kept none)
 sound_on m s t kept (inr home) = inr (homes_one m.target.base m.body s t kept home)
 

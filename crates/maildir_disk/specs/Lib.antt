@@ -8,3 +8,4 @@ pub mod MemSystem
 pub mod Faults
 pub mod Paths
 pub mod PowerCuts
+pub mod Others

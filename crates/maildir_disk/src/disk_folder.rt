@@ -40,6 +40,13 @@ impl<S: System> DiskFolder<S> {
         }
     }
 
+    /// The system calls that it was made over, as they are now.
+    pub fn into_system(self) -> S
+        ensures { result ≡ self.system }
+    {
+        self.system
+    }
+
     /// Asks the system to keep what `new`, `cur`, the Maildir and its parent name, so that no power cut undoes a
     /// placement that was answered. It is no call of the folder, and is not counted.
     ///
