@@ -1,1 +1,6 @@
 pub mod Reports
+pub mod Forms
+pub mod Known
+pub mod Resting
+pub mod Several
+pub mod Written

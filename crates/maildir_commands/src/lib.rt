@@ -2,11 +2,15 @@
 #![tactic(auto)]
 
 mod command;
+mod computer;
 mod fault;
+mod machine;
 mod program;
 mod sources;
 mod streams;
 
+pub use computer::Computer;
 pub use fault::Fault;
+pub use machine::Machine;
 pub use program::{run, tell};
 pub use sources::deliver;
