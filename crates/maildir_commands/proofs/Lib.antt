@@ -4,3 +4,4 @@ pub mod Known
 pub mod Resting
 pub mod Several
 pub mod Written
+pub mod MemMachines

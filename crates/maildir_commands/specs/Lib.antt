@@ -3,3 +3,4 @@ pub mod Words
 pub mod Machines
 pub mod Report
 pub mod Written
+pub mod MemMachines
