@@ -1,14 +1,15 @@
 # make            prove the crates and build build/mbox2maildir
 # make run        deliver the example mailboxes to a fresh Maildir under build/, and show what it holds
 # make test       prove and test everything from nothing: the gate of the repository
-# make install    copy the program and its page below PREFIX
-# make deb        make a Debian package of the program, in build/
+# make install    copy the program, its pages, its scripts and its completion below PREFIX
+# make deb        make a Debian package of the same, in build/; make rpm one of RPM, and make tarball a plain one
 # make dist       make a tarball of what git tracks, in build/
 # make bench      time the program on generated mail beside cat, sha256sum and a plain C program (SIZE=megabytes)
 # make clean      remove build/
 #
-# Each needs the command rt and a shell, but for dist and clean. make test wants python3 besides, make deb dpkg-deb and
-# binutils, make dist git, and make bench gcc and python3.
+# Each needs the command rt and a shell, but for dist and clean; where build/mbox2maildir is newer than the sources, install
+# and the packages need no rt. make test wants python3 besides, the packages binutils, make deb dpkg-deb too, make rpm
+# rpmbuild, make dist git, and make bench gcc and python3.
 
 PREFIX ?= /usr/local
 VERSION := $(shell cat VERSION)
@@ -17,7 +18,6 @@ DIST ?= build
 PROGRAM = build/mbox2maildir
 CRATE = crates/mbox2maildir
 SOURCES = crates.txt $(shell find crates -name out -prune -o \( -name '*.rt' -o -name '*.antt' \) -print)
-PAGE = docs/mbox2maildir.1
 
 MAILBOXES = examples/archive.mbox examples/inbox.mbox
 MAILDIR = build/example
@@ -50,17 +50,15 @@ test:
 	tests/run
 
 install: $(PROGRAM)
-	install -d $(DESTDIR)$(PREFIX)/bin
-	install -m 755 $(PROGRAM) $(DESTDIR)$(PREFIX)/bin
-	install -d $(DESTDIR)$(PREFIX)/share/man/man1
-	install -m 644 $(PAGE) $(DESTDIR)$(PREFIX)/share/man/man1
+	packaging/install $(PROGRAM) $(DESTDIR)$(PREFIX)
 
-deb: $(PROGRAM)
-	packaging/deb $(PROGRAM) build
+deb rpm tarball: $(PROGRAM)
+	packaging/package $@ $(PROGRAM) $(DIST)
 
 dist:
 	mkdir -p $(DIST)
 	git archive --prefix=mbox2maildir-$(VERSION)/ -o $(DIST)/mbox2maildir-$(VERSION).tar.gz HEAD
+	cd $(DIST) && sha256sum mbox2maildir-$(VERSION).tar.gz >mbox2maildir-$(VERSION).tar.gz.sha256
 
 bench: $(PROGRAM)
 	bench/run
@@ -68,4 +66,4 @@ bench: $(PROGRAM)
 clean:
 	rm -rf build
 
-.PHONY: all run test install deb dist bench clean
+.PHONY: all run test install deb rpm tarball dist bench clean

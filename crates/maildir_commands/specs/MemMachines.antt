@@ -1,11 +1,11 @@
 -- What a machine in memory has under a word.
-use Rattle.std.specs.Prelude.{◌≡◌, ℕ, List, [], ◌∷◌, Option, Some, None, String, if◌then◌else◌}
+use Rattle.std.specs.Prelude.{◌≡◌, ℕ, List, [], ◌∷◌, Option, Some, None, String, IsTrue, if◌then◌else◌}
 use Rattle.std.specs.BTreeMap.{BTreeMap, get_by_text}
 use Rattle.std.specs.Str.{bytes_eq}
 
 use Rattle.maildir_run.specs.MemFolder.{IsQuiet}
 use Rattle.maildir_disk.specs.declared.mem_system.MemSystem.{MemSystem}
-use Rattle.maildir_disk.specs.MemSystem.{all_is_left, world_of}
+use Rattle.maildir_disk.specs.MemSystem.{may_be_left, world_of}
 use Rattle.maildir_commands.specs.declared.mem_machine.NamedText.{NamedText}
 use Rattle.maildir_commands.specs.Machines.{Held, held, nothing_held}
 
@@ -18,7 +18,7 @@ text_under (named ∷ texts) word = if bytes_eq named.name.now word then named.t
 abbrev pub held_at : Option (Option MemSystem) → Held
 held_at None = nothing_held
 held_at (Some None) = nothing_held
-held_at (Some (Some system)) = held world_of all_is_left (λ _. Unit {0}) system
+held_at (Some (Some system)) = held world_of may_be_left (λ s. IsTrue s.is_rooted) system
 
 -- the Maildir under this word
 abbrev pub held_under : {X : Type 0} → BTreeMap (String X) (Option MemSystem) → List ℕ → Held

@@ -1,5 +1,6 @@
 // The machine itself.
-ghost use Rattle.std.specs.Prelude.{[]};
+ghost use Rattle.std.specs.Prelude.{◌≡◌, [], IfOk};
+ghost use Rattle.maildir_disk.specs.Paths.{root_at};
 ghost use Rattle.maildir_commands.specs.Machines.{nothing_held};
 
 use crate::machine::Machine;
@@ -44,9 +45,20 @@ impl<'a, R: Files<File = File> + Clock> Machine for Computer<'a, R> {
     }
 
     fn open_maildir(&mut self, path: &str) -> Result<Host<'a, R>, OpenFault> {
-        let folder = DiskFolder::open_at(self.rt, self.alloc, path)?;
-        Ok(folder.into_system())
+        open_system(self.rt, self.alloc, path)
     }
 
     fn close_maildir(&mut self, _path: &str, _maildir: Host<'a, R>) {}
+}
+
+// The system calls that reach the Maildir at a path.
+fn open_system<'a, R: Files<File = File> + Clock>(
+    rt: &'a R,
+    alloc: Global,
+    path: &str,
+) -> Result<Host<'a, R>, OpenFault>
+    ensures path { IfOk result (λ system. root_at system ≡ path.now) }
+{
+    let folder = DiskFolder::open_at(rt, alloc, path)?;
+    Ok(folder.into_system())
 }

@@ -8,7 +8,7 @@ ghost use Rattle.maildir_run.specs.Alone.{alone as alone_after};
 ghost use Rattle.maildir_run.specs.Delivery.{AreNamed, IsSoundAt, Message, has_home};
 ghost use Rattle.maildir_run.specs.Quietly.{LeavesOthers};
 ghost use Rattle.maildir_run.specs.Reading.{ReadsAtMost};
-ghost use Rattle.maildir_run.specs.Runs.{Possible, Reports};
+ghost use Rattle.maildir_run.specs.Runs.{CountsRun, Possible, Reports};
 ghost use Rattle.maildir_run.specs.Several.{Text, IsText};
 ghost use Rattle.maildir_run.specs.Texts.{MessagesOf};
 ghost use Rattle.maildir_disk.specs.Others.{Stays};
@@ -172,10 +172,11 @@ pub fn deliver<S: System, I: Read, W: Write>(
     ensures end { OnOk result (IsAtEnd (I.remaining source.new)) }
     ensures budget { ReadsAtMost (I.remaining source.old) (I.remaining source.new) (2 ^ 56) }
 
-    // its line is of a report that is true of the run, where the system does as assumed and the folder began sound for the text
+    // its line is of a report that counts the calls that were made, and that is true of the run, where the system does as
+    // assumed and the folder began sound for the text
     ensures printed { let f = ⟦<DiskFolder<S> as Folder>⟧ in OnOk result (PrintsReport (W.contents out.old) (W.contents out.new) (λ report.
-        f.honest folder.old → (t : List ℕ) (ms : List Message) → length t < 2 ^ 63 → Possible (I.remaining source.old) (I.remaining source.new) t → MessagesOf t ms →
-        All (IsSoundAt (f.files folder.old)) ms → Reports ms (f.files folder.old) report)) }
+        CountsRun report (f.calls folder.old) (f.calls folder.new) × (f.honest folder.old → (t : List ℕ) (ms : List Message) → length t < 2 ^ 63 →
+        Possible (I.remaining source.old) (I.remaining source.new) t → MessagesOf t ms → All (IsSoundAt (f.files folder.old)) ms → Reports ms (f.files folder.old) report))) }
 
     // where the system does as assumed, and the folder began sound for the text
     ensures honest { ⟦<DiskFolder<S> as Folder>⟧.honest folder.old → OnOk result (⟦<DiskFolder<S> as Folder>⟧.honest folder.new) }

@@ -131,7 +131,7 @@ module _ (b x : List ℕ) (named : IsTrue (is_converter_base b)) where
 differ : (m n : Message) → IsFalse (is_name m.target.base n.target.base) → m.target.base ≡ n.target.base → ⊥
 differ m n apart alike = false≢true (sym apart ∙ (ap (is_name m.target.base) (sym alike) ∙ is_name-refl m.target.base))
 
-own_bodies : (ms : List Message) → AreDistinct ms → (k : ℕ) (d : Message) → k < length ms → All (λ n. n.target.base ≡ (get_or ms k d).target.base → n.body ≡ (get_or ms k d).body) ms
+pub own_bodies : (ms : List Message) → AreDistinct ms → (k : ℕ) (d : Message) → k < length ms → All (λ n. n.target.base ≡ (get_or ms k d).target.base → n.body ≡ (get_or ms k d).body) ms
 own_bodies ms distinct k d below j e there =
     let m = get_or ms k d in
     let n = get_or ms j d in
@@ -144,7 +144,7 @@ own_bodies ms distinct k d below j e there =
 
 -- ---- the messages of a text
 module _ (t : List ℕ) (ms : List Message) (are : MessagesOf t ms) (small : length t < 2 ^ 63) (names : Names) {A E : Type 0} (before : Files) (r : Result A E) (now : Files) (ran : Performs leaving (planned_tasks names ms) before r now) where
-  text_holds : (b x : List ℕ) → IsTrue (is_converter_base b) → All (λ m. m.target.base ≡ b → m.body ≡ x) ms → Holds b x before now
+  pub text_holds : (b x : List ℕ) → IsTrue (is_converter_base b) → All (λ m. m.target.base ≡ b → m.body ≡ x) ms → Holds b x before now
   text_holds b x named bodies = run_holds b x named names ms (text_targets t ms are small) bodies before r now ran
 
   pub run_intact : All (IsIntact before) ms → All (IsIntact now) ms

@@ -1,24 +1,24 @@
 -- A run, and then a sync: what they leave of the messages of other texts.
-use Rattle.std.proofs.Common.{◌≡◌, ℕ, ◌<◌, ◌^◌, ◌⊎◌, List, [], ◌∷◌, ◌++◌, length, get_or, All, IsTrue, IsFalse, true, false, Result, Ok, Err, sym, ap, subst, ◌∙◌, inl, inr}
-use Rattle.std.specs.List.{Any, list_any}
+use Rattle.std.proofs.Common.{◌≡◌, ℕ, ◌<◌, ◌^◌, List, [], ◌∷◌, length, get_or, All, IsTrue, Result, sym, ap, subst, ◌∙◌, inl, inr}
 use Rattle.std.proofs.lemmas.Bool.{cases_Bool, false≢true}
 use Rattle.std.proofs.lemmas.List.Folds.{Any-from_list_any}
 use Rattle.maildir_name.specs.Names.{is_converter_base}
 use Rattle.maildir_run.specs.declared.fault.RunFault.{RunFault}
 use Rattle.maildir_run.specs.declared.report.Report.{Report}
 use Rattle.maildir_run.specs.Cuts.{Left}
-use Rattle.maildir_run.specs.Delivery.{Message, AreNamed, HasHome, IsHome, IsMissing, IsSoundAt, is_any, is_base_of}
+use Rattle.maildir_run.specs.Delivery.{Message, AreNamed, HasHome, IsHome, IsSoundAt, is_any, is_base_of}
 use Rattle.maildir_run.specs.Files.{Files, Action, acted, all_acted, homes, is_name}
 use Rattle.maildir_run.specs.Runs.{Run, Keeps}
 use Rattle.maildir_run.specs.Tasks.{Names, Performs, leaving, planned_tasks}
 use Rattle.maildir_run.specs.Texts.{MessagesOf}
+use Rattle.maildir_run.proofs.Chains.{sound_now}
 use Rattle.maildir_run.proofs.Homes.{acted_kept}
 use Rattle.maildir_run.proofs.Maps.{is_name-true}
 use Rattle.maildir_run.proofs.Moves.{homes_one}
 use Rattle.maildir_disk.specs.Others.{Stays}
-use Rattle.maildir_disk.specs.PowerCuts.{AreAlike, AreIntact, LeavesOthers, Survive}
+use Rattle.maildir_disk.specs.PowerCuts.{AreAlike, LeavesOthers}
 use Rattle.maildir_disk.specs.World.{World, Acts}
-use Rattle.maildir_disk.proofs.CutChains.{sound_on, sound_now}
+use Rattle.maildir_disk.proofs.CutChains.{moved_sound}
 use Rattle.maildir_disk.proofs.LeftHomes.{intact_on, others_hold}
 use Rattle.maildir_disk.proofs.LeftTasks.{run_bodies, run_others_intact}
 use Rattle.maildir_disk.proofs.Syncs.{still_home}
@@ -43,7 +43,7 @@ module _ (ms others : List Message) (named : AreNamed others) (alike : AreAlike 
   other_sound sound k d below =
       let m = get_or others k d in
       elim (cases_Bool (is_base_of ms m.target.base)) as (λ _. IsSoundAt new m) [
-        | inr off ↦ sound_on m old new (keeps.sound.others m.target.base (named k d below) off) (sound k d below)
+        | inr off ↦ moved_sound m old new (keeps.sound.others m.target.base (named k d below) off) (sound k d below)
         | inl on ↦
             let found = Any-from_list_any (λ (n : Message). is_name n.target.base m.target.base) ms on in
             let j = found.0 in
@@ -77,7 +77,7 @@ module _ (ms others : List Message) (named : AreNamed others) (alike : AreAlike 
 -- ---- what other programs do
 still_sound : (m : Message) → IsTrue (is_converter_base m.target.base) → (actions : List Action) (s : Files) → IsSoundAt s m → IsSoundAt (all_acted actions s) m
 still_sound m named [] s sound = sound
-still_sound m named (action ∷ actions) s sound = still_sound m named actions (acted action s) (sound_on m s (acted action s) (acted_kept m.target.base named action s) sound)
+still_sound m named (action ∷ actions) s sound = still_sound m named actions (acted action s) (moved_sound m s (acted action s) (acted_kept m.target.base named action s) sound)
 
 pub stays_acted : (others : List Message) → AreNamed others → (actions : List Action) (old new : Files) (before now : Files → Type 0) → new ≡ all_acted actions old → Left LeavesOthers before now → Stays others old before new now
 stays_acted others named actions old new before now are left = record {
@@ -111,7 +111,7 @@ stays_then others r a s b t c first then = record {
 module _ (t : List ℕ) (ms : List Message) (are : MessagesOf t ms) (small : length t < 2 ^ 63) (others : List Message) (named : AreNamed others) (alike : AreAlike others ms) where
   pub stays_after_run : (old new : Files) (before now : Files → Type 0) (answer : Result Report RunFault) → Run t old answer new → All (IsSoundAt old) ms → Left (λ old new. (names : Names) × Performs leaving (planned_tasks names ms) old answer new) before now → Stays others old before new now
   stays_after_run old new before now answer run sound left =
-      let keeps = run.keeps ms are (sound_now t ms are small old sound) in
+      let keeps = run.keeps ms are (sound_now ms old sound) in
       record {
         sound = other_sound ms others named alike old answer new keeps;
         intact = λ intact after may.

@@ -10,13 +10,13 @@ use Rattle.maildir_run.specs.Runs.{Reports, Run}
 use Rattle.maildir_run.specs.Tasks.{Names, Performs, leaving, planned_tasks}
 use Rattle.maildir_run.specs.Texts.{MessagesOf}
 use Rattle.maildir_run.proofs.MessageLemmas.{text_named}
-use Rattle.maildir_disk.specs.PowerCuts.{AreAlike, AreIntact, AreSafe, LeavesOthers, Survive}
+use Rattle.maildir_disk.specs.PowerCuts.{AreAlike, AreIntact, AreSafe, LeavesOthers, Survive, Syncs}
 use Rattle.maildir_disk.specs.World.{World, Acts}
-use Rattle.maildir_disk.proofs.CutChains.{sound_now}
+use Rattle.maildir_run.proofs.Chains.{sound_now}
 use Rattle.maildir_disk.proofs.Lefts.{if_ok}
 use Rattle.maildir_disk.proofs.LeftHomes.{intact_on, others_hold}
 use Rattle.maildir_disk.proofs.LeftTasks.{run_intact, run_bodies}
-use Rattle.maildir_disk.proofs.Syncs.{still_home}
+use Rattle.maildir_disk.proofs.Syncs.{still_home, synced_bodies}
 
 module _ (t : List ℕ) (ms : List Message) (are : MessagesOf t ms) (small : length t < 2 ^ 63) where
   pub intact_after_run : (before now : Files → Type 0) (answer : Result Report RunFault) → Left (λ old new. (names : Names) × Performs leaving (planned_tasks names ms) old answer new) before now → AreIntact ms before → AreIntact ms now
@@ -41,10 +41,10 @@ module _ (t : List ℕ) (ms : List Message) (are : MessagesOf t ms) (small : len
       (others_hold (get_or others k d) (named k d below) was.0 left was.2).still (survive was.0 was.1 k d below)
 
   home_after_run : (old new : Files) (report : Report) → Run t old (Ok report) new → All (IsSoundAt old) ms → All (IsHome new) ms
-  home_after_run old new report run sound = (run.keeps ms are (sound_now t ms are small old sound)).ends.delivered.homes_are
+  home_after_run old new report run sound = (run.keeps ms are (sound_now ms old sound)).ends.delivered.homes_are
 
   pub reports_after_run : (old new : Files) (report : Report) → Run t old (Ok report) new → All (IsSoundAt old) ms → Reports ms old report
-  reports_after_run old new report run sound = (run.keeps ms are (sound_now t ms are small old sound)).ends.reports
+  reports_after_run old new report run sound = (run.keeps ms are (sound_now ms old sound)).ends.reports
 
   home_after_others : (old new : World) → Acts old new → All (IsHome old.files) ms → All (IsHome new.files) ms
   home_after_others old new acts home k d below =
@@ -59,11 +59,16 @@ module _ (t : List ℕ) (ms : List Message) (are : MessagesOf t ms) (small : len
   survive_after_both others before between now answer named alike run acts survive =
       survive_after_others others between now named acts (survive_after_run others before between answer named alike run survive)
 
-  pub safe_after_both : {A E : Type 0} (old : Files) (mid new : World) (before between now : Files → Type 0) (rooted : Type 0) (report : Report) (synced : Result A E) → Run t old (Ok report) mid.files → All (IsSoundAt old) ms → Left (λ old new. (names : Names) × Performs {E = RunFault} leaving (planned_tasks names ms) old (Ok report) new) before between → AreIntact ms before → Acts mid new → IsOk synced → (AreNamed ms → All (IsHome mid.files) ms → AreIntact ms between → OnOk synced (Survive ms now)) → OnOk synced rooted → AreSafe ms new.files now rooted
-  safe_after_both old mid new before between now rooted report synced run sound left intact acts ok survive found =
+  survive_synced : (old new : Files) (before now : Files → Type 0) → Left (λ was left. Syncs old was new left) before now → All (IsHome old) ms → AreIntact ms before → Survive ms now
+  survive_synced old new before now syncs home intact left may =
+      let was = syncs left may in
+      synced_bodies ms (text_named t ms are small) old was.0 new left home (intact was.0 was.1) was.2
+
+  pub safe_after_both : {A E : Type 0} (old : Files) (mid new : World) (before between now : Files → Type 0) (rooted : Type 0) (report : Report) (synced : Result A E) → Run t old (Ok report) mid.files → All (IsSoundAt old) ms → Left (λ old new. (names : Names) × Performs {E = RunFault} leaving (planned_tasks names ms) old (Ok report) new) before between → AreIntact ms before → Acts mid new → IsOk synced → OnOk synced (Left (λ before left. Syncs mid.files before new.files left) between now) → OnOk synced rooted → AreSafe ms new.files now rooted
+  safe_after_both old mid new before between now rooted report synced run sound left intact acts ok syncs found =
       let home = home_after_run old mid.files report run sound in
       record {
         home = home_after_others mid new acts home;
-        survive = if_ok synced _ ok (survive (text_named t ms are small) home (intact_after_run before between (Ok report) left intact));
+        survive = survive_synced mid.files new.files between now (if_ok synced _ ok syncs) home (intact_after_run before between (Ok report) left intact);
         found = if_ok synced _ ok found;
       }

@@ -1,18 +1,23 @@
 -- What a cut leaves after the names in `new` were kept, and then those in `cur`.
-use Rattle.std.proofs.Common.{◌≡◌, ℕ, false, List, [], ◌∷◌, ◌++◌, Option, Some, None, IsTrue, refl, sym, ap, subst, ◌∙◌}
+use Rattle.std.proofs.Common.{◌≡◌, ℕ, false, List, [], ◌∷◌, ◌++◌, Option, Some, None, IsTrue, All, get_or, refl, sym, ap, subst, ◌∙◌}
 use Rattle.std.specs.List.{Contains}
 use Rattle.std.specs.FinMap.{get, contains_key}
 use Rattle.std.specs.Option.{is_some}
 use Rattle.std.proofs.lemmas.List.Elements.{Contains-append_left, Contains-append_right}
 use Rattle.maildir_name.specs.Names.{base, is_converter_name, is_converter_base}
-use Rattle.maildir_run.specs.declared.folder.Sub.TheVariants.{New, Cur}
-use Rattle.maildir_run.specs.Delivery.{Message, IsHome}
+use Rattle.maildir_run.specs.declared.folder.Sub.{Sub}
+use Rattle.maildir_run.specs.declared.folder.Sub.TheVariants.{Tmp, New, Cur}
+use Rattle.maildir_run.specs.Calls.{Listing}
+use Rattle.maildir_disk.specs.World.{World, Acts}
+use Rattle.maildir_disk.proofs.Passing.{all_acted-append}
+use Rattle.maildir_disk.proofs.Lefts.{leaves_then}
+use Rattle.maildir_run.specs.Delivery.{Message, AreNamed, IsHome}
 use Rattle.maildir_run.specs.Files.{FileMap, Files, Action, acted, all_acted, held_under}
 use Rattle.maildir_run.proofs.Homes.{acted_kept}
 use Rattle.maildir_run.proofs.ListedNowhere.{all_acted_new}
 use Rattle.maildir_run.proofs.Maps.{is_name-true}
 use Rattle.maildir_run.proofs.Moves.{homes_one, none_held, held_none}
-use Rattle.maildir_disk.specs.PowerCuts.{IsIntact, HasBody, KeepsNames}
+use Rattle.maildir_disk.specs.PowerCuts.{IsIntact, HasBody, KeepsNames, LeavesOthers, Syncs}
 use Rattle.maildir_disk.proofs.LeftHomes.{first_in, intact_on, others_hold}
 
 -- what is there, where one thing alone may be
@@ -68,3 +73,21 @@ module _ (m : Message) (named : IsTrue (is_converter_base m.target.base)) where
             let one = sym home_then ∙ (ap (λ xs. xs ++ held_under m.target.base then.moment.cur) none_then ∙ off) in cc) in
             (others_hold m named then.there left then.later).still has
       ] refl
+
+pub synced_bodies : (ms : List Message) → AreNamed ms → (old before new left : Files) → All (IsHome old) ms → All (IsIntact before) ms → Syncs old before new left → All (HasBody left) ms
+synced_bodies ms named old before new left home intact syncs k d below =
+    kept_names (get_or ms k d) (named k d below) old syncs.mid.files new before syncs.mid.left left (home k d below) (intact k d below) syncs.first syncs.then
+
+-- names that were kept, and then what others did
+pub kept_later : (sub : Sub) (s before : Files) (t u : World) (mid left : Files) → KeepsNames sub s before t.files mid → Acts t u → LeavesOthers mid left → KeepsNames sub s before u.files left
+kept_later sub s before t u mid left keeps acts leaves = record {
+  moment = keeps.moment;
+  actions = keeps.actions;
+  moment_is = keeps.moment_is;
+  rest = keeps.rest ++ acts.actions;
+  new_is = acts.files_are ∙ (ap (all_acted acts.actions) keeps.new_is ∙ sym (all_acted-append keeps.rest acts.actions keeps.moment));
+  there = keeps.there;
+  earlier = keeps.earlier;
+  later = leaves_then (Listing Tmp) keeps.there mid left keeps.later leaves;
+  names_are = keeps.names_are;
+}

@@ -4,8 +4,10 @@ pub mod Placing
 pub mod Quiet
 pub mod Look
 pub mod Misread
+pub mod Cases
 pub mod MemSystem
 pub mod Faults
 pub mod Paths
 pub mod PowerCuts
 pub mod Others
+pub mod SeveralCuts

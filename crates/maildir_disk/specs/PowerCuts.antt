@@ -1,17 +1,17 @@
 -- What a power cut may leave of the messages of a text.
-use Rattle.std.specs.Prelude.{◌≡◌, ◌≤◌, ℕ, List, [], ◌∷◌, length, All, Contains, IsTrue, Result}
+use Rattle.std.specs.Prelude.{◌≡◌, ◌≤◌, ℕ, List, length, All, Contains, IsTrue, Result}
 use Rattle.std.specs.FinMap.{get, contains_key}
 use Rattle.maildir_name.specs.Names.{is_converter_base, is_converter_name}
 use Rattle.maildir_run.specs.declared.fault.RunFault.{RunFault}
 use Rattle.maildir_run.specs.declared.folder.Sub.{Sub}
-use Rattle.maildir_run.specs.declared.folder.Sub.TheVariants.{Tmp}
+use Rattle.maildir_run.specs.declared.folder.Sub.TheVariants.{Tmp, New, Cur}
 use Rattle.maildir_run.specs.declared.report.Report.{Report}
 use Rattle.maildir_run.specs.Calls.{Listing, folder_of}
 use Rattle.maildir_run.specs.Cuts.{Leaves}
 use Rattle.maildir_run.specs.Delivery.{Message, IsHome}
 use Rattle.maildir_run.specs.Files.{Files, Action, acted, all_acted, homes}
 use Rattle.maildir_run.specs.Progress.{LeavesHomes}
-use Rattle.maildir_run.specs.Runs.{Run}
+use Rattle.maildir_run.specs.Runs.{Chain, Run}
 use Rattle.maildir_run.specs.Tasks.{Names, Performs, leaving, planned_tasks}
 use Rattle.maildir_run.specs.Texts.{MessagesOf}
 
@@ -71,6 +71,12 @@ pub record Moment : Type 0 where
   pub files : Files
   pub left : Files
 
+-- A sync of the Maildir that answered Ok: the names in `new` were kept, and then those in `cur`, of what a cut left before it and of what one leaves after it.
+pub record Syncs (old before new left : Files) : Type 0 where
+  pub mid : Moment
+  pub first : KeepsNames New old before mid.files mid.left
+  pub then : KeepsNames Cur mid.files mid.left new left
+
 -- what comes to a folder: a run with this answer, an action of another program, or a power cut
 pub data Event : Type 0 where
   Ran : (answer : Result Report RunFault) → Event
@@ -93,5 +99,4 @@ Happens t Cut old new = IsCut old new
 
 -- a finite chain of runs over a text, with any answers, of other programs' actions and of power cuts
 abbrev pub Happen : List ℕ → List Event → Moment → Moment → Type 0
-Happen t [] old new = new ≡ old
-Happen t (event ∷ events) old new = (mid : Moment) × Happens t event old mid × Happen t events mid new
+Happen t = Chain (Happens t)

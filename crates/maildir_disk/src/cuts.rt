@@ -1,5 +1,5 @@
 //! Laws on power cuts over the definitions alone. Each law is the contract of a function, and no function here does anything.
-ghost use Rattle.std.specs.Prelude.{◌≡◌, ℕ, ◌<◌, ◌^◌, List, length, Ok, Result, All};
+ghost use Rattle.std.specs.Prelude.{◌≡◌, ℕ, ◌<◌, ◌^◌, ◌∷◌, ◌++◌, List, length, Ok, Result, All, Contains};
 ghost use Rattle.maildir_run.specs.declared.fault.RunFault.{RunFault};
 ghost use Rattle.maildir_run.specs.declared.report.Report.{Report};
 ghost use Rattle.maildir_run.specs.Delivery.{Message, AreNamed, Delivered, IsHome, IsMissing, IsSoundAt};
@@ -7,7 +7,10 @@ ghost use Rattle.maildir_run.specs.Files.{Files};
 ghost use Rattle.maildir_run.specs.Runs.{Run};
 ghost use Rattle.maildir_run.specs.Tasks.{Names, Performs, leaving, planned_tasks};
 ghost use Rattle.maildir_run.specs.Texts.{MessagesOf};
-ghost use Rattle.maildir_disk.specs.PowerCuts.{AreAlike, Event, Happen, HasBody, IsIntact, IsSingle, LeavesOthers, Moment};
+ghost use Rattle.maildir_run.specs.Several.{OfEach, Text};
+ghost use Rattle.maildir_disk.specs.SeveralCuts.{AreNew, EventOver, HappenOver};
+ghost use Rattle.maildir_disk.specs.SeveralCuts.EventOver.{RanOver, SyncedOver, CutOver};
+ghost use Rattle.maildir_disk.specs.PowerCuts.{AreAlike, Event, Happen, HasBody, IsIntact, IsSingle, LeavesOthers, Moment, Syncs};
 
 /// What a cut leaves of a run that did its planned calls, whatever it answered: where what it would have left of the run's
 /// messages before held their bodies, it does after it. And a message that a cut would have left before it is left after
@@ -29,6 +32,12 @@ pub fn left_by_others()
         All (HasBody before) ms → All (HasBody now) ms }
 {}
 
+/// A sync that answered Ok keeps the messages that were at home, where a cut would have left nothing but their bodies.
+pub fn kept_by_a_sync()
+    ensures { (ms : List Message) (old before new left : Files) → AreNamed ms → All (IsHome old) ms → All (IsIntact before) ms →
+        Syncs old before new left → All (HasBody left) ms }
+{}
+
 /// Where a cut leaves a file under one name, it leaves a sound folder sound, and each message that is at home and survives
 /// in exactly one file.
 pub fn one_name_each()
@@ -48,4 +57,21 @@ pub fn after_any_cuts()
     ensures delivered { (t : List ℕ) (ms : List Message) (events : List Event) (old mid : Moment) (new : Files) (report : Report) →
         MessagesOf t ms → length t < 2 ^ 63 → All (IsMissing old.files) ms → All (IsMissing old.left) ms →
         Happen t events old mid → Run t mid.files (Ok report) new → Delivered ms new }
+{}
+
+/// Whatever runs over any of several texts, with any answers, other programs' actions, syncs and power cuts follow one
+/// another: a folder that had none of the texts' messages, and of which a cut would have left none, is sound for them.
+/// Each message of a text of which a run answered Ok, and then a sync before any cut, is at home and stays so, after
+/// every later cut too. One more run that answers Ok delivers its text. Where two messages of the texts have the same
+/// base, they are to have the same body.
+pub fn after_cuts_of_several()
+    ensures sound { (texts : List Text) (events : List EventOver) (old new : Moment) →
+        AreNew texts old → HappenOver texts events old new →
+        OfEach (IsSoundAt new.files) texts × OfEach (IsIntact new.left) texts }
+    ensures kept { (texts : List Text) (text : Text) (report : Report) (before between rest : List EventOver) (old new : Moment) →
+        AreNew texts old → HappenOver texts (before ++ (RanOver text (Ok report) ∷ (between ++ (SyncedOver ∷ rest)))) old new → ¬ Contains between CutOver →
+        All (IsHome new.files) text.messages × All (HasBody new.left) text.messages }
+    ensures delivered { (texts : List Text) (text : Text) (events : List EventOver) (old mid : Moment) (new : Files) (report : Report) →
+        AreNew texts old → HappenOver texts events old mid → Contains texts text → Run text.bytes mid.files (Ok report) new →
+        Delivered text.messages new }
 {}

@@ -1,12 +1,11 @@
 // A Maildir on a file system, as a folder of the engine.
-ghost use Rattle.std.specs.Prelude.{◌≡◌, List, All, IsErrOf, OnOk};
+ghost use Rattle.std.specs.Prelude.{◌≡◌, IsErrOf, OnOk};
 ghost use Rattle.maildir_run.specs.Calls.{Called, CalledQuietly, CountsFailure, GoesUp, IsNotAbsent};
 ghost use Rattle.maildir_run.specs.Calls.Call.{Placing, Writing};
 ghost use Rattle.maildir_run.specs.Cuts.{Left, LeavesOf};
-ghost use Rattle.maildir_run.specs.Delivery.{AreNamed, IsHome, Message};
 ghost use Rattle.maildir_disk.specs.Quiet.{SameFiles};
 ghost use Rattle.maildir_disk.specs.Placing.{WasGone};
-ghost use Rattle.maildir_disk.specs.PowerCuts.{AreIntact, LeavesOthers, Survive};
+ghost use Rattle.maildir_disk.specs.PowerCuts.{LeavesOthers, Syncs};
 ghost use Rattle.maildir_disk.specs.World.{Acts};
 
 use crate::faults::answer_of;
@@ -40,7 +39,7 @@ impl<S: System> DiskFolder<S> {
         }
     }
 
-    /// The system calls that it was made over, as they are now.
+    /// The system calls that it is over.
     pub fn into_system(self) -> S
         ensures { result ≡ self.system }
     {
@@ -59,8 +58,8 @@ impl<S: System> DiskFolder<S> {
         ensures acts { S.honest self.old.system → Acts (S.world self.old.system) (S.world self.new.system) }
         ensures left { S.honest self.old.system → Left LeavesOthers (S.may_leave self.old.system) (S.may_leave self.new.system) }
         ensures rooted { S.honest self.old.system → OnOk result (S.rooted self.new.system) }
-        ensures survive { S.honest self.old.system → (ms : List Message) → AreNamed ms → All (IsHome (S.world self.old.system).files) ms →
-            AreIntact ms (S.may_leave self.old.system) → OnOk result (Survive ms (S.may_leave self.new.system)) }
+        ensures synced { S.honest self.old.system → OnOk result (Left (λ before left. Syncs (S.world self.old.system).files before (S.world self.new.system).files left)
+            (S.may_leave self.old.system) (S.may_leave self.new.system)) }
         ensures quiet { S.quiet self.old.system → OnOk result (S.quiet self.new.system) }
         ensures alone { S.quiet self.old.system → SameFiles (S.world self.old.system) (S.world self.new.system) }
         ensures calls { self.new.calls ≡ self.old.calls }
@@ -75,8 +74,8 @@ impl<S: System> DiskFolder<S> {
         ensures acts { S.honest self.old.system → Acts (S.world self.old.system) (S.world self.new.system) }
         ensures left { S.honest self.old.system → Left LeavesOthers (S.may_leave self.old.system) (S.may_leave self.new.system) }
         ensures rooted { S.honest self.old.system → OnOk result (S.rooted self.new.system) }
-        ensures survive { S.honest self.old.system → (ms : List Message) → AreNamed ms → All (IsHome (S.world self.old.system).files) ms →
-            AreIntact ms (S.may_leave self.old.system) → OnOk result (Survive ms (S.may_leave self.new.system)) }
+        ensures synced { S.honest self.old.system → OnOk result (Left (λ before left. Syncs (S.world self.old.system).files before (S.world self.new.system).files left)
+            (S.may_leave self.old.system) (S.may_leave self.new.system)) }
         ensures quiet { S.quiet self.old.system → OnOk result (S.quiet self.new.system) }
         ensures alone { S.quiet self.old.system → SameFiles (S.world self.old.system) (S.world self.new.system) }
         ensures calls { self.new.calls ≡ self.old.calls }

@@ -1,34 +1,35 @@
 // The system calls of a Maildir in memory.
-ghost use Rattle.std.specs.Prelude.{◌≡◌, ◌≤◌, ◌++◌, [], IfOk};
+ghost use Rattle.std.specs.Prelude.{◌≡◌, ◌≤◌, ◌+◌, ◌++◌, ◌∷◌, [], All, IfErr, IfOk, IsTrue, OnOk, get_or, length};
+ghost use Rattle.std.specs.FinMap.{contains_key};
 ghost use Rattle.std.specs.IoError.{error_kind};
-ghost use Rattle.std.specs.Time.{system_time_nanos};
 ghost use Rattle.std.specs.declared.io.ErrorKind.TheVariants.{NotFound};
-ghost use Rattle.maildir_run.specs.Cuts.{Left};
+ghost use Rattle.maildir_run.specs.Calls.{Called, CalledQuietly, effect};
+ghost use Rattle.maildir_run.specs.Calls.Call.{Writing, Placing, Removing};
+ghost use Rattle.maildir_run.specs.Cuts.{Leaves, Left};
+ghost use Rattle.maildir_run.specs.MemFiles.{no_files};
 ghost use Rattle.maildir_run.specs.MemFolder.{IsQuiet, files_of};
-ghost use Rattle.maildir_disk.specs.World.{Acts, IsOfChange, Passes};
-ghost use Rattle.maildir_disk.specs.Quiet.{SameFiles};
-ghost use Rattle.maildir_disk.specs.MemSystem.{HasNoTurns, all_is_left, opened_as, world_of};
+ghost use Rattle.maildir_run.specs.Script.{all_performed};
+ghost use Rattle.maildir_disk.specs.Cases.{HasRoom, Keeps, lefts_of};
+ghost use Rattle.maildir_disk.specs.World.{Acts, Passes};
+ghost use Rattle.maildir_disk.specs.Paths.{folder_of_place};
+ghost use Rattle.maildir_disk.specs.Placing.{WasGone};
+ghost use Rattle.maildir_disk.specs.Quiet.{AppendedQuietly, SameFiles};
+ghost use Rattle.maildir_disk.specs.Writing.{Appended, Created};
+ghost use Rattle.maildir_disk.specs.MemSystem.{HasNoTurns, MayLose, MayLoseFronts, cases_of, may_be_left, opened_as, world_of};
 ghost use Rattle.maildir_disk.specs.PowerCuts.{LeavesOthers};
 
+use crate::cases::{Cases, Change};
+use crate::faults::error_of;
+use crate::stamps::{Stamps, begin, stamp_at, tick};
 use crate::system::System;
 use maildir_name::Place;
-use maildir_run::{Act, Folder, FolderFault, MemFolder, Mode, ScriptLine, Sub};
+use maildir_run::{Act, Folder, FolderFault, MemFolder, Sub};
 use std::alloc::Global;
 use std::io;
-use std::io::ErrorKind;
-use std::time::{Duration, Instant, SystemTime, UNIX_EPOCH};
+use std::time::{Duration, Instant, SystemTime};
 
 // How long a call takes.
 const CALL_MICROS: u64 = 10;
-
-/// Which stamps a system in memory gives.
-#[derive(Clone, Copy, Debug, PartialEq, Eq)]
-pub enum Stamps {
-    /// The clock as it is.
-    Fine,
-    /// The clock without its part of a second.
-    WholeSeconds,
-}
 
 /// A file of `tmp` in memory that is open for writing.
 #[derive(Drop)]
@@ -39,6 +40,10 @@ pub struct MemFile {
 /// A Maildir in memory, with clocks. In each call that only looks, and before each step of a write, other programs act
 /// once, as the turns say, which are taken from the end. A folder that is changed while it is read gives no names, and a
 /// write takes half of its bytes.
+///
+/// Once it may [`lose`](MemSystem::lose), a power cut leaves each change or loses it until a sync keeps it: a file that was
+/// made, any front of the bytes that were appended, a rename, half of another program's. Before the Maildir is synced it
+/// may be gone.
 #[derive(Drop)]
 pub struct MemSystem {
     alloc: Global,
@@ -49,10 +54,15 @@ pub struct MemSystem {
     // of each of the three folders
     stamp: SystemTime,
     turns: Vec<Vec<Act>>,
+    // what a cut may leave, beside the files as they are
+    cases: Cases,
+    is_rooted: bool,
+    // before each call fails
+    calls_left: u64,
 }
 
 impl MemSystem {
-    /// A Maildir that was last changed at this time, by the clocks as they are.
+    /// A Maildir that was last changed at this time, by the clocks as they are. A power cut takes nothing from it.
     pub fn new(
         alloc: Global,
         mut folder: MemFolder,
@@ -64,6 +74,10 @@ impl MemSystem {
         ensures honest { ⟦<MemSystem as System>⟧.honest result }
         ensures quiet { turns.items ≡ [] → ⟦<MemSystem as System>⟧.quiet result }
         ensures files { files_of result.folder ≡ files_of folder }
+        ensures clock { result.clock ≡ clock }
+        ensures turns { result.turns ≡ turns }
+        ensures stamps { result.stamps ≡ stamps }
+        ensures left { cases_of result ≡ files_of folder ∷ [] }
     {
         folder.script(Vec::new(alloc), None);
         MemSystem {
@@ -74,7 +88,67 @@ impl MemSystem {
             instant,
             stamp: clock,
             turns,
+            cases: Cases::none(alloc),
+            is_rooted: true,
+            calls_left: u64::MAX,
         }
+    }
+
+    /// From now on a power cut may lose what was not synced, and the Maildir itself. So many cases of what it leaves are
+    /// kept in mind beside the files as they are; there is none beyond them.
+    pub fn lose(&mut self, room: usize)
+        ensures honest { ⟦<MemSystem as System>⟧.honest self.old → ⟦<MemSystem as System>⟧.honest self.new }
+        ensures quiet { ⟦<MemSystem as System>⟧.quiet self.old → ⟦<MemSystem as System>⟧.quiet self.new }
+        ensures files { files_of self.new.folder ≡ files_of self.old.folder }
+        ensures room { self.new.cases.room ≡ room }
+        ensures calls { self.new.calls_left ≡ self.old.calls_left }
+        ensures left { cases_of self.new ≡ lefts_of self.old.cases ++ (files_of self.old.folder ∷ (no_files ∷ [])) }
+    {
+        self.cases.room = room;
+        self.is_rooted = false;
+    }
+
+    /// So many calls are answered, and from then on each one fails without effect. To wait is no call.
+    pub fn fail_after(&mut self, calls: u64)
+        ensures { self.new ≡ record self.old { calls_left = calls } }
+    {
+        self.calls_left = calls;
+    }
+
+    /// The files as they are.
+    pub fn folder(&self) -> &MemFolder
+        ensures { result.now ≡ self.now.folder }
+    {
+        &self.folder
+    }
+
+    /// How many cases there are of what a power cut leaves.
+    pub fn cases(&self) -> usize
+        ensures { result ≡ length (cases_of self.now) }
+    {
+        self.cases
+            .folders
+            .len()
+            .saturating_add(if self.is_rooted { 1 } else { 2 })
+    }
+
+    /// A power cut, which leaves the case of this number, or the files as they are where there are not so many.
+    pub fn cut(&mut self, case: usize)
+        ensures honest { ⟦<MemSystem as System>⟧.honest self.new }
+        ensures quiet { ⟦<MemSystem as System>⟧.quiet self.old → ⟦<MemSystem as System>⟧.quiet self.new }
+        ensures found { files_of self.new.folder ≡ get_or (cases_of self.old) case (files_of self.old.folder) }
+        ensures stays { All (λ left. left ≡ files_of self.new.folder) (cases_of self.new) }
+        ensures calls { self.new.calls_left ≡ self.old.calls_left }
+    {
+        let behind = case.saturating_sub(self.cases.folders.len());
+        if case < self.cases.folders.len() {
+            self.folder = self.cases.folders.swap_remove(case);
+        } else if behind == 1 && !self.is_rooted {
+            self.folder = MemFolder::new(self.alloc);
+        }
+        self.folder.script(Vec::new(self.alloc), None);
+        self.cases.folders.clear();
+        self.is_rooted = self.is_rooted || behind != 1;
     }
 
     // Time passes, and other programs have their turn.
@@ -85,65 +159,56 @@ impl MemSystem {
         ensures quiet { HasNoTurns self.old → HasNoTurns self.new }
         ensures alone { HasNoTurns self.old → SameFiles (world_of self.old) (world_of self.new) }
         ensures same { HasNoTurns self.old → self.new.stamp ≡ self.old.stamp }
+        ensures left { Left LeavesOthers (may_be_left self.old) (may_be_left self.new) }
+        ensures keeps { OnOk result (Keeps (may_be_left self.old) (may_be_left self.new) self.old.cases self.new.cases) }
+        ensures root { self.new.is_rooted ≡ self.old.is_rooted }
+        ensures calls { self.new.calls_left ≡ self.old.calls_left }
+        ensures refused { IfErr result (λ fault. fault ≡ FolderFault.OutOfMemory) }
     {
-        self.tick(pause);
+        tick(&mut self.clock, &mut self.instant, pause);
         match self.turns.pop() {
-            Some(acts) if !acts.is_empty() => self.act(acts),
+            Some(acts) if !acts.is_empty() => self.act(&acts),
             _ => Ok(()),
         }
     }
 
-    // Both clocks go on, as far as they go.
-    fn tick(&mut self, pause: Duration)
-        ensures folder { self.new.folder ≡ self.old.folder }
-        ensures stamp { self.new.stamp ≡ self.old.stamp }
-        ensures turns { self.new.turns ≡ self.old.turns }
-        ensures later { system_time_nanos self.old.clock ≤ system_time_nanos self.new.clock }
-    {
-        if let Some(later) = self.clock.checked_add(pause) {
-            self.clock = later;
-        }
-        if let Some(later) = self.instant.checked_add(pause) {
-            self.instant = later;
-        }
-    }
-
+    // A call that takes a while, or fails.
     fn pass_shortly(&mut self) -> io::Result<()>
         ensures honest { IsQuiet self.old.folder → IsQuiet self.new.folder }
         ensures acts { Acts (world_of self.old) (world_of self.new) }
         ensures passes { (sub : Sub) → Passes sub (world_of self.old) (world_of self.new) }
-        ensures left { Left LeavesOthers (all_is_left self.old) (all_is_left self.new) }
+        ensures left { Left LeavesOthers (may_be_left self.old) (may_be_left self.new) }
         ensures quiet { HasNoTurns self.old → HasNoTurns self.new }
         ensures alone { HasNoTurns self.old → SameFiles (world_of self.old) (world_of self.new) }
         ensures same { HasNoTurns self.old → self.new.stamp ≡ self.old.stamp }
+        ensures keeps { OnOk result (Keeps (may_be_left self.old) (may_be_left self.new) self.old.cases self.new.cases) }
+        ensures root { self.new.is_rooted ≡ self.old.is_rooted }
+        ensures calls { OnOk result (self.old.calls_left ≡ self.new.calls_left + 1) }
     {
+        begin(&mut self.calls_left)?;
         self.pass(Duration::from_micros(CALL_MICROS))
             .map_err(error_of)
     }
 
     // Other programs do this, and the folders are stamped.
-    fn act(&mut self, acts: Vec<Act>) -> Result<(), FolderFault>
+    fn act(&mut self, acts: &[Act]) -> Result<(), FolderFault>
         ensures honest { IsQuiet self.old.folder → IsQuiet self.new.folder }
         ensures acts { Acts (world_of self.old) (world_of self.new) }
         ensures passes { (sub : Sub) → Passes sub (world_of self.old) (world_of self.new) }
+        ensures left { Left LeavesOthers (may_be_left self.old) (may_be_left self.new) }
+        ensures keeps { OnOk result (Keeps (may_be_left self.old) (may_be_left self.new) self.old.cases self.new.cases) }
+        ensures done { OnOk result (files_of self.new.folder ≡ all_performed acts.now (files_of self.old.folder)) }
+        ensures root { self.new.is_rooted ≡ self.old.is_rooted }
+        ensures calls { self.new.calls_left ≡ self.old.calls_left }
+        ensures refused { IfErr result (λ fault. fault ≡ FolderFault.OutOfMemory) }
     {
-        let mut lines = Vec::new(self.alloc);
-        lines.push(ScriptLine {
-            call: 1,
-            acts,
-            mode: Mode::Plain,
-        })?;
-        self.folder.script(lines, None);
-        let answer = self.folder.list(Sub::Tmp);
-        self.folder.script(Vec::new(self.alloc), None);
         self.stamp = stamp_at(self.clock, self.stamps);
-        answer?;
-        Ok(())
+        self.cases.act(&mut self.folder, acts)
     }
 }
 
 impl System for MemSystem {
-    ghost use Rattle.maildir_disk.specs.MemSystem.{HasNoTurns, all_is_left, opened_as, world_of};
+    ghost use Rattle.maildir_disk.specs.MemSystem.{HasNoTurns, may_be_left, opened_as, world_of};
 
     type File = MemFile;
 
@@ -153,9 +218,9 @@ impl System for MemSystem {
 
     ghost is_current = { λ _ _. Unit {0} };
 
-    ghost may_leave = { all_is_left };
+    ghost may_leave = { may_be_left };
 
-    ghost rooted = { λ _. Unit {0} };
+    ghost rooted = { λ system. IsTrue system.is_rooted };
 
     ghost honest = { λ system. IsQuiet system.folder };
 
@@ -197,11 +262,25 @@ impl System for MemSystem {
         let _ = self.pass(pause);
     }
 
-    fn create(&mut self, name: &str) -> io::Result<MemFile> {
+    fn create(&mut self, name: &str) -> io::Result<MemFile>
+        ensures honest { IsQuiet self.old.folder → IsQuiet self.new.folder }
+        ensures name { IsQuiet self.old.folder → IfOk result (λ file. opened_as file ≡ name.now) }
+        ensures current { IsQuiet self.old.folder → IfOk result (λ file. Unit {0}) }
+        ensures created { IsQuiet self.old.folder → Created name.now (world_of self.old) result (world_of self.new) }
+        ensures left { IsQuiet self.old.folder → Left (Leaves (Writing name.now [])) (may_be_left self.old) (may_be_left self.new) }
+        ensures quiet { HasNoTurns self.old → HasNoTurns self.new }
+        ensures alone { HasNoTurns self.old →
+            CalledQuietly (Writing name.now []) (files_of self.old.folder) result (files_of self.new.folder) }
+        ensures loses { IsQuiet self.old.folder →
+            OnOk result (HasRoom self.new.cases → MayLose (effect (Writing name.now [])) self.old self.new) }
+    {
         let file = MemFile {
             name: String::from_str(self.alloc, name)?,
         };
         self.pass_shortly()?;
+        self.cases
+            .may_lose(&self.folder, &Change::Make(name))
+            .map_err(error_of)?;
         self.stamp = stamp_at(self.clock, self.stamps);
         match self.folder.write(name, &[]) {
             Ok(()) => Ok(file),
@@ -209,24 +288,59 @@ impl System for MemSystem {
         }
     }
 
-    fn append(&mut self, file: &mut MemFile, bytes: &[u8]) -> io::Result<usize> {
+    fn append(&mut self, file: &mut MemFile, bytes: &[u8]) -> io::Result<usize>
+        ensures most { IfOk result (λ n. n ≤ length bytes.now) }
+        ensures honest { IsQuiet self.old.folder → IsQuiet self.new.folder }
+        ensures name { opened_as file.new ≡ opened_as file.old }
+        ensures current { IsQuiet self.old.folder → Unit {0} → Unit {0} }
+        ensures appended { IsQuiet self.old.folder → Unit {0} →
+            Appended (opened_as file.old) bytes.now (world_of self.old) result (world_of self.new) }
+        ensures left { IsQuiet self.old.folder → Left (Leaves (Writing (opened_as file.old) [])) (may_be_left self.old) (may_be_left self.new) }
+        ensures quiet { HasNoTurns self.old → HasNoTurns self.new }
+        ensures alone { HasNoTurns self.old → Unit {0} →
+            AppendedQuietly (opened_as file.old) bytes.now (files_of self.old.folder) result (files_of self.new.folder) }
+        ensures loses { IsQuiet self.old.folder → IfOk result (λ n. HasRoom self.new.cases →
+            IsTrue (contains_key (files_of self.new.folder).tmp (opened_as file.old)) → MayLoseFronts (opened_as file.old) bytes.now n self.old self.new) }
+    {
         self.pass_shortly()?;
         let taken = bytes.len() - bytes.len() / 2;
         let Some(held) = self.folder.bytes_of(Sub::Tmp, file.name.as_str()) else {
             return Ok(taken);
         };
+        let before = held.len();
         let holds = joined(self.alloc, held, &bytes[..taken])?;
+        self.cases
+            .may_lose_bytes(&self.folder, file.name.as_str(), &holds, before)
+            .map_err(error_of)?;
         match self.folder.write(file.name.as_str(), &holds) {
             Ok(()) => Ok(taken),
             Err(fault) => Err(error_of(fault)),
         }
     }
 
-    fn sync_file(&mut self, _file: &MemFile) -> io::Result<()> {
-        self.pass_shortly()
+    fn sync_file(&mut self, file: &MemFile) -> io::Result<()> {
+        self.pass_shortly()?;
+        self.cases.keep_file(&self.folder, file.name.as_str());
+        Ok(())
     }
 
-    fn rename(&mut self, name: &str, place: Place, target: &str) -> io::Result<()> {
+    fn rename(&mut self, name: &str, place: Place, target: &str) -> io::Result<()>
+        ensures honest { IsQuiet self.old.folder → IsQuiet self.new.folder }
+        ensures called { IsQuiet self.old.folder →
+            Called (Placing name.now place target.now) (files_of self.old.folder) result (files_of self.new.folder) }
+        ensures gone { IsQuiet self.old.folder → IfErr result (λ error. error_kind error ≡ NotFound →
+            WasGone name.now (Placing name.now place target.now) (files_of self.old.folder) (files_of self.new.folder)) }
+        ensures left { IsQuiet self.old.folder → Left (Leaves (Placing name.now place target.now)) (may_be_left self.old) (may_be_left self.new) }
+        ensures quiet { HasNoTurns self.old → HasNoTurns self.new }
+        ensures alone { HasNoTurns self.old →
+            CalledQuietly (Placing name.now place target.now) (files_of self.old.folder) result (files_of self.new.folder) }
+        ensures loses { IsQuiet self.old.folder →
+            OnOk result (HasRoom self.new.cases → MayLose (effect (Placing name.now place target.now)) self.old self.new) }
+    {
+        begin(&mut self.calls_left)?;
+        self.cases
+            .may_lose(&self.folder, &Change::Place(name, place, target))
+            .map_err(error_of)?;
         self.stamp = stamp_at(self.clock, self.stamps);
         match self.folder.place(name, place, target) {
             Ok(()) => Ok(()),
@@ -234,31 +348,47 @@ impl System for MemSystem {
         }
     }
 
-    fn unlink(&mut self, name: &str) -> io::Result<()> {
+    fn unlink(&mut self, name: &str) -> io::Result<()>
+        ensures honest { IsQuiet self.old.folder → IsQuiet self.new.folder }
+        ensures called { IsQuiet self.old.folder →
+            Called (Removing name.now) (files_of self.old.folder) result (files_of self.new.folder) }
+        ensures left { IsQuiet self.old.folder → Left (Leaves (Removing name.now)) (may_be_left self.old) (may_be_left self.new) }
+        ensures quiet { HasNoTurns self.old → HasNoTurns self.new }
+        ensures alone { HasNoTurns self.old →
+            CalledQuietly (Removing name.now) (files_of self.old.folder) result (files_of self.new.folder) }
+        ensures loses { IsQuiet self.old.folder →
+            OnOk result (HasRoom self.new.cases → MayLose (effect (Removing name.now)) self.old self.new) }
+    {
+        begin(&mut self.calls_left)?;
+        self.cases
+            .may_lose(&self.folder, &Change::Remove(name))
+            .map_err(error_of)?;
         self.stamp = stamp_at(self.clock, self.stamps);
-        self.folder.remove(name).map_err(error_of)
+        match self.folder.remove(name) {
+            Ok(()) => Ok(()),
+            Err(fault) => Err(error_of(fault)),
+        }
     }
 
-    fn sync_folder(&mut self, _place: Place) -> io::Result<()> {
-        self.pass_shortly()
+    fn sync_folder(&mut self, place: Place) -> io::Result<()> {
+        self.pass_shortly()?;
+        self.cases.keep_names(&self.folder, sub_of(place));
+        Ok(())
     }
 
     fn sync_root(&mut self) -> io::Result<()> {
-        self.pass_shortly()
+        self.pass_shortly()?;
+        self.is_rooted = true;
+        Ok(())
     }
 }
 
-fn stamp_at(clock: SystemTime, stamps: Stamps) -> SystemTime
-    ensures { IsOfChange (system_time_nanos clock) (system_time_nanos clock) (system_time_nanos result) }
+fn sub_of(place: Place) -> Sub
+    ensures { result ≡ folder_of_place place }
 {
-    match clock.duration_since(UNIX_EPOCH) {
-        Ok(since) if stamps == Stamps::WholeSeconds => {
-            match clock.checked_sub(Duration::from_nanos(u64::from(since.subsec_nanos()))) {
-                Some(second) => second,
-                None => clock,
-            }
-        }
-        _ => clock,
+    match place {
+        Place::New => Sub::New,
+        Place::Cur => Sub::Cur,
     }
 }
 
@@ -268,14 +398,4 @@ fn joined(alloc: Global, front: &[u8], rest: &[u8]) -> io::Result<Vec<u8>>
     let mut bytes = Vec::from_slice(alloc, front)?;
     bytes.extend_from_slice(rest)?;
     Ok(bytes)
-}
-
-fn error_of(fault: FolderFault) -> io::Error
-    ensures { error_kind result ≡ NotFound → fault ≡ FolderFault.Absent }
-{
-    io::Error::from(match fault {
-        FolderFault::Absent => ErrorKind::NotFound,
-        FolderFault::Failed => ErrorKind::Other,
-        FolderFault::OutOfMemory => ErrorKind::OutOfMemory,
-    })
 }

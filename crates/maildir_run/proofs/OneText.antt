@@ -7,8 +7,9 @@ use Rattle.std.proofs.lemmas.Cmp.{eq_by_cmp_equiv}
 use Rattle.std.proofs.lemmas.List.Elements.{All-head, All-from_get_or}
 use Rattle.maildir_run.specs.Files.{Files, is_name}
 use Rattle.maildir_run.specs.Delivery.{Message, IsMissing, IsSoundAt, AreDistinct, Sound, is_base_of}
-use Rattle.maildir_run.specs.Runs.{Run, Link, Ran, Acted, Runs}
-use Rattle.maildir_run.specs.Several.{Text, IsText, HoldsGiven, SoundForAll, LinkOver, RanOver, ActedOver, RunsOver, link_over, link_of}
+use Rattle.maildir_run.specs.Runs.{Run, Link, Ran, Acted, Linked, Runs}
+use Rattle.maildir_run.specs.Several.{Text, IsText, HoldsGiven, SoundForAll, LinkOver, RanOver, ActedOver, LinkedOver, RunsOver, link_over, link_of}
+use Rattle.maildir_run.proofs.Chains.{chain_map}
 use Rattle.maildir_run.proofs.Maps.{total}
 use Rattle.maildir_run.proofs.MessageLemmas.{text_distinct}
 use Rattle.maildir_run.proofs.Numbers.{any_at}
@@ -60,13 +61,16 @@ only_one : (text other : Text) → Contains (text ∷ []) other → other ≡ te
 only_one text other (zero, below, is) = sym is
 only_one text other (suc k, below, is) = absurd (omega (arith, below))
 
+one_link : (text : Text) (link : LinkOver) (a b : Files) → LinkedOver (text ∷ []) link a b → Linked text.bytes (link_of link) a b
+one_link text (RanOver other answer) a b (among, run) = subst (λ (x : Text). Run x.bytes a answer b) (only_one text other among) run
+one_link text (ActedOver action) a b e = e
+
+link_one : (text : Text) (link : Link) (a b : Files) → Linked text.bytes link a b → LinkedOver (text ∷ []) (link_over text link) a b
+link_one text (Ran answer) a b run = ((0, omega arith, refl), run)
+link_one text (Acted action) a b e = e
+
 pub one_runs : (text : Text) (links : List LinkOver) (old new : Files) → RunsOver (text ∷ []) links old new → Runs text.bytes (map link_of links) old new
-one_runs text [] old new e = e
-one_runs text (RanOver other answer ∷ links) old new (mid, (among, run), rest) =
-    (mid, subst (λ (x : Text). Run x.bytes old answer mid) (only_one text other among) run, one_runs text links mid new rest)
-one_runs text (ActedOver action ∷ links) old new (mid, e, rest) = (mid, e, one_runs text links mid new rest)
+one_runs text = chain_map (LinkedOver (text ∷ [])) (Linked text.bytes) link_of (one_link text)
 
 pub runs_one : (text : Text) (links : List Link) (old new : Files) → Runs text.bytes links old new → RunsOver (text ∷ []) (map (link_over text) links) old new
-runs_one text [] old new e = e
-runs_one text (Ran answer ∷ links) old new (mid, run, rest) = (mid, ((0, omega arith, refl), run), runs_one text links mid new rest)
-runs_one text (Acted action ∷ links) old new (mid, e, rest) = (mid, e, runs_one text links mid new rest)
+runs_one text = chain_map (Linked text.bytes) (LinkedOver (text ∷ [])) (link_over text) (link_one text)

@@ -1,5 +1,5 @@
 -- What a script makes of a folder in memory is what other programs and a call may do.
-use Rattle.std.proofs.Common.{◌≡◌, ℕ, Bool, true, false, cond, not, List, [], ◌∷◌, ◌++◌, length, take, drop, get_or, ◌<◌, ◌+◌, ◌==◌, map, Some, None, Result, Ok, Err, IsTrue, IsFalse, IsOk, IsErrOf, OnErr, string_bytes, IsPermutation, ◌&&◌, ◌/◌, append-nil, refl, sym, ap, subst, ◌∙◌, inl, inr, append_assoc, suc}
+use Rattle.std.proofs.Common.{◌≡◌, ℕ, Bool, true, false, cond, not, List, [], ◌∷◌, ◌++◌, length, take, drop, get_or, ◌<◌, ◌+◌, ◌==◌, map, Option, Some, None, Result, Ok, Err, IsTrue, IsFalse, IsOk, IsErrOf, OnErr, string_bytes, IsPermutation, ◌&&◌, ◌/◌, append-nil, refl, sym, ap, subst, ◌∙◌, inl, inr, append_assoc, suc}
 use Rattle.std.proofs.Math.Seq.{drop-cons}
 use Rattle.std.proofs.lemmas.Bool.{false_from_ne_true}
 use Rattle.std.proofs.lemmas.List.{take_more, take-append-drop}
@@ -21,8 +21,9 @@ use Rattle.maildir_run.specs.declared.script.Mode.TheVariants.{Plain, FailBefore
 use Rattle.maildir_run.specs.declared.script.ScriptLine.{ScriptLine}
 use Rattle.maildir_run.specs.Files.{Files, FileMap, Action, ToCur, Reflag, DropTmp, Outside, acted, all_acted, is_name, may_take, AgreeOnConverters, LeavesConverters}
 use Rattle.maildir_run.specs.Calls.{Call, Listing, Writing, Placing, Move, Other, Again, Torn, placed, effect, after, IsOthers, IsWhole, IsReady, folder_of, Failed, Lists, Called}
+use Rattle.maildir_run.specs.Cuts.{linked}
 use Rattle.maildir_run.specs.MemFiles.{with_file, without_file}
-use Rattle.maildir_run.specs.Script.{performed, all_performed, acts_at, IsCutShort, IsPart, Answers, halved, fails, done}
+use Rattle.maildir_run.specs.Script.{performed, all_performed, acts_at, may_link, IsCutShort, IsPart, Answers, halved, fails, done}
 use Rattle.maildir_run.proofs.Maps.{total, is_name-true, outside, apart, remove-insert}
 use Rattle.maildir_run.proofs.Moves.{after-append}
 use Rattle.maildir_run.proofs.Outsiders.{outside_reaches}
@@ -52,7 +53,7 @@ guarded_action : (ours : Bool) (s t : Files) → (ours ≡ false → LeavesConve
 guarded_action true s t leaves = (Outside s, sym (outside_reaches s s (record { tmp_alike = agrees s.tmp; new_alike = agrees s.new; cur_alike = agrees s.cur })))
 guarded_action false s t leaves = (Outside t, sym (outside_reaches s t (leaves refl)))
 
-an_action : (a : Act) (s : Files) → (action : Action) × (performed a s ≡ acted action s)
+pub an_action : (a : Act) (s : Files) → (action : Action) × (performed a s ≡ acted action s)
 an_action (act.ToCur name target) s = (ToCur (string_bytes name) (string_bytes target), refl)
 an_action (act.Reflag name target) s = (Reflag (string_bytes name) (string_bytes target), refl)
 an_action (act.DropTmp name) s = (DropTmp (string_bytes name), refl)
@@ -137,10 +138,16 @@ pub not_cut : (acts : List Act) (s t : Files) → acts ≡ [] → IsCutShort act
 not_cut acts s t none cut = no_parts cut.made cut.refused cut.rest (sym none ∙ cut.parts)
 
 -- ---- a file under another name
-pub reflagged : (s : Files) (name target bytes : List ℕ) (there : FileMap) → get s.cur name ≡ Some bytes → may_take s.cur name target ≡ true → there ≡ remove (insert s.cur target bytes) name → record s { cur = there } ≡ acted (Reflag name target) s
+reflagged : (s : Files) (name target bytes : List ℕ) (there : FileMap) → get s.cur name ≡ Some bytes → may_take s.cur name target ≡ true → there ≡ remove (insert s.cur target bytes) name → record s { cur = there } ≡ acted (Reflag name target) s
 reflagged s name target bytes there has free is =
     let apart_names : is_name name target ≡ false = other_name s.cur name target bytes has (free_of (contains_key s.cur target) _ free) in
     rw (has, free, is, remove-insert s.cur name target bytes apart_names) refl
+
+-- one that was put under another name, and is then taken from the old one
+pub unlinked : (s mid : Files) (name target : List ℕ) (o : Option (List ℕ)) → get s.cur name ≡ o → may_link s name target o ≡ true → mid ≡ linked s name target o → record mid { cur = remove mid.cur name } ≡ acted (Reflag name target) s
+unlinked s mid name target None has may is = cc
+unlinked s mid name target (Some bytes) has may is =
+    ap (λ (t : Files). record t { cur = remove t.cur name }) is ∙ rw may (reflagged s name target bytes (remove (insert s.cur target bytes) name) has may refl)
 
 -- ---- calls
 after_others : (done : List Action) (s : Files) (call : Call) → after s call (map Other done) ≡ all_acted done s

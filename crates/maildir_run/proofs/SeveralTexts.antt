@@ -19,6 +19,7 @@ use Rattle.maildir_run.specs.Delivery.{Message, IsMissing, IsHome, IsSoundAt, So
 use Rattle.maildir_run.specs.Runs.{Run}
 use Rattle.maildir_run.specs.Several.{Text, IsText, OfEach, is_base_of_any, HoldsGiven, SoundForAll, LinkOver, RanOver, ActedOver, LinkedOver, RunsOver, HaveOwnDigests, IsUnknown, count_in, most_delivered, most_tried, StandsAfter}
 use Rattle.maildir_run.proofs.Maps.{is_name-refl}
+use Rattle.maildir_run.proofs.Chains.{chain_fold, chain_keeps, chain_at, sound_now}
 use Rattle.maildir_run.proofs.Homes.{acted_kept}
 use Rattle.maildir_run.proofs.Moves.{homes_none, homes_one}
 use Rattle.maildir_run.proofs.MessageLemmas.{text_named}
@@ -126,7 +127,7 @@ module _ (texts : List Text) (are : All IsText texts) (own : HaveOwnDigests text
       (levels (get_or text.messages i d).body (record { text = text; among = among; m = get_or text.messages i d; inside = Contains-get_or text.messages i d below; is = refl }))
 
   level_sound : (text : Text) → Contains texts text → (s : Files) → AreLevel s → Sound text.messages s s
-  level_sound text among s levels = record { own = level_sound_at text among s levels; others = λ b named off. IsPermutation-refl _ }
+  level_sound text among s levels = sound_now text.messages s (level_sound_at text among s levels)
 
   ran_rise : (text : Text) → Contains texts text → (answer : Result Report RunFault) (old new : Files) → AreLevel old → Run text.bytes old answer new → (b : List ℕ) → IsBodyOf texts b → (l : Level b old) → Rise b (count_in b text) l.n answer new
   ran_rise text among answer old new levels run b is l =
@@ -160,29 +161,36 @@ module _ (texts : List Text) (are : All IsText texts) (own : HaveOwnDigests text
   ran_levels text among answer old new levels run b is =
       rise_level text among answer new b (levels b is).n (levels b is).small (ran_rise text among answer old new levels run b is (levels b is))
 
-  chain_grown : (links : List LinkOver) (old new : Files) → AreLevel old → RunsOver texts links old new → (b : List ℕ) → IsBodyOf texts b → (l : Level b old) → Grown links b l.n new
-  chain_grown [] old new levels e b is l =
-      subst (Grown [] b l.n) (sym e) (record { level = l; from = omega arith; at_least = omega arith; at_most = omega arith })
-  chain_grown (RanOver text answer ∷ links) old new levels (mid, (among, run), rest) b is l =
+  -- ---- what a link leaves, and a chain of them
+  linked_levels : (link : LinkOver) (old new : Files) → AreLevel old → LinkedOver texts link old new → AreLevel new
+  linked_levels (RanOver text answer) old new levels (among, run) = ran_levels text among answer old new levels run
+  linked_levels (ActedOver action) old new levels e = subst AreLevel (sym e) (λ b is. acted_level action old b (levels b is))
+
+  -- from here to the chain's end each body has grown
+  abbrev Grows : Files → List LinkOver → Files → Type 0
+  Grows new links s = AreLevel s → (b : List ℕ) → IsBodyOf texts b → (l : Level b s) → Grown links b l.n new
+
+  linked_grows : (new : Files) (link : LinkOver) (links : List LinkOver) (old mid : Files) → LinkedOver texts link old mid → Grows new links mid → Grows new (link ∷ links) old
+  linked_grows new (RanOver text answer) links old mid (among, run) rest levels b is l =
       let r = ran_rise text among answer old mid levels run b is l in
-      grown_ran text answer links b l.n mid new r
-      (chain_grown links mid new (ran_levels text among answer old mid levels run) rest b is (rise_level text among answer mid b l.n l.small r))
-  chain_grown (ActedOver action ∷ links) old new levels (mid, e, rest) b is l =
-      let runs : RunsOver texts links (acted action old) new = subst (λ s. RunsOver texts links s new) e rest in
-      let g = chain_grown links (acted action old) new (λ x at. acted_level action old x (levels x at)) runs b is (acted_level action old b l) in
+      grown_ran text answer links b l.n mid new r (rest (ran_levels text among answer old mid levels run) b is (rise_level text among answer mid b l.n l.small r))
+  linked_grows new (ActedOver action) links old mid e rest levels b is l =
+      let g = subst (Grows new links) e rest (λ x at. acted_level action old x (levels x at)) b is (acted_level action old b l) in
       record { level = g.level; from = g.from; at_least = g.at_least; at_most = g.at_most }
 
+  chain_grown : (links : List LinkOver) (old new : Files) → RunsOver texts links old new → Grows new links old
+  chain_grown links old new =
+      chain_fold (LinkedOver texts) (Grows new) new (λ levels b is l. record { level = l; from = omega arith; at_least = omega arith; at_most = omega arith }) (linked_grows new) links old
+
+  linked_others : (x : List ℕ) → IsTrue (is_converter_base x) → is_base_of_any texts x ≡ false → (link : LinkOver) (old new : Files) → AreLevel old → LinkedOver texts link old new → IsPermutation (homes old x) (homes new x)
+  linked_others x named off (RanOver text answer) old new levels (among, run) =
+      let keeps = run.keeps text.messages (text_at text among).are (level_sound text among old levels) in
+      keeps.sound.others x named (none_at (λ (y : Text). is_base_of y.messages x) texts text off among)
+  linked_others x named off (ActedOver action) old new levels e = subst (λ s. IsPermutation (homes old x) (homes s x)) (sym e) (acted_kept x named action old)
+
   chain_others : (links : List LinkOver) (old new : Files) → AreLevel old → RunsOver texts links old new → (x : List ℕ) → IsTrue (is_converter_base x) → is_base_of_any texts x ≡ false → IsPermutation (homes old x) (homes new x)
-  chain_others [] old new levels e x named off = subst (λ s. IsPermutation (homes old x) (homes s x)) (sym e) (IsPermutation-refl _)
-  chain_others (RanOver text answer ∷ links) old new levels (mid, (among, run), rest) x named off =
-      let t = text_at text among in
-      let keeps = run.keeps text.messages t.are (level_sound text among old levels) in
-      IsPermutation-trans _ _ _ (keeps.sound.others x named (none_at (λ (y : Text). is_base_of y.messages x) texts text off among))
-      (chain_others links mid new (ran_levels text among answer old mid levels run) rest x named off)
-  chain_others (ActedOver action ∷ links) old new levels (mid, e, rest) x named off =
-      let runs : RunsOver texts links (acted action old) new = subst (λ s. RunsOver texts links s new) e rest in
-      IsPermutation-trans _ _ _ (acted_kept x named action old)
-      (chain_others links (acted action old) new (λ y at. acted_level action old y (levels y at)) runs x named off)
+  chain_others links old new levels runs x named off =
+      (chain_keeps (LinkedOver texts) (λ s. AreLevel s × IsPermutation (homes old x) (homes s x)) (λ link a b at linked. (linked_levels link a b at.0 linked, IsPermutation-trans _ _ _ at.1 (linked_others x named off link a b at.0 linked))) links old new (levels, IsPermutation-refl _) runs).1
 
   abbrev levels_at_start : (s : Files) → OfEach (λ m. IsUnknown s m.body) texts → AreLevel s
   levels_at_start s unknown b is =
@@ -211,24 +219,18 @@ module _ (texts : List Text) (are : All IsText texts) (own : HaveOwnDigests text
       let b = (get_or (get_or texts k d).messages i e).body in
       let is = body_at k d below i e inside in
       let start = levels_at_start old unknown in
-      let g = chain_grown links old new start runs b is (levels_at_start old unknown b is) in
+      let g = chain_grown links old new runs start b is (levels_at_start old unknown b is) in
       record { n = g.level.n; there = g.level.there; at_least = g.at_least; at_most = omega (arith, g.at_most) }
-
-  ran_among : (links : List LinkOver) (old new : Files) (text : Text) (answer : Result Report RunFault) → RunsOver texts links old new → Contains links (RanOver text answer) → Contains texts text
-  ran_among [] old new text answer runs (k, below, is) = absurd (omega (arith, below))
-  ran_among (link ∷ links) old new text answer (mid, linked, rest) (zero, below, is) =
-      let ran : LinkedOver texts (RanOver text answer) old mid = subst (λ l. LinkedOver texts l old mid) is linked in ran.0
-  ran_among (link ∷ links) old new text answer (mid, linked, rest) (suc k, below, is) = ran_among links mid new text answer rest (k, omega (arith, below), is)
 
   pub chain_whole : (links : List LinkOver) (old new : Files) (text : Text) (report : Report) → OfEach (λ m. IsUnknown old m.body) texts → RunsOver texts links old new → Contains links (RanOver text (Ok report)) → All (IsHome new) text.messages
   chain_whole links old new text report unknown runs ran i d below =
       let ms = text.messages in
       let b = (get_or ms i d).body in
-      let among = ran_among links old new text (Ok report) runs ran in
+      let among = (chain_at (LinkedOver texts) (RanOver text (Ok report)) links old new runs ran).2.0 in
       let t = text_at text among in
       let is : IsBodyOf texts b = record { text = text; among = among; m = get_or ms i d; inside = Contains-get_or ms i d below; is = refl } in
       let start = levels_at_start old unknown in
-      let g = chain_grown links old new start runs b is (start b is) in
+      let g = chain_grown links old new runs start b is (start b is) in
       let count = delivered_count b links text report ran in
       let alike = counts_alike b ms (own_in text among b is) in
       let before = count-front (has_digest_of b) ms i d below (same_digest-refl b) in
@@ -237,7 +239,7 @@ module _ (texts : List Text) (are : All IsText texts) (own : HaveOwnDigests text
   pub chain_sound : (links : List LinkOver) (old new : Files) → OfEach (λ m. IsUnknown old m.body) texts → RunsOver texts links old new → SoundForAll texts old new
   chain_sound links old new unknown runs =
       let start = levels_at_start old unknown in
-      let levels : AreLevel new = λ b is. (chain_grown links old new start runs b is (start b is)).level in
+      let levels : AreLevel new = λ b is. (chain_grown links old new runs start b is (start b is)).level in
       record {
         own = λ k d below i e inside. home_given texts k d below i e inside new (level_sound_at (get_or texts k d) (Contains-get_or texts k d below) new levels i e inside);
         others = λ x named off. chain_others links old new start runs x named off;

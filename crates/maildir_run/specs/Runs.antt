@@ -49,6 +49,11 @@ pub record Run (t : List ℕ) (old : Files) (answer : Result Report RunFault) (n
 abbrev pub CountsRun : Report → ℕ → ℕ → Type 0
 CountsRun report old new = new % 2 ^ 128 ≡ (old + (3 + report.swept + 2 * report.placed)) % 2 ^ 128
 
+-- a finite chain of links, each from one moment to the next
+abbrev pub Chain : {L S : Type 0} → (L → S → S → Type 0) → List L → S → S → Type 0
+Chain step [] old new = new ≡ old
+Chain {L} {S} step (link ∷ links) old new = (mid : S) × step link old mid × Chain step links mid new
+
 -- a link of a chain: a run with this answer, or an action of another program
 pub data Link : Type 0 where
   Ran : (answer : Result Report RunFault) → Link
@@ -61,5 +66,4 @@ Linked t (Acted action) old new = new ≡ acted action old
 
 -- a finite chain of runs over a text, with any answers, and of other programs' actions
 abbrev pub Runs : List ℕ → List Link → Files → Files → Type 0
-Runs t [] old new = new ≡ old
-Runs t (l ∷ ls) old new = (mid : Files) × Linked t l old mid × Runs t ls mid new
+Runs t = Chain (Linked t)

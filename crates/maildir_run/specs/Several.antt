@@ -9,7 +9,7 @@ use Rattle.maildir_run.specs.declared.report.Report.{Report}
 use Rattle.maildir_run.specs.Files.{Files, Action, acted, homes, is_name}
 use Rattle.maildir_run.specs.Delivery.{Message, IsMissing, is_base_of}
 use Rattle.maildir_run.specs.Texts.{MessagesOf}
-use Rattle.maildir_run.specs.Runs.{Run, Link, Ran, Acted}
+use Rattle.maildir_run.specs.Runs.{Chain, Run, Link, Ran, Acted}
 
 -- a text, with its messages as a folder is to have them
 pub record Text : Type 0 where
@@ -66,8 +66,7 @@ LinkedOver texts (ActedOver action) old new = new ≡ acted action old
 
 -- a finite chain of runs over any of the texts, with any answers, and of other programs' actions
 abbrev pub RunsOver : List Text → List LinkOver → Files → Files → Type 0
-RunsOver texts [] old new = new ≡ old
-RunsOver texts (l ∷ ls) old new = (mid : Files) × LinkedOver texts l old mid × RunsOver texts ls mid new
+RunsOver texts = Chain (LinkedOver texts)
 
 -- distinct bodies of the texts have distinct digests
 abbrev pub HaveOwnDigests : List Text → Type 0

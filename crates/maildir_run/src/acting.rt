@@ -1,9 +1,12 @@
 // The acts of a script, as other programs would make them.
-ghost use Rattle.std.specs.Prelude.{◌≡◌, OnOk, OnErr};
+ghost use Rattle.std.specs.Prelude.{◌≡◌, IfOk, OnOk, OnErr};
+ghost use Rattle.std.specs.FinMap.{get};
+ghost use Rattle.maildir_run.specs.Calls.{folder_of};
+ghost use Rattle.maildir_run.specs.Cuts.{linked};
 ghost use Rattle.maildir_run.specs.Files.{acted, may_take};
 ghost use Rattle.maildir_run.specs.Files.Action.{ToCur, Reflag};
 ghost use Rattle.maildir_run.specs.MemFiles.{files_in};
-ghost use Rattle.maildir_run.specs.Script.{acts_at, performed, all_performed, IsCutShort};
+ghost use Rattle.maildir_run.specs.Script.{acts_at, performed, half_performed, all_performed, may_link, IsCutShort};
 
 use crate::file_tree::FileTree;
 use crate::folder::Sub;
@@ -36,7 +39,7 @@ impl MemFiles {
         Ok(())
     }
 
-    fn perform(&mut self, act: &Act) -> Result<(), AllocError>
+    pub(crate) fn perform(&mut self, act: &Act) -> Result<(), AllocError>
         ensures ok { OnOk result (files_in self.new ≡ performed act.now (files_in self.old)) }
         ensures err { OnErr result (files_in self.new ≡ files_in self.old) }
     {
@@ -64,20 +67,26 @@ impl MemFiles {
         }
     }
 
+    /// Makes half of an act: a file that is moved is under both names. Of any other act half is nothing.
+    pub(crate) fn perform_half(&mut self, act: &Act) -> Result<(), AllocError>
+        ensures ok { OnOk result (files_in self.new ≡ half_performed act.now (files_in self.old)) }
+        ensures err { OnErr result (files_in self.new ≡ files_in self.old) }
+    {
+        match act {
+            Act::ToCur(name, target) => self.link(Sub::New, name.as_str(), target.as_str())?,
+            Act::Reflag(name, target) => self.link(Sub::Cur, name.as_str(), target.as_str())?,
+            _ => false,
+        };
+        Ok(())
+    }
+
     fn move_to_cur(&mut self, name: &str, target: &str) -> Result<(), AllocError>
         ensures ok { OnOk result (files_in self.new ≡ acted (ToCur name.now target.now) (files_in self.old)) }
         ensures err { OnErr result (files_in self.new ≡ files_in self.old) }
     {
-        let Some(bytes) = self.in_new.get(name) else {
-            return Ok(());
-        };
-        if !is_free(&self.in_cur, name, target) {
-            return Ok(());
+        if self.link(Sub::New, name, target)? {
+            self.in_new.remove(name);
         }
-        let bytes = Vec::from_slice(self.alloc, bytes)?;
-        self.in_cur
-            .set(String::from_str(self.alloc, target)?, bytes)?;
-        self.in_new.remove(name);
         Ok(())
     }
 
@@ -85,17 +94,30 @@ impl MemFiles {
         ensures ok { OnOk result (files_in self.new ≡ acted (Reflag name.now target.now) (files_in self.old)) }
         ensures err { OnErr result (files_in self.new ≡ files_in self.old) }
     {
-        let Some(bytes) = self.in_cur.get(name) else {
-            return Ok(());
+        if self.link(Sub::Cur, name, target)? {
+            self.in_cur.remove(name);
+        }
+        Ok(())
+    }
+
+    // Puts a file under a free name of the same base in `cur` too. Answers whether it did.
+    fn link(&mut self, sub: Sub, name: &str, target: &str) -> Result<bool, AllocError>
+        ensures ok { OnOk result (files_in self.new ≡ linked (files_in self.old) name.now target.now
+            (get (folder_of sub (files_in self.old)) name.now)) }
+        ensures may { IfOk result (λ is_linked. is_linked ≡ may_link (files_in self.old) name.now target.now
+            (get (folder_of sub (files_in self.old)) name.now)) }
+        ensures err { OnErr result (files_in self.new ≡ files_in self.old) }
+    {
+        let Some(bytes) = self.get(sub, name) else {
+            return Ok(false);
         };
         if !is_free(&self.in_cur, name, target) {
-            return Ok(());
+            return Ok(false);
         }
         let bytes = Vec::from_slice(self.alloc, bytes)?;
         self.in_cur
             .set(String::from_str(self.alloc, target)?, bytes)?;
-        self.in_cur.remove(name);
-        Ok(())
+        Ok(true)
     }
 }
 

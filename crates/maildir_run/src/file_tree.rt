@@ -1,5 +1,5 @@
 // The files of one folder, kept in memory.
-ghost use Rattle.std.specs.Prelude.{◌≡◌, IfOk, OnOk, OnErr, string_bytes};
+ghost use Rattle.std.specs.Prelude.{◌≡◌, ◌↔◌, IfOk, IsTrue, OnOk, OnErr, string_bytes};
 ghost use Rattle.std.specs.FinMap as map;
 ghost use Rattle.std.specs.Option.{option_copied};
 ghost use Rattle.maildir_run.specs.Calls.{names_of};
@@ -72,5 +72,25 @@ impl FileTree {
         ensures { result ≡ map.len self.now }
     {
         self.files.len()
+    }
+
+    pub(crate) fn copy(&self) -> Result<FileTree, AllocError>
+        ensures { IfOk result (λ copy. copy ≡ self.now) }
+    {
+        Ok(FileTree {
+            files: self.files.clone()?,
+        })
+    }
+
+    pub(crate) fn is_like(&self, other: &FileTree) -> bool
+        ensures { IsTrue result ↔ (self.now ≡ other.now) }
+    {
+        self.files.len() == other.files.len() && self.files == other.files
+    }
+
+    pub(crate) fn has_names_of(&self, other: &FileTree) -> bool
+        ensures { IsTrue result ↔ (map.keys self.now ≡ map.keys other.now) }
+    {
+        self.files.keys().eq(other.files.keys())
     }
 }

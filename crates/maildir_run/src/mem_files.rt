@@ -1,5 +1,5 @@
 // The files of a folder in memory, and the effect of each call on them.
-ghost use Rattle.std.specs.Prelude.{◌≡◌, IfOk, OnOk, OnErr, IsTrue, IsFalse, None, string_bytes};
+ghost use Rattle.std.specs.Prelude.{◌≡◌, ◌↔◌, IfOk, OnOk, OnErr, IsTrue, IsFalse, None, string_bytes};
 ghost use Rattle.std.specs.FinMap.{get, keys, len};
 ghost use Rattle.std.specs.Option.{option_copied};
 ghost use Rattle.maildir_run.specs.Calls.{effect, folder_of, names_of, IsReady};
@@ -81,6 +81,35 @@ impl MemFiles {
             Sub::Tmp => self.in_tmp.names(self.alloc),
             Sub::New => self.in_new.names(self.alloc),
             Sub::Cur => self.in_cur.names(self.alloc),
+        }
+    }
+
+    pub(crate) fn copy(&self) -> Result<MemFiles, AllocError>
+        ensures { IfOk result (λ copy. files_in copy ≡ files_in self.now) }
+    {
+        Ok(MemFiles {
+            alloc: self.alloc,
+            in_tmp: self.in_tmp.copy()?,
+            in_new: self.in_new.copy()?,
+            in_cur: self.in_cur.copy()?,
+        })
+    }
+
+    pub(crate) fn is_like(&self, other: &MemFiles) -> bool
+        ensures { IsTrue result ↔ (files_in self.now ≡ files_in other.now) }
+    {
+        self.in_tmp.is_like(&other.in_tmp)
+            && self.in_new.is_like(&other.in_new)
+            && self.in_cur.is_like(&other.in_cur)
+    }
+
+    pub(crate) fn has_names_of(&self, other: &MemFiles, sub: Sub) -> bool
+        ensures { IsTrue result ↔ (keys (folder_of sub (files_in self.now)) ≡ keys (folder_of sub (files_in other.now))) }
+    {
+        match sub {
+            Sub::Tmp => self.in_tmp.has_names_of(&other.in_tmp),
+            Sub::New => self.in_new.has_names_of(&other.in_new),
+            Sub::Cur => self.in_cur.has_names_of(&other.in_cur),
         }
     }
 

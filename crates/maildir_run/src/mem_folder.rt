@@ -1,17 +1,17 @@
 // The folder in memory.
-ghost use Rattle.std.specs.Prelude.{◌≡◌, ℕ, ◌+◌, ◌%◌, ◌^◌, [], IfOk, IfErr, OnOk, OnErr, IsOk, IsErrOf, IsPermutation, None, ◌↔◌, string_bytes};
+ghost use Rattle.std.specs.Prelude.{◌≡◌, ℕ, ◌+◌, ◌%◌, ◌^◌, [], IfOk, IfErr, OnOk, OnErr, IsOk, IsErrOf, IsPermutation, IsTrue, None, ◌↔◌, string_bytes};
 ghost use Rattle.std.specs.FinMap.{get, keys, len};
 ghost use Rattle.std.specs.Option.{option_copied};
 ghost use Rattle.maildir_run.specs.Calls.{folder_of, names_of, Called, Listed, CalledQuietly, GoesUp, CountsFailure, IsNotAbsent};
 ghost use Rattle.maildir_run.specs.Calls.Call.{Listing, Writing, Placing, Removing};
 ghost use Rattle.maildir_run.specs.Cuts.{Left, LeavesOf};
 ghost use Rattle.maildir_run.specs.MemFiles.{no_files, with_file};
-ghost use Rattle.maildir_run.specs.Script.{IsCutShort};
+ghost use Rattle.maildir_run.specs.Script.{IsCutShort, half_performed, performed};
 ghost use Rattle.maildir_run.specs.MemFolder.{files_of, call_count, all_call_count, failure_count, lines_of, fail_from_of, IsQuiet, IsUndisturbed, next_mode, next_acts, next_files, FollowsScript, SameCounts, SameScript, IsUnchanged, CountsCall};
 
 use crate::folder::{Folder, FolderFault, Sub};
 use crate::mem_files::MemFiles;
-use crate::script::{Mode, ScriptLine, mode_of_call};
+use crate::script::{Act, Mode, ScriptLine, mode_of_call};
 use maildir_name::Place;
 use std::alloc::{AllocError, Global};
 
@@ -91,6 +91,78 @@ impl MemFolder {
         ensures { result ≡ len (folder_of sub (files_of self.now)) }
     {
         self.files.len(sub)
+    }
+
+    /// Another program does this. No call is counted.
+    ///
+    /// # Errors
+    ///
+    /// [`FolderFault::OutOfMemory`] where a growth was refused; then all is as before.
+    pub fn act(&mut self, act: &Act) -> Result<(), FolderFault>
+        ensures ok { OnOk result (files_of self.new ≡ performed act.now (files_of self.old)) }
+        ensures err { OnErr result (files_of self.new ≡ files_of self.old) }
+        ensures counts { SameCounts self.old self.new }
+        ensures script { SameScript self.old self.new }
+        ensures refused { IfErr result (λ fault. fault ≡ FolderFault.OutOfMemory) }
+    {
+        self.files.perform(act)?;
+        Ok(())
+    }
+
+    /// Another program does half of this: a file that it moves is under both names. Of any other act half is nothing. No
+    /// call is counted.
+    ///
+    /// # Errors
+    ///
+    /// [`FolderFault::OutOfMemory`] where a growth was refused; then all is as before.
+    pub fn act_half(&mut self, act: &Act) -> Result<(), FolderFault>
+        ensures ok { OnOk result (files_of self.new ≡ half_performed act.now (files_of self.old)) }
+        ensures err { OnErr result (files_of self.new ≡ files_of self.old) }
+        ensures counts { SameCounts self.old self.new }
+        ensures script { SameScript self.old self.new }
+        ensures refused { IfErr result (λ fault. fault ≡ FolderFault.OutOfMemory) }
+    {
+        self.files.perform_half(act)?;
+        Ok(())
+    }
+
+    /// A folder with the same files, no calls, and a script with no line.
+    ///
+    /// # Errors
+    ///
+    /// [`FolderFault::OutOfMemory`] where a growth was refused.
+    pub fn copy(&self) -> Result<MemFolder, FolderFault>
+        ensures files { IfOk result (λ copy. files_of copy ≡ files_of self.now) }
+        ensures calls { IfOk result (λ copy. call_count copy ≡ 0) }
+        ensures quiet { IfOk result IsQuiet }
+        ensures undisturbed { IfOk result (λ copy. fail_from_of copy ≡ None) }
+        ensures refused { IfErr result (λ fault. fault ≡ FolderFault.OutOfMemory) }
+    {
+        let mut copy = MemFolder::new(self.files.alloc);
+        copy.files = self.files.copy()?;
+        Ok(copy)
+    }
+
+    /// Whether both have the same files.
+    pub fn is_like(&self, other: &MemFolder) -> bool
+        ensures { IsTrue result ↔ (files_of self.now ≡ files_of other.now) }
+    {
+        self.files.is_like(&other.files)
+    }
+
+    /// Whether a file holds the same in both, or is in neither.
+    pub fn has_file_of(&self, other: &MemFolder, sub: Sub, name: &str) -> bool
+        ensures { IsTrue result ↔ (get (folder_of sub (files_of self.now)) name.now
+            ≡ get (folder_of sub (files_of other.now)) name.now) }
+    {
+        self.bytes_of(sub, name) == other.bytes_of(sub, name)
+    }
+
+    /// Whether both have the same names in this folder.
+    pub fn has_names_of(&self, other: &MemFolder, sub: Sub) -> bool
+        ensures { IsTrue result ↔ (keys (folder_of sub (files_of self.now)) ≡ keys (folder_of sub (files_of other.now))) }
+    {
+        self.files.has_names_of(&other.files, sub)
     }
 
     /// How many calls of [`Folder`] were made since `script`, or since `new`; it stops at 2^64 - 1.

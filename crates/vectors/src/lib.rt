@@ -1,6 +1,7 @@
-//! The worked rows on the calls of the four libraries, as tests: texts that are split, written, listed and rewritten,
-//! From_ lines, flags, names and plans; runs over the folder in memory, undisturbed, broken off at each call, with a mail
-//! reader at work, and at random; runs over a system in memory; and each call again after a growth that was refused.
+//! The worked rows on the calls of the libraries but the commands', as tests: texts that are split, written, listed and
+//! rewritten, From_ lines, flags, names and plans; runs over the folder in memory, undisturbed, broken off at each call,
+//! with a mail reader at work, and at random; runs over a system in memory, and what a power cut leaves of them; and each
+//! call again after a growth that was refused.
 //!
 //! They have a crate of their own, since to build tests is to prove all of their crate once more. A table is a constant
 //! slice, which the prover takes in one step; an array in a body costs it a step for each cell.
@@ -14,6 +15,8 @@ mod any_texts;
 mod bases;
 #[cfg(test)]
 mod converting;
+#[cfg(test)]
+mod cuts;
 #[cfg(test)]
 mod disk_folder;
 #[cfg(test)]

@@ -1,5 +1,5 @@
 use Rattle.std.proofs.Common.{inr, rules}
-use Rattle.maildir_disk.proofs.CutChains.{sound_now}
+use Rattle.maildir_run.proofs.Chains.{sound_now}
 use Rattle.maildir_disk.proofs.Others.{stays_after_run, stays_after_both}
 use Rattle.maildir_disk.proofs.Safety.{intact_after_run, intact_after_both, survive_after_run, survive_after_both, safe_after_both, reports_after_run}
 use Rattle.maildir_commands.proofs.Known.{both_have, of_reports}
@@ -12,7 +12,10 @@ returns-clause-printed g c =
     record {
       report = report;
       line = c.in_ok-print_report.ensures.printed;
-      said = λ honest t ms small p are sound. reports_after_run t ms are small _ _ report (c.in_ok-report.ensures.run honest t small p) sound;
+      said = (
+        rw c.sync.ensures.calls c.in_ok-report.ensures.calls,
+        λ honest t ms small p are sound. reports_after_run t ms are small _ _ report (c.in_ok-report.ensures.run honest t small p) sound,
+      );
     }
 
 pub returns-in_err-map_err-clause-intact : goal.returns-in_err-map_err-clause-intact
@@ -35,19 +38,19 @@ pub returns-in_err-print_report-clause-line : goal.returns-in_err-print_report-c
 returns-in_err-print_report-clause-line g c = λ honest t ms small p are sound intact.
     let still = c.convert.ensures.honest honest in
     inr (safe_after_both t ms are small _ _ _ _ _ _ _ c.in_ok-report.report c.sync.result (c.in_ok-report.ensures.run honest t small p) sound (c.in_ok-report.ensures.left honest t ms p are) intact
-    (c.sync.ensures.acts still) (search rules) (c.sync.ensures.survive still ms) (c.sync.ensures.rooted still))
+    (c.sync.ensures.acts still) (search rules) (c.sync.ensures.synced still) (c.sync.ensures.rooted still))
 
 pub returns-clause-line : goal.returns-clause-line
 returns-clause-line g c = λ honest t ms small p are sound intact.
     let still = c.convert.ensures.honest honest in
     inr (safe_after_both t ms are small _ _ _ _ _ _ _ c.in_ok-report.report c.sync.result (c.in_ok-report.ensures.run honest t small p) sound (c.in_ok-report.ensures.left honest t ms p are) intact
-    (c.sync.ensures.acts still) (search rules) (c.sync.ensures.survive still ms) (c.sync.ensures.rooted still))
+    (c.sync.ensures.acts still) (search rules) (c.sync.ensures.synced still) (c.sync.ensures.rooted still))
 
 pub returns-clause-safe : goal.returns-clause-safe
 returns-clause-safe g c = λ honest t ms small p are sound intact.
     let still = c.convert.ensures.honest honest in
     (safe_after_both t ms are small _ _ _ _ _ _ _ c.in_ok-report.report c.sync.result (c.in_ok-report.ensures.run honest t small p) sound (c.in_ok-report.ensures.left honest t ms p are) intact
-    (c.sync.ensures.acts still) (search rules) (c.sync.ensures.survive still ms) (c.sync.ensures.rooted still))
+    (c.sync.ensures.acts still) (search rules) (c.sync.ensures.synced still) (c.sync.ensures.rooted still))
 
 pub returns-in_err-map_err-clause-still : goal.returns-in_err-map_err-clause-still
 returns-in_err-map_err-clause-still g c = λ honest t ms others small p are named alike survive.
@@ -86,14 +89,14 @@ returns-clause-stays g c = λ honest t ms others small p are sound named alike.
 
 pub returns-clause-known : goal.returns-clause-known
 returns-clause-known g c = λ honest t ms small p are sound.
-    both_have ms _ _ _ c.in_ok-report.report ((c.in_ok-report.ensures.run honest t small p).keeps ms are (sound_now t ms are small _ sound)) (c.sync.ensures.acts (c.convert.ensures.honest honest))
+    both_have ms _ _ _ c.in_ok-report.report ((c.in_ok-report.ensures.run honest t small p).keeps ms are (sound_now ms _ sound)) (c.sync.ensures.acts (c.convert.ensures.honest honest))
 
 pub returns-in_err-print_report-clause-stopped : goal.returns-in_err-print_report-clause-stopped
 returns-in_err-print_report-clause-stopped g c = λ honest t ms small p are sound intact.
     let still = c.convert.ensures.honest honest in
     let report = c.in_ok-report.report in
     let safe = safe_after_both t ms are small _ _ _ _ _ _ _ report c.sync.result (c.in_ok-report.ensures.run honest t small p) sound (c.in_ok-report.ensures.left honest t ms p are) intact
-    (c.sync.ensures.acts still) (search rules) (c.sync.ensures.survive still ms) (c.sync.ensures.rooted still) in
+    (c.sync.ensures.acts still) (search rules) (c.sync.ensures.synced still) (c.sync.ensures.rooted still) in
     on_err _ _ (inr (record {
       report = report;
       true_of = of_reports (record { bytes = t; messages = ms }) _ report (reports_after_run t ms are small _ _ report (c.in_ok-report.ensures.run honest t small p) sound);

@@ -37,7 +37,7 @@ returns-clause-line g c = λ honest text is p sound.
     on_ok _ c.flush.result (record {
       report = printed.report;
       line = Appends-kept _ _ _ (report_line printed.report) printed.line c.flush.ensures.same;
-      said = of_reports text _ printed.report (printed.said honest text.bytes text.messages is.small p is.are (sound_of_one text _ sound));
+      said = of_reports text _ printed.report (printed.said.1 honest text.bytes text.messages is.small p is.are (sound_of_one text _ sound));
     })
 
 pub returns-clause-known : goal.returns-clause-known
@@ -50,7 +50,7 @@ returns-clause-stopped g c = λ honest text is p sound.
     let safe = c.in_ok-deliver.ensures.safe honest text.bytes text.messages is.small p is.are (sound_of_one text _ sound) (intact_of_one text _ sound) in
     on_err _ c.flush.result (inr (record {
       report = printed.report;
-      true_of = of_reports text _ printed.report (printed.said honest text.bytes text.messages is.small p is.are (sound_of_one text _ sound));
+      true_of = of_reports text _ printed.report (printed.said.1 honest text.bytes text.messages is.small p is.are (sound_of_one text _ sound));
       kept = record { home = safe.home; survive = safe.survive };
       line = front_of_all _ _ (report_line printed.report) (Appends-kept _ _ _ (report_line printed.report) printed.line c.flush.ensures.same);
     }))

@@ -1,8 +1,6 @@
-use Rattle.std.proofs.Common.{get_or}
 use Rattle.maildir_disk.proofs.Passing.{acts_on}
 use Rattle.maildir_disk.proofs.Lefts.{on_ok, others_then}
-use Rattle.maildir_disk.proofs.LeftHomes.{others_hold}
-use Rattle.maildir_disk.proofs.Syncs.{kept_names}
+use Rattle.maildir_disk.proofs.Syncs.{kept_later}
 use Rattle.maildir_disk.proofs.disk_folder.DiskFolder.sync_all.Goals as goal
 
 pub returns-in_err-sync_folder-2-clause-acts : goal.returns-in_err-sync_folder-2-clause-acts
@@ -26,14 +24,12 @@ returns-clause-left g c = λ honest.
     let second = c.in_ok-sync_folder-2.ensures.honest first in
     others_then _ _ _ (others_then _ _ _ (c.sync_folder.ensures.left honest) (c.sync_folder-2.ensures.left first)) (c.sync_root.ensures.left second)
 
-pub returns-clause-survive : goal.returns-clause-survive
-returns-clause-survive g c = λ honest ms named home intact.
+pub returns-clause-synced : goal.returns-clause-synced
+returns-clause-synced g c = λ honest.
     let first = c.in_ok-sync_folder.ensures.honest honest in
     let second = c.in_ok-sync_folder-2.ensures.honest first in
-    on_ok _ c.sync_root.result (λ left may k d below.
-    let m = get_or ms k d in
+    on_ok _ c.sync_root.result (λ left may.
     let three = c.sync_root.ensures.left second left may in
     let two = c.in_ok-sync_folder-2.ensures.names first three.0 three.1 in
     let one = c.in_ok-sync_folder.ensures.names honest two.0 two.1 in
-    let ours = named k d below in
-    (others_hold m ours three.0 left three.2).still (kept_names m ours _ _ _ one.0 two.0 three.0 (home k d below) (intact one.0 one.1 k d below) one.2 two.2))
+    (one.0, one.1, record { mid = record { files = (g.S.System.world c.sync_folder.new.self).files; left = two.0 }; first = one.2; then = kept_later _ _ _ _ _ _ _ two.2 (c.sync_root.ensures.acts second) three.2 }))

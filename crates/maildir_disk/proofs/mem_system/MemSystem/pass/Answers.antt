@@ -1,18 +1,17 @@
-use Rattle.std.proofs.Common.{[], ap, inl}
-use Rattle.std.specs.Time.{system_time_nanos}
-use Rattle.maildir_run.specs.MemFolder.{files_of}
-use Rattle.maildir_disk.specs.World.{Acts, Passes}
-use Rattle.maildir_disk.specs.MemSystem.{world_of}
-use Rattle.maildir_disk.proofs.Passing.{acts_on, passes_on}
+use Rattle.std.proofs.Common.{[], inl, refl}
+use Rattle.maildir_run.specs.declared.folder.Sub.TheVariants.{Tmp}
+use Rattle.maildir_run.specs.Calls.{Listing}
+use Rattle.maildir_disk.specs.MemSystem.{may_be_left, world_of}
+use Rattle.maildir_disk.specs.World.{Passes}
+use Rattle.maildir_disk.proofs.Lefts.{left_none}
+use Rattle.maildir_disk.proofs.Passing.{passes_on}
 use Rattle.maildir_disk.proofs.mem_system.MemSystem.pass.Goals as goal
-
-pub returns-in-Some-clause-acts : goal.returns-in-Some-clause-acts
-returns-in-Some-clause-acts c =
-    let first : Acts (world_of c.args.self.now) (world_of c.tick.new.self) = record { actions = []; files_are = ap files_of c.tick.ensures.folder } in
-    acts_on _ _ _ first c.act.ensures.acts
 
 pub returns-in-Some-clause-passes : goal.returns-in-Some-clause-passes
 returns-in-Some-clause-passes c = λ sub.
-    let first : Passes sub (world_of c.args.self.now) (world_of c.tick.new.self) =
-    record { acts = record { actions = []; files_are = ap files_of c.tick.ensures.folder }; later = c.tick.ensures.later; stamp_is = inl (ap system_time_nanos c.tick.ensures.stamp) } in
+    let first : Passes sub (world_of c.args.self.now) (world_of (record c.args.self.now { clock = c.tick.new.clock })) =
+    record { acts = record { actions = []; files_are = refl }; later = c.tick.ensures; stamp_is = inl refl } in
     passes_on sub _ _ _ first (c.act.ensures.passes sub)
+
+pub returns-in_default-clause-left : goal.returns-in_default-clause-left
+returns-in_default-clause-left c = left_none (Listing Tmp) (may_be_left c.args.self.now)

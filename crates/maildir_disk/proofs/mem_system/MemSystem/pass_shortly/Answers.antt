@@ -1,7 +1,8 @@
 use Rattle.maildir_run.specs.declared.folder.Sub.TheVariants.{Tmp}
 use Rattle.maildir_run.specs.Calls.{Listing}
-use Rattle.maildir_disk.proofs.Lefts.{acts_left}
+use Rattle.maildir_disk.specs.MemSystem.{may_be_left}
+use Rattle.maildir_disk.proofs.Lefts.{left_none}
 use Rattle.maildir_disk.proofs.mem_system.MemSystem.pass_shortly.Goals as goal
 
-pub returns-clause-left : goal.returns-clause-left
-returns-clause-left c = acts_left (Listing Tmp) _ _ c.pass.ensures.acts
+pub returns-in_err-begin-clause-left : goal.returns-in_err-begin-clause-left
+returns-in_err-begin-clause-left c = left_none (Listing Tmp) (may_be_left c.args.self.now)

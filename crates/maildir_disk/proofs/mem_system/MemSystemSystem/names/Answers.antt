@@ -5,7 +5,11 @@ use Rattle.maildir_disk.specs.World.{Reads}
 use Rattle.maildir_disk.specs.MemSystem.{world_of}
 use Rattle.maildir_disk.proofs.Passing.{passes_on}
 use Rattle.maildir_run.specs.declared.folder.Sub.TheVariants.{Tmp}
-use Rattle.maildir_disk.proofs.Lefts.{acts_left, same_left}
+use Rattle.maildir_disk.specs.Cases.{may_find}
+use Rattle.maildir_disk.specs.MemSystem.{may_be_left}
+use Rattle.maildir_disk.specs.PowerCuts.{LeavesOthers}
+use Rattle.maildir_disk.proofs.Changes.{same_found}
+use Rattle.maildir_disk.proofs.Lefts.{left_none}
 use Rattle.maildir_disk.proofs.mem_system.MemSystemSystem.names.Goals as goal
 
 pub returns-in_err-pass_shortly-in-Ok-clause-passes : goal.returns-in_err-pass_shortly-in-Ok-clause-passes
@@ -35,18 +39,20 @@ returns-in-Ok-duration_since-clause-names c = λ honest.
 
 pub returns-in_err-pass_shortly-in-Ok-clause-left : goal.returns-in_err-pass_shortly-in-Ok-clause-left
 returns-in_err-pass_shortly-in-Ok-clause-left c = λ honest.
-    let same = (rw c.in-Ok.is at (c.list.ensures.alone honest)).1 in
-    acts_left (Listing Tmp) (world_of c.args.self.now) _ (passes_on c.args.sub (world_of c.args.self.now) _ _ (record { acts = record { actions = []; files_are = same }; later = omega arith; stamp_is = inl refl }) (c.pass_shortly.ensures.passes c.args.sub)).acts
+    let old = c.args.self.now in
+    same_found LeavesOthers old.folder c.list.new.self old.cases (may_be_left c.pass_shortly.new.self) (rw c.in-Ok.is at (c.list.ensures.alone honest)).1 c.pass_shortly.ensures.left
 
 pub returns-in-Ok-duration_since-clause-left : goal.returns-in-Ok-duration_since-clause-left
 returns-in-Ok-duration_since-clause-left c = λ honest.
-    let same = (rw c.in-Ok.is at (c.list.ensures.alone honest)).1 in
-    acts_left (Listing Tmp) (world_of c.args.self.now) _ (passes_on c.args.sub (world_of c.args.self.now) _ _ (record { acts = record { actions = []; files_are = same }; later = omega arith; stamp_is = inl refl }) (c.pass_shortly.ensures.passes c.args.sub)).acts
+    let old = c.args.self.now in
+    same_found LeavesOthers old.folder c.list.new.self old.cases (may_be_left c.pass_shortly.new.self) (rw c.in-Ok.is at (c.list.ensures.alone honest)).1 c.pass_shortly.ensures.left
 
 pub returns-in_default-clause-left : goal.returns-in_default-clause-left
 returns-in_default-clause-left c = λ honest.
-    let same = (rw c.in-Ok.is at (c.list.ensures.alone honest)).1 in
-    acts_left (Listing Tmp) (world_of c.args.self.now) _ (passes_on c.args.sub (world_of c.args.self.now) _ _ (record { acts = record { actions = []; files_are = same }; later = omega arith; stamp_is = inl refl }) (c.pass_shortly.ensures.passes c.args.sub)).acts
+    let old = c.args.self.now in
+    same_found LeavesOthers old.folder c.list.new.self old.cases (may_be_left c.pass_shortly.new.self) (rw c.in-Ok.is at (c.list.ensures.alone honest)).1 c.pass_shortly.ensures.left
 
 pub returns-in-Err-clause-left : goal.returns-in-Err-clause-left
-returns-in-Err-clause-left c = λ honest. same_left (Listing Tmp) _ _ (rw c.in-Err.is at (c.list.ensures.err honest))
+returns-in-Err-clause-left c = λ honest.
+    let old = c.args.self.now in
+    same_found LeavesOthers old.folder c.list.new.self old.cases (may_find c.list.new.self old.cases) (rw c.in-Err.is at (c.list.ensures.err honest)) (left_none (Listing Tmp) (may_find c.list.new.self old.cases))

@@ -1,0 +1,10 @@
+use Rattle.std.proofs.Common.{◌≡◌, rules}
+use Rattle.std.specs.FinMap.{keys}
+use Rattle.maildir_run.specs.Calls.{folder_of}
+use Rattle.maildir_run.specs.MemFolder.{files_of}
+use Rattle.maildir_disk.proofs.CaseLists.{stays}
+use Rattle.maildir_disk.proofs.cases.Cases.keep_names.Goals as goal
+
+pub returns-clause-stays : goal.returns-clause-stays
+returns-clause-stays c =
+    stays _ _ files_of (λ left. keys (folder_of c.args.sub left) ≡ keys (folder_of c.args.sub (files_of c.args.folder.now))) (λ x b f k. search rules) _ _ c.retain.ensures.filtered

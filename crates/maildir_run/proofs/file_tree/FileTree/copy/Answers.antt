@@ -1,0 +1,7 @@
+use Rattle.std.proofs.Common.{ap, ◌∙◌}
+use Rattle.std.specs.FinMap.{from_entries}
+use Rattle.maildir_run.proofs.Trees.{copied_pairs}
+use Rattle.maildir_run.proofs.file_tree.FileTree.copy.Goals as goal
+
+pub returns : goal.returns
+returns c = ap from_entries (copied_pairs c.self.inside.files.entries c.in_ok-clone.field-0.entries c.in_ok-clone.ensures.cases) ∙ c.self.view_is
