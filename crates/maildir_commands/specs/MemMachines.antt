@@ -2,7 +2,6 @@
 use Rattle.std.specs.Prelude.{◌≡◌, ℕ, List, [], ◌∷◌, Option, Some, None, String, IsTrue, if◌then◌else◌}
 use Rattle.std.specs.BTreeMap.{BTreeMap, get_by_text}
 use Rattle.std.specs.Str.{bytes_eq}
-
 use Rattle.maildir_run.specs.MemFolder.{IsQuiet}
 use Rattle.maildir_disk.specs.declared.mem_system.MemSystem.{MemSystem}
 use Rattle.maildir_disk.specs.MemSystem.{may_be_left, world_of}
