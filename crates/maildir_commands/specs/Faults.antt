@@ -1,4 +1,5 @@
--- Which fault is answered for what failed below.
+-- Which fault is answered for what failed below, and the line that tells of it.
+use Rattle.std.specs.Prelude.{ℕ, List, ◌++◌, codes}
 use Rattle.maildir_run.specs.declared.folder.FolderFault.{FolderFault}
 use Rattle.maildir_run.specs.declared.folder.FolderFault.TheVariants.{Absent, Failed, OutOfMemory}
 use Rattle.maildir_run.specs.declared.fault.RunFault.TheVariants as run
@@ -18,3 +19,7 @@ fault_or Failed other = other
 abbrev pub fault_of_opening : OpenFault → Fault
 fault_of_opening opening.Locked = fault.Locked
 fault_of_opening (opening.Folder reason) = fault_or reason fault.Folder
+
+-- the line that tells of something
+abbrev pub told : List ℕ → List ℕ
+told text = codes "mbox2maildir: " ++ text ++ codes "\n"

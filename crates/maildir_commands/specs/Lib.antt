@@ -1,4 +1,6 @@
 pub mod Faults
-pub mod Report
 pub mod Words
+pub mod Machines
+pub mod Report
 pub mod Written
+pub mod MemMachines

@@ -1,8 +1,14 @@
 -- What is written of a source's text.
 use Rattle.std.specs.Prelude.{ℕ, List, Option}
 use Rattle.mbox_text.specs.declared.entry.Entry.{Entry}
+use Rattle.mbox_text.specs.Mbox.{Mbox}
+use Rattle.mbox_text.specs.Writing.{AppendsFront}
 use Rattle.maildir_run.specs.Output.{GivesAll}
 
 -- the source gave a text, and all that belongs to its messages was written
 abbrev pub WritesAll : (List Entry → List ℕ) → Option (List ℕ) → Option (List ℕ) → Option (List ℕ) → Type 0
 WritesAll output source was is = (count : ℕ) × GivesAll output source was is count
+
+-- a front was written of what belongs to the messages of the text, if it is an mbox text
+abbrev pub WritesFront : (List Entry → List ℕ) → List ℕ → Option (List ℕ) → Option (List ℕ) → Type 0
+WritesFront output text was is = (entries : List Entry) → Mbox text entries → AppendsFront was is (output entries)

@@ -1,47 +1,96 @@
 // What the program does with its words, its streams and its status.
-ghost use Rattle.std.specs.Prelude.{◌≡◌, ◌↔◌, ◌++◌, map, codes, string_bytes, IfSome, IsNone, IsSome, OnErr, OnOk};
+ghost use Rattle.std.specs.Prelude.{◌≡◌, ◌≤◌, ◌↔◌, ℕ, List, [], ◌∷◌, ◌++◌, map, codes, length, max, string_bytes, Some, IfSome, IsNone, IsSome, OnErr, OnOk};
+ghost use Rattle.std.specs.Io.Buffered.{writer_buffer, writer_contents, writer_inner};
 ghost use Rattle.std.specs.Io.KnownBytes.{Appends, Keeps};
 ghost use Rattle.std.specs.List.{flat_map};
 ghost use Rattle.mbox_text.specs.Spelling.{spelling};
+ghost use Rattle.mbox_text.specs.Writing.{AppendsFront, Writes};
 ghost use Rattle.maildir_run.specs.Listing.{listing as listing_of};
 ghost use Rattle.maildir_run.specs.Output.{GivesFront};
-ghost use Rattle.maildir_commands.specs.Words.{AreOfAForm};
-ghost use Rattle.maildir_commands.specs.Written.{WritesAll};
+ghost use Rattle.maildir_run.specs.Several.{Text};
+ghost use Rattle.maildir_commands.specs.Faults.{told};
+ghost use Rattle.maildir_commands.specs.Machines.{AreAllSafe, Converts, OthersStay, Rests};
+ghost use Rattle.maildir_commands.specs.Report.{PrintsEach, PrintsReports, PrintsSome};
+ghost use Rattle.maildir_commands.specs.Words.{AreOfAForm, AreRewrite, IsOf, convert_words};
+ghost use Rattle.maildir_commands.specs.Written.{WritesAll, WritesFront};
 
 use crate::command::Command;
 use crate::fault::Fault;
+use crate::machine::Machine;
 use crate::sources::deliver_sources;
 use crate::streams::{READS, flush, open};
-use maildir_run::{RunFault, list_text, rewrite};
+use arrayvec::ArrayVec;
+use maildir_run::{list_text, rewrite};
+use mbox_text::{TextFault, write_bytes};
 use std::alloc::Global;
 use std::fmt::Display;
-use std::fs::File;
-use std::io;
 use std::io::{BufWriter, Read, Write};
-use std::rt::{Clock, Files};
 
-// How many bytes of output are written at once.
-const OUTPUT_BYTES: usize = 1 << 16;
+// The longest line that is told has fewer bytes.
+const LINE_BYTES: usize = 128;
 
 /// Does the program's work, and answers its status: 0 where it is done; 1 after a fault, and 2 where the words are
-/// of no form, each with one line on standard error. A fault in writing to standard error changes no status.
-pub fn run<R: Files<File = File> + Clock, I: Read, W: Write, E: Write>(
-    rt: &R,
+/// of no form, each with one line on standard error. A fault in writing to standard error changes no status. What is
+/// written goes through the buffer, which holds nothing back after status 0.
+pub fn run<M: Machine, I: Read, W: Write + Drop, E: Write>(
+    machine: &mut M,
     alloc: Global,
     words: &[String],
     input: &mut I,
-    out: &mut W,
+    out: &mut BufWriter<W>,
     err: &mut E,
 ) -> u8
+    ensures few { result ≤ 2 }
+
+    // status 0
+    ensures silent { result ≡ 0 → Keeps (E.contents err.old) (E.contents err.new) }
+    ensures rewritten_input { AreRewrite (map string_bytes words.now) → result ≡ 0 →
+        WritesAll (flat_map spelling) (I.remaining input.old) (writer_contents W.contents out.old) (W.contents (writer_inner out.new)) }
+    ensures rewritten { M.honest machine.old → (file : List ℕ) → map string_bytes words.now ≡ codes "rewrite" ∷ file ∷ [] → result ≡ 0 →
+        WritesAll (flat_map spelling) (Some (M.text_of machine.old file)) (writer_contents W.contents out.old) (W.contents (writer_inner out.new)) }
+    ensures listed_input { map string_bytes words.now ≡ codes "list" ∷ [] → result ≡ 0 →
+        WritesAll listing_of (I.remaining input.old) (writer_contents W.contents out.old) (W.contents (writer_inner out.new)) }
+    ensures listed { M.honest machine.old → (file : List ℕ) → map string_bytes words.now ≡ codes "list" ∷ file ∷ [] → result ≡ 0 →
+        WritesAll listing_of (Some (M.text_of machine.old file)) (writer_contents W.contents out.old) (W.contents (writer_inner out.new)) }
+    ensures printed { (maildir : List ℕ) (files : List (List ℕ)) → map string_bytes words.now ≡ convert_words maildir files → result ≡ 0 →
+        PrintsReports (writer_contents W.contents out.old) (W.contents (writer_inner out.new)) (max 1 (length files)) }
+    ensures safe { M.honest machine.old → (maildir : List ℕ) (texts : List Text) →
+        Converts (map string_bytes words.now) (M.text_of machine.old) (I.remaining input.old) (I.remaining input.new) maildir texts (M.maildir_at machine.old maildir) →
+        result ≡ 0 → AreAllSafe texts (M.maildir_at machine.new maildir) }
+    ensures each { M.honest machine.old → (maildir : List ℕ) (texts : List Text) →
+        Converts (map string_bytes words.now) (M.text_of machine.old) (I.remaining input.old) (I.remaining input.new) maildir texts (M.maildir_at machine.old maildir) →
+        result ≡ 0 → PrintsEach (M.maildir_at machine.old maildir) texts (writer_contents W.contents out.old) (W.contents (writer_inner out.new)) }
+
+    // status 1
+    ensures rewritten_front { M.honest machine.old → (file : List ℕ) → map string_bytes words.now ≡ codes "rewrite" ∷ file ∷ [] → result ≡ 1 →
+        WritesFront (flat_map spelling) (M.text_of machine.old file) (writer_contents W.contents out.old) (writer_contents W.contents out.new) }
+    ensures listed_front { M.honest machine.old → (file : List ℕ) → map string_bytes words.now ≡ codes "list" ∷ file ∷ [] → result ≡ 1 →
+        WritesFront listing_of (M.text_of machine.old file) (writer_contents W.contents out.old) (writer_contents W.contents out.new) }
+    ensures some { M.honest machine.old → (maildir : List ℕ) (texts : List Text) →
+        Converts (map string_bytes words.now) (M.text_of machine.old) (I.remaining input.old) (I.remaining input.new) maildir texts (M.maildir_at machine.old maildir) →
+        result ≡ 1 → PrintsSome (M.maildir_at machine.old maildir) (M.maildir_at machine.new maildir) texts (writer_contents W.contents out.old) (writer_contents W.contents out.new) }
+
+    // status 2
     ensures wrong { (result ≡ 2) ↔ ¬ AreOfAForm (map string_bytes words.now) }
-    ensures untouched { result ≡ 2 → Keeps (W.contents out.old) (W.contents out.new) }
+    ensures told { result ≡ 2 → AppendsFront (E.contents err.old) (E.contents err.new) (told (codes "wrong words")) }
+    ensures untouched { result ≡ 2 → out.new ≡ out.old }
     ensures unread { result ≡ 2 → I.remaining input.new ≡ I.remaining input.old }
+
+    // whatever the status: nothing else is touched
+    ensures texts { M.honest machine.old → M.text_of machine.new ≡ M.text_of machine.old }
+    ensures stay { M.honest machine.old → (maildir : List ℕ) (texts : List Text) →
+        Converts (map string_bytes words.now) (M.text_of machine.old) (I.remaining input.old) (I.remaining input.new) maildir texts (M.maildir_at machine.old maildir) →
+        OthersStay texts (M.maildir_at machine.old maildir) (M.maildir_at machine.new maildir) }
+    ensures elsewhere { M.honest machine.old → (maildir word : List ℕ) (files : List (List ℕ)) → map string_bytes words.now ≡ convert_words maildir files → ¬ M.same maildir word →
+        Rests (M.maildir_at machine.old word) (M.maildir_at machine.new word) }
+    ensures nowhere { M.honest machine.old → ((maildir : List ℕ) (files : List (List ℕ)) → ¬ (map string_bytes words.now ≡ convert_words maildir files)) → (word : List ℕ) →
+        Rests (M.maildir_at machine.old word) (M.maildir_at machine.new word) }
 {
     let Some(command) = Command::of(words) else {
         let _ = tell("wrong words", err);
         return 2;
     };
-    match perform(rt, alloc, command, input, out) {
+    match perform(machine, alloc, command, input, out) {
         Ok(()) => 0,
         Err(fault) => {
             let _ = tell(fault, err);
@@ -50,38 +99,107 @@ pub fn run<R: Files<File = File> + Clock, I: Read, W: Write, E: Write>(
     }
 }
 
-/// Writes the line of a fault to standard error.
-pub fn tell<D: Display + Drop, E: Write>(fault: D, err: &mut E) -> io::Result<()>
-    ensures { OnOk result (IfSome (D.output fault) (λ text.
-        Appends (E.contents err.old) (E.contents err.new) (codes "mbox2maildir: " ++ text ++ codes "\n"))) }
+/// Writes the line of a fault to standard error, in one piece.
+pub fn tell<D: Display + Drop, E: Write>(fault: D, err: &mut E) -> Result<(), TextFault>
+    ensures { IfSome (D.output fault) (λ text. Writes (E.contents err.old) (E.contents err.new) result (told text)) }
 {
-    writeln!(err, "mbox2maildir: {fault}")
+    let mut line = ArrayVec::<u8, LINE_BYTES>::new();
+    match writeln!(line, "mbox2maildir: {fault}") {
+        Ok(()) => write_bytes(line.as_slice(), err),
+        Err(_) => Err(TextFault::WriteFault),
+    }
 }
 
-// Does the work of a command, and writes what it gives through a buffer.
-fn perform<R: Files<File = File> + Clock, I: Read, W: Write>(
-    rt: &R,
+// Does the work of a command, and hands on what it wrote, also after a fault.
+fn perform<M: Machine, I: Read, W: Write + Drop>(
+    machine: &mut M,
     alloc: Global,
     command: Command<'_>,
     input: &mut I,
-    out: &mut W,
-) -> Result<(), Fault> {
-    let mut out = BufWriter::with_capacity(alloc, OUTPUT_BYTES, out).map_err(
-        |_| RunFault::OutOfMemory,
-    )?;
+    out: &mut BufWriter<W>,
+) -> Result<(), Fault>
+    ensures rewritten_input { (words : List (List ℕ)) → IsOf command.entry words → AreRewrite words → OnOk result (WritesAll (flat_map spelling) (I.remaining input.old) (writer_contents W.contents out.old) (W.contents (writer_inner out.new))) }
+    ensures rewritten { M.honest machine.old → (file : List ℕ) → IsOf command.entry (codes "rewrite" ∷ file ∷ []) →
+        OnOk result (WritesAll (flat_map spelling) (Some (M.text_of machine.old file)) (writer_contents W.contents out.old) (W.contents (writer_inner out.new))) }
+    ensures listed_input { IsOf command.entry (codes "list" ∷ []) → OnOk result (WritesAll listing_of (I.remaining input.old) (writer_contents W.contents out.old) (W.contents (writer_inner out.new))) }
+    ensures listed { M.honest machine.old → (file : List ℕ) → IsOf command.entry (codes "list" ∷ file ∷ []) →
+        OnOk result (WritesAll listing_of (Some (M.text_of machine.old file)) (writer_contents W.contents out.old) (W.contents (writer_inner out.new))) }
+    ensures printed { (maildir : List ℕ) (files : List (List ℕ)) → IsOf command.entry (convert_words maildir files) →
+        OnOk result (PrintsReports (writer_contents W.contents out.old) (W.contents (writer_inner out.new)) (max 1 (length files))) }
+    ensures safe { M.honest machine.old → (words : List (List ℕ)) (maildir : List ℕ) (texts : List Text) → IsOf command.entry words →
+        Converts words (M.text_of machine.old) (I.remaining input.old) (I.remaining input.new) maildir texts (M.maildir_at machine.old maildir) → OnOk result (AreAllSafe texts (M.maildir_at machine.new maildir)) }
+    ensures each { M.honest machine.old → (words : List (List ℕ)) (maildir : List ℕ) (texts : List Text) → IsOf command.entry words →
+        Converts words (M.text_of machine.old) (I.remaining input.old) (I.remaining input.new) maildir texts (M.maildir_at machine.old maildir) →
+        OnOk result (PrintsEach (M.maildir_at machine.old maildir) texts (writer_contents W.contents out.old) (W.contents (writer_inner out.new))) }
+    ensures rewritten_front { M.honest machine.old → (file : List ℕ) → IsOf command.entry (codes "rewrite" ∷ file ∷ []) →
+        OnErr result (WritesFront (flat_map spelling) (M.text_of machine.old file) (writer_contents W.contents out.old) (writer_contents W.contents out.new)) }
+    ensures listed_front { M.honest machine.old → (file : List ℕ) → IsOf command.entry (codes "list" ∷ file ∷ []) →
+        OnErr result (WritesFront listing_of (M.text_of machine.old file) (writer_contents W.contents out.old) (writer_contents W.contents out.new)) }
+    ensures some { M.honest machine.old → (words : List (List ℕ)) (maildir : List ℕ) (texts : List Text) → IsOf command.entry words →
+        Converts words (M.text_of machine.old) (I.remaining input.old) (I.remaining input.new) maildir texts (M.maildir_at machine.old maildir) →
+        OnErr result (PrintsSome (M.maildir_at machine.old maildir) (M.maildir_at machine.new maildir) texts (writer_contents W.contents out.old) (writer_contents W.contents out.new)) }
+    ensures texts { M.honest machine.old → M.text_of machine.new ≡ M.text_of machine.old }
+    ensures stay { M.honest machine.old → (words : List (List ℕ)) (maildir : List ℕ) (texts : List Text) → IsOf command.entry words →
+        Converts words (M.text_of machine.old) (I.remaining input.old) (I.remaining input.new) maildir texts (M.maildir_at machine.old maildir) → OthersStay texts (M.maildir_at machine.old maildir) (M.maildir_at machine.new maildir) }
+    ensures elsewhere { M.honest machine.old → (words : List (List ℕ)) (maildir word : List ℕ) (files : List (List ℕ)) → IsOf command.entry words → words ≡ convert_words maildir files → ¬ M.same maildir word →
+        Rests (M.maildir_at machine.old word) (M.maildir_at machine.new word) }
+    ensures nowhere { M.honest machine.old → (words : List (List ℕ)) (word : List ℕ) → IsOf command.entry words → ((maildir : List ℕ) (files : List (List ℕ)) → ¬ (words ≡ convert_words maildir files)) →
+        Rests (M.maildir_at machine.old word) (M.maildir_at machine.new word) }
+{
+    let answer = work(machine, alloc, command, input, out);
+    let handed = flush(out);
+    answer?;
+    handed
+}
+
+// Does the work of a command.
+fn work<M: Machine, I: Read, W: Write + Drop>(
+    machine: &mut M,
+    alloc: Global,
+    command: Command<'_>,
+    input: &mut I,
+    out: &mut BufWriter<W>,
+) -> Result<(), Fault>
+    ensures rewritten_input { (words : List (List ℕ)) → IsOf command.entry words → AreRewrite words → OnOk result (WritesAll (flat_map spelling) (I.remaining input.old) (writer_contents W.contents out.old) (writer_contents W.contents out.new)) }
+    ensures rewritten { M.honest machine.old → (file : List ℕ) → IsOf command.entry (codes "rewrite" ∷ file ∷ []) →
+        OnOk result (WritesAll (flat_map spelling) (Some (M.text_of machine.old file)) (writer_contents W.contents out.old) (writer_contents W.contents out.new)) }
+    ensures listed_input { IsOf command.entry (codes "list" ∷ []) → OnOk result (WritesAll listing_of (I.remaining input.old) (writer_contents W.contents out.old) (writer_contents W.contents out.new)) }
+    ensures listed { M.honest machine.old → (file : List ℕ) → IsOf command.entry (codes "list" ∷ file ∷ []) →
+        OnOk result (WritesAll listing_of (Some (M.text_of machine.old file)) (writer_contents W.contents out.old) (writer_contents W.contents out.new)) }
+    ensures printed { (maildir : List ℕ) (files : List (List ℕ)) → IsOf command.entry (convert_words maildir files) →
+        OnOk result (PrintsReports (writer_contents W.contents out.old) (writer_contents W.contents out.new) (max 1 (length files))) }
+    ensures safe { M.honest machine.old → (words : List (List ℕ)) (maildir : List ℕ) (texts : List Text) → IsOf command.entry words →
+        Converts words (M.text_of machine.old) (I.remaining input.old) (I.remaining input.new) maildir texts (M.maildir_at machine.old maildir) → OnOk result (AreAllSafe texts (M.maildir_at machine.new maildir)) }
+    ensures each { M.honest machine.old → (words : List (List ℕ)) (maildir : List ℕ) (texts : List Text) → IsOf command.entry words →
+        Converts words (M.text_of machine.old) (I.remaining input.old) (I.remaining input.new) maildir texts (M.maildir_at machine.old maildir) →
+        OnOk result (PrintsEach (M.maildir_at machine.old maildir) texts (writer_contents W.contents out.old) (writer_contents W.contents out.new)) }
+    ensures rewritten_front { M.honest machine.old → (file : List ℕ) → IsOf command.entry (codes "rewrite" ∷ file ∷ []) →
+        OnErr result (WritesFront (flat_map spelling) (M.text_of machine.old file) (writer_contents W.contents out.old) (writer_contents W.contents out.new)) }
+    ensures listed_front { M.honest machine.old → (file : List ℕ) → IsOf command.entry (codes "list" ∷ file ∷ []) →
+        OnErr result (WritesFront listing_of (M.text_of machine.old file) (writer_contents W.contents out.old) (writer_contents W.contents out.new)) }
+    ensures some { M.honest machine.old → (words : List (List ℕ)) (maildir : List ℕ) (texts : List Text) → IsOf command.entry words →
+        Converts words (M.text_of machine.old) (I.remaining input.old) (I.remaining input.new) maildir texts (M.maildir_at machine.old maildir) →
+        OnErr result (PrintsSome (M.maildir_at machine.old maildir) (M.maildir_at machine.new maildir) texts (writer_contents W.contents out.old) (writer_contents W.contents out.new)) }
+    ensures texts { M.honest machine.old → M.text_of machine.new ≡ M.text_of machine.old }
+    ensures stay { M.honest machine.old → (words : List (List ℕ)) (maildir : List ℕ) (texts : List Text) → IsOf command.entry words →
+        Converts words (M.text_of machine.old) (I.remaining input.old) (I.remaining input.new) maildir texts (M.maildir_at machine.old maildir) → OthersStay texts (M.maildir_at machine.old maildir) (M.maildir_at machine.new maildir) }
+    ensures elsewhere { M.honest machine.old → (words : List (List ℕ)) (maildir word : List ℕ) (files : List (List ℕ)) → IsOf command.entry words → words ≡ convert_words maildir files → ¬ M.same maildir word →
+        Rests (M.maildir_at machine.old word) (M.maildir_at machine.new word) }
+    ensures nowhere { M.honest machine.old → (words : List (List ℕ)) (word : List ℕ) → IsOf command.entry words → ((maildir : List ℕ) (files : List (List ℕ)) → ¬ (words ≡ convert_words maildir files)) →
+        Rests (M.maildir_at machine.old word) (M.maildir_at machine.new word) }
+{
     match command {
-        Command::Rewrite(file) => write_regular(rt, alloc, file, input, &mut out)?,
-        Command::List(file) => write_list(rt, alloc, file, input, &mut out)?,
+        Command::Rewrite(file) => write_regular(machine, alloc, file, input, out),
+        Command::List(file) => write_list(machine, alloc, file, input, out),
         Command::Convert(maildir, files) => {
-            deliver_sources(rt, alloc, maildir, files, input, &mut out)?
+            deliver_sources(machine, alloc, maildir, files, input, out)
         }
     }
-    flush(&mut out)
 }
 
 // Writes the text of the file, or of standard input where none is named, in its regular spelling.
-fn write_regular<R: Files, I: Read, W: Write>(
-    rt: &R,
+fn write_regular<M: Machine, I: Read, W: Write>(
+    machine: &mut M,
     alloc: Global,
     file: Option<&str>,
     input: &mut I,
@@ -90,17 +208,21 @@ fn write_regular<R: Files, I: Read, W: Write>(
     ensures all { IsNone file.entry → OnOk result (WritesAll (flat_map spelling) (I.remaining input.old) (W.contents out.old) (W.contents out.new)) }
     ensures front { IsNone file.entry → OnErr result (GivesFront (flat_map spelling) (I.remaining input.old) (I.remaining input.new) (W.contents out.old) (W.contents out.new)) }
     ensures unread { IsSome file.entry → I.remaining input.new ≡ I.remaining input.old }
+    ensures named { M.honest machine.old → IfSome file.entry (λ path. OnOk result (WritesAll (flat_map spelling) (Some (M.text_of machine.old path.now)) (W.contents out.old) (W.contents out.new))) }
+    ensures front_named { M.honest machine.old → IfSome file.entry (λ path. OnErr result (WritesFront (flat_map spelling) (M.text_of machine.old path.now) (W.contents out.old) (W.contents out.new))) }
+    ensures texts { M.honest machine.old → M.text_of machine.new ≡ M.text_of machine.old }
+    ensures rests { M.honest machine.old → (word : List ℕ) → Rests (M.maildir_at machine.old word) (M.maildir_at machine.new word) }
 {
     match file {
         None => rewrite(alloc, input, out, READS)?,
-        Some(path) => rewrite(alloc, &mut open(rt, path)?, out, READS)?,
+        Some(path) => rewrite(alloc, &mut open(machine, path)?, out, READS)?,
     };
     Ok(())
 }
 
 // Writes a line for each message of the file, or of standard input where none is named.
-fn write_list<R: Files, I: Read, W: Write>(
-    rt: &R,
+fn write_list<M: Machine, I: Read, W: Write>(
+    machine: &mut M,
     alloc: Global,
     file: Option<&str>,
     input: &mut I,
@@ -109,10 +231,14 @@ fn write_list<R: Files, I: Read, W: Write>(
     ensures all { IsNone file.entry → OnOk result (WritesAll listing_of (I.remaining input.old) (W.contents out.old) (W.contents out.new)) }
     ensures front { IsNone file.entry → OnErr result (GivesFront listing_of (I.remaining input.old) (I.remaining input.new) (W.contents out.old) (W.contents out.new)) }
     ensures unread { IsSome file.entry → I.remaining input.new ≡ I.remaining input.old }
+    ensures named { M.honest machine.old → IfSome file.entry (λ path. OnOk result (WritesAll listing_of (Some (M.text_of machine.old path.now)) (W.contents out.old) (W.contents out.new))) }
+    ensures front_named { M.honest machine.old → IfSome file.entry (λ path. OnErr result (WritesFront listing_of (M.text_of machine.old path.now) (W.contents out.old) (W.contents out.new))) }
+    ensures texts { M.honest machine.old → M.text_of machine.new ≡ M.text_of machine.old }
+    ensures rests { M.honest machine.old → (word : List ℕ) → Rests (M.maildir_at machine.old word) (M.maildir_at machine.new word) }
 {
     match file {
         None => list_text(alloc, input, out, READS)?,
-        Some(path) => list_text(alloc, &mut open(rt, path)?, out, READS)?,
+        Some(path) => list_text(alloc, &mut open(machine, path)?, out, READS)?,
     };
     Ok(())
 }

@@ -1,73 +1,162 @@
 // The sources of a conversion, each with a run of its own and its line.
-ghost use Rattle.std.specs.Prelude.{◌≡◌, ◌⊎◌, ℕ, List, All, ◌<◌, ◌+◌, ◌*◌, ◌-◌, ◌^◌, min, max, length, IfErr, IfOk, OnOk};
+ghost use Rattle.std.specs.Prelude.{◌≡◌, ◌⊎◌, ℕ, List, [], ◌∷◌, All, Some, map, string_bytes, ◌<◌, ◌+◌, ◌*◌, ◌-◌, ◌^◌, min, max, length, IsTrue, IfOk, IfErr, OnOk, OnErr};
+ghost use Rattle.std.specs.Io.Buffered.{writer_buffer, writer_contents};
 ghost use Rattle.std.specs.Io.KnownBytes.{Appends, IsAtEnd, Keeps};
+ghost use Rattle.mbox_text.specs.Writing.{Writes};
+ghost use Rattle.maildir_name.specs.Names.{is_converter_base};
 ghost use Rattle.maildir_run.specs.Alone.{alone as alone_after};
-ghost use Rattle.maildir_run.specs.Delivery.{AreNamed, IsSoundAt, Message};
+ghost use Rattle.maildir_run.specs.Delivery.{AreNamed, IsSoundAt, Message, has_home};
 ghost use Rattle.maildir_run.specs.Quietly.{LeavesOthers};
+ghost use Rattle.maildir_run.specs.Reading.{ReadsAtMost};
 ghost use Rattle.maildir_run.specs.Runs.{CountsRun, Possible, Reports};
+ghost use Rattle.maildir_run.specs.Several.{Text, IsText};
 ghost use Rattle.maildir_run.specs.Texts.{MessagesOf};
-ghost use Rattle.maildir_disk.specs.Paths.{root_of, system_of};
+ghost use Rattle.maildir_disk.specs.Others.{Stays};
+ghost use Rattle.maildir_disk.specs.Paths.{system_of};
 ghost use Rattle.maildir_disk.specs.PowerCuts.{AreAlike, AreIntact, AreSafe, Survive};
-ghost use Rattle.maildir_commands.specs.Report.{PrintsReport, PrintsReports, report_line};
+ghost use Rattle.maildir_commands.specs.Machines.{AreAllSafe, AreFit, Gives, HasAlso, IsSoundFor, OthersStay, Rests, bytes_of, held};
+ghost use Rattle.maildir_commands.specs.Report.{IsReportOf, PrintsEach, PrintsOne, PrintsReport, PrintsReports, PrintsSome, also, report_line};
 
 use crate::fault::Fault;
+use crate::machine::Machine;
 use crate::streams::{READS, flush, open};
-use maildir_disk::{DiskFolder, Host, System};
+use arrayvec::ArrayVec;
+use maildir_disk::{DiskFolder, System};
 use maildir_run::{Folder, Report, RunFault, convert};
+use mbox_text::write_bytes;
 use std::alloc::Global;
-use std::fs::File;
-use std::io::{Read, Write};
-use std::rt::{Clock, Files};
+use std::io;
+use std::io::{BufWriter, Read, Write};
 
-fn open_folder<'a, R: Files<File = File> + Clock>(
-    rt: &'a R,
-    alloc: Global,
-    maildir: &str,
-) -> Result<DiskFolder<Host<'a, R>>, Fault>
-    ensures path { IfOk result (λ folder. root_of folder ≡ maildir.now) }
+// The longest line of a report has fewer bytes.
+const LINE_BYTES: usize = 128;
+
+fn open_folder<M: Machine>(machine: &mut M, maildir: &str) -> Result<DiskFolder<M::Maildir>, Fault>
+    ensures honest { M.honest machine.old → M.honest machine.new }
+    ensures texts { M.honest machine.old → M.text_of machine.new ≡ M.text_of machine.old }
+    ensures open { M.honest machine.old → OnOk result (M.is_open machine.new maildir.now) }
+    ensures works { M.honest machine.old → IfOk result (λ folder. M.Maildir.honest (system_of folder)) }
+    ensures opens { M.honest machine.old → IfOk result (λ folder. Rests (M.maildir_at machine.old maildir.now)
+        (held M.Maildir.world M.Maildir.may_leave M.Maildir.rooted (system_of folder))) }
+    ensures rests { M.honest machine.old → OnErr result (Rests (M.maildir_at machine.old maildir.now) (M.maildir_at machine.new maildir.now)) }
+    ensures others { M.honest machine.old → (word : List ℕ) → ¬ M.same maildir.now word → Rests (M.maildir_at machine.old word) (M.maildir_at machine.new word) }
     ensures causes { IfErr result (λ fault. (fault ≡ Fault.Folder) ⊎ (fault ≡ Fault.Locked) ⊎ (fault ≡ Fault.Run RunFault.OutOfMemory)) }
 {
-    DiskFolder::open_at(rt, alloc, maildir).map_err(Fault::of_folder)
+    match machine.open_maildir(maildir) {
+        Ok(system) => Ok(DiskFolder::new(system)),
+        Err(fault) => Err(Fault::of_folder(fault)),
+    }
 }
 
-// Opens the first file and then the Maildir, so that a file that cannot be opened leaves no folder behind, and delivers
-// the messages of the file.
-fn deliver_first<'a, R: Files<File = File> + Clock, W: Write>(
-    rt: &'a R,
-    alloc: Global,
-    maildir: &str,
-    path: &str,
-    out: &mut W,
-) -> Result<DiskFolder<Host<'a, R>>, Fault>
-    ensures { OnOk result (PrintsReports (W.contents out.old) (W.contents out.new) 1) }
-{
-    let mut source = open(rt, path)?;
-    let mut folder = open_folder(rt, alloc, maildir)?;
-    deliver(alloc, &mut folder, &mut source, out)?;
-    Ok(folder)
-}
-
-/// Delivers the messages of standard input, or of each file where files are named.
-pub(crate) fn deliver_sources<R: Files<File = File> + Clock, I: Read, W: Write>(
-    rt: &R,
+/// Delivers the messages of standard input, or of each file where files are named, into the Maildir. The first file is
+/// opened before the Maildir, so that a file that cannot be opened leaves no folder behind.
+pub(crate) fn deliver_sources<M: Machine, I: Read, W: Write + Drop>(
+    machine: &mut M,
     alloc: Global,
     maildir: &str,
     files: &[String],
     input: &mut I,
-    out: &mut W,
+    out: &mut BufWriter<W>,
 ) -> Result<(), Fault>
-    ensures printed { OnOk result (PrintsReports (W.contents out.old) (W.contents out.new) (max 1 (length files.now))) }
+    ensures printed { OnOk result (PrintsReports (writer_contents W.contents out.old) (writer_contents W.contents out.new) (max 1 (length files.now))) }
     ensures end { length files.now ≡ 0 → OnOk result (IsAtEnd (I.remaining input.new)) }
     ensures unread { ¬ (length files.now ≡ 0) → I.remaining input.new ≡ I.remaining input.old }
+
+    // over a machine that does as assumed
+    ensures texts { M.honest machine.old → M.text_of machine.new ≡ M.text_of machine.old }
+    ensures elsewhere { M.honest machine.old → (word : List ℕ) → ¬ M.same maildir.now word → Rests (M.maildir_at machine.old word) (M.maildir_at machine.new word) }
+
+    // and where the texts can go into the Maildir
+    ensures safe { M.honest machine.old → (texts : List Text) → Gives (M.text_of machine.old) (I.remaining input.old) (I.remaining input.new) (map string_bytes files.now) texts →
+        AreFit texts → IsSoundFor texts (M.maildir_at machine.old maildir.now) → OnOk result (AreAllSafe texts (M.maildir_at machine.new maildir.now)) }
+    ensures each { M.honest machine.old → (texts : List Text) → Gives (M.text_of machine.old) (I.remaining input.old) (I.remaining input.new) (map string_bytes files.now) texts →
+        AreFit texts → IsSoundFor texts (M.maildir_at machine.old maildir.now) →
+        OnOk result (PrintsEach (M.maildir_at machine.old maildir.now) texts (writer_contents W.contents out.old) (writer_contents W.contents out.new)) }
+    ensures some { M.honest machine.old → (texts : List Text) → Gives (M.text_of machine.old) (I.remaining input.old) (I.remaining input.new) (map string_bytes files.now) texts →
+        AreFit texts → IsSoundFor texts (M.maildir_at machine.old maildir.now) →
+        OnErr result (PrintsSome (M.maildir_at machine.old maildir.now) (M.maildir_at machine.new maildir.now) texts (writer_contents W.contents out.old) (writer_contents W.contents out.new)) }
+    ensures stay { M.honest machine.old → (texts : List Text) → Gives (M.text_of machine.old) (I.remaining input.old) (I.remaining input.new) (map string_bytes files.now) texts →
+        AreFit texts → IsSoundFor texts (M.maildir_at machine.old maildir.now) → OthersStay texts (M.maildir_at machine.old maildir.now) (M.maildir_at machine.new maildir.now) }
 {
     let Some((first, rest)) = files.split_first() else {
-        return deliver(alloc, &mut open_folder(rt, alloc, maildir)?, input, out);
+        let mut folder = open_folder(machine, maildir)?;
+        let answer = deliver_one(alloc, &mut folder, input, out);
+        machine.close_maildir(maildir, folder.into_system());
+        return answer;
     };
-    let mut folder = deliver_first(rt, alloc, maildir, first.as_str(), out)?;
+    let mut source = open(machine, first.as_str())?;
+    let mut folder = open_folder(machine, maildir)?;
+    let answer = deliver_each(machine, alloc, &mut folder, &mut source, rest, out);
+    machine.close_maildir(maildir, folder.into_system());
+    answer
+}
+
+// Delivers the messages of the source, and then of each further file.
+fn deliver_each<M: Machine, W: Write + Drop>(
+    machine: &mut M,
+    alloc: Global,
+    folder: &mut DiskFolder<M::Maildir>,
+    first: &mut M::Source,
+    rest: &[String],
+    out: &mut BufWriter<W>,
+) -> Result<(), Fault>
+    ensures honest { M.honest machine.old → M.honest machine.new }
+    ensures texts { M.honest machine.old → M.text_of machine.new ≡ M.text_of machine.old }
+    ensures elsewhere { M.honest machine.old → (word : List ℕ) → Rests (M.maildir_at machine.old word) (M.maildir_at machine.new word) }
+    ensures still_open { M.honest machine.old → (word : List ℕ) → M.is_open machine.old word → M.is_open machine.new word }
+    ensures printed { OnOk result (PrintsReports (writer_contents W.contents out.old) (writer_contents W.contents out.new) (1 + length rest.now)) }
+    ensures safe { M.honest machine.old → M.Maildir.honest (system_of folder.old) → (texts : List Text) (text : List ℕ) → M.Source.remaining first.old ≡ Some text →
+        bytes_of texts ≡ text ∷ map (λ file. M.text_of machine.old (string_bytes file)) rest.now → AreFit texts →
+        IsSoundFor texts (held M.Maildir.world M.Maildir.may_leave M.Maildir.rooted (system_of folder.old)) →
+        OnOk result (AreAllSafe texts (held M.Maildir.world M.Maildir.may_leave M.Maildir.rooted (system_of folder.new))) }
+    ensures each { M.honest machine.old → M.Maildir.honest (system_of folder.old) → (texts : List Text) (text : List ℕ) → M.Source.remaining first.old ≡ Some text →
+        bytes_of texts ≡ text ∷ map (λ file. M.text_of machine.old (string_bytes file)) rest.now → AreFit texts →
+        IsSoundFor texts (held M.Maildir.world M.Maildir.may_leave M.Maildir.rooted (system_of folder.old)) →
+        OnOk result (PrintsEach (held M.Maildir.world M.Maildir.may_leave M.Maildir.rooted (system_of folder.old)) texts (writer_contents W.contents out.old) (writer_contents W.contents out.new)) }
+    ensures some { M.honest machine.old → M.Maildir.honest (system_of folder.old) → (texts : List Text) (text : List ℕ) → M.Source.remaining first.old ≡ Some text →
+        bytes_of texts ≡ text ∷ map (λ file. M.text_of machine.old (string_bytes file)) rest.now → AreFit texts →
+        IsSoundFor texts (held M.Maildir.world M.Maildir.may_leave M.Maildir.rooted (system_of folder.old)) →
+        OnErr result (PrintsSome (held M.Maildir.world M.Maildir.may_leave M.Maildir.rooted (system_of folder.old)) (held M.Maildir.world M.Maildir.may_leave M.Maildir.rooted (system_of folder.new))
+        texts (writer_contents W.contents out.old) (writer_contents W.contents out.new)) }
+    ensures stay { M.honest machine.old → M.Maildir.honest (system_of folder.old) → (texts : List Text) (text : List ℕ) → M.Source.remaining first.old ≡ Some text →
+        bytes_of texts ≡ text ∷ map (λ file. M.text_of machine.old (string_bytes file)) rest.now → AreFit texts →
+        IsSoundFor texts (held M.Maildir.world M.Maildir.may_leave M.Maildir.rooted (system_of folder.old)) →
+        OthersStay texts (held M.Maildir.world M.Maildir.may_leave M.Maildir.rooted (system_of folder.old)) (held M.Maildir.world M.Maildir.may_leave M.Maildir.rooted (system_of folder.new)) }
+{
+    deliver_one(alloc, folder, first, out)?;
     for path in rest {
-        deliver(alloc, &mut folder, &mut open(rt, path.as_str())?, out)?;
+        let mut source = open(machine, path.as_str())?;
+        deliver_one(alloc, folder, &mut source, out)?;
     }
     Ok(())
+}
+
+// Delivers the messages of one source, and hands on its line.
+fn deliver_one<S: System, I: Read, W: Write + Drop>(
+    alloc: Global,
+    folder: &mut DiskFolder<S>,
+    source: &mut I,
+    out: &mut BufWriter<W>,
+) -> Result<(), Fault>
+    ensures printed { OnOk result (PrintsReports (writer_contents W.contents out.old) (writer_contents W.contents out.new) 1) }
+    ensures handed { OnOk result (writer_buffer out.new ≡ []) }
+    ensures end { OnOk result (IsAtEnd (I.remaining source.new)) }
+    ensures budget { ReadsAtMost (I.remaining source.old) (I.remaining source.new) (2 ^ 56) }
+    ensures honest { S.honest (system_of folder.old) → OnOk result (S.honest (system_of folder.new)) }
+    ensures safe { S.honest (system_of folder.old) → (text : Text) → IsText text → Possible (I.remaining source.old) (I.remaining source.new) text.bytes →
+        IsSoundFor (text ∷ []) (held S.world S.may_leave S.rooted (system_of folder.old)) → OnOk result (AreSafe text.messages (S.world (system_of folder.new)).files (S.may_leave (system_of folder.new)) (S.rooted (system_of folder.new))) }
+    ensures line { S.honest (system_of folder.old) → (text : Text) → IsText text → Possible (I.remaining source.old) (I.remaining source.new) text.bytes →
+        IsSoundFor (text ∷ []) (held S.world S.may_leave S.rooted (system_of folder.old)) → OnOk result (PrintsReport (writer_contents W.contents out.old) (writer_contents W.contents out.new) (IsReportOf (has_home (S.world (system_of folder.old)).files) text)) }
+    ensures known { S.honest (system_of folder.old) → (text : Text) → IsText text → Possible (I.remaining source.old) (I.remaining source.new) text.bytes →
+        IsSoundFor (text ∷ []) (held S.world S.may_leave S.rooted (system_of folder.old)) → OnOk result (HasAlso text.messages (S.world (system_of folder.old)).files (S.world (system_of folder.new)).files) }
+    ensures stopped { S.honest (system_of folder.old) → (text : Text) → IsText text → Possible (I.remaining source.old) (I.remaining source.new) text.bytes →
+        IsSoundFor (text ∷ []) (held S.world S.may_leave S.rooted (system_of folder.old)) → OnErr result (Keeps (writer_contents W.contents out.old) (writer_contents W.contents out.new)
+        ⊎ PrintsOne (held S.world S.may_leave S.rooted (system_of folder.old)) (held S.world S.may_leave S.rooted (system_of folder.new)) text (writer_contents W.contents out.old) (writer_contents W.contents out.new)) }
+    ensures stays { S.honest (system_of folder.old) → (text : Text) → IsText text → Possible (I.remaining source.old) (I.remaining source.new) text.bytes →
+        IsSoundFor (text ∷ []) (held S.world S.may_leave S.rooted (system_of folder.old)) → OthersStay (text ∷ []) (held S.world S.may_leave S.rooted (system_of folder.old)) (held S.world S.may_leave S.rooted (system_of folder.new)) }
+{
+    deliver(alloc, folder, source, out)?;
+    flush(out)
 }
 
 /// Delivers the messages of one source, by a run of its own, syncs the Maildir and then prints the run's line at once:
@@ -81,6 +170,7 @@ pub fn deliver<S: System, I: Read, W: Write>(
     out: &mut W,
 ) -> Result<(), Fault>
     ensures end { OnOk result (IsAtEnd (I.remaining source.new)) }
+    ensures budget { ReadsAtMost (I.remaining source.old) (I.remaining source.new) (2 ^ 56) }
 
     // its line is of a report that counts the calls that were made, and that is true of the run, where the system does as
     // assumed and the folder began sound for the text
@@ -102,6 +192,20 @@ pub fn deliver<S: System, I: Read, W: Write>(
         Possible (I.remaining source.old) (I.remaining source.new) t → MessagesOf t ms → All (IsSoundAt (f.files folder.old)) ms → AreIntact ms (f.may_leave folder.old) →
         Keeps (W.contents out.old) (W.contents out.new) ⊎ AreSafe ms (f.files folder.new) (f.may_leave folder.new) (S.rooted (system_of folder.new)) }
 
+    ensures stopped { let f = ⟦<DiskFolder<S> as Folder>⟧ in f.honest folder.old → (t : List ℕ) (ms : List Message) → length t < 2 ^ 63 →
+        Possible (I.remaining source.old) (I.remaining source.new) t → MessagesOf t ms → All (IsSoundAt (f.files folder.old)) ms → AreIntact ms (f.may_leave folder.old) →
+        OnErr result (Keeps (W.contents out.old) (W.contents out.new)
+        ⊎ PrintsOne (held S.world S.may_leave S.rooted (system_of folder.old)) (held S.world S.may_leave S.rooted (system_of folder.new))
+        (record { bytes = t; messages = ms }) (W.contents out.old) (W.contents out.new)) }
+
+    // what it leaves of other messages, and which bases have a home behind it
+    ensures stays { let f = ⟦<DiskFolder<S> as Folder>⟧ in f.honest folder.old → (t : List ℕ) (ms others : List Message) → length t < 2 ^ 63 →
+        Possible (I.remaining source.old) (I.remaining source.new) t → MessagesOf t ms → All (IsSoundAt (f.files folder.old)) ms → AreNamed others → AreAlike others ms →
+        Stays others (f.files folder.old) (f.may_leave folder.old) (f.files folder.new) (f.may_leave folder.new) }
+    ensures known { let f = ⟦<DiskFolder<S> as Folder>⟧ in f.honest folder.old → (t : List ℕ) (ms : List Message) → length t < 2 ^ 63 →
+        Possible (I.remaining source.old) (I.remaining source.new) t → MessagesOf t ms → All (IsSoundAt (f.files folder.old)) ms →
+        OnOk result (HasAlso ms (f.files folder.old) (f.files folder.new)) }
+
     // where nobody disturbs it
     ensures quiet { ⟦<DiskFolder<S> as Folder>⟧.quiet folder.old → OnOk result (⟦<DiskFolder<S> as Folder>⟧.quiet folder.new) }
     ensures alone { let f = ⟦<DiskFolder<S> as Folder>⟧ in f.quiet folder.old → (t : List ℕ) (ms : List Message) →
@@ -113,7 +217,7 @@ pub fn deliver<S: System, I: Read, W: Write>(
         .sync()
         .map_err(|fault| Fault::of_sync(fault, calls_of(report)))?;
     print_report(report, out)?;
-    flush(out)
+    Ok(())
 }
 
 // How many calls of the folder a run made that gave this report: three listings, a removal for each file that was
@@ -128,9 +232,23 @@ fn calls_of(report: Report) -> u64
         .saturating_add(3)
 }
 
+// Prints the line of a run, in one piece.
 fn print_report<W: Write>(report: Report, out: &mut W) -> Result<(), RunFault>
-    ensures printed { OnOk result (Appends (W.contents out.old) (W.contents out.new) (report_line report)) }
+    ensures printed { Writes (W.contents out.old) (W.contents out.new) result (report_line report) }
     ensures causes { IfErr result (λ fault. fault ≡ RunFault.OutputFault) }
+{
+    let mut line = ArrayVec::<u8, LINE_BYTES>::new();
+    if write_line(report, &mut line).is_err() {
+        return Err(RunFault::OutputFault);
+    }
+    match write_bytes(line.as_slice(), out) {
+        Ok(()) => Ok(()),
+        Err(_) => Err(RunFault::OutputFault),
+    }
+}
+
+fn write_line<W: Write>(report: Report, out: &mut W) -> io::Result<()>
+    ensures { OnOk result (Appends (W.contents out.old) (W.contents out.new) (report_line report)) }
 {
     let Report {
         messages,
@@ -142,5 +260,4 @@ fn print_report<W: Write>(report: Report, out: &mut W) -> Result<(), RunFault>
         out,
         "messages {messages}, there {there}, placed {placed}, swept {swept}"
     )
-    .map_err(|_| RunFault::OutputFault)
 }

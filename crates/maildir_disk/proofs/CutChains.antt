@@ -44,7 +44,7 @@ on_same : (n m : Message) (s : Files) → n.target.base ≡ m.target.base → n.
 on_same n m s base body (inl none) = inl (subst (λ b. homes s b ≡ []) base none)
 on_same n m s base body (inr home) = inr (subst (λ b. homes s b ≡ m.body ∷ []) base (subst (λ x. homes s n.target.base ≡ x ∷ []) body home))
 
-moved_sound : (m : Message) (s t : Files) → IsPermutation (homes s m.target.base) (homes t m.target.base) → IsSoundAt s m → IsSoundAt t m
+pub moved_sound : (m : Message) (s t : Files) → IsPermutation (homes s m.target.base) (homes t m.target.base) → IsSoundAt s m → IsSoundAt t m
 moved_sound m s t kept (inl none) = inl (homes_none m.target.base s t kept none)
 moved_sound m s t kept (inr home) = inr (homes_one m.target.base m.body s t kept home)
 

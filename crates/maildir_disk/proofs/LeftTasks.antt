@@ -156,3 +156,8 @@ module _ (t : List ℕ) (ms : List Message) (are : MessagesOf t ms) (small : len
   run_bodies others named alike bodies k d below =
       let m = get_or others k d in
       (text_holds m.target.base m.body (named k d below) (alike k d below)).still (bodies k d below)
+
+  pub run_others_intact : (others : List Message) → AreNamed others → All (λ m. All (λ n. n.target.base ≡ m.target.base → n.body ≡ m.body) ms) others → All (IsIntact before) others → All (IsIntact now) others
+  run_others_intact others named alike intact k d below =
+      let m = get_or others k d in
+      intact_on m before now (text_holds m.target.base m.body (named k d below) (alike k d below)) (intact k d below)

@@ -9,4 +9,5 @@ pub mod MemSystem
 pub mod Faults
 pub mod Paths
 pub mod PowerCuts
+pub mod Others
 pub mod SeveralCuts

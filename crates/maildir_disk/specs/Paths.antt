@@ -19,9 +19,13 @@ abbrev pub folder_of_place : Place → Sub
 folder_of_place place.New = New
 folder_of_place place.Cur = Cur
 
+-- the path that the system's calls reach the Maildir at
+abbrev pub root_at : {R : Type 0} → Host R → List ℕ
+root_at system = string_bytes system.root
+
 -- the path of the Maildir that a folder on the disk was opened at
 abbrev pub root_of : {R : Type 0} → DiskFolder (Host R) → List ℕ
-root_of folder = string_bytes folder.system.root
+root_of folder = root_at folder.system
 
 -- the system that a folder on the disk is on
 abbrev pub system_of : {S : Type 0} → DiskFolder S → S

@@ -1,34 +1,44 @@
 //! Turns an mbox text into files of a Maildir, and can be started again after any stop.
 #![tactic(auto)]
 
-use maildir_commands::{run, tell};
+use maildir_commands::{Computer, run, tell};
 use maildir_disk::is_refused_growth;
 use maildir_run::RunFault;
+use std::io::{BufWriter, Write};
 use std::process::ExitCode;
 use std::rt::Env;
 use std::{env, io};
 
+// How many bytes of output are written at once.
+const OUTPUT_BYTES: usize = 1 << 16;
+
 fn main(rt: HostRuntime) -> ExitCode {
-    let (mut input, mut out, mut err) = (rt.stdin(), rt.stdout(), rt.stderr());
+    let (mut input, mut err) = (rt.stdin(), rt.stderr());
     let status = match words(&rt) {
-        Ok(words) => run(
-            &rt,
-            rt.alloc(),
-            words.as_slice(),
-            &mut input,
-            &mut out,
-            &mut err,
-        ),
-        Err(error) if is_refused_growth(&error) => {
-            let _ = tell(RunFault::OutOfMemory, &mut err);
-            1
-        }
+        Ok(words) => match BufWriter::with_capacity(rt.alloc(), OUTPUT_BYTES, rt.stdout()) {
+            Ok(mut out) => run(
+                &mut Computer::new(&rt, rt.alloc()),
+                rt.alloc(),
+                words.as_slice(),
+                &mut input,
+                &mut out,
+                &mut err,
+            ),
+            Err(_) => out_of_memory(&mut err),
+        },
+        Err(error) if is_refused_growth(&error) => out_of_memory(&mut err),
         Err(_) => {
             let _ = tell("wrong words", &mut err);
             2
         }
     };
     ExitCode::from(status)
+}
+
+// Tells that there is no memory to begin with.
+fn out_of_memory<E: Write>(err: &mut E) -> u8 {
+    let _ = tell(RunFault::OutOfMemory, err);
+    1
 }
 
 // The words after the program's own name.

@@ -41,6 +41,8 @@ mod pieces;
 #[cfg(test)]
 mod planning;
 #[cfg(test)]
+mod programs;
+#[cfg(test)]
 mod refusals;
 #[cfg(test)]
 mod rewriting;

@@ -1,21 +1,22 @@
 use Rattle.std.proofs.Common.{inr, rules}
-use Rattle.std.proofs.KnownBytes.{Appends-kept}
-use Rattle.maildir_disk.proofs.Lefts.{on_ok}
+use Rattle.maildir_run.proofs.Chains.{sound_now}
+use Rattle.maildir_disk.proofs.Others.{stays_after_run, stays_after_both}
 use Rattle.maildir_disk.proofs.Safety.{intact_after_run, intact_after_both, survive_after_run, survive_after_both, safe_after_both, reports_after_run}
-use Rattle.maildir_commands.specs.Report.{report_line}
+use Rattle.maildir_commands.proofs.Known.{both_have, of_reports}
+use Rattle.maildir_commands.proofs.Several.{on_err}
 use Rattle.maildir_commands.proofs.sources.deliver.Goals as goal
 
 pub returns-clause-printed : goal.returns-clause-printed
 returns-clause-printed g c =
     let report = c.in_ok-report.report in
-    on_ok _ c.flush.result (record {
+    record {
       report = report;
-      line = Appends-kept _ _ _ (report_line report) c.in_ok-print_report.ensures.printed c.flush.ensures.same;
+      line = c.in_ok-print_report.ensures.printed;
       said = (
         rw c.sync.ensures.calls c.in_ok-report.ensures.calls,
         λ honest t ms small p are sound. reports_after_run t ms are small _ _ report (c.in_ok-report.ensures.run honest t small p) sound,
       );
-    })
+    }
 
 pub returns-in_err-map_err-clause-intact : goal.returns-in_err-map_err-clause-intact
 returns-in_err-map_err-clause-intact g c = λ honest t ms small p are intact.
@@ -48,7 +49,7 @@ returns-clause-line g c = λ honest t ms small p are sound intact.
 pub returns-clause-safe : goal.returns-clause-safe
 returns-clause-safe g c = λ honest t ms small p are sound intact.
     let still = c.convert.ensures.honest honest in
-    on_ok _ c.flush.result (safe_after_both t ms are small _ _ _ _ _ _ _ c.in_ok-report.report c.sync.result (c.in_ok-report.ensures.run honest t small p) sound (c.in_ok-report.ensures.left honest t ms p are) intact
+    (safe_after_both t ms are small _ _ _ _ _ _ _ c.in_ok-report.report c.sync.result (c.in_ok-report.ensures.run honest t small p) sound (c.in_ok-report.ensures.left honest t ms p are) intact
     (c.sync.ensures.acts still) (search rules) (c.sync.ensures.synced still) (c.sync.ensures.rooted still))
 
 pub returns-in_err-map_err-clause-still : goal.returns-in_err-map_err-clause-still
@@ -66,3 +67,39 @@ returns-clause-still g c = λ honest t ms others small p are named alike survive
 pub returns-in_err-report-clause-still : goal.returns-in_err-report-clause-still
 returns-in_err-report-clause-still g c = λ honest t ms others small p are named alike survive.
     survive_after_run t ms are small others _ _ c.convert.result named alike (c.convert.ensures.left honest t ms p are) survive
+
+pub returns-in_err-report-clause-stays : goal.returns-in_err-report-clause-stays
+returns-in_err-report-clause-stays g c = λ honest t ms others small p are sound named alike.
+    stays_after_run t ms are small others named alike _ _ _ _ c.convert.result (c.convert.ensures.run honest t small p) sound (c.convert.ensures.left honest t ms p are)
+
+pub returns-in_err-map_err-clause-stays : goal.returns-in_err-map_err-clause-stays
+returns-in_err-map_err-clause-stays g c = λ honest t ms others small p are sound named alike.
+    let still = c.convert.ensures.honest honest in
+    stays_after_both t ms are small others named alike _ _ _ _ _ _ c.convert.result (c.convert.ensures.run honest t small p) sound (c.convert.ensures.left honest t ms p are) (c.sync.ensures.acts still) (c.sync.ensures.left still)
+
+pub returns-in_err-print_report-clause-stays : goal.returns-in_err-print_report-clause-stays
+returns-in_err-print_report-clause-stays g c = λ honest t ms others small p are sound named alike.
+    let still = c.convert.ensures.honest honest in
+    stays_after_both t ms are small others named alike _ _ _ _ _ _ c.convert.result (c.convert.ensures.run honest t small p) sound (c.convert.ensures.left honest t ms p are) (c.sync.ensures.acts still) (c.sync.ensures.left still)
+
+pub returns-clause-stays : goal.returns-clause-stays
+returns-clause-stays g c = λ honest t ms others small p are sound named alike.
+    let still = c.convert.ensures.honest honest in
+    stays_after_both t ms are small others named alike _ _ _ _ _ _ c.convert.result (c.convert.ensures.run honest t small p) sound (c.convert.ensures.left honest t ms p are) (c.sync.ensures.acts still) (c.sync.ensures.left still)
+
+pub returns-clause-known : goal.returns-clause-known
+returns-clause-known g c = λ honest t ms small p are sound.
+    both_have ms _ _ _ c.in_ok-report.report ((c.in_ok-report.ensures.run honest t small p).keeps ms are (sound_now ms _ sound)) (c.sync.ensures.acts (c.convert.ensures.honest honest))
+
+pub returns-in_err-print_report-clause-stopped : goal.returns-in_err-print_report-clause-stopped
+returns-in_err-print_report-clause-stopped g c = λ honest t ms small p are sound intact.
+    let still = c.convert.ensures.honest honest in
+    let report = c.in_ok-report.report in
+    let safe = safe_after_both t ms are small _ _ _ _ _ _ _ report c.sync.result (c.in_ok-report.ensures.run honest t small p) sound (c.in_ok-report.ensures.left honest t ms p are) intact
+    (c.sync.ensures.acts still) (search rules) (c.sync.ensures.synced still) (c.sync.ensures.rooted still) in
+    on_err _ _ (inr (record {
+      report = report;
+      true_of = of_reports (record { bytes = t; messages = ms }) _ report (reports_after_run t ms are small _ _ report (c.in_ok-report.ensures.run honest t small p) sound);
+      kept = record { home = safe.home; survive = safe.survive };
+      line = c.in_err-print_report.ensures.printed;
+    }))

@@ -1,0 +1,90 @@
+-- Which bases have a home, from one moment to another.
+use Rattle.std.proofs.Common.{◌≡◌, ℕ, ◌+◌, ◌-◌, ◌||◌, Bool, cond, List, [], ◌∷◌, ◌++◌, length, All, IsTrue, Ok, count_by, refl, sym, ap, subst, ◌∙◌, inl, inr}
+use Rattle.std.proofs.lemmas.Bool.{cases_Bool}
+use Rattle.std.proofs.lemmas.List.Elements.{All-head, All-tail}
+use Rattle.std.proofs.lemmas.List.Folds.{Any-from_list_any}
+use Rattle.maildir_name.specs.Names.{is_converter_base}
+use Rattle.maildir_run.specs.declared.report.Report.{Report}
+use Rattle.maildir_run.specs.Delivery.{Message, AreNamed, IsHome, has_home, is_any, is_base_of}
+use Rattle.maildir_run.specs.Files.{Files, Action, acted, all_acted, is_name}
+use Rattle.maildir_run.specs.Runs.{Keeps, Reports}
+use Rattle.maildir_run.specs.Several.{Text}
+use Rattle.maildir_run.proofs.Homes.{acted_kept}
+use Rattle.maildir_run.proofs.Maps.{is_name-true}
+use Rattle.maildir_run.proofs.Numbers.{count-cons}
+use Rattle.maildir_run.proofs.Progress.{any_kept}
+use Rattle.maildir_disk.specs.World.{World, Acts}
+use Rattle.maildir_commands.specs.Machines.{Held, Rests, HasAlso}
+use Rattle.maildir_commands.specs.Report.{IsReportOf, AreReportsOf, also}
+
+-- ---- other programs take and bring no base
+acted_has : (b : List ℕ) → IsTrue (is_converter_base b) → (actions : List Action) (s : Files) → has_home (all_acted actions s) b ≡ has_home s b
+acted_has b named [] s = refl
+acted_has b named (action ∷ actions) s = acted_has b named actions (acted action s) ∙ sym (any_kept _ _ (acted_kept b named action s))
+
+-- the same bases of a converter
+abbrev pub Agree : (List ℕ → Bool) → (List ℕ → Bool) → Type 0
+Agree has had = (b : List ℕ) → IsTrue (is_converter_base b) → has b ≡ had b
+
+pub rests_has : (old new : Held) → Rests old new → Agree (has_home new.files) (has_home old.files)
+rests_has old new rests b named = ap (λ s. has_home s b) rests.files_are ∙ acted_has b named rests.actions old.files
+
+-- ---- a run, and a sync
+run_has : (ms : List Message) (old new : Files) (report : Report) → Keeps ms old (Ok report) new → HasAlso ms old new
+run_has ms old new report keeps b named =
+    elim (cases_Bool (is_base_of ms b)) as (λ _. has_home new b ≡ (is_base_of ms b || has_home old b)) [
+      | inr off ↦ sym (any_kept _ _ (keeps.sound.others b named off)) ∙ ap (λ x. x || has_home old b) (sym off)
+      | inl on ↦
+          let found = Any-from_list_any (λ (n : Message). is_name n.target.base b) ms on in
+          let home = subst (IsHome new) found.3 (keeps.ends.delivered.homes_are found.0 found.1 found.2) in
+          ap (has_home new) (sym (is_name-true found.1.target.base b found.4)) ∙ (ap is_any home ∙ ap (λ x. x || has_home old b) (sym on))
+    ]
+
+pub both_have : (ms : List Message) (old : Files) (mid new : World) (report : Report) → Keeps ms old (Ok report) mid.files → Acts mid new → HasAlso ms old new.files
+both_have ms old mid new report keeps acts b named =
+    (ap (λ s. has_home s b) acts.files_are ∙ acted_has b named acts.actions mid.files) ∙ run_has ms old mid.files report keeps b named
+
+-- ---- reports
+pub of_reports : (text : Text) (old : Files) (report : Report) → Reports text.messages old report → IsReportOf (has_home old) text report
+of_reports text old report true_of = record { messages = true_of.messages; there = true_of.there; placed = true_of.placed }
+
+count_agree : (has had : List ℕ → Bool) → Agree has had → (ms : List Message) → AreNamed ms → count_by (λ (m : Message). has m.target.base) ms ≡ count_by (λ (m : Message). had m.target.base) ms
+count_agree has had agree [] named = refl
+count_agree has had agree (m ∷ ms) named =
+    let first : IsTrue (is_converter_base m.target.base) = All-head (λ (n : Message). IsTrue (is_converter_base n.target.base)) m ms named in
+    let rest = All-tail (λ (n : Message). IsTrue (is_converter_base n.target.base)) m ms named in
+    count-cons (λ (n : Message). has n.target.base) m ms (had m.target.base) (agree m.target.base first)
+    ∙ (ap (λ k. cond (had m.target.base) 1 0 + k) (count_agree has had agree ms rest)
+    ∙ sym (count-cons (λ (n : Message). had n.target.base) m ms (had m.target.base) refl))
+
+pub report_agree : (has had : List ℕ → Bool) → Agree has had → (text : Text) → AreNamed text.messages → (report : Report) → IsReportOf had text report → IsReportOf has text report
+report_agree has had agree text named report is =
+    let same = count_agree has had agree text.messages named in
+    record { messages = is.messages; there = subst (λ k. report.there ≡ k) (sym same) is.there; placed = subst (λ k. report.placed ≡ length text.messages - k) (sym same) is.placed }
+
+pub also_agree : (has had : List ℕ → Bool) → Agree has had → (text : Text) → Agree (also has text) (also had text)
+also_agree has had agree text b named = ap (λ x. is_base_of text.messages b || x) (agree b named)
+
+pub reports_agree : (has had : List ℕ → Bool) → Agree has had → (texts : List Text) → All (λ text. AreNamed text.messages) texts → (reports : List Report) → AreReportsOf had texts reports → AreReportsOf has texts reports
+reports_agree has had agree [] named [] is = tt
+reports_agree has had agree [] named (report ∷ reports) is = absurd is
+reports_agree has had agree (text ∷ texts) named [] is = absurd is
+reports_agree has had agree (text ∷ texts) named (report ∷ reports) (first, rest) = (
+  report_agree has had agree text (All-head (λ (t : Text). AreNamed t.messages) text texts named) report first,
+  reports_agree (also has text) (also had text) (also_agree has had agree text) texts (All-tail (λ (t : Text). AreNamed t.messages) text texts named) reports rest,
+)
+
+-- which bases have a home once texts were delivered
+abbrev pub also_all : (List ℕ → Bool) → List Text → List ℕ → Bool
+also_all has [] = has
+also_all has (text ∷ texts) = also_all (also has text) texts
+
+pub also_all-last : (has : List ℕ → Bool) (texts : List Text) (text : Text) → also_all has (texts ++ text ∷ []) ≡ also (also_all has texts) text
+also_all-last has [] text = refl
+also_all-last has (first ∷ texts) text = also_all-last (also has first) texts text
+
+pub reports_more : (has : List ℕ → Bool) (texts : List Text) (reports : List Report) (text : Text) (report : Report) → AreReportsOf has texts reports → IsReportOf (also_all has texts) text report → AreReportsOf has (texts ++ text ∷ []) (reports ++ report ∷ [])
+reports_more has [] [] text report before is = (is, tt)
+reports_more has [] (other ∷ reports) text report before is = absurd before
+reports_more has (first ∷ texts) [] text report before is = absurd before
+reports_more has (first ∷ texts) (other ∷ reports) text report (one, rest) is = (one, reports_more (also has first) texts reports text report rest is)

@@ -1,0 +1,64 @@
+// The machine itself.
+ghost use Rattle.std.specs.Prelude.{◌≡◌, [], IfOk};
+ghost use Rattle.maildir_disk.specs.Paths.{root_at};
+ghost use Rattle.maildir_commands.specs.Machines.{nothing_held};
+
+use crate::machine::Machine;
+use maildir_disk::{DiskFolder, Host, OpenFault};
+use std::alloc::Global;
+use std::fs::File;
+use std::rt::{Clock, Files};
+use std::{fs, io};
+
+/// The machine that the program runs on.
+#[derive(Drop)]
+pub struct Computer<'a, R> {
+    rt: &'a R,
+    alloc: Global,
+}
+
+impl<'a, R> Computer<'a, R> {
+    /// The machine that this runtime stands for.
+    pub fn new(rt: &'a R, alloc: Global) -> Self {
+        Computer { rt, alloc }
+    }
+}
+
+// What a real machine does, no proof knows.
+impl<'a, R: Files<File = File> + Clock> Machine for Computer<'a, R> {
+    type Source = File;
+
+    type Maildir = Host<'a, R>;
+
+    ghost text_of = { λ _ _. [] };
+
+    ghost maildir_at = { λ _ _. nothing_held };
+
+    ghost is_open = { λ _ _. Unit {0} };
+
+    ghost same = { λ _ _. Unit {0} };
+
+    ghost honest = { λ _. ⊥ };
+
+    fn open_source(&mut self, path: &str) -> io::Result<File> {
+        fs::open(self.rt, path)
+    }
+
+    fn open_maildir(&mut self, path: &str) -> Result<Host<'a, R>, OpenFault> {
+        open_system(self.rt, self.alloc, path)
+    }
+
+    fn close_maildir(&mut self, _path: &str, _maildir: Host<'a, R>) {}
+}
+
+// The system calls that reach the Maildir at a path.
+fn open_system<'a, R: Files<File = File> + Clock>(
+    rt: &'a R,
+    alloc: Global,
+    path: &str,
+) -> Result<Host<'a, R>, OpenFault>
+    ensures path { IfOk result (λ system. root_at system ≡ path.now) }
+{
+    let folder = DiskFolder::open_at(rt, alloc, path)?;
+    Ok(folder.into_system())
+}

@@ -1,0 +1,59 @@
+// What the program asks of the machine that it runs on.
+ghost use Rattle.std.specs.Prelude.{◌≡◌, ℕ, List, Some, IfOk, OnOk, OnErr};
+ghost use Rattle.maildir_commands.specs.Machines.{Held, Rests, held};
+
+use maildir_disk::{OpenFault, System};
+use std::io;
+use std::io::Read;
+
+/// A machine: it opens sources and Maildirs by the words that name them. Other programs may act on a Maildir before,
+/// within and after each call.
+pub trait Machine {
+    /// A source that is open.
+    type Source: Read + Drop;
+
+    /// A Maildir that is open.
+    type Maildir: System + Drop;
+
+    /// The text of the source that a word names.
+    ghost text_of: { Self → List ℕ → List ℕ };
+
+    /// The Maildir that a word names, while it is not open.
+    ghost maildir_at: { Self → List ℕ → Held };
+
+    /// The Maildir that a word names is open, by this word.
+    ghost is_open: { Self → List ℕ → Type 0 };
+
+    /// Two words name the same Maildir.
+    ghost same: { List ℕ → List ℕ → Type 0 };
+
+    /// Its calls do what their contracts say.
+    ghost honest: { Self → Type 0 };
+
+    /// Opens a source.
+    fn open_source(&mut self, path: &str) -> io::Result<Self::Source>
+        ensures honest { honest self.old → honest self.new }
+        ensures texts { honest self.old → text_of self.new ≡ text_of self.old }
+        ensures text { honest self.old → IfOk result (λ source. Self.Source.remaining source ≡ Some (text_of self.old path.now)) }
+        ensures rests { honest self.old → (word : List ℕ) → Rests (maildir_at self.old word) (maildir_at self.new word) }
+        ensures still_open { honest self.old → (word : List ℕ) → is_open self.old word → is_open self.new word };
+
+    /// Opens a Maildir, which is made where it is missing.
+    fn open_maildir(&mut self, path: &str) -> Result<Self::Maildir, OpenFault>
+        ensures honest { honest self.old → honest self.new }
+        ensures texts { honest self.old → text_of self.new ≡ text_of self.old }
+        ensures open { honest self.old → OnOk result (is_open self.new path.now) }
+        ensures works { honest self.old → IfOk result Self.Maildir.honest }
+        ensures opens { honest self.old → IfOk result (λ maildir. Rests (maildir_at self.old path.now)
+            (held Self.Maildir.world Self.Maildir.may_leave Self.Maildir.rooted maildir)) }
+        ensures rests { honest self.old → OnErr result (Rests (maildir_at self.old path.now) (maildir_at self.new path.now)) }
+        ensures others { honest self.old → (word : List ℕ) → ¬ same path.now word → Rests (maildir_at self.old word) (maildir_at self.new word) };
+
+    /// Closes a Maildir, which was opened by this word.
+    fn close_maildir(&mut self, path: &str, maildir: Self::Maildir)
+        ensures texts { honest self.old → text_of self.new ≡ text_of self.old }
+        ensures closes { honest self.old → is_open self.old path.now → Rests
+            (held Self.Maildir.world Self.Maildir.may_leave Self.Maildir.rooted maildir)
+            (maildir_at self.new path.now) }
+        ensures others { honest self.old → (word : List ℕ) → ¬ same path.now word → Rests (maildir_at self.old word) (maildir_at self.new word) };
+}
