@@ -19,7 +19,10 @@ pub struct Computer<'a, R> {
 
 impl<'a, R> Computer<'a, R> {
     /// The machine that this runtime stands for.
-    pub fn new(rt: &'a R, alloc: Global) -> Self {
+    pub fn new(rt: &'a R, alloc: Global) -> Self
+        ensures runtime { result.rt.now ≡ rt.now }
+        ensures allocator { result.alloc ≡ alloc }
+    {
         Computer { rt, alloc }
     }
 }

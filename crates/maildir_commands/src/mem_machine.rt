@@ -1,5 +1,5 @@
 // A machine in memory.
-ghost use Rattle.std.specs.Prelude.{IsSome, IsTrue};
+ghost use Rattle.std.specs.Prelude.{◌≡◌, ℕ, List, None, Some, IfSome, IsSome, IsTrue, OnOk, string_bytes};
 ghost use Rattle.std.specs.BTreeMap.{get_by_text};
 ghost use Rattle.std.specs.Str.{bytes_eq};
 
@@ -30,7 +30,10 @@ pub struct MemMachine<'a> {
 
 impl<'a> MemMachine<'a> {
     /// A machine with these texts and no Maildir.
-    pub fn new(alloc: Global, texts: &'a [NamedText<'a>]) -> Self {
+    pub fn new(alloc: Global, texts: &'a [NamedText<'a>]) -> Self
+        ensures texts { result.texts.now ≡ texts.now }
+        ensures none { (word : List ℕ) → get_by_text result.maildirs word ≡ None }
+    {
         MemMachine {
             texts,
             maildirs: BTreeMap::new(alloc),
@@ -42,13 +45,18 @@ impl<'a> MemMachine<'a> {
         &mut self,
         word: String,
         maildir: MemSystem,
-    ) -> Result<(), AllocFailed<(String, Option<MemSystem>)>> {
+    ) -> Result<(), AllocFailed<(String, Option<MemSystem>)>>
+        ensures texts { self.new.texts ≡ self.old.texts }
+        ensures put { OnOk result (get_by_text self.new.maildirs (string_bytes word) ≡ Some (Some maildir)) }
+    {
         self.maildirs.insert(word, Some(maildir))?;
         Ok(())
     }
 
     /// The Maildir under a word.
-    pub fn maildir(&self, word: &str) -> Option<&MemSystem> {
+    pub fn maildir(&self, word: &str) -> Option<&MemSystem>
+        ensures { IfSome result (λ maildir. get_by_text self.now.maildirs word.now ≡ Some (Some maildir.now)) }
+    {
         match self.maildirs.get(word) {
             Some(Some(maildir)) => Some(maildir),
             _ => None,
