@@ -2,8 +2,9 @@
 """Holds docs/PROMISES.md to the sources: what it names is there, and each must-fail edit is named.
 
 In its tables a row that says `proved` names calls as `call: clause, clause`, or a call alone for a clause without a name;
-the column Edits names edits. A call of a type or a trait is named with it, as `Folder::list`. The column Test names
-tests, as `name in crate` or `name in file`. Whatever else a page calls by words with underscores between them, but for
+the column Edits names edits by their mistakes: the file of one is named for the function that it changes and the mistake,
+as `Splitter.new.begins_refused.edit`. A call of a type or a trait is named with it, as `Folder::list`. The column Test
+names tests, as `name in crate` or `name in file`. Whatever else a page calls by words with underscores between them, but for
 the commands that it shows, is to be somewhere in the sources.
 """
 import re
@@ -94,6 +95,18 @@ def wrong_tests(row):
                 yield f"the test {name} is not in {place}"
 
 
+def wrong_edits(edits, functions):
+    """An edit of no function that is there, and two of one name."""
+    seen = {}
+    for path in edits:
+        *function, mistake = path.stem.split(".")
+        if function and not functions.of_call("::".join(function)):
+            yield f"the edit {path.stem} is of no function in the sources"
+        if mistake in seen:
+            yield f"the edits {seen[mistake]} and {path.stem} have one name"
+        seen[mistake] = path.stem
+
+
 def words_of_sources():
     """Each name that has underscores, of the sources of the crates and the tests, and of their files."""
     files = [path for path in TOP.glob("crates/*/*/**/*") if path.is_file() and path.relative_to(TOP).parts[2] != "out"]
@@ -105,9 +118,10 @@ def words_of_sources():
 def main():
     promises = (TOP / "docs/PROMISES.md").read_text(encoding="utf-8")
     crates = {path.name for path in TOP.glob("crates/*")}
-    edits = {path.stem for path in TOP.glob("crates/*/must-fail/*.edit")}
+    files = sorted(TOP.glob("crates/*/must-fail/*.edit"))
+    edits = {path.stem.rpartition(".")[2] for path in files}
     functions = Functions()
-    wrong, named = [], set()
+    wrong, named = [*wrong_edits(files, functions)], set()
     for row in rows(promises):
         named.update(SPAN.findall(row.get("Edits", "")))
         wrong.extend(wrong_tests(row))
