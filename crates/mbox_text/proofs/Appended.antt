@@ -1,10 +1,8 @@
 -- What a writer took, piece after piece.
-use Rattle.std.proofs.Common.{◌≡◌, ℕ, ◌+◌, ◌-◌, Option, Result, Ok, Err, List, [], ◌++◌, length, take, drop, sym, ◌∙◌, ap, append_assoc}
-use Rattle.std.specs.Prelude.{IsErr}
+use Rattle.std.proofs.Common.{◌≡◌, ℕ, ◌+◌, ◌-◌, Option, Result, Ok, Err, List, [], ◌++◌, length, take, drop, sym, ◌∙◌, ap, append_assoc, IsErr, take-append-drop, append-nil, refl}
 use Rattle.std.specs.Io.KnownBytes.{Appends}
 use Rattle.std.proofs.KnownBytes.{Appends-trans}
-use Rattle.std.proofs.lemmas.Bool.{false≢true}
-use Rattle.std.proofs.lemmas.List.{take-append-drop, append-nil}
+use Rattle.std.proofs.lemmas.Result.{MatchResult-from_err}
 use Rattle.mbox_text.specs.Writing.{AppendsFront, Writes}
 use Rattle.mbox_text.proofs.Fields.{take-at}
 
@@ -26,12 +24,11 @@ pub part_more : (bytes : List ℕ) (a b c : Option (List ℕ)) (at n : ℕ) → 
 part_more bytes a b c at n h k =
     rw (take-at bytes at n) (Appends-trans a b c (take at bytes) (take n (take (length bytes - at) (drop at bytes))) h k)
 
--- an answer that is a fault
-pub err_writes : {T E : Type 0} (r : Result T E) (a b : Option (List ℕ)) (bytes : List ℕ) → IsErr r → AppendsFront a b bytes → Writes a b r bytes
-err_writes (Ok x) a b bytes e f = absurd (false≢true e)
-err_writes (Err x) a b bytes e f = f
+-- a fault in the first of two parts
+pub broke : {T E : Type 0} (r : Result T E) (a b : Option (List ℕ)) (y z : List ℕ) → IsErr r → AppendsFront a b y → Writes a b r (y ++ z)
+broke r a b y z is h = MatchResult-from_err r _ _ is (λ _. front_more a b y z (y ++ z) h refl)
 
 -- some bytes, and then an answer on others
-pub writes_then : {T E : Type 0} (r : Result T E) (a b c : Option (List ℕ)) (x y all : List ℕ) → Appends a b x → Writes b c r y → all ≡ x ++ y → Writes a c r all
-writes_then (Ok t) a b c x y all h w e = rw e (Appends-trans a b c x y h w)
-writes_then (Err t) a b c x y all h w e = front_then a b c x y [] all h w (e ∙ ap (λ z. x ++ z) (sym (append-nil y)))
+pub wrote : {T E : Type 0} (r : Result T E) (a b c : Option (List ℕ)) (x y : List ℕ) → Appends a b x → Writes b c r y → Writes a c r (x ++ y)
+wrote (Ok t) a b c x y h w = Appends-trans a b c x y h w
+wrote (Err t) a b c x y h w = front_then a b c x y [] (x ++ y) h w (ap (λ z. x ++ z) (sym (append-nil y)))

@@ -1,6 +1,5 @@
 -- From_ lines that are taken apart and built.
-use Rattle.std.proofs.Common.{◌≡◌, ℕ, zero, suc, add-zero, ◌+◌, ◌-◌, ◌<◌, ◌≤◌, true, false, Option, Some, None, Result, Ok, Err, cond, eqb, List, [], ◌∷◌, ◌++◌, get_or, length, take, drop, map, refl, sym, ◌∙◌, ap, arith, append_assoc, inl, inr}
-use Rattle.std.specs.Prelude.{◌||◌, Contains, OnOk, codes, is_ok, is_some}
+use Rattle.std.proofs.Common.{◌≡◌, ℕ, zero, suc, add-zero, ◌+◌, ◌-◌, ◌<◌, ◌≤◌, true, false, Option, Some, None, Result, Ok, Err, cond, eqb, List, [], ◌∷◌, ◌++◌, get_or, length, take, drop, map, refl, sym, ◌∙◌, ap, arith, append_assoc, inl, inr, ◌||◌, Contains, OnOk, codes, is_ok, is_some}
 use Rattle.std.proofs.lemmas.Bool.{both_ways, cases_Bool, eq-eqb, ne_eqb, or_parts, false_from_ne_true, false≢true}
 use Rattle.std.proofs.lemmas.List.{append-nil, drop_at, drop_more, get_or-drop, length-drop, length-take, take_rest}
 use Rattle.memchr.specs.Find.{IsFirstByte, is_byte}
@@ -10,9 +9,9 @@ use Rattle.mbox_text.specs.FromLine.{IsFromLine, before_space, past_spaces, send
 use Rattle.mbox_text.proofs.LineEnds.{none-there, NoEnd-append, NoEnd-at}
 
 -- a list that a call extended
-pub extended_by : {E : Type 0} (r : Result (Unit {0}) E) (now was ys zs : List ℕ) → now ≡ cond (is_ok r) (was ++ ys) was → ys ≡ zs → OnOk r (now ≡ was ++ zs)
-extended_by (Ok u) now was ys zs e e' = rw (← e') e
-extended_by (Err x) now was ys zs e e' = tt
+pub extended_by : {E : Type 0} (r : Result (Unit {0}) E) {now : List ℕ} (was : List ℕ) {ys zs : List ℕ} → now ≡ cond (is_ok r) (was ++ ys) was → ys ≡ zs → OnOk r (now ≡ was ++ zs)
+extended_by (Ok u) was e e' = rw (← e') e
+extended_by (Err x) was e e' = tt
 
 pub cleaned-none : (s : List ℕ) → length s ≡ 0 → codes "MAILER-DAEMON" ≡ cleaned s
 unfolding cleaned
@@ -61,7 +60,7 @@ past-behind (c ∷ r) = refl
 pub rest-built : (s r : List ℕ) → rest (built s r) ≡ past_spaces r
 unfolding rest built
 rest-built s r =
-    let P : List ℕ → List ℕ = λ z. past_spaces (drop (length z) (cleaned s ++ behind_sender r)) in
+    let P = λ (z : List ℕ). past_spaces (drop (length z) (cleaned s ++ behind_sender r)) in
     ap P (sender-built s r) ∙ (rw (drop_at (cleaned s) (behind_sender r) (length (cleaned s)) refl) (past-behind r))
 
 NoEnd-map : (s : List ℕ) → NoEnd (map hyphened s)
@@ -81,9 +80,9 @@ built-line : (s r : List ℕ) → NoEnd r → IsFromLine (built s r)
 unfolding built begins_from
 built-line s r h = (refl, NoEnd-append from_bytes (cleaned s ++ behind_sender r) (refl, (refl, (refl, (refl, (refl, tt))))) (NoEnd-append (cleaned s) (behind_sender r) (NoEnd-cleaned s) (NoEnd-behind r h)))
 
-pub is-built : (line s r : List ℕ) (found : Option ℕ) → IsFirstByte (is_byte 10) r found → is_some found ≡ false → line ≡ built s r → IsFromLine line
-is-built line s r None h e is = rw is (built-line s r (none-there r h))
-is-built line s r (Some n) h e is = absurd (false≢true (sym e))
+pub is-built : {line : List ℕ} (s r : List ℕ) (found : Option ℕ) → IsFirstByte (is_byte 10) r found → is_some found ≡ false → line ≡ built s r → IsFromLine line
+is-built s r None h e is = rw is (built-line s r (none-there r h))
+is-built s r (Some n) h e is = absurd (false≢true (sym e))
 
 pub not-found : (r : List ℕ) (found : Option ℕ) → IsFirstByte (is_byte 10) r found → is_some found ≡ false → Contains r 10 → ⊥
 not-found r None h e there = both_ways (eqb (get_or r there.0 10) 10) (NoEnd-at r there.0 10 (none-there r h) there.1) (eq-eqb _ 10 there.2)
@@ -133,13 +132,13 @@ pub past-stop : (s : List ℕ) (at : ℕ) → (at < length s → get_or s at 0 �
 past-stop s at h = past-plain (drop at s) (λ l e. h (omega (arith, l, length-drop at s)) (sym (get_or-drop at s 0 0 ∙ ap (λ i. get_or s i 0) (add-zero at)) ∙ e))
 
 -- the parts of a From_ line, where the first space behind `From ` has this place
-pub sender-at : (line behind : List ℕ) (n : ℕ) → behind ≡ drop 5 line → take n behind ≡ before_space behind → take n behind ≡ sender line
+pub sender-at : (line : List ℕ) {behind : List ℕ} (n : ℕ) → behind ≡ drop 5 line → take n behind ≡ before_space behind → take n behind ≡ sender line
 unfolding sender
-sender-at line behind n e b = b ∙ ap (λ z. before_space z) e
+sender-at line n e b = b ∙ ap (λ z. before_space z) e
 
-pub rest-at : (line behind result : List ℕ) (n : ℕ) → behind ≡ drop 5 line → n ≤ length behind → take n behind ≡ before_space behind
+pub rest-at : (line : List ℕ) {behind result : List ℕ} (n : ℕ) → behind ≡ drop 5 line → n ≤ length behind → take n behind ≡ before_space behind
     → result ≡ past_spaces (take (length behind - n) (drop n behind)) → result ≡ rest line
 unfolding rest
-rest-at line behind result n e w b is =
-    let size : length (sender line) ≡ n = ap length (sym (sender-at line behind n e b)) ∙ omega (arith, length-take n behind, w) in
+rest-at line {behind} n e w b is =
+    let size : length (sender line) ≡ n = ap length (sym (sender-at line n e b)) ∙ omega (arith, length-take n behind, w) in
     rw (is, take_rest behind n, size, e) refl

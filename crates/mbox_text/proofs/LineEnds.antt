@@ -17,7 +17,7 @@ NoEnd-take (c ∷ s) (suc n) h = (false_from_ne_true (eqb c 10) (h 0 (omega arit
 
 pub NoEnd-behind : (s : List ℕ) (n : ℕ) → IsLastByte (is_byte 10) s (Some n) → NoEnd (drop (n + 1) s)
 NoEnd-behind s n h =
-    let D : List ℕ = drop (n + 1) s in
+    let D = drop (n + 1) s in
     let whole : take (length D) D ≡ D = take_all (length D) D (omega arith) in
     rw (← whole) (NoEnd-take D (length D) (λ k l e. h.0.after ((n + 1) + k) (omega arith) (omega (arith, l, length-drop (n + 1) s)) (ap (is_byte 10) (sym (get_or-drop (n + 1) s k 0)) ∙ e)))
 
@@ -29,7 +29,7 @@ pub record LineThere (s : List ℕ) (n : ℕ) : Type 0 where
 
 pub line-there : (s : List ℕ) (n : ℕ) → IsFirstByte (is_byte 10) s (Some n) → LineThere s n
 line-there s n h =
-    let lt : n < length s = h.0.high in
+    let lt = h.0.high in
     record {
       within = lt;
       is = take_more s n 0 lt ∙ ap (λ c. take n s ++ c ∷ []) (eqb-true (get_or s n 0) 10 h.1);

@@ -1,6 +1,5 @@
 -- Lemmas on lines and quoting.
-use Rattle.std.proofs.Common.{◌≡◌, ℕ, Bool, true, false, eqb, List, [], ◌∷◌, ◌++◌, ◌+◌, ◌<◌, add-zero, length, get_or, drop, refl, sym, ◌∙◌, ap, arith, append_assoc, inl, inr}
-use Rattle.std.specs.Prelude.{◌&&◌, MatchBool}
+use Rattle.std.proofs.Common.{◌≡◌, ℕ, Bool, true, false, eqb, List, [], ◌∷◌, ◌++◌, ◌+◌, ◌<◌, add-zero, length, get_or, drop, refl, sym, ◌∙◌, ap, arith, append_assoc, inl, inr, ◌&&◌, MatchBool}
 use Rattle.std.specs.List.{concat, starts_with}
 use Rattle.std.proofs.lemmas.Bool.{false≢true, cases_Bool, eqb-true, ne_eqb, eq-eqb, cases_lt, and_parts, and_from}
 use Rattle.std.proofs.lemmas.List.{drop_more, drop_all, get_or-drop}
@@ -65,10 +64,10 @@ lines-cut (c ∷ front) back =
       | inr e ↦ let f = lines-last front in rw (e, lines-cut front back) (rw f.2 refl)
     ]
 
-pub lines-append : (front back : List ℕ) → Ended front → lines (front ++ back) ≡ lines front ++ lines back
+pub lines-append : {front : List ℕ} (back : List ℕ) → Ended front → lines (front ++ back) ≡ lines front ++ lines back
 unfolding lines
-lines-append front back (inl e) = rw e refl
-lines-append front back (inr e) = rw (e.1) (rw append_assoc (lines-cut e.0 back))
+lines-append back (inl e) = rw e refl
+lines-append back (inr e) = rw (e.1) (rw append_assoc (lines-cut e.0 back))
 
 -- the lines make up the text
 concat-before : (c : ℕ) (ls : List (List ℕ)) → concat (before_first c ls) ≡ c ∷ concat ls
@@ -138,7 +137,7 @@ quotable-plain (c ∷ line) h = rw (ne_eqb c 62 h) refl
 pub unquoted-mark : (line : List ℕ) → get_or line 0 0 ≡ 62 → quotable line ≡ true → unquoted line ≡ drop 1 line
 unfolding unquoted quotable
 unquoted-mark [] e q = refl
-unquoted-mark (c ∷ line) e q = let h : eqb c 62 ≡ true = eq-eqb c 62 e in rw (h, rw h at q) refl
+unquoted-mark (c ∷ line) e q = let h = eq-eqb c 62 e in rw (h, rw h at q) refl
 
 pub unquoted-plain : (line : List ℕ) → (0 < length line → get_or line 0 0 ≡ 62 → ⊥) → unquoted line ≡ line
 unfolding unquoted
@@ -158,10 +157,10 @@ quotable-stop line at h =
       | inr g ↦ let z : get_or (drop at line) 0 0 ≡ 0 = rw (drop_all at line g) refl in absurd (omega (arith, z, e))
     ])
 
-pub unquoted_cases : (line : List ℕ) (b : Bool) → 0 < length line → get_or line 0 0 ≡ 62 → b ≡ quotable line
+pub unquoted_cases : (line : List ℕ) {b : Bool} → 0 < length line → get_or line 0 0 ≡ 62 → b ≡ quotable line
     → MatchBool b ((0 < length line) × (unquoted line ≡ drop 1 line)) (unquoted line ≡ line)
-unquoted_cases line true l e q = (l, unquoted-mark line e (sym q))
-unquoted_cases line false l e q = unquoted-other line (sym q)
+unquoted_cases line {b = true} l e q = (l, unquoted-mark line e (sym q))
+unquoted_cases line {b = false} l e q = unquoted-other line (sym q)
 
 -- the last line tells whether a body lacks its end
 pub missing-ended : (front : List ℕ) → missing_end (front ++ 10 ∷ []) ≡ []
