@@ -1,5 +1,5 @@
 -- The bases of targets: their parts, and that they are this converter's.
-use Rattle.std.proofs.Common.{◌≡◌, ℕ, zero, suc, ◌+◌, ◌/◌, ◌%◌, ◌^◌, ◌<◌, true, ◌&&◌, leb, List, [], ◌∷◌, ◌++◌, length, get_or, take, drop, slice_index, refl, sym, ◌∙◌, ap, arith, Ok, decimal, append_assoc, inl, inr, lit<}
+use Rattle.std.proofs.Common.{◌≡◌, ℕ, zero, suc, ◌+◌, ◌/◌, ◌%◌, ◌^◌, ◌<◌, true, ◌&&◌, leb, List, [], ◌∷◌, ◌++◌, length, get_or, take, drop, slice_index, refl, sym, ◌∙◌, ap, arith, decimal, append_assoc, inl, inr, lit<}
 use Rattle.std.specs.List.{list_all}
 use Rattle.std.specs.Int.{byte_at, bytes_high_first, to_be_bytes, w32}
 use Rattle.std.specs.Str.{all_ascii_digits}
@@ -72,7 +72,7 @@ numbered-digits body n = take_at (digest_text body) (46 ∷ decimal n) 64 (lengt
 
 pub numbered-number : (body : List ℕ) (n : ℕ) → drop 65 (numbered body n) ≡ decimal n
 numbered-number body n =
-    let dot : digest_text body ++ (46 ∷ []) ++ decimal n ≡ numbered body n = append_assoc (digest_text body) (46 ∷ []) (decimal n) in
+    let dot = append_assoc (digest_text body) (46 ∷ []) (decimal n) in
     let len : length (digest_text body ++ 46 ∷ []) ≡ 65 = length_push (digest_text body) 46 ∙ ap (λ k. k + 1) (length-digest_text body) in
     rw (sym dot) (drop_at (digest_text body ++ 46 ∷ []) (decimal n) 65 len)
 
@@ -89,16 +89,16 @@ occurrence-decimal n some small =
 pub numbered-converter : (body : List ℕ) (n : ℕ) → 0 < n → n < 2 ^ 64 → IsConverterBase (numbered body n)
 unfolding is_converter_base
 numbered-converter body n some small =
-    let dot : get_or (numbered body n) 64 0 ≡ 46 = get_or_at (digest_text body) 46 (decimal n) 0 64 (length-digest_text body) in
+    let dot = get_or_at (digest_text body) 46 (decimal n) 0 64 (length-digest_text body) in
     rw (numbered-digits body n, digits-encode (sha256 body) (bytes-sha256 body), dot, numbered-number body n) (occurrence-decimal n some small)
 
 -- equal bases have equal digests and numbers
 pub same-digest : (a b : List ℕ) (m n : ℕ) → numbered a m ≡ numbered b n → sha256 a ≡ sha256 b
 same-digest a b m n e =
-    let text : digest_text a ≡ digest_text b = sym (numbered-digits a m) ∙ (ap (take 64) e ∙ numbered-digits b n) in
+    let text = sym (numbered-digits a m) ∙ (ap (take 64) e ∙ numbered-digits b n) in
     let one = decode_of-encode_lower (sha256 a) (IsBytes-AllBytes (sha256 a) (bytes-sha256 a)) in
     let other = decode_of-encode_lower (sha256 b) (IsBytes-AllBytes (sha256 b) (bytes-sha256 b)) in
-    let both : Ok (sha256 a) ≡ Ok (sha256 b) = sym one ∙ (ap decode_of text ∙ other) in cc both
+    let both = sym one ∙ (ap decode_of text ∙ other) in cc both
 
 pub same-number : (a b : List ℕ) (m n : ℕ) → m < 2 ^ 64 → n < 2 ^ 64 → numbered a m ≡ numbered b n → m ≡ n
 same-number a b m n small small' e =

@@ -77,7 +77,7 @@ bases-more body bodies last before h =
     let count = count-push (bytes_eq body) bodies last in
     elim (cases_Bool (bytes_eq body last)) [
       | inl t ↦
-          let same : last ≡ body = sym ((bytes_decides body last).0 t) in
+          let same = sym ((bytes_decides body last).0 t) in
           let number : number_after bodies body ≡ n + 1 = number_after-is bodies body ∙ ap (λ k. k + 1) (count-alone body bodies alone) in
           let base : (target bodies last).base ≡ numbered body (n + 1) =
           target-base bodies last ∙ (ap (λ b. numbered b (number_after bodies b)) same ∙ ap (numbered body) number) in

@@ -13,7 +13,7 @@ target_at bodies k = target (take k bodies) (get_or bodies k [])
 -- places of the front keep their targets
 pub target_at-append : (bodies more : List (List ℕ)) (k : ℕ) → k < length bodies → target_at (bodies ++ more) k ≡ target_at bodies k
 target_at-append bodies more k h =
-    let l : k ≤ length bodies = le_of_lt h in
+    let l = le_of_lt h in
     rw (take-append-le k bodies more l, get_or_append_left bodies more [] k h) refl
 
 pub length-targets : (bodies : List (List ℕ)) → length (targets bodies) ≡ length bodies
