@@ -80,27 +80,22 @@ pub record Reads (name body rest line behind : List ℕ) (n : ℕ) : Type 0 wher
   pub front : line ≡ take n rest
   pub back : behind ≡ drop n rest
 
-reads_line : {name body rest line behind : List ℕ} {n : ℕ} → Reads name body rest line behind n → lines rest ≡ line ∷ lines behind
-reads_line r = rw (r.front, r.back) r.first
+module _ {name body rest line behind : List ℕ} {n : ℕ} (r : Reads name body rest line behind n) where
+  reads_line : lines rest ≡ line ∷ lines behind
+  reads_line = rw (r.front, r.back) r.first
 
-pub field_blank : (name body rest line behind : List ℕ) (n : ℕ) → Reads name body rest line behind n → {blank : Bool} → blank ≡ is_blank line → blank ≡ true → [] ≡ field name (header body)
-field_blank name body rest line behind n r e t =
-    sym (field-nil name) ∙ (ap (field name) (sym (header-blank rest (reads_line r) (sym e ∙ t))) ∙ r.same)
+  pub field_blank : {blank : Bool} → blank ≡ is_blank line → blank ≡ true → [] ≡ field name (header body)
+  field_blank e t = sym (field-nil name) ∙ (ap (field name) (sym (header-blank rest reads_line (sym e ∙ t))) ∙ r.same)
 
-reads_more : {name body rest line behind : List ℕ} {n : ℕ} → Reads name body rest line behind n → {blank : Bool} → blank ≡ is_blank line → blank ≡ false
-    → field name (line ∷ header behind) ≡ field name (header body)
-reads_more {name} {rest} {behind} r e f =
-    ap (field name) (sym (header-line rest behind (reads_line r) (sym e ∙ f))) ∙ r.same
+  module _ {blank begins : Bool} (e : blank ≡ is_blank line) (f : blank ≡ false) (e' : begins ≡ begins_with_name name line) where
+    reads_more : field name (line ∷ header behind) ≡ field name (header body)
+    reads_more = ap (field name) (sym (header-line rest behind reads_line (sym e ∙ f))) ∙ r.same
 
-pub field_then : (name body rest line behind : List ℕ) (n : ℕ) → Reads name body rest line behind n → {blank begins : Bool} → blank ≡ is_blank line → blank ≡ false
-    → begins ≡ begins_with_name name line → begins ≡ true → take (length line - length name) (drop (length name) line) ≡ field name (header body)
-field_then name body rest line behind n r e f e' t =
-    take_rest line (length name) ∙ (sym (field-found name line (header behind) (sym e' ∙ t)) ∙ reads_more r e f)
+    pub field_then : begins ≡ true → take (length line - length name) (drop (length name) line) ≡ field name (header body)
+    field_then t = take_rest line (length name) ∙ (sym (field-found name line (header behind) (sym e' ∙ t)) ∙ reads_more)
 
-pub field_else : (name body rest line behind : List ℕ) (n : ℕ) → Reads name body rest line behind n → {blank begins : Bool} → blank ≡ is_blank line → blank ≡ false
-    → begins ≡ begins_with_name name line → begins ≡ false → field name (header behind) ≡ field name (header body)
-field_else name body rest line behind n r e f e' f' =
-    sym (field-passed name line (header behind) (sym e' ∙ f')) ∙ reads_more r e f
+    pub field_else : begins ≡ false → field name (header behind) ≡ field name (header body)
+    field_else t = sym (field-passed name line (header behind) (sym e' ∙ t)) ∙ reads_more
 
 pub field_end : (name body rest : List ℕ) {empty : Bool} → field name (header rest) ≡ field name (header body) → empty ≡ eqb (length rest) 0 → empty ≡ true → [] ≡ field name (header body)
 field_end name body rest same e t =

@@ -3,9 +3,9 @@ use Rattle.maildir_name.proofs.namer.Namer.target.Goals as goal
 
 pub returns-clause-next : goal.returns-clause-next
 returns-clause-next c bodies held small =
-    next-counted c.args.body.now c.digest-digest.result c.count.result c.saturating_add-number.result c.set_count.new.self
+    next-counted {body = c.args.body.now} {new = c.set_count.new.self}
     (record { digest_is = c.digest-digest.ensures; count_is = c.count.ensures; number_is = c.saturating_add-number.ensures; set = c.in_ok-set_count.ensures.set })
-    c.in_ok-base.ensures c.flags_of.ensures c.in_ok-target.ensures held small
+    held small c.in_ok-base.ensures c.flags_of.ensures c.in_ok-target.ensures
 
 pub returns-clause-base : goal.returns-clause-base
 returns-clause-base c =
