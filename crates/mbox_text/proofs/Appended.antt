@@ -1,5 +1,5 @@
 -- What a writer took, piece after piece.
-use Rattle.std.proofs.Common.{◌≡◌, ℕ, ◌+◌, ◌-◌, Option, Result, Ok, Err, List, [], ◌++◌, length, take, drop, sym, ◌∙◌, ap, append_assoc, IsErr, take-append-drop, append-nil, refl}
+use Rattle.std.proofs.Common.{◌≡◌, ℕ, ◌+◌, ◌-◌, Option, Result, Ok, Err, List, [], ◌++◌, length, take, drop, sym, ap, append_assoc, IsErr, take-append-drop, append-nil, refl, arith}
 use Rattle.std.specs.Io.KnownBytes.{Appends}
 use Rattle.std.proofs.KnownBytes.{Appends-trans}
 use Rattle.std.proofs.lemmas.Result.{MatchResult-from_err}
@@ -8,16 +8,15 @@ use Rattle.mbox_text.proofs.Fields.{take-at}
 
 -- a front of some bytes is a front of more
 pub front_more : (a b : Option (List ℕ)) (y z all : List ℕ) → AppendsFront a b y → all ≡ y ++ z → AppendsFront a b all
-front_more a b y z all f e = (f.0, f.1 ++ z, e ∙ ap (λ w. w ++ z) f.2 ∙ append_assoc f.0 f.1 z, f.3)
+front_more a b y z all f e = grind (arith, append_assoc f.0 f.1 z)
 
 -- some bytes, and then a front of others
 pub front_then : (a b c : Option (List ℕ)) (x y z all : List ℕ) → Appends a b x → AppendsFront b c y → all ≡ x ++ (y ++ z) → AppendsFront a c all
-front_then a b c x y z all h f e =
-    (x ++ f.0, f.1 ++ z, e ∙ ap (λ w. x ++ (w ++ z)) f.2 ∙ ap (λ w. x ++ w) (append_assoc f.0 f.1 z) ∙ sym (append_assoc x f.0 (f.1 ++ z)), Appends-trans a b c x f.0 h f.3)
+front_then a b c x y z all h f e = grind (arith, append_assoc f.0 f.1 z, append_assoc x f.0 (f.1 ++ z), Appends-trans a b c x f.0 h f.3)
 
 -- a front of known length
 pub front_at : (bytes : List ℕ) (a b : Option (List ℕ)) (n : ℕ) → Appends a b (take n bytes) → AppendsFront a b bytes
-front_at bytes a b n h = (take n bytes, drop n bytes, sym (take-append-drop n bytes), h)
+front_at bytes a b n h = grind (arith, take-append-drop n bytes)
 
 -- the next n bytes went out
 pub part_more : (bytes : List ℕ) (a b c : Option (List ℕ)) (at n : ℕ) → Appends a b (take at bytes) → Appends b c (take n (take (length bytes - at) (drop at bytes))) → Appends a c (take (at + n) bytes)

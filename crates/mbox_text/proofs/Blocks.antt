@@ -1,6 +1,6 @@
 -- A text that is read block by block.
 use Rattle.std.proofs.Common.{◌≡◌, ℕ, zero, suc, ◌+◌, ◌≤◌, ◌<◌, Some, None, true, false, eqb, List, [], ◌∷◌, ◌++◌, length, take, drop, refl, sym, ◌∙◌, ap, arith, append_assoc, inl, inr, ◌⊎◌, flat_map, take-add}
-use Rattle.std.proofs.lemmas.Bool.{both_ways, false≢true}
+use Rattle.std.proofs.lemmas.Bool.{both_ways}
 use Rattle.std.proofs.lemmas.List.{take-append-drop, take_all, drop_all, drop-drop, length-drop}
 use Rattle.memchr.specs.Find.{IsFirstByte, is_byte}
 use Rattle.mbox_text.specs.declared.entry.Entry.{Entry}
@@ -17,15 +17,14 @@ use Rattle.mbox_text.proofs.HeldLemmas.{Closed-push, Ended-append, unended-push,
 use Rattle.mbox_text.proofs.Last.{closed-last, from-block}
 
 -- whole lines, and then a From_ line
-pub body_stops : (text : List ℕ) {body : List ℕ} (n : ℕ) → n ≤ length text → Ended (take n text) → NoFrom (lines (take n text)) → begins_from (drop n text) ≡ true
+pub body_stops : {text body : List ℕ} {n : ℕ} → n ≤ length text → Ended (take n text) → NoFrom (lines (take n text)) → begins_from (drop n text) ≡ true
     → body ≡ chopped (flat_map unquoted (lines (take n text))) → IsFirstBody text n body
-body_stops text n within ends none b is =
-    record { within = within; none = none; is = is ∙ chopped-body ends; next = inr (ends, b) }
+body_stops within ends none b is = grind (arith, chopped-body ends)
 
 -- whole lines, and then one that lacks its `\n`
-pub body_ends : (text : List ℕ) {body : List ℕ} (n : ℕ) → Ended (take n text) → NoFrom (lines (take n text)) → begins_from (drop n text) ≡ false
+pub body_ends : {text body : List ℕ} (n : ℕ) → Ended (take n text) → NoFrom (lines (take n text)) → begins_from (drop n text) ≡ false
     → (begins_from (drop n text) ≡ true) ⊎ NoEnd (drop n text) → body ≡ chopped (flat_map unquoted (lines (take n text)) ++ unquoted (drop n text)) → IsFirstBody text (length text) body
-body_ends text n ends none b stops is =
+body_ends {text} n ends none b stops is =
     let part : NoEnd (drop n text) = elim stops [ inl y ↦ absurd (both_ways (begins_from (drop n text)) b y) | inr h ↦ h ] in
     let whole : take (length text) text ≡ take n text ++ drop n text = take_all (length text) text (omega arith) ∙ sym (take-append-drop n text) in
     let last = last_body (drop n text) ends none part b is in
@@ -66,7 +65,7 @@ block_there text head len e b found body from_line =
 pub block_alone : {text : List ℕ} (e : Entry) → begins_from text ≡ true → IsFirstByte (is_byte 10) text None → e.from_line ≡ text → e.body ≡ [] → IsFirstBlock text (length text) e
 block_alone {text} e b found from_line body =
     let whole : take (length text) text ≡ text = take_all (length text) text (omega arith) in
-    record { within = omega arith; block = rw whole (from-block text e (none-there text found) b from_line body); next = inl refl }
+    record { within = omega arith; block = rw whole (from-block text (none-there text found) b from_line body); next = inl refl }
 
 -- a block is not empty
 block-some : (len : ℕ) (text : List ℕ) {e : Entry} → Block (take len text) e → 0 < len
@@ -79,10 +78,10 @@ pub record SoFar (text : List ℕ) (entries : List Entry) (at : ℕ) : Type 0 wh
   pub within : at ≤ length text
   pub read : ((at ≡ length text) × Mbox text entries) ⊎ (Closed (take at text) entries × (begins_from (drop at text) ≡ true))
 
-pub so_far_none : (text : List ℕ) {entries : List Entry} → IsMboxText text → entries ≡ [] → SoFar text entries 0
+pub so_far_none : {text : List ℕ} {entries : List Entry} → IsMboxText text → entries ≡ [] → SoFar text entries 0
 unfolding Mbox Closed
-so_far_none text (inl e) none = record { within = omega arith; read = rw (e, none) (inl (refl, refl)) }
-so_far_none text (inr b) none = record { within = omega arith; read = rw none (inr (refl, b)) }
+so_far_none (inl e) none = grind (arith)
+so_far_none (inr b) none = grind (arith)
 
 pub so_far_more : {text : List ℕ} {entries : List Entry} {at len : ℕ} {e : Entry} → SoFar text entries at → at < length text → IsFirstBlock (drop at text) len e
     → SoFar text (entries ++ e ∷ []) (at + len)
@@ -104,17 +103,10 @@ so_far_more {text} {entries} {at} {len} s lt first =
 
 pub so_far_all : {text : List ℕ} {entries : List Entry} {at : ℕ} → SoFar text entries at → length text ≤ at → Mbox text entries
 unfolding begins_from
-so_far_all {text} {at} s le =
-    elim (s.read) [
-      | inl end ↦ end.1
-      | inr on ↦ let b = rw (drop_all at text le) at on.1 in absurd (false≢true b)
-    ]
+so_far_all {text} {at} s le = grind (arith, drop_all at text le)
 
 pub first-some : {text : List ℕ} {len : ℕ} {e : Entry} → IsFirstBlock text len e → 0 < len
 first-some {text} {len} first = block-some len text first.block
 
 pub not_mbox : (text : List ℕ) → eqb (length text) 0 ≡ false → begins_from text ≡ false → (entries : List Entry) → Mbox text entries → ⊥
-not_mbox text some b entries h = elim (mbox-starts text entries h) [
-  | inl e ↦ let n = rw e at some in false≢true (sym n)
-  | inr y ↦ both_ways (begins_from text) b y
-]
+not_mbox text some b entries h = grind (arith, mbox-starts text entries h)

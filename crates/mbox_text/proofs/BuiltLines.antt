@@ -1,6 +1,6 @@
 -- From_ lines that are taken apart and built.
-use Rattle.std.proofs.Common.{◌≡◌, ℕ, zero, suc, add-zero, ◌+◌, ◌-◌, ◌<◌, ◌≤◌, true, false, Option, Some, None, Result, Ok, Err, cond, eqb, List, [], ◌∷◌, ◌++◌, get_or, length, take, drop, map, refl, sym, ◌∙◌, ap, arith, append_assoc, inl, inr, ◌||◌, Contains, OnOk, codes, is_ok, is_some}
-use Rattle.std.proofs.lemmas.Bool.{both_ways, cases_Bool, eq-eqb, ne_eqb, or_parts, false_from_ne_true, false≢true}
+use Rattle.std.proofs.Common.{◌≡◌, ℕ, zero, suc, add-zero, ◌+◌, ◌-◌, ◌<◌, ◌≤◌, true, false, Option, Some, None, Result, Ok, Err, cond, eqb, List, [], ◌∷◌, ◌++◌, get_or, length, take, drop, map, refl, sym, ◌∙◌, ap, arith, append_assoc, Contains, OnOk, codes, is_ok, is_some}
+use Rattle.std.proofs.lemmas.Bool.{ne_eqb, false_from_ne_true, false≢true}
 use Rattle.std.proofs.lemmas.List.{append-nil, drop_at, drop_more, get_or-drop, length-drop, length-take, take_rest}
 use Rattle.memchr.specs.Find.{IsFirstByte, is_byte}
 use Rattle.mbox_text.specs.Lines.{NoEnd}
@@ -25,16 +25,10 @@ cleaned-some (c ∷ s) h = refl
 
 -- no byte of a sender is written as a space or as a `\n`
 hyphened-space : (c : ℕ) → eqb (hyphened c) 32 ≡ false
-hyphened-space c = elim (cases_Bool (eqb c 32 || (eqb c 9 || eqb c 10))) [
-  | inl e ↦ rw e refl
-  | inr e ↦ rw e (or_parts (eqb c 32) (eqb c 9 || eqb c 10) e).0
-]
+hyphened-space c = grind arith
 
 hyphened-end : (c : ℕ) → eqb (hyphened c) 10 ≡ false
-hyphened-end c = elim (cases_Bool (eqb c 32 || (eqb c 9 || eqb c 10))) [
-  | inl e ↦ rw e refl
-  | inr e ↦ rw e (or_parts (eqb c 9) (eqb c 10) (or_parts (eqb c 32) (eqb c 9 || eqb c 10) e).1).1
-]
+hyphened-end c = grind arith
 
 before-map : (s t : List ℕ) → before_space (map hyphened s ++ t) ≡ map hyphened s ++ before_space t
 before-map [] t = refl
@@ -69,7 +63,7 @@ NoEnd-map (c ∷ s) = (hyphened-end c, NoEnd-map s)
 
 NoEnd-cleaned : (s : List ℕ) → NoEnd (cleaned s)
 unfolding cleaned
-NoEnd-cleaned [] = (refl, (refl, (refl, (refl, (refl, (refl, (refl, (refl, (refl, (refl, (refl, (refl, (refl, tt)))))))))))))
+NoEnd-cleaned [] = grind (arith)
 NoEnd-cleaned (c ∷ s) = NoEnd-map (c ∷ s)
 
 NoEnd-behind : (r : List ℕ) → NoEnd r → NoEnd (behind_sender r)
@@ -78,14 +72,14 @@ NoEnd-behind (c ∷ r) h = (refl, h)
 
 built-line : (s r : List ℕ) → NoEnd r → IsFromLine (built s r)
 unfolding built begins_from
-built-line s r h = (refl, NoEnd-append from_bytes (cleaned s ++ behind_sender r) (refl, (refl, (refl, (refl, (refl, tt))))) (NoEnd-append (cleaned s) (behind_sender r) (NoEnd-cleaned s) (NoEnd-behind r h)))
+built-line s r h = grind (arith, NoEnd-append (cleaned s) (behind_sender r) (NoEnd-cleaned s) (NoEnd-behind r h))
 
 pub is-built : {line : List ℕ} (s r : List ℕ) (found : Option ℕ) → IsFirstByte (is_byte 10) r found → is_some found ≡ false → line ≡ built s r → IsFromLine line
 is-built s r None h e is = rw is (built-line s r (none-there r h))
 is-built s r (Some n) h e is = absurd (false≢true (sym e))
 
 pub not-found : (r : List ℕ) (found : Option ℕ) → IsFirstByte (is_byte 10) r found → is_some found ≡ false → Contains r 10 → ⊥
-not-found r None h e there = both_ways (eqb (get_or r there.0 10) 10) (NoEnd-at r there.0 10 (none-there r h) there.1) (eq-eqb _ 10 there.2)
+not-found r None h e there = grind (arith, NoEnd-at r there.0 10 (none-there r h) there.1)
 not-found r (Some n) h e there = absurd (false≢true (sym e))
 
 pub built-none : (s r : List ℕ) → length r ≡ 0 → from_bytes ++ cleaned s ≡ built s r
@@ -139,6 +133,4 @@ sender-at line n e b = b ∙ ap (λ z. before_space z) e
 pub rest-at : (line : List ℕ) {behind result : List ℕ} (n : ℕ) → behind ≡ drop 5 line → n ≤ length behind → take n behind ≡ before_space behind
     → result ≡ past_spaces (take (length behind - n) (drop n behind)) → result ≡ rest line
 unfolding rest
-rest-at line {behind} n e w b is =
-    let size : length (sender line) ≡ n = ap length (sym (sender-at line n e b)) ∙ omega (arith, length-take n behind, w) in
-    rw (is, take_rest behind n, size, e) refl
+rest-at line {behind} n e w b is = grind (arith, sender-at line n e b, length-take n behind, take_rest behind n)

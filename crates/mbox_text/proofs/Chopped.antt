@@ -1,5 +1,5 @@
 -- A body without its last line if that is `\n` alone.
-use Rattle.std.proofs.Common.{◌+◌, ◌-◌, ◌<◌, ◌≡◌, ℕ, Bool, true, false, eqb, List, [], ◌∷◌, ◌++◌, length, length-append, take, refl, sym, ◌∙◌, ap, arith, inl, inr, ◌&&◌, Decides, MatchBool, append-nil}
+use Rattle.std.proofs.Common.{◌-◌, ◌<◌, ◌≡◌, ℕ, Bool, true, false, eqb, List, [], ◌∷◌, ◌++◌, length, length-append, take, refl, sym, ◌∙◌, ap, arith, inl, inr, ◌&&◌, Decides, MatchBool, append-nil}
 use Rattle.std.specs.List.{flat_map, ends_with}
 use Rattle.std.proofs.lemmas.Bool.{cases_Bool, false≢true, both_ways, eqb-true, and_parts, and_right}
 use Rattle.std.proofs.Math.Seq.{take-append-add}
@@ -100,10 +100,7 @@ unfolding chopped_from
 chop_only e = rw e (omega arith, refl)
 
 chop_last : {b : List ℕ} (x : List ℕ) → b ≡ x ++ 10 ∷ 10 ∷ [] → (0 < length b) × (take (length b - 1) b ≡ chopped b)
-chop_last x e =
-    let size = length-append x (10 ∷ 10 ∷ []) in
-    let n : length (x ++ 10 ∷ 10 ∷ []) - 1 ≡ length x + 1 = omega (arith, size) in
-    rw e (omega (arith, size), rw (n, chop-blank true x) (take-append-add x (10 ∷ 10 ∷ []) 1))
+chop_last x e = grind (arith, length-append x (10 ∷ 10 ∷ []), chop-blank true x, take-append-add x (10 ∷ 10 ∷ []) 1)
 
 -- no other does
 chop-other : (front : Bool) (b : List ℕ) → (front ≡ true → b ≡ 10 ∷ [] → ⊥) → ((x : List ℕ) → b ≡ x ++ 10 ∷ 10 ∷ [] → ⊥) → b ≡ chopped_from front b

@@ -73,7 +73,7 @@ goes-on [] text g = rw (append-nil text) g
 goes-on (c ∷ more) text g = rw (← append_assoc text (c ∷ []) more) (goes-on more (text ++ c ∷ []) (goes-byte text c g))
 
 goes : (text : List ℕ) → Goes text
-goes text = goes-on text [] (inl (inl ([], [], held_none [] refl)))
+goes text = goes-on text [] (inl (inl ([], [], held_none refl)))
 
 pub head-all : {text : List ℕ} {given : List Entry} {line : List ℕ} → AtHead text given line → AllButLast text given
 unfolding Closed

@@ -1,7 +1,7 @@
 -- What a splitter holds, over the fields as the code changes them.
-use Rattle.std.proofs.Common.{◌≡◌, ℕ, ◌+◌, ◌-◌, true, false, eqb, List, [], ◌∷◌, ◌++◌, length, take, drop, refl, sym, ◌∙◌, inl, inr, Option, Some, None, Result, Ok, Err, IfOk, is_some, flat_map, take-add}
+use Rattle.std.proofs.Common.{◌≡◌, ℕ, ◌+◌, ◌-◌, true, false, eqb, List, [], ◌∷◌, ◌++◌, length, take, drop, refl, sym, ◌∙◌, inl, inr, Option, Some, None, Result, Ok, Err, IfOk, is_some, flat_map, take-add, arith}
 use Rattle.std.specs.declared.alloc.AllocError.{AllocError}
-use Rattle.std.proofs.lemmas.Bool.{both_ways, false_from_ne_true, false≢true, and_parts, ne_eqb, eqb-false, eqb-true, eq-eqb, and_right, cases_Bool}
+use Rattle.std.proofs.lemmas.Bool.{both_ways, false≢true, and_parts, ne_eqb, eqb-false, eqb-true, eq-eqb, cases_Bool}
 use Rattle.std.proofs.lemmas.List.{take-append-drop, append-nil, take_rest}
 use Rattle.mbox_text.specs.declared.entry.Entry.{Entry}
 use Rattle.mbox_text.specs.declared.partial_message.PartialMessage.{PartialMessage}
@@ -13,9 +13,9 @@ use Rattle.mbox_text.specs.Held.{chopped, AtHead, InBody, Held, Closed}
 use Rattle.mbox_text.proofs.HeldLemmas.{head-add, body-add, body-closes, head-ends, body-ends, body-lines}
 use Rattle.mbox_text.proofs.LineLemmas.{begins_from-more, begins_from-cut}
 
-pub held_none : (line : List ℕ) → line ≡ [] → AtHead [] [] line
+pub held_none : {line : List ℕ} → line ≡ [] → AtHead [] [] line
 unfolding Rattle.mbox_text.specs.Held.Closed
-held_none line e = record { front = []; is = sym e; closed = refl; part = rw e tt; head = inr (refl, rw e refl) }
+held_none e = grind (arith)
 
 pub some_ends : {message : Option PartialMessage} {m : PartialMessage} {line line1 body line' : List ℕ} → message ≡ Some m → line1 ≡ line
     → body ≡ (m.body.items ++ unquoted line1) ++ 10 ∷ [] → line' ≡ []
@@ -63,10 +63,7 @@ take-at text at n = rw (take_rest text at) (take-add at n text)
 -- the text so far is the line alone
 pub at_start : {text : List ℕ} {given : List Entry} {line : List ℕ} → AtHead text given line → begins_from line ≡ false → (given ≡ []) × (text ≡ line)
 unfolding Closed
-at_start {line} a b = elim (a.head) [
-  | inl y ↦ absurd (both_ways (begins_from line) b y)
-  | inr g ↦ let none = rw (g.0) at a.closed in (g.0, rw (a.is, none) refl)
-]
+at_start {line} a b = grind arith
 
 pub none_refuses : {message : Option PartialMessage} (line part : List ℕ) {line' line1 line2 : List ℕ} → message ≡ None → line' ≡ line ++ part
     → line1 ≡ line' → begins_from line1 ≡ false → line2 ≡ line' → begins_with line2 from_bytes ≡ false
@@ -84,7 +81,7 @@ pub begins_with-ended : (line prefix : List ℕ) → NoEnd prefix → begins_wit
 begins_with-ended [] [] h = refl
 begins_with-ended [] (p ∷ prefix) h = rw (ne_eqb 10 p (λ e. eqb-false p 10 h.0 (sym e))) refl
 begins_with-ended (c ∷ line) [] h = refl
-begins_with-ended (c ∷ line) (p ∷ prefix) h = rw (begins_with-ended line prefix h.1) (and_right (eqb c p) false refl)
+begins_with-ended (c ∷ line) (p ∷ prefix) h = grind (arith, begins_with-ended line prefix h.1)
 
 pub end_refuses : {message : Option PartialMessage} {line line1 : List ℕ} → message ≡ None → line1 ≡ line → begins_from line1 ≡ false
     → (text : List ℕ) (given : List Entry) → Held text given message line → (given ≡ []) × NeverFrom (text ++ 10 ∷ [])
@@ -116,10 +113,7 @@ begins_with-short (c ∷ t) (p ∷ ps) more h =
 
 pub never-more : (text more : List ℕ) → NeverFrom text → NeverFrom (text ++ more)
 unfolding begins_from
-never-more text more h = (
-  false_from_ne_true (begins_with from_bytes (text ++ more)) (λ e. both_ways (begins_with from_bytes text) h.0 (begins_with-less from_bytes text more e h.1)),
-  begins_with-short text from_bytes more h.1,
-)
+never-more text more h = grind arith
 
 -- the text in three parts
 pub three-parts : (text : List ℕ) (at n : ℕ) → let rest : List ℕ = take (length text - at) (drop at text) in text ≡ take at text ++ (take n rest ++ drop n rest)

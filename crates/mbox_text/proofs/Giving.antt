@@ -1,5 +1,5 @@
 -- What a splitter has given: all messages but the last, whatever comes behind the text.
-use Rattle.std.proofs.Common.{◌≡◌, ℕ, false, List, [], ◌∷◌, ◌++◌, refl, sym, ◌∙◌, ap, append_assoc, inl, inr, Option, Some, None, Result, Ok, Err, OnOk, IfErr, IsErr, IsErrOf, is_err, IsErrAnd, append-nil}
+use Rattle.std.proofs.Common.{◌≡◌, ℕ, false, List, [], ◌∷◌, ◌++◌, refl, sym, ◌∙◌, ap, append_assoc, inl, inr, Option, Some, None, Result, Ok, Err, OnOk, IfErr, IsErr, IsErrOf, is_err, IsErrAnd, append-nil, arith}
 use Rattle.std.proofs.lemmas.Bool.{both_ways}
 use Rattle.std.proofs.lemmas.List.{append_cancel_left}
 use Rattle.mbox_text.specs.declared.entry.Entry.{Entry}
@@ -23,12 +23,8 @@ held-all : (message : Option PartialMessage) (text : List ℕ) (given : List Ent
 held-all None text given line a = head-all a
 held-all (Some m) text given line a = body-all a
 
-pub fed_from : (splitter : Splitter) (text : List ℕ) (given : List Entry) → splitter.failed ≡ false → Holds text given splitter → Fed text given splitter
-fed_from splitter text given works h = record {
-  works = λ t. both_ways splitter.failed works t;
-  given_are = held-all splitter.message text given splitter.line.items h;
-  held = h;
-}
+pub fed_from : {splitter : Splitter} {text : List ℕ} {given : List Entry} → splitter.failed ≡ false → Holds text given splitter → Fed text given splitter
+fed_from {splitter} {text} {given} works h = grind (arith, held-all splitter.message text given splitter.line.items h)
 
 -- all messages but the last stay the first ones, whatever comes behind the text
 pub all_stay : (text : List ℕ) (given : List Entry) → AllButLast text given → Stay text given
@@ -36,9 +32,9 @@ all_stay text given (inl a) more entries h = inr (prefix_reading text more entri
 all_stay text given (inr a) more entries h = inl a.1
 
 -- and are none where no mbox text begins so
-all_none : (text more : List ℕ) (given : List Entry) → AllButLast text given → NeverFrom (text ++ more) → given ≡ []
-all_none text more given (inl a) n = absurd (both_ways (begins_from (text ++ more)) n.0 (begins_from-more text more a.0))
-all_none text more given (inr a) n = a.1
+all_none : (text more : List ℕ) {given : List Entry} → AllButLast text given → NeverFrom (text ++ more) → given ≡ []
+all_none text more (inl a) n = absurd (both_ways (begins_from (text ++ more)) n.0 (begins_from-more text more a.0))
+all_none text more (inr a) n = a.1
 
 -- one part, and then another
 pub gives_then : (old mid new : Splitter) (p q : List ℕ) (out out1 out' : List Entry) → Gives old p out out1 mid → Gives mid q out1 out' new → Gives old (p ++ q) out out' new
@@ -64,9 +60,9 @@ refuses_more LineEndInRest splitter part more r = absurd r
 refuses_more Failed splitter part more r = absurd r
 refuses_more WriteFault splitter part more r = absurd r
 
-pub stops_at : (fault : TextFault) (old now : Splitter) (piece front part more : List ℕ) (out out' : List Entry) → Gives old front out out' now → Refuses fault now part
+pub stops_at : (fault : TextFault) (old now : Splitter) {piece : List ℕ} (front part more : List ℕ) (out out' : List Entry) → Gives old front out out' now → Refuses fault now part
     → piece ≡ front ++ (part ++ more) → Stops fault old piece out out'
-stops_at fault old now piece front part more out out' g r e = record {
+stops_at fault old now front part more out out' g r e = record {
   front = front;
   rest = part ++ more;
   now = now;
@@ -75,9 +71,9 @@ stops_at fault old now piece front part more out out' g r e = record {
   refuses = refuses_more fault now part more r;
 }
 
-pub stops_behind : {fault : TextFault} (old : Splitter) {mid : Splitter} {piece : List ℕ} (front : List ℕ) {part : List ℕ} (out : List Entry) {out1 out' : List Entry} → Gives old front out out1 mid → Stops fault mid part out1 out'
+pub stops_behind : {fault : TextFault} {old mid : Splitter} {piece : List ℕ} (front : List ℕ) {part : List ℕ} {out out1 out' : List Entry} → Gives old front out out1 mid → Stops fault mid part out1 out'
     → piece ≡ front ++ part → Stops fault old piece out out'
-stops_behind old {mid} front out {out1} {out'} g s e = record {
+stops_behind {old} {mid} front {out} {out1} {out'} g s e = record {
   front = front ++ s.front;
   rest = s.rest;
   now = s.now;
@@ -115,7 +111,7 @@ from-alone : (entry : Entry) × Mbox from_bytes (entry ∷ [])
 unfolding Mbox without_blank begins_from
 from-alone =
     let entry : Entry = record { from_line = from_bytes; body = [] } in
-    (entry, (from_bytes, [], refl, from-block from_bytes entry (refl, (refl, (refl, (refl, (refl, tt))))) refl refl refl, inr refl, refl))
+    (entry, (from_bytes, [], refl, from-block from_bytes (refl, (refl, (refl, (refl, (refl, tt))))) refl refl refl, inr refl, refl))
 
 -- what stays is the first of what is given where nothing is refused
 part : (text : List ℕ) (given added all : List Entry) → Stay text (given ++ added) → AllButLast text (given ++ all) → (rest : List Entry) × (all ≡ added ++ rest)
@@ -137,7 +133,7 @@ part text given added all s (inr h) =
 -- what the three answers of a feed say
 pub fed_taken : {T : Type 0} (r : Result T TextFault) (old new : Splitter) (piece : List ℕ) (out out' : List Entry) → new.failed ≡ is_err r
     → OnOk r (Gives old piece out out' new) → OnOk r (Takes old piece out out' new)
-fed_taken (Ok x) old new piece out out' works g = (g.0, g.1, λ text given h. fed_from new (text ++ piece) (given ++ g.0) works (g.2 text given h.held))
+fed_taken (Ok x) old new piece out out' works g = (g.0, g.1, λ text given h. fed_from works (g.2 text given h.held))
 fed_taken (Err e) old new piece out out' works g = tt
 
 pub fed_never : {T : Type 0} (r : Result T TextFault) (old : Splitter) (piece : List ℕ) (out out' : List Entry)
@@ -161,5 +157,5 @@ fed_part r old piece out out' h is =
           let a = held-all s.now.message front now s.now.line.items (g.2 text given fed.held) in
           let texts : text ++ piece ≡ front ++ s.rest = ap (λ z. text ++ z) s.is ∙ sym (append_assoc text s.front s.rest) in
           let stay : Stay (text ++ piece) now = λ more entries m. all_stay front now a (s.rest ++ more) entries (rw (texts, append_assoc front s.rest more) at m) in
-          (λ all is_all. part (text ++ piece) given g.0 all stay is_all, λ n. nil_right given g.0 (all_none front s.rest now a (rw texts at n))),
+          (λ all is_all. part (text ++ piece) given g.0 all stay is_all, λ n. nil_right given g.0 (all_none front s.rest a (rw texts at n))),
     )

@@ -45,9 +45,7 @@ head-line text h =
 
 -- a block begins with `From `
 pub block-begins : {block : List ℕ} {entry : Entry} → Block block entry → begins_from block ≡ true
-block-begins {block} b =
-    let whole = sym (concat-lines block) ∙ ap concat b.is in
-    rw whole (begins_from-more b.first (concat b.others) b.head)
+block-begins {block} b = grind (arith, concat-lines block, begins_from-more b.first (concat b.others) b.head)
 
 -- so does a text with an entry
 pub mbox-begins : (text : List ℕ) (entry : Entry) (entries : List Entry) → Mbox text (entry ∷ entries) → begins_from text ≡ true
@@ -68,7 +66,7 @@ mbox-begins-last text (g ∷ given) last h = mbox-begins text g (given ++ last �
 longer : (prefix text : List ℕ) → begins_with prefix text ≡ true → length prefix ≤ length text
 longer [] text h = omega arith
 longer (p ∷ prefix) [] h = absurd (false≢true h)
-longer (p ∷ prefix) (c ∷ text) h = let a = longer prefix text (and_parts (eqb p c) (begins_with prefix text) h).1 in omega (arith, a)
+longer (p ∷ prefix) (c ∷ text) h = grind (arith, longer prefix text (and_parts (eqb p c) (begins_with prefix text) h).1)
 
 shorter : (prefix text : List ℕ) → begins_with text prefix ≡ true → begins_with prefix text ≡ false → length text < length prefix
 shorter [] text h n = absurd (false≢true (sym n))

@@ -1,5 +1,5 @@
 -- What a splitter holds, step by step.
-use Rattle.std.proofs.Common.{◌≡◌, ℕ, true, false, List, [], ◌∷◌, ◌++◌, refl, sym, ◌∙◌, ap, append_assoc, inl, inr, ◌⊎◌, flat_map, append-nil}
+use Rattle.std.proofs.Common.{◌≡◌, ℕ, true, false, List, [], ◌∷◌, ◌++◌, refl, sym, ◌∙◌, ap, append_assoc, inl, inr, ◌⊎◌, flat_map, append-nil, arith}
 use Rattle.std.proofs.lemmas.List.Concat.{flat_map-append}
 use Rattle.mbox_text.specs.declared.entry.Entry.{Entry}
 use Rattle.mbox_text.specs.Lines.{lines, Ended, NoEnd}
@@ -25,8 +25,7 @@ unended-push (c ∷ l) h = rw (h.0, unended-push l h.1) refl
 pub Closed-push : (text : List ℕ) (given : List Entry) {block : List ℕ} {e : Entry} → Closed text given → Block block e → Ended block → Closed (text ++ block) (given ++ e ∷ [])
 unfolding Closed
 Closed-push text [] {block} h b ends = (block, [], rw h (sym (append-nil block)), b, ends, refl)
-Closed-push text (g ∷ given) {block} h b ends =
-    (h.0, h.1 ++ block, rw h.2 (append_assoc h.0 h.1 block), h.3, h.4, Closed-push h.1 given h.5 b ends)
+Closed-push text (g ∷ given) {block} h b ends = grind (arith, append_assoc h.0 h.1 block, Closed-push h.1 given h.5 b ends)
 
 open-ends : {block f body : List ℕ} → Open block f body → Ended block
 open-ends {f} o = elim (o.ended) [
@@ -87,40 +86,18 @@ head-add {line} part a h b = record {
 -- more comes of a line that begins no message
 pub body-add : {text : List ℕ} {given : List Entry} {f body line : List ℕ} (part : List ℕ) → InBody text given f body line → NoEnd part
     → begins_from (line ++ part) ≡ false → InBody (text ++ part) given f body (line ++ part)
-body-add {line} part a h b = record {
-  front = a.front;
-  block = a.block;
-  is = rw a.is (append_assoc a.front (a.block ++ line) part ∙ ap (λ x. a.front ++ x) (append_assoc a.block line part));
-  closed = a.closed;
-  opened = a.opened;
-  part = NoEnd-append line part a.part h;
-  tail = b;
-}
+body-add {line} part a h b = grind (arith, append_assoc a.front (a.block ++ line) part, append_assoc a.block line part, NoEnd-append line part a.part h)
 
 -- the line begins the next message
 pub body-closes : {text : List ℕ} {given : List Entry} {f body line : List ℕ} (part : List ℕ) (e : Entry) → InBody text given f body line → NoEnd part
     → begins_from (line ++ part) ≡ true → e.from_line ≡ f → e.body ≡ chopped body → AtHead (text ++ part) (given ++ e ∷ []) (line ++ part)
-body-closes {given} {line} part e a h b is_line is_body = record {
-  front = a.front ++ a.block;
-  is = rw a.is (append_assoc a.front (a.block ++ line) part ∙ ap (λ x. a.front ++ x) (append_assoc a.block line part) ∙ sym (append_assoc a.front a.block (line ++ part)));
-  closed = Closed-push a.front given a.closed (open-block e a.opened is_line is_body) (open-ends a.opened);
-  part = NoEnd-append line part a.part h;
-  head = inl b;
-}
+body-closes {given} {line} part e a h b is_line is_body = grind (arith, append_assoc a.front (a.block ++ line) part, append_assoc a.block line part, append_assoc a.front a.block (line ++ part), Closed-push a.front given a.closed (open-block e a.opened is_line is_body) (open-ends a.opened), NoEnd-append line part a.part h)
 
 -- the From_ line is whole
 pub head-ends : {text : List ℕ} {given : List Entry} {line : List ℕ} → AtHead text given line → begins_from line ≡ true
     → InBody (text ++ 10 ∷ []) given line [] []
 unfolding lines begins_from
-head-ends {line} a b = record {
-  front = a.front;
-  block = line ++ 10 ∷ [];
-  is = rw a.is (rw (append-nil (line ++ 10 ∷ [])) (append_assoc a.front line (10 ∷ [])));
-  closed = a.closed;
-  opened = record { others = []; is = refl; head = b; line = a.part; ended = inl refl; tail = tt; as_read = refl };
-  part = tt;
-  tail = refl;
-}
+head-ends {line} a b = grind (arith, append-nil (line ++ 10 ∷ []), append_assoc a.front line (10 ∷ []))
 
 -- whole lines that begin no message
 pub body-lines : {text : List ℕ} {given : List Entry} {f body : List ℕ} (part : List ℕ) → InBody text given f body [] → Ended part → NoFrom (lines part)
@@ -150,15 +127,7 @@ body-lines {f} part a ends none =
 body-whole : (text : List ℕ) (given : List Entry) (f body line : List ℕ) → (a : InBody text given f body line)
     → InBody (a.front ++ a.block) given f body []
 unfolding begins_from
-body-whole text given f body line a = record {
-  front = a.front;
-  block = a.block;
-  is = rw (append-nil a.block) refl;
-  closed = a.closed;
-  opened = a.opened;
-  part = tt;
-  tail = refl;
-}
+body-whole text given f body line a = grind (arith, append-nil a.block)
 
 -- a line is whole that begins no message
 pub body-ends : {text : List ℕ} {given : List Entry} {f body line : List ℕ} → InBody text given f body line

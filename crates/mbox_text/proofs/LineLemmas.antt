@@ -1,7 +1,7 @@
 -- Lemmas on lines and quoting.
 use Rattle.std.proofs.Common.{◌≡◌, ℕ, Bool, true, false, eqb, List, [], ◌∷◌, ◌++◌, ◌+◌, ◌<◌, add-zero, length, get_or, drop, refl, sym, ◌∙◌, ap, arith, append_assoc, inl, inr, ◌&&◌, MatchBool}
 use Rattle.std.specs.List.{concat, starts_with}
-use Rattle.std.proofs.lemmas.Bool.{false≢true, cases_Bool, eqb-true, ne_eqb, eq-eqb, cases_lt, and_parts, and_from}
+use Rattle.std.proofs.lemmas.Bool.{false≢true, cases_Bool, ne_eqb, eq-eqb, cases_lt, and_parts, and_from}
 use Rattle.std.proofs.lemmas.List.{drop_more, drop_all, get_or-drop}
 use Rattle.mbox_text.specs.Lines.{before_first, lines, Ended, NoEnd}
 use Rattle.mbox_text.specs.Quoting.{begins_with, begins_from, from_bytes, quotable, quoted, unquoted}
@@ -10,23 +10,12 @@ use Rattle.mbox_text.specs.Spelling.{missing_end}
 pub unquoted_quoted : (line : List ℕ) → unquoted (quoted line) ≡ line
 unfolding unquoted quoted quotable
 unquoted_quoted [] = refl
-unquoted_quoted (c ∷ line) =
-    elim (cases_Bool (eqb c 62)) [
-      | inl e ↦ elim (cases_Bool (quotable line)) [ inl q ↦ rw (e, q) (rw (e, q) refl) | inr q ↦ rw (e, q) (rw (e, q) refl) ]
-      | inr e ↦ elim (cases_Bool (begins_from (c ∷ line))) [ inl q ↦ rw (e, q) (rw (e, q) refl) | inr q ↦ rw (e, q) (rw e refl) ]
-    ]
+unquoted_quoted (c ∷ line) = grind (arith, cases_Bool (eqb c 62), cases_Bool (quotable line), cases_Bool (begins_from (c ∷ line)))
 
 pub quoted_no_from : (line : List ℕ) → begins_from (quoted line) ≡ false
 unfolding quoted quotable begins_from
 quoted_no_from [] = refl
-quoted_no_from (c ∷ line) =
-    elim (cases_Bool (quotable (c ∷ line))) [
-      | inl q ↦ rw q refl
-      | inr q ↦ rw q (elim (cases_Bool (eqb c 62)) [
-        | inl e ↦ rw (eqb-true c 62 e) refl
-        | inr e ↦ rw e at q
-      ])
-    ]
+quoted_no_from (c ∷ line) = grind (arith, cases_Bool (quotable (c ∷ line)), cases_Bool (eqb c 62))
 
 -- a line comes off the front
 pub lines-line : (line rest : List ℕ) → NoEnd line → lines (line ++ 10 ∷ rest) ≡ (line ++ 10 ∷ []) ∷ lines rest
@@ -58,11 +47,7 @@ lines-last (c ∷ front) = lines-first c (front ++ 10 ∷ [])
 lines-cut : (front back : List ℕ) → lines (front ++ 10 ∷ back) ≡ lines (front ++ 10 ∷ []) ++ lines back
 unfolding lines
 lines-cut [] back = refl
-lines-cut (c ∷ front) back =
-    elim (cases_Bool (eqb c 10)) [
-      | inl e ↦ rw (e, lines-cut front back) refl
-      | inr e ↦ let f = lines-last front in rw (e, lines-cut front back) (rw f.2 refl)
-    ]
+lines-cut (c ∷ front) back = grind (arith, cases_Bool (eqb c 10), lines-cut front back, lines-last front)
 
 pub lines-append : {front : List ℕ} (back : List ℕ) → Ended front → lines (front ++ back) ≡ lines front ++ lines back
 unfolding lines
@@ -77,11 +62,7 @@ concat-before c (l ∷ ls) = refl
 pub concat-lines : (text : List ℕ) → concat (lines text) ≡ text
 unfolding lines
 concat-lines [] = refl
-concat-lines (c ∷ text) =
-    elim (cases_Bool (eqb c 10)) [
-      | inl e ↦ rw (e, concat-lines text) (ap (λ x. x ∷ text) (sym (eqb-true c 10 e)))
-      | inr e ↦ rw (e, concat-before c (lines text), concat-lines text) refl
-    ]
+concat-lines (c ∷ text) = grind (arith, cases_Bool (eqb c 10), concat-lines text, concat-before c (lines text))
 
 -- what a line begins with stands before its `\n`, and whether it is quotable
 begins_with-cut : (prefix line rest : List ℕ) → NoEnd prefix → begins_with prefix (line ++ 10 ∷ rest) ≡ begins_with prefix line
@@ -91,7 +72,7 @@ begins_with-cut (p ∷ prefix) (c ∷ line) rest h = rw (begins_with-cut prefix 
 
 pub begins_from-cut : (line rest : List ℕ) → begins_from (line ++ 10 ∷ rest) ≡ begins_from line
 unfolding begins_from
-begins_from-cut line rest = begins_with-cut from_bytes line rest (refl, (refl, (refl, (refl, (refl, tt)))))
+begins_from-cut line rest = grind arith
 
 pub quotable-cut : (line rest : List ℕ) → quotable (line ++ 10 ∷ rest) ≡ quotable line
 unfolding quotable begins_from
@@ -101,7 +82,7 @@ quotable-cut (c ∷ line) rest = rw (quotable-cut line rest, begins_from-cut (c 
 pub unquoted-push : (line : List ℕ) → unquoted (line ++ 10 ∷ []) ≡ unquoted line ++ 10 ∷ []
 unfolding unquoted
 unquoted-push [] = refl
-unquoted-push (c ∷ line) = rw (quotable-cut line []) (elim (cases_Bool (eqb c 62 && quotable line)) [ inl e ↦ rw e refl | inr e ↦ rw e refl ])
+unquoted-push (c ∷ line) = grind (arith, quotable-cut line [], cases_Bool (eqb c 62 && quotable line))
 
 -- a longer line begins so too
 begins_with-more : (prefix line more : List ℕ) → begins_with prefix line ≡ true → begins_with prefix (line ++ more) ≡ true
@@ -147,8 +128,7 @@ unquoted-plain (c ∷ line) h = rw (ne_eqb c 62 (h (omega arith))) refl
 pub unquoted-other : (line : List ℕ) → quotable line ≡ false → unquoted line ≡ line
 unfolding unquoted quotable
 unquoted-other [] q = refl
-unquoted-other (c ∷ line) q =
-    elim (cases_Bool (eqb c 62)) [ inl e ↦ rw (e, rw e at q) refl | inr e ↦ rw e refl ]
+unquoted-other (c ∷ line) q = grind (arith, cases_Bool (eqb c 62))
 
 pub quotable-stop : (line : List ℕ) (at : ℕ) → (at < length line → get_or line at 0 ≡ 62 → ⊥) → quotable (drop at line) ≡ begins_from (drop at line)
 quotable-stop line at h =

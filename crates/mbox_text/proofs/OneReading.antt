@@ -1,5 +1,5 @@
 -- A text is in `Mbox` with one list of entries.
-use Rattle.std.proofs.Common.{◌≡◌, ℕ, true, List, [], ◌∷◌, ◌++◌, refl, sym, ◌∙◌, ap, append_assoc, ap₂, inl, inr, ◌⊎◌, flat_map, append-nil}
+use Rattle.std.proofs.Common.{◌≡◌, ℕ, true, List, [], ◌∷◌, ◌++◌, refl, sym, ◌∙◌, ap, append_assoc, ap₂, inl, inr, ◌⊎◌, flat_map, append-nil, arith}
 use Rattle.std.proofs.lemmas.Bool.{both_ways}
 use Rattle.mbox_text.specs.declared.entry.Entry.{Entry}
 use Rattle.mbox_text.specs.Lines.{lines, Ended}
@@ -45,10 +45,7 @@ cut_one (o ∷ os) (o' ∷ os') rest rest' n n' h h' e =
     (cc, r.1)
 
 entry-one : (e f : Entry) → e.from_line ≡ f.from_line → e.body ≡ f.body → e ≡ f
-entry-one e f a b =
-    let F : List ℕ → Entry = λ x. record { from_line = x; body = e.body } in
-    let G : List ℕ → Entry = λ x. record { from_line = f.from_line; body = x } in
-    ap F a ∙ ap G b
+entry-one e f a b = grind arith
 
 -- lines that are those of these messages stand before such
 headed-append : (ls tail : List (List ℕ)) (entries : List Entry) → Reads ls entries → Headed tail → Headed (ls ++ tail)
@@ -82,9 +79,7 @@ joined rest (f ∷ fs) (inr e) h = absurd (cc)
 pub mbox-reads : (text : List ℕ) (entries : List Entry) → Mbox text entries → Reads (lines text) entries
 unfolding Mbox lines
 mbox-reads text [] h = rw h refl
-mbox-reads text (entry ∷ entries) h =
-    let b = h.3 in
-    (lines h.1, record { first = b.first; others = b.others; is = rw (h.2, joined h.1 entries h.4 h.5, b.is) refl; head = b.head; tail = b.tail; from_line = b.from_line; body = b.body }, mbox-reads h.1 entries h.5)
+mbox-reads text (entry ∷ entries) h = grind (arith, joined h.1 entries h.4 h.5, mbox-reads h.1 entries h.5)
 
 -- no line, no message
 none-left : (rest : List Entry) → Reads [] rest → rest ≡ []

@@ -18,9 +18,9 @@ closed-ended front [] h = inl h
 closed-ended front (g ∷ given) h = rw h.2 (Ended-append h.0 h.4 (closed-ended h.1 given h.5))
 
 -- a line that is left is a message's
-some-left : (l : List ℕ) (ls : List (List ℕ)) (given entries rest : List Entry) → entries ≡ given ++ rest → Reads (l ∷ ls) rest → IsProperFront given entries
-some-left l ls given entries [] e h = let no : l ∷ ls ≡ [] = h in absurd (cc)
-some-left l ls given entries (next ∷ rest) e h = (next, rest, e)
+some-left : (l : List ℕ) (ls : List (List ℕ)) (given : List Entry) {entries : List Entry} (rest : List Entry) → entries ≡ given ++ rest → Reads (l ∷ ls) rest → IsProperFront given entries
+some-left l ls given [] e h = let no : l ∷ ls ≡ [] = h in absurd (cc)
+some-left l ls given (next ∷ rest) e h = (next, rest, e)
 
 -- whole blocks, and then a From_ line
 pub closed-front : (front tail : List ℕ) (given entries : List Entry) → Closed front given → begins_from tail ≡ true → Mbox (front ++ tail) entries
@@ -29,7 +29,7 @@ closed-front front tail given entries c b m =
     let f = head-line tail b in
     let e : lines (front ++ tail) ≡ lines front ++ f.0 ∷ f.1 = rw (lines-append tail (closed-ended front given c), f.2) refl in
     let r = reads-append (lines front) (f.0 ∷ f.1) given entries (mbox-reads front given (closed-mbox front given c)) f.3 (rw e at (mbox-reads (front ++ tail) entries m)) in
-    some-left f.0 f.1 given entries r.0 r.1 r.2
+    some-left f.0 f.1 given r.0 r.1 r.2
 
 -- the blocks of all messages but the last
 record Front (text : List ℕ) (given : List Entry) (last : Entry) : Type 0 where

@@ -2,7 +2,7 @@
 use Rattle.std.proofs.Common.{◌≡◌, ℕ, zero, suc, ◌+◌, ◌-◌, ◌≤◌, ◌<◌, Some, None, true, false, eqb, List, [], ◌∷◌, ◌++◌, length, take, drop, get_or, refl, sym, ◌∙◌, ap, arith, inl, inr, ◌⊎◌}
 use Rattle.std.specs.List.{concat}
 use Rattle.std.proofs.lemmas.Bool.{cases_Bool, cases_lt, false≢true, and_parts, eqb-true}
-use Rattle.std.proofs.lemmas.List.{take_all, drop_all, length-drop, length-take, get_or-drop, drop-append-le, drop-take, take-take, take_rest}
+use Rattle.std.proofs.lemmas.List.{take_all, length-drop, length-take, get_or-drop, drop-append-le, drop-take, take-take, take_rest}
 use Rattle.std.proofs.Math.Seq.{drop-append-add, take-add}
 use Rattle.memchr.specs.Find.{FindsNeedle, OccursAt}
 use Rattle.mbox_text.specs.Lines.{lines, Ended, IsLine}
@@ -80,9 +80,9 @@ pub record Plain (text : List ℕ) (n : ℕ) : Type 0 where
   pub ends : (n ≡ length text) ⊎ Ended (take n text)
   pub none : NoneQuotable (lines (take n text))
 
-pub plain_none : (text : List ℕ) → Plain text 0
+pub plain_none : {text : List ℕ} → Plain text 0
 unfolding lines
-plain_none text = record { within = omega arith; ends = inr (inl refl); none = tt }
+plain_none = grind (arith)
 
 pub plain_more : {text : List ℕ} {at : ℕ} (n : ℕ) → Plain text at → Plain (drop at text) n → Plain text (at + n)
 plain_more {text} {at} n p q =
@@ -101,9 +101,8 @@ plain_more {text} {at} n p q =
     ]
 
 -- the lines before a first `From `
-plain_before : (text : List ℕ) (n f : ℕ) → FindsNeedle text from_bytes 0 (Some n) → f ≤ n → Ended (take f text) → Plain text f
-plain_before text n f h le ended =
-    record { within = omega (arith, le, h.0.high); ends = inr ended; none = no_lines (no-place-before text n f h le) }
+plain_before : {text : List ℕ} (n : ℕ) {f : ℕ} → FindsNeedle text from_bytes 0 (Some n) → f ≤ n → Ended (take f text) → Plain text f
+plain_before {text} n {f} h le ended = grind (arith, no_lines (no-place-before text n f h le))
 
 -- the same behind lines of which none is quotable, as the code cuts them
 pub plain_front : {text : List ℕ} {at : ℕ} (n f : ℕ) → let before : List ℕ = take ((at + n) - at) (drop at text) in
@@ -113,7 +112,7 @@ plain_front {text} {at} n f p found within ended =
     let size : (at + n) - at ≡ n = omega arith in
     let ends = rw size at ended in
     let le : f ≤ n = omega (arith, rw size at within, length-take n D) in
-    plain_more f p (plain_before D n f (rw (take_rest text at) at found) le (rw (take-take f n D le) at ends))
+    plain_more f p (plain_before n (rw (take_rest text at) at found) le (rw (take-take f n D le) at ends))
 
 -- and one line more that is not quotable
 pub plain_line : {text : List ℕ} {at n : ℕ} → let line : List ℕ = take (length text - at) (drop at text) in Plain text at → IsLine line n → quotable line ≡ false → Plain text (at + n)
@@ -135,15 +134,4 @@ finds_none {text} {at} p found =
 
 pub finds_some : {text : List ℕ} {n : ℕ} → Plain text n → quotable (take (length text - n) (drop n text)) ≡ true → FirstQuotable text n
 unfolding quotable
-finds_some {text} {n} p is =
-    let q = rw (take_rest text n) at is in
-    let within : n < length text = elim (cases_lt n (length text)) [
-      | inl l ↦ l
-      | inr g ↦ let none = rw (drop_all n text g) at q in absurd (false≢true none)
-    ] in
-    record {
-      within = within;
-      ended = elim (p.ends) [ inl e ↦ absurd (omega (arith, e, within)) | inr e ↦ e ];
-      none = p.none;
-      there = q;
-    }
+finds_some {text} {n} p is = grind (arith, take_rest text n, cases_lt n (length text))

@@ -1,5 +1,5 @@
 -- What is written is read again.
-use Rattle.std.proofs.Common.{◌≡◌, ℕ, true, eqb, List, [], ◌∷◌, ◌++◌, map, refl, sym, ◌∙◌, ap, append_assoc, inl, inr, append-nil}
+use Rattle.std.proofs.Common.{◌≡◌, ℕ, true, eqb, List, [], ◌∷◌, ◌++◌, map, refl, sym, ◌∙◌, ap, append_assoc, inl, inr, append-nil, arith}
 use Rattle.std.specs.List.{flat_map, concat}
 use Rattle.std.proofs.lemmas.Bool.{cases_Bool, eqb-true}
 use Rattle.std.proofs.lemmas.List.Concat.{flat_map-append}
@@ -40,7 +40,7 @@ cut (c ∷ text) =
 
 quoted-push : (l : List ℕ) → quoted (l ++ 10 ∷ []) ≡ quoted l ++ 10 ∷ []
 unfolding quoted
-quoted-push l = rw (quotable-cut l []) (elim (cases_Bool (quotable l)) [ inl e ↦ rw e refl | inr e ↦ rw e refl ])
+quoted-push l = grind (arith, quotable-cut l [], cases_Bool (quotable l))
 
 -- whole lines stand in the text that they make
 lines-concat : (ls : List (List ℕ)) → Whole ls → lines (flat_map (λ l. l) ls) ≡ ls
@@ -87,21 +87,8 @@ pub record Full (body : List ℕ) : Type 0 where
 pub full-cut : {body front : List ℕ} (last : List ℕ) → body ≡ front ++ last → Ended front → NoEnd last → Full body
 unfolding lines missing_end
 full-cut [] e (inl n) h = rw (e, n) (record { ended = inl refl; written = refl })
-full-cut {body} {front} [] e (inr s) h =
-    let m : missing_end body ≡ [] = rw (e, append-nil front, s.1) (missing-ended s.0) in
-    record {
-      ended = rw m (rw (append-nil body) (inr (s.0, e ∙ append-nil front ∙ s.1)));
-      written = rw (m, append-nil body) (append-nil (flat_map quoted (lines body)));
-    }
-full-cut {body} {front} (c ∷ l) e ends h =
-    let m : missing_end body ≡ 10 ∷ [] = rw e (missing-part front c l h) in
-    let one : lines body ≡ lines front ++ (c ∷ l) ∷ [] = rw (e, lines-append (c ∷ l) ends, lines-part c l h) refl in
-    let two : lines (body ++ 10 ∷ []) ≡ lines front ++ (c ∷ (l ++ 10 ∷ [])) ∷ [] =
-    rw (e, append_assoc front (c ∷ l) (10 ∷ []), lines-append (c ∷ (l ++ 10 ∷ [])) ends, lines-line (c ∷ l) [] h) refl in
-    let three : flat_map quoted (lines front ++ (c ∷ l) ∷ []) ++ 10 ∷ [] ≡ flat_map quoted (lines front ++ (c ∷ (l ++ 10 ∷ [])) ∷ []) =
-    rw (flat_map-append quoted (lines front) ((c ∷ l) ∷ []), flat_map-append quoted (lines front) ((c ∷ (l ++ 10 ∷ [])) ∷ []), append-nil (quoted (c ∷ l)), append-nil (quoted (c ∷ (l ++ 10 ∷ []))), quoted-push (c ∷ l))
-    (append_assoc (flat_map quoted (lines front)) (quoted (c ∷ l)) (10 ∷ [])) in
-    record { ended = rw m (inr (body, refl)); written = rw (m, one, two) three }
+full-cut {body} {front} [] e (inr s) h = grind (arith, append-nil front, missing-ended s.0, append-nil body, append-nil (flat_map quoted (lines body)))
+full-cut {body} {front} (c ∷ l) e ends h = grind (arith, missing-part front c l h, lines-append (c ∷ l) ends, lines-part c l h, append_assoc front (c ∷ l) (10 ∷ []), lines-append (c ∷ (l ++ 10 ∷ [])) ends, lines-line (c ∷ l) [] h, flat_map-append quoted (lines front) ((c ∷ l) ∷ []), flat_map-append quoted (lines front) ((c ∷ (l ++ 10 ∷ [])) ∷ []), append-nil (quoted (c ∷ l)), append-nil (quoted (c ∷ (l ++ 10 ∷ []))), quoted-push (c ∷ l), append_assoc (flat_map quoted (lines front)) (quoted (c ∷ l)) (10 ∷ []))
 
 full : (body : List ℕ) → Full body
 full body = let k = cut body in full-cut k.last k.is k.ended k.part
@@ -139,17 +126,13 @@ spelled-block e b h =
 pub spelled_again : (es : List Entry) → FromLines es → Mbox (flat_map spelling es) (map completed es)
 unfolding Mbox
 spelled_again [] h = refl
-spelled_again (e ∷ es) h = let b = spelled-block e h.0.0 h.0.1 in (spelling e, flat_map spelling es, refl, b.0, inl b.1, spelled_again es h.1)
+spelled_again (e ∷ es) h = grind (arith, spelled-block e h.0.0 h.0.1, spelled_again es h.1)
 
 missing-full : {body front : List ℕ} (last : List ℕ) → body ≡ front ++ last → Ended front → NoEnd last → missing_end (body ++ missing_end body) ≡ []
 unfolding missing_end
 missing-full [] e (inl n) h = rw (e, n) refl
-missing-full {body} {front} [] e (inr s) h =
-    let m : missing_end body ≡ [] = rw (e, append-nil front, s.1) (missing-ended s.0) in
-    rw (m, append-nil body) m
-missing-full {body} {front} (c ∷ l) e ends h =
-    let m : missing_end body ≡ 10 ∷ [] = rw e (missing-part front c l h) in
-    rw m (missing-ended body)
+missing-full {body} {front} [] e (inr s) h = grind (arith, append-nil front, missing-ended s.0, append-nil body)
+missing-full {body} {front} (c ∷ l) e ends h = grind (arith, missing-part front c l h, missing-ended body)
 
 completed-once : (body : List ℕ) → missing_end (body ++ missing_end body) ≡ []
 completed-once body = let k = cut body in missing-full k.last k.is k.ended k.part

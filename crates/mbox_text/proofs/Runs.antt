@@ -1,7 +1,7 @@
 -- Whole lines that are added as they are read.
-use Rattle.std.proofs.Common.{◌≡◌, ℕ, ◌+◌, ◌-◌, ◌≤◌, true, false, Some, eqb, List, [], ◌∷◌, ◌++◌, length, take, drop, refl, sym, ◌∙◌, ap, arith, append_assoc, inl, inr, take-add}
+use Rattle.std.proofs.Common.{◌≡◌, ℕ, ◌+◌, ◌-◌, ◌≤◌, true, false, Some, eqb, List, [], ◌∷◌, ◌++◌, length, take, drop, refl, sym, ◌∙◌, ap, arith, append_assoc, inr, take-add}
 use Rattle.std.specs.List.{flat_map, concat}
-use Rattle.std.proofs.lemmas.Bool.{false_from_ne_true, both_ways, cases_Bool, eqb-true}
+use Rattle.std.proofs.lemmas.Bool.{false_from_ne_true, both_ways, cases_Bool}
 use Rattle.std.proofs.lemmas.List.{append-nil, take-append-drop, take_rest, length-drop}
 use Rattle.std.proofs.lemmas.List.Concat.{flat_map-append}
 use Rattle.memchr.specs.Find.{IsFirstByte, is_byte}
@@ -28,11 +28,7 @@ none-front (l ∷ a) b h = (h.0, none-front a b h.1)
 from-quotable : (line : List ℕ) → quotable line ≡ false → begins_from line ≡ false
 unfolding quotable begins_from
 from-quotable [] q = refl
-from-quotable (c ∷ line) q =
-    elim (cases_Bool (eqb c 62)) [
-      | inl e ↦ rw (eqb-true c 62 e) refl
-      | inr e ↦ rw e at q
-    ]
+from-quotable (c ∷ line) q = grind (arith, cases_Bool (eqb c 62))
 
 none-from : (ls : List (List ℕ)) → NoneQuotable ls → NoFrom ls
 none-from [] n = tt
@@ -49,9 +45,9 @@ pub record Taken (text before body : List ℕ) (at : ℕ) : Type 0 where
   pub ended : Ended (take at text)
   pub none : NoFrom (lines (take at text))
 
-pub taken_none : (text before : List ℕ) → Taken text before before 0
+pub taken_none : {text before : List ℕ} → Taken text before before 0
 unfolding lines
-taken_none text before = record { within = omega arith; added = sym (append-nil before); ended = inl refl; none = tt }
+taken_none {before} = grind (arith, append-nil before)
 
 taken_more : {text before body body' : List ℕ} {at : ℕ} (n : ℕ) → Taken text before body at → n ≤ length (drop at text) → Ended (take n (drop at text))
     → NoFrom (lines (take n (drop at text))) → body' ≡ body ++ flat_map unquoted (lines (take n (drop at text))) → Taken text before body' (at + n)

@@ -131,8 +131,8 @@ written_rest r {body} {old} {mid} new {at} w none h =
     rw (split-at body w.ends, same) (wrote r old mid new F D w.written (rw (take_rest body at) at h))
 
 -- the last byte of a body tells whether it lacks its end
-last-is : (body : List ℕ) → eqb (length body) 0 ≡ false → body ≡ take (length body - 1) body ++ get_or body (length body - 1) 0 ∷ []
-last-is body e =
+last-is : {body : List ℕ} → eqb (length body) 0 ≡ false → body ≡ take (length body - 1) body ++ get_or body (length body - 1) 0 ∷ []
+last-is {body} e =
     let some = eqb-false (length body) 0 e in
     sym (take_all ((length body - 1) + 1) body (omega (arith, some))) ∙ take_more body (length body - 1) 0 (omega (arith, some))
 
@@ -141,12 +141,11 @@ unfolding missing_end
 missing-empty body e = rw (nil_from_length body (eqb-true (length body) 0 e)) refl
 
 pub missing-some : (body : List ℕ) → eqb (length body) 0 ≡ false → (get_or body (length body - 1) 0 ≡ 10 → ⊥) → missing_end body ≡ 10 ∷ []
-missing-some body e h = ap missing_end (last-is body e) ∙ missing-part (take (length body - 1) body) (get_or body (length body - 1) 0) [] (ne_eqb _ 10 h, tt)
+missing-some body e h = ap missing_end (last-is e) ∙ missing-part (take (length body - 1) body) (get_or body (length body - 1) 0) [] (ne_eqb _ 10 h, tt)
 
 pub missing-none : (body : List ℕ) → eqb (length body) 0 ≡ false → get_or body (length body - 1) 0 ≡ 10 → missing_end body ≡ []
-missing-none body e h =
-    ap missing_end (last-is body e) ∙ ap (λ c. missing_end (take (length body - 1) body ++ c ∷ [])) h ∙ missing-ended (take (length body - 1) body)
+missing-none body e h = grind (arith, last-is e, missing-ended (take (length body - 1) body))
 
-pub written_none : (body : List ℕ) (old : Option (List ℕ)) → WrittenTo body old old 0
+pub written_none : {body : List ℕ} {old : Option (List ℕ)} → WrittenTo body old old 0
 unfolding lines
-written_none body old = record { within = omega arith; ends = inr (inl refl); written = Appends-nil old }
+written_none {old} = grind (arith, Appends-nil old)

@@ -6,7 +6,7 @@ use Rattle.mbox_text.proofs.Runs.{taken_none, taken_found, taken_line, taken_res
 use Rattle.mbox_text.proofs.body.take_lines.Goals as goal
 
 pub loop-n-init : goal.loop-n-init
-loop-n-init c = taken_none c.args.text.now c.args.body.now.items
+loop-n-init c = taken_none
 
 pub loop-n-preserved : goal.loop-n-preserved
 loop-n-preserved c =

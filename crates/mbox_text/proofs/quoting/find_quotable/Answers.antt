@@ -3,7 +3,7 @@ use Rattle.mbox_text.proofs.Quotable.{plain_none, plain_front, plain_line, finds
 use Rattle.mbox_text.proofs.quoting.find_quotable.Goals as goal
 
 pub loop-n-init : goal.loop-n-init
-loop-n-init c = plain_none c.args.text.now
+loop-n-init c = plain_none
 
 pub returns-then-is_quotable : goal.returns-then-is_quotable
 returns-then-is_quotable c =

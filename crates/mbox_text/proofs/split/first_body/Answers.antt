@@ -17,11 +17,11 @@ returns c =
     let B = λ (z : List ℕ). flat_map unquoted (lines (take n text)) ++ unquoted z in
     elim (c.if-not-begins_with_from.branch) [
       | then-not-begins_with_from+in_ok-add_unquoted w ↦
-          rw w.len-is (body_ends text n lines_are.ended lines_are.none
+          rw w.len-is (body_ends n lines_are.ended lines_are.none
           (ap begins_from (sym (take_rest text n)) ∙ sym w.if-not-begins_with_from.ensures) lines_are.stops
           (c.drop_blank.ensures ∙ ap (λ v. chopped v.items) w.bytes-is ∙ ap chopped (w.in_ok-add_unquoted.ensures ∙ ap A added ∙ ap B (take_rest text n))))
       | else-not-begins_with_from w ↦
-          rw w.len-is (body_stops text n lines_are.within lines_are.ended lines_are.none
+          rw w.len-is (body_stops lines_are.within lines_are.ended lines_are.none
           (ap begins_from (sym (take_rest text n)) ∙ sym w.if-not-begins_with_from.ensures)
           (c.drop_blank.ensures ∙ ap (λ v. chopped v.items) w.bytes-is ∙ ap chopped added))
     ]

@@ -4,7 +4,7 @@ use Rattle.mbox_text.proofs.Blocks.{so_far_none, so_far_more, so_far_all, first-
 use Rattle.mbox_text.proofs.split.split_blocks.Goals as goal
 
 pub loop-at-init : goal.loop-at-init
-loop-at-init c = so_far_none c.args.text.now c.requires c.new-entries.ensures.items
+loop-at-init c = so_far_none c.requires c.new-entries.ensures.items
 
 pub loop-at-smaller : goal.loop-at-smaller
 loop-at-smaller c =

@@ -3,7 +3,7 @@ use Rattle.mbox_text.proofs.WrittenBody.{written_none, written_found, written_li
 use Rattle.mbox_text.proofs.write.write_body.Goals as goal
 
 pub loop-n-init : goal.loop-n-init
-loop-n-init g c = written_none c.args.body.now (g.W.Write.contents c.args.out.now)
+loop-n-init g c = written_none
 
 pub loop-n-preserved : goal.loop-n-preserved
 loop-n-preserved g c =

@@ -29,7 +29,7 @@ returns-in_ok-end_line-in-Some-clause-moved c =
 pub returns-in_err-at-clause-stopped : goal.returns-in_err-at-clause-stopped
 returns-in_err-at-clause-stopped c =
     handed_on c.from_residual.result OutOfMemory _ c.from_residual.ensures
-    (stops_at OutOfMemory c.args.self.now c.args.self.now c.args.text.now [] [] c.args.text.now _ _ (gives_nothing c.args.self.now c.args.out.now.items) tt refl)
+    (stops_at OutOfMemory c.args.self.now c.args.self.now [] [] c.args.text.now _ _ (gives_nothing c.args.self.now c.args.out.now.items) tt refl)
 
 pub returns-in_err-add_part-in-Some-clause-stopped : goal.returns-in_err-add_part-in-Some-clause-stopped
 returns-in_err-add_part-in-Some-clause-stopped c =
@@ -39,7 +39,7 @@ returns-in_err-add_part-in-Some-clause-stopped c =
     let rest = take (length text - at) (drop at text) in
     let g = gives_none c.args.self.now c.take_body_lines.new.self (take at text) _ _ c.in_err-add_part-in-Some.ensures.kept c.in_ok-at.ensures.held in
     handed_on c.from_residual-in_err-add_part-in-Some.result _ _ c.from_residual-in_err-add_part-in-Some.ensures
-    (stops_at _ c.args.self.now c.take_body_lines.new.self text (take at text) (take n rest) (drop n rest) _ _ g c.in_err-add_part-in-Some.ensures.stopped (three-parts text at n))
+    (stops_at _ c.args.self.now c.take_body_lines.new.self (take at text) (take n rest) (drop n rest) _ _ g c.in_err-add_part-in-Some.ensures.stopped (three-parts text at n))
 
 pub returns-in_err-end_line-in-Some-clause-stopped : goal.returns-in_err-end_line-in-Some-clause-stopped
 returns-in_err-end_line-in-Some-clause-stopped c =
@@ -52,7 +52,7 @@ returns-in_err-end_line-in-Some-clause-stopped c =
     let is : text ≡ (take at text ++ take n rest) ++ ((10 ∷ []) ++ drop (n + 1) rest) = three-parts text at (n + 1) ∙ ap W h.is ∙ (simp append_assoc) in
     let g = gives_then c.args.self.now c.take_body_lines.new.self c.add_part.new.self _ _ _ _ _ (gives_none c.args.self.now c.take_body_lines.new.self _ _ c.args.out.now.items refl c.in_ok-at.ensures.held) c.in_ok-add_part-in-Some.ensures.moved in
     handed_on c.from_residual-in_err-end_line-in-Some.result _ _ c.from_residual-in_err-end_line-in-Some.ensures
-    (stops_at _ c.args.self.now c.add_part.new.self text (take at text ++ take n rest) (10 ∷ []) (drop (n + 1) rest) _ _ g c.in_err-end_line-in-Some.ensures.stopped is)
+    (stops_at _ c.args.self.now c.add_part.new.self (take at text ++ take n rest) (10 ∷ []) (drop (n + 1) rest) _ _ g c.in_err-end_line-in-Some.ensures.stopped is)
 
 pub returns-in_err-add_part-in-None-clause-stopped : goal.returns-in_err-add_part-in-None-clause-stopped
 returns-in_err-add_part-in-None-clause-stopped c =
@@ -62,4 +62,4 @@ returns-in_err-add_part-in-None-clause-stopped c =
     let is : text ≡ take at text ++ (rest ++ []) = rw (append-nil rest, take_rest text at) (sym (take-append-drop at text)) in
     let g = gives_none c.args.self.now c.take_body_lines.new.self (take at text) _ _ c.in_err-add_part-in-None.ensures.kept c.in_ok-at.ensures.held in
     handed_on c.from_residual-in_err-add_part-in-None.result _ _ c.from_residual-in_err-add_part-in-None.ensures
-    (stops_at _ c.args.self.now c.take_body_lines.new.self text (take at text) rest [] _ _ g c.in_err-add_part-in-None.ensures.stopped is)
+    (stops_at _ c.args.self.now c.take_body_lines.new.self (take at text) rest [] _ _ g c.in_err-add_part-in-None.ensures.stopped is)

@@ -26,4 +26,4 @@ returns-in_err-at-clause-stopped c =
     let rest = take (length piece - at) (drop at piece) in
     let whole : piece ≡ take at piece ++ rest = rw (take_rest piece at) (sym (take-append-drop at piece)) in
     handed_on c.from_residual.result _ _ c.from_residual.ensures
-    (stops_behind c.args.self.now (take at piece) _ c.loop-at.invariant.gives c.in_err-at.ensures.stopped whole)
+    (stops_behind (take at piece) c.loop-at.invariant.gives c.in_err-at.ensures.stopped whole)
