@@ -12,7 +12,7 @@ front_more a b y z all f e = grind (arith, append_assoc f.0 f.1 z)
 
 -- some bytes, and then a front of others
 pub front_then : (a b c : Option (List ℕ)) (x y z all : List ℕ) → Appends a b x → AppendsFront b c y → all ≡ x ++ (y ++ z) → AppendsFront a c all
-front_then a b c x y z all h f e = grind (arith, append_assoc f.0 f.1 z, append_assoc x f.0 (f.1 ++ z), Appends-trans a b c x f.0 h f.3)
+front_then a b c x y z all h f e = grind (arith, append_assoc, Appends-trans)
 
 -- a front of known length
 pub front_at : (bytes : List ℕ) (a b : Option (List ℕ)) (n : ℕ) → Appends a b (take n bytes) → AppendsFront a b bytes
@@ -20,8 +20,7 @@ front_at bytes a b n h = grind (arith, take-append-drop n bytes)
 
 -- the next n bytes went out
 pub part_more : (bytes : List ℕ) (a b c : Option (List ℕ)) (at n : ℕ) → Appends a b (take at bytes) → Appends b c (take n (take (length bytes - at) (drop at bytes))) → Appends a c (take (at + n) bytes)
-part_more bytes a b c at n h k =
-    rw (take-at bytes at n) (Appends-trans a b c (take at bytes) (take n (take (length bytes - at) (drop at bytes))) h k)
+part_more bytes a b c at n h k = grind (arith, take-at, Appends-trans)
 
 -- a fault in the first of two parts
 pub broke : {T E : Type 0} (r : Result T E) (a b : Option (List ℕ)) (y z : List ℕ) → IsErr r → AppendsFront a b y → Writes a b r (y ++ z)

@@ -63,9 +63,7 @@ block_there text head len e b found body from_line =
 
 -- the From_ line is all that is there
 pub block_alone : {text : List ℕ} (e : Entry) → begins_from text ≡ true → IsFirstByte (is_byte 10) text None → e.from_line ≡ text → e.body ≡ [] → IsFirstBlock text (length text) e
-block_alone {text} e b found from_line body =
-    let whole : take (length text) text ≡ text = take_all (length text) text (omega arith) in
-    record { within = omega arith; block = rw whole (from-block text (none-there text found) b from_line body); next = inl refl }
+block_alone {text} e b found from_line body = grind (arith, take_all, from-block, none-there)
 
 -- a block is not empty
 block-some : (len : ℕ) (text : List ℕ) {e : Entry} → Block (take len text) e → 0 < len
@@ -85,21 +83,7 @@ so_far_none (inr b) none = grind (arith)
 
 pub so_far_more : {text : List ℕ} {entries : List Entry} {at len : ℕ} {e : Entry} → SoFar text entries at → at < length text → IsFirstBlock (drop at text) len e
     → SoFar text (entries ++ e ∷ []) (at + len)
-so_far_more {text} {entries} {at} {len} s lt first =
-    let front = take-add at len text in
-    record {
-      within = omega (arith, first.within, length-drop at text);
-      read = elim (s.read) [
-        | inl end ↦ absurd (omega (arith, end.0, lt))
-        | inr on ↦ elim (first.next) [
-          | inl l ↦
-              let rest : take len (drop at text) ≡ drop at text = take_all len (drop at text) (omega (arith, l)) in
-              let whole : take at text ++ take len (drop at text) ≡ text = rw rest (take-append-drop at text) in
-              inl (omega (arith, l, s.within, length-drop at text), rw whole at (closed-last (take at text) entries on.0 first.block))
-          | inr stop ↦ inr (rw front (Closed-push (take at text) entries on.0 first.block stop.0), ap begins_from (sym (drop-drop len at text)) ∙ stop.1)
-        ]
-      ];
-    }
+so_far_more {text} {entries} {at} {len} s lt first = grind (arith, take-add, length-drop, take_all, take-append-drop, closed-last, Closed-push, drop-drop)
 
 pub so_far_all : {text : List ℕ} {entries : List Entry} {at : ℕ} → SoFar text entries at → length text ≤ at → Mbox text entries
 unfolding begins_from

@@ -41,7 +41,7 @@ before-behind (c ∷ r) = refl
 before-cleaned : (s t : List ℕ) → before_space t ≡ [] → before_space (cleaned s ++ t) ≡ cleaned s
 unfolding cleaned
 before-cleaned [] t h = rw h refl
-before-cleaned (c ∷ s) t h = before-map (c ∷ s) t ∙ (rw h (append-nil (map hyphened (c ∷ s))))
+before-cleaned (c ∷ s) t h = grind (arith, before-map, append-nil)
 
 pub sender-built : (s r : List ℕ) → sender (built s r) ≡ cleaned s
 unfolding sender built
@@ -53,9 +53,7 @@ past-behind (c ∷ r) = refl
 
 pub rest-built : (s r : List ℕ) → rest (built s r) ≡ past_spaces r
 unfolding rest built
-rest-built s r =
-    let P = λ (z : List ℕ). past_spaces (drop (length z) (cleaned s ++ behind_sender r)) in
-    ap P (sender-built s r) ∙ (rw (drop_at (cleaned s) (behind_sender r) (length (cleaned s)) refl) (past-behind r))
+rest-built s r = grind (arith, sender-built, drop_at, past-behind)
 
 NoEnd-map : (s : List ℕ) → NoEnd (map hyphened s)
 NoEnd-map [] = tt
@@ -72,7 +70,7 @@ NoEnd-behind (c ∷ r) h = (refl, h)
 
 built-line : (s r : List ℕ) → NoEnd r → IsFromLine (built s r)
 unfolding built begins_from
-built-line s r h = grind (arith, NoEnd-append (cleaned s) (behind_sender r) (NoEnd-cleaned s) (NoEnd-behind r h))
+built-line s r h = grind (arith, NoEnd-append, NoEnd-cleaned, NoEnd-behind)
 
 pub is-built : {line : List ℕ} (s r : List ℕ) (found : Option ℕ) → IsFirstByte (is_byte 10) r found → is_some found ≡ false → line ≡ built s r → IsFromLine line
 is-built s r None h e is = rw is (built-line s r (none-there r h))
@@ -108,7 +106,7 @@ before-all (c ∷ s) h =
     rw here (ap (λ z. c ∷ z) ih)
 
 pub before-found : (s : List ℕ) (n : ℕ) → IsFirstByte (is_byte 32) s (Some n) → take n s ≡ before_space s
-before-found s n h = before-at s n (λ k l. h.0.before k (omega arith) l) h.0.high h.1
+before-found s n h = grind (arith, before-at)
 
 pub before-none : (s : List ℕ) → IsFirstByte (is_byte 32) s None → s ≡ before_space s
 before-none s h = before-all s (λ k l. h k (omega arith) l)
@@ -123,7 +121,7 @@ past-plain (c ∷ s) h = rw (ne_eqb c 32 (h (omega arith))) refl
 
 -- no space more
 pub past-stop : (s : List ℕ) (at : ℕ) → (at < length s → get_or s at 0 ≡ 32 → ⊥) → past_spaces (drop at s) ≡ drop at s
-past-stop s at h = past-plain (drop at s) (λ l e. h (omega (arith, l, length-drop at s)) (sym (get_or-drop at s 0 0 ∙ ap (λ i. get_or s i 0) (add-zero at)) ∙ e))
+past-stop s at h = grind (arith, past-plain, length-drop, get_or-drop, add-zero)
 
 -- the parts of a From_ line, where the first space behind `From ` has this place
 pub sender-at : (line : List ℕ) {behind : List ℕ} (n : ℕ) → behind ≡ drop 5 line → take n behind ≡ before_space behind → take n behind ≡ sender line
@@ -133,4 +131,4 @@ sender-at line n e b = b ∙ ap (λ z. before_space z) e
 pub rest-at : (line : List ℕ) {behind result : List ℕ} (n : ℕ) → behind ≡ drop 5 line → n ≤ length behind → take n behind ≡ before_space behind
     → result ≡ past_spaces (take (length behind - n) (drop n behind)) → result ≡ rest line
 unfolding rest
-rest-at line {behind} n e w b is = grind (arith, sender-at line n e b, length-take n behind, take_rest behind n)
+rest-at line {behind} n e w b is = grind (arith, sender-at, length-take, take_rest)

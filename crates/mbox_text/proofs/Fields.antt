@@ -1,5 +1,5 @@
 -- What a splitter holds, over the fields as the code changes them.
-use Rattle.std.proofs.Common.{◌≡◌, ℕ, ◌+◌, ◌-◌, true, false, eqb, List, [], ◌∷◌, ◌++◌, length, take, drop, refl, sym, ◌∙◌, inl, inr, Option, Some, None, Result, Ok, Err, IfOk, is_some, flat_map, take-add, arith}
+use Rattle.std.proofs.Common.{◌≡◌, ℕ, ◌+◌, ◌-◌, true, false, eqb, List, [], ◌∷◌, ◌++◌, length, take, drop, refl, sym, inl, inr, Option, Some, None, Result, Ok, Err, IfOk, is_some, flat_map, take-add, arith}
 use Rattle.std.specs.declared.alloc.AllocError.{AllocError}
 use Rattle.std.proofs.lemmas.Bool.{both_ways, false≢true, and_parts, ne_eqb, eqb-false, eqb-true, eq-eqb, cases_Bool}
 use Rattle.std.proofs.lemmas.List.{take-append-drop, append-nil, take_rest}
@@ -26,36 +26,28 @@ some_ends e el eb el' text given h =
 pub none_ends : {message : Option PartialMessage} {line line1 : List ℕ} (f : List ℕ) {body : List ℕ} (line' : List ℕ) → message ≡ None → line1 ≡ line
     → begins_from line1 ≡ true → f ≡ line → body ≡ [] → line' ≡ []
     → (text : List ℕ) (given : List Entry) → Held text given message line → InBody (text ++ 10 ∷ []) (given ++ []) f body line'
-none_ends f line' e el b ef eb el' text given h =
-    rw (append-nil given, ef, eb, el') (head-ends (rw e at h) (rw el at b))
+none_ends f line' e el b ef eb el' text given h = grind (arith, append-nil, head-ends)
 
 pub some_closes : {message message' : Option PartialMessage} {m : PartialMessage} (e : Entry) (line part : List ℕ) {line' line1 : List ℕ} → message ≡ Some m → message' ≡ None
     → line' ≡ line ++ part → NoEnd part → line1 ≡ line' → begins_from line1 ≡ true → e.from_line ≡ m.from_line.items → e.body ≡ chopped m.body.items
     → (text : List ℕ) (given : List Entry) → Held text given message line → Held (text ++ part) (given ++ e ∷ []) message' line'
-some_closes e line part is is' el h e1 b ef eb text given held =
-    rw (is', el) (body-closes part e (rw is at held) h (rw (← el, ← e1) b) ef eb)
+some_closes e line part is is' el h e1 b ef eb text given held = grind (arith, body-closes)
 
 pub none_adds : {message message' : Option PartialMessage} (line part : List ℕ) {line' line1 : List ℕ} → message ≡ None → message' ≡ None
     → line' ≡ line ++ part → NoEnd part → line1 ≡ line' → begins_from line1 ≡ true
     → (text : List ℕ) (given : List Entry) → Held text given message line → Held (text ++ part) (given ++ []) message' line'
-none_adds line part is is' el h e1 b text given held =
-    rw (is', append-nil given, el) (head-add part (rw is at held) h (inl (rw (← el, ← e1) b)))
+none_adds line part is is' el h e1 b text given held = grind (arith, append-nil, head-add)
 
 pub plain_adds : (message : Option PartialMessage) (line part : List ℕ) {line' line1 : List ℕ} → line' ≡ line ++ part → NoEnd part → line1 ≡ line' → begins_from line1 ≡ false
     → (message ≡ None → begins_with line' from_bytes ≡ true)
     → (text : List ℕ) (given : List Entry) → Held text given message line → Held (text ++ part) (given ++ []) message line'
-plain_adds None line part {line'} el h e1 b start text given held =
-    let s : begins_with line' from_bytes ≡ true = start refl in
-    rw (append-nil given, el) (head-add part held h (inr (rw (← el) s)))
-plain_adds (Some m) line part el h e1 b start text given held =
-    rw (append-nil given, el) (body-add part held h (rw (← el, ← e1) b))
+plain_adds None line part {line'} el h e1 b start text given held = grind (arith, append-nil, head-add)
+plain_adds (Some m) line part el h e1 b start text given held = grind (arith, append-nil, body-add)
 
 pub some_lines : {message : Option PartialMessage} {m : PartialMessage} {line body part : List ℕ} → message ≡ Some m → line ≡ []
     → body ≡ m.body.items ++ flat_map unquoted (lines part) → Ended part → NoFrom (lines part)
     → (text : List ℕ) (given : List Entry) → Held text given message line → InBody (text ++ part) (given ++ []) m.from_line.items body line
-some_lines {part} e el eb ends none text given h =
-    let h' = rw (e, el) at h in
-    rw (append-nil given, eb, el) (body-lines part h' ends none)
+some_lines {part} e el eb ends none text given h = grind (arith, append-nil, body-lines)
 
 pub take-at : (text : List ℕ) (at n : ℕ) → take (at + n) text ≡ take at text ++ take n (take (length text - at) (drop at text))
 take-at text at n = rw (take_rest text at) (take-add at n text)
@@ -68,14 +60,7 @@ at_start {line} a b = grind arith
 pub none_refuses : {message : Option PartialMessage} (line part : List ℕ) {line' line1 line2 : List ℕ} → message ≡ None → line' ≡ line ++ part
     → line1 ≡ line' → begins_from line1 ≡ false → line2 ≡ line' → begins_with line2 from_bytes ≡ false
     → (text : List ℕ) (given : List Entry) → Held text given message line → (given ≡ []) × NeverFrom (text ++ part)
-none_refuses line part is el e1 b e2 p text given held =
-    let a = rw is at held in
-    let b' : begins_from (line ++ part) ≡ false = rw (← el, ← e1) b in
-    let p' : begins_with (line ++ part) from_bytes ≡ false = rw (← el, ← e2) p in
-    elim (cases_Bool (begins_from line)) [
-      | inl y ↦ absurd (both_ways (begins_from (line ++ part)) b' (begins_from-more line part y))
-      | inr n ↦ let s = at_start a n in (s.0, rw s.1 (b', p'))
-    ]
+none_refuses line part is el e1 b e2 p text given held = grind (arith, cases_Bool, both_ways, begins_from-more, at_start)
 
 pub begins_with-ended : (line prefix : List ℕ) → NoEnd prefix → begins_with (line ++ 10 ∷ []) prefix ≡ false
 begins_with-ended [] [] h = refl
@@ -85,11 +70,7 @@ begins_with-ended (c ∷ line) (p ∷ prefix) h = grind (arith, begins_with-ende
 
 pub end_refuses : {message : Option PartialMessage} {line line1 : List ℕ} → message ≡ None → line1 ≡ line → begins_from line1 ≡ false
     → (text : List ℕ) (given : List Entry) → Held text given message line → (given ≡ []) × NeverFrom (text ++ 10 ∷ [])
-end_refuses {line} is e1 b text given held =
-    let a = rw is at held in
-    let b' : begins_from line ≡ false = rw (← e1) b in
-    let s = at_start a b' in
-    (s.0, rw s.1 (begins_from-cut line [] ∙ b', begins_with-ended line from_bytes (refl, (refl, (refl, (refl, (refl, tt)))))))
+end_refuses {line} is e1 b text given held = grind (arith, at_start, begins_from-cut, begins_with-ended)
 
 pub none_is : (m : Option PartialMessage) → is_some m ≡ false → m ≡ None
 none_is None h = refl
@@ -117,9 +98,7 @@ never-more text more h = grind arith
 
 -- the text in three parts
 pub three-parts : (text : List ℕ) (at n : ℕ) → let rest : List ℕ = take (length text - at) (drop at text) in text ≡ take at text ++ (take n rest ++ drop n rest)
-three-parts text at n =
-    let rest = take (length text - at) (drop at text) in
-    rw (take-append-drop n rest, take_rest text at) (sym (take-append-drop at text))
+three-parts text at n = grind (arith, take-append-drop, take_rest)
 
 -- the lines that a call took
 pub lines_taken : (r : Result ℕ AllocError) {message : Option PartialMessage} {m : PartialMessage} {line : List ℕ} (body text : List ℕ) → message ≡ Some m → line ≡ []

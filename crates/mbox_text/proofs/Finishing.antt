@@ -1,5 +1,5 @@
 -- What a splitter answers at the end of the text.
-use Rattle.std.proofs.Common.{◌≡◌, ℕ, ◌<◌, ◌≤◌, true, false, List, [], ◌∷◌, ◌++◌, length, refl, sym, ◌∙◌, ap, arith, inl, inr, Option, Some, None, Result, IsErrOf}
+use Rattle.std.proofs.Common.{◌≡◌, ℕ, ◌<◌, ◌≤◌, true, false, List, [], ◌∷◌, ◌++◌, length, refl, sym, ◌∙◌, ap, arith, Option, Some, None, Result, IsErrOf}
 use Rattle.std.proofs.lemmas.Bool.{false≢true, true≢false}
 use Rattle.mbox_text.specs.declared.entry.Entry.{Entry}
 use Rattle.mbox_text.specs.declared.fault.TextFault.{TextFault}
@@ -20,8 +20,7 @@ EndsWith splitter e = (text : List ℕ) (given : List Entry) → Holds text give
 
 pub ends_body : (splitter : Splitter) {m : PartialMessage} (e : Entry) (line : List ℕ) → splitter.message ≡ Some m → line ≡ splitter.line.items → e.from_line ≡ m.from_line.items
     → e.body ≡ chopped (m.body.items ++ unquoted line) → EndsWith splitter e
-ends_body splitter {m} e line is e1 ef eb text given h =
-    body-last e (rw is at h) ef (eb ∙ ap (λ z. chopped (m.body.items ++ unquoted z)) e1)
+ends_body splitter {m} e line is e1 ef eb text given h = grind (arith, body-last)
 
 pub ends_head : (splitter : Splitter) (e : Entry) {line : List ℕ} → splitter.message ≡ None → line ≡ splitter.line.items → begins_from line ≡ true
     → e.from_line ≡ splitter.line.items → e.body ≡ [] → EndsWith splitter e
@@ -29,7 +28,7 @@ ends_head splitter e is e1 b ef eb text given h = head-last e (rw is at h) (rw (
 
 -- its text is not short
 long : (splitter : Splitter) (e : Entry) → EndsWith splitter e → (text : List ℕ) (given : List Entry) → Holds text given splitter → 5 ≤ length text
-long splitter e ends text given h = from-long text (mbox-begins-last text given e (ends text given h))
+long splitter e ends text given h = grind (arith, from-long, mbox-begins-last)
 
 pub ends_some : (splitter : Splitter) (e : Entry) → EndsWith splitter e → Ends splitter (Some e)
 ends_some splitter e ends = λ text given h. (
@@ -54,19 +53,7 @@ not_short_head splitter r is e1 b = not_short splitter _ r (ends_head splitter (
 -- a line that begins no message is all that has come, and then it is short
 first_line : (splitter : Splitter) {line : List ℕ} (text : List ℕ) (given : List Entry) → splitter.message ≡ None → line ≡ splitter.line.items → begins_from line ≡ false → Holds text given splitter
     → (given ≡ []) × ((text ≡ splitter.line.items) × (length text < 5))
-first_line splitter text given is e1 b h =
-    let a = rw is at h in
-    let b' : begins_from splitter.line.items ≡ false = rw (← e1) b in
-    let s = at_start a b' in (
-      s.0,
-      (
-        s.1,
-        elim (a.head) [
-          | inl y ↦ absurd (false≢true (sym b' ∙ y))
-          | inr g ↦ rw s.1 (from-short splitter.line.items g.1 b')
-        ],
-      ),
-    )
+first_line splitter text given is e1 b h = grind (arith, at_start, false≢true, from-short)
 
 pub ends_none : (splitter : Splitter) → splitter.message ≡ None → splitter.line.items ≡ [] → Ends splitter None
 unfolding Mbox begins_from
@@ -84,6 +71,4 @@ short_none splitter r n is e = λ text given h.
 
 pub short_refused : (splitter : Splitter) {line : List ℕ} (r : Result (Option Entry) TextFault) → IsErrOf r NoFromLine → splitter.message ≡ None → 0 < length splitter.line.items
     → line ≡ splitter.line.items → begins_from line ≡ false → RefusesShort splitter r
-short_refused splitter r y is some e1 b = λ text given h.
-    let f = first_line splitter text given is e1 b h.held in
-    (λ _. (omega (arith, some, ap length f.1.0), f.1.1), λ _. y)
+short_refused splitter r y is some e1 b = grind (arith, first_line)

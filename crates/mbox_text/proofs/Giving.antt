@@ -24,7 +24,7 @@ held-all None text given line a = head-all a
 held-all (Some m) text given line a = body-all a
 
 pub fed_from : {splitter : Splitter} {text : List ℕ} {given : List Entry} → splitter.failed ≡ false → Holds text given splitter → Fed text given splitter
-fed_from {splitter} {text} {given} works h = grind (arith, held-all splitter.message text given splitter.line.items h)
+fed_from {splitter} {text} {given} works h = grind (arith, held-all)
 
 -- all messages but the last stay the first ones, whatever comes behind the text
 pub all_stay : (text : List ℕ) (given : List Entry) → AllButLast text given → Stay text given
@@ -33,23 +33,18 @@ all_stay text given (inr a) more entries h = inl a.1
 
 -- and are none where no mbox text begins so
 all_none : (text more : List ℕ) {given : List Entry} → AllButLast text given → NeverFrom (text ++ more) → given ≡ []
-all_none text more (inl a) n = absurd (both_ways (begins_from (text ++ more)) n.0 (begins_from-more text more a.0))
+all_none text more (inl a) n = grind (arith, both_ways, begins_from-more)
 all_none text more (inr a) n = a.1
 
 -- one part, and then another
 pub gives_then : (old mid new : Splitter) (p q : List ℕ) (out out1 out' : List Entry) → Gives old p out out1 mid → Gives mid q out1 out' new → Gives old (p ++ q) out out' new
-gives_then old mid new p q out out1 out' a b =
-    let A = λ (z : List Entry). z ++ b.0 in (
-      a.0 ++ b.0,
-      b.1 ∙ ap A a.1 ∙ append_assoc out a.0 b.0,
-      λ text given h. rw (← append_assoc text p q, ← append_assoc given a.0 b.0) (b.2 (text ++ p) (given ++ a.0) (a.2 text given h)),
-    )
+gives_then old mid new p q out out1 out' a b = grind (arith, append_assoc)
 
 pub gives_none : (old new : Splitter) (part : List ℕ) (out out' : List Entry) → out' ≡ out → Moves old part [] new → Gives old part out out' new
 gives_none old new part out out' e m = ([], e ∙ sym (append-nil out), m)
 
 pub gives_nothing : (splitter : Splitter) (out : List Entry) → Gives splitter [] out out splitter
-gives_nothing splitter out = gives_none splitter splitter [] out out refl (λ text given h. rw (append-nil text, append-nil given) h)
+gives_nothing splitter out = grind (arith, gives_none, append-nil)
 
 -- the splitter refuses what comes next, and then more
 refuses_more : (fault : TextFault) (splitter : Splitter) (part more : List ℕ) → Refuses fault splitter part → Refuses fault splitter (part ++ more)
@@ -133,16 +128,12 @@ part text given added all s (inr h) =
 -- what the three answers of a feed say
 pub fed_taken : {T : Type 0} (r : Result T TextFault) (old new : Splitter) (piece : List ℕ) (out out' : List Entry) → new.failed ≡ is_err r
     → OnOk r (Gives old piece out out' new) → OnOk r (Takes old piece out out' new)
-fed_taken (Ok x) old new piece out out' works g = (g.0, g.1, λ text given h. fed_from works (g.2 text given h.held))
+fed_taken (Ok x) old new piece out out' works g = grind (arith, fed_from)
 fed_taken (Err e) old new piece out out' works g = tt
 
 pub fed_never : {T : Type 0} (r : Result T TextFault) (old : Splitter) (piece : List ℕ) (out out' : List Entry)
     → IfErr r (λ fault. Stops fault old piece out out') → IsErrOf r NoFromLine → NeverBegins old piece out out'
-fed_never r old piece out out' h is text given fed =
-    let s = rw is at h in
-    let g = s.gives in
-    let x = s.refuses (text ++ s.front) (given ++ g.0) (g.2 text given fed.held) in
-    (g.1 ∙ rw (nil_right given g.0 x.0) (append-nil out), rw (s.is, ← append_assoc text s.front s.rest) x.1)
+fed_never r old piece out out' h is text given fed = grind (arith, nil_right, append-nil, append_assoc)
 
 pub fed_part : {T : Type 0} (r : Result T TextFault) (old : Splitter) (piece : List ℕ) (out out' : List Entry)
     → IfErr r (λ fault. Stops fault old piece out out') → IsErrOf r OutOfMemory → TakesPart old piece out out'

@@ -25,7 +25,7 @@ unended-push (c ∷ l) h = rw (h.0, unended-push l h.1) refl
 pub Closed-push : (text : List ℕ) (given : List Entry) {block : List ℕ} {e : Entry} → Closed text given → Block block e → Ended block → Closed (text ++ block) (given ++ e ∷ [])
 unfolding Closed
 Closed-push text [] {block} h b ends = (block, [], rw h (sym (append-nil block)), b, ends, refl)
-Closed-push text (g ∷ given) {block} h b ends = grind (arith, append_assoc h.0 h.1 block, Closed-push h.1 given h.5 b ends)
+Closed-push text (g ∷ given) {block} h b ends = grind (arith, Closed-push h.1 given h.5 b ends, append_assoc)
 
 open-ends : {block f body : List ℕ} → Open block f body → Ended block
 open-ends {f} o = elim (o.ended) [
@@ -75,18 +75,12 @@ open-block {block} {body} e o ef eb =
 -- more comes of a From_ line
 pub head-add : {text : List ℕ} {given : List Entry} {line : List ℕ} (part : List ℕ) → AtHead text given line → NoEnd part
     → (begins_from (line ++ part) ≡ true) ⊎ (begins_with (line ++ part) from_bytes ≡ true) → AtHead (text ++ part) given (line ++ part)
-head-add {line} part a h b = record {
-  front = a.front;
-  is = rw a.is (append_assoc a.front line part);
-  closed = a.closed;
-  part = NoEnd-append line part a.part h;
-  head = elim b [ inl y ↦ inl y | inr p ↦ elim (a.head) [ inl y ↦ inl (begins_from-more line part y) | inr g ↦ inr (g.0, p) ] ];
-}
+head-add {line} part a h b = grind (arith, append_assoc, NoEnd-append, begins_from-more)
 
 -- more comes of a line that begins no message
 pub body-add : {text : List ℕ} {given : List Entry} {f body line : List ℕ} (part : List ℕ) → InBody text given f body line → NoEnd part
     → begins_from (line ++ part) ≡ false → InBody (text ++ part) given f body (line ++ part)
-body-add {line} part a h b = grind (arith, append_assoc a.front (a.block ++ line) part, append_assoc a.block line part, NoEnd-append line part a.part h)
+body-add {line} part a h b = grind (arith, append_assoc, NoEnd-append)
 
 -- the line begins the next message
 pub body-closes : {text : List ℕ} {given : List Entry} {f body line : List ℕ} (part : List ℕ) (e : Entry) → InBody text given f body line → NoEnd part

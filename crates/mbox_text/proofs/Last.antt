@@ -12,7 +12,7 @@ use Rattle.mbox_text.proofs.HeldLemmas.{open-last}
 pub closed-last : (front : List ℕ) (given : List Entry) {block : List ℕ} {e : Entry} → Closed front given → Block block e → Mbox (front ++ block) (given ++ e ∷ [])
 unfolding Closed Mbox
 closed-last front [] {block} h b = rw h (block, [], sym (append-nil block), b, inr refl, refl)
-closed-last front (g ∷ given) {block} h b = grind (arith, append_assoc h.0 h.1 block, closed-last h.1 given h.5 b)
+closed-last front (g ∷ given) {block} h b = grind (arith, closed-last h.1 given h.5 b, append_assoc)
 
 pub closed-mbox : (front : List ℕ) (given : List Entry) → Closed front given → Mbox front given
 unfolding Closed Mbox
@@ -32,7 +32,7 @@ from-block (c ∷ l) h b ef eb = grind (arith, lines-part c l h, unended-part (c
 -- the last message of a text that ends in a From_ line, or behind one
 pub head-last : {text : List ℕ} {given : List Entry} {line : List ℕ} (e : Entry) → AtHead text given line → begins_from line ≡ true → e.from_line ≡ line → e.body ≡ []
     → Mbox text (given ++ e ∷ [])
-head-last {given} {line} e a b ef eb = rw a.is (closed-last a.front given a.closed (from-block line a.part b ef eb))
+head-last {given} {line} e a b ef eb = grind (arith, closed-last, from-block)
 
 pub body-last : {text : List ℕ} {given : List Entry} {f body line : List ℕ} (e : Entry) → InBody text given f body line → e.from_line ≡ f → e.body ≡ chopped (body ++ unquoted line)
     → Mbox text (given ++ e ∷ [])

@@ -1,5 +1,5 @@
 -- Lemmas on lines and quoting.
-use Rattle.std.proofs.Common.{◌≡◌, ℕ, Bool, true, false, eqb, List, [], ◌∷◌, ◌++◌, ◌+◌, ◌<◌, add-zero, length, get_or, drop, refl, sym, ◌∙◌, ap, arith, append_assoc, inl, inr, ◌&&◌, MatchBool}
+use Rattle.std.proofs.Common.{◌≡◌, ℕ, Bool, true, false, eqb, List, [], ◌∷◌, ◌++◌, ◌+◌, ◌<◌, add-zero, length, get_or, drop, refl, sym, ap, arith, append_assoc, inl, inr, ◌&&◌, MatchBool}
 use Rattle.std.specs.List.{concat, starts_with}
 use Rattle.std.proofs.lemmas.Bool.{false≢true, cases_Bool, ne_eqb, eq-eqb, cases_lt, and_parts, and_from}
 use Rattle.std.proofs.lemmas.List.{drop_more, drop_all, get_or-drop}
@@ -10,7 +10,7 @@ use Rattle.mbox_text.specs.Spelling.{missing_end}
 pub unquoted_quoted : (line : List ℕ) → unquoted (quoted line) ≡ line
 unfolding unquoted quoted quotable
 unquoted_quoted [] = refl
-unquoted_quoted (c ∷ line) = grind (arith, cases_Bool (eqb c 62), cases_Bool (quotable line), cases_Bool (begins_from (c ∷ line)))
+unquoted_quoted (c ∷ line) = grind (arith, cases_Bool)
 
 pub quoted_no_from : (line : List ℕ) → begins_from (quoted line) ≡ false
 unfolding quoted quotable begins_from
@@ -62,7 +62,7 @@ concat-before c (l ∷ ls) = refl
 pub concat-lines : (text : List ℕ) → concat (lines text) ≡ text
 unfolding lines
 concat-lines [] = refl
-concat-lines (c ∷ text) = grind (arith, cases_Bool (eqb c 10), concat-lines text, concat-before c (lines text))
+concat-lines (c ∷ text) = grind (arith, concat-lines text, cases_Bool, concat-before)
 
 -- what a line begins with stands before its `\n`, and whether it is quotable
 begins_with-cut : (prefix line rest : List ℕ) → NoEnd prefix → begins_with prefix (line ++ 10 ∷ rest) ≡ begins_with prefix line
@@ -82,7 +82,7 @@ quotable-cut (c ∷ line) rest = rw (quotable-cut line rest, begins_from-cut (c 
 pub unquoted-push : (line : List ℕ) → unquoted (line ++ 10 ∷ []) ≡ unquoted line ++ 10 ∷ []
 unfolding unquoted
 unquoted-push [] = refl
-unquoted-push (c ∷ line) = grind (arith, quotable-cut line [], cases_Bool (eqb c 62 && quotable line))
+unquoted-push (c ∷ line) = grind (arith, quotable-cut, cases_Bool)
 
 -- a longer line begins so too
 begins_with-more : (prefix line more : List ℕ) → begins_with prefix line ≡ true → begins_with prefix (line ++ more) ≡ true
@@ -131,11 +131,7 @@ unquoted-other [] q = refl
 unquoted-other (c ∷ line) q = grind (arith, cases_Bool (eqb c 62))
 
 pub quotable-stop : (line : List ℕ) (at : ℕ) → (at < length line → get_or line at 0 ≡ 62 → ⊥) → quotable (drop at line) ≡ begins_from (drop at line)
-quotable-stop line at h =
-    quotable-plain (drop at line) (λ e. elim (cases_lt at (length line)) [
-      | inl l ↦ h l (sym (get_or-drop at line 0 0 ∙ ap (λ i. get_or line i 0) (add-zero at)) ∙ e)
-      | inr g ↦ let z : get_or (drop at line) 0 0 ≡ 0 = rw (drop_all at line g) refl in absurd (omega (arith, z, e))
-    ])
+quotable-stop line at h = grind (arith, quotable-plain, cases_lt, get_or-drop, add-zero, drop_all)
 
 pub unquoted_cases : (line : List ℕ) {b : Bool} → 0 < length line → get_or line 0 0 ≡ 62 → b ≡ quotable line
     → MatchBool b ((0 < length line) × (unquoted line ≡ drop 1 line)) (unquoted line ≡ line)

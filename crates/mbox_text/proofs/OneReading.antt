@@ -79,7 +79,7 @@ joined rest (f ∷ fs) (inr e) h = absurd (cc)
 pub mbox-reads : (text : List ℕ) (entries : List Entry) → Mbox text entries → Reads (lines text) entries
 unfolding Mbox lines
 mbox-reads text [] h = rw h refl
-mbox-reads text (entry ∷ entries) h = grind (arith, joined h.1 entries h.4 h.5, mbox-reads h.1 entries h.5)
+mbox-reads text (entry ∷ entries) h = grind (arith, mbox-reads h.1 entries h.5, joined)
 
 -- no line, no message
 none-left : (rest : List Entry) → Reads [] rest → rest ≡ []

@@ -1,5 +1,5 @@
 -- The first quotable line of a text, and the lines before it, of which none is.
-use Rattle.std.proofs.Common.{◌≡◌, ℕ, zero, suc, ◌+◌, ◌-◌, ◌≤◌, ◌<◌, Some, None, true, false, eqb, List, [], ◌∷◌, ◌++◌, length, take, drop, get_or, refl, sym, ◌∙◌, ap, arith, inl, inr, ◌⊎◌}
+use Rattle.std.proofs.Common.{◌≡◌, ℕ, zero, suc, ◌+◌, ◌-◌, ◌≤◌, ◌<◌, Some, None, true, false, eqb, List, [], ◌∷◌, ◌++◌, length, take, drop, get_or, sym, ◌∙◌, ap, arith, inl, inr, ◌⊎◌}
 use Rattle.std.specs.List.{concat}
 use Rattle.std.proofs.lemmas.Bool.{cases_Bool, cases_lt, false≢true, and_parts, eqb-true}
 use Rattle.std.proofs.lemmas.List.{take_all, length-drop, length-take, get_or-drop, drop-append-le, drop-take, take-take, take_rest}
@@ -85,20 +85,7 @@ unfolding lines
 plain_none = grind (arith)
 
 pub plain_more : {text : List ℕ} {at : ℕ} (n : ℕ) → Plain text at → Plain (drop at text) n → Plain text (at + n)
-plain_more {text} {at} n p q =
-    let x = take n (drop at text) in
-    let front = take-add at n text in
-    elim (p.ends) [
-      | inl e ↦ let same : at + n ≡ at = omega (arith, q.within, length-drop at text, e) in rw same p
-      | inr ended ↦ record {
-        within = omega (arith, p.within, q.within, length-drop at text);
-        ends = elim (q.ends) [
-          | inl e ↦ inl (omega (arith, e, p.within, length-drop at text))
-          | inr e ↦ inr (rw front (Ended-append (take at text) ended e))
-        ];
-        none = rw (front, lines-append x ended) (NoneQuotable-append (lines (take at text)) (lines x) p.none q.none);
-      }
-    ]
+plain_more {text} {at} n p q = grind (arith, take-add, length-drop, Ended-append, lines-append, NoneQuotable-append)
 
 -- the lines before a first `From `
 plain_before : {text : List ℕ} (n : ℕ) {f : ℕ} → FindsNeedle text from_bytes 0 (Some n) → f ≤ n → Ended (take f text) → Plain text f
@@ -122,8 +109,7 @@ plain_line {text} {at} {n} p is not =
     plain_more n p (record { within = h.within; ends = h.ends; none = rw h.line (quotable-line h ∙ q, tt) })
 
 plain_rest : (text : List ℕ) → NoneQuotable (lines text) → Plain text (length text)
-plain_rest text none = let whole : take (length text) text ≡ text = take_all (length text) text (omega arith) in
-    record { within = omega arith; ends = inl refl; none = rw whole none }
+plain_rest text none = grind (arith, take_all)
 
 pub finds_none : {text : List ℕ} {at : ℕ} → Plain text at → FindsNeedle (take (length text - at) (drop at text)) from_bytes 0 None → NoneQuotable (lines text)
 finds_none {text} {at} p found =

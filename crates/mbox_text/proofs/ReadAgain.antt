@@ -46,9 +46,7 @@ quoted-push l = grind (arith, quotable-cut l [], cases_Bool (quotable l))
 lines-concat : (ls : List (List ℕ)) → Whole ls → lines (flat_map (λ l. l) ls) ≡ ls
 unfolding lines
 lines-concat [] w = refl
-lines-concat (l ∷ ls) w =
-    let x = w.0.0 in
-    rw (w.0.1, append_assoc x (10 ∷ []) (flat_map (λ l. l) ls)) (lines-line x (flat_map (λ l. l) ls) w.0.2 ∙ (rw (lines-concat ls w.1) refl))
+lines-concat (l ∷ ls) w = grind (arith, lines-concat ls w.1, append_assoc, lines-line)
 
 quoted-whole : (x : List ℕ) → NoEnd x → (y : List ℕ) × (quoted (x ++ 10 ∷ []) ≡ y ++ 10 ∷ []) × NoEnd y
 unfolding quoted
@@ -59,7 +57,7 @@ quoted-whole x h = elim (cases_Bool (quotable x)) [
 
 map-whole : (ls : List (List ℕ)) → Whole ls → Whole (map quoted ls)
 map-whole [] w = tt
-map-whole (l ∷ ls) w = let q = quoted-whole w.0.0 w.0.2 in (rw w.0.1 q, map-whole ls w.1)
+map-whole (l ∷ ls) w = grind (arith, map-whole ls w.1, quoted-whole)
 
 flat-map : (ls : List (List ℕ)) → flat_map quoted ls ≡ flat_map (λ l. l) (map quoted ls)
 flat-map [] = refl
@@ -131,7 +129,7 @@ spelled_again (e ∷ es) h = grind (arith, spelled-block e h.0.0 h.0.1, spelled_
 missing-full : {body front : List ℕ} (last : List ℕ) → body ≡ front ++ last → Ended front → NoEnd last → missing_end (body ++ missing_end body) ≡ []
 unfolding missing_end
 missing-full [] e (inl n) h = rw (e, n) refl
-missing-full {body} {front} [] e (inr s) h = grind (arith, append-nil front, missing-ended s.0, append-nil body)
+missing-full {body} {front} [] e (inr s) h = grind (arith, append-nil, missing-ended)
 missing-full {body} {front} (c ∷ l) e ends h = grind (arith, missing-part front c l h, missing-ended body)
 
 completed-once : (body : List ℕ) → missing_end (body ++ missing_end body) ≡ []
@@ -139,12 +137,7 @@ completed-once body = let k = cut body in missing-full k.last k.is k.ended k.par
 
 spelled-same : (e : Entry) → spelling (completed e) ≡ spelling e
 unfolding spelling completed
-spelled-same e =
-    let u = full e.body in
-    let w = u.written in
-    let m = completed-once e.body in
-    let L = λ (z : List ℕ). e.from_line ++ 10 ∷ (z ++ 10 ∷ []) in
-    rw (m, ← w) (rw append_assoc refl)
+spelled-same e = grind (arith, full, completed-once, append_assoc)
 
 -- what is completed is spelled as before
 pub spelled_once : (es : List Entry) → flat_map spelling (map completed es) ≡ flat_map spelling es

@@ -16,8 +16,7 @@ use Rattle.mbox_text.proofs.Appended.{front_then, wrote}
 
 quotable-ended : {a : List ℕ} (x : List ℕ) → Ended a → 0 < length a → quotable (a ++ x) ≡ quotable a
 quotable-ended x (inl e) l = absurd (omega (arith, ap length e))
-quotable-ended x (inr e) l =
-    rw e.1 (rw (append_assoc e.0 (10 ∷ []) x) (quotable-cut e.0 x ∙ sym (quotable-cut e.0 [])))
+quotable-ended x (inr e) l = grind (arith, append_assoc, quotable-cut)
 
 quoted-marked : (line : List ℕ) → quotable line ≡ true → quoted line ≡ 62 ∷ line
 unfolding quoted
@@ -57,22 +56,12 @@ plain [] n = refl
 plain (l ∷ ls) n = rw (quoted-plain l n.0, plain ls n.1) refl
 
 pub found_part : (body : List ℕ) (at n : ℕ) → FirstQuotable (take (length body - at) (drop at body)) n → Part (drop at body) n (take ((at + n) - at) (drop at body))
-found_part body at n found =
-    let x = take n (drop at body) in
-    let f = rw (take_rest body at) at found in
-    let size : (at + n) - at ≡ n = omega arith in
-    record { within = omega (arith, f.within); ends = inr f.ended; is = rw size (plain (lines x) f.none ∙ concat-lines x) }
+found_part body at n found = grind (arith, take_rest, plain, concat-lines)
 
 -- the quotable line there
 pub line_part : (body : List ℕ) (at n len : ℕ) → FirstQuotable (take (length body - at) (drop at body)) n → IsLine (take (length body - (at + n)) (drop (at + n) body)) len
     → Part (drop (at + n) body) len (62 ∷ take (((at + n) + len) - (at + n)) (drop (at + n) body))
-line_part body at n len found line =
-    let x = take len (drop (at + n) body) in
-    let f = rw (take_rest body at) at found in
-    let h = rw (take_rest body (at + n)) at line in
-    let size : ((at + n) + len) - (at + n) ≡ len = omega arith in
-    let q = quotable-line h ∙ ap quotable (sym (drop-drop n at body)) ∙ f.there in
-    record { within = h.within; ends = h.ends; is = rw (size, h.line) (append-nil (quoted x) ∙ quoted-marked x q) }
+line_part body at n len found line = grind (arith, take_rest, quotable-line, drop-drop, append-nil, quoted-marked)
 
 -- a part comes off the front
 split-at : (text : List ℕ) {n : ℕ} → (n ≡ length text) ⊎ Ended (take n text) → flat_map quoted (lines text) ≡ flat_map quoted (lines (take n text)) ++ flat_map quoted (lines (drop n text))
@@ -132,9 +121,7 @@ written_rest r {body} {old} {mid} new {at} w none h =
 
 -- the last byte of a body tells whether it lacks its end
 last-is : {body : List ℕ} → eqb (length body) 0 ≡ false → body ≡ take (length body - 1) body ++ get_or body (length body - 1) 0 ∷ []
-last-is {body} e =
-    let some = eqb-false (length body) 0 e in
-    sym (take_all ((length body - 1) + 1) body (omega (arith, some))) ∙ take_more body (length body - 1) 0 (omega (arith, some))
+last-is {body} e = grind (arith, eqb-false, take_all, take_more)
 
 pub missing-empty : (body : List ℕ) → eqb (length body) 0 ≡ true → missing_end body ≡ []
 unfolding missing_end
