@@ -22,13 +22,11 @@ number_after-is before body =
     rw itself at (count-push (same_digest body) before body)
 
 pub number_after-le : (before : List (List ℕ)) (body : List ℕ) → number_after before body ≤ length before + 1
-number_after-le before body =
-    let is = number_after-is before body in
-    let le = count_by-le-length (same_digest body) before in omega (arith, is, le)
+number_after-le before body = grind (arith, number_after-is, count_by-le-length)
 
 pub target-base : (before : List (List ℕ)) (body : List ℕ) → (target before body).base ≡ numbered body (number_after before body)
 unfolding target
-target-base before body = under_flags-base (numbered body (number_after before body)) (flags body)
+target-base before body = grind (arith, under_flags-base)
 
 pub named-target : (before : List (List ℕ)) (body : List ℕ) → length before < 2 ^ 63 → IsNamed (target before body)
 unfolding target

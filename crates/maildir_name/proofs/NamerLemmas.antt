@@ -1,5 +1,5 @@
 -- What a namer's counts say of the bodies that it was given.
-use Rattle.std.proofs.Common.{◌≡◌, ℕ, ◌+◌, ◌-◌, ◌^◌, ◌<◌, min, Bool, false, cond, List, [], ◌∷◌, ◌++◌, length, count_by, refl, sym, ◌∙◌, ap, add-zero, arith, inl, inr, decimal, bytes_eq}
+use Rattle.std.proofs.Common.{◌≡◌, ℕ, ◌+◌, ◌-◌, ◌^◌, ◌<◌, min, Bool, false, cond, List, [], ◌∷◌, ◌++◌, length, count_by, sym, ◌∙◌, ap, add-zero, arith, inl, inr, decimal, bytes_eq}
 use Rattle.std.specs.Cmp.Lexicographic.{nat_list_eq_equiv, bytes_decides}
 use Rattle.std.proofs.lemmas.Bool.{cases_Bool}
 use Rattle.std.proofs.lemmas.List.Sums.{count_by-le-length, sum_by_push}
@@ -53,10 +53,7 @@ module _ {bodies : List (List ℕ)} {body digest : List ℕ} {count number : ℕ
   pub next-counted : {base : List ℕ} {f : Flags} {t : Target} → base ≡ encode_lower digest ++ 46 ∷ decimal number → f ≡ flags body → t ≡ under_flags base f
       → (targets (bodies ++ body ∷ []) ≡ targets bodies ++ t ∷ []) × Named (bodies ++ body ∷ []) new
   unfolding target
-  next-counted {base} {t} eb ef et =
-      let b : base ≡ numbered body (count_by (same_digest body) (bodies ++ body ∷ [])) = rw (← number-counted, ← c.digest_is) eb in
-      let next : t ≡ target bodies body = rw (et, b, ef) refl in
-      (targets-push bodies body ∙ ap (λ x. targets bodies ++ x ∷ []) (sym next), named-counted)
+  next-counted {base} {t} eb ef et = grind (arith, number-counted, targets-push, named-counted)
 
 -- its base is this converter's
 pub named-counted-base : (body : List ℕ) {digest base : List ℕ} (count : ℕ) {number : ℕ} (f : Flags) {t : Target} → digest ≡ sha256 body → number ≡ min (count + 1) (2 ^ 64 - 1)
