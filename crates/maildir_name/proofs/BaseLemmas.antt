@@ -1,20 +1,18 @@
 -- The bases of targets: their parts, and that they are this converter's.
-use Rattle.std.proofs.Common.{◌≡◌, ℕ, zero, suc, ◌+◌, ◌/◌, ◌%◌, ◌^◌, ◌<◌, true, ◌&&◌, leb, List, [], ◌∷◌, ◌++◌, length, get_or, take, drop, slice_index, refl, sym, ◌∙◌, ap, arith, Ok, decimal, append_assoc, inl, inr, lit<}
+use Rattle.std.proofs.Common.{◌≡◌, ℕ, zero, suc, ◌+◌, ◌^◌, ◌<◌, true, List, [], ◌∷◌, ◌++◌, length, take, drop, slice_index, refl, sym, ◌∙◌, ap, arith, decimal, append_assoc, lit<}
 use Rattle.std.specs.List.{list_all}
 use Rattle.std.specs.Int.{byte_at, bytes_high_first, to_be_bytes, w32}
-use Rattle.std.specs.Str.{all_ascii_digits}
-use Rattle.std.specs.Str.Parse.{digits_value}
-use Rattle.std.proofs.lemmas.Bool.{and_from, le-leb, agree_below_at, cases_Bool}
+use Rattle.std.proofs.lemmas.Bool.{and_from, le-leb, cases_Bool}
 use Rattle.std.proofs.lemmas.Fmt.{digits_decimal, digits_value-decimal, first_decimal, decimal_injective}
 use Rattle.std.proofs.lemmas.List.{take_at, drop_at, get_or_at, length_push}
 use Rattle.sha2.specs.Sha256.{sha256, digest_bytes, final_hash, initial_hash_256}
 use Rattle.sha2.proofs.Facts256.{length-sha256}
-use Rattle.hex.specs.Hex.{encode_with, lower_digits, IsBytes, decode_of}
+use Rattle.hex.specs.Hex.{encode_with, lower_digits, IsBytes}
 use Rattle.hex.proofs.HexLemmas.{length-encode_with, decode_of-encode_lower}
 use Rattle.maildir_name.specs.declared.flags.Flags.{Flags}
 use Rattle.maildir_name.specs.declared.target.Target.{Target}
 use Rattle.maildir_name.specs.Names.{base, is_lower_hex_digit, is_occurrence, is_converter_base, IsConverterBase}
-use Rattle.maildir_name.specs.Targets.{digest_text, numbered, is_marked, letters, under_flags}
+use Rattle.maildir_name.specs.Targets.{digest_text, numbered, is_marked, under_flags}
 use Rattle.maildir_name.proofs.NameLemmas.{own, NoColon, base-own, base-info, converter-NoColon}
 
 -- each number is a byte
@@ -50,21 +48,16 @@ IsBytes-AllBytes (b ∷ bytes) h zero = h.0
 IsBytes-AllBytes (b ∷ bytes) h (suc i) = IsBytes-AllBytes bytes h.1 i
 
 digit_is : (d : ℕ) → d < 16 → is_lower_hex_digit (slice_index lower_digits d) ≡ true
-digit_is d h = agree_below_at (λ e. is_lower_hex_digit (slice_index lower_digits e)) (λ _. true) 16 d refl h
+digit_is d h = grind (arith)
 
 -- bytes are written in digits
 digits-encode : (bytes : List ℕ) → AllBytes bytes → list_all is_lower_hex_digit (encode_with lower_digits bytes) ≡ true
 unfolding encode_with
 digits-encode [] h = refl
-digits-encode (b ∷ bytes) h =
-    let high : b / 16 < 16 = omega (arith, h.0) in
-    let low : b % 16 < 16 = omega arith in
-    rw (digit_is (b / 16) high, digit_is (b % 16) low) (digits-encode bytes h.1)
+digits-encode (b ∷ bytes) h = grind (arith, digits-encode bytes h.1, digit_is)
 
 pub length-digest_text : (body : List ℕ) → length (digest_text body) ≡ 64
-length-digest_text body =
-    let e = length-encode_with lower_digits (sha256 body) in
-    let n = length-sha256 body in omega (arith, e, n)
+length-digest_text body = grind (arith, length-encode_with, length-sha256)
 
 -- the parts of a base
 pub numbered-digits : (body : List ℕ) (n : ℕ) → take 64 (numbered body n) ≡ digest_text body
@@ -72,44 +65,33 @@ numbered-digits body n = take_at (digest_text body) (46 ∷ decimal n) 64 (lengt
 
 pub numbered-number : (body : List ℕ) (n : ℕ) → drop 65 (numbered body n) ≡ decimal n
 numbered-number body n =
-    let dot : digest_text body ++ (46 ∷ []) ++ decimal n ≡ numbered body n = append_assoc (digest_text body) (46 ∷ []) (decimal n) in
+    let dot = append_assoc (digest_text body) (46 ∷ []) (decimal n) in
     let len : length (digest_text body ++ 46 ∷ []) ≡ 65 = length_push (digest_text body) 46 ∙ ap (λ k. k + 1) (length-digest_text body) in
     rw (sym dot) (drop_at (digest_text body ++ 46 ∷ []) (decimal n) 65 len)
 
 -- a number that is printed is an occurrence number
 pub occurrence-decimal : (n : ℕ) → 0 < n → n < 2 ^ 64 → is_occurrence (decimal n) ≡ true
 unfolding is_occurrence
-occurrence-decimal n some small =
-    let value = digits_value-decimal own n small in
-    and_from (all_ascii_digits (decimal n) && leb 49 (get_or (decimal n) 0 0)) (leb (digits_value 10 (decimal n)) 18446744073709551615)
-    (and_from (all_ascii_digits (decimal n)) (leb 49 (get_or (decimal n) 0 0)) (digits_decimal own n small) (le-leb 49 (get_or (decimal n) 0 0) (first_decimal n some small)))
-    (le-leb (digits_value 10 (decimal n)) 18446744073709551615 (omega (arith, value)))
+occurrence-decimal n some small = grind (arith, digits_value-decimal, own, decimal, and_from, digits_decimal, le-leb, first_decimal)
 
 -- a base with a number of 64 bits is this converter's
 pub numbered-converter : (body : List ℕ) (n : ℕ) → 0 < n → n < 2 ^ 64 → IsConverterBase (numbered body n)
 unfolding is_converter_base
-numbered-converter body n some small =
-    let dot : get_or (numbered body n) 64 0 ≡ 46 = get_or_at (digest_text body) 46 (decimal n) 0 64 (length-digest_text body) in
-    rw (numbered-digits body n, digits-encode (sha256 body) (bytes-sha256 body), dot, numbered-number body n) (occurrence-decimal n some small)
+numbered-converter body n some small = grind (arith, get_or_at, decimal, length-digest_text, numbered-digits, digits-encode, bytes-sha256, numbered-number, occurrence-decimal)
 
 -- equal bases have equal digests and numbers
 pub same-digest : (a b : List ℕ) (m n : ℕ) → numbered a m ≡ numbered b n → sha256 a ≡ sha256 b
-same-digest a b m n e =
-    let text : digest_text a ≡ digest_text b = sym (numbered-digits a m) ∙ (ap (take 64) e ∙ numbered-digits b n) in
-    let one = decode_of-encode_lower (sha256 a) (IsBytes-AllBytes (sha256 a) (bytes-sha256 a)) in
-    let other = decode_of-encode_lower (sha256 b) (IsBytes-AllBytes (sha256 b) (bytes-sha256 b)) in
-    let both : Ok (sha256 a) ≡ Ok (sha256 b) = sym one ∙ (ap decode_of text ∙ other) in cc both
+same-digest a b m n e = grind (arith, numbered-digits a m, numbered-digits b n, decode_of-encode_lower (sha256 a) (IsBytes-AllBytes (sha256 a) (bytes-sha256 a)), decode_of-encode_lower (sha256 b) (IsBytes-AllBytes (sha256 b) (bytes-sha256 b)))
 
 pub same-number : (a b : List ℕ) (m n : ℕ) → m < 2 ^ 64 → n < 2 ^ 64 → numbered a m ≡ numbered b n → m ≡ n
-same-number a b m n small small' e =
-    decimal_injective m n small small' (sym (numbered-number a m) ∙ (ap (drop 65) e ∙ numbered-number b n))
+same-number a b m n small small' e = grind (arith, decimal_injective, numbered-number)
 
 -- the target of a base has that base, and its name does
 pub under_flags-base : (b : List ℕ) (f : Flags) → (under_flags b f).base ≡ b
-under_flags-base b f = elim (cases_Bool (is_marked f)) [ inl t ↦ rw t refl | inr e ↦ rw e refl ]
+under_flags-base b f = grind (arith, cases_Bool (is_marked f))
 
 pub under_flags-name : (b : List ℕ) (f : Flags) → NoColon b → base (under_flags b f).name ≡ b
-under_flags-name b f h = elim (cases_Bool (is_marked f)) [ inl t ↦ rw t (base-info b (50 ∷ 44 ∷ letters f) h) | inr e ↦ rw e (base-own b h) ]
+under_flags-name b f h = grind (arith, cases_Bool, base-info, base-own)
 
 -- a target whose base is this converter's
 pub record IsNamed (t : Target) : Type 0 where
@@ -118,7 +100,4 @@ pub record IsNamed (t : Target) : Type 0 where
   pub same_base : base t.name ≡ t.base
 
 pub named-under_flags : (t : Target) (b : List ℕ) (f : Flags) → t ≡ under_flags b f → IsConverterBase b → IsNamed t
-named-under_flags t b f e h =
-    let eb : t.base ≡ b = ap (λ (x : Target). x.base) e ∙ under_flags-base b f in
-    let en : base t.name ≡ b = ap (λ (x : Target). base x.name) e ∙ under_flags-name b f (converter-NoColon b h) in
-    record { converter = rw eb h; own_base = rw eb (base-own b (converter-NoColon b h)); same_base = en ∙ sym eb }
+named-under_flags t b f e h = grind (arith, under_flags-base, under_flags-name, converter-NoColon, base-own)

@@ -1,5 +1,5 @@
 -- The bases of the targets of one text: this converter's, and distinct.
-use Rattle.std.proofs.Common.{◌≡◌, ℕ, ◌+◌, ◌^◌, ◌<◌, ◌≤◌, true, List, [], ◌∷◌, ◌++◌, length, get_or, take, count_by, refl, sym, ◌∙◌, ap, arith, All, AllPairs, bytes_eq, cond, length-take-le}
+use Rattle.std.proofs.Common.{◌≡◌, ℕ, ◌+◌, ◌^◌, ◌<◌, ◌≤◌, List, [], ◌∷◌, ◌++◌, length, get_or, take, count_by, refl, sym, ◌∙◌, ap, arith, All, AllPairs, bytes_eq, cond, length-take-le}
 use Rattle.std.specs.Cmp.Lexicographic.{nat_list_eq_equiv}
 use Rattle.std.proofs.lemmas.List.{take_more, take-take}
 use Rattle.std.proofs.lemmas.List.Sums.{count_by-le-length, sum_by-take-le}
@@ -18,17 +18,15 @@ number_after before body = count_by (same_digest body) (before ++ body ∷ [])
 -- it counts the body itself, and no more than the bodies
 pub number_after-is : (before : List (List ℕ)) (body : List ℕ) → number_after before body ≡ count_by (same_digest body) before + 1
 number_after-is before body =
-    let itself : same_digest body body ≡ true = nat_list_eq_equiv.refl (sha256 body) in
+    let itself = nat_list_eq_equiv.refl (sha256 body) in
     rw itself at (count-push (same_digest body) before body)
 
 pub number_after-le : (before : List (List ℕ)) (body : List ℕ) → number_after before body ≤ length before + 1
-number_after-le before body =
-    let is = number_after-is before body in
-    let le = count_by-le-length (same_digest body) before in omega (arith, is, le)
+number_after-le before body = grind (arith, number_after-is, count_by-le-length)
 
 pub target-base : (before : List (List ℕ)) (body : List ℕ) → (target before body).base ≡ numbered body (number_after before body)
 unfolding target
-target-base before body = under_flags-base (numbered body (number_after before body)) (flags body)
+target-base before body = grind (arith, under_flags-base)
 
 pub named-target : (before : List (List ℕ)) (body : List ℕ) → length before < 2 ^ 63 → IsNamed (target before body)
 unfolding target
@@ -53,7 +51,7 @@ earlier-lt bodies i j lt in_list e =
     ap (λ d. count_by (λ b. bytes_eq d (sha256 b)) (take i bodies ++ get_or bodies i [] ∷ [])) e
     ∙ ap (count_by p) (sym (take_more bodies i [] (omega arith))) in
     let within : take (i + 1) (take j bodies) ≡ take (i + 1) bodies = take-take (i + 1) j bodies (omega arith) in
-    let le : count_by p (take (i + 1) bodies) ≤ count_by p (take j bodies) = rw within at (sum_by-take-le (λ b. cond (p b) 1 0) (take j bodies) (i + 1)) in
+    let le = rw within at (sum_by-take-le (λ b. cond (p b) 1 0) (take j bodies) (i + 1)) in
     let other = number_after-is (take j bodies) (get_or bodies j []) in
     omega (arith, one, le, other)
 
@@ -64,7 +62,7 @@ distinct-targets bodies few i j d lt below same =
     let other = ap (λ (t : Target). t.base) (get_or-targets bodies j d in_list) ∙ target-base (take j bodies) (get_or bodies j []) in
     let m = number_after (take i bodies) (get_or bodies i []) in
     let n = number_after (take j bodies) (get_or bodies j []) in
-    let bases : numbered (get_or bodies i []) m ≡ numbered (get_or bodies j []) n = sym one ∙ (same ∙ other) in
+    let bases = sym one ∙ (same ∙ other) in
     let m_le = number_after-le (take i bodies) (get_or bodies i []) in
     let n_le = number_after-le (take j bodies) (get_or bodies j []) in
     let i_len : length (take i bodies) ≡ i = length-take-le i bodies (omega arith) in

@@ -1,13 +1,12 @@
 -- The bases of equal bodies.
-use Rattle.std.proofs.Common.{◌≡◌, ℕ, ◌+◌, cond, List, [], ◌∷◌, ◌++◌, length, filter, zip, count_by, refl, sym, ◌∙◌, ap, arith, All, bytes_eq, inl, inr, add-zero, append-nil, append_assoc}
+use Rattle.std.proofs.Common.{◌≡◌, ℕ, ◌+◌, cond, List, [], ◌∷◌, ◌++◌, length, zip, count_by, refl, sym, ◌∙◌, ap, arith, All, bytes_eq, inl, inr, add-zero, append-nil, append_assoc}
 use Rattle.std.specs.Cmp.Lexicographic.{nat_list_eq_equiv, bytes_decides}
 use Rattle.std.proofs.lemmas.Bool.{cases_Bool, false_from_ne_true, both_ways}
 use Rattle.std.proofs.lemmas.List.{map-append, get_or_append_left, get_or_push, length_push}
 use Rattle.std.proofs.lemmas.List.Elements.{filter-append}
 use Rattle.std.proofs.lemmas.List.FromFn.{map-range_with_len_more}
 use Rattle.sha2.specs.Sha256.{sha256}
-use Rattle.maildir_name.specs.declared.target.Target.{Target}
-use Rattle.maildir_name.specs.Targets.{numbered, same_digest, target, targets, bases_of, numbered_up_to}
+use Rattle.maildir_name.specs.Targets.{numbered, same_digest, target, bases_of, numbered_up_to}
 use Rattle.maildir_name.proofs.DistinctBases.{number_after, number_after-is, target-base}
 use Rattle.maildir_name.proofs.NamerLemmas.{count-push}
 use Rattle.maildir_name.proofs.TargetLemmas.{length-targets, targets-push}
@@ -15,8 +14,7 @@ use Rattle.maildir_name.proofs.TargetLemmas.{length-targets, targets-push}
 -- what holds of no body, and of one more, holds of all
 by_one_more : (P : List (List ℕ) → Type 0) → P [] → ((bodies : List (List ℕ)) (body : List ℕ) → P bodies → P (bodies ++ body ∷ [])) → (front back : List (List ℕ)) → P front → P (front ++ back)
 by_one_more P none more front [] h = rw (append-nil front) h
-by_one_more P none more front (body ∷ back) h =
-    rw (sym (append_assoc front (body ∷ []) back)) (by_one_more P none more (front ++ body ∷ []) back (more front body h))
+by_one_more P none more front (body ∷ back) h = grind (arith, by_one_more P none more (front ++ body ∷ []) back (more front body h), append_assoc)
 
 zip-push : {A B : Type 0} (xs : List A) (ys : List B) (a : A) (b : B) → length xs ≡ length ys → zip (xs ++ a ∷ []) (ys ++ b ∷ []) ≡ zip xs ys ++ (a, b) ∷ []
 zip-push [] [] a b e = refl
@@ -29,14 +27,10 @@ abbrev pub IsAlone : List ℕ → List (List ℕ) → Type 0
 IsAlone body bodies = All (λ other. sha256 other ≡ sha256 body → other ≡ body) bodies
 
 alone-front : (body : List ℕ) (bodies : List (List ℕ)) (last : List ℕ) → IsAlone body (bodies ++ last ∷ []) → IsAlone body bodies
-alone-front body bodies last h k d below =
-    let l = length_push bodies last in
-    rw (get_or_append_left bodies (last ∷ []) d k below) at (h k d (omega (arith, l)))
+alone-front body bodies last h k d below = grind (arith, length_push, get_or_append_left)
 
 alone-last : (body : List ℕ) (bodies : List (List ℕ)) (last : List ℕ) → IsAlone body (bodies ++ last ∷ []) → sha256 last ≡ sha256 body → last ≡ body
-alone-last body bodies last h =
-    let l = length_push bodies last in
-    rw (get_or_push bodies last [] (length bodies) refl) at (h (length bodies) [] (omega (arith, l)))
+alone-last body bodies last h = grind (arith, length_push, get_or_push)
 
 -- then its digest tells it apart
 alone-same : (body last : List ℕ) → (sha256 last ≡ sha256 body → last ≡ body) → same_digest body last ≡ bytes_eq body last
@@ -55,17 +49,7 @@ count-alone body bodies = by_one_more (λ l. IsAlone body l → count_by (same_d
 
 bases-push : (body : List ℕ) (bodies : List (List ℕ)) (last : List ℕ)
     → bases_of body (bodies ++ last ∷ []) ≡ bases_of body bodies ++ cond (bytes_eq body last) ((target bodies last).base ∷ []) []
-bases-push body bodies last =
-    let t = target bodies last in
-    let p = λ (entry : List ℕ × Target). bytes_eq body entry.0 in
-    let f = λ (entry : List ℕ × Target). entry.1.base in
-    rw (
-      targets-push bodies last,
-      zip-push bodies (targets bodies) last t (sym (length-targets bodies)),
-      filter-append p (zip bodies (targets bodies)) ((last, t) ∷ []),
-      map-append f (filter p (zip bodies (targets bodies))) (filter p ((last, t) ∷ [])),
-    )
-    (elim (cases_Bool (bytes_eq body last)) [ inl e ↦ rw e refl | inr e ↦ rw e refl ])
+bases-push body bodies last = grind (arith, bytes_eq, targets-push, zip-push, length-targets, filter-append, map-append, cases_Bool)
 
 bases-more : (body : List ℕ) (bodies : List (List ℕ)) (last : List ℕ)
     → (IsAlone body bodies → bases_of body bodies ≡ numbered_up_to body (count_by (bytes_eq body) bodies))
@@ -77,7 +61,7 @@ bases-more body bodies last before h =
     let count = count-push (bytes_eq body) bodies last in
     elim (cases_Bool (bytes_eq body last)) [
       | inl t ↦
-          let same : last ≡ body = sym ((bytes_decides body last).0 t) in
+          let same = sym ((bytes_decides body last).0 t) in
           let number : number_after bodies body ≡ n + 1 = number_after-is bodies body ∙ ap (λ k. k + 1) (count-alone body bodies alone) in
           let base : (target bodies last).base ≡ numbered body (n + 1) =
           target-base bodies last ∙ (ap (λ b. numbered b (number_after bodies b)) same ∙ ap (numbered body) number) in

@@ -1,9 +1,9 @@
 -- Lines, headers and fields.
-use Rattle.std.proofs.Common.{◌≡◌, ℕ, ◌+◌, ◌-◌, ◌<◌, ◌≤◌, zero, suc, Bool, true, false, not, eqb, List, [], ◌∷◌, length, get_or, take, drop, position, Some, None, refl, sym, ◌∙◌, ap, arith, inl, inr, le_refl, zero-le, ltb, add-one}
-use Rattle.std.proofs.lemmas.Bool.{eqb-true, cases_Bool, ltb-false}
+use Rattle.std.proofs.Common.{◌≡◌, ℕ, ◌+◌, ◌-◌, ◌<◌, ◌≤◌, zero, suc, Bool, true, false, eqb, List, [], ◌∷◌, length, get_or, take, drop, position, Some, None, refl, sym, ap, arith, le_refl, zero-le, add-one}
+use Rattle.std.proofs.lemmas.Bool.{eqb-true, cases_Bool}
 use Rattle.std.proofs.lemmas.List.{drop_all, take_all, take_rest, nil_from_length}
 use Rattle.std.proofs.lemmas.List.Quantifiers.{position-Some}
-use Rattle.std.proofs.lemmas.List.Sums.{take_while-cons, fails_before_first}
+use Rattle.std.proofs.lemmas.List.Sums.{fails_before_first}
 use Rattle.std.specs.List.{position_or_len}
 use Rattle.maildir_name.specs.Flags.{lines, is_blank, header, begins_with_name, field}
 
@@ -22,7 +22,7 @@ lines-cut (c ∷ text) (suc n) l e h =
 lines-whole : (text : List ℕ) → 0 < length text → ((k : ℕ) → k < length text → is_end (get_or text k 0) ≡ false) → lines text ≡ text ∷ []
 unfolding lines
 lines-whole [] l h = absurd (omega arith)
-lines-whole (c ∷ []) l h = let first : is_end c ≡ false = h zero l in rw first refl
+lines-whole (c ∷ []) l h = let first = h zero l in rw first refl
 lines-whole (c ∷ d ∷ text) l h =
     let n : length (c ∷ d ∷ text) ≡ suc (length (d ∷ text)) = refl in
     let m : length (d ∷ text) ≡ suc (length text) = refl in
@@ -30,36 +30,28 @@ lines-whole (c ∷ d ∷ text) l h =
     rw (first, lines-whole (d ∷ text) (omega arith) (λ k low. h (suc k) (omega (arith, low)))) refl
 
 -- the first line of a text ends with the first `\n`
-pub lines_some : (text : List ℕ) (at : ℕ) → position is_end text ≡ Some at → lines text ≡ take (at + 1) text ∷ lines (drop (at + 1) text)
-lines_some text at e =
-    let found = position-Some is_end text at 0 e in
-    rw add-one (lines-cut text at found.0 found.1 found.2)
+pub lines_some : (text : List ℕ) {at : ℕ} → position is_end text ≡ Some at → lines text ≡ take (at + 1) text ∷ lines (drop (at + 1) text)
+lines_some text {at} e = grind (arith, position-Some, add-one, lines-cut)
 
 missing : (text : List ℕ) → position is_end text ≡ None → length text ≤ position_or_len is_end text
-missing text e = elim (cases_Bool (ltb (position_or_len is_end text) (length text))) [
-  | inl t ↦ let found : Some (position_or_len is_end text) ≡ None = rw t at e in absurd (cc found)
-  | inr f ↦ ltb-false (position_or_len is_end text) (length text) f
-]
+missing text e = grind (arith, cases_Bool)
 
 -- a text without a `\n` is a line
 pub lines_none : (text : List ℕ) → 0 < length text → position is_end text ≡ None → lines text ≡ take (length text) text ∷ lines (drop (length text) text)
 unfolding lines
-lines_none text l e =
-    let m = missing text e in
-    rw (take_all (length text) text (le_refl (length text)), drop_all (length text) text (le_refl (length text)))
-    (lines-whole text l (λ k low. fails_before_first is_end text k 0 (omega (arith, m))))
+lines_none text l e = grind (arith, missing, take_all, le_refl, drop_all, lines-whole, fails_before_first)
 
-header-nil : (body : List ℕ) → body ≡ [] → header body ≡ []
+header-nil : {body : List ℕ} → body ≡ [] → header body ≡ []
 unfolding header lines
-header-nil body e = rw e refl
+header-nil e = rw e refl
 
-header-blank : (body line : List ℕ) (more : List (List ℕ)) → lines body ≡ line ∷ more → is_blank line ≡ true → header body ≡ []
+header-blank : (body : List ℕ) {line : List ℕ} {more : List (List ℕ)} → lines body ≡ line ∷ more → is_blank line ≡ true → header body ≡ []
 unfolding header
-header-blank body line more e b = rw (e, take_while-cons (λ l. not (is_blank l)) line more, b) refl
+header-blank body {line} {more} e b = grind (arith)
 
-header-line : (body line behind : List ℕ) → lines body ≡ line ∷ lines behind → is_blank line ≡ false → header body ≡ line ∷ header behind
+header-line : (body : List ℕ) {line : List ℕ} (behind : List ℕ) → lines body ≡ line ∷ lines behind → is_blank line ≡ false → header body ≡ line ∷ header behind
 unfolding header
-header-line body line behind e b = rw (e, take_while-cons (λ l. not (is_blank l)) line (lines behind), b) refl
+header-line body {line} behind e b = grind (arith)
 
 field-nil : (name : List ℕ) → field name [] ≡ []
 unfolding field
@@ -80,28 +72,22 @@ pub record Reads (name body rest line behind : List ℕ) (n : ℕ) : Type 0 wher
   pub front : line ≡ take n rest
   pub back : behind ≡ drop n rest
 
-reads_line : (name body rest line behind : List ℕ) (n : ℕ) → Reads name body rest line behind n → lines rest ≡ line ∷ lines behind
-reads_line name body rest line behind n r = rw (r.front, r.back) r.first
+module _ {name body rest line behind : List ℕ} {n : ℕ} (r : Reads name body rest line behind n) where
+  reads_line : lines rest ≡ line ∷ lines behind
+  reads_line = rw (r.front, r.back) r.first
 
-pub field_blank : (name body rest line behind : List ℕ) (n : ℕ) → Reads name body rest line behind n → (blank : Bool) → blank ≡ is_blank line → blank ≡ true → [] ≡ field name (header body)
-field_blank name body rest line behind n r blank e t =
-    sym (field-nil name) ∙ (ap (field name) (sym (header-blank rest line (lines behind) (reads_line name body rest line behind n r) (sym e ∙ t))) ∙ r.same)
+  pub field_blank : {blank : Bool} → blank ≡ is_blank line → blank ≡ true → [] ≡ field name (header body)
+  field_blank e t = grind (arith, field-nil, header-blank, reads_line)
 
-reads_more : (name body rest line behind : List ℕ) (n : ℕ) → Reads name body rest line behind n → (blank : Bool) → blank ≡ is_blank line → blank ≡ false
-    → field name (line ∷ header behind) ≡ field name (header body)
-reads_more name body rest line behind n r blank e f =
-    ap (field name) (sym (header-line rest line behind (reads_line name body rest line behind n r) (sym e ∙ f))) ∙ r.same
+  module _ {blank begins : Bool} (e : blank ≡ is_blank line) (f : blank ≡ false) (e' : begins ≡ begins_with_name name line) where
+    reads_more : field name (line ∷ header behind) ≡ field name (header body)
+    reads_more = grind (arith, header-line, reads_line)
 
-pub field_then : (name body rest line behind : List ℕ) (n : ℕ) → Reads name body rest line behind n → (blank begins : Bool) → blank ≡ is_blank line → blank ≡ false
-    → begins ≡ begins_with_name name line → begins ≡ true → take (length line - length name) (drop (length name) line) ≡ field name (header body)
-field_then name body rest line behind n r blank begins e f e' t =
-    take_rest line (length name) ∙ (sym (field-found name line (header behind) (sym e' ∙ t)) ∙ reads_more name body rest line behind n r blank e f)
+    pub field_then : begins ≡ true → take (length line - length name) (drop (length name) line) ≡ field name (header body)
+    field_then t = grind (arith, take_rest, field-found, reads_more)
 
-pub field_else : (name body rest line behind : List ℕ) (n : ℕ) → Reads name body rest line behind n → (blank begins : Bool) → blank ≡ is_blank line → blank ≡ false
-    → begins ≡ begins_with_name name line → begins ≡ false → field name (header behind) ≡ field name (header body)
-field_else name body rest line behind n r blank begins e f e' f' =
-    sym (field-passed name line (header behind) (sym e' ∙ f')) ∙ reads_more name body rest line behind n r blank e f
+    pub field_else : begins ≡ false → field name (header behind) ≡ field name (header body)
+    field_else t = grind (arith, field-passed, reads_more)
 
-pub field_end : (name body rest : List ℕ) (empty : Bool) → field name (header rest) ≡ field name (header body) → empty ≡ eqb (length rest) 0 → empty ≡ true → [] ≡ field name (header body)
-field_end name body rest empty same e t =
-    sym (field-nil name) ∙ (ap (field name) (sym (header-nil rest (nil_from_length rest (eqb-true (length rest) 0 (sym e ∙ t))))) ∙ same)
+pub field_end : (name body rest : List ℕ) {empty : Bool} → field name (header rest) ≡ field name (header body) → empty ≡ eqb (length rest) 0 → empty ≡ true → [] ≡ field name (header body)
+field_end name body rest same e t = grind (arith, field-nil, header-nil, nil_from_length, eqb-true)

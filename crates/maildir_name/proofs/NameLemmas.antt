@@ -1,7 +1,6 @@
 -- Bases and this converter's names.
-use Rattle.std.proofs.Common.{◌≡◌, ℕ, ◌+◌, ◌-◌, ◌<◌, ◌≤◌, ◌^◌, suc, Bool, true, false, ◌&&◌, eqb, leb, List, [], ◌∷◌, ◌++◌, length, get_or, take, drop, refl, sym, ◌∙◌, arith, inl, inr, Result, Ok, Err, is_ok, OkIff, length-append, length-drop, length-take-le, get_or-take, get_or-drop}
+use Rattle.std.proofs.Common.{◌≡◌, ℕ, ◌+◌, ◌-◌, ◌<◌, ◌≤◌, ◌^◌, Bool, true, false, ◌&&◌, eqb, leb, List, [], ◌∷◌, ◌++◌, length, get_or, take, drop, refl, sym, ◌∙◌, arith, inl, inr, Result, Ok, Err, is_ok, OkIff, length-append, length-drop, length-take-le, get_or-take, get_or-drop}
 use Rattle.std.specs.List.{before_first, after_first, position_or_len, list_all}
-use Rattle.std.specs.Char.{is_ascii_digit}
 use Rattle.std.specs.Int.{IsInRange}
 use Rattle.std.specs.Str.{all_ascii_digits}
 use Rattle.std.specs.Str.Parse.{digits_value, ParsesUnsigned}
@@ -23,22 +22,16 @@ pub record Parts (b : List ℕ) : Type 0 where
 
 pub parts_of : (b : List ℕ) → IsConverterBase b → Parts b
 unfolding is_converter_base
-parts_of b h =
-    let outer = and_parts (list_all is_lower_hex_digit (take 64 b) && eqb (get_or b 64 0) 46) (is_occurrence (drop 65 b)) h in
-    let inner = and_parts (list_all is_lower_hex_digit (take 64 b)) (eqb (get_or b 64 0) 46) outer.0 in
-    record { digits = inner.0; dot = eqb-true (get_or b 64 0) 46 inner.1; number = outer.1 }
+parts_of b h = grind (arith, and_parts, eqb-true)
 
 -- it is longer than its 64 digits
-pub parts_long : (b : List ℕ) → Parts b → 64 < length b
-parts_long b p = elim (cases_lt 64 (length b)) [
-  | inl l ↦ l
-  | inr l ↦ let e = p.dot in let z = get_or_past b 64 0 l in absurd (omega (arith, e, z))
-]
+pub parts_long : {b : List ℕ} → Parts b → 64 < length b
+parts_long {b} p = grind (arith, cases_lt, get_or_past)
 
 -- each of its first 64 bytes is a digit
-pub parts_digit : (b : List ℕ) → Parts b → (k : ℕ) → k < 64 → is_lower_hex_digit (get_or b k 0) ≡ true
-parts_digit b p k h =
-    let long = parts_long b p in
+pub parts_digit : {b : List ℕ} → Parts b → (k : ℕ) → k < 64 → is_lower_hex_digit (get_or b k 0) ≡ true
+parts_digit {b} p k h =
+    let long = parts_long p in
     let all = AllPass-from_list_all is_lower_hex_digit (take 64 b) p.digits in
     let l : k < length (take 64 b) = omega (arith, length-take-le 64 b) in
     rw (sym (get_or-take 64 b k 0 h)) (all k 0 l)
@@ -47,15 +40,15 @@ abbrev pub is_dot : ℕ → Bool
 is_dot c = eqb c 46
 
 -- its first dot follows its digits
-pub dot_at : (b : List ℕ) → Parts b → position_or_len is_dot b ≡ 64
-dot_at b p =
-    position_or_len_is is_dot b 64 0 (omega (arith, parts_long b p))
-    (λ k h. ne_eqb (get_or b k 0) 46 (hex_is_not (get_or b k 0) 46 (parts_digit b p k h) refl))
+pub dot_at : {b : List ℕ} → Parts b → position_or_len is_dot b ≡ 64
+dot_at {b} p =
+    position_or_len_is is_dot b 64 0 (omega (arith, parts_long p))
+    (λ k h. ne_eqb (get_or b k 0) 46 (hex_is_not (get_or b k 0) 46 (parts_digit p k h) refl))
     (λ _. eq-eqb (get_or b 64 0) 46 p.dot)
 
-swap_true : (x y z : Bool) → y ≡ true → (x && y && z) ≡ (x && z)
-swap_true true y z e = rw e refl
-swap_true false y z e = refl
+swap_true : (x : Bool) {y : Bool} (z : Bool) → y ≡ true → (x && y && z) ≡ (x && z)
+swap_true true z e = rw e refl
+swap_true false z e = refl
 
 -- a base that is cut at its first dot
 pub converter_cut : (b : List ℕ) → position_or_len is_dot b < length b
@@ -63,98 +56,74 @@ pub converter_cut : (b : List ℕ) → position_or_len is_dot b < length b
 unfolding is_converter_base
 converter_cut b l = elim (cases_eq (position_or_len is_dot b) 64) [
   | inl e ↦
-      let dot : eqb (get_or b 64 0) 46 ≡ true = rw e at (passes_at_first is_dot b 0 l) in
-      let long : 64 < length b = rw e at l in
+      let dot = rw e at (passes_at_first is_dot b 0 l) in
+      let long = rw e at l in
       let len : length (take 64 b) ≡ 64 = length-take-le 64 b (omega arith) in
-      rw (e, eq-eqb (length (take 64 b)) 64 len) (sym (swap_true (list_all is_lower_hex_digit (take 64 b)) (eqb (get_or b 64 0) 46) (is_occurrence (drop 65 b)) dot))
+      rw (e, eq-eqb (length (take 64 b)) 64 len) (sym (swap_true (list_all is_lower_hex_digit (take 64 b)) (is_occurrence (drop 65 b)) dot))
   | inr n ↦
       let len : length (before_first is_dot b) ≡ position_or_len is_dot b = length-take-le (position_or_len is_dot b) b (omega arith) in
       rw (ne_eqb (length (before_first is_dot b)) 64 (λ e. n (sym len ∙ e)))
-      (sym (false_from_ne_true (is_converter_base b) (λ h. n (dot_at b (parts_of b h)))))
+      (sym (false_from_ne_true (is_converter_base b) (λ h. n (dot_at (parts_of b h)))))
 ]
 
 -- a base without a dot
 pub converter_uncut : (b : List ℕ) → position_or_len is_dot b ≡ length b → false ≡ is_converter_base b
 converter_uncut b e = sym (false_from_ne_true (is_converter_base b) (λ h.
     let p = parts_of b h in
-    let l = parts_long b p in
-    let d = dot_at b p in absurd (omega (arith, l, d, e))))
+    let l = parts_long p in
+    let d = dot_at p in absurd (omega (arith, l, d, e))))
 
 -- decimal digits and their number
 pub own : IsNumeralModel (λ ds. all_ascii_digits ds ≡ true) (digits_value 10)
-own = numerals_by_value (λ ds. all_ascii_digits ds ≡ true) tells_all_ascii_digits
+own = grind (arith, numerals_by_value, tells_all_ascii_digits)
 
 starts : (text : List ℕ) → 49 ≤ get_or text 0 0 → 0 < length text
 starts [] h = absurd (omega arith)
-starts (c ∷ text) h = let l : length (c ∷ text) ≡ suc (length text) = refl in omega (arith, l)
+starts (c ∷ text) h = grind (arith)
 
 parsed : {E : Type 0} (text : List ℕ) (r : Result ℕ E) → 49 ≤ get_or text 0 0
     → OkIff r ((all_ascii_digits text ≡ true) × (0 < length text) × (digits_value 10 text < 2 ^ 64)) (digits_value 10 text) → is_ok r ≡ is_occurrence text
 unfolding is_occurrence
-parsed text (Ok x) low h =
-    sym (and_from (all_ascii_digits text && leb 49 (get_or text 0 0)) (leb (digits_value 10 text) 18446744073709551615)
-    (and_from (all_ascii_digits text) (leb 49 (get_or text 0 0)) h.0.0 (le-leb 49 (get_or text 0 0) low))
-    (let small = h.0.2 in le-leb (digits_value 10 text) 18446744073709551615 (omega (arith, small))))
-parsed text (Err e) low h = sym (false_from_ne_true (is_occurrence text) (λ t.
-    let outer = and_parts (all_ascii_digits text && leb 49 (get_or text 0 0)) (leb (digits_value 10 text) 18446744073709551615) t in
-    let inner = and_parts (all_ascii_digits text) (leb 49 (get_or text 0 0)) outer.0 in
-    let most = leb-true (digits_value 10 text) 18446744073709551615 outer.1 in
-    h (inner.0, starts text low, omega (arith, most))))
+parsed text (Ok x) low h = grind (arith, and_from, le-leb)
+parsed text (Err e) low h = grind (arith, starts text low)
 
 -- a text that begins with a digit but zero is an occurrence number just where it is parsed
 pub occurrence_parsed : {E : Type 0} (text : List ℕ) (r : Result ℕ E) → 49 ≤ get_or text 0 0 → get_or text 0 0 ≤ 57
     → ParsesUnsigned 64 10 text r → is_ok r ≡ is_occurrence text
-occurrence_parsed text r low high h = parsed text r low (parse_plain own 64 text r h (λ e. absurd (omega arith)))
+occurrence_parsed text r low high h = grind (arith, parsed, parse_plain, own)
 
 -- a text that begins otherwise is none
 pub occurrence_low : (text : List ℕ) → get_or text 0 0 < 49 → false ≡ is_occurrence text
 unfolding is_occurrence
-occurrence_low text h =
-    rw (and_left (all_ascii_digits text && leb 49 (get_or text 0 0)) (leb (digits_value 10 text) 18446744073709551615)
-    (and_right (all_ascii_digits text) (leb 49 (get_or text 0 0)) (lt-leb 49 (get_or text 0 0) h))) refl
+occurrence_low text h = grind (arith, and_left, and_right, lt-leb)
 
 pub occurrence_high : (text : List ℕ) → 57 < get_or text 0 0 → false ≡ is_occurrence text
 unfolding is_occurrence
 occurrence_high [] h = absurd (omega arith)
-occurrence_high (c ∷ text) h =
-    let n : is_ascii_digit c ≡ false = and_right (leb 48 c) (leb c 57) (lt-leb c 57 h) in
-    rw n refl
+occurrence_high (c ∷ text) h = grind (arith, and_right, lt-leb)
 
 -- the text begins with a digit other than zero, and is then parsed
-pub occurrence_then : {E : Type 0} (text bytes : List ℕ) (begins answer : Bool) (r : Result ℕ E) → bytes ≡ text
+pub occurrence_then : {E : Type 0} {text bytes : List ℕ} {begins answer : Bool} (r : Result ℕ E) → bytes ≡ text
     → begins ≡ (leb 49 (get_or bytes 0 0) && leb (get_or bytes 0 0) 57) → begins ≡ true → ParsesUnsigned 64 10 text r → answer ≡ is_ok r → answer ≡ is_occurrence text
-occurrence_then text bytes begins answer r is b t h a =
-    let both = and_parts (leb 49 (get_or text 0 0)) (leb (get_or text 0 0) 57) (rw is at (sym b ∙ t)) in
-    a ∙ occurrence_parsed text r (leb-true 49 (get_or text 0 0) both.0) (leb-true (get_or text 0 0) 57 both.1) h
+occurrence_then {text} r is b t h a = grind (arith, and_parts, occurrence_parsed, leb-true)
 
-pub occurrence_else : (text bytes : List ℕ) (begins : Bool) → bytes ≡ text → begins ≡ (leb 49 (get_or bytes 0 0) && leb (get_or bytes 0 0) 57) → begins ≡ false → begins ≡ is_occurrence text
-occurrence_else text bytes begins is b f =
-    f ∙ (elim (and_cases (leb 49 (get_or text 0 0)) (leb (get_or text 0 0) 57) (rw is at (sym b ∙ f))) [
-      | inl low ↦ occurrence_low text (leb-false 49 (get_or text 0 0) low)
-      | inr high ↦ occurrence_high text (leb-false (get_or text 0 0) 57 high)
-    ])
+pub occurrence_else : {text bytes : List ℕ} {begins : Bool} → bytes ≡ text → begins ≡ (leb 49 (get_or bytes 0 0) && leb (get_or bytes 0 0) 57) → begins ≡ false → begins ≡ is_occurrence text
+occurrence_else {text} is b f = grind (arith, and_cases, occurrence_low, leb-false, occurrence_high)
 
 -- the parts of a base round its first dot
 abbrev pub AreRound : List ℕ → List ℕ → List ℕ → Type 0
 AreRound b digest number = (position_or_len is_dot b < length b) × (digest ≡ before_first is_dot b) × (number ≡ after_first is_dot b)
 
-pub converter_then : (name b digest bytes number : List ℕ) (first second : Bool) → b ≡ base name → AreRound b digest number → bytes ≡ digest
+pub converter_then : (name : List ℕ) {b digest bytes : List ℕ} (number : List ℕ) {first second : Bool} → b ≡ base name → AreRound b digest number → bytes ≡ digest
     → first ≡ (eqb (length bytes) 64 && list_all is_lower_hex_digit bytes) → first ≡ true → second ≡ is_occurrence number → second ≡ is_converter_name name
-converter_then name b digest bytes number first second eb cut es e1 t e2 =
-    let whole = converter_cut b cut.0 in
-    let one = rw (es, cut.1) at (sym e1 ∙ t) in
-    let two = rw (cut.2) at e2 in
-    rw (← eb, ← whole, one, two) refl
+converter_then name {b} number eb cut es e1 t e2 = grind (arith, converter_cut b cut.0)
 
-pub converter_else : (name b digest bytes number : List ℕ) (first : Bool) → b ≡ base name → AreRound b digest number → bytes ≡ digest
+pub converter_else : (name : List ℕ) {b digest bytes : List ℕ} (number : List ℕ) {first : Bool} → b ≡ base name → AreRound b digest number → bytes ≡ digest
     → first ≡ (eqb (length bytes) 64 && list_all is_lower_hex_digit bytes) → first ≡ false → first ≡ is_converter_name name
-converter_else name b digest bytes number first eb cut es e1 f =
-    let whole = converter_cut b cut.0 in
-    let one = rw (es, cut.1) at (sym e1 ∙ f) in
-    rw (f, ← eb, ← whole, one) refl
+converter_else name {b} number eb cut es e1 f = grind (arith, converter_cut b cut.0)
 
-pub converter_none : (name b : List ℕ) → b ≡ base name → position_or_len is_dot b ≡ length b → false ≡ is_converter_name name
-converter_none name b eb none = rw (← eb) (converter_uncut b none)
+pub converter_none : (name : List ℕ) {b : List ℕ} → b ≡ base name → position_or_len is_dot b ≡ length b → false ≡ is_converter_name name
+converter_none name {b} eb none = rw (← eb) (converter_uncut b none)
 
 -- no byte of a text is a colon
 abbrev pub NoColon : List ℕ → Type 0
@@ -185,7 +154,7 @@ converter-NoColon b h k l =
     let p = parts_of b h in
     elim (cases_order k 64) [
       | inl e ↦ rw (e, p.dot) refl
-      | inr (inl low) ↦ ne_eqb (get_or b k 0) 58 (hex_is_not (get_or b k 0) 58 (parts_digit b p k low) refl)
+      | inr (inl low) ↦ ne_eqb (get_or b k 0) 58 (hex_is_not (get_or b k 0) 58 (parts_digit p k low) refl)
       | inr (inr high) ↦
           let text = drop 65 b in
           let outer = and_parts (all_ascii_digits text && leb 49 (get_or text 0 0)) (leb (digits_value 10 text) 18446744073709551615) p.number in

@@ -1,5 +1,5 @@
 -- The targets of lists of bodies.
-use Rattle.std.proofs.Common.{◌≡◌, ℕ, ◌+◌, ◌<◌, ◌≤◌, List, [], ◌∷◌, ◌++◌, length, get_or, take, map, refl, sym, ◌∙◌, arith, length-append, le_of_lt}
+use Rattle.std.proofs.Common.{◌≡◌, ℕ, ◌+◌, ◌<◌, ◌≤◌, List, [], ◌∷◌, ◌++◌, length, get_or, take, map, refl, arith, length-append, le_of_lt}
 use Rattle.std.specs.List.{range_with_len}
 use Rattle.std.proofs.lemmas.List.{length_push, take-append-le, get_or_append_left, get_or_push, same_lists, take_at}
 use Rattle.std.proofs.lemmas.List.FromFn.{map-range_with_len_more, take-map-range_with_len, length-map-range_with_len, get_or-map-range_with_len}
@@ -12,25 +12,18 @@ target_at bodies k = target (take k bodies) (get_or bodies k [])
 
 -- places of the front keep their targets
 pub target_at-append : (bodies more : List (List ℕ)) (k : ℕ) → k < length bodies → target_at (bodies ++ more) k ≡ target_at bodies k
-target_at-append bodies more k h =
-    let l : k ≤ length bodies = le_of_lt h in
-    rw (take-append-le k bodies more l, get_or_append_left bodies more [] k h) refl
+target_at-append bodies more k h = grind (arith, le_of_lt, take-append-le, get_or_append_left)
 
 pub length-targets : (bodies : List (List ℕ)) → length (targets bodies) ≡ length bodies
 unfolding targets
-length-targets bodies = length-map-range_with_len (target_at bodies) 0 (length bodies)
+length-targets bodies = grind (arith, length-map-range_with_len)
 
 pub get_or-targets : (bodies : List (List ℕ)) (k : ℕ) (d : Target) → k < length bodies → get_or (targets bodies) k d ≡ target_at bodies k
 unfolding targets
-get_or-targets bodies k d h = get_or-map-range_with_len (target_at bodies) 0 (length bodies) k k d h (omega arith)
+get_or-targets bodies k d h = grind (arith, get_or-map-range_with_len)
 
 map-agree : (f g : ℕ → Target) (a n : ℕ) → ((k : ℕ) → a ≤ k → k < a + n → f k ≡ g k) → map f (range_with_len a n) ≡ map g (range_with_len a n)
-map-agree f g a n h =
-    same_lists (map f (range_with_len a n)) (map g (range_with_len a n))
-    (length-map-range_with_len f a n ∙ sym (length-map-range_with_len g a n))
-    (λ k d l.
-    let i : k < n = omega (arith, l, length-map-range_with_len f a n) in
-    get_or-map-range_with_len f a n k (a + k) d i refl ∙ (h (a + k) (omega arith) (omega arith) ∙ sym (get_or-map-range_with_len g a n k (a + k) d i refl)))
+map-agree f g a n h = grind (arith, same_lists, length-map-range_with_len, get_or-map-range_with_len)
 
 pub targets-push : (bodies : List (List ℕ)) (body : List ℕ) → targets (bodies ++ body ∷ []) ≡ targets bodies ++ target bodies body ∷ []
 unfolding targets
@@ -47,8 +40,4 @@ targets-push bodies body =
 -- the targets of a prefix
 pub targets-prefix : (bodies more : List (List ℕ)) → take (length bodies) (targets (bodies ++ more)) ≡ targets bodies
 unfolding targets
-targets-prefix bodies more =
-    let all = bodies ++ more in
-    let n = length bodies in
-    take-map-range_with_len (target_at all) 0 (length all) n (omega (arith, length-append bodies more))
-    ∙ map-agree (target_at all) (target_at bodies) 0 n (λ k low high. target_at-append bodies more k (omega arith))
+targets-prefix bodies more = grind (arith, take-map-range_with_len, length-append, map-agree, target_at-append)

@@ -1,7 +1,6 @@
 -- From_ lines that are taken apart and built.
-use Rattle.std.proofs.Common.{◌≡◌, ℕ, zero, suc, add-zero, ◌+◌, ◌-◌, ◌<◌, ◌≤◌, true, false, Option, Some, None, Result, Ok, Err, cond, eqb, List, [], ◌∷◌, ◌++◌, get_or, length, take, drop, map, refl, sym, ◌∙◌, ap, arith, append_assoc, inl, inr}
-use Rattle.std.specs.Prelude.{◌||◌, Contains, OnOk, codes, is_ok, is_some}
-use Rattle.std.proofs.lemmas.Bool.{both_ways, cases_Bool, eq-eqb, ne_eqb, or_parts, false_from_ne_true, false≢true}
+use Rattle.std.proofs.Common.{◌≡◌, ℕ, zero, suc, add-zero, ◌+◌, ◌-◌, ◌<◌, ◌≤◌, true, false, Option, Some, None, Result, Ok, Err, cond, eqb, List, [], ◌∷◌, ◌++◌, get_or, length, take, drop, map, refl, sym, ◌∙◌, ap, arith, append_assoc, Contains, OnOk, codes, is_ok, is_some}
+use Rattle.std.proofs.lemmas.Bool.{ne_eqb, false_from_ne_true, false≢true}
 use Rattle.std.proofs.lemmas.List.{append-nil, drop_at, drop_more, get_or-drop, length-drop, length-take, take_rest}
 use Rattle.memchr.specs.Find.{IsFirstByte, is_byte}
 use Rattle.mbox_text.specs.Lines.{NoEnd}
@@ -10,9 +9,9 @@ use Rattle.mbox_text.specs.FromLine.{IsFromLine, before_space, past_spaces, send
 use Rattle.mbox_text.proofs.LineEnds.{none-there, NoEnd-append, NoEnd-at}
 
 -- a list that a call extended
-pub extended_by : {E : Type 0} (r : Result (Unit {0}) E) (now was ys zs : List ℕ) → now ≡ cond (is_ok r) (was ++ ys) was → ys ≡ zs → OnOk r (now ≡ was ++ zs)
-extended_by (Ok u) now was ys zs e e' = rw (← e') e
-extended_by (Err x) now was ys zs e e' = tt
+pub extended_by : {E : Type 0} (r : Result (Unit {0}) E) {now : List ℕ} (was : List ℕ) {ys zs : List ℕ} → now ≡ cond (is_ok r) (was ++ ys) was → ys ≡ zs → OnOk r (now ≡ was ++ zs)
+extended_by (Ok u) was e e' = rw (← e') e
+extended_by (Err x) was e e' = tt
 
 pub cleaned-none : (s : List ℕ) → length s ≡ 0 → codes "MAILER-DAEMON" ≡ cleaned s
 unfolding cleaned
@@ -26,16 +25,10 @@ cleaned-some (c ∷ s) h = refl
 
 -- no byte of a sender is written as a space or as a `\n`
 hyphened-space : (c : ℕ) → eqb (hyphened c) 32 ≡ false
-hyphened-space c = elim (cases_Bool (eqb c 32 || (eqb c 9 || eqb c 10))) [
-  | inl e ↦ rw e refl
-  | inr e ↦ rw e (or_parts (eqb c 32) (eqb c 9 || eqb c 10) e).0
-]
+hyphened-space c = grind arith
 
 hyphened-end : (c : ℕ) → eqb (hyphened c) 10 ≡ false
-hyphened-end c = elim (cases_Bool (eqb c 32 || (eqb c 9 || eqb c 10))) [
-  | inl e ↦ rw e refl
-  | inr e ↦ rw e (or_parts (eqb c 9) (eqb c 10) (or_parts (eqb c 32) (eqb c 9 || eqb c 10) e).1).1
-]
+hyphened-end c = grind arith
 
 before-map : (s t : List ℕ) → before_space (map hyphened s ++ t) ≡ map hyphened s ++ before_space t
 before-map [] t = refl
@@ -48,7 +41,7 @@ before-behind (c ∷ r) = refl
 before-cleaned : (s t : List ℕ) → before_space t ≡ [] → before_space (cleaned s ++ t) ≡ cleaned s
 unfolding cleaned
 before-cleaned [] t h = rw h refl
-before-cleaned (c ∷ s) t h = before-map (c ∷ s) t ∙ (rw h (append-nil (map hyphened (c ∷ s))))
+before-cleaned (c ∷ s) t h = grind (arith, before-map, append-nil)
 
 pub sender-built : (s r : List ℕ) → sender (built s r) ≡ cleaned s
 unfolding sender built
@@ -60,9 +53,7 @@ past-behind (c ∷ r) = refl
 
 pub rest-built : (s r : List ℕ) → rest (built s r) ≡ past_spaces r
 unfolding rest built
-rest-built s r =
-    let P : List ℕ → List ℕ = λ z. past_spaces (drop (length z) (cleaned s ++ behind_sender r)) in
-    ap P (sender-built s r) ∙ (rw (drop_at (cleaned s) (behind_sender r) (length (cleaned s)) refl) (past-behind r))
+rest-built s r = grind (arith, sender-built, drop_at, past-behind)
 
 NoEnd-map : (s : List ℕ) → NoEnd (map hyphened s)
 NoEnd-map [] = tt
@@ -70,7 +61,7 @@ NoEnd-map (c ∷ s) = (hyphened-end c, NoEnd-map s)
 
 NoEnd-cleaned : (s : List ℕ) → NoEnd (cleaned s)
 unfolding cleaned
-NoEnd-cleaned [] = (refl, (refl, (refl, (refl, (refl, (refl, (refl, (refl, (refl, (refl, (refl, (refl, (refl, tt)))))))))))))
+NoEnd-cleaned [] = grind (arith)
 NoEnd-cleaned (c ∷ s) = NoEnd-map (c ∷ s)
 
 NoEnd-behind : (r : List ℕ) → NoEnd r → NoEnd (behind_sender r)
@@ -79,14 +70,14 @@ NoEnd-behind (c ∷ r) h = (refl, h)
 
 built-line : (s r : List ℕ) → NoEnd r → IsFromLine (built s r)
 unfolding built begins_from
-built-line s r h = (refl, NoEnd-append from_bytes (cleaned s ++ behind_sender r) (refl, (refl, (refl, (refl, (refl, tt))))) (NoEnd-append (cleaned s) (behind_sender r) (NoEnd-cleaned s) (NoEnd-behind r h)))
+built-line s r h = grind (arith, NoEnd-append, NoEnd-cleaned, NoEnd-behind)
 
-pub is-built : (line s r : List ℕ) (found : Option ℕ) → IsFirstByte (is_byte 10) r found → is_some found ≡ false → line ≡ built s r → IsFromLine line
-is-built line s r None h e is = rw is (built-line s r (none-there r h))
-is-built line s r (Some n) h e is = absurd (false≢true (sym e))
+pub is-built : {line : List ℕ} (s r : List ℕ) (found : Option ℕ) → IsFirstByte (is_byte 10) r found → is_some found ≡ false → line ≡ built s r → IsFromLine line
+is-built s r None h e is = rw is (built-line s r (none-there r h))
+is-built s r (Some n) h e is = absurd (false≢true (sym e))
 
 pub not-found : (r : List ℕ) (found : Option ℕ) → IsFirstByte (is_byte 10) r found → is_some found ≡ false → Contains r 10 → ⊥
-not-found r None h e there = both_ways (eqb (get_or r there.0 10) 10) (NoEnd-at r there.0 10 (none-there r h) there.1) (eq-eqb _ 10 there.2)
+not-found r None h e there = grind (arith, NoEnd-at r there.0 10 (none-there r h) there.1)
 not-found r (Some n) h e there = absurd (false≢true (sym e))
 
 pub built-none : (s r : List ℕ) → length r ≡ 0 → from_bytes ++ cleaned s ≡ built s r
@@ -115,7 +106,7 @@ before-all (c ∷ s) h =
     rw here (ap (λ z. c ∷ z) ih)
 
 pub before-found : (s : List ℕ) (n : ℕ) → IsFirstByte (is_byte 32) s (Some n) → take n s ≡ before_space s
-before-found s n h = before-at s n (λ k l. h.0.before k (omega arith) l) h.0.high h.1
+before-found s n h = grind (arith, before-at)
 
 pub before-none : (s : List ℕ) → IsFirstByte (is_byte 32) s None → s ≡ before_space s
 before-none s h = before-all s (λ k l. h k (omega arith) l)
@@ -130,16 +121,14 @@ past-plain (c ∷ s) h = rw (ne_eqb c 32 (h (omega arith))) refl
 
 -- no space more
 pub past-stop : (s : List ℕ) (at : ℕ) → (at < length s → get_or s at 0 ≡ 32 → ⊥) → past_spaces (drop at s) ≡ drop at s
-past-stop s at h = past-plain (drop at s) (λ l e. h (omega (arith, l, length-drop at s)) (sym (get_or-drop at s 0 0 ∙ ap (λ i. get_or s i 0) (add-zero at)) ∙ e))
+past-stop s at h = grind (arith, past-plain, length-drop, get_or-drop, add-zero)
 
 -- the parts of a From_ line, where the first space behind `From ` has this place
-pub sender-at : (line behind : List ℕ) (n : ℕ) → behind ≡ drop 5 line → take n behind ≡ before_space behind → take n behind ≡ sender line
+pub sender-at : (line : List ℕ) {behind : List ℕ} (n : ℕ) → behind ≡ drop 5 line → take n behind ≡ before_space behind → take n behind ≡ sender line
 unfolding sender
-sender-at line behind n e b = b ∙ ap (λ z. before_space z) e
+sender-at line n e b = b ∙ ap (λ z. before_space z) e
 
-pub rest-at : (line behind result : List ℕ) (n : ℕ) → behind ≡ drop 5 line → n ≤ length behind → take n behind ≡ before_space behind
+pub rest-at : (line : List ℕ) {behind result : List ℕ} (n : ℕ) → behind ≡ drop 5 line → n ≤ length behind → take n behind ≡ before_space behind
     → result ≡ past_spaces (take (length behind - n) (drop n behind)) → result ≡ rest line
 unfolding rest
-rest-at line behind result n e w b is =
-    let size : length (sender line) ≡ n = ap length (sym (sender-at line behind n e b)) ∙ omega (arith, length-take n behind, w) in
-    rw (is, take_rest behind n, size, e) refl
+rest-at line {behind} n e w b is = grind (arith, sender-at, length-take, take_rest)

@@ -1,9 +1,7 @@
 -- A body without its last line if that is `\n` alone.
-use Rattle.std.proofs.Common.{◌+◌, ◌-◌, ◌<◌, ◌≡◌, ℕ, Bool, true, false, eqb, List, [], ◌∷◌, ◌++◌, length, length-append, take, refl, sym, ◌∙◌, ap, arith, inl, inr}
-use Rattle.std.specs.Prelude.{◌&&◌, Decides, MatchBool}
+use Rattle.std.proofs.Common.{◌-◌, ◌<◌, ◌≡◌, ℕ, Bool, true, false, eqb, List, [], ◌∷◌, ◌++◌, length, length-append, take, refl, sym, ◌∙◌, ap, arith, inl, inr, ◌&&◌, Decides, MatchBool, append-nil}
 use Rattle.std.specs.List.{flat_map, ends_with}
 use Rattle.std.proofs.lemmas.Bool.{cases_Bool, false≢true, both_ways, eqb-true, and_parts, and_right}
-use Rattle.std.proofs.lemmas.List.{append-nil}
 use Rattle.std.proofs.Math.Seq.{take-append-add}
 use Rattle.std.proofs.lemmas.Bool.Decides.{Decides-eqb}
 use Rattle.std.proofs.lemmas.Slice.Eq.{ends_is}
@@ -82,13 +80,13 @@ lines-whole-at (c ∷ front) =
     ]
 
 -- a text that ends with a `\n` has whole lines
-pub lines-whole : (text : List ℕ) → Ended text → Whole (lines text)
+pub lines-whole : {text : List ℕ} → Ended text → Whole (lines text)
 unfolding lines
-lines-whole text (inl e) = rw e tt
-lines-whole text (inr e) = rw e.1 (lines-whole-at e.0)
+lines-whole (inl e) = rw e tt
+lines-whole (inr e) = rw e.1 (lines-whole-at e.0)
 
-pub chopped-body : (text : List ℕ) → Ended text → chopped (flat_map unquoted (lines text)) ≡ flat_map unquoted (without_blank (lines text))
-chopped-body text e = chopped-lines (lines text) (lines-whole text e)
+pub chopped-body : {text : List ℕ} → Ended text → chopped (flat_map unquoted (lines text)) ≡ flat_map unquoted (without_blank (lines text))
+chopped-body {text} e = chopped-lines (lines text) (lines-whole e)
 
 chop-blank : (front : Bool) (x : List ℕ) → chopped_from front (x ++ 10 ∷ 10 ∷ []) ≡ x ++ 10 ∷ []
 unfolding chopped_from
@@ -97,15 +95,12 @@ chop-blank front (a ∷ []) = refl
 chop-blank front (a ∷ b ∷ x) = ap (λ l. a ∷ l) (chop-blank (eqb a 10) (b ∷ x))
 
 -- the two texts that lose their last line
-chop_only : (b : List ℕ) → b ≡ 10 ∷ [] → (0 < length b) × (take (length b - 1) b ≡ chopped b)
+chop_only : {b : List ℕ} → b ≡ 10 ∷ [] → (0 < length b) × (take (length b - 1) b ≡ chopped b)
 unfolding chopped_from
-chop_only b e = rw e (omega arith, refl)
+chop_only e = rw e (omega arith, refl)
 
-chop_last : (b x : List ℕ) → b ≡ x ++ 10 ∷ 10 ∷ [] → (0 < length b) × (take (length b - 1) b ≡ chopped b)
-chop_last b x e =
-    let size : length (x ++ 10 ∷ 10 ∷ []) ≡ length x + 2 = length-append x (10 ∷ 10 ∷ []) in
-    let n : length (x ++ 10 ∷ 10 ∷ []) - 1 ≡ length x + 1 = omega (arith, size) in
-    rw e (omega (arith, size), rw (n, chop-blank true x) (take-append-add x (10 ∷ 10 ∷ []) 1))
+chop_last : {b : List ℕ} (x : List ℕ) → b ≡ x ++ 10 ∷ 10 ∷ [] → (0 < length b) × (take (length b - 1) b ≡ chopped b)
+chop_last x e = grind (arith, length-append x (10 ∷ 10 ∷ []), chop-blank true x, take-append-add x (10 ∷ 10 ∷ []) 1)
 
 -- no other does
 chop-other : (front : Bool) (b : List ℕ) → (front ≡ true → b ≡ 10 ∷ [] → ⊥) → ((x : List ℕ) → b ≡ x ++ 10 ∷ 10 ∷ [] → ⊥) → b ≡ chopped_from front b
@@ -120,14 +115,14 @@ chop-other front (c ∷ d ∷ b) h h' =
     ap (λ l. c ∷ l) (chop-other (eqb c 10) (d ∷ b) (λ e is. h' [] (rw (eqb-true c 10 e, is) refl)) (λ x is. h' (c ∷ x) (ap (λ l. c ∷ l) is)))
 
 -- what the two tests of the code say
-pub only_blank : (b line : List ℕ) (r : Bool) → line ≡ 10 ∷ [] → Decides r (b ≡ line) → r ≡ true
+pub only_blank : (b : List ℕ) {line : List ℕ} {r : Bool} → line ≡ 10 ∷ [] → Decides r (b ≡ line) → r ≡ true
     → MatchBool r ((0 < length b) × (take (length b - 1) b ≡ chopped b)) (b ≡ chopped b)
-only_blank b line r is d t = rw t (chop_only b (d.0 t ∙ is))
+only_blank b is d t = rw t (chop_only (d.0 t ∙ is))
 
-pub last_blank : (b line : List ℕ) (r ends : Bool) → line ≡ 10 ∷ [] → Decides r (b ≡ line) → r ≡ false → ends ≡ ends_with eqb b (10 ∷ 10 ∷ [])
+pub last_blank : (b : List ℕ) {line : List ℕ} {r ends : Bool} → line ≡ 10 ∷ [] → Decides r (b ≡ line) → r ≡ false → ends ≡ ends_with eqb b (10 ∷ 10 ∷ [])
     → MatchBool ends ((0 < length b) × (take (length b - 1) b ≡ chopped b)) (b ≡ chopped b)
-last_blank b line r true is d f h = chop_last b _ ((ends_is Decides-eqb b (10 ∷ 10 ∷ []) true h).0 refl)
-last_blank b line r false is d f h =
+last_blank b {ends = true} is d f h = chop_last _ ((ends_is Decides-eqb b (10 ∷ 10 ∷ []) true h).0 refl)
+last_blank b {r} {ends = false} is d f h =
     chop-other true b (λ _ one. both_ways r f (d.1 (one ∙ sym is))) (λ x two. false≢true ((ends_is Decides-eqb b (10 ∷ 10 ∷ []) false h).1 x two))
 
 -- a text whose last line lacks its `\n` stays

@@ -1,9 +1,7 @@
 -- What a splitter has given: all messages but the last, whatever comes behind the text.
-use Rattle.std.proofs.Common.{◌≡◌, ℕ, false, List, [], ◌∷◌, ◌++◌, refl, sym, ◌∙◌, ap, append_assoc, inl, inr, Option, Some, None, Result, Ok, Err}
-use Rattle.std.specs.Prelude.{OnOk, IfErr, IsErr, IsErrOf}
-use Rattle.std.specs.Result.{is_err, IsErrAnd}
+use Rattle.std.proofs.Common.{◌≡◌, ℕ, false, List, [], ◌∷◌, ◌++◌, refl, sym, ◌∙◌, ap, append_assoc, inl, inr, Option, Some, None, Result, Ok, Err, OnOk, IfErr, IsErr, IsErrOf, is_err, IsErrAnd, append-nil, arith}
 use Rattle.std.proofs.lemmas.Bool.{both_ways}
-use Rattle.std.proofs.lemmas.List.{append-nil}
+use Rattle.std.proofs.lemmas.List.{append_cancel_left}
 use Rattle.mbox_text.specs.declared.entry.Entry.{Entry}
 use Rattle.mbox_text.specs.declared.partial_message.PartialMessage.{PartialMessage}
 use Rattle.mbox_text.specs.declared.fault.TextFault.{TextFault}
@@ -22,15 +20,11 @@ use Rattle.mbox_text.proofs.Existence.{head-all, body-all}
 use Rattle.mbox_text.proofs.Fields.{never-more}
 
 held-all : (message : Option PartialMessage) (text : List ℕ) (given : List Entry) (line : List ℕ) → Held text given message line → AllButLast text given
-held-all None text given line a = head-all text given line a
-held-all (Some m) text given line a = body-all text given m.from_line.items m.body.items line a
+held-all None text given line a = head-all a
+held-all (Some m) text given line a = body-all a
 
-pub fed_from : (splitter : Splitter) (text : List ℕ) (given : List Entry) → splitter.failed ≡ false → Holds text given splitter → Fed text given splitter
-fed_from splitter text given works h = record {
-  works = λ t. both_ways splitter.failed works t;
-  given_are = held-all splitter.message text given splitter.line.items h;
-  held = h;
-}
+pub fed_from : {splitter : Splitter} {text : List ℕ} {given : List Entry} → splitter.failed ≡ false → Holds text given splitter → Fed text given splitter
+fed_from {splitter} {text} {given} works h = grind (arith, held-all)
 
 -- all messages but the last stay the first ones, whatever comes behind the text
 pub all_stay : (text : List ℕ) (given : List Entry) → AllButLast text given → Stay text given
@@ -38,24 +32,19 @@ all_stay text given (inl a) more entries h = inr (prefix_reading text more entri
 all_stay text given (inr a) more entries h = inl a.1
 
 -- and are none where no mbox text begins so
-all_none : (text more : List ℕ) (given : List Entry) → AllButLast text given → NeverFrom (text ++ more) → given ≡ []
-all_none text more given (inl a) n = absurd (both_ways (begins_from (text ++ more)) n.0 (begins_from-more text more a.0))
-all_none text more given (inr a) n = a.1
+all_none : (text more : List ℕ) {given : List Entry} → AllButLast text given → NeverFrom (text ++ more) → given ≡ []
+all_none text more (inl a) n = grind (arith, both_ways, begins_from-more)
+all_none text more (inr a) n = a.1
 
 -- one part, and then another
 pub gives_then : (old mid new : Splitter) (p q : List ℕ) (out out1 out' : List Entry) → Gives old p out out1 mid → Gives mid q out1 out' new → Gives old (p ++ q) out out' new
-gives_then old mid new p q out out1 out' a b =
-    let A : List Entry → List Entry = λ z. z ++ b.0 in (
-      a.0 ++ b.0,
-      b.1 ∙ ap A a.1 ∙ append_assoc out a.0 b.0,
-      λ text given h. rw (← append_assoc text p q, ← append_assoc given a.0 b.0) (b.2 (text ++ p) (given ++ a.0) (a.2 text given h)),
-    )
+gives_then old mid new p q out out1 out' a b = grind (arith, append_assoc)
 
 pub gives_none : (old new : Splitter) (part : List ℕ) (out out' : List Entry) → out' ≡ out → Moves old part [] new → Gives old part out out' new
 gives_none old new part out out' e m = ([], e ∙ sym (append-nil out), m)
 
 pub gives_nothing : (splitter : Splitter) (out : List Entry) → Gives splitter [] out out splitter
-gives_nothing splitter out = gives_none splitter splitter [] out out refl (λ text given h. rw (append-nil text, append-nil given) h)
+gives_nothing splitter out = grind (arith, gives_none, append-nil)
 
 -- the splitter refuses what comes next, and then more
 refuses_more : (fault : TextFault) (splitter : Splitter) (part more : List ℕ) → Refuses fault splitter part → Refuses fault splitter (part ++ more)
@@ -66,9 +55,9 @@ refuses_more LineEndInRest splitter part more r = absurd r
 refuses_more Failed splitter part more r = absurd r
 refuses_more WriteFault splitter part more r = absurd r
 
-pub stops_at : (fault : TextFault) (old now : Splitter) (piece front part more : List ℕ) (out out' : List Entry) → Gives old front out out' now → Refuses fault now part
+pub stops_at : (fault : TextFault) (old now : Splitter) {piece : List ℕ} (front part more : List ℕ) (out out' : List Entry) → Gives old front out out' now → Refuses fault now part
     → piece ≡ front ++ (part ++ more) → Stops fault old piece out out'
-stops_at fault old now piece front part more out out' g r e = record {
+stops_at fault old now front part more out out' g r e = record {
   front = front;
   rest = part ++ more;
   now = now;
@@ -77,9 +66,9 @@ stops_at fault old now piece front part more out out' g r e = record {
   refuses = refuses_more fault now part more r;
 }
 
-pub stops_behind : (fault : TextFault) (old mid : Splitter) (piece front part : List ℕ) (out out1 out' : List Entry) → Gives old front out out1 mid → Stops fault mid part out1 out'
+pub stops_behind : {fault : TextFault} {old mid : Splitter} {piece : List ℕ} (front : List ℕ) {part : List ℕ} {out out1 out' : List Entry} → Gives old front out out1 mid → Stops fault mid part out1 out'
     → piece ≡ front ++ part → Stops fault old piece out out'
-stops_behind fault old mid piece front part out out1 out' g s e = record {
+stops_behind {old} {mid} front {out} {out1} {out'} g s e = record {
   front = front ++ s.front;
   rest = s.rest;
   now = s.now;
@@ -93,11 +82,6 @@ pub handed_on : {T : Type 0} (r : Result T TextFault) (e : TextFault) (P : TextF
 handed_on (Ok x) e P is h = absurd is.1
 handed_on (Err v) e P is h = rw is.1 h
 
--- the same entries come off the front
-cancel : (given a b : List Entry) → given ++ a ≡ given ++ b → a ≡ b
-cancel [] a b e = e
-cancel (g ∷ given) a b e = cancel given a b (cc)
-
 front-cut : (added all rest : List Entry) (last next : Entry) → all ++ last ∷ [] ≡ added ++ next ∷ rest → (r : List Entry) × (all ≡ added ++ r)
 front-cut [] all rest last next e = (all, refl)
 front-cut (x ∷ []) [] rest last next e = absurd (cc)
@@ -106,13 +90,13 @@ front-cut (x ∷ added) (y ∷ all) rest last next e =
     let heads : y ≡ x = cc in
     let tails : all ++ last ∷ [] ≡ added ++ next ∷ rest = cc in
     let r = front-cut added all rest last next tails in
-    let is : all ≡ added ++ r.0 = r.1 in
+    let is = r.1 in
     (r.0, cc)
 
-only-front : (given rest : List Entry) (last next : Entry) → last ∷ [] ≡ given ++ next ∷ rest → given ≡ []
-only-front [] rest last next e = refl
-only-front (g ∷ []) rest last next e = absurd (cc)
-only-front (g ∷ h ∷ given) rest last next e = absurd (cc)
+only-front : (given rest : List Entry) {last : Entry} (next : Entry) → last ∷ [] ≡ given ++ next ∷ rest → given ≡ []
+only-front [] rest next e = refl
+only-front (g ∷ []) rest next e = absurd (cc)
+only-front (g ∷ h ∷ given) rest next e = absurd (cc)
 
 nil_right : (a b : List Entry) → a ++ b ≡ [] → b ≡ []
 nil_right [] b e = e
@@ -122,52 +106,47 @@ from-alone : (entry : Entry) × Mbox from_bytes (entry ∷ [])
 unfolding Mbox without_blank begins_from
 from-alone =
     let entry : Entry = record { from_line = from_bytes; body = [] } in
-    (entry, (from_bytes, [], refl, from-block from_bytes entry (refl, (refl, (refl, (refl, (refl, tt))))) refl refl refl, inr refl, refl))
+    (entry, (from_bytes, [], refl, from-block from_bytes (refl, (refl, (refl, (refl, (refl, tt))))) refl refl refl, inr refl, refl))
 
 -- what stays is the first of what is given where nothing is refused
 part : (text : List ℕ) (given added all : List Entry) → Stay text (given ++ added) → AllButLast text (given ++ all) → (rest : List Entry) × (all ≡ added ++ rest)
 part text given added all s (inl h) =
-    let texts : text ++ [] ≡ text = append-nil text in
+    let texts = append-nil text in
     elim (s [] ((given ++ all) ++ h.1.0 ∷ []) (rw texts h.1.1)) [
       | inl none ↦ let n = nil_right given added none in (all, rw n refl)
       | inr f ↦
-          let e : all ++ h.1.0 ∷ [] ≡ added ++ f.0 ∷ f.1 =
-          cancel given (all ++ h.1.0 ∷ []) (added ++ f.0 ∷ f.1) (sym (append_assoc given all (h.1.0 ∷ [])) ∙ f.2 ∙ append_assoc given added (f.0 ∷ f.1)) in
+          let e = append_cancel_left given (all ++ h.1.0 ∷ []) (added ++ f.0 ∷ f.1) (sym (append_assoc given all (h.1.0 ∷ [])) ∙ f.2 ∙ append_assoc given added (f.0 ∷ f.1)) in
           front-cut added all f.1 h.1.0 f.0 e
     ]
 part text given added all s (inr h) =
     let m = from-rest text h.0 in
     let e = from-alone in
-    let none : given ++ added ≡ [] = elim (s m.0 (e.0 ∷ []) (rw m.1 e.1)) [ inl none ↦ none | inr f ↦ only-front (given ++ added) f.1 e.0 f.0 f.2 ] in
+    let none : given ++ added ≡ [] = elim (s m.0 (e.0 ∷ []) (rw m.1 e.1)) [ inl none ↦ none | inr f ↦ only-front (given ++ added) f.1 f.0 f.2 ] in
     let n = nil_right given added none in
     (all, rw n refl)
 
 -- what the three answers of a feed say
 pub fed_taken : {T : Type 0} (r : Result T TextFault) (old new : Splitter) (piece : List ℕ) (out out' : List Entry) → new.failed ≡ is_err r
     → OnOk r (Gives old piece out out' new) → OnOk r (Takes old piece out out' new)
-fed_taken (Ok x) old new piece out out' works g = (g.0, g.1, λ text given h. fed_from new (text ++ piece) (given ++ g.0) works (g.2 text given h.held))
+fed_taken (Ok x) old new piece out out' works g = grind (arith, fed_from)
 fed_taken (Err e) old new piece out out' works g = tt
 
 pub fed_never : {T : Type 0} (r : Result T TextFault) (old : Splitter) (piece : List ℕ) (out out' : List Entry)
     → IfErr r (λ fault. Stops fault old piece out out') → IsErrOf r NoFromLine → NeverBegins old piece out out'
-fed_never r old piece out out' h is text given fed =
-    let s : Stops NoFromLine old piece out out' = rw is at h in
-    let g = s.gives in
-    let x = s.refuses (text ++ s.front) (given ++ g.0) (g.2 text given fed.held) in
-    (g.1 ∙ rw (nil_right given g.0 x.0) (append-nil out), rw (s.is, ← append_assoc text s.front s.rest) x.1)
+fed_never r old piece out out' h is text given fed = grind (arith, nil_right, append-nil, append_assoc)
 
 pub fed_part : {T : Type 0} (r : Result T TextFault) (old : Splitter) (piece : List ℕ) (out out' : List Entry)
     → IfErr r (λ fault. Stops fault old piece out out') → IsErrOf r OutOfMemory → TakesPart old piece out out'
 fed_part r old piece out out' h is =
-    let s : Stops OutOfMemory old piece out out' = rw is at h in
+    let s = rw is at h in
     let g = s.gives in (
       g.0,
       g.1,
       λ text given fed.
-          let front : List ℕ = text ++ s.front in
-          let now : List Entry = given ++ g.0 in
+          let front = text ++ s.front in
+          let now = given ++ g.0 in
           let a = held-all s.now.message front now s.now.line.items (g.2 text given fed.held) in
           let texts : text ++ piece ≡ front ++ s.rest = ap (λ z. text ++ z) s.is ∙ sym (append_assoc text s.front s.rest) in
           let stay : Stay (text ++ piece) now = λ more entries m. all_stay front now a (s.rest ++ more) entries (rw (texts, append_assoc front s.rest more) at m) in
-          (λ all is_all. part (text ++ piece) given g.0 all stay is_all, λ n. nil_right given g.0 (all_none front s.rest now a (rw texts at n))),
+          (λ all is_all. part (text ++ piece) given g.0 all stay is_all, λ n. nil_right given g.0 (all_none front s.rest a (rw texts at n))),
     )

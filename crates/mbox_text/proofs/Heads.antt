@@ -1,6 +1,5 @@
 -- The front of a text, and the front of its first line.
-use Rattle.std.proofs.Common.{◌≡◌, ℕ, ◌<◌, ◌≤◌, true, false, eqb, List, [], ◌∷◌, ◌++◌, length, refl, sym, ◌∙◌, ap, arith, inl, inr}
-use Rattle.std.specs.Prelude.{◌⊎◌}
+use Rattle.std.proofs.Common.{◌≡◌, ℕ, ◌<◌, ◌≤◌, true, false, eqb, List, [], ◌∷◌, ◌++◌, length, refl, sym, ◌∙◌, ap, arith, inl, inr, ◌⊎◌}
 use Rattle.std.specs.List.{concat}
 use Rattle.std.proofs.lemmas.Bool.{false≢true, and_parts, and_from, eqb-true, eq-eqb}
 use Rattle.mbox_text.specs.declared.entry.Entry.{Entry}
@@ -22,7 +21,7 @@ before-begins q c prefix (l ∷ ls) e (inl n) = rw n (and_from (eqb q c) true e 
 before-begins q c prefix (l ∷ ls) e (inr h) = and_from (eqb q c) (begins_with prefix l) e h
 
 no-end : (q c : ℕ) → eqb q c ≡ true → eqb q 10 ≡ false → eqb c 10 ≡ false
-no-end q c e n = let s : q ≡ c = eqb-true q c e in rw (← s) n
+no-end q c e n = let s = eqb-true q c e in rw (← s) n
 
 first-begins : (q : ℕ) (prefix text : List ℕ) → NoEnd (q ∷ prefix) → begins_with (q ∷ prefix) text ≡ true → FirstBegins (q ∷ prefix) (lines text)
 unfolding lines
@@ -45,15 +44,13 @@ head-line text h =
     first-there from_bytes (lines text) (first-begins 70 (114 ∷ 111 ∷ 109 ∷ 32 ∷ []) text (refl, (refl, (refl, (refl, (refl, tt))))) h)
 
 -- a block begins with `From `
-pub block-begins : (block : List ℕ) (entry : Entry) → Block block entry → begins_from block ≡ true
-block-begins block entry b =
-    let whole : block ≡ b.first ++ concat b.others = sym (concat-lines block) ∙ ap concat b.is in
-    rw whole (begins_from-more b.first (concat b.others) b.head)
+pub block-begins : {block : List ℕ} {entry : Entry} → Block block entry → begins_from block ≡ true
+block-begins {block} b = grind (arith, concat-lines block, begins_from-more b.first (concat b.others) b.head)
 
 -- so does a text with an entry
 pub mbox-begins : (text : List ℕ) (entry : Entry) (entries : List Entry) → Mbox text (entry ∷ entries) → begins_from text ≡ true
 unfolding Mbox
-mbox-begins text entry entries h = rw h.2 (begins_from-more h.0 h.1 (block-begins h.0 entry h.3))
+mbox-begins text entry entries h = rw h.2 (begins_from-more h.0 h.1 (block-begins h.3))
 
 -- and a text that has messages is empty or does
 pub mbox-starts : (text : List ℕ) (entries : List Entry) → Mbox text entries → IsMboxText text
@@ -69,14 +66,14 @@ mbox-begins-last text (g ∷ given) last h = mbox-begins text g (given ++ last �
 longer : (prefix text : List ℕ) → begins_with prefix text ≡ true → length prefix ≤ length text
 longer [] text h = omega arith
 longer (p ∷ prefix) [] h = absurd (false≢true h)
-longer (p ∷ prefix) (c ∷ text) h = let a = longer prefix text (and_parts (eqb p c) (begins_with prefix text) h).1 in omega (arith, a)
+longer (p ∷ prefix) (c ∷ text) h = grind (arith, longer prefix text (and_parts (eqb p c) (begins_with prefix text) h).1)
 
 shorter : (prefix text : List ℕ) → begins_with text prefix ≡ true → begins_with prefix text ≡ false → length text < length prefix
 shorter [] text h n = absurd (false≢true (sym n))
 shorter (p ∷ prefix) [] h n = omega arith
 shorter (p ∷ prefix) (c ∷ text) h n =
     let a = and_parts (eqb c p) (begins_with text prefix) h in
-    let e : eqb p c ≡ true = eq-eqb p c (sym (eqb-true c p a.0)) in
+    let e = eq-eqb p c (sym (eqb-true c p a.0)) in
     let l = shorter prefix text a.1 (rw e at n) in
     omega (arith, l)
 
@@ -94,9 +91,9 @@ front-rest [] (c ∷ text) h = absurd (false≢true h)
 front-rest (p ∷ prefix) (c ∷ text) h =
     let a = and_parts (eqb c p) (begins_with text prefix) h in
     let r = front-rest prefix text a.1 in
-    let e : c ≡ p = eqb-true c p a.0 in
-    let F : ℕ → List ℕ = λ x. x ∷ (text ++ r.0) in
-    let G : List ℕ → List ℕ = λ x. p ∷ x in
+    let e = eqb-true c p a.0 in
+    let F = λ (x : ℕ). x ∷ (text ++ r.0) in
+    let G = λ (x : List ℕ). p ∷ x in
     (r.0, ap F e ∙ ap G r.1)
 
 -- a front of `From ` can go on to it

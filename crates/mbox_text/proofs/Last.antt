@@ -1,7 +1,6 @@
 -- The last message of a text.
-use Rattle.std.proofs.Common.{◌≡◌, ℕ, true, List, [], ◌∷◌, ◌++◌, refl, sym, ◌∙◌, append_assoc, inl, inr}
+use Rattle.std.proofs.Common.{◌≡◌, ℕ, true, List, [], ◌∷◌, ◌++◌, refl, sym, append_assoc, inl, inr, append-nil, arith}
 use Rattle.std.proofs.lemmas.Bool.{false≢true}
-use Rattle.std.proofs.lemmas.List.{append-nil}
 use Rattle.mbox_text.specs.declared.entry.Entry.{Entry}
 use Rattle.mbox_text.specs.Lines.{NoEnd}
 use Rattle.mbox_text.specs.Quoting.{unquoted, begins_from}
@@ -10,11 +9,10 @@ use Rattle.mbox_text.specs.Held.{chopped, Closed, AtHead, InBody}
 use Rattle.mbox_text.proofs.LineLemmas.{lines-part}
 use Rattle.mbox_text.proofs.HeldLemmas.{open-last}
 
-pub closed-last : (front : List ℕ) (given : List Entry) (block : List ℕ) (e : Entry) → Closed front given → Block block e → Mbox (front ++ block) (given ++ e ∷ [])
+pub closed-last : (front : List ℕ) (given : List Entry) {block : List ℕ} {e : Entry} → Closed front given → Block block e → Mbox (front ++ block) (given ++ e ∷ [])
 unfolding Closed Mbox
-closed-last front [] block e h b = rw h (block, [], sym (append-nil block), b, inr refl, refl)
-closed-last front (g ∷ given) block e h b =
-    (h.0, h.1 ++ block, rw h.2 (append_assoc h.0 h.1 block), h.3, inl h.4, closed-last h.1 given block e h.5 b)
+closed-last front [] {block} h b = rw h (block, [], sym (append-nil block), b, inr refl, refl)
+closed-last front (g ∷ given) {block} h b = grind (arith, closed-last h.1 given h.5 b, append_assoc)
 
 pub closed-mbox : (front : List ℕ) (given : List Entry) → Closed front given → Mbox front given
 unfolding Closed Mbox
@@ -26,25 +24,17 @@ unended-part [] h = refl
 unended-part (c ∷ l) h = rw (h.0, unended-part l h.1) refl
 
 -- a From_ line with nothing behind it
-pub from-block : (line : List ℕ) (e : Entry) → NoEnd line → begins_from line ≡ true → e.from_line ≡ line → e.body ≡ [] → Block line e
+pub from-block : (line : List ℕ) {e : Entry} → NoEnd line → begins_from line ≡ true → e.from_line ≡ line → e.body ≡ [] → Block line e
 unfolding without_blank begins_from
-from-block [] e h b ef eb = absurd (false≢true b)
-from-block (c ∷ l) e h b ef eb = record {
-  first = c ∷ l;
-  others = [];
-  is = lines-part c l h;
-  head = b;
-  tail = tt;
-  from_line = ef ∙ sym (unended-part (c ∷ l) h);
-  body = eb;
-}
+from-block [] h b ef eb = absurd (false≢true b)
+from-block (c ∷ l) h b ef eb = grind (arith, lines-part c l h, unended-part (c ∷ l) h)
 
 -- the last message of a text that ends in a From_ line, or behind one
-pub head-last : (text : List ℕ) (given : List Entry) (line : List ℕ) (e : Entry) → AtHead text given line → begins_from line ≡ true → e.from_line ≡ line → e.body ≡ []
+pub head-last : {text : List ℕ} {given : List Entry} {line : List ℕ} (e : Entry) → AtHead text given line → begins_from line ≡ true → e.from_line ≡ line → e.body ≡ []
     → Mbox text (given ++ e ∷ [])
-head-last text given line e a b ef eb = rw a.is (closed-last a.front given line e a.closed (from-block line e a.part b ef eb))
+head-last {given} {line} e a b ef eb = grind (arith, closed-last, from-block)
 
-pub body-last : (text : List ℕ) (given : List Entry) (f body line : List ℕ) (e : Entry) → InBody text given f body line → e.from_line ≡ f → e.body ≡ chopped (body ++ unquoted line)
+pub body-last : {text : List ℕ} {given : List Entry} {f body line : List ℕ} (e : Entry) → InBody text given f body line → e.from_line ≡ f → e.body ≡ chopped (body ++ unquoted line)
     → Mbox text (given ++ e ∷ [])
-body-last text given f body line e a ef eb =
-    rw a.is (closed-last a.front given (a.block ++ line) e a.closed (open-last a.block f body line e a.opened a.part a.tail ef eb))
+body-last {given} {line} e a ef eb =
+    rw a.is (closed-last a.front given a.closed (open-last line e a.opened a.part a.tail ef eb))

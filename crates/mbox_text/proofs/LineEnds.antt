@@ -1,5 +1,5 @@
 -- Where the `\n` of a text stand.
-use Rattle.std.proofs.Common.{◌≡◌, ℕ, zero, suc, ◌+◌, ◌<◌, ◌↔◌, Bool, true, false, Option, Some, None, eqb, List, [], ◌∷◌, ◌++◌, length, get_or, take, drop, not, is_some, IsTrue, refl, sym, ◌∙◌, ap, arith, inl, inr}
+use Rattle.std.proofs.Common.{◌≡◌, ℕ, zero, suc, ◌+◌, ◌<◌, ◌↔◌, Bool, true, false, Option, Some, None, eqb, List, [], ◌∷◌, ◌++◌, length, get_or, take, drop, not, is_some, IsTrue, refl, sym, ◌∙◌, ap, arith, inl}
 use Rattle.std.proofs.lemmas.Bool.{both_ways, false_from_ne_true, eqb-true}
 use Rattle.std.proofs.lemmas.List.{take_all, take_more, length-drop, get_or-drop}
 use Rattle.memchr.specs.Find.{IsFirstByte, IsLastByte, is_byte}
@@ -17,7 +17,7 @@ NoEnd-take (c ∷ s) (suc n) h = (false_from_ne_true (eqb c 10) (h 0 (omega arit
 
 pub NoEnd-behind : (s : List ℕ) (n : ℕ) → IsLastByte (is_byte 10) s (Some n) → NoEnd (drop (n + 1) s)
 NoEnd-behind s n h =
-    let D : List ℕ = drop (n + 1) s in
+    let D = drop (n + 1) s in
     let whole : take (length D) D ≡ D = take_all (length D) D (omega arith) in
     rw (← whole) (NoEnd-take D (length D) (λ k l e. h.0.after ((n + 1) + k) (omega arith) (omega (arith, l, length-drop (n + 1) s)) (ap (is_byte 10) (sym (get_or-drop (n + 1) s k 0)) ∙ e)))
 
@@ -28,13 +28,7 @@ pub record LineThere (s : List ℕ) (n : ℕ) : Type 0 where
   pub part : NoEnd (take n s)
 
 pub line-there : (s : List ℕ) (n : ℕ) → IsFirstByte (is_byte 10) s (Some n) → LineThere s n
-line-there s n h =
-    let lt : n < length s = h.0.high in
-    record {
-      within = lt;
-      is = take_more s n 0 lt ∙ ap (λ c. take n s ++ c ∷ []) (eqb-true (get_or s n 0) 10 h.1);
-      part = NoEnd-take s n (λ k l. h.0.before k (omega arith) l);
-    }
+line-there s n h = grind (arith, take_more, eqb-true, NoEnd-take)
 
 -- no `\n` is there
 pub none-there : (s : List ℕ) → IsFirstByte (is_byte 10) s None → NoEnd s
@@ -42,14 +36,7 @@ none-there s h = rw (← take_all (length s) s (omega arith)) (NoEnd-take s (len
 
 pub line_ends : (text : List ℕ) (n : ℕ) → IsFirstByte (is_byte 10) text (Some n) → IsLine text (n + 1)
 unfolding lines
-line_ends text n found =
-    let h = line-there text n found in
-    record {
-      some = omega arith;
-      within = omega (arith, h.within);
-      line = rw h.is (lines-line (take n text) [] h.part);
-      ends = inr (inr (take n text, h.is));
-    }
+line_ends text n found = grind (arith, line-there, lines-line)
 
 pub line_alone : (text : List ℕ) → 0 < length text → IsFirstByte (is_byte 10) text None → IsLine text (length text)
 line_alone [] l found = absurd (omega arith)

@@ -1,8 +1,7 @@
 -- Lemmas on lines and quoting.
-use Rattle.std.proofs.Common.{◌≡◌, ℕ, Bool, true, false, eqb, List, [], ◌∷◌, ◌++◌, ◌+◌, ◌<◌, add-zero, length, get_or, drop, refl, sym, ◌∙◌, ap, arith, append_assoc, inl, inr}
-use Rattle.std.specs.Prelude.{◌&&◌, MatchBool}
+use Rattle.std.proofs.Common.{◌≡◌, ℕ, Bool, true, false, eqb, List, [], ◌∷◌, ◌++◌, ◌+◌, ◌<◌, add-zero, length, get_or, drop, refl, sym, ap, arith, append_assoc, inl, inr, ◌&&◌, MatchBool}
 use Rattle.std.specs.List.{concat, starts_with}
-use Rattle.std.proofs.lemmas.Bool.{false≢true, cases_Bool, eqb-true, ne_eqb, eq-eqb, cases_lt, and_parts, and_from}
+use Rattle.std.proofs.lemmas.Bool.{false≢true, cases_Bool, ne_eqb, eq-eqb, cases_lt, and_parts, and_from}
 use Rattle.std.proofs.lemmas.List.{drop_more, drop_all, get_or-drop}
 use Rattle.mbox_text.specs.Lines.{before_first, lines, Ended, NoEnd}
 use Rattle.mbox_text.specs.Quoting.{begins_with, begins_from, from_bytes, quotable, quoted, unquoted}
@@ -11,23 +10,12 @@ use Rattle.mbox_text.specs.Spelling.{missing_end}
 pub unquoted_quoted : (line : List ℕ) → unquoted (quoted line) ≡ line
 unfolding unquoted quoted quotable
 unquoted_quoted [] = refl
-unquoted_quoted (c ∷ line) =
-    elim (cases_Bool (eqb c 62)) [
-      | inl e ↦ elim (cases_Bool (quotable line)) [ inl q ↦ rw (e, q) (rw (e, q) refl) | inr q ↦ rw (e, q) (rw (e, q) refl) ]
-      | inr e ↦ elim (cases_Bool (begins_from (c ∷ line))) [ inl q ↦ rw (e, q) (rw (e, q) refl) | inr q ↦ rw (e, q) (rw e refl) ]
-    ]
+unquoted_quoted (c ∷ line) = grind (arith, cases_Bool)
 
 pub quoted_no_from : (line : List ℕ) → begins_from (quoted line) ≡ false
 unfolding quoted quotable begins_from
 quoted_no_from [] = refl
-quoted_no_from (c ∷ line) =
-    elim (cases_Bool (quotable (c ∷ line))) [
-      | inl q ↦ rw q refl
-      | inr q ↦ rw q (elim (cases_Bool (eqb c 62)) [
-        | inl e ↦ rw (eqb-true c 62 e) refl
-        | inr e ↦ rw e at q
-      ])
-    ]
+quoted_no_from (c ∷ line) = grind (arith, cases_Bool (quotable (c ∷ line)), cases_Bool (eqb c 62))
 
 -- a line comes off the front
 pub lines-line : (line rest : List ℕ) → NoEnd line → lines (line ++ 10 ∷ rest) ≡ (line ++ 10 ∷ []) ∷ lines rest
@@ -59,16 +47,12 @@ lines-last (c ∷ front) = lines-first c (front ++ 10 ∷ [])
 lines-cut : (front back : List ℕ) → lines (front ++ 10 ∷ back) ≡ lines (front ++ 10 ∷ []) ++ lines back
 unfolding lines
 lines-cut [] back = refl
-lines-cut (c ∷ front) back =
-    elim (cases_Bool (eqb c 10)) [
-      | inl e ↦ rw (e, lines-cut front back) refl
-      | inr e ↦ let f = lines-last front in rw (e, lines-cut front back) (rw f.2 refl)
-    ]
+lines-cut (c ∷ front) back = grind (arith, cases_Bool (eqb c 10), lines-cut front back, lines-last front)
 
-pub lines-append : (front back : List ℕ) → Ended front → lines (front ++ back) ≡ lines front ++ lines back
+pub lines-append : {front : List ℕ} (back : List ℕ) → Ended front → lines (front ++ back) ≡ lines front ++ lines back
 unfolding lines
-lines-append front back (inl e) = rw e refl
-lines-append front back (inr e) = rw (e.1) (rw append_assoc (lines-cut e.0 back))
+lines-append back (inl e) = rw e refl
+lines-append back (inr e) = rw (e.1) (rw append_assoc (lines-cut e.0 back))
 
 -- the lines make up the text
 concat-before : (c : ℕ) (ls : List (List ℕ)) → concat (before_first c ls) ≡ c ∷ concat ls
@@ -78,11 +62,7 @@ concat-before c (l ∷ ls) = refl
 pub concat-lines : (text : List ℕ) → concat (lines text) ≡ text
 unfolding lines
 concat-lines [] = refl
-concat-lines (c ∷ text) =
-    elim (cases_Bool (eqb c 10)) [
-      | inl e ↦ rw (e, concat-lines text) (ap (λ x. x ∷ text) (sym (eqb-true c 10 e)))
-      | inr e ↦ rw (e, concat-before c (lines text), concat-lines text) refl
-    ]
+concat-lines (c ∷ text) = grind (arith, concat-lines text, cases_Bool, concat-before)
 
 -- what a line begins with stands before its `\n`, and whether it is quotable
 begins_with-cut : (prefix line rest : List ℕ) → NoEnd prefix → begins_with prefix (line ++ 10 ∷ rest) ≡ begins_with prefix line
@@ -92,7 +72,7 @@ begins_with-cut (p ∷ prefix) (c ∷ line) rest h = rw (begins_with-cut prefix 
 
 pub begins_from-cut : (line rest : List ℕ) → begins_from (line ++ 10 ∷ rest) ≡ begins_from line
 unfolding begins_from
-begins_from-cut line rest = begins_with-cut from_bytes line rest (refl, (refl, (refl, (refl, (refl, tt)))))
+begins_from-cut line rest = grind arith
 
 pub quotable-cut : (line rest : List ℕ) → quotable (line ++ 10 ∷ rest) ≡ quotable line
 unfolding quotable begins_from
@@ -102,7 +82,7 @@ quotable-cut (c ∷ line) rest = rw (quotable-cut line rest, begins_from-cut (c 
 pub unquoted-push : (line : List ℕ) → unquoted (line ++ 10 ∷ []) ≡ unquoted line ++ 10 ∷ []
 unfolding unquoted
 unquoted-push [] = refl
-unquoted-push (c ∷ line) = rw (quotable-cut line []) (elim (cases_Bool (eqb c 62 && quotable line)) [ inl e ↦ rw e refl | inr e ↦ rw e refl ])
+unquoted-push (c ∷ line) = grind (arith, quotable-cut, cases_Bool)
 
 -- a longer line begins so too
 begins_with-more : (prefix line more : List ℕ) → begins_with prefix line ≡ true → begins_with prefix (line ++ more) ≡ true
@@ -138,7 +118,7 @@ quotable-plain (c ∷ line) h = rw (ne_eqb c 62 h) refl
 pub unquoted-mark : (line : List ℕ) → get_or line 0 0 ≡ 62 → quotable line ≡ true → unquoted line ≡ drop 1 line
 unfolding unquoted quotable
 unquoted-mark [] e q = refl
-unquoted-mark (c ∷ line) e q = let h : eqb c 62 ≡ true = eq-eqb c 62 e in rw (h, rw h at q) refl
+unquoted-mark (c ∷ line) e q = let h = eq-eqb c 62 e in rw (h, rw h at q) refl
 
 pub unquoted-plain : (line : List ℕ) → (0 < length line → get_or line 0 0 ≡ 62 → ⊥) → unquoted line ≡ line
 unfolding unquoted
@@ -148,20 +128,15 @@ unquoted-plain (c ∷ line) h = rw (ne_eqb c 62 (h (omega arith))) refl
 pub unquoted-other : (line : List ℕ) → quotable line ≡ false → unquoted line ≡ line
 unfolding unquoted quotable
 unquoted-other [] q = refl
-unquoted-other (c ∷ line) q =
-    elim (cases_Bool (eqb c 62)) [ inl e ↦ rw (e, rw e at q) refl | inr e ↦ rw e refl ]
+unquoted-other (c ∷ line) q = grind (arith, cases_Bool (eqb c 62))
 
 pub quotable-stop : (line : List ℕ) (at : ℕ) → (at < length line → get_or line at 0 ≡ 62 → ⊥) → quotable (drop at line) ≡ begins_from (drop at line)
-quotable-stop line at h =
-    quotable-plain (drop at line) (λ e. elim (cases_lt at (length line)) [
-      | inl l ↦ h l (sym (get_or-drop at line 0 0 ∙ ap (λ i. get_or line i 0) (add-zero at)) ∙ e)
-      | inr g ↦ let z : get_or (drop at line) 0 0 ≡ 0 = rw (drop_all at line g) refl in absurd (omega (arith, z, e))
-    ])
+quotable-stop line at h = grind (arith, quotable-plain, cases_lt, get_or-drop, add-zero, drop_all)
 
-pub unquoted_cases : (line : List ℕ) (b : Bool) → 0 < length line → get_or line 0 0 ≡ 62 → b ≡ quotable line
+pub unquoted_cases : (line : List ℕ) {b : Bool} → 0 < length line → get_or line 0 0 ≡ 62 → b ≡ quotable line
     → MatchBool b ((0 < length line) × (unquoted line ≡ drop 1 line)) (unquoted line ≡ line)
-unquoted_cases line true l e q = (l, unquoted-mark line e (sym q))
-unquoted_cases line false l e q = unquoted-other line (sym q)
+unquoted_cases line {b = true} l e q = (l, unquoted-mark line e (sym q))
+unquoted_cases line {b = false} l e q = unquoted-other line (sym q)
 
 -- the last line tells whether a body lacks its end
 pub missing-ended : (front : List ℕ) → missing_end (front ++ 10 ∷ []) ≡ []

@@ -1,6 +1,5 @@
 -- What is read of a front of a text is read of the whole text.
-use Rattle.std.proofs.Common.{◌≡◌, ℕ, true, List, [], ◌∷◌, ◌++◌, refl, ◌∙◌, ap, append_assoc, inl, inr}
-use Rattle.std.proofs.lemmas.List.{append-nil}
+use Rattle.std.proofs.Common.{◌≡◌, ℕ, true, List, [], ◌∷◌, ◌++◌, refl, ◌∙◌, ap, append_assoc, inl, inr, append-nil}
 use Rattle.mbox_text.specs.declared.entry.Entry.{Entry}
 use Rattle.mbox_text.specs.Lines.{lines, Ended}
 use Rattle.mbox_text.specs.Quoting.{begins_from}
@@ -9,23 +8,28 @@ use Rattle.mbox_text.specs.Mbox.{Block, Mbox}
 use Rattle.mbox_text.specs.Held.{Closed}
 use Rattle.mbox_text.proofs.LineLemmas.{lines-append, begins_from-more}
 use Rattle.mbox_text.proofs.Heads.{head-line, block-begins}
-use Rattle.mbox_text.proofs.OneReading.{reads-front, mbox-reads, Reads}
+use Rattle.mbox_text.proofs.OneReading.{reads-append, mbox-reads, Reads}
 use Rattle.mbox_text.proofs.HeldLemmas.{Ended-append}
 use Rattle.mbox_text.proofs.Last.{closed-mbox}
 
 closed-ended : (front : List ℕ) (given : List Entry) → Closed front given → Ended front
 unfolding Closed
 closed-ended front [] h = inl h
-closed-ended front (g ∷ given) h = rw h.2 (Ended-append h.0 h.1 h.4 (closed-ended h.1 given h.5))
+closed-ended front (g ∷ given) h = rw h.2 (Ended-append h.0 h.4 (closed-ended h.1 given h.5))
+
+-- a line that is left is a message's
+some-left : (l : List ℕ) (ls : List (List ℕ)) (given : List Entry) {entries : List Entry} (rest : List Entry) → entries ≡ given ++ rest → Reads (l ∷ ls) rest → IsProperFront given entries
+some-left l ls given [] e h = let no : l ∷ ls ≡ [] = h in absurd (cc)
+some-left l ls given (next ∷ rest) e h = (next, rest, e)
 
 -- whole blocks, and then a From_ line
 pub closed-front : (front tail : List ℕ) (given entries : List Entry) → Closed front given → begins_from tail ≡ true → Mbox (front ++ tail) entries
     → IsProperFront given entries
 closed-front front tail given entries c b m =
     let f = head-line tail b in
-    let e : lines (front ++ tail) ≡ lines front ++ f.0 ∷ f.1 = rw (lines-append front tail (closed-ended front given c), f.2) refl in
-    let r : Reads (lines front ++ f.0 ∷ f.1) entries = rw e at (mbox-reads (front ++ tail) entries m) in
-    reads-front (lines front) f.1 f.0 given entries (mbox-reads front given (closed-mbox front given c)) f.3 r
+    let e : lines (front ++ tail) ≡ lines front ++ f.0 ∷ f.1 = rw (lines-append tail (closed-ended front given c), f.2) refl in
+    let r = reads-append (lines front) (f.0 ∷ f.1) given entries (mbox-reads front given (closed-mbox front given c)) f.3 (rw e at (mbox-reads (front ++ tail) entries m)) in
+    some-left f.0 f.1 given r.0 r.1 r.2
 
 -- the blocks of all messages but the last
 record Front (text : List ℕ) (given : List Entry) (last : Entry) : Type 0 where
@@ -60,4 +64,4 @@ pub prefix_reading : (text more : List ℕ) (entries given : List Entry) (last :
 prefix_reading text more entries given last h h' =
     let f = front-of text given last h in
     let texts : text ++ more ≡ f.front ++ (f.block ++ more) = ap (λ z. z ++ more) f.is ∙ append_assoc f.front f.block more in
-    closed-front f.front (f.block ++ more) given entries f.closed (begins_from-more f.block more (block-begins f.block last f.behind)) (rw texts at h')
+    closed-front f.front (f.block ++ more) given entries f.closed (begins_from-more f.block more (block-begins f.behind)) (rw texts at h')

@@ -1,9 +1,8 @@
 -- The first quotable line of a text, and the lines before it, of which none is.
-use Rattle.std.proofs.Common.{◌≡◌, ℕ, zero, suc, ◌+◌, ◌-◌, ◌≤◌, ◌<◌, Some, None, true, false, eqb, List, [], ◌∷◌, ◌++◌, length, take, drop, get_or, refl, sym, ◌∙◌, ap, arith, inl, inr}
-use Rattle.std.specs.Prelude.{◌⊎◌}
+use Rattle.std.proofs.Common.{◌≡◌, ℕ, zero, suc, ◌+◌, ◌-◌, ◌≤◌, ◌<◌, Some, None, true, false, eqb, List, [], ◌∷◌, ◌++◌, length, take, drop, get_or, sym, ◌∙◌, ap, arith, inl, inr, ◌⊎◌}
 use Rattle.std.specs.List.{concat}
 use Rattle.std.proofs.lemmas.Bool.{cases_Bool, cases_lt, false≢true, and_parts, eqb-true}
-use Rattle.std.proofs.lemmas.List.{take_all, drop_all, length-drop, length-take, get_or-drop, drop-append-le, drop-take, take-take, take_rest}
+use Rattle.std.proofs.lemmas.List.{take_all, length-drop, length-take, get_or-drop, drop-append-le, drop-take, take-take, take_rest}
 use Rattle.std.proofs.Math.Seq.{drop-append-add, take-add}
 use Rattle.memchr.specs.Find.{FindsNeedle, OccursAt}
 use Rattle.mbox_text.specs.Lines.{lines, Ended, IsLine}
@@ -61,8 +60,8 @@ none-quotable : (ls : List (List ℕ)) → NoPlace (concat ls) → NoneQuotable 
 none-quotable [] n = tt
 none-quotable (l ∷ ls) n = (plain-front l (concat ls) n, none-quotable ls (behind l (concat ls) n))
 
-no_lines : (text : List ℕ) → NoPlace text → NoneQuotable (lines text)
-no_lines text n = none-quotable (lines text) (rw (concat-lines text) n)
+no_lines : {text : List ℕ} → NoPlace text → NoneQuotable (lines text)
+no_lines {text} n = none-quotable (lines text) (rw (concat-lines text) n)
 
 -- no `From ` ends before the first one begins
 no-place-before : (text : List ℕ) (n f : ℕ) → FindsNeedle text from_bytes 0 (Some n) → f ≤ n → NoPlace (take f text)
@@ -81,70 +80,44 @@ pub record Plain (text : List ℕ) (n : ℕ) : Type 0 where
   pub ends : (n ≡ length text) ⊎ Ended (take n text)
   pub none : NoneQuotable (lines (take n text))
 
-pub plain_none : (text : List ℕ) → Plain text 0
+pub plain_none : {text : List ℕ} → Plain text 0
 unfolding lines
-plain_none text = record { within = omega arith; ends = inr (inl refl); none = tt }
+plain_none = grind (arith)
 
-pub plain_more : (text : List ℕ) (at n : ℕ) → Plain text at → Plain (drop at text) n → Plain text (at + n)
-plain_more text at n p q =
-    let x : List ℕ = take n (drop at text) in
-    let front : take (at + n) text ≡ take at text ++ x = take-add at n text in
-    elim (p.ends) [
-      | inl e ↦ let same : at + n ≡ at = omega (arith, q.within, length-drop at text, e) in rw same p
-      | inr ended ↦ record {
-        within = omega (arith, p.within, q.within, length-drop at text);
-        ends = elim (q.ends) [
-          | inl e ↦ inl (omega (arith, e, p.within, length-drop at text))
-          | inr e ↦ inr (rw front (Ended-append (take at text) x ended e))
-        ];
-        none = rw (front, lines-append (take at text) x ended) (NoneQuotable-append (lines (take at text)) (lines x) p.none q.none);
-      }
-    ]
+pub plain_more : {text : List ℕ} {at : ℕ} (n : ℕ) → Plain text at → Plain (drop at text) n → Plain text (at + n)
+plain_more {text} {at} n p q = grind (arith, take-add, length-drop, Ended-append, lines-append, NoneQuotable-append)
 
 -- the lines before a first `From `
-plain_before : (text : List ℕ) (n f : ℕ) → FindsNeedle text from_bytes 0 (Some n) → f ≤ n → Ended (take f text) → Plain text f
-plain_before text n f h le ended =
-    record { within = omega (arith, le, h.0.high); ends = inr ended; none = no_lines (take f text) (no-place-before text n f h le) }
+plain_before : {text : List ℕ} (n : ℕ) {f : ℕ} → FindsNeedle text from_bytes 0 (Some n) → f ≤ n → Ended (take f text) → Plain text f
+plain_before {text} n {f} h le ended = grind (arith, no_lines (no-place-before text n f h le))
 
 -- the same behind lines of which none is quotable, as the code cuts them
-pub plain_front : (text : List ℕ) (at n f : ℕ) → let before : List ℕ = take ((at + n) - at) (drop at text) in
+pub plain_front : {text : List ℕ} {at : ℕ} (n f : ℕ) → let before : List ℕ = take ((at + n) - at) (drop at text) in
     Plain text at → FindsNeedle (take (length text - at) (drop at text)) from_bytes 0 (Some n) → f ≤ length before → Ended (take f before) → Plain text (at + f)
-plain_front text at n f p found within ended =
-    let D : List ℕ = drop at text in
+plain_front {text} {at} n f p found within ended =
+    let D = drop at text in
     let size : (at + n) - at ≡ n = omega arith in
     let ends = rw size at ended in
     let le : f ≤ n = omega (arith, rw size at within, length-take n D) in
-    plain_more text at f p (plain_before D n f (rw (take_rest text at) at found) le (rw (take-take f n D le) at ends))
+    plain_more f p (plain_before n (rw (take_rest text at) at found) le (rw (take-take f n D le) at ends))
 
 -- and one line more that is not quotable
-pub plain_line : (text : List ℕ) (at n : ℕ) → let line : List ℕ = take (length text - at) (drop at text) in Plain text at → IsLine line n → quotable line ≡ false → Plain text (at + n)
-plain_line text at n p is not =
+pub plain_line : {text : List ℕ} {at n : ℕ} → let line : List ℕ = take (length text - at) (drop at text) in Plain text at → IsLine line n → quotable line ≡ false → Plain text (at + n)
+plain_line {text} {at} {n} p is not =
     let h = rw (take_rest text at) at is in
     let q = rw (take_rest text at) at not in
-    plain_more text at n p (record { within = h.within; ends = h.ends; none = rw h.line (quotable-line (drop at text) n h ∙ q, tt) })
+    plain_more n p (record { within = h.within; ends = h.ends; none = rw h.line (quotable-line h ∙ q, tt) })
 
 plain_rest : (text : List ℕ) → NoneQuotable (lines text) → Plain text (length text)
-plain_rest text none = let whole : take (length text) text ≡ text = take_all (length text) text (omega arith) in
-    record { within = omega arith; ends = inl refl; none = rw whole none }
+plain_rest text none = grind (arith, take_all)
 
-pub finds_none : (text : List ℕ) (at : ℕ) → Plain text at → FindsNeedle (take (length text - at) (drop at text)) from_bytes 0 None → NoneQuotable (lines text)
-finds_none text at p found =
-    let D : List ℕ = drop at text in
-    let all = plain_more text at (length D) p (plain_rest D (no_lines D (found_none D (rw (take_rest text at) at found)))) in
+pub finds_none : {text : List ℕ} {at : ℕ} → Plain text at → FindsNeedle (take (length text - at) (drop at text)) from_bytes 0 None → NoneQuotable (lines text)
+finds_none {text} {at} p found =
+    let D = drop at text in
+    let all = plain_more (length D) p (plain_rest D (no_lines (found_none D (rw (take_rest text at) at found)))) in
     let whole : take (at + length D) text ≡ text = take_all (at + length D) text (omega (arith, p.within, length-drop at text)) in
     rw whole at all.none
 
-pub finds_some : (text : List ℕ) (n : ℕ) → Plain text n → quotable (take (length text - n) (drop n text)) ≡ true → FirstQuotable text n
+pub finds_some : {text : List ℕ} {n : ℕ} → Plain text n → quotable (take (length text - n) (drop n text)) ≡ true → FirstQuotable text n
 unfolding quotable
-finds_some text n p is =
-    let q = rw (take_rest text n) at is in
-    let within : n < length text = elim (cases_lt n (length text)) [
-      | inl l ↦ l
-      | inr g ↦ let none : quotable [] ≡ true = rw (drop_all n text g) at q in absurd (false≢true none)
-    ] in
-    record {
-      within = within;
-      ended = elim (p.ends) [ inl e ↦ absurd (omega (arith, e, within)) | inr e ↦ e ];
-      none = p.none;
-      there = q;
-    }
+finds_some {text} {n} p is = grind (arith, take_rest text n, cases_lt n (length text))

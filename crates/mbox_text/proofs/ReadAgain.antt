@@ -1,8 +1,7 @@
 -- What is written is read again.
-use Rattle.std.proofs.Common.{◌≡◌, ℕ, true, eqb, List, [], ◌∷◌, ◌++◌, map, refl, sym, ◌∙◌, ap, append_assoc, inl, inr}
+use Rattle.std.proofs.Common.{◌≡◌, ℕ, true, eqb, List, [], ◌∷◌, ◌++◌, map, refl, sym, ◌∙◌, ap, append_assoc, inl, inr, append-nil, arith}
 use Rattle.std.specs.List.{flat_map, concat}
 use Rattle.std.proofs.lemmas.Bool.{cases_Bool, eqb-true}
-use Rattle.std.proofs.lemmas.List.{append-nil}
 use Rattle.std.proofs.lemmas.List.Concat.{flat_map-append}
 use Rattle.mbox_text.specs.declared.entry.Entry.{Entry}
 use Rattle.mbox_text.specs.Lines.{lines, Ended, NoEnd}
@@ -41,15 +40,13 @@ cut (c ∷ text) =
 
 quoted-push : (l : List ℕ) → quoted (l ++ 10 ∷ []) ≡ quoted l ++ 10 ∷ []
 unfolding quoted
-quoted-push l = rw (quotable-cut l []) (elim (cases_Bool (quotable l)) [ inl e ↦ rw e refl | inr e ↦ rw e refl ])
+quoted-push l = grind (arith, quotable-cut l [], cases_Bool (quotable l))
 
 -- whole lines stand in the text that they make
 lines-concat : (ls : List (List ℕ)) → Whole ls → lines (flat_map (λ l. l) ls) ≡ ls
 unfolding lines
 lines-concat [] w = refl
-lines-concat (l ∷ ls) w =
-    let x = w.0.0 in
-    rw (w.0.1, append_assoc x (10 ∷ []) (flat_map (λ l. l) ls)) (lines-line x (flat_map (λ l. l) ls) w.0.2 ∙ (rw (lines-concat ls w.1) refl))
+lines-concat (l ∷ ls) w = grind (arith, lines-concat ls w.1, append_assoc, lines-line)
 
 quoted-whole : (x : List ℕ) → NoEnd x → (y : List ℕ) × (quoted (x ++ 10 ∷ []) ≡ y ++ 10 ∷ []) × NoEnd y
 unfolding quoted
@@ -60,7 +57,7 @@ quoted-whole x h = elim (cases_Bool (quotable x)) [
 
 map-whole : (ls : List (List ℕ)) → Whole ls → Whole (map quoted ls)
 map-whole [] w = tt
-map-whole (l ∷ ls) w = let q = quoted-whole w.0.0 w.0.2 in (rw w.0.1 q, map-whole ls w.1)
+map-whole (l ∷ ls) w = grind (arith, map-whole ls w.1, quoted-whole)
 
 flat-map : (ls : List (List ℕ)) → flat_map quoted ls ≡ flat_map (λ l. l) (map quoted ls)
 flat-map [] = refl
@@ -85,27 +82,14 @@ pub record Full (body : List ℕ) : Type 0 where
   ended : Ended (body ++ missing_end body)
   written : flat_map quoted (lines body) ++ missing_end body ≡ flat_map quoted (lines (body ++ missing_end body))
 
-pub full-cut : (body front last : List ℕ) → body ≡ front ++ last → Ended front → NoEnd last → Full body
+pub full-cut : {body front : List ℕ} (last : List ℕ) → body ≡ front ++ last → Ended front → NoEnd last → Full body
 unfolding lines missing_end
-full-cut body front [] e (inl n) h = rw (e, n) (record { ended = inl refl; written = refl })
-full-cut body front [] e (inr s) h =
-    let m : missing_end body ≡ [] = rw (e, append-nil front, s.1) (missing-ended s.0) in
-    record {
-      ended = rw m (rw (append-nil body) (inr (s.0, e ∙ append-nil front ∙ s.1)));
-      written = rw (m, append-nil body) (append-nil (flat_map quoted (lines body)));
-    }
-full-cut body front (c ∷ l) e ends h =
-    let m : missing_end body ≡ 10 ∷ [] = rw e (missing-part front c l h) in
-    let one : lines body ≡ lines front ++ (c ∷ l) ∷ [] = rw (e, lines-append front (c ∷ l) ends, lines-part c l h) refl in
-    let two : lines (body ++ 10 ∷ []) ≡ lines front ++ (c ∷ (l ++ 10 ∷ [])) ∷ [] =
-    rw (e, append_assoc front (c ∷ l) (10 ∷ []), lines-append front (c ∷ (l ++ 10 ∷ [])) ends, lines-line (c ∷ l) [] h) refl in
-    let three : flat_map quoted (lines front ++ (c ∷ l) ∷ []) ++ 10 ∷ [] ≡ flat_map quoted (lines front ++ (c ∷ (l ++ 10 ∷ [])) ∷ []) =
-    rw (flat_map-append quoted (lines front) ((c ∷ l) ∷ []), flat_map-append quoted (lines front) ((c ∷ (l ++ 10 ∷ [])) ∷ []), append-nil (quoted (c ∷ l)), append-nil (quoted (c ∷ (l ++ 10 ∷ []))), quoted-push (c ∷ l))
-    (append_assoc (flat_map quoted (lines front)) (quoted (c ∷ l)) (10 ∷ [])) in
-    record { ended = rw m (inr (body, refl)); written = rw (m, one, two) three }
+full-cut [] e (inl n) h = rw (e, n) (record { ended = inl refl; written = refl })
+full-cut {body} {front} [] e (inr s) h = grind (arith, append-nil front, missing-ended s.0, append-nil body, append-nil (flat_map quoted (lines body)))
+full-cut {body} {front} (c ∷ l) e ends h = grind (arith, missing-part front c l h, lines-append (c ∷ l) ends, lines-part c l h, append_assoc front (c ∷ l) (10 ∷ []), lines-append (c ∷ (l ++ 10 ∷ [])) ends, lines-line (c ∷ l) [] h, flat_map-append quoted (lines front) ((c ∷ l) ∷ []), flat_map-append quoted (lines front) ((c ∷ (l ++ 10 ∷ [])) ∷ []), append-nil (quoted (c ∷ l)), append-nil (quoted (c ∷ (l ++ 10 ∷ []))), quoted-push (c ∷ l), append_assoc (flat_map quoted (lines front)) (quoted (c ∷ l)) (10 ∷ []))
 
 full : (body : List ℕ) → Full body
-full body = let k = cut body in full-cut body k.front k.last k.is k.ended k.part
+full body = let k = cut body in full-cut k.last k.is k.ended k.part
 
 whole-blank : (ls : List (List ℕ)) → Whole ls → Whole (ls ++ (10 ∷ []) ∷ [])
 whole-blank [] w = (([], refl, tt), tt)
@@ -114,13 +98,13 @@ whole-blank (l ∷ ls) w = (w.0, whole-blank ls w.1)
 spelled-block : (e : Entry) → begins_from e.from_line ≡ true → NoEnd e.from_line → Block (spelling e) (completed e) × Ended (spelling e)
 unfolding spelling completed begins_from
 spelled-block e b h =
-    let f : List ℕ = e.from_line in
-    let body : List ℕ = e.body ++ missing_end e.body in
+    let f = e.from_line in
+    let body = e.body ++ missing_end e.body in
     let u = full e.body in
-    let ls : List (List ℕ) = lines body in
-    let qs : List (List ℕ) = map quoted ls in
-    let w = map-whole ls (lines-whole body u.ended) in
-    let Id : List ℕ → List ℕ = λ l. l in
+    let ls = lines body in
+    let qs = map quoted ls in
+    let w = map-whole ls (lines-whole u.ended) in
+    let Id = λ (l : List ℕ). l in
     let others : flat_map quoted (lines e.body) ++ (missing_end e.body ++ 10 ∷ []) ≡ flat_map Id (qs ++ (10 ∷ []) ∷ []) =
     sym (append_assoc (flat_map quoted (lines e.body)) (missing_end e.body) (10 ∷ []))
     ∙ ap (λ z. z ++ 10 ∷ []) (u.written ∙ flat-map ls)
@@ -140,29 +124,20 @@ spelled-block e b h =
 pub spelled_again : (es : List Entry) → FromLines es → Mbox (flat_map spelling es) (map completed es)
 unfolding Mbox
 spelled_again [] h = refl
-spelled_again (e ∷ es) h = let b = spelled-block e h.0.0 h.0.1 in (spelling e, flat_map spelling es, refl, b.0, inl b.1, spelled_again es h.1)
+spelled_again (e ∷ es) h = grind (arith, spelled-block e h.0.0 h.0.1, spelled_again es h.1)
 
-missing-full : (body front last : List ℕ) → body ≡ front ++ last → Ended front → NoEnd last → missing_end (body ++ missing_end body) ≡ []
+missing-full : {body front : List ℕ} (last : List ℕ) → body ≡ front ++ last → Ended front → NoEnd last → missing_end (body ++ missing_end body) ≡ []
 unfolding missing_end
-missing-full body front [] e (inl n) h = rw (e, n) refl
-missing-full body front [] e (inr s) h =
-    let m : missing_end body ≡ [] = rw (e, append-nil front, s.1) (missing-ended s.0) in
-    rw (m, append-nil body) m
-missing-full body front (c ∷ l) e ends h =
-    let m : missing_end body ≡ 10 ∷ [] = rw e (missing-part front c l h) in
-    rw m (missing-ended body)
+missing-full [] e (inl n) h = rw (e, n) refl
+missing-full {body} {front} [] e (inr s) h = grind (arith, append-nil, missing-ended)
+missing-full {body} {front} (c ∷ l) e ends h = grind (arith, missing-part front c l h, missing-ended body)
 
 completed-once : (body : List ℕ) → missing_end (body ++ missing_end body) ≡ []
-completed-once body = let k = cut body in missing-full body k.front k.last k.is k.ended k.part
+completed-once body = let k = cut body in missing-full k.last k.is k.ended k.part
 
 spelled-same : (e : Entry) → spelling (completed e) ≡ spelling e
 unfolding spelling completed
-spelled-same e =
-    let u = full e.body in
-    let w = u.written in
-    let m = completed-once e.body in
-    let L : List ℕ → List ℕ = λ z. e.from_line ++ 10 ∷ (z ++ 10 ∷ []) in
-    rw (m, ← w) (rw append_assoc refl)
+spelled-same e = grind (arith, full, completed-once, append_assoc)
 
 -- what is completed is spelled as before
 pub spelled_once : (es : List Entry) → flat_map spelling (map completed es) ≡ flat_map spelling es

@@ -4,21 +4,18 @@ use Rattle.maildir_name.proofs.flags.field_of.Goals.{else-loop-rest-test, then-l
 
 pub returns-then-begins_with_name : goal.returns-then-begins_with_name
 returns-then-begins_with_name c =
-    field_then c.args.name.now c.args.body.now c.loop-rest.rest.now c.split_at.result.0.now c.split_at.result.1.now c.line_len.result
-    (record { same = c.loop-rest.invariant; first = c.line_len.ensures.first; front = c.split_at.ensures.front; back = c.split_at.ensures.back })
-    c.is_blank.result c.begins_with_name.result c.is_blank.ensures c.if-is_blank.false c.begins_with_name.ensures c.if-begins_with_name.true
+    field_then {body = c.args.body.now} (record { same = c.loop-rest.invariant; first = c.line_len.ensures.first; front = c.split_at.ensures.front; back = c.split_at.ensures.back })
+    c.is_blank.ensures c.if-is_blank.false c.begins_with_name.ensures c.if-begins_with_name.true
 
 pub loop-rest-preserved : goal.loop-rest-preserved
 loop-rest-preserved c =
-    field_else c.args.name.now c.args.body.now c.loop-rest.rest.now c.split_at.result.0.now c.split_at.result.1.now c.line_len.result
-    (record { same = c.loop-rest.invariant; first = c.line_len.ensures.first; front = c.split_at.ensures.front; back = c.split_at.ensures.back })
-    c.is_blank.result c.begins_with_name.result c.is_blank.ensures c.if-is_blank.false c.begins_with_name.ensures c.if-begins_with_name.false
+    field_else (record { same = c.loop-rest.invariant; first = c.line_len.ensures.first; front = c.split_at.ensures.front; back = c.split_at.ensures.back })
+    c.is_blank.ensures c.if-is_blank.false c.begins_with_name.ensures c.if-begins_with_name.false
 
 pub returns : goal.returns
 returns c = elim c.loop-rest-test.branch [
-  | else-loop-rest-test w ↦ field_end c.args.name.now c.args.body.now c.loop-rest.rest.now c.is_empty.result c.loop-rest.invariant c.is_empty.ensures w.loop-rest-test.false
+  | else-loop-rest-test w ↦ field_end c.args.name.now c.args.body.now c.loop-rest.rest.now c.loop-rest.invariant c.is_empty.ensures w.loop-rest-test.false
   | then-loop-rest-test+then-is_blank w ↦
-      field_blank c.args.name.now c.args.body.now c.loop-rest.rest.now w.split_at.result.0.now w.split_at.result.1.now w.line_len.result
-      (record { same = c.loop-rest.invariant; first = w.line_len.ensures.first; front = w.split_at.ensures.front; back = w.split_at.ensures.back })
-      w.is_blank.result w.is_blank.ensures w.if-is_blank.true
+      field_blank (record { same = c.loop-rest.invariant; first = w.line_len.ensures.first; front = w.split_at.ensures.front; back = w.split_at.ensures.back })
+      w.is_blank.ensures w.if-is_blank.true
 ]

@@ -3,9 +3,9 @@ use Rattle.maildir_name.proofs.name.is_occurrence.Goals as goal
 
 pub returns-then-begins_with_1_to_9 : goal.returns-then-begins_with_1_to_9
 returns-then-begins_with_1_to_9 c =
-    occurrence_then c.args.text.now c.as_bytes.result.now c.begins_with_1_to_9.result c.is_ok.result c.parse.result
+    occurrence_then c.parse.result
     c.as_bytes.ensures.value c.begins_with_1_to_9.ensures c.if-begins_with_1_to_9.true c.parse.ensures.value.0 c.is_ok.ensures.value
 
 pub returns-else-begins_with_1_to_9 : goal.returns-else-begins_with_1_to_9
 returns-else-begins_with_1_to_9 c =
-    occurrence_else c.args.text.now c.as_bytes.result.now c.begins_with_1_to_9.result c.as_bytes.ensures.value c.begins_with_1_to_9.ensures c.if-begins_with_1_to_9.false
+    occurrence_else c.as_bytes.ensures.value c.begins_with_1_to_9.ensures c.if-begins_with_1_to_9.false

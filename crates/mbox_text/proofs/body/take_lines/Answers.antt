@@ -1,4 +1,4 @@
-use Rattle.std.proofs.Common.{ℕ, ◌+◌, ◌-◌, List, take, drop, refl, sym, ◌∙◌, inl, inr}
+use Rattle.std.proofs.Common.{◌+◌, ◌-◌, take, drop, refl, sym, ◌∙◌, inl, inr}
 use Rattle.std.proofs.lemmas.List.{take_rest, drop-drop}
 use Rattle.std.proofs.lemmas.Slice.{pushed}
 use Rattle.mbox_text.proofs.LineEnds.{none-there}
@@ -6,45 +6,45 @@ use Rattle.mbox_text.proofs.Runs.{taken_none, taken_found, taken_line, taken_res
 use Rattle.mbox_text.proofs.body.take_lines.Goals as goal
 
 pub loop-n-init : goal.loop-n-init
-loop-n-init c = taken_none c.args.text.now c.args.body.now.items
+loop-n-init c = taken_none
 
 pub loop-n-preserved : goal.loop-n-preserved
 loop-n-preserved c =
-    let text : List ℕ = c.args.text.now in
-    let at : ℕ = c.loop-n.at in
-    let n : ℕ = c.in-Some.n in
+    let text = c.args.text.now in
+    let at = c.loop-n.at in
+    let n = c.in-Some.n in
     let copied = pushed (take ((at + n) - at) (drop at text)) refl c.in_ok-extend_from_slice.was c.extend_from_slice.ensures.items in
-    let t = taken_found text c.args.body.now.items c.loop-n.body.items c.extend_from_slice.new.self.items at n c.loop-n.invariant c.in-Some.ensures copied in
-    taken_line text c.args.body.now.items c.extend_from_slice.new.self.items c.add_unquoted.new.body.items (at + n) c.in-Some-memchr.end t c.in-Some-memchr.ensures
+    let t = taken_found n c.loop-n.invariant c.in-Some.ensures copied in
+    taken_line c.in-Some-memchr.end t c.in-Some-memchr.ensures
     (sym c.begins_with_from.ensures ∙ c.if-begins_with_from.false) c.in_ok-add_unquoted-in-Some-memchr.ensures
 
 pub returns-then-begins_with_from : goal.returns-then-begins_with_from
 returns-then-begins_with_from c =
-    let text : List ℕ = c.args.text.now in
-    let at : ℕ = c.loop-n.at in
-    let n : ℕ = c.in-Some.n in
+    let text = c.args.text.now in
+    let at = c.loop-n.at in
+    let n = c.in-Some.n in
     let copied = pushed (take ((at + n) - at) (drop at text)) refl c.in_ok-extend_from_slice.was c.extend_from_slice.ensures.items in
-    let t = taken_found text c.args.body.now.items c.loop-n.body.items c.extend_from_slice.new.self.items at n c.loop-n.invariant c.in-Some.ensures copied in
+    let t = taken_found n c.loop-n.invariant c.in-Some.ensures copied in
     let from = sym c.begins_with_from.ensures ∙ c.if-begins_with_from.true in
     record { within = t.within; added = t.added; ended = t.ended; none = t.none; stops = inl (rw (take_rest text (at + n)) at from) }
 
 pub returns-in-None : goal.returns-in-None
 returns-in-None c =
-    let text : List ℕ = c.args.text.now in
-    let at : ℕ = c.loop-n.at in
-    let n : ℕ = c.in-Some.n in
+    let text = c.args.text.now in
+    let at = c.loop-n.at in
+    let n = c.in-Some.n in
     let copied = pushed (take ((at + n) - at) (drop at text)) refl c.in_ok-extend_from_slice.was c.extend_from_slice.ensures.items in
-    let t = taken_found text c.args.body.now.items c.loop-n.body.items c.extend_from_slice.new.self.items at n c.loop-n.invariant c.in-Some.ensures copied in
+    let t = taken_found n c.loop-n.invariant c.in-Some.ensures copied in
     let rest = rw (take_rest text (at + n)) at c.in-None.ensures in
     record { within = t.within; added = t.added; ended = t.ended; none = t.none; stops = inr (none-there (drop (at + n) text) rest) }
 
 pub returns : goal.returns
 returns c =
-    let text : List ℕ = c.args.text.now in
-    let at : ℕ = c.loop-n.at in
-    let n : ℕ = c.whole_len-n.result in
+    let text = c.args.text.now in
+    let at = c.loop-n.at in
+    let n = c.whole_len-n.result in
     let w = c.whole_len-n.ensures in
     let copied = pushed (take ((at + n) - at) (drop at text)) refl c.in_ok-extend_from_slice-2.was c.extend_from_slice-2.ensures.items in
-    let t = taken_rest text c.args.body.now.items c.loop-n.body.items c.extend_from_slice-2.new.self.items at n c.loop-n.invariant w.within w.ended c.in_default.ensures copied in
+    let t = taken_rest n c.loop-n.invariant w.within w.ended c.in_default.ensures copied in
     let rest = rw (take_rest text at, drop-drop) at w.rest in
     record { within = t.within; added = t.added; ended = t.ended; none = t.none; stops = inr rest }

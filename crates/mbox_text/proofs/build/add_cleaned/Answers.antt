@@ -1,18 +1,17 @@
-use Rattle.std.proofs.Common.{◌++◌, List, ℕ, ap, map, sym, arith, ◌∙◌}
+use Rattle.std.proofs.Common.{◌++◌, List, ℕ, ap, map, sym, arith, ◌∙◌, take_all}
 use Rattle.std.proofs.lemmas.Bool.{eqb-true, eqb-false}
-use Rattle.std.proofs.lemmas.List.{take_all}
 use Rattle.mbox_text.specs.FromLine.{hyphened}
 use Rattle.mbox_text.proofs.BuiltLines.{extended_by, cleaned-none, cleaned-some}
 use Rattle.mbox_text.proofs.build.add_cleaned.Goals as goal
 
 pub returns-then-is_empty : goal.returns-then-is_empty
 returns-then-is_empty c =
-    extended_by c.extend_from_slice.result c.extend_from_slice.new.self.items c.args.line.now.items _ _ c.extend_from_slice.ensures.items (cleaned-none c.args.sender.now (eqb-true _ _ (sym c.if-is_empty.ensures)))
+    extended_by c.extend_from_slice.result c.args.line.now.items c.extend_from_slice.ensures.items (cleaned-none c.args.sender.now (eqb-true _ _ (sym c.if-is_empty.ensures)))
 
 pub returns : goal.returns
 returns c =
-    let F : List ℕ → List ℕ = λ z. c.args.line.now.items ++ map hyphened z in
-    let G : List ℕ → List ℕ = λ z. c.args.line.now.items ++ z in
+    let F = λ (z : List ℕ). c.args.line.now.items ++ map hyphened z in
+    let G = λ (z : List ℕ). c.args.line.now.items ++ z in
     c.loop-byte.invariant
     ∙ ap F (take_all c.loop-byte.byte-index c.args.sender.now (omega arith))
     ∙ ap G (sym (cleaned-some c.args.sender.now (eqb-false _ _ (sym c.if-is_empty.ensures))))

@@ -1,16 +1,15 @@
-use Rattle.std.proofs.Common.{◌≡◌, ◌++◌, [], ◌∷◌, List, ℕ, ap, sym, ◌∙◌}
+use Rattle.std.proofs.Common.{◌++◌, [], ◌∷◌, List, ℕ, ap, sym, ◌∙◌}
 use Rattle.std.proofs.lemmas.Bool.{eqb-true, eqb-false}
 use Rattle.std.proofs.lemmas.Slice.{pushed}
 use Rattle.mbox_text.specs.FromLine.{cleaned}
-use Rattle.mbox_text.specs.Quoting.{from_bytes}
 use Rattle.mbox_text.proofs.BuiltLines.{built-none, built-some}
 use Rattle.mbox_text.proofs.build.join.Goals as goal
 use Rattle.mbox_text.proofs.build.join.Goals.{then-not-is_empty+in_ok-push+in_ok-extend_from_slice, else-not-is_empty}
 
 pub returns : goal.returns
 returns c =
-    let A : List ℕ → List ℕ = λ z. z ++ cleaned c.args.sender.now in
-    let was : c.add_cleaned.new.line.items ≡ from_bytes ++ cleaned c.args.sender.now = c.in_ok-add_cleaned.ensures ∙ ap A c.in_ok-line.ensures.items in
+    let A = λ (z : List ℕ). z ++ cleaned c.args.sender.now in
+    let was = c.in_ok-add_cleaned.ensures ∙ ap A c.in_ok-line.ensures.items in
     elim (c.if-not-is_empty.branch) [
       | then-not-is_empty+in_ok-push+in_ok-extend_from_slice w ↦
           let spaced = pushed (32 ∷ []) was w.in_ok-push.was w.push.ensures.items in

@@ -1,25 +1,25 @@
-use Rattle.std.proofs.Common.{ℕ, ◌+◌, List, sym, ◌∙◌}
+use Rattle.std.proofs.Common.{◌+◌, sym, ◌∙◌}
 use Rattle.mbox_text.proofs.Quotable.{plain_none, plain_front, plain_line, finds_none, finds_some}
 use Rattle.mbox_text.proofs.quoting.find_quotable.Goals as goal
 
 pub loop-n-init : goal.loop-n-init
-loop-n-init c = plain_none c.args.text.now
+loop-n-init c = plain_none
 
 pub returns-then-is_quotable : goal.returns-then-is_quotable
 returns-then-is_quotable c =
     let w = c.whole_len.ensures in
-    finds_some c.args.text.now (c.loop-n.at + c.whole_len.result)
-    (plain_front c.args.text.now c.loop-n.at c.in-Some.n c.whole_len.result c.loop-n.invariant (rw c.new-finder.ensures at c.in-Some.ensures) w.within w.ended)
+    finds_some
+    (plain_front c.in-Some.n c.whole_len.result c.loop-n.invariant (rw c.new-finder.ensures at c.in-Some.ensures) w.within w.ended)
     (sym c.is_quotable.ensures ∙ c.if-is_quotable.true)
 
 pub loop-n-preserved : goal.loop-n-preserved
 loop-n-preserved c =
-    let text : List ℕ = c.args.text.now in
-    let front : ℕ = c.loop-n.at + c.whole_len.result in
+    let text = c.args.text.now in
+    let front = c.loop-n.at + c.whole_len.result in
     let w = c.whole_len.ensures in
-    plain_line text front c.line_len.result
-    (plain_front text c.loop-n.at c.in-Some.n c.whole_len.result c.loop-n.invariant (rw c.new-finder.ensures at c.in-Some.ensures) w.within w.ended)
+    plain_line
+    (plain_front c.in-Some.n c.whole_len.result c.loop-n.invariant (rw c.new-finder.ensures at c.in-Some.ensures) w.within w.ended)
     c.line_len.ensures (sym c.is_quotable.ensures ∙ c.if-is_quotable.false)
 
 pub returns : goal.returns
-returns c = finds_none c.args.text.now c.loop-n.at c.loop-n.invariant (rw c.new-finder.ensures at c.in_default.ensures)
+returns c = finds_none c.loop-n.invariant (rw c.new-finder.ensures at c.in_default.ensures)

@@ -11,4 +11,4 @@ returns-then-line-eq0 c =
     ])
 
 pub returns : goal.returns
-returns c = unquoted_cases c.args.line.now c.is_quotable.result (omega arith) c.if-line-ne62.false c.is_quotable.ensures
+returns c = unquoted_cases c.args.line.now (omega arith) c.if-line-ne62.false c.is_quotable.ensures

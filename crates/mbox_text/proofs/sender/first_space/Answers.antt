@@ -1,5 +1,4 @@
-use Rattle.std.proofs.Common.{arith, ◌∙◌}
-use Rattle.std.proofs.lemmas.List.{take_all}
+use Rattle.std.proofs.Common.{arith, ◌∙◌, take_all}
 use Rattle.mbox_text.proofs.BuiltLines.{before-found, before-none}
 use Rattle.mbox_text.proofs.sender.first_space.Goals as goal
 

@@ -7,5 +7,5 @@ behind_from-behind-requires c = from-long c.args.from_line.now c.requires.0
 
 pub returns : goal.returns
 returns c =
-    rest-at c.args.from_line.now c.behind_from-behind.result.now c.without_spaces.result.now c.first_space.result c.behind_from-behind.ensures c.first_space.ensures.within c.first_space.ensures.before
+    rest-at c.args.from_line.now c.first_space.result c.behind_from-behind.ensures c.first_space.ensures.within c.first_space.ensures.before
     c.without_spaces.ensures

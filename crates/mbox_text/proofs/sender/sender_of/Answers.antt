@@ -6,4 +6,4 @@ pub behind_from-behind-requires : goal.behind_from-behind-requires
 behind_from-behind-requires c = from-long c.args.from_line.now c.requires.0
 
 pub returns : goal.returns
-returns c = sender-at c.args.from_line.now c.behind_from-behind.result.now c.first_space.result c.behind_from-behind.ensures c.first_space.ensures.before
+returns c = sender-at c.args.from_line.now c.first_space.result c.behind_from-behind.ensures c.first_space.ensures.before

@@ -1,17 +1,17 @@
-use Rattle.std.proofs.Common.{ℕ, ◌+◌, List, ◌∙◌}
+use Rattle.std.proofs.Common.{◌+◌, ◌∙◌}
 use Rattle.std.proofs.lemmas.List.{take_rest}
 use Rattle.mbox_text.proofs.Blocks.{block_there, block_alone}
 use Rattle.mbox_text.proofs.split.first_block.Goals as goal
 
 pub returns-in_ok-from_slice-in-Some : goal.returns-in_ok-from_slice-in-Some
 returns-in_ok-from_slice-in-Some c =
-    let text : List ℕ = c.args.text.now in
-    let head : ℕ = c.in-Some.head in
+    let text = c.args.text.now in
+    let head = c.in-Some.head in
     let body = rw (take_rest text (head + 1)) at c.in_ok-body-in-Some.ensures in
     block_there text head c.in_ok-body-in-Some.body.len (record { from_line = c.new.result; body = c.new-in-Some.result }) c.requires c.in-Some.ensures
     (rw c.new-in-Some.ensures body) (c.new.ensures ∙ c.in_ok-from_slice-in-Some.ensures.items)
 
 pub returns-in_ok-from_slice-in-None : goal.returns-in_ok-from_slice-in-None
 returns-in_ok-from_slice-in-None c =
-    block_alone c.args.text.now (record { from_line = c.new-in-None.result; body = c.new-in-None-3.result }) c.requires c.in-None.ensures
+    block_alone (record { from_line = c.new-in-None.result; body = c.new-in-None-3.result }) c.requires c.in-None.ensures
     (c.new-in-None.ensures ∙ c.in_ok-from_slice-in-None.ensures.items) (c.new-in-None-3.ensures ∙ c.new-in-None-2.ensures.items)

@@ -1,6 +1,5 @@
-use Rattle.std.proofs.Common.{ℕ, ◌++◌, ◌-◌, List, length, take, drop, sym, ◌∙◌, ap}
+use Rattle.std.proofs.Common.{ℕ, ◌++◌, ◌-◌, List, length, take, drop, sym, ◌∙◌, ap, flat_map}
 use Rattle.std.proofs.lemmas.List.{take_rest}
-use Rattle.std.specs.List.{flat_map}
 use Rattle.mbox_text.specs.Lines.{lines}
 use Rattle.mbox_text.specs.Quoting.{unquoted, begins_from}
 use Rattle.mbox_text.specs.Held.{chopped}
@@ -10,19 +9,19 @@ use Rattle.mbox_text.proofs.split.first_body.Goals.{then-not-begins_with_from+in
 
 pub returns : goal.returns
 returns c =
-    let text : List ℕ = c.args.text.now in
-    let n : ℕ = c.in_ok-len.len in
+    let text = c.args.text.now in
+    let n = c.in_ok-len.len in
     let lines_are = c.in_ok-len.ensures in
     let added = rw c.new-bytes.ensures.items at lines_are.added in
-    let A : List ℕ → List ℕ = λ z. z ++ unquoted (take (length text - n) (drop n text)) in
-    let B : List ℕ → List ℕ = λ z. flat_map unquoted (lines (take n text)) ++ unquoted z in
+    let A = λ (z : List ℕ). z ++ unquoted (take (length text - n) (drop n text)) in
+    let B = λ (z : List ℕ). flat_map unquoted (lines (take n text)) ++ unquoted z in
     elim (c.if-not-begins_with_from.branch) [
       | then-not-begins_with_from+in_ok-add_unquoted w ↦
-          rw w.len-is (body_ends text c.drop_blank.new.body.items n lines_are.ended lines_are.none
+          rw w.len-is (body_ends n lines_are.ended lines_are.none
           (ap begins_from (sym (take_rest text n)) ∙ sym w.if-not-begins_with_from.ensures) lines_are.stops
           (c.drop_blank.ensures ∙ ap (λ v. chopped v.items) w.bytes-is ∙ ap chopped (w.in_ok-add_unquoted.ensures ∙ ap A added ∙ ap B (take_rest text n))))
       | else-not-begins_with_from w ↦
-          rw w.len-is (body_stops text c.drop_blank.new.body.items n lines_are.within lines_are.ended lines_are.none
+          rw w.len-is (body_stops lines_are.within lines_are.ended lines_are.none
           (ap begins_from (sym (take_rest text n)) ∙ sym w.if-not-begins_with_from.ensures)
           (c.drop_blank.ensures ∙ ap (λ v. chopped v.items) w.bytes-is ∙ ap chopped added))
     ]

@@ -14,53 +14,52 @@ add_part-requires-in-None c = none-there _ c.in-None.ensures
 
 pub returns-in_ok-end_line-in-Some-clause-moved : goal.returns-in_ok-end_line-in-Some-clause-moved
 returns-in_ok-end_line-in-Some-clause-moved c =
-    let text : List ℕ = c.args.text.now in
-    let at : ℕ = c.in_ok-at.at in
-    let n : ℕ = c.in-Some.n in
-    let rest : List ℕ = take (length text - at) (drop at text) in
+    let text = c.args.text.now in
+    let at = c.in_ok-at.at in
+    let n = c.in-Some.n in
+    let rest = take (length text - at) (drop at text) in
     let h = line-there rest n c.in-Some.ensures in
-    let T : ℕ → List ℕ = λ m. take m text in
-    let A : List ℕ → List ℕ = λ z. take at text ++ z in
+    let T = λ (m : ℕ). take m text in
+    let A = λ (z : List ℕ). take at text ++ z in
     let size : at + n + 1 ≡ at + (n + 1) = omega arith in
-    let front : take (at + n + 1) text ≡ (take at text ++ take n rest) ++ 10 ∷ [] =
-    ap T size ∙ take-at text at (n + 1) ∙ ap A h.is ∙ sym (append_assoc (take at text) (take n rest) (10 ∷ [])) in
+    let front = ap T size ∙ take-at text at (n + 1) ∙ ap A h.is ∙ sym (append_assoc (take at text) (take n rest) (10 ∷ [])) in
     let g = gives_then c.args.self.now c.take_body_lines.new.self c.add_part.new.self _ _ _ _ _ (gives_none c.args.self.now c.take_body_lines.new.self _ _ c.args.out.now.items refl c.in_ok-at.ensures.held) c.in_ok-add_part-in-Some.ensures.moved in
     rw front (gives_then c.args.self.now c.add_part.new.self c.end_line.new.self _ _ _ _ _ g (gives_none c.add_part.new.self c.end_line.new.self _ _ c.add_part.new.out.items refl c.in_ok-end_line-in-Some.ensures.moved))
 
 pub returns-in_err-at-clause-stopped : goal.returns-in_err-at-clause-stopped
 returns-in_err-at-clause-stopped c =
     handed_on c.from_residual.result OutOfMemory _ c.from_residual.ensures
-    (stops_at OutOfMemory c.args.self.now c.args.self.now c.args.text.now [] [] c.args.text.now _ _ (gives_nothing c.args.self.now c.args.out.now.items) tt refl)
+    (stops_at OutOfMemory c.args.self.now c.args.self.now [] [] c.args.text.now _ _ (gives_nothing c.args.self.now c.args.out.now.items) tt refl)
 
 pub returns-in_err-add_part-in-Some-clause-stopped : goal.returns-in_err-add_part-in-Some-clause-stopped
 returns-in_err-add_part-in-Some-clause-stopped c =
-    let text : List ℕ = c.args.text.now in
-    let at : ℕ = c.in_ok-at.at in
-    let n : ℕ = c.in-Some.n in
-    let rest : List ℕ = take (length text - at) (drop at text) in
+    let text = c.args.text.now in
+    let at = c.in_ok-at.at in
+    let n = c.in-Some.n in
+    let rest = take (length text - at) (drop at text) in
     let g = gives_none c.args.self.now c.take_body_lines.new.self (take at text) _ _ c.in_err-add_part-in-Some.ensures.kept c.in_ok-at.ensures.held in
     handed_on c.from_residual-in_err-add_part-in-Some.result _ _ c.from_residual-in_err-add_part-in-Some.ensures
-    (stops_at _ c.args.self.now c.take_body_lines.new.self text (take at text) (take n rest) (drop n rest) _ _ g c.in_err-add_part-in-Some.ensures.stopped (three-parts text at n))
+    (stops_at _ c.args.self.now c.take_body_lines.new.self (take at text) (take n rest) (drop n rest) _ _ g c.in_err-add_part-in-Some.ensures.stopped (three-parts text at n))
 
 pub returns-in_err-end_line-in-Some-clause-stopped : goal.returns-in_err-end_line-in-Some-clause-stopped
 returns-in_err-end_line-in-Some-clause-stopped c =
-    let text : List ℕ = c.args.text.now in
-    let at : ℕ = c.in_ok-at.at in
-    let n : ℕ = c.in-Some.n in
-    let rest : List ℕ = take (length text - at) (drop at text) in
+    let text = c.args.text.now in
+    let at = c.in_ok-at.at in
+    let n = c.in-Some.n in
+    let rest = take (length text - at) (drop at text) in
     let h = line-there rest n c.in-Some.ensures in
-    let W : List ℕ → List ℕ = λ z. take at text ++ (z ++ drop (n + 1) rest) in
+    let W = λ (z : List ℕ). take at text ++ (z ++ drop (n + 1) rest) in
     let is : text ≡ (take at text ++ take n rest) ++ ((10 ∷ []) ++ drop (n + 1) rest) = three-parts text at (n + 1) ∙ ap W h.is ∙ (simp append_assoc) in
     let g = gives_then c.args.self.now c.take_body_lines.new.self c.add_part.new.self _ _ _ _ _ (gives_none c.args.self.now c.take_body_lines.new.self _ _ c.args.out.now.items refl c.in_ok-at.ensures.held) c.in_ok-add_part-in-Some.ensures.moved in
     handed_on c.from_residual-in_err-end_line-in-Some.result _ _ c.from_residual-in_err-end_line-in-Some.ensures
-    (stops_at _ c.args.self.now c.add_part.new.self text (take at text ++ take n rest) (10 ∷ []) (drop (n + 1) rest) _ _ g c.in_err-end_line-in-Some.ensures.stopped is)
+    (stops_at _ c.args.self.now c.add_part.new.self (take at text ++ take n rest) (10 ∷ []) (drop (n + 1) rest) _ _ g c.in_err-end_line-in-Some.ensures.stopped is)
 
 pub returns-in_err-add_part-in-None-clause-stopped : goal.returns-in_err-add_part-in-None-clause-stopped
 returns-in_err-add_part-in-None-clause-stopped c =
-    let text : List ℕ = c.args.text.now in
-    let at : ℕ = c.in_ok-at.at in
-    let rest : List ℕ = take (length text - at) (drop at text) in
+    let text = c.args.text.now in
+    let at = c.in_ok-at.at in
+    let rest = take (length text - at) (drop at text) in
     let is : text ≡ take at text ++ (rest ++ []) = rw (append-nil rest, take_rest text at) (sym (take-append-drop at text)) in
     let g = gives_none c.args.self.now c.take_body_lines.new.self (take at text) _ _ c.in_err-add_part-in-None.ensures.kept c.in_ok-at.ensures.held in
     handed_on c.from_residual-in_err-add_part-in-None.result _ _ c.from_residual-in_err-add_part-in-None.ensures
-    (stops_at _ c.args.self.now c.take_body_lines.new.self text (take at text) rest [] _ _ g c.in_err-add_part-in-None.ensures.stopped is)
+    (stops_at _ c.args.self.now c.take_body_lines.new.self (take at text) rest [] _ _ g c.in_err-add_part-in-None.ensures.stopped is)

@@ -1,4 +1,4 @@
-use Rattle.std.proofs.Common.{◌≡◌, ◌++◌, ℕ, List, vec_len, ap, sym, refl, ◌∙◌, arith, Ok, Err, Some, None}
+use Rattle.std.proofs.Common.{◌++◌, vec_len, ap, sym, refl, ◌∙◌, arith, Ok, Err, Some, None}
 use Rattle.std.proofs.lemmas.Bool.{eqb-true, eqb-false}
 use Rattle.std.proofs.lemmas.List.{nil_from_length}
 use Rattle.std.proofs.lemmas.Result.{err_from_is_err_and}
@@ -13,7 +13,7 @@ returns-in_err-close_with-in-Some-clause-no_from_line c =
     let p = err_from_is_err_and c.from_residual.result c.from_residual.ensures.1 in
     let p1 = p.1 in
     let p2 = p.2 in
-    not_short_body c.args.self c.in-Some.message c.from_residual.result c.in-Some.is (λ e. absurd (cc (p1, p2)))
+    not_short_body c.args.self c.from_residual.result c.in-Some.is (λ e. absurd (cc (p1, p2)))
 
 pub returns-then-is_empty-clause-last : goal.returns-then-is_empty-clause-last
 returns-then-is_empty-clause-last c =
@@ -25,26 +25,26 @@ returns-then-is_empty-clause-no_from_line c =
 
 pub returns-then-not-begins_with_from-clause-no_from_line : goal.returns-then-not-begins_with_from-clause-no_from_line
 returns-then-not-begins_with_from-clause-no_from_line c =
-    let some : vec_len c.args.self.line ≡ 0 → ⊥ = eqb-false (vec_len c.args.self.line) 0 (sym c.if-is_empty.ensures) in
-    short_refused c.args.self c.deref-in-None.result.now (Err _) refl c.in-None.is (omega (arith, some, c.args.self.line.ok)) c.deref-in-None.ensures.value (sym c.if-not-begins_with_from.ensures)
+    let some = eqb-false (vec_len c.args.self.line) 0 (sym c.if-is_empty.ensures) in
+    short_refused c.args.self (Err _) refl c.in-None.is (omega (arith, some, c.args.self.line.ok)) c.deref-in-None.ensures.value (sym c.if-not-begins_with_from.ensures)
 
 pub returns-in_ok-close_with-in-Some-clause-last : goal.returns-in_ok-close_with-in-Some-clause-last
 returns-in_ok-close_with-in-Some-clause-last c =
-    let F : PartialMessage → List ℕ = λ v. v.from_line.items in
-    let B : PartialMessage → List ℕ = λ v. chopped (v.body.items ++ unquoted c.deref.result.now) in
+    let F = λ (v : PartialMessage). v.from_line.items in
+    let B = λ (v : PartialMessage). chopped (v.body.items ++ unquoted c.deref.result.now) in
     let e = c.in_ok-close_with-in-Some.ensures in
     ends_some c.args.self _
-    (ends_body c.args.self c.in-Some.message _ c.deref.result.now c.in-Some.is c.deref.ensures.value (e.from_line ∙ ap F c.in-Some.message-is) (e.body ∙ ap B c.in-Some.message-is))
+    (ends_body c.args.self _ c.deref.result.now c.in-Some.is c.deref.ensures.value (e.from_line ∙ ap F c.in-Some.message-is) (e.body ∙ ap B c.in-Some.message-is))
 
 pub returns-in_ok-close_with-in-Some-clause-no_from_line : goal.returns-in_ok-close_with-in-Some-clause-no_from_line
-returns-in_ok-close_with-in-Some-clause-no_from_line c = not_short_body c.args.self c.in-Some.message (Ok (Some c.in_ok-close_with-in-Some.field-0)) c.in-Some.is (λ e. absurd (cc))
+returns-in_ok-close_with-in-Some-clause-no_from_line c = not_short_body c.args.self (Ok (Some c.in_ok-close_with-in-Some.field-0)) c.in-Some.is (λ e. absurd (cc))
 
 pub returns-else-not-begins_with_from-clause-last : goal.returns-else-not-begins_with_from-clause-last
 returns-else-not-begins_with_from-clause-last c =
     ends_some c.args.self (record { from_line = c.new.result; body = c.new-in-None-2.result })
-    (ends_head c.args.self _ c.deref-in-None.result.now c.in-None.is c.deref-in-None.ensures.value (sym c.if-not-begins_with_from.ensures) c.new.ensures (c.new-in-None-2.ensures ∙ c.new-in-None.ensures.items))
+    (ends_head c.args.self _ c.in-None.is c.deref-in-None.ensures.value (sym c.if-not-begins_with_from.ensures) c.new.ensures (c.new-in-None-2.ensures ∙ c.new-in-None.ensures.items))
 
 pub returns-else-not-begins_with_from-clause-no_from_line : goal.returns-else-not-begins_with_from-clause-no_from_line
 returns-else-not-begins_with_from-clause-no_from_line c =
-    not_short_head c.args.self c.deref-in-None.result.now (Ok (Some (record { from_line = c.new.result; body = c.new-in-None-2.result }))) c.in-None.is c.deref-in-None.ensures.value
+    not_short_head c.args.self (Ok (Some (record { from_line = c.new.result; body = c.new-in-None-2.result }))) c.in-None.is c.deref-in-None.ensures.value
     (sym c.if-not-begins_with_from.ensures) (λ e. absurd (cc))

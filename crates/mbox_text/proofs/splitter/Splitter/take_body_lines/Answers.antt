@@ -1,12 +1,11 @@
-use Rattle.std.proofs.Common.{vec_len, arith, rules, sym}
-use Rattle.std.proofs.lemmas.Bool.{eqb-true}
+use Rattle.std.proofs.Common.{vec_len, arith, rules, sym, eqb-true}
 use Rattle.std.proofs.lemmas.List.{nil_from_length}
 use Rattle.mbox_text.proofs.Fields.{lines_taken}
 use Rattle.mbox_text.proofs.splitter.Splitter.take_body_lines.Goals as goal
 
 pub returns-in-Some-clause-held : goal.returns-in-Some-clause-held
 returns-in-Some-clause-held c =
-    lines_taken c.take_lines.result c.args.self.now.message c.in-Some.message c.args.self.now.line.items c.take_lines.new.body.items c.args.text.now c.in-Some.is
+    lines_taken c.take_lines.result c.take_lines.new.body.items c.args.text.now c.in-Some.is
     (nil_from_length c.args.self.now.line.items (omega (arith, eqb-true (vec_len c.args.self.now.line) 0 (sym c.if-not-is_empty.ensures), c.args.self.now.line.ok)))
     c.take_lines.ensures.added c.take_lines.ensures.ended c.take_lines.ensures.none
 

@@ -1,4 +1,4 @@
-use Rattle.std.proofs.Common.{◌≡◌, ℕ, ◌-◌, ◌++◌, List, length, take, drop, arith, ◌∙◌, sym, refl}
+use Rattle.std.proofs.Common.{◌≡◌, ◌-◌, ◌++◌, length, take, drop, arith, ◌∙◌, sym, refl}
 use Rattle.std.proofs.lemmas.List.{take-append-drop, take_rest, length-drop}
 use Rattle.mbox_text.proofs.Fields.{take-at}
 use Rattle.mbox_text.proofs.Giving.{gives_nothing, gives_then, stops_behind, handed_on}
@@ -9,8 +9,8 @@ loop-at-init c = record { within = omega arith; same = refl; gives = gives_nothi
 
 pub loop-at-preserved : goal.loop-at-preserved
 loop-at-preserved c =
-    let piece : List ℕ = c.args.piece.now in
-    let at : ℕ = c.loop-at.at in
+    let piece = c.args.piece.now in
+    let at = c.loop-at.at in
     let e = c.in_ok-at.ensures in
     let w = rw (take_rest piece at) at e.within in
     record {
@@ -21,9 +21,9 @@ loop-at-preserved c =
 
 pub returns-in_err-at-clause-stopped : goal.returns-in_err-at-clause-stopped
 returns-in_err-at-clause-stopped c =
-    let piece : List ℕ = c.args.piece.now in
-    let at : ℕ = c.loop-at.at in
-    let rest : List ℕ = take (length piece - at) (drop at piece) in
+    let piece = c.args.piece.now in
+    let at = c.loop-at.at in
+    let rest = take (length piece - at) (drop at piece) in
     let whole : piece ≡ take at piece ++ rest = rw (take_rest piece at) (sym (take-append-drop at piece)) in
     handed_on c.from_residual.result _ _ c.from_residual.ensures
-    (stops_behind _ c.args.self.now c.loop-at.self piece (take at piece) rest _ _ _ c.loop-at.invariant.gives c.in_err-at.ensures.stopped whole)
+    (stops_behind (take at piece) c.loop-at.invariant.gives c.in_err-at.ensures.stopped whole)
