@@ -1,6 +1,6 @@
 -- Where the messages are delivered, an undisturbed run has nothing to do.
-use Rattle.std.proofs.Common.{◌≡◌, ℕ, ◌+◌, ◌%◌, ◌^◌, length, Ok, arith, true, cond, not, List, [], ◌∷◌, All, None, IsTrue, refl, sym, ap, ◌∙◌, inl, inr}
-use Rattle.maildir_run.proofs.Common.{get, retain_keys, same_map, empty, get-empty, len, len-empty, cases_Bool, All-head, All-tail, is_converter_name, Files, FileMap, name_cmp, Message, is_any, has_home, IsHome, IsSwept, Delivered, there_count, leftover_count, IsPermutation-refl, Report, MessagesOf, Run, CountsRun, swept, added, filled, alone}
+use Rattle.std.proofs.Common.{◌≡◌, ℕ, ◌+◌, ◌%◌, ◌^◌, length, Ok, arith, true, cond, not, List, [], ◌∷◌, All, None, IsTrue, refl, ap, ◌∙◌, inr}
+use Rattle.maildir_run.proofs.Common.{get, retain_keys, same_map, empty, get-empty, len, len-empty, All-head, All-tail, is_converter_name, Files, FileMap, name_cmp, Message, is_any, has_home, IsHome, IsSwept, Delivered, there_count, leftover_count, IsPermutation-refl, Report, MessagesOf, Run, CountsRun, swept, added, filled, alone}
 use Rattle.maildir_run.proofs.Leftovers.{leftovers_are}
 use Rattle.maildir_run.proofs.Numbers.{count-cons}
 use Rattle.maildir_run.proofs.Maps.{total, same, get_under}

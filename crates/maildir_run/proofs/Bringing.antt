@@ -1,5 +1,5 @@
 -- Messages that are brought one after the other.
-use Rattle.std.proofs.Common.{◌≡◌, ℕ, ◌+◌, Bool, true, false, cond, List, [], ◌∷◌, ◌++◌, length, Option, Some, None, Result, Ok, Err, refl, sym, ap, inr, subst, ◌∙◌, arith, append_assoc, length-append, IsErrAnd, append-nil}
+use Rattle.std.proofs.Common.{◌≡◌, ℕ, ◌+◌, Bool, true, false, cond, List, [], ◌∷◌, ◌++◌, length, Option, Some, None, Result, Ok, Err, refl, sym, ap, inr, ◌∙◌, arith, append_assoc, length-append, IsErrAnd, append-nil}
 use Rattle.maildir_run.proofs.Common.{flat_map-append, Target, Counts, Named, target, targets, targets-push, RunFault, OutOfMemory, fault_of, message_at, Seen, Ran, Brought, messages_after, delivery_of, delivery_if, deliveries_of}
 use Rattle.maildir_run.proofs.Reach.{last_is}
 use Rattle.maildir_run.proofs.Tasks.{ran_none, ran_nothing, ran_then, ran_before}

@@ -1,5 +1,5 @@
 -- What a call has read where it ends, and the numbers of its calls and messages.
-use Rattle.std.proofs.Common.{◌≡◌, ℕ, suc, ◌+◌, ◌*◌, ◌<◌, ◌≤◌, ◌^◌, Bool, false, true, cond, Option, Ok, List, [], ◌++◌, length, ap, subst, arith, length-append}
+use Rattle.std.proofs.Common.{◌≡◌, ℕ, suc, ◌+◌, ◌*◌, ◌<◌, ◌≤◌, ◌^◌, Bool, false, true, cond, Option, Ok, List, [], ◌++◌, length, ap, arith, length-append}
 use Rattle.maildir_run.proofs.Common.{Consumes-nil, Entry, Splitter, Messages, ReadsAtMost, Went}
 
 -- ---- what was read

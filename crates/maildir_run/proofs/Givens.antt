@@ -1,6 +1,6 @@
 -- What one more read gives, and what a refused one leaves.
-use Rattle.std.proofs.Common.{◌≡◌, ℕ, ◌*◌, ◌<◌, ◌≤◌, Bool, true, false, Option, Some, Ok, List, [], ◌∷◌, ◌++◌, length, refl, sym, ◌∙◌, ap, subst, arith, append_assoc, inl, inr, ◌==◌, eqb-true, eq-eqb, append-nil, length-append}
-use Rattle.maildir_run.proofs.Common.{Consumes, IsAtEnd, Consumes-trans, append_cancel_right, Entry, Splitter, Mbox, IsUnreadable, Fed, AllButLast, mbox-one, begins_from-more, RunFault, NoFromLine, Messages, Breaks, Went, Front, Gave, GaveAll, IsGiven, Refused, Possible}
+use Rattle.std.proofs.Common.{◌≡◌, ℕ, ◌*◌, ◌<◌, ◌≤◌, Bool, true, false, Option, Some, Ok, List, [], ◌∷◌, ◌++◌, length, refl, sym, ◌∙◌, ap, arith, append_assoc, inl, inr, ◌==◌, eqb-true, eq-eqb, append-nil, length-append}
+use Rattle.maildir_run.proofs.Common.{Consumes, IsAtEnd, Consumes-trans, append_cancel_right, Entry, Splitter, Mbox, IsUnreadable, AllButLast, mbox-one, begins_from-more, RunFault, NoFromLine, Messages, Breaks, Went, Front, Gave, IsGiven, Refused, Possible}
 use Rattle.mbox_text.proofs.Existence.{read_where}
 use Rattle.mbox_text.proofs.Giving.{all_stay}
 use Rattle.maildir_run.proofs.MessageLemmas.{mbox-length}

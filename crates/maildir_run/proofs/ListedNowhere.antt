@@ -1,5 +1,5 @@
 -- A base that two listings do not show has no home.
-use Rattle.std.proofs.Common.{◌≡◌, ℕ, true, false, cond, ◌||◌, List, [], ◌∷◌, Option, Some, None, IsPermutation, IsTrue, IsFalse, refl, sym, ap, subst, ◌∙◌, inl, inr}
+use Rattle.std.proofs.Common.{◌≡◌, ℕ, true, false, cond, List, [], ◌∷◌, Option, Some, None, IsPermutation, IsTrue, IsFalse, refl, sym, ap, ◌∙◌, inl, inr}
 use Rattle.maildir_run.proofs.Common.{list_any, get, remove, insert, keys, contains_key-keys, get-remove, or_parts, cases_Bool, list_any-IsPermutation, Sub, New, Cur, is_converter_base, is_converter_name, is_name, FileMap, Files, has_base, held_under, homes, Action, ToCur, Reflag, DropTmp, Outside, may_take, to_cur, reflag, acted, all_acted, Listing, Move, Other, Again, moved, after, Lists}
 use Rattle.maildir_run.proofs.Maps.{nothing, total, is_name-true}
 use Rattle.maildir_run.proofs.Homes.{same_both, held-outsiders_of}

@@ -1,6 +1,6 @@
 -- What a call's moves leave: of the homes of a base, and of a name in tmp.
-use Rattle.std.proofs.Common.{◌≡◌, ℕ, Bool, true, false, cond, List, [], ◌∷◌, ◌++◌, ◌⊎◌, Option, Some, None, IsPermutation, IsTrue, refl, sym, ap, subst, ◌∙◌, inl, inr, map, arith, is_some}
-use Rattle.maildir_run.proofs.Common.{get, insert, remove, values, contains_key, entries, retain_keys, empty, get-entries, get-insert, get-remove, get-empty, same_map, len, len-empty, len-entries, cases_Bool, All-nil, All-cons, All-head, nil_from_length, IsPermutation-refl, IsPermutation-sym, IsPermutation-trans, IsPermutation-middle, IsPermutation-append_left, IsPermutation-append_right, length_permutation, All-permutation, is_converter_name, is_converter_base, name_cmp, is_name, FileMap, Files, has_base, held_under, homes, Action, ToCur, Reflag, DropTmp, Outside, may_take, to_cur, reflag, acted, Call, Listing, Writing, Placing, Removing, Move, Other, Again, Torn, placed, effect, torn, moved, after, IsOthers, IsWhole, Succeeded, PlacesElsewhere, WritesElsewhere, StaysOrGoes}
+use Rattle.std.proofs.Common.{◌≡◌, ℕ, true, false, cond, List, [], ◌∷◌, ◌++◌, ◌⊎◌, Option, Some, None, IsPermutation, IsTrue, refl, sym, ap, subst, ◌∙◌, inl, inr, map, arith, is_some}
+use Rattle.maildir_run.proofs.Common.{get, insert, remove, values, contains_key, entries, retain_keys, empty, get-entries, get-insert, get-empty, same_map, len, len-empty, len-entries, cases_Bool, All-nil, All-cons, nil_from_length, IsPermutation-refl, IsPermutation-sym, IsPermutation-trans, IsPermutation-middle, IsPermutation-append_left, IsPermutation-append_right, length_permutation, All-permutation, is_converter_name, is_converter_base, name_cmp, is_name, FileMap, Files, has_base, held_under, homes, Action, ToCur, Reflag, DropTmp, Outside, may_take, to_cur, reflag, acted, Call, Listing, Writing, Placing, Removing, Move, Other, Again, Torn, placed, effect, torn, moved, after, IsOthers, IsWhole, Succeeded, PlacesElsewhere, WritesElsewhere, StaysOrGoes}
 use Rattle.maildir_name.specs.declared.target.Place.{Place}
 use Rattle.maildir_name.specs.declared.target.Place.TheVariants.{New, Cur}
 use Rattle.maildir_run.proofs.Maps.{total, same, get_under, get_removed, get-insert_same, get-remove_same}

@@ -1,6 +1,6 @@
 -- For one text, what is said of several is what is said of it.
-use Rattle.std.proofs.Common.{◌≡◌, ℕ, zero, suc, ◌<◌, ◌&&◌, ◌||◌, ◌⊎◌, true, false, List, [], ◌∷◌, length, get_or, map, bytes_eq, All, Contains, refl, sym, ap, subst, ◌∙◌, inl, inr, arith}
-use Rattle.maildir_run.proofs.Common.{bytes_decides, or-false, cases_lt, and_parts, or_parts, eq_by_cmp_equiv, All-head, All-from_get_or, Files, is_name, Message, IsMissing, IsSoundAt, AreDistinct, Sound, is_base_of, Run, Link, Acted, Linked, Runs}
+use Rattle.std.proofs.Common.{◌≡◌, ℕ, zero, suc, ◌<◌, ◌&&◌, ◌||◌, ◌⊎◌, true, false, List, [], ◌∷◌, length, get_or, map, bytes_eq, All, Contains, refl, sym, ap, ◌∙◌, inl, inr, arith}
+use Rattle.maildir_run.proofs.Common.{bytes_decides, or-false, cases_lt, and_parts, or_parts, eq_by_cmp_equiv, All-head, All-from_get_or, Files, is_name, Message, IsMissing, IsSoundAt, AreDistinct, Sound, is_base_of, Link, Acted, Linked, Runs}
 use Rattle.maildir_run.specs.Runs.{Ran}
 use Rattle.maildir_run.specs.Several.{Text, IsText, HoldsGiven, SoundForAll, LinkOver, RanOver, ActedOver, LinkedOver, RunsOver, link_over, link_of}
 use Rattle.maildir_run.proofs.Chains.{chain_map}

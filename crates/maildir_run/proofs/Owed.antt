@@ -1,6 +1,6 @@
 -- What a run owes where it ends, from the tasks that it performed.
-use Rattle.std.proofs.Common.{◌≡◌, ℕ, ◌+◌, ◌*◌, ◌<◌, ◌≤◌, ◌^◌, Bool, true, false, cond, Option, Some, None, List, [], ◌∷◌, ◌++◌, length, All, Result, Ok, Err, IfOk, OnOk, IsPermutation, IsTrue, refl, sym, ap, subst, ◌∙◌, inl, inr, arith, append_assoc, length-append, IsErrOf, filter, append-nil}
-use Rattle.maildir_run.proofs.Common.{get, keys, length-map, All-head, All-tail, length-filter, count_by-le-length, IsAtEnd, Entry, Target, base, is_converter_name, is_converter_base, RunFault, NoFromLine, TooManyReads, Report, swept, filled, alone, Conversion, Tells, run_tasks, Seen, Ran, sweep_of, delivery_of, delivery_if, deliveries_of, fault_of, capped, IsNumbered, Makes, Numbers, Left, Message, IsSoundAt, IsMissing, Delivered, AreDistinct, Sound, has_home, there_count, leftover_count, Files, GaveAll, Refused, is_listed, TmpWithin, Knows, Progress, IsTarget, LeavesOthers, ReadsAtLeast, Possible, Keeps, Run, CountsRun, Link, Runs, Mbox, Task, Do, Performs, AllDone, Stopped, reported, undisturbed, Names, listings, planned_tasks, Way, leaving, Removing, messages_of, bodies_of, MessagesOf, flat_map-append}
+use Rattle.std.proofs.Common.{◌≡◌, ℕ, ◌+◌, ◌*◌, ◌<◌, ◌≤◌, ◌^◌, Bool, true, false, cond, Option, Some, None, List, [], ◌∷◌, ◌++◌, length, All, Result, Ok, Err, IfOk, OnOk, IsTrue, refl, sym, ap, subst, ◌∙◌, inl, inr, arith, append_assoc, length-append, IsErrOf, filter, append-nil}
+use Rattle.maildir_run.proofs.Common.{get, keys, length-map, All-head, All-tail, length-filter, count_by-le-length, IsAtEnd, Entry, Target, base, is_converter_name, is_converter_base, RunFault, NoFromLine, TooManyReads, Report, swept, filled, alone, Conversion, Tells, run_tasks, Seen, Ran, sweep_of, delivery_of, delivery_if, deliveries_of, fault_of, capped, IsNumbered, Numbers, Left, Message, IsSoundAt, IsMissing, Delivered, AreDistinct, Sound, has_home, there_count, leftover_count, Files, GaveAll, Refused, is_listed, TmpWithin, Knows, Progress, IsTarget, LeavesOthers, ReadsAtLeast, Possible, Keeps, Run, CountsRun, Link, Runs, Mbox, Task, Do, Performs, AllDone, Stopped, reported, undisturbed, Names, listings, planned_tasks, Way, leaving, Removing, messages_of, bodies_of, MessagesOf, flat_map-append}
 use Rattle.std.proofs.lemmas.Result.{on_ok_weaker, IfErr-at_err}
 use Rattle.maildir_run.proofs.CallCounts.{run_counts}
 use Rattle.maildir_run.proofs.Maps.{is_name-true}

@@ -1,5 +1,5 @@
 -- What a run asks of its folder is what is planned for its messages.
-use Rattle.std.proofs.Common.{◌≡◌, ℕ, ◌+◌, Bool, true, false, cond, List, [], ◌∷◌, ◌++◌, map, length, refl, ap, subst, ◌∙◌, arith, append_assoc, length-append, filter, flat_map, append-nil}
+use Rattle.std.proofs.Common.{◌≡◌, ℕ, ◌+◌, Bool, true, false, cond, List, [], ◌∷◌, ◌++◌, map, length, refl, ap, ◌∙◌, arith, append_assoc, length-append, filter, flat_map, append-nil}
 use Rattle.maildir_run.proofs.Common.{drop-append_seam, flat_map-append, is_converter_name, Remove, Write, Place, Removing, Message, is_listed, planned, removals, delivery, deliveries_from, Do, Names, listings, task_of, tasks_of, planned_tasks, sweep_of, delivery_of, delivery_if, deliveries_of}
 
 -- ---- the removals

@@ -1,6 +1,6 @@
 -- What a run's calls leave in a quiet folder.
-use Rattle.std.proofs.Common.{◌≡◌, ℕ, Bool, true, false, cond, not, ◌&&◌, ◌||◌, List, [], ◌∷◌, map, Option, Some, None, IsPermutation, IsTrue, IsFalse, refl, sym, ap, ◌∙◌, inl, inr, arith, filter}
-use Rattle.maildir_run.proofs.Common.{list_any, get, insert, remove, keys, retain_keys, same_map, get-insert, get-remove, contains_key-keys, cases_Bool, false_from_ne_true, any-filter_same, list_any-IsPermutation, is_converter_name, Files, FileMap, is_name, Call, Listing, Writing, Placing, Removing, Move, Other, Again, Torn, after, effect, placed, torn, IsOwn, swept, added, Message, LeavesOthers, Do, undisturbed, AllDone, sweep_of}
+use Rattle.std.proofs.Common.{◌≡◌, ℕ, Bool, true, false, cond, not, List, [], ◌∷◌, map, Option, Some, None, IsPermutation, IsTrue, IsFalse, refl, sym, ap, ◌∙◌, arith, filter}
+use Rattle.maildir_run.proofs.Common.{list_any, get, insert, remove, keys, retain_keys, same_map, contains_key-keys, any-filter_same, list_any-IsPermutation, is_converter_name, Files, FileMap, is_name, Call, Listing, Writing, Placing, Removing, Move, Other, Again, Torn, after, effect, placed, torn, IsOwn, swept, added, Message, LeavesOthers, Do, undisturbed, AllDone, sweep_of}
 use Rattle.maildir_name.specs.declared.target.Place.{Place}
 use Rattle.maildir_name.specs.declared.target.Place.TheVariants.{New, Cur}
 use Rattle.maildir_run.proofs.Maps.{nothing, total, same, is_name-true, alike, get_under, get_inserted, get_removed, get-insert_same, put_away}

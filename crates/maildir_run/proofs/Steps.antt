@@ -1,6 +1,6 @@
 -- What one call of a run gives, in the words of a run.
 use Rattle.std.proofs.Common.{◌≡◌, ℕ, true, false, ◌||◌, List, [], ◌∷◌, ◌++◌, Some, None, IsPermutation, IsTrue, IsFalse, refl, sym, ap, subst, ◌∙◌, inl, inr, is_some}
-use Rattle.maildir_run.proofs.Common.{list_any, get, keys, contains_key-keys, or-true, or_parts, cases_Bool, false_from_ne_true, list_any-IsPermutation, IsPermutation-refl, IsPermutation-trans, Sub, Tmp, is_converter_name, is_converter_base, Files, FileMap, is_name, has_base, held_under, homes, Call, Listing, Writing, Placing, Removing, Again, after, effect, Succeeded, Failed, Lists, PlacesElsewhere, WritesElsewhere, StaysOrGoes, Message, IsMissing, IsHome, IsSoundAt, LeavesHomes, TmpWithin, Brings, IsTarget}
+use Rattle.maildir_run.proofs.Common.{list_any, get, keys, contains_key-keys, or-true, or_parts, cases_Bool, false_from_ne_true, list_any-IsPermutation, IsPermutation-refl, IsPermutation-trans, Sub, Tmp, is_converter_name, is_converter_base, Files, FileMap, is_name, has_base, held_under, homes, Call, Listing, Writing, Placing, Removing, Again, after, effect, Succeeded, Failed, Lists, PlacesElsewhere, WritesElsewhere, StaysOrGoes, Message, IsMissing, IsHome, LeavesHomes, TmpWithin, Brings, IsTarget}
 use Rattle.maildir_name.specs.declared.target.Place.{Place}
 use Rattle.maildir_run.proofs.Maps.{nothing, is_name-true, is_name-refl, get-remove_same}
 use Rattle.maildir_run.proofs.Moves.{after_kept, after_tmp, after-append, homes_none, none_held, placing, placing_ok, WrittenOrGone, writing_ok}

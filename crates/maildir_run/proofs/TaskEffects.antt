@@ -1,6 +1,6 @@
 -- What tasks that were performed leave.
-use Rattle.std.proofs.Common.{Option, Some, None, ◌≡◌, ℕ, ◌≤◌, Bool, true, false, cond, List, [], ◌∷◌, ◌++◌, ◌⊎◌, map, length, All, IsPermutation, IsTrue, IsFalse, refl, sym, ap, subst, ◌∙◌, inl, inr, arith, append_assoc, length-append, filter, append-nil}
-use Rattle.maildir_run.proofs.Common.{get, keys, cases_Bool, get_or-append_seam, get_or_append_left, All-head, All-tail, any-filter_same, IsPermutation-refl, IsPermutation-trans, Target, is_converter_name, is_converter_base, RunFault, New, Cur, filled, added, Placing, Removing, Again, Failed, PlacesElsewhere, IsSwept, Message, IsMissing, IsHome, IsSoundAt, AreNamed, AreDistinct, has_home, leftover_count, Files, homes, is_name, is_listed, LeavesHomes, TmpWithin, Brings, Progress, Knows, IsTarget, LeavesOthers, Task, Ask, Do, call_of, Done, Way, reported, undisturbed, AllDone, Stopped, Names, listings, DoneUntil, sweep_of, delivery_of, delivery_if, deliveries_of}
+use Rattle.std.proofs.Common.{Option, Some, None, ◌≡◌, ℕ, ◌≤◌, Bool, true, false, cond, List, [], ◌∷◌, ◌++◌, ◌⊎◌, map, length, All, IsPermutation, IsFalse, refl, sym, ap, subst, ◌∙◌, inl, inr, arith, append_assoc, length-append, filter, append-nil}
+use Rattle.maildir_run.proofs.Common.{get, keys, cases_Bool, get_or-append_seam, get_or_append_left, All-head, All-tail, any-filter_same, Target, is_converter_name, RunFault, New, Cur, filled, added, Placing, Removing, Again, Failed, PlacesElsewhere, IsSwept, Message, IsMissing, IsHome, IsSoundAt, AreNamed, AreDistinct, has_home, leftover_count, Files, homes, is_name, is_listed, LeavesHomes, TmpWithin, Brings, Progress, Knows, IsTarget, LeavesOthers, Task, Ask, Do, call_of, Done, Way, reported, undisturbed, AllDone, Stopped, Names, listings, DoneUntil, sweep_of, delivery_of, delivery_if, deliveries_of}
 use Rattle.maildir_run.specs.Tasks.{Refused}
 use Rattle.maildir_run.proofs.Maps.{is_name-true}
 use Rattle.maildir_run.proofs.Progress.{progress_home, progress_brought, progress_or_more}

@@ -1,5 +1,5 @@
 -- Trees of files, seen as finite maps: what each change leaves.
-use Rattle.std.proofs.Common.{append_assoc, ◌≡◌, ◌&&◌, vec_len, ℕ, Bool, true, false, cond, List, [], ◌∷◌, ◌++◌, map, length, Option, Some, None, refl, sym, ap, subst, ◌∙◌, Bor, String, Vec, Global, string_bytes, option_map, MatchOption, IfSome, is_eq, nat_cmp, string_cmp, string_eq, bytes_eq, append-nil}
+use Rattle.std.proofs.Common.{append_assoc, ◌≡◌, ◌&&◌, vec_len, ℕ, Bool, true, false, cond, List, [], ◌∷◌, ◌++◌, map, length, Option, Some, None, refl, sym, ap, ◌∙◌, Bor, String, Vec, Global, string_bytes, option_map, MatchOption, IfSome, is_eq, nat_cmp, string_cmp, string_eq, bytes_eq, append-nil}
 use Rattle.maildir_run.proofs.Common.{AllZip, each_same, slice_cmp, nat_list_eq_equiv, bytes_decides, get, insert, remove, find, put, empty, entries, keys, len, from_entries, entries-insert, len-empty, len-entries, get-from_entries, get-insert, get-remove, same_map, Less, nil_from_length, length-map, map-append, and_parts, eq_by_cmp_equiv, name_cmp, is_name, FileMap}
 use lib.Pointwise.{pointwise}
 use Rattle.std.specs.Iterator.{Yields}

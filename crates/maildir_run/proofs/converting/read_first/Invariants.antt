@@ -1,4 +1,4 @@
-use Rattle.std.proofs.Common.{◌≡◌, ℕ, List, []}
+use Rattle.std.proofs.Common.{◌≡◌, []}
 use Rattle.maildir_run.proofs.Common.{Gave}
 use Rattle.maildir_run.proofs.converting.read_first.Given as goal
 

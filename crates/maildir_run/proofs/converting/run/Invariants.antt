@@ -1,4 +1,4 @@
-use Rattle.std.proofs.Common.{◌≡◌, ℕ, suc, ◌<◌, false, cond, List, [], ◌++◌, length, None}
+use Rattle.std.proofs.Common.{◌≡◌, suc, ◌<◌, false, cond, List, [], ◌++◌, length, None}
 use Rattle.maildir_run.proofs.Common.{contains_key, Entry, IsGiven, Brought, seen, bodies_of}
 use Rattle.maildir_run.proofs.converting.run.Given as goal
 

@@ -1,5 +1,4 @@
 use Rattle.std.proofs.Common.{inl, inr}
-use Rattle.maildir_run.proofs.Common.{get, after, Placing, NoneOrOne}
 use Rattle.maildir_run.proofs.Moves.{placing, placing_ok}
 use Rattle.maildir_run.proofs.laws.place_brings_one.Goals as goal
 

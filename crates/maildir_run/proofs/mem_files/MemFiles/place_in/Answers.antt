@@ -1,5 +1,5 @@
-use Rattle.std.proofs.Common.{refl, sym, ap, subst, ◌∙◌}
-use Rattle.maildir_run.proofs.Common.{Plain, Twice, files_in, Placing, effect, Answers}
+use Rattle.std.proofs.Common.{refl, ap, ◌∙◌}
+use Rattle.maildir_run.proofs.Common.{Plain, Twice, files_in, Placing, effect}
 use Rattle.maildir_run.proofs.Scripts.{placed_in}
 use Rattle.maildir_run.proofs.mem_files.MemFiles.place_in.Goals as goal
 
