@@ -1,27 +1,12 @@
 -- Where the messages are delivered, an undisturbed run has nothing to do.
-use Rattle.std.proofs.Common.{◌≡◌, ℕ, ◌+◌, ◌%◌, ◌^◌, length, Ok, arith, true, cond, not, List, [], ◌∷◌, All, None, IsTrue, refl, sym, ap, ◌∙◌, inl, inr}
-use Rattle.std.specs.FinMap.{get, retain_keys, same_map, empty, get-empty, len, len-empty}
-use Rattle.std.proofs.lemmas.Bool.{cases_Bool}
-use Rattle.std.proofs.lemmas.List.Elements.{All-head, All-tail}
-use Rattle.maildir_name.specs.Names.{is_converter_name}
-use Rattle.maildir_run.specs.Files.{Files, FileMap, name_cmp}
-use Rattle.maildir_run.specs.Delivery.{Message, is_any, has_home, IsHome, IsSwept, Delivered, there_count, leftover_count}
-use Rattle.std.proofs.lemmas.List.Sorted.{IsPermutation-refl}
-use Rattle.maildir_run.specs.declared.report.Report.{Report}
-use Rattle.maildir_run.specs.Texts.{MessagesOf}
-use Rattle.maildir_run.specs.Runs.{Run, CountsRun}
+use Rattle.std.proofs.Common.{◌≡◌, ℕ, ◌+◌, ◌%◌, ◌^◌, length, Ok, arith, true, cond, not, List, [], ◌∷◌, All, None, IsTrue, refl, ap, ◌∙◌, inr}
+use Rattle.maildir_run.proofs.Common.{get, retain_keys, same_map, empty, get-empty, len, len-empty, All-head, All-tail, is_converter_name, Files, FileMap, name_cmp, Message, is_any, has_home, IsHome, IsSwept, Delivered, there_count, leftover_count, IsPermutation-refl, Report, MessagesOf, Run, CountsRun, swept, added, filled, alone}
 use Rattle.maildir_run.proofs.Leftovers.{leftovers_are}
 use Rattle.maildir_run.proofs.Numbers.{count-cons}
-use Rattle.maildir_run.specs.Alone.{swept, added, filled, alone}
 use Rattle.maildir_run.proofs.Maps.{total, same, get_under}
 
 all_kept : (m : FileMap) → ((name : List ℕ) → IsTrue (is_converter_name name) → get m name ≡ None) → retain_keys m (λ name. not (is_converter_name name)) ≡ m
-all_kept m gone =
-    same_map total same _ _ (λ q.
-    elim (cases_Bool (is_converter_name q)) as (λ _. get (retain_keys m (λ name. not (is_converter_name name))) q ≡ get m q) [
-      | inl on ↦ get_under (λ name. not (is_converter_name name)) m q ∙ ap (λ t. cond (not t) (get m q) None) on ∙ sym (gone q on)
-      | inr off ↦ get_under (λ name. not (is_converter_name name)) m q ∙ ap (λ t. cond (not t) (get m q) None) off
-    ])
+all_kept m gone = same_map total same _ _ (λ q. grind (arith, get_under, gone q))
 
 nothing_swept : (s : Files) → IsSwept s → swept s ≡ s
 nothing_swept s gone = ap (λ m. record s { tmp = m }) (all_kept s.tmp gone)
@@ -37,12 +22,7 @@ pub alone-delivered : (ms : List Message) (s : Files) → Delivered ms s → alo
 alone-delivered ms s d = nothing_filled s ms (swept s) d.homes_are ∙ nothing_swept s d.swept
 
 none_kept : (m : FileMap) → ((name : List ℕ) → IsTrue (is_converter_name name) → get m name ≡ None) → retain_keys m is_converter_name ≡ empty
-none_kept m gone =
-    same_map total same _ _ (λ q.
-    elim (cases_Bool (is_converter_name q)) as (λ _. get (retain_keys m is_converter_name) q ≡ get (empty {R = name_cmp}) q) [
-      | inl on ↦ get_under is_converter_name m q ∙ ap (λ t. cond t (get m q) None) on ∙ gone q on ∙ sym (get-empty name_cmp q)
-      | inr off ↦ get_under is_converter_name m q ∙ ap (λ t. cond t (get m q) None) off ∙ sym (get-empty name_cmp q)
-    ])
+none_kept m gone = same_map total same _ _ (λ q. grind (arith, get_under, gone q, get-empty {X = List ℕ} name_cmp q))
 
 all_there : (s : Files) (ms : List Message) → All (IsHome s) ms → there_count s ms ≡ length ms
 all_there s [] there = refl

@@ -1,11 +1,6 @@
 -- One more entry of a batch.
-use Rattle.std.proofs.Common.{◌≡◌, ℕ, ◌+◌, ◌<◌, ◌≤◌, ◌^◌, List, [], ◌∷◌, ◌++◌, take, drop, length, get_or, sym, ap, ◌∙◌, arith, length-append, append_assoc}
-use Rattle.std.proofs.lemmas.List.{take_more, map-append, append-nil, take-append-drop, length-map, length-take-le, nil_from_length}
-use Rattle.mbox_text.specs.declared.entry.Entry.{Entry}
-use Rattle.maildir_name.specs.Targets.{target}
-use Rattle.maildir_run.specs.Texts.{messages_of, bodies_of}
-use Rattle.maildir_run.specs.Progress.{message_at}
-use Rattle.maildir_run.specs.Parts.{messages_after}
+use Rattle.std.proofs.Common.{◌≡◌, ℕ, ◌+◌, ◌<◌, ◌≤◌, ◌^◌, List, [], ◌∷◌, ◌++◌, take, drop, length, get_or, sym, ap, ◌∙◌, arith, length-append, append_assoc, append-nil, take-append-drop, length-take-le}
+use Rattle.maildir_run.proofs.Common.{take_more, map-append, length-map, nil_from_length, Entry, target, messages_of, bodies_of, message_at, messages_after}
 use Rattle.maildir_run.proofs.MessageLemmas.{messages_of-push, length-messages_of}
 
 -- more bodies give more messages behind

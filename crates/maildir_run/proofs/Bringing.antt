@@ -1,17 +1,6 @@
 -- Messages that are brought one after the other.
-use Rattle.std.proofs.Common.{◌≡◌, ℕ, ◌+◌, Bool, true, false, cond, List, [], ◌∷◌, ◌++◌, length, Option, Some, None, Result, Ok, Err, refl, sym, ap, inr, subst, ◌∙◌, arith, append_assoc, length-append}
-use Rattle.std.specs.Prelude.{IsErrAnd}
-use Rattle.std.proofs.lemmas.List.{append-nil}
-use Rattle.std.proofs.lemmas.List.Concat.{flat_map-append}
-use Rattle.maildir_name.specs.declared.target.Target.{Target}
-use Rattle.maildir_name.specs.Named.{Counts, Named}
-use Rattle.maildir_name.specs.Targets.{target, targets}
-use Rattle.maildir_name.proofs.TargetLemmas.{targets-push}
-use Rattle.maildir_run.specs.declared.fault.RunFault.{RunFault}
-use Rattle.maildir_run.specs.declared.fault.RunFault.TheVariants.{OutOfMemory}
-use Rattle.maildir_run.specs.Counting.{fault_of}
-use Rattle.maildir_run.specs.Progress.{message_at}
-use Rattle.maildir_run.specs.Parts.{Seen, Ran, Brought, messages_after, delivery_of, delivery_if, deliveries_of}
+use Rattle.std.proofs.Common.{◌≡◌, ℕ, ◌+◌, Bool, true, false, cond, List, [], ◌∷◌, ◌++◌, length, Option, Some, None, Result, Ok, Err, refl, sym, ap, inr, ◌∙◌, arith, append_assoc, length-append, IsErrAnd, append-nil}
+use Rattle.maildir_run.proofs.Common.{flat_map-append, Target, Counts, Named, target, targets, targets-push, RunFault, OutOfMemory, fault_of, message_at, Seen, Ran, Brought, messages_after, delivery_of, delivery_if, deliveries_of}
 use Rattle.maildir_run.proofs.Reach.{last_is}
 use Rattle.maildir_run.proofs.Tasks.{ran_none, ran_nothing, ran_then, ran_before}
 
@@ -29,7 +18,7 @@ parts is_there before xs ys = ap (deliveries_of is_there) (messages_after-append
 pub brought_none : (is_there : List ℕ → Bool) (before : List (List ℕ)) (s : Seen) (made placed : ℕ) (namer : Counts) → Named before namer → Brought is_there before [] s s made made placed placed namer None
 brought_none is_there before s made placed namer named = record {
   ran = ran_none s made;
-  named = λ e. subst (λ bs. Named bs namer) (sym (append-nil before)) named;
+  named = λ e. rw (append-nil before) named;
   placed_are = λ e. omega arith;
 }
 
@@ -47,8 +36,8 @@ pub brought_then : {is_there : List ℕ → Bool} {before : List (List ℕ)} {xs
 brought_then {is_there} {before} {xs} {ys} {a} {b} {c} {made} {mid} {made'} {p} {q} {r} {first_namer} {namer} {fault} first then =
     let all = parts is_there before xs ys in
     record {
-      ran = subst (λ ts. Ran ts a c made made' fault) (sym all) (ran_then first.ran then.ran);
-      named = λ e. subst (λ bs. Named bs namer) (append_assoc before xs ys) (then.named e);
+      ran = rw all (ran_then first.ran then.ran);
+      named = λ e. rw (append_assoc before xs ys) at (then.named e);
       placed_are = λ e. omega (arith, first.placed_are refl, then.placed_are e, ap length all, length-append (deliveries_of is_there (messages_after before xs)) (deliveries_of is_there (messages_after (before ++ xs) ys)));
     }
 
@@ -56,7 +45,7 @@ brought_then {is_there} {before} {xs} {ys} {a} {b} {c} {made} {mid} {made'} {p} 
 pub brought_before : {A : Type 0} {fault : RunFault} (answer : Result A RunFault) (is_there : List ℕ → Bool) (before xs ys : List (List ℕ)) (a b : Seen) (made made' p q : ℕ) (namer : Counts) → IsErrAnd answer (λ e. e ≡ fault) → Brought is_there before xs a b made made' p q namer (Some fault) → Brought is_there before (xs ++ ys) a b made made' p q namer (fault_of answer)
 brought_before (Ok x) is_there before xs ys a b made made' p q namer is h = absurd is
 brought_before (Err e) is_there before xs ys a b made made' p q namer is h = record {
-  ran = subst (λ ts. Ran ts a b made made' (Some e)) (sym (parts is_there before xs ys)) (rw is (ran_before _ h.ran));
+  ran = rw (parts is_there before xs ys) (rw is (ran_before _ h.ran));
   named = λ e. cc;
   placed_are = λ e. cc;
 }
@@ -73,14 +62,14 @@ module _ (is_there : List ℕ → Bool) (before : List (List ℕ)) (body : List 
 
   pub brought_one : {a b : Seen} {made made' : ℕ} {fault : Option RunFault} (p q : ℕ) (namer : Counts) → is_there t.base ≡ false → Ran (delivery_of t body) a b made made' fault → Named (before ++ body ∷ []) namer → (fault ≡ None → q ≡ p + 1) → Brought is_there before (body ∷ []) a b made made' p q namer fault
   brought_one {a} {b} {made} {made'} {fault} p q namer off ran named more = record {
-    ran = subst (λ ts. Ran ts a b made made' fault) (sym (one_delivery false off)) ran;
+    ran = rw (one_delivery false off) ran;
     named = λ e. named;
     placed_are = λ e. omega (arith, more e, ap length (one_delivery false off));
   }
 
   pub brought_nothing : (a : Seen) (made p : ℕ) (namer : Counts) → is_there t.base ≡ true → Named (before ++ body ∷ []) namer → Brought is_there before (body ∷ []) a a made made p p namer None
   brought_nothing a made p namer on named = record {
-    ran = subst (λ ts. Ran ts a a made made None) (sym (one_delivery true on)) (ran_none a made);
+    ran = rw (one_delivery true on) (ran_none a made);
     named = λ e. named;
     placed_are = λ e. omega (arith, ap length (one_delivery true on));
   }

@@ -1,10 +1,7 @@
 -- The count of a run's calls, as one more is made.
 use Rattle.std.proofs.Common.{◌≡◌, ℕ, zero, suc, ◌+◌, ◌*◌, ◌%◌, ◌^◌, refl, sym, ap, ◌∙◌, arith, add-suc, add_assoc}
+use Rattle.maildir_run.proofs.Common.{Report, CountsRun, GoesUp, raised, capped, Makes}
 use Rattle.std.proofs.Math.Nat.{mod-mod, mod-add-mod}
-use Rattle.maildir_run.specs.declared.report.Report.{Report}
-use Rattle.maildir_run.specs.Runs.{CountsRun}
-use Rattle.maildir_run.specs.Calls.{GoesUp}
-use Rattle.maildir_run.specs.Counting.{raised, capped, Makes}
 
 capped_once : (k : ℕ) → capped (capped k + 1) ≡ capped (k + 1)
 capped_once k = grind arith

@@ -1,13 +1,7 @@
 -- What any list of runs and actions leaves.
 use Rattle.std.proofs.Common.{◌≡◌, ℕ, zero, suc, List, [], ◌∷◌, ◌++◌, map, All, Contains, None, refl, IsTrue, Ok, get_or, sym, subst, ◌∙◌, inl, inr, arith}
-use Rattle.std.specs.FinMap.{get}
-use Rattle.std.proofs.lemmas.List.Sorted.{IsPermutation-refl, IsPermutation-trans}
-use Rattle.maildir_name.specs.Names.{is_converter_name, is_converter_base}
-use Rattle.maildir_run.specs.Files.{Files, Action, acted}
-use Rattle.maildir_run.specs.Delivery.{Message, IsMissing, IsSoundAt, AreNamed, Sound, Delivered}
-use Rattle.maildir_run.specs.declared.report.Report.{Report}
-use Rattle.maildir_run.specs.Texts.{MessagesOf}
-use Rattle.maildir_run.specs.Runs.{Chain, Run, Link, Ran, Acted, Linked, Runs}
+use Rattle.maildir_run.proofs.Common.{get, IsPermutation-refl, IsPermutation-trans, is_converter_name, is_converter_base, Files, Action, acted, Message, IsMissing, IsSoundAt, AreNamed, Sound, Delivered, Report, MessagesOf, Chain, Run, Link, Acted, Linked, Runs}
+use Rattle.maildir_run.specs.Runs.{Ran}
 use Rattle.maildir_run.proofs.Homes.{acted_kept}
 use Rattle.maildir_run.proofs.Moves.{homes_none, homes_one, acted_tmp}
 
@@ -29,7 +23,7 @@ chain_map step other f each links old new = chain_fold step (λ ls s. Chain othe
 pub chain_at : {L S : Type 0} (step : L → S → S → Type 0) (link : L) (links : List L) (old new : S) → Chain step links old new → Contains links link → (a : S) × (b : S) × step link a b
 chain_at {L} {S} step link links old new = chain_fold step (λ ls s. Contains ls link → (a : S) × (b : S) × step link a b) new (λ (k, below, is). absurd (omega (arith, below))) at_first links old where
   at_first : (l : L) (ls : List L) (a b : S) → step l a b → (Contains ls link → (a : S) × (b : S) × step link a b) → Contains (l ∷ ls) link → (a : S) × (b : S) × step link a b
-  at_first l ls a b linked rest (zero, below, is) = (a, b, subst (λ x. step x a b) is linked)
+  at_first l ls a b linked rest (zero, below, is) = (a, b, rw is at linked)
   at_first l ls a b linked rest (suc k, below, is) = rest (k, omega (arith, below), is)
 
 -- a chain in two parts
@@ -74,7 +68,7 @@ module _ (t : List ℕ) (ms : List Message) (are : MessagesOf t ms) (named : Are
 
 still_swept : (name : List ℕ) → IsTrue (is_converter_name name) → (action : Action) (s : Files) → get s.tmp name ≡ None → get (acted action s).tmp name ≡ None
 still_swept name ours action s h =
-    elim (acted_tmp name ours action s) as (λ _. get (acted action s).tmp name ≡ None) [ inl e ↦ e ∙ h | inr e ↦ e ]
+    elim (acted_tmp name ours action s) [ inl e ↦ e ∙ h | inr e ↦ e ]
 
 pub acted_delivered : (ms : List Message) → AreNamed ms → (action : Action) (s : Files) → Delivered ms s → Delivered ms (acted action s)
 acted_delivered ms named action s d = record {

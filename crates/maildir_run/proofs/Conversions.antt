@@ -1,23 +1,7 @@
 -- A run at its exits, from its parts.
-use Rattle.std.proofs.Common.{◌≡◌, ℕ, ◌+◌, ◌-◌, ◌*◌, ◌<◌, ◌≤◌, ◌^◌, Bool, cond, Option, Some, None, List, [], ◌∷◌, ◌++◌, length, Result, refl, sym, ap, subst, ◌∙◌, arith}
-use Rattle.std.specs.Prelude.{IsErrAnd}
-use Rattle.std.specs.FinMap.{contains_key}
-use Rattle.std.proofs.lemmas.List.{length-map}
+use Rattle.std.proofs.Common.{◌≡◌, ℕ, ◌+◌, ◌-◌, ◌*◌, ◌<◌, ◌≤◌, ◌^◌, Bool, cond, Option, Some, None, List, [], ◌∷◌, ◌++◌, length, Result, refl, sym, ap, subst, ◌∙◌, arith, IsErrAnd}
+use Rattle.maildir_run.proofs.Common.{contains_key, length-map, Entry, Counts, Named, RunFault, NoFromLine, Report, BaseSet, Conversion, Tells, run_tasks, Seen, Ran, Brought, sweep_of, messages_after, delivery_of, delivery_if, deliveries_of, IsOfFolder, Message, Front, Refused, is_listed, IsReading, Task, Names, listings, messages_of, bodies_of}
 use Rattle.std.proofs.lemmas.Result.{err_from_is_err_and}
-use Rattle.mbox_text.specs.declared.entry.Entry.{Entry}
-use Rattle.maildir_name.specs.Named.{Counts, Named}
-use Rattle.maildir_run.specs.declared.fault.RunFault.{RunFault}
-use Rattle.maildir_run.specs.declared.fault.RunFault.TheVariants.{NoFromLine}
-use Rattle.maildir_run.specs.declared.report.Report.{Report}
-use Rattle.maildir_run.specs.Bases.{BaseSet}
-use Rattle.maildir_run.specs.Parts.{Conversion, Tells, run_tasks, Seen, Ran, Brought, sweep_of, messages_after, delivery_of, delivery_if, deliveries_of}
-use Rattle.maildir_run.specs.Counting.{IsOfFolder}
-use Rattle.maildir_run.specs.Delivery.{Message}
-use Rattle.maildir_run.specs.Given.{Front, Refused}
-use Rattle.maildir_run.specs.Plan.{is_listed}
-use Rattle.maildir_run.specs.Reading.{IsReading}
-use Rattle.maildir_run.specs.Tasks.{Task, Names, listings}
-use Rattle.maildir_run.specs.Texts.{messages_of, bodies_of}
 use Rattle.maildir_run.proofs.Bringing.{brought_then}
 use Rattle.maildir_run.proofs.Batches.{all_messages}
 use Rattle.maildir_run.proofs.Faults.{if_err, fault_is}
@@ -53,7 +37,7 @@ module _ (before now : Option (List ℕ)) (reads : ℕ) (old new : Seen) (r : Re
 pub stops_unread : (before now : Option (List ℕ)) (reads : ℕ) (s : Seen) (r : Result Report RunFault) (fault : RunFault) → IsErrAnd r (λ e. e ≡ fault) → IsReading fault → Refused before now reads fault → Conversion before now reads s s r
 stops_unread before now reads s r fault is reading refused =
     let names : Names = record { tmp = []; new = []; cur = [] } in
-    stops before now reads s s r fault is refused (λ e. refl) [] (refused_front before now reads fault refused) names (omega arith) 0 0 refl
+    stops before now reads s s r fault is refused (λ e. refl) [] (refused_front refused) names (omega arith) 0 0 refl
     (ran_nothing fault reading _ s 0)
 
 -- ---- the set of bases tells what was listed
@@ -74,8 +58,7 @@ all_ran names ms none tmp_is begun_is tasks_are look sweep deliver = ran_then (r
 -- one more batch
 pub one_batch : {there there' : BaseSet} {a b c : Seen} {made mid made' p q n : ℕ} {namer namer' : Counts} {fault : Option RunFault} (given whole entries : List Entry) (reads : ℕ) → there' ≡ there → entries ≡ whole → length (given ++ whole) ≤ 65536 * reads → reads ≤ 2 ^ 40 → Brought (contains_key there) [] (bodies_of given) a b made mid p q namer None → ((bodies : List (List ℕ)) → Named bodies namer → length bodies + length entries ≤ 2 ^ 63 → Brought (contains_key there') bodies (bodies_of entries) b c mid made' q n namer' fault) → Brought (contains_key there) [] (bodies_of (given ++ whole)) a c made made' p n namer' fault
 one_batch {there} {there'} {a} {b} {c} {made} {mid} {made'} {p} {q} {n} {namer} {namer'} {fault} given whole entries reads same e few most first then =
-    subst (λ bs. Brought (contains_key there) [] bs a c made made' p n namer' fault) (batch_bodies given whole entries e)
-    (brought_then first (subst (λ s. Brought (contains_key s) (bodies_of given) (bodies_of entries) b c mid made' q n namer' fault) same (then (bodies_of given) (first.named refl) (batch_few given whole entries reads e few most))))
+    rw (batch_bodies given whole entries e) at (brought_then first (rw same at (then (bodies_of given) (first.named refl) (batch_few given whole entries reads e few most))))
 
 pub report_tells : (names : Names) (all : List Entry) (report : Report) (tasks : List Task) (messages placed before : ℕ) → tasks ≡ deliveries_of (is_listed names.new names.cur) (messages_of (bodies_of all)) → messages ≡ length all → before ≡ 0 → 2 * placed ≡ 2 * before + length tasks → report.messages ≡ messages → report.there ≡ messages - placed → report.placed ≡ placed → report.swept ≡ length (sweep_of names.tmp) → Tells names (messages_of (bodies_of all)) report
 report_tells names all report tasks messages placed before is count none brought e1 e2 e3 e4 = record {

@@ -1,13 +1,6 @@
 -- What a power cut leaves, where it leaves all that is there; and from one moment to another.
-use Rattle.std.proofs.Common.{◌≡◌, List, [], ◌∷◌, ◌++◌, map, Result, Ok, Err, refl, sym, subst, ◌∙◌, inl, inr}
-use Rattle.std.specs.declared.vec.Vec.{Vec}
-use Rattle.std.specs.declared.string.String.{String}
-use Rattle.std.specs.declared.alloc.Global.{Global}
-use Rattle.maildir_run.specs.declared.folder.FolderFault.{FolderFault}
-use Rattle.maildir_run.specs.declared.folder.Sub.{Sub}
-use Rattle.maildir_run.specs.Calls.{Call, Called, Listed, Listing, Writing, Move, Again, Succeeded, after, moved}
-use Rattle.maildir_run.specs.Cuts.{Came, Leaves, LeavesOf, IsFoundWhole, Left, left_after}
-use Rattle.maildir_run.specs.Files.{Files}
+use Rattle.std.proofs.Common.{◌≡◌, List, [], ◌∷◌, ◌++◌, map, Result, Ok, Err, refl, sym, subst, ◌∙◌, inl, inr, Vec, String, Global}
+use Rattle.maildir_run.proofs.Common.{FolderFault, Sub, Call, Called, Listed, Listing, Writing, Move, Again, Succeeded, after, moved, Came, Leaves, LeavesOf, IsFoundWhole, Left, left_after, Files}
 use Rattle.maildir_run.proofs.Moves.{writing_ok}
 
 left_moves : (s : Files) (call : Call) (moves : List Move) → left_after s call (map Came moves) ≡ after s call moves
@@ -19,7 +12,7 @@ leaves_moves call old new moves e = record { kept = map Came moves; are = e ∙ 
 
 found_whole : (call : Call) (old new : Files) → Succeeded call old new → IsFoundWhole call new
 found_whole (Writing name bytes) old new done = λ ours held has.
-    elim (writing_ok name bytes ours old new done) as (λ _. held ≡ bytes) [
+    elim (writing_ok name bytes ours old new done) [
       | inl is ↦ let e = sym has ∙ is in cc
       | inr gone ↦ let e = sym has ∙ gone in cc
     ]

@@ -1,14 +1,6 @@
 -- Messages that are written one after the other.
-use Rattle.std.proofs.Common.{◌≡◌, ℕ, ◌+◌, ◌<◌, true, Option, Result, Ok, Err, is_err, List, ◌∷◌, ◌++◌, length, get_or, take, drop, sym, ◌∙◌, ap}
-use Rattle.std.specs.List.{flat_map}
-use Rattle.std.specs.Io.KnownBytes.{Appends}
-use Rattle.std.proofs.lemmas.Bool.{false≢true}
-use Rattle.std.proofs.lemmas.List.{take-append-drop, drop_more}
-use Rattle.std.proofs.lemmas.List.Concat.{flat_map-append}
-use Rattle.mbox_text.specs.declared.entry.Entry.{Entry}
-use Rattle.mbox_text.specs.Spelling.{spelling}
-use Rattle.mbox_text.specs.Writing.{AppendsFront, Writes}
-use Rattle.mbox_text.proofs.Appended.{front_then}
+use Rattle.std.proofs.Common.{◌≡◌, ℕ, ◌+◌, ◌<◌, true, Option, Result, Ok, Err, is_err, List, ◌∷◌, ◌++◌, length, get_or, take, drop, sym, ◌∙◌, ap, flat_map, take-append-drop}
+use Rattle.maildir_run.proofs.Common.{Appends, false≢true, drop_more, flat_map-append, Entry, spelling, AppendsFront, Writes, front_then}
 
 -- the first messages, one more and the others
 parted : (entries : List Entry) (i : ℕ) (e : Entry) → i < length entries → e ≡ get_or entries i e

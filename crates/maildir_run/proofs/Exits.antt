@@ -1,19 +1,10 @@
 -- What a call has read where it ends, and the numbers of its calls and messages.
-use Rattle.std.proofs.Common.{◌≡◌, ℕ, suc, ◌+◌, ◌*◌, ◌<◌, ◌≤◌, ◌^◌, Bool, false, true, cond, Option, Ok, List, [], ◌++◌, length, ap, subst, arith, length-append}
-use Rattle.std.proofs.KnownBytes.{Consumes-nil}
-use Rattle.mbox_text.specs.declared.entry.Entry.{Entry}
-use Rattle.mbox_text.specs.declared.splitter.Splitter.{Splitter}
-use Rattle.maildir_run.specs.declared.fault.RunFault.{RunFault}
-use Rattle.maildir_run.specs.declared.messages.Messages.{Messages}
-use Rattle.maildir_run.specs.Given.{Refused}
-use Rattle.maildir_run.specs.Reading.{ReadsAtMost, Went}
+use Rattle.std.proofs.Common.{◌≡◌, ℕ, suc, ◌+◌, ◌*◌, ◌<◌, ◌≤◌, ◌^◌, Bool, false, true, cond, Option, Ok, List, [], ◌++◌, length, ap, arith, length-append}
+use Rattle.maildir_run.proofs.Common.{Consumes-nil, Entry, Splitter, Messages, ReadsAtMost, Went}
 
 -- ---- what was read
 pub read_nothing : (source : Option (List ℕ)) (most : ℕ) → ReadsAtMost source source most
 read_nothing source most = ([], Consumes-nil source, omega arith)
-
-pub refused_of : (before now : Option (List ℕ)) (n reads : ℕ) (fault : RunFault) → n ≡ reads → Refused before now n fault → Refused before now reads fault
-refused_of before now n reads fault e h = subst (λ k. Refused before now k fault) e h
 
 -- ---- the numbers of a run
 -- one more batch

@@ -1,10 +1,6 @@
 -- What is said of an answer by its fault.
-use Rattle.std.proofs.Common.{◌≡◌, false, true, None, Result, Ok, Err, sym, ◌∙◌, subst, inl, inr}
-use Rattle.std.specs.Prelude.{IsErr, IsErrAnd, IfOk, IfErr}
-use Rattle.maildir_run.specs.declared.fault.RunFault.{RunFault}
-use Rattle.maildir_run.specs.declared.fault.RunFault.TheVariants.{NoFromLine, ReadFault, TooManyReads, OutOfMemory}
-use Rattle.maildir_run.specs.Counting.{fault_of}
-use Rattle.maildir_run.specs.Reading.{IsReading}
+use Rattle.std.proofs.Common.{◌≡◌, false, true, None, Result, Ok, Err, sym, ◌∙◌, subst, inl, inr, IsErr, IsErrAnd, IfOk, IfErr}
+use Rattle.maildir_run.proofs.Common.{RunFault, NoFromLine, ReadFault, TooManyReads, OutOfMemory, fault_of, IsReading}
 
 -- ---- with any fault
 pub unless_ok : {A E : Type 0} (P : A → Type 0) (r : Result A E) → IsErr r → IfOk r P

@@ -1,14 +1,7 @@
 -- What a call of the folder in memory leaves that followed its script.
 use Rattle.std.proofs.Common.{◌≡◌, Result, Ok, Err, IfOk, refl, ap, inl, inr, String, Vec, Global}
-use Rattle.std.specs.FinMap.{keys}
-use Rattle.maildir_run.specs.declared.folder.Sub.{Sub}
-use Rattle.maildir_run.specs.declared.folder.FolderFault.{FolderFault}
+use Rattle.maildir_run.proofs.Common.{keys, Sub, FolderFault, Mode, Plain, Twice, Files, Call, Listing, Called, Listed, folder_of, names_of, IsCutShort, acts_at, Answers}
 use Rattle.maildir_run.specs.declared.mem_folder.MemFolder.{MemFolder}
-use Rattle.maildir_run.specs.declared.script.Mode.{Mode}
-use Rattle.maildir_run.specs.declared.script.Mode.TheVariants.{Plain, Twice}
-use Rattle.maildir_run.specs.Files.{Files}
-use Rattle.maildir_run.specs.Calls.{Call, Listing, Called, Listed, folder_of, names_of}
-use Rattle.maildir_run.specs.Script.{IsCutShort, acts_at, Answers}
 use Rattle.maildir_run.specs.MemFolder.{files_of, next_call, next_acts, next_files, next_mode, IsQuiet, FollowsScript}
 use Rattle.maildir_run.proofs.Scripts.{answered, called_then, cut_fails, listed_then, not_cut}
 

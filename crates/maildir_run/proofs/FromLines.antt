@@ -1,14 +1,9 @@
 -- The messages of a text have their From_ lines.
-use Rattle.std.proofs.Common.{◌≡◌, ℕ, Bool, Option, true, false, eqb, List, [], ◌∷◌, ◌++◌, refl, ◌∙◌, inl, inr}
-use Rattle.std.proofs.lemmas.Bool.{cases_Bool, eqb-true}
-use Rattle.mbox_text.specs.declared.entry.Entry.{Entry}
+use Rattle.std.proofs.Common.{◌≡◌, ℕ, Bool, Option, true, false, eqb, List, [], ◌∷◌, ◌++◌, refl, ◌∙◌, inl, inr, eqb-true}
+use Rattle.maildir_run.proofs.Common.{cases_Bool, Entry, IsFromLine, Block, unended, FromLines, Splitter, IsGiven}
 use Rattle.mbox_text.specs.Lines.{NoEnd}
 use Rattle.mbox_text.specs.Quoting.{begins_with, begins_from, from_bytes}
-use Rattle.mbox_text.specs.FromLine.{IsFromLine}
-use Rattle.mbox_text.specs.Mbox.{Mbox, Block, unended}
-use Rattle.mbox_text.specs.Spelling.{FromLines}
-use Rattle.mbox_text.specs.declared.splitter.Splitter.{Splitter}
-use Rattle.maildir_run.specs.Given.{IsGiven}
+use Rattle.mbox_text.specs.Mbox.{Mbox}
 
 unended-no_end : (l : List ℕ) → NoEnd (unended l)
 unended-no_end [] = tt
@@ -47,9 +42,9 @@ none_behind : (given whole : List Entry) → given ++ whole ≡ [] → FromLines
 none_behind [] whole e = rw e tt
 none_behind (g ∷ given) whole e = absurd (cc)
 
-pub given-from_lines : (ended : Bool) (before now : Option (List ℕ)) (splitter : Splitter) (left reads : ℕ) (text : List ℕ) (given whole : List Entry) → IsGiven ended before now splitter left reads text (given ++ whole) → FromLines whole
-given-from_lines true before now splitter left reads text given whole p = from_lines-behind given whole (mbox-from_lines text (given ++ whole) p.all)
-given-from_lines false before now splitter left reads text given whole p = elim p.fed.given_are [
-  | inl a ↦ from_lines-behind given whole (from_lines-before (given ++ whole) (a.1.0 ∷ []) (mbox-from_lines text ((given ++ whole) ++ a.1.0 ∷ []) a.1.1))
+pub given-from_lines : (ended : Bool) (before now : Option (List ℕ)) (splitter : Splitter) (left reads : ℕ) (given whole : List Entry) → IsGiven ended before now splitter left reads (given ++ whole) → FromLines whole
+given-from_lines true before now splitter left reads given whole p = from_lines-behind given whole (mbox-from_lines p.text (given ++ whole) p.all)
+given-from_lines false before now splitter left reads given whole p = elim p.fed.given_are [
+  | inl a ↦ from_lines-behind given whole (from_lines-before (given ++ whole) (a.1.0 ∷ []) (mbox-from_lines p.text ((given ++ whole) ++ a.1.0 ∷ []) a.1.1))
   | inr a ↦ none_behind given whole a.1
 ]

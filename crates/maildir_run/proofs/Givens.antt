@@ -1,25 +1,8 @@
 -- What one more read gives, and what a refused one leaves.
-use Rattle.std.proofs.Common.{◌≡◌, ℕ, ◌*◌, ◌<◌, ◌≤◌, Bool, true, false, Option, Some, Ok, List, [], ◌∷◌, ◌++◌, length, refl, sym, ◌∙◌, ap, subst, arith, append_assoc, inl, inr}
-use Rattle.std.specs.Prelude.{◌==◌}
-use Rattle.std.specs.Io.KnownBytes.{Consumes, IsAtEnd}
-use Rattle.std.proofs.KnownBytes.{Consumes-trans}
-use Rattle.std.proofs.lemmas.Bool.{eqb-true, eq-eqb}
-use Rattle.std.proofs.lemmas.List.{append-nil, append_cancel_right, length-append}
-use Rattle.mbox_text.specs.declared.entry.Entry.{Entry}
-use Rattle.mbox_text.specs.declared.splitter.Splitter.{Splitter}
-use Rattle.mbox_text.specs.Mbox.{Mbox, IsUnreadable}
-use Rattle.mbox_text.specs.Fed.{Fed}
-use Rattle.mbox_text.specs.Fronts.{AllButLast}
-use Rattle.mbox_text.proofs.OneReading.{mbox-one}
+use Rattle.std.proofs.Common.{◌≡◌, ℕ, ◌*◌, ◌<◌, ◌≤◌, Bool, true, false, Option, Some, Ok, List, [], ◌∷◌, ◌++◌, length, refl, sym, ◌∙◌, ap, arith, append_assoc, inl, inr, ◌==◌, eqb-true, eq-eqb, append-nil, length-append}
+use Rattle.maildir_run.proofs.Common.{Consumes, IsAtEnd, Consumes-trans, append_cancel_right, Entry, Splitter, Mbox, IsUnreadable, AllButLast, mbox-one, begins_from-more, RunFault, NoFromLine, Messages, Breaks, Went, Front, Gave, IsGiven, Refused, Possible}
 use Rattle.mbox_text.proofs.Existence.{read_where}
 use Rattle.mbox_text.proofs.Giving.{all_stay}
-use Rattle.mbox_text.proofs.LineLemmas.{begins_from-more}
-use Rattle.maildir_run.specs.declared.fault.RunFault.{RunFault}
-use Rattle.maildir_run.specs.declared.fault.RunFault.TheVariants.{NoFromLine}
-use Rattle.maildir_run.specs.declared.messages.Messages.{Messages}
-use Rattle.maildir_run.specs.Reading.{Breaks, Went}
-use Rattle.maildir_run.specs.Given.{Front, Gave, GaveAll, IsGiven, Refused}
-use Rattle.maildir_run.specs.Runs.{Possible}
 use Rattle.maildir_run.proofs.MessageLemmas.{mbox-length}
 
 -- ---- what was read
@@ -35,54 +18,48 @@ read_is before now text t read p =
     append_cancel_right p.read text p.left (consumed before now (p.read ++ p.left) p.left text p.had p.has read)
 
 -- one more read, with what became whole by it
-pub record GaveMore (ended : Bool) (before now : Option (List ℕ)) (splitter : Splitter) (left reads : ℕ) (given : List Entry) : Type 0 where
-  pub text : List ℕ
-  pub gave : IsGiven ended before now splitter left reads text given
-
-pub gave_more : (ended : Bool) (before mid now : Option (List ℕ)) (old : Messages) (splitter : Splitter) (left reads : ℕ) (text : List ℕ) (given out whole : List Entry) → out ≡ [] → Gave before mid old.splitter old.reads reads text given → Went old mid now out whole splitter left (Ok ended) → GaveMore ended before now splitter left reads (given ++ whole)
-gave_more true before mid now old splitter left reads text given out whole none p w =
+pub gave_more : (ended : Bool) {before mid : Option (List ℕ)} (now : Option (List ℕ)) (old : Messages) (splitter : Splitter) (left : ℕ) {reads : ℕ} {given : List Entry} (out whole : List Entry) → out ≡ []
+    → Gave before mid old.splitter old.reads reads given → Went old mid now out whole splitter left (Ok ended) → IsGiven ended before now splitter left reads (given ++ whole)
+gave_more true {before} {mid} now old splitter left {given = given} out whole none p w =
     let within = p.budget in
     let added : whole ≡ w.0 = rw none at w.3 in
     record {
-      text = text;
-      gave = record {
-        read = rw (append-nil text) at (Consumes-trans before mid now text [] p.read w.1);
-        budget = omega arith;
-        end = w.2;
-        all = rw added (w.4 text given p.fed);
-      };
+      text = p.text;
+      read = rw (append-nil p.text) at (Consumes-trans before mid now p.text [] p.read w.1);
+      budget = omega arith;
+      end = w.2;
+      all = rw added (w.4 p.text given p.fed);
     }
-gave_more false before mid now old splitter left reads text given out whole none p w =
+gave_more false {before} {mid} now old splitter left {given = given} out whole none p w =
     let within = p.budget in
     let spent = p.spent in
     let added : whole ≡ w.1 = rw none at w.5 in
     record {
-      text = text ++ w.0;
-      gave = record {
-        read = Consumes-trans before mid now text w.0 p.read w.2;
-        budget = omega (arith, length-append text w.0, w.3, w.4);
-        spent = omega (arith, spent, length-append text w.0, w.4, w.7);
-        fed = rw added (w.6 text given p.fed);
-      };
+      text = p.text ++ w.0;
+      read = Consumes-trans before mid now p.text w.0 p.read w.2;
+      budget = omega (arith, length-append p.text w.0, w.3, w.4);
+      spent = omega (arith, spent, length-append p.text w.0, w.4, w.7);
+      fed = rw added (w.6 p.text given p.fed);
     }
 
-pub gave_refused : (before mid now : Option (List ℕ)) (old : Messages) (reads : ℕ) (text : List ℕ) (given : List Entry) (fault : RunFault) → Gave before mid old.splitter old.reads reads text given → Breaks old mid now fault → Refused before now reads fault
-gave_refused before mid now old reads text given fault p b =
-    let within = p.budget in
-    let spent = p.spent in
-    let read = Consumes-trans before mid now text b.0 p.read b.1 in
-    record {
-      budget = (text ++ b.0, read, omega (arith, length-append text b.0, b.2));
-      spent = λ e. (text ++ b.0, read, omega (arith, spent, length-append text b.0, b.4 e));
-      unreadable = λ e t entries q m.
-          let never = (b.3 e text given p.fed).1 in
-          let is : t ≡ text ++ b.0 ++ q.more = rw (← read_is before now (text ++ b.0) t read q) q.front in
-          never q.more q.left q.has q.whole entries (rw is at m);
-    }
+module _ {before mid : Option (List ℕ)} (now : Option (List ℕ)) (old : Messages) {reads : ℕ} {given : List Entry} (fault : RunFault) (p : Gave before mid old.splitter old.reads reads given) where
+  pub gave_refused : Breaks old mid now fault → Refused before now reads fault
+  gave_refused b =
+      let within = p.budget in
+      let spent = p.spent in
+      let read = Consumes-trans before mid now p.text b.0 p.read b.1 in
+      record {
+        budget = (p.text ++ b.0, read, omega (arith, length-append p.text b.0, b.2));
+        spent = λ e. (p.text ++ b.0, read, omega (arith, spent, length-append p.text b.0, b.4 e));
+        unreadable = λ e t entries q m.
+            let never = (b.3 e p.text given p.fed).1 in
+            let is : t ≡ p.text ++ b.0 ++ q.more = rw (← read_is before now (p.text ++ b.0) t read q) q.front in
+            never q.more q.left q.has q.whole entries (rw is at m);
+      }
 
--- a message was given, so the text begins well
-pub never_again : (mid now : Option (List ℕ)) (old : Messages) (text : List ℕ) (given : List Entry) (fault : RunFault) → Fed text given old.splitter → 0 < length given → Breaks old mid now fault → fault ≡ NoFromLine → ⊥
-never_again mid now old text given fault fed some b e = let none = (b.3 e text given fed).0 in absurd (omega (arith, some, ap length none))
+  -- a message was given, so the text begins well
+  pub never_again : 0 < length given → Breaks old mid now fault → fault ≡ NoFromLine → ⊥
+  never_again some b e = let none = (b.3 e p.text given p.fed).0 in absurd (omega (arith, some, ap length none))
 
 -- ---- what was given is the first of each text that may begin so
 -- there are no more messages than bytes
@@ -103,46 +80,46 @@ unread_none text more given (inr a) none = a.1
 at_end_same : (text more left : List ℕ) (now : Option (List ℕ)) → IsAtEnd now → now ≡ Some left → (left ≡ [] → more ≡ []) → text ++ more ≡ text
 at_end_same text more left now end has whole = let none : left ≡ [] = rw has at end in rw (whole none) (append-nil text)
 
-pub given_front : (ended : Bool) (before now : Option (List ℕ)) (splitter : Splitter) (left reads : ℕ) (text : List ℕ) (given : List Entry) → IsGiven ended before now splitter left reads text given → Front before now reads given
-given_front false before now splitter left reads text given p =
+pub given_front : (ended : Bool) (before now : Option (List ℕ)) (splitter : Splitter) (left reads : ℕ) (given : List Entry) → IsGiven ended before now splitter left reads given → Front before now reads given
+given_front false before now splitter left reads given p =
     let within = p.budget in
     record {
-      text = text;
+      text = p.text;
       read = p.read;
       budget = omega arith;
-      few = few_given text given p.fed.given_are;
-      tells = λ more rest entries has whole m. first_of text more given entries p.fed.given_are m;
-      none = λ more rest has whole none. unread_none text more given p.fed.given_are none;
+      few = few_given p.text given p.fed.given_are;
+      tells = λ more rest entries has whole m. first_of p.text more given entries p.fed.given_are m;
+      none = λ more rest has whole none. unread_none p.text more given p.fed.given_are none;
     }
-given_front true before now splitter left reads text given p = record {
-  text = text;
+given_front true before now splitter left reads given p = record {
+  text = p.text;
   read = p.read;
   budget = p.budget;
-  few = mbox-length text given p.all;
-  tells = λ more rest entries has whole m. ([], mbox-one text entries given (rw (at_end_same text more rest now p.end has whole) at m) p.all ∙ sym (append-nil given));
-  none = λ more rest has whole none. absurd (none given (rw (at_end_same text more rest now p.end has whole) p.all));
+  few = mbox-length p.text given p.all;
+  tells = λ more rest entries has whole m. ([], mbox-one p.text entries given (rw (at_end_same p.text more rest now p.end has whole) at m) p.all ∙ sym (append-nil given));
+  none = λ more rest has whole none. absurd (none given (rw (at_end_same p.text more rest now p.end has whole) p.all));
 }
 
-pub given_few : (ended : Bool) (before now : Option (List ℕ)) (splitter : Splitter) (left reads : ℕ) (text : List ℕ) (given : List Entry) → IsGiven ended before now splitter left reads text given → length given ≤ 65536 * reads
-given_few ended before now splitter left reads text given p = let front = given_front ended before now splitter left reads text given p in omega (arith, front.few, front.budget)
+pub front_few : {before now : Option (List ℕ)} {reads : ℕ} {given : List Entry} → Front before now reads given → length given ≤ 65536 * reads
+front_few front = omega (arith, front.few, front.budget)
 
 -- a read was refused behind these messages
-pub broken_front : (before mid now : Option (List ℕ)) (old : Messages) (reads : ℕ) (text : List ℕ) (given : List Entry) (fault : RunFault) → Gave before mid old.splitter old.reads reads text given → Breaks old mid now fault → Front before now reads given
-broken_front before mid now old reads text given fault p b =
+pub broken_front : {before mid : Option (List ℕ)} (now : Option (List ℕ)) (old : Messages) {reads : ℕ} {given : List Entry} (fault : RunFault) → Gave before mid old.splitter old.reads reads given → Breaks old mid now fault → Front before now reads given
+broken_front {before} {mid} now old {given = given} fault p b =
     let within = p.budget in
-    let few = few_given text given p.fed.given_are in
+    let few = few_given p.text given p.fed.given_are in
     record {
-      text = text ++ b.0;
-      read = Consumes-trans before mid now text b.0 p.read b.1;
-      budget = omega (arith, length-append text b.0, b.2);
-      few = omega (arith, length-append text b.0);
-      tells = λ more rest entries has whole m. first_of text (b.0 ++ more) given entries p.fed.given_are (rw append_assoc at m);
-      none = λ more rest has whole none. unread_none text (b.0 ++ more) given p.fed.given_are (rw append_assoc at none);
+      text = p.text ++ b.0;
+      read = Consumes-trans before mid now p.text b.0 p.read b.1;
+      budget = omega (arith, length-append p.text b.0, b.2);
+      few = omega (arith, length-append p.text b.0);
+      tells = λ more rest entries has whole m. first_of p.text (b.0 ++ more) given entries p.fed.given_are (rw append_assoc at m);
+      none = λ more rest has whole none. unread_none p.text (b.0 ++ more) given p.fed.given_are (rw append_assoc at none);
     }
 
 -- nothing was given before a read was refused
-pub refused_front : (before now : Option (List ℕ)) (reads : ℕ) (fault : RunFault) → Refused before now reads fault → Front before now reads []
-refused_front before now reads fault refused = record {
+pub refused_front : {before now : Option (List ℕ)} {reads : ℕ} {fault : RunFault} → Refused before now reads fault → Front before now reads []
+refused_front refused = record {
   text = refused.budget.0;
   read = refused.budget.1;
   budget = refused.budget.2;
@@ -150,9 +127,6 @@ refused_front before now reads fault refused = record {
   tells = λ more rest entries has whole m. (entries, refl);
   none = λ more rest has whole none. refl;
 }
-
-pub gave_on : (ended : Bool) (before now : Option (List ℕ)) (splitter : Splitter) (left reads : ℕ) (given : List Entry) → ended ≡ false → GaveMore ended before now splitter left reads given → GaveMore false before now splitter left reads given
-gave_on ended before now splitter left reads given e more = subst (λ b. GaveMore b before now splitter left reads given) e more
 
 -- whether a list is empty, by its length
 pub none_left : (items : List Entry) (n : ℕ) (b : Bool) → b ≡ (n == 0) → b ≡ true → n ≡ length items → items ≡ []
@@ -162,12 +136,3 @@ none_left (x ∷ xs) n b is on e = let none = eqb-true n 0 (sym is ∙ on) in ab
 pub some_left : (items : List Entry) (n : ℕ) (b : Bool) → b ≡ (n == 0) → b ≡ false → n ≡ length items → 0 < length items
 some_left [] n b is off e = let f = eq-eqb n 0 e in let g : b ≡ true = is ∙ f in cc
 some_left (x ∷ xs) n b is off e = omega arith
-
-pub gave_empty : (before now : Option (List ℕ)) (splitter : Splitter) (left reads : ℕ) (text : List ℕ) (given : List Entry) → given ≡ [] → Gave before now splitter left reads text given → Gave before now splitter left reads text []
-gave_empty before now splitter left reads text given e p = subst (Gave before now splitter left reads text) e p
-
-pub not_ended : (ended : Bool) (before now : Option (List ℕ)) (splitter : Splitter) (left reads : ℕ) (text : List ℕ) (given : List Entry) → ended ≡ false → IsGiven ended before now splitter left reads text given → Gave before now splitter left reads text given
-not_ended ended before now splitter left reads text given e p = subst (λ b. IsGiven b before now splitter left reads text given) e p
-
-pub at_end : (ended : Bool) (before now : Option (List ℕ)) (splitter : Splitter) (left reads : ℕ) (text : List ℕ) (given : List Entry) → ended ≡ true → IsGiven ended before now splitter left reads text given → GaveAll before now reads text given
-at_end ended before now splitter left reads text given e p = subst (λ b. IsGiven b before now splitter left reads text given) e p

@@ -1,32 +1,28 @@
 -- What the homes of a converter's base hold, after an action of another program.
-use Rattle.std.proofs.Common.{◌≡◌, ℕ, Bool, true, false, cond, not, List, [], ◌∷◌, ◌++◌, Option, Some, None, IsPermutation, IsTrue, refl, sym, ap, subst, ◌∙◌, inl, inr}
-use Rattle.std.specs.FinMap.{get, insert, remove, values, entries, retain_keys, find, get-entries, get-from_entries, get-remove}
-use Rattle.std.specs.Option.{is_some}
-use Rattle.std.proofs.lemmas.Bool.{cases_Bool, and_parts}
-use Rattle.std.proofs.lemmas.List.Sorted.{IsPermutation-refl, IsPermutation-sym, IsPermutation-trans, IsPermutation-middle, IsPermutation-append_left, IsPermutation-append_right}
-use Rattle.maildir_name.specs.Names.{base, is_converter_name, is_converter_base}
-use Rattle.maildir_run.specs.Files.{name_cmp, is_name, FileMap, Files, has_base, held_under, homes, Action, ToCur, Reflag, DropTmp, Outside, outsiders_of, may_take, to_cur, reflag, acted}
+use Rattle.std.proofs.Common.{◌≡◌, ℕ, Bool, true, false, cond, not, List, [], ◌∷◌, ◌++◌, Option, Some, None, IsPermutation, IsTrue, refl, sym, ap, subst, ◌∙◌, inl, inr, is_some}
+use Rattle.maildir_run.proofs.Common.{get, insert, remove, values, entries, retain_keys, find, get-entries, get-from_entries, get-remove, cases_Bool, and_parts, IsPermutation-refl, IsPermutation-sym, IsPermutation-trans, IsPermutation-middle, IsPermutation-append_left, IsPermutation-append_right, base, is_converter_name, is_converter_base, name_cmp, is_name, FileMap, Files, has_base, held_under, homes, Action, ToCur, Reflag, DropTmp, Outside, outsiders_of, may_take, to_cur, reflag, acted}
 use Rattle.maildir_run.proofs.Maps.{total, is_name-true, get_under, under_same, under_insert, under_insert_other, under_remove, under_remove_other, values-insert, values-remove}
 
 -- ---- one folder, under one base
 pub held_same : (b : List ℕ) (m n : FileMap) → ((q : List ℕ) → has_base b q ≡ true → get m q ≡ get n q) → held_under b m ≡ held_under b n
 held_same b m n alike = ap values (under_same (has_base b) m n alike)
 
-pub held-insert_other : (b : List ℕ) (m : FileMap) (k v : List ℕ) → has_base b k ≡ false → held_under b (insert m k v) ≡ held_under b m
-held-insert_other b m k v h = ap values (under_insert_other (has_base b) m k v h)
+module _ (b : List ℕ) (m : FileMap) (k : List ℕ) where
+  pub held-insert_other : (v : List ℕ) → has_base b k ≡ false → held_under b (insert m k v) ≡ held_under b m
+  held-insert_other v h = ap values (under_insert_other (has_base b) m k v h)
 
-pub held-remove_other : (b : List ℕ) (m : FileMap) (k : List ℕ) → has_base b k ≡ false → held_under b (remove m k) ≡ held_under b m
-held-remove_other b m k h = ap values (under_remove_other (has_base b) m k h)
+  pub held-remove_other : has_base b k ≡ false → held_under b (remove m k) ≡ held_under b m
+  held-remove_other h = ap values (under_remove_other (has_base b) m k h)
 
-pub held-insert_new : (b : List ℕ) (m : FileMap) (k v : List ℕ) → has_base b k ≡ true → get m k ≡ None → IsPermutation (v ∷ held_under b m) (held_under b (insert m k v))
-held-insert_new b m k v h none =
-    rw (under_insert (has_base b) m k v h)
-    (values-insert (retain_keys m (has_base b)) k v (get_under (has_base b) m k ∙ rw h none))
+  pub held-insert_new : (v : List ℕ) → has_base b k ≡ true → get m k ≡ None → IsPermutation (v ∷ held_under b m) (held_under b (insert m k v))
+  held-insert_new v h none =
+      rw (under_insert (has_base b) m k v h)
+      (values-insert (retain_keys m (has_base b)) k v (get_under (has_base b) m k ∙ rw h none))
 
-pub held-remove_old : (b : List ℕ) (m : FileMap) (k v : List ℕ) → has_base b k ≡ true → get m k ≡ Some v → IsPermutation (v ∷ held_under b (remove m k)) (held_under b m)
-held-remove_old b m k v h has =
-    rw (under_remove (has_base b) m k h)
-    (values-remove (retain_keys m (has_base b)) k v (get_under (has_base b) m k ∙ rw h has))
+  pub held-remove_old : (v : List ℕ) → has_base b k ≡ true → get m k ≡ Some v → IsPermutation (v ∷ held_under b (remove m k)) (held_under b m)
+  held-remove_old v h has =
+      rw (under_remove (has_base b) m k h)
+      (values-remove (retain_keys m (has_base b)) k v (get_under (has_base b) m k ∙ rw h has))
 
 -- ---- the outsiders' step
 find-both : (q : List ℕ) (xs ys : List (List ℕ × List ℕ)) → find name_cmp q ys ≡ None → find name_cmp q (xs ++ ys) ≡ find name_cmp q xs
@@ -66,7 +62,7 @@ to_cur_kept b s name target bytes has may =
     let parts = and_parts _ _ may in
     let free : get s.cur target ≡ None = absent _ parts.0 in
     let alike : has_base b target ≡ has_base b name = ap (is_name b) (sym (is_name-true _ _ parts.1)) in
-    elim (cases_Bool (has_base b name)) as (λ _. Kept b s (record s { new = remove s.new name; cur = insert s.cur target bytes })) [
+    elim (cases_Bool (has_base b name)) [
       | inl on ↦
           IsPermutation-trans _ _ _
           (IsPermutation-append_left (held_under b s.cur) _ _ (IsPermutation-sym _ _ (held-remove_old b s.new name bytes on has)))
@@ -86,7 +82,7 @@ reflag_kept b s name target bytes has may =
     let free : get s.cur target ≡ None = absent _ parts.0 in
     let alike : has_base b target ≡ has_base b name = ap (is_name b) (sym (is_name-true _ _ parts.1)) in
     let gone : get (remove s.cur name) target ≡ None = get-remove total s.cur name target ∙ same_both (is_name target name) _ free in
-    elim (cases_Bool (has_base b name)) as (λ _. Kept b s (record s { cur = insert (remove s.cur name) target bytes })) [
+    elim (cases_Bool (has_base b name)) [
       | inl on ↦
           IsPermutation-append_right (held_under b s.new) _ _
           (IsPermutation-trans _ _ _

@@ -1,12 +1,7 @@
 -- How many converter's names tmp has, as other programs act.
-use Rattle.std.proofs.Common.{◌≡◌, ℕ, suc, ◌≤◌, ◌-◌, Bool, true, false, cond, List, [], ◌∷◌, map, length, None, refl, sym, ap, ◌∙◌, inl, inr, arith}
-use Rattle.std.specs.List.{filter}
-use Rattle.std.specs.FinMap.{get, remove, entries, keys, len, retain_keys, contains_key, from_sorted, same_map, get-entries, get-from_sorted, entries-from_sorted, entries_sorted, len-entries, len-remove}
+use Rattle.std.proofs.Common.{◌≡◌, ℕ, suc, ◌≤◌, ◌-◌, Bool, true, false, cond, List, [], ◌∷◌, map, length, None, refl, sym, ap, ◌∙◌, inl, inr, arith, filter}
+use Rattle.maildir_run.proofs.Common.{get, remove, entries, keys, len, retain_keys, contains_key, from_sorted, same_map, get-entries, get-from_sorted, entries-from_sorted, entries_sorted, len-entries, len-remove, cases_Bool, is_converter_name, name_cmp, FileMap, Files, Action, ToCur, Reflag, DropTmp, Outside, outsiders_of, acted, leftover_count}
 use Rattle.std.specs.FinMap.Entries.{where_key, is_sorted-where_key, find-where_key}
-use Rattle.std.proofs.lemmas.Bool.{cases_Bool}
-use Rattle.maildir_name.specs.Names.{is_converter_name}
-use Rattle.maildir_run.specs.Files.{name_cmp, FileMap, Files, Action, ToCur, Reflag, DropTmp, Outside, outsiders_of, acted}
-use Rattle.maildir_run.specs.Delivery.{leftover_count}
 use Rattle.maildir_run.proofs.Maps.{total, same, get_under, under_same, under_remove, under_remove_other}
 use Rattle.maildir_run.proofs.Homes.{get-outsiders_of}
 use Rattle.maildir_run.proofs.Moves.{to_cur_tmp, reflag_tmp}
@@ -39,7 +34,7 @@ one_less false n = omega arith
 
 pub dropped_count : (m : FileMap) (name : List ℕ) → len (retain_keys (remove m name) is_converter_name) ≤ len (retain_keys m is_converter_name)
 dropped_count m name =
-    elim (cases_Bool (is_converter_name name)) as (λ _. len (retain_keys (remove m name) is_converter_name) ≤ len (retain_keys m is_converter_name)) [
+    elim (cases_Bool (is_converter_name name)) [
       | inl on ↦ rw (under_remove is_converter_name m name on, len-remove total (retain_keys m is_converter_name) name) (one_less (contains_key (retain_keys m is_converter_name) name) _)
       | inr off ↦ rw (under_remove_other is_converter_name m name off) (omega arith)
     ]

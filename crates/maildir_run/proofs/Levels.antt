@@ -1,17 +1,8 @@
 -- How often a body is there, before a run over one of several texts and after it.
-use Rattle.std.proofs.Common.{◌≡◌, ℕ, ◌+◌, ◌-◌, ◌<◌, ◌≤◌, ◌^◌, true, false, List, [], ◌∷◌, length, get_or, take, All, IsTrue, Result, Ok, Err, refl, sym, ap, subst, ◌∙◌, inl, inr, arith}
-use Rattle.std.specs.Prelude.{OnOk}
-use Rattle.std.proofs.Math.Seq.{take-length}
-use Rattle.std.proofs.lemmas.Bool.{cases_Bool, cases_lt}
-use Rattle.maildir_name.specs.Names.{is_converter_base}
-use Rattle.maildir_name.specs.Targets.{digest_text, numbered}
+use Rattle.std.proofs.Common.{◌≡◌, ℕ, ◌+◌, ◌-◌, ◌<◌, ◌≤◌, ◌^◌, true, false, List, [], ◌∷◌, length, get_or, take, All, IsTrue, Result, Ok, Err, refl, sym, ap, subst, ◌∙◌, inl, inr, arith, OnOk}
+use Rattle.maildir_run.proofs.Common.{take-length, cases_Bool, cases_lt, is_converter_base, digest_text, numbered, RunFault, Report, Files, homes, is_name, Message, AreNamed, IsSoundAt, IsHome, is_any, has_home, is_base_of, Keeps}
 use Rattle.maildir_name.proofs.Digests.{same_digest-refl, same_digest-text}
 use Rattle.maildir_name.proofs.BaseLemmas.{numbered-converter, numbered-digits, same-number}
-use Rattle.maildir_run.specs.declared.fault.RunFault.{RunFault}
-use Rattle.maildir_run.specs.declared.report.Report.{Report}
-use Rattle.maildir_run.specs.Files.{Files, homes, is_name}
-use Rattle.maildir_run.specs.Delivery.{Message, AreNamed, IsSoundAt, IsHome, is_any, has_home, is_base_of}
-use Rattle.maildir_run.specs.Runs.{Keeps}
 use Rattle.maildir_run.specs.Several.{IsThere}
 use Rattle.maildir_run.proofs.Maps.{is_name-true}
 use Rattle.maildir_run.proofs.Moves.{homes_none, homes_one}
@@ -49,7 +40,7 @@ sound_level ms s nums few named i d below level =
     let k = with_digest m.body (take i ms) in
     let is : m.target.base ≡ numbered m.body (k + 1) = nums i d below in
     let most : k ≤ length ms = few_with_digest m.body ms i in
-    elim (cases_lt k level.n) as (λ _. IsSoundAt s m) [
+    elim (cases_lt k level.n) [
       | inl lt ↦ inr (home_level ms s nums i d below level lt)
       | inr ge ↦ inl (level.there.no_other m.target.base (named i d below) (ap (take 64) is ∙ numbered-digits m.body (k + 1)) (λ j lt. other_number m.body m.target.base j k (omega (arith, lt, ge)) (omega (arith, most, few)) is))
     ]
@@ -103,7 +94,7 @@ module _ (d : Message) (ms : List Message) (b : List ℕ) (nums : AreNumbered ms
 -- ---- one run over the text
 module _ (d : Message) (ms : List Message) (b : List ℕ) (nums : AreNumbered ms) (own : IsOwnDigest d ms b) (few : length ms ≤ 2 ^ 63) (old new : Files) (answer : Result Report RunFault) (keeps : Keeps ms old answer new) (n : ℕ) (there : IsThere n b old) (small : n ≤ 2 ^ 63) where
   most : with_digest b ms ≤ length ms
-  most = subst (λ xs. with_digest b xs ≤ length ms) (take-length ms) (few_with_digest b ms (length ms))
+  most = rw (take-length ms) at (few_with_digest b ms (length ms))
 
   named_at : (k : ℕ) → k ≤ 2 ^ 63 → IsTrue (is_converter_base (numbered b (k + 1)))
   named_at k le = numbered-converter b (k + 1) (omega arith) (omega (arith, le))
@@ -118,7 +109,7 @@ module _ (d : Message) (ms : List Message) (b : List ℕ) (nums : AreNumbered ms
   stays : (k : ℕ) → k < n → homes new (numbered b (k + 1)) ≡ b ∷ []
   stays k lt =
       let x = numbered b (k + 1) in
-      elim (cases_Bool (is_base_of ms x)) as (λ _. homes new x ≡ b ∷ []) [
+      elim (cases_Bool (is_base_of ms x)) [
         | inl on ↦
             let o = of_base d ms b nums own x (numbered-digits b (k + 1)) on in
             let had : has_home old (get_or ms o.at.i d).target.base ≡ true = ap (has_home old) o.at.base_is ∙ ap is_any (there.up_to k lt) in
@@ -131,7 +122,7 @@ module _ (d : Message) (ms : List Message) (b : List ℕ) (nums : AreNumbered ms
 
   up_to_now : (k : ℕ) → k < risen.j → homes new (numbered b (k + 1)) ≡ b ∷ []
   up_to_now k lt =
-      elim (cases_lt k n) as (λ _. homes new (numbered b (k + 1)) ≡ b ∷ []) [
+      elim (cases_lt k n) [
         | inl early ↦ stays k early
         | inr ge ↦ at_home (numbered b (k + 1)) k (at_number d ms b nums own k (omega (arith, lt, ge, risen.to))) (risen.full k ge lt)
       ]
@@ -141,14 +132,14 @@ module _ (d : Message) (ms : List Message) (b : List ℕ) (nums : AreNumbered ms
   none_later x o named digits ge =
       let c = with_digest b ms in
       let at_end : has_home new (numbered b (risen.j + 1)) ≡ false = risen.ends (omega (arith, ge, o.below, risen.from)) in
-      elim (cases_lt risen.j o.k) as (λ _. homes new x ≡ []) [
+      elim (cases_lt risen.j o.k) [
         | inr le ↦ let same : o.k ≡ risen.j = omega (arith, ge, le) in none_of (homes new x) (ap (has_home new) (o.is ∙ ap (λ z. numbered b (z + 1)) same) ∙ at_end)
         | inl lt ↦
             let a = at_number d ms b nums own risen.j (omega (arith, lt, o.below)) in
             let before : a.i < o.at.i = fewer_before (has_digest_of b) ms a.i o.at.i (omega (arith, a.before, o.at.before, lt)) in
             let missing : homes old (get_or ms o.at.i d).target.base ≡ [] =
             ap (homes old) o.at.base_is ∙ there.no_other x named digits (λ k below. other_number b x k o.k (omega (arith, below, risen.from, ge)) (omega (arith, o.below, most, few)) o.is) in
-            elim (cases_Bool (has_home new x)) as (λ _. homes new x ≡ []) [
+            elim (cases_Bool (has_home new x)) [
               | inr off ↦ none_of (homes new x) off
               | inl on ↦
                   let came : has_home new (get_or ms a.i d).target.base ≡ true = keeps.in_order a.i o.at.i d before o.at.below missing (ap (has_home new) o.at.base_is ∙ on) in
@@ -159,11 +150,11 @@ module _ (d : Message) (ms : List Message) (b : List ℕ) (nums : AreNumbered ms
 
   no_other_now : (x : List ℕ) → IsTrue (is_converter_base x) → take 64 x ≡ digest_text b → ((k : ℕ) → k < risen.j → numbered b (k + 1) ≡ x → ⊥) → homes new x ≡ []
   no_other_now x named digits apart =
-      elim (cases_Bool (is_base_of ms x)) as (λ _. homes new x ≡ []) [
+      elim (cases_Bool (is_base_of ms x)) [
         | inr off ↦ homes_none x old new (keeps.sound.others x named off) (there.no_other x named digits (λ k lt. apart k (omega (arith, lt, risen.from))))
         | inl on ↦
             let o = of_base d ms b nums own x digits on in
-            elim (cases_lt o.k risen.j) as (λ _. homes new x ≡ []) [
+            elim (cases_lt o.k risen.j) [
               | inl lt ↦ absurd (apart o.k lt (sym o.is))
               | inr ge ↦ none_later x o named digits ge
             ]
@@ -171,7 +162,7 @@ module _ (d : Message) (ms : List Message) (b : List ℕ) (nums : AreNumbered ms
 
   all_home : All (IsHome new) ms → with_digest b ms ≤ risen.j
   all_home all =
-      elim (cases_lt risen.j (with_digest b ms)) as (λ _. with_digest b ms ≤ risen.j) [
+      elim (cases_lt risen.j (with_digest b ms)) [
         | inr ge ↦ ge
         | inl lt ↦
             let a = at_number d ms b nums own risen.j lt in

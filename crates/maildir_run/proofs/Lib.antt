@@ -1,3 +1,4 @@
+pub mod Common
 pub mod Maps
 pub mod Homes
 pub mod Moves

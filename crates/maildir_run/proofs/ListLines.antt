@@ -1,22 +1,8 @@
 -- The listing of messages that are listed one after the other.
-use Rattle.std.proofs.Common.{◌≡◌, ℕ, zero, suc, ◌+◌, ◌^◌, ◌<◌, ◌≤◌, false, eqb, Option, Result, Ok, Err, List, [], ◌∷◌, ◌++◌, length, map, take, drop, get_or, refl, sym, ◌∙◌, ap, arith, append_assoc}
-use Rattle.std.specs.Prelude.{MatchResult, IsErr}
+use Rattle.std.proofs.Common.{◌≡◌, ℕ, zero, suc, ◌+◌, ◌^◌, ◌<◌, ◌≤◌, false, eqb, Option, Result, Ok, Err, List, [], ◌∷◌, ◌++◌, length, map, take, drop, get_or, refl, sym, ◌∙◌, ap, arith, append_assoc, MatchResult, IsErr, append-nil, length-append, take-append-drop, take_all, length-take-le}
+use Rattle.maildir_run.proofs.Common.{Appends, Appends-trans, Appends-nil, false≢true, length-map, map-append, take_more, Entry, IsFromLine, sender, FromLines, AppendsFront, Writes, front_then, Target, Counts, Named, targets, length-targets, targets-prefix, HasListed, info, place_word, shown_byte, shown_sender}
 use Rattle.std.specs.Fmt.{decimal}
-use Rattle.std.specs.Io.KnownBytes.{Appends}
-use Rattle.std.proofs.KnownBytes.{Appends-trans, Appends-nil}
-use Rattle.std.proofs.lemmas.Bool.{false≢true}
-use Rattle.std.proofs.lemmas.List.{append-nil, length-append, length-map, map-append, take-append-drop, take_all, take_more, length-take-le}
-use Rattle.mbox_text.specs.declared.entry.Entry.{Entry}
-use Rattle.mbox_text.specs.FromLine.{IsFromLine, sender}
-use Rattle.mbox_text.specs.Spelling.{FromLines}
-use Rattle.mbox_text.specs.Writing.{AppendsFront, Writes}
-use Rattle.mbox_text.proofs.Appended.{front_then}
-use Rattle.maildir_name.specs.declared.target.Target.{Target}
-use Rattle.maildir_name.specs.Named.{Counts, Named}
-use Rattle.maildir_name.specs.Targets.{targets}
-use Rattle.maildir_name.proofs.TargetLemmas.{length-targets, targets-prefix}
-use Rattle.maildir_run.specs.ListedSoFar.{HasListed}
-use Rattle.maildir_run.specs.Listing.{info, message_line, lines_from, listing, place_word, shown_byte, shown_sender}
+use Rattle.maildir_run.specs.Listing.{message_line, lines_from, listing}
 use Rattle.maildir_run.proofs.Poured.{IsOutput}
 
 -- the bodies of some messages
@@ -106,38 +92,35 @@ pub listed_to_none : (given entries : List Entry) (was : Option (List ℕ)) (nam
 listed_to_none given entries was namer count h =
     record { lines = []; are = ap listing (append-nil given) ∙ sym (append-nil (listing given)); out = Appends-nil was; has_listed = rw (append-nil given) h }
 
-next : (given entries : List Entry) (i : ℕ) (e : Entry) → i < length entries → e ≡ get_or entries i e → (given ++ take i entries) ++ e ∷ [] ≡ given ++ take (i + 1) entries
-next given entries i e l is =
-    append_assoc given (take i entries) (e ∷ []) ∙ ap (λ z. given ++ z) (ap (λ x. take i entries ++ x ∷ []) is ∙ sym (take_more entries i e l))
+module _ (given entries : List Entry) (i : ℕ) (e : Entry) where
+  next : i < length entries → e ≡ get_or entries i e → (given ++ take i entries) ++ e ∷ [] ≡ given ++ take (i + 1) entries
+  next l is =
+      append_assoc given (take i entries) (e ∷ []) ∙ ap (λ z. given ++ z) (ap (λ x. take i entries ++ x ∷ []) is ∙ sym (take_more entries i e l))
 
-behind : (given entries : List Entry) (i : ℕ) (e : Entry) → i < length entries → e ≡ get_or entries i e → given ++ entries ≡ ((given ++ take i entries) ++ e ∷ []) ++ drop (i + 1) entries
-behind given entries i e l is =
-    ap (λ z. given ++ z) (sym (take-append-drop (i + 1) entries)) ∙ sym (append_assoc given (take (i + 1) entries) (drop (i + 1) entries))
-    ∙ ap (λ z. z ++ drop (i + 1) entries) (sym (next given entries i e l is))
+  behind : i < length entries → e ≡ get_or entries i e → given ++ entries ≡ ((given ++ take i entries) ++ e ∷ []) ++ drop (i + 1) entries
+  behind l is =
+      ap (λ z. given ++ z) (sym (take-append-drop (i + 1) entries)) ∙ sym (append_assoc given (take (i + 1) entries) (drop (i + 1) entries))
+      ∙ ap (λ z. z ++ drop (i + 1) entries) (sym (next l is))
 
-pub listed_to_more : (given entries : List Entry) (i : ℕ) (e : Entry) (was is is' : Option (List ℕ)) (namer namer' : Counts) (count count' : ℕ) (line : List ℕ) → i < length entries → e ≡ get_or entries i e
-    → (t : ListedTo given entries i was is namer count) → listing ((given ++ take i entries) ++ e ∷ []) ≡ listing (given ++ take i entries) ++ line → Appends is is' line
-    → HasListed ((given ++ take i entries) ++ e ∷ []) namer' count' → ListedTo given entries (i + 1) was is' namer' count'
-listed_to_more given entries i e was is is' namer namer' count count' line l at t eq out h =
-    let n = next given entries i e l at in
-    record {
-      lines = t.lines ++ line;
-      are = ap listing (sym n) ∙ eq ∙ ap (λ z. z ++ line) t.are ∙ append_assoc (listing given) t.lines line;
-      out = Appends-trans was is is' t.lines line t.out out;
-      has_listed = rw n at h;
-    }
+  pub listed_to_more : (was is is' : Option (List ℕ)) (namer namer' : Counts) (count count' : ℕ) (line : List ℕ) → i < length entries → e ≡ get_or entries i e → (t : ListedTo given entries i was is namer count) → listing ((given ++ take i entries) ++ e ∷ []) ≡ listing (given ++ take i entries) ++ line → Appends is is' line → HasListed ((given ++ take i entries) ++ e ∷ []) namer' count' → ListedTo given entries (i + 1) was is' namer' count'
+  listed_to_more was is is' namer namer' count count' line l at t eq out h =
+      let n = next l at in
+      record {
+        lines = t.lines ++ line;
+        are = ap listing (sym n) ∙ eq ∙ ap (λ z. z ++ line) t.are ∙ append_assoc (listing given) t.lines line;
+        out = Appends-trans was is is' t.lines line t.out out;
+        has_listed = rw n at h;
+      }
 
-pub listed_to_front : (given entries : List Entry) (i : ℕ) (e : Entry) (was is is' : Option (List ℕ)) (namer : Counts) (count : ℕ) (line : List ℕ) → i < length entries → e ≡ get_or entries i e
-    → (t : ListedTo given entries i was is namer count) → listing ((given ++ take i entries) ++ e ∷ []) ≡ listing (given ++ take i entries) ++ line → AppendsFront is is' line
-    → (lines : List ℕ) × (listing (given ++ entries) ≡ listing given ++ lines) × AppendsFront was is' lines
-listed_to_front given entries i e was is is' namer count line l at t eq out =
-    let b = behind given entries i e l at in
-    let f = listing_output.front ((given ++ take i entries) ++ e ∷ []) (drop (i + 1) entries) in (
-      t.lines ++ (line ++ f.0),
-      ap listing b ∙ f.1 ∙ ap (λ z. z ++ f.0) (eq ∙ ap (λ z. z ++ line) t.are ∙ append_assoc (listing given) t.lines line) ∙ append_assoc (listing given) (t.lines ++ line) f.0
-          ∙ ap (λ z. listing given ++ z) (append_assoc t.lines line f.0),
-      front_then was is is' t.lines line f.0 (t.lines ++ (line ++ f.0)) t.out out refl,
-    )
+  pub listed_to_front : (was is is' : Option (List ℕ)) (namer : Counts) (count : ℕ) (line : List ℕ) → i < length entries → e ≡ get_or entries i e → (t : ListedTo given entries i was is namer count) → listing ((given ++ take i entries) ++ e ∷ []) ≡ listing (given ++ take i entries) ++ line → AppendsFront is is' line → (lines : List ℕ) × (listing (given ++ entries) ≡ listing given ++ lines) × AppendsFront was is' lines
+  listed_to_front was is is' namer count line l at t eq out =
+      let b = behind l at in
+      let f = listing_output.front ((given ++ take i entries) ++ e ∷ []) (drop (i + 1) entries) in (
+        t.lines ++ (line ++ f.0),
+        ap listing b ∙ f.1 ∙ ap (λ z. z ++ f.0) (eq ∙ ap (λ z. z ++ line) t.are ∙ append_assoc (listing given) t.lines line) ∙ append_assoc (listing given) (t.lines ++ line) f.0
+            ∙ ap (λ z. listing given ++ z) (append_assoc t.lines line f.0),
+        front_then was is is' t.lines line f.0 (t.lines ++ (line ++ f.0)) t.out out refl,
+      )
 
 pub listed_to_all : (given entries : List Entry) (i : ℕ) (was is : Option (List ℕ)) (namer : Counts) (count : ℕ) → length entries ≤ i → ListedTo given entries i was is namer count
     → (lines : List ℕ) × (listing (given ++ entries) ≡ listing given ++ lines) × Appends was is lines × HasListed (given ++ entries) namer count

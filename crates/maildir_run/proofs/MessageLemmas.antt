@@ -1,20 +1,9 @@
 -- The messages of a text: their bases are a converter's, and no two are the same.
-use Rattle.std.proofs.Common.{◌≡◌, ℕ, ◌<◌, ◌≤◌, ◌^◌, List, [], ◌∷◌, ◌++◌, map, length, get_or, All, IsTrue, IsFalse, refl, sym, ap, subst, ◌∙◌, inl, inr, arith}
-use Rattle.std.proofs.lemmas.Bool.{false_from_ne_true}
-use Rattle.std.proofs.lemmas.List.{length-append, length-map, get_or-map}
-use Rattle.std.proofs.lemmas.List.Elements.{All-nil}
-use Rattle.mbox_text.specs.declared.entry.Entry.{Entry}
+use Rattle.std.proofs.Common.{◌≡◌, ℕ, ◌<◌, ◌≤◌, ◌^◌, List, [], ◌∷◌, ◌++◌, map, length, get_or, All, IsTrue, IsFalse, refl, sym, ap, subst, ◌∙◌, inl, inr, arith, length-append}
+use Rattle.maildir_run.proofs.Common.{false_from_ne_true, length-map, get_or-map, All-nil, Entry, Block, Target, base, is_converter_base, IsConverterBase, target, targets, length-targets, targets-push, is_name, Message, AreNamed, AreDistinct, with_bodies, messages_of, bodies_of, MessagesOf, IsTarget}
 use Rattle.mbox_text.specs.Lines.{lines}
-use Rattle.mbox_text.specs.Mbox.{Mbox, Block}
-use Rattle.maildir_name.specs.declared.target.Target.{Target}
-use Rattle.maildir_name.specs.Names.{base, is_converter_base, IsConverterBase}
-use Rattle.maildir_name.specs.Targets.{target, targets}
-use Rattle.maildir_name.proofs.TargetLemmas.{length-targets, targets-push}
+use Rattle.mbox_text.specs.Mbox.{Mbox}
 use Rattle.maildir_name.proofs.DistinctBases.{named-targets, distinct-targets}
-use Rattle.maildir_run.specs.Files.{is_name}
-use Rattle.maildir_run.specs.Delivery.{Message, AreNamed, AreDistinct}
-use Rattle.maildir_run.specs.Texts.{with_bodies, messages_of, bodies_of, MessagesOf}
-use Rattle.maildir_run.specs.Progress.{IsTarget}
 use Rattle.maildir_run.proofs.Maps.{is_name-true, is_name-refl}
 
 -- ---- each target with its body
@@ -36,24 +25,24 @@ with_bodies-push (x ∷ ts) [] t body e = absurd (omega arith)
 with_bodies-push (x ∷ ts) (b ∷ bodies) t body e = ap (λ ms. record { target = x; body = b } ∷ ms) (with_bodies-push ts bodies t body (omega arith))
 
 -- one more body adds one message, behind the others
-pub messages_of-push : (bodies : List (List ℕ)) (body : List ℕ) → messages_of (bodies ++ body ∷ []) ≡ messages_of bodies ++ record { target = target bodies body; body = body } ∷ []
-messages_of-push bodies body =
-    ap (λ ts. with_bodies ts (bodies ++ body ∷ [])) (targets-push bodies body)
-    ∙ with_bodies-push (targets bodies) bodies (target bodies body) body (length-targets bodies)
+module _ (bodies : List (List ℕ)) where
+  pub messages_of-push : (body : List ℕ) → messages_of (bodies ++ body ∷ []) ≡ messages_of bodies ++ record { target = target bodies body; body = body } ∷ []
+  messages_of-push body =
+      ap (λ ts. with_bodies ts (bodies ++ body ∷ [])) (targets-push bodies body)
+      ∙ with_bodies-push (targets bodies) bodies (target bodies body) body (length-targets bodies)
 
--- ---- their bases
-get_target : (bodies : List (List ℕ)) (k : ℕ) (d : Message) → k < length (messages_of bodies) → get_or (targets bodies) k d.target ≡ (get_or (messages_of bodies) k d).target
-get_target bodies k d below =
-    ap (λ ts. get_or ts k d.target) (sym (targets_of (targets bodies) bodies (length-targets bodies)))
-    ∙ get_or-map (λ (m : Message). m.target) (messages_of bodies) k d d.target below
+  -- ---- their bases
+  get_target : (k : ℕ) (d : Message) → k < length (messages_of bodies) → get_or (targets bodies) k d.target ≡ (get_or (messages_of bodies) k d).target
+  get_target k d below =
+      ap (λ ts. get_or ts k d.target) (sym (targets_of (targets bodies) bodies (length-targets bodies)))
+      ∙ get_or-map (λ (m : Message). m.target) (messages_of bodies) k d d.target below
 
-as_many : (bodies : List (List ℕ)) → length (messages_of bodies) ≡ length (targets bodies)
-as_many bodies = length-messages_of bodies ∙ sym (length-targets bodies)
+  as_many : length (messages_of bodies) ≡ length (targets bodies)
+  as_many = length-messages_of bodies ∙ sym (length-targets bodies)
 
-pub messages_named : (bodies : List (List ℕ)) → length bodies ≤ 2 ^ 63 → AreNamed (messages_of bodies)
-messages_named bodies few k d below =
-    subst (λ (t : Target). IsTrue (is_converter_base t.base)) (get_target bodies k d below)
-    (named-targets bodies few k d.target (omega (arith, below, as_many bodies))).converter
+  pub messages_named : length bodies ≤ 2 ^ 63 → AreNamed (messages_of bodies)
+  messages_named few k d below =
+      rw (get_target k d below) at (named-targets bodies few k d.target (omega (arith, below, as_many))).converter
 
 pub target_is : (t : Target) → IsConverterBase t.base × (base t.base ≡ t.base) × (base t.name ≡ t.base) → IsTarget t
 target_is t h = record {
@@ -98,14 +87,15 @@ few_bodies t entries is small =
     let len = length-map entries (λ (entry : Entry). entry.body) in
     omega (arith, few, len)
 
-pub text_named : (t : List ℕ) (ms : List Message) → MessagesOf t ms → length t < 2 ^ 63 → AreNamed ms
-text_named t ms (inl (entries, is, e)) small = subst AreNamed (sym e) (messages_named (bodies_of entries) (few_bodies t entries is small))
-text_named t ms (inr (none, e)) small = subst AreNamed (sym e) (All-nil (λ (m : Message). IsTrue (is_converter_base m.target.base)))
+module _ (t : List ℕ) (ms : List Message) where
+  pub text_named : MessagesOf t ms → length t < 2 ^ 63 → AreNamed ms
+  text_named (inl (entries, is, e)) small = subst AreNamed (sym e) (messages_named (bodies_of entries) (few_bodies t entries is small))
+  text_named (inr (none, e)) small = subst AreNamed (sym e) (All-nil (λ (m : Message). IsTrue (is_converter_base m.target.base)))
 
-pub text_distinct : (t : List ℕ) (ms : List Message) → MessagesOf t ms → length t < 2 ^ 63 → AreDistinct ms
-text_distinct t ms (inl (entries, is, e)) small = subst AreDistinct (sym e) (messages_distinct (bodies_of entries) (few_bodies t entries is small))
-text_distinct t ms (inr (none, e)) small = subst AreDistinct (sym e) (λ i j d lt below. absurd (omega arith))
+  pub text_distinct : MessagesOf t ms → length t < 2 ^ 63 → AreDistinct ms
+  text_distinct (inl (entries, is, e)) small = subst AreDistinct (sym e) (messages_distinct (bodies_of entries) (few_bodies t entries is small))
+  text_distinct (inr (none, e)) small = subst AreDistinct (sym e) (λ i j d lt below. absurd (omega arith))
 
-pub text_targets : (t : List ℕ) (ms : List Message) → MessagesOf t ms → length t < 2 ^ 63 → All (λ m. IsTarget m.target) ms
-text_targets t ms (inl (entries, is, e)) small = subst (All (λ m. IsTarget m.target)) (sym e) (messages_targets (bodies_of entries) (omega (arith, few_bodies t entries is small)))
-text_targets t ms (inr (none, e)) small = subst (All (λ m. IsTarget m.target)) (sym e) (All-nil (λ (m : Message). IsTarget m.target))
+  pub text_targets : MessagesOf t ms → length t < 2 ^ 63 → All (λ m. IsTarget m.target) ms
+  text_targets (inl (entries, is, e)) small = subst (All (λ m. IsTarget m.target)) (sym e) (messages_targets (bodies_of entries) (omega (arith, few_bodies t entries is small)))
+  text_targets (inr (none, e)) small = subst (All (λ m. IsTarget m.target)) (sym e) (All-nil (λ (m : Message). IsTarget m.target))

@@ -1,16 +1,9 @@
 -- What a call's moves leave: of the homes of a base, and of a name in tmp.
-use Rattle.std.proofs.Common.{◌≡◌, ℕ, Bool, true, false, cond, List, [], ◌∷◌, ◌++◌, ◌⊎◌, Option, Some, None, IsPermutation, IsTrue, refl, sym, ap, subst, ◌∙◌, inl, inr, map, arith}
-use Rattle.std.specs.FinMap.{get, insert, remove, values, contains_key, entries, retain_keys, empty, get-entries, get-insert, get-remove, get-empty, same_map, len, len-empty, len-entries}
-use Rattle.std.specs.Option.{is_some}
-use Rattle.std.proofs.lemmas.List.Elements.{All-nil, All-cons, All-head}
-use Rattle.std.proofs.lemmas.List.{nil_from_length}
-use Rattle.std.proofs.lemmas.List.Sorted.{IsPermutation-refl, IsPermutation-sym, IsPermutation-trans, IsPermutation-middle, IsPermutation-append_left, IsPermutation-append_right, length_permutation, All-permutation}
+use Rattle.std.proofs.Common.{◌≡◌, ℕ, true, false, cond, List, [], ◌∷◌, ◌++◌, ◌⊎◌, Option, Some, None, IsPermutation, IsTrue, refl, sym, ap, subst, ◌∙◌, inl, inr, map, arith, is_some}
+use Rattle.maildir_run.proofs.Common.{get, insert, remove, values, contains_key, entries, retain_keys, empty, get-entries, get-insert, get-empty, same_map, len, len-empty, len-entries, cases_Bool, All-nil, All-cons, nil_from_length, IsPermutation-refl, IsPermutation-sym, IsPermutation-trans, IsPermutation-middle, IsPermutation-append_left, IsPermutation-append_right, length_permutation, All-permutation, is_converter_name, is_converter_base, name_cmp, is_name, FileMap, Files, has_base, held_under, homes, Action, ToCur, Reflag, DropTmp, Outside, may_take, to_cur, reflag, acted, Call, Listing, Writing, Placing, Removing, Move, Other, Again, Torn, placed, effect, torn, moved, after, IsOthers, IsWhole, Succeeded, PlacesElsewhere, WritesElsewhere, StaysOrGoes}
 use Rattle.maildir_name.specs.declared.target.Place.{Place}
 use Rattle.maildir_name.specs.declared.target.Place.TheVariants.{New, Cur}
-use Rattle.maildir_name.specs.Names.{is_converter_name, is_converter_base}
-use Rattle.maildir_run.specs.Files.{name_cmp, is_name, FileMap, Files, has_base, held_under, homes, Action, ToCur, Reflag, DropTmp, Outside, may_take, to_cur, reflag, acted}
-use Rattle.maildir_run.specs.Calls.{Call, Listing, Writing, Placing, Removing, Move, Other, Again, Torn, placed, effect, torn, moved, after, IsOthers, IsWhole, Succeeded, PlacesElsewhere, WritesElsewhere, StaysOrGoes}
-use Rattle.maildir_run.proofs.Maps.{total, same, get_under, get-insert_same, get-remove_same}
+use Rattle.maildir_run.proofs.Maps.{total, same, get_under, get_removed, get-insert_same, get-remove_same}
 use Rattle.maildir_run.proofs.Homes.{Kept, equally, acted_kept, held-insert_other, held-insert_new, get-outsiders_of}
 
 -- ---- a base at which nothing is placed
@@ -27,14 +20,15 @@ pub torn_kept : (b : List ℕ) (call : Call) (bytes : List ℕ) (s : Files) → 
 torn_kept b (Writing name _) bytes s = IsPermutation-refl _
 torn_kept b other bytes s = IsPermutation-refl _
 
-moved_kept : (b : List ℕ) → IsTrue (is_converter_base b) → (call : Call) → PlacesElsewhere b call → (m : Move) (s : Files) → Kept b s (moved call m s)
-moved_kept b named call h (Other action) s = acted_kept b named action s
-moved_kept b named call h Again s = effect_kept b call h s
-moved_kept b named call h (Torn bytes) s = torn_kept b call bytes s
+module _ (b : List ℕ) (named : IsTrue (is_converter_base b)) (call : Call) (h : PlacesElsewhere b call) where
+  moved_kept : (m : Move) (s : Files) → Kept b s (moved call m s)
+  moved_kept (Other action) s = acted_kept b named action s
+  moved_kept Again s = effect_kept b call h s
+  moved_kept (Torn bytes) s = torn_kept b call bytes s
 
-pub after_kept : (b : List ℕ) → IsTrue (is_converter_base b) → (call : Call) → PlacesElsewhere b call → (ms : List Move) (s : Files) → Kept b s (after s call ms)
-after_kept b named call h [] s = IsPermutation-refl _
-after_kept b named call h (m ∷ ms) s = IsPermutation-trans _ _ _ (moved_kept b named call h m s) (after_kept b named call h ms (moved call m s))
+  pub after_kept : (ms : List Move) (s : Files) → Kept b s (after s call ms)
+  after_kept [] s = IsPermutation-refl _
+  after_kept (m ∷ ms) s = IsPermutation-trans _ _ _ (moved_kept m s) (after_kept ms (moved call m s))
 
 -- ---- a name in tmp
 pub stays : (q : List ℕ) (s : Files) → StaysOrGoes q s s
@@ -47,21 +41,18 @@ stays_trans q a b c (inr e) (inl f) = inr (f ∙ e)
 stays_trans q a b c (inr e) (inr f) = inr f
 
 dropped : (q name : List ℕ) (s : Files) → StaysOrGoes q s (record s { tmp = remove s.tmp name })
-dropped q name s =
-    elim (is_name q name) as (λ t. is_name q name ≡ t → StaysOrGoes q s (record s { tmp = remove s.tmp name })) [
-      | true ↦ λ e. inr (get-remove total s.tmp name q ∙ rw e refl)
-      | false ↦ λ e. inl (get-remove total s.tmp name q ∙ rw e refl)
-    ] refl
+dropped q name s = elim (cases_Bool (is_name q name)) [ inl e ↦ inr (get_removed s.tmp name q ∙ rw e refl) | inr e ↦ inl (get_removed s.tmp name q ∙ rw e refl) ]
 
-pub to_cur_tmp : (s : Files) (name target : List ℕ) (o : Option (List ℕ)) → (to_cur s name target o).tmp ≡ s.tmp
-to_cur_tmp s name target None = refl
-to_cur_tmp s name target (Some bytes) =
-    elim (may_take s.cur name target) as (λ t. (cond t (record s { new = remove s.new name; cur = insert s.cur target bytes }) s).tmp ≡ s.tmp) [ true ↦ refl | false ↦ refl ]
+module _ (s : Files) (name target : List ℕ) where
+  pub to_cur_tmp : (o : Option (List ℕ)) → (to_cur s name target o).tmp ≡ s.tmp
+  to_cur_tmp None = refl
+  to_cur_tmp (Some bytes) =
+      elim (may_take s.cur name target) as (λ t. (cond t (record s { new = remove s.new name; cur = insert s.cur target bytes }) s).tmp ≡ s.tmp) [ true ↦ refl | false ↦ refl ]
 
-pub reflag_tmp : (s : Files) (name target : List ℕ) (o : Option (List ℕ)) → (reflag s name target o).tmp ≡ s.tmp
-reflag_tmp s name target None = refl
-reflag_tmp s name target (Some bytes) =
-    elim (may_take s.cur name target) as (λ t. (cond t (record s { cur = insert (remove s.cur name) target bytes }) s).tmp ≡ s.tmp) [ true ↦ refl | false ↦ refl ]
+  pub reflag_tmp : (o : Option (List ℕ)) → (reflag s name target o).tmp ≡ s.tmp
+  reflag_tmp None = refl
+  reflag_tmp (Some bytes) =
+      elim (may_take s.cur name target) as (λ t. (cond t (record s { cur = insert (remove s.cur name) target bytes }) s).tmp ≡ s.tmp) [ true ↦ refl | false ↦ refl ]
 
 pub acted_tmp : (q : List ℕ) → IsTrue (is_converter_name q) → (action : Action) (s : Files) → StaysOrGoes q s (acted action s)
 acted_tmp q ours (ToCur name target) s = inl (ap (λ m. get m q) (to_cur_tmp s name target (get s.new name)))
@@ -88,30 +79,30 @@ torn_tmp : (q : List ℕ) (call : Call) → WritesElsewhere q call → (bytes : 
 torn_tmp q (Writing name _) h bytes s = written_elsewhere q name bytes s h
 torn_tmp q other h bytes s = inl refl
 
-moved_tmp : (q : List ℕ) → IsTrue (is_converter_name q) → (call : Call) → WritesElsewhere q call → (m : Move) (s : Files) → StaysOrGoes q s (moved call m s)
-moved_tmp q ours call h (Other action) s = acted_tmp q ours action s
-moved_tmp q ours call h Again s = effect_tmp q call h s
-moved_tmp q ours call h (Torn bytes) s = torn_tmp q call h bytes s
+module _ (q : List ℕ) (ours : IsTrue (is_converter_name q)) (call : Call) (h : WritesElsewhere q call) where
+  moved_tmp : (m : Move) (s : Files) → StaysOrGoes q s (moved call m s)
+  moved_tmp (Other action) s = acted_tmp q ours action s
+  moved_tmp Again s = effect_tmp q call h s
+  moved_tmp (Torn bytes) s = torn_tmp q call h bytes s
 
-pub after_tmp : (q : List ℕ) → IsTrue (is_converter_name q) → (call : Call) → WritesElsewhere q call → (ms : List Move) (s : Files) → StaysOrGoes q s (after s call ms)
-after_tmp q ours call h [] s = inl refl
-after_tmp q ours call h (m ∷ ms) s = stays_trans q s (moved call m s) (after s call (m ∷ ms)) (moved_tmp q ours call h m s) (after_tmp q ours call h ms (moved call m s))
+  pub after_tmp : (ms : List Move) (s : Files) → StaysOrGoes q s (after s call ms)
+  after_tmp [] s = inl refl
+  after_tmp (m ∷ ms) s = stays_trans q s (moved call m s) (after s call (m ∷ ms)) (moved_tmp m s) (after_tmp ms (moved call m s))
 
 -- ---- small lists in any order
 pub none_kept : {X : Type 0} (ys : List X) → IsPermutation [] ys → ys ≡ []
-none_kept [] h = refl
-none_kept (y ∷ ys) h = let e = length_permutation [] (y ∷ ys) h in absurd (omega arith)
+none_kept ys h = nil_from_length ys (length_permutation [] ys h)
 
 pub one_kept : {X : Type 0} (x : X) (ys : List X) → IsPermutation (x ∷ []) ys → ys ≡ x ∷ []
-one_kept x [] h = let e = length_permutation (x ∷ []) [] h in absurd (omega arith)
-one_kept x (y ∷ []) h = ap (λ z. z ∷ []) (All-head (λ z. z ≡ x) y [] (All-permutation (λ z. z ≡ x) (x ∷ []) (y ∷ []) h (All-cons (λ z. z ≡ x) x [] refl (All-nil (λ z. z ≡ x)))))
-one_kept x (y ∷ z ∷ ys) h = let e = length_permutation (x ∷ []) (y ∷ z ∷ ys) h in absurd (omega arith)
+one_kept x [] h = absurd (omega (arith, length_permutation (x ∷ []) [] h))
+one_kept x (y ∷ []) h = ap (λ z. z ∷ []) (All-permutation (λ z. z ≡ x) (x ∷ []) (y ∷ []) h (All-cons (λ z. z ≡ x) x [] refl (All-nil _)) 0 y (omega arith))
+one_kept x (y ∷ z ∷ ys) h = absurd (omega (arith, length_permutation (x ∷ []) (y ∷ z ∷ ys) h))
 
 pub homes_none : (b : List ℕ) (old new : Files) → Kept b old new → homes old b ≡ [] → homes new b ≡ []
-homes_none b old new h e = none_kept (homes new b) (subst (λ hs. IsPermutation hs (homes new b)) e h)
+homes_none b old new h e = none_kept (homes new b) (rw e at h)
 
 pub homes_one : (b x : List ℕ) (old new : Files) → Kept b old new → homes old b ≡ x ∷ [] → homes new b ≡ x ∷ []
-homes_one b x old new h e = one_kept x (homes new b) (subst (λ hs. IsPermutation hs (homes new b)) e h)
+homes_one b x old new h e = one_kept x (homes new b) (rw e at h)
 
 -- ---- no file under a base
 no_entries : (es : List (List ℕ × List ℕ)) → map (λ e. e.1) es ≡ [] → es ≡ []
@@ -127,13 +118,9 @@ none_held b m e q on =
 no_values : (m : FileMap) → len m ≡ 0 → values m ≡ []
 no_values m e = rw (nil_from_length (entries m) (sym (len-entries m) ∙ e)) refl
 
-guarded_none : {X : Type 0} (t : Bool) (o : Option X) → (t ≡ true → o ≡ None) → cond t o None ≡ None
-guarded_none true o h = h refl
-guarded_none false o h = refl
-
 pub held_none : (b : List ℕ) (m : FileMap) → ((q : List ℕ) → has_base b q ≡ true → get m q ≡ None) → held_under b m ≡ []
 held_none b m none =
-    let is : retain_keys m (has_base b) ≡ empty = same_map total same _ _ (λ q. get_under (has_base b) m q ∙ guarded_none (has_base b q) _ (none q) ∙ sym (get-empty name_cmp q)) in
+    let is : retain_keys m (has_base b) ≡ empty = same_map total same _ _ (λ q. grind (arith, get_under, none q, get-empty {X = List ℕ} name_cmp q)) in
     no_values (retain_keys m (has_base b)) (ap len is ∙ len-empty name_cmp (List ℕ))
 
 -- ---- a base that has no home, at which a call places
@@ -154,7 +141,7 @@ pub record Arrived (b name : List ℕ) (had : Option (List ℕ)) (s : Files) : T
   pub gone : get s.tmp name ≡ None
 
 homes_first : (xs ys : List (List ℕ)) (v : List ℕ) (zs : List (List ℕ)) → xs ++ ys ≡ [] → IsPermutation (v ∷ (xs ++ ys)) zs → zs ≡ v ∷ []
-homes_first xs ys v zs e h = one_kept v zs (subst (λ l. IsPermutation (v ∷ l) zs) e h)
+homes_first xs ys v zs e h = one_kept v zs (rw e at h)
 
 -- a base that has no home, and then the file of tmp
 placed_first : (b name : List ℕ) (p : Place) (target bytes : List ℕ) (s : Files) → has_base b target ≡ true → homes s b ≡ [] → homes (placed s name p target (Some bytes)) b ≡ bytes ∷ []
@@ -169,22 +156,23 @@ placed_first b name Cur target bytes s on e =
     (IsPermutation-sym _ _ (IsPermutation-middle (held_under b s.new) bytes (held_under b s.cur)))
     (IsPermutation-append_right (held_under b s.new) _ _ (held-insert_new b s.cur target bytes on (none_held b s.cur parts.1 target on))))
 
-waits_on : (b name : List ℕ) (had : Option (List ℕ)) (s t : Files) → Kept b s t → StaysOrGoes name s t → Waits b name had s → Waits b name had t
-waits_on b name had s t kept (inr gone) w = record { homes_are = homes_none b s t kept w.homes_are; waiting = inr gone }
-waits_on b name had s t kept (inl stays) w =
-    record {
-      homes_are = homes_none b s t kept w.homes_are;
-      waiting = elim w.waiting as (λ _. (get t.tmp name ≡ had) ⊎ (get t.tmp name ≡ None)) [ inl e ↦ inl (stays ∙ e) | inr e ↦ inr (stays ∙ e) ];
-    }
+module _ (b name : List ℕ) (had : Option (List ℕ)) (s t : Files) (kept : Kept b s t) where
+  waits_on : StaysOrGoes name s t → Waits b name had s → Waits b name had t
+  waits_on (inr gone) w = record { homes_are = homes_none b s t kept w.homes_are; waiting = inr gone }
+  waits_on (inl stays) w =
+      record {
+        homes_are = homes_none b s t kept w.homes_are;
+        waiting = elim w.waiting [ inl e ↦ inl (stays ∙ e) | inr e ↦ inr (stays ∙ e) ];
+      }
 
-arrived_on : (b name : List ℕ) (had : Option (List ℕ)) (s t : Files) → Kept b s t → StaysOrGoes name s t → Arrived b name had s → Arrived b name had t
-arrived_on b name had s t kept stays a =
-    record {
-      bytes = a.bytes;
-      was = a.was;
-      homes_are = homes_one b a.bytes s t kept a.homes_are;
-      gone = elim stays as (λ _. get t.tmp name ≡ None) [ inl e ↦ e ∙ a.gone | inr e ↦ e ];
-    }
+  arrived_on : StaysOrGoes name s t → Arrived b name had s → Arrived b name had t
+  arrived_on stays a =
+      record {
+        bytes = a.bytes;
+        was = a.was;
+        homes_are = homes_one b a.bytes s t kept a.homes_are;
+        gone = elim stays [ inl e ↦ e ∙ a.gone | inr e ↦ e ];
+      }
 
 pub placed_gone : (s : Files) (name : List ℕ) (p : Place) (target bytes : List ℕ) → get (placed s name p target (Some bytes)).tmp name ≡ None
 placed_gone s name New target bytes = get-remove_same s.tmp name
@@ -195,7 +183,7 @@ arrives : (b name : List ℕ) (p : Place) (target : List ℕ) (had : Option (Lis
 arrives b name p target had s on w bytes has =
     record {
       bytes = bytes;
-      was = elim w.waiting as (λ _. had ≡ Some bytes) [ inl e ↦ sym e ∙ has | inr e ↦ cc ];
+      was = elim w.waiting [ inl e ↦ sym e ∙ has | inr e ↦ cc ];
       homes_are = placed_first b name p target bytes s on w.homes_are;
       gone = placed_gone s name p target bytes;
     }
@@ -205,7 +193,7 @@ Stage b name had s = Waits b name had s ⊎ Arrived b name had s
 
 module _ (b name : List ℕ) (p : Place) (target : List ℕ) (named : IsTrue (is_converter_base b)) (ours : IsTrue (is_converter_name name)) (on : has_base b target ≡ true) (had : Option (List ℕ)) where
   arrived_again : (s : Files) → Arrived b name had s → Arrived b name had (effect (Placing name p target) s)
-  arrived_again s a = subst (λ o. Arrived b name had (placed s name p target o)) (sym a.gone) a
+  arrived_again s a = rw a.gone a
 
   waits_again : (s : Files) → Waits b name had s → Stage b name had (effect (Placing name p target) s)
   waits_again s w =
@@ -251,37 +239,39 @@ after-append s call [] ns = refl
 after-append s call (m ∷ ms) ns = after-append (moved call m s) call ms ns
 
 -- whatever a call that places at a base without a home answers
-pub placing : (b name : List ℕ) (p : Place) (target : List ℕ) → IsTrue (is_converter_base b) → IsTrue (is_converter_name name) → has_base b target ≡ true → (ms : List Move) (s : Files) → homes s b ≡ [] → Stage b name (get s.tmp name) (after s (Placing name p target) ms)
-placing b name p target named ours on ms s e = stage_after b name p target named ours on (get s.tmp name) ms s (inl record { homes_are = e; waiting = inl refl })
+module _ (b name : List ℕ) (p : Place) (target : List ℕ) (named : IsTrue (is_converter_base b)) (ours : IsTrue (is_converter_name name)) (on : has_base b target ≡ true) where
+  pub placing : (ms : List Move) (s : Files) → homes s b ≡ [] → Stage b name (get s.tmp name) (after s (Placing name p target) ms)
+  placing ms s e = stage_after b name p target named ours on (get s.tmp name) ms s (inl record { homes_are = e; waiting = inl refl })
 
--- and with Ok
-pub placing_ok : (b name : List ℕ) (p : Place) (target : List ℕ) → IsTrue (is_converter_base b) → IsTrue (is_converter_name name) → has_base b target ≡ true → (old new : Files) → Succeeded (Placing name p target) old new → homes old b ≡ [] → Arrived b name (get old.tmp name) new
-placing_ok b name p target named ours on old new done e =
-    let had = get old.tmp name in
-    let call = Placing name p target in
-    let mid = after old call done.before in
-    let w : Waits b name had mid = waits_after b name p target named ours on had done.before old done.others (record { homes_are = e; waiting = inl refl }) in
-    subst (Arrived b name had) (sym (done.left ∙ after-append old call done.before (Again ∷ done.rest)))
-    (arrived_after b name p target named ours on had done.rest (effect call mid) (ready b name p target named ours on had mid w done.ready))
+  -- and with Ok
+  pub placing_ok : (old new : Files) → Succeeded (Placing name p target) old new → homes old b ≡ [] → Arrived b name (get old.tmp name) new
+  placing_ok old new done e =
+      let had = get old.tmp name in
+      let call = Placing name p target in
+      let mid = after old call done.before in
+      let w : Waits b name had mid = waits_after b name p target named ours on had done.before old done.others (record { homes_are = e; waiting = inl refl }) in
+      subst (Arrived b name had) (sym (done.left ∙ after-append old call done.before (Again ∷ done.rest)))
+      (arrived_after b name p target named ours on had done.rest (effect call mid) (ready b name p target named ours on had mid w done.ready))
 
 -- ---- what was written
-abbrev pub WrittenOrGone : (name bytes : List ℕ) (s : Files) → Type 0
-WrittenOrGone name bytes s = (get s.tmp name ≡ Some bytes) ⊎ (get s.tmp name ≡ None)
+module _ (name bytes : List ℕ) where
+  abbrev pub WrittenOrGone : (s : Files) → Type 0
+  WrittenOrGone s = (get s.tmp name ≡ Some bytes) ⊎ (get s.tmp name ≡ None)
 
-written_on : (name bytes : List ℕ) (s t : Files) → StaysOrGoes name s t → WrittenOrGone name bytes s → WrittenOrGone name bytes t
-written_on name bytes s t (inr gone) w = inr gone
-written_on name bytes s t (inl stays) (inl e) = inl (stays ∙ e)
-written_on name bytes s t (inl stays) (inr e) = inr (stays ∙ e)
+  written_on : (s : Files) (t : Files) → StaysOrGoes name s t → WrittenOrGone s → WrittenOrGone t
+  written_on s t (inr gone) w = inr gone
+  written_on s t (inl stays) (inl e) = inl (stays ∙ e)
+  written_on s t (inl stays) (inr e) = inr (stays ∙ e)
 
-written_after : (name bytes : List ℕ) → IsTrue (is_converter_name name) → (ms : List Move) (s : Files) → IsWhole ms → WrittenOrGone name bytes s → WrittenOrGone name bytes (after s (Writing name bytes) ms)
-written_after name bytes ours [] s whole w = w
-written_after name bytes ours (Other action ∷ ms) s whole w = written_after name bytes ours ms (acted action s) whole (written_on name bytes s (acted action s) (acted_tmp name ours action s) w)
-written_after name bytes ours (Again ∷ ms) s whole w = written_after name bytes ours ms (effect (Writing name bytes) s) whole (inl (get-insert_same s.tmp name bytes))
-written_after name bytes ours (Torn _ ∷ ms) s whole w = absurd whole
+  written_after : IsTrue (is_converter_name name) → (ms : List Move) (s : Files) → IsWhole ms → WrittenOrGone s → WrittenOrGone (after s (Writing name bytes) ms)
+  written_after ours [] s whole w = w
+  written_after ours (Other action ∷ ms) s whole w = written_after ours ms (acted action s) whole (written_on s (acted action s) (acted_tmp name ours action s) w)
+  written_after ours (Again ∷ ms) s whole w = written_after ours ms (effect (Writing name bytes) s) whole (inl (get-insert_same s.tmp name bytes))
+  written_after ours (Torn _ ∷ ms) s whole w = absurd whole
 
-pub writing_ok : (name bytes : List ℕ) → IsTrue (is_converter_name name) → (old new : Files) → Succeeded (Writing name bytes) old new → WrittenOrGone name bytes new
-writing_ok name bytes ours old new done =
-    let call = Writing name bytes in
-    let mid = after old call done.before in
-    subst (WrittenOrGone name bytes) (sym (done.left ∙ after-append old call done.before (Again ∷ done.rest)))
-    (written_after name bytes ours done.rest (effect call mid) done.whole (inl (get-insert_same mid.tmp name bytes)))
+  pub writing_ok : IsTrue (is_converter_name name) → (old new : Files) → Succeeded (Writing name bytes) old new → WrittenOrGone new
+  writing_ok ours old new done =
+      let call = Writing name bytes in
+      let mid = after old call done.before in
+      subst (WrittenOrGone) (sym (done.left ∙ after-append old call done.before (Again ∷ done.rest)))
+      (written_after ours done.rest (effect call mid) done.whole (inl (get-insert_same mid.tmp name bytes)))

@@ -1,15 +1,7 @@
 -- Which number the base of each message of a text has.
-use Rattle.std.proofs.Common.{◌≡◌, ℕ, zero, suc, ◌+◌, ◌<◌, ◌≤◌, ◌^◌, Bool, true, false, cond, List, [], ◌∷◌, length, get_or, take, map, count_by, refl, sym, ap, subst, ◌∙◌, inl, inr, arith}
-use Rattle.std.specs.List.{list_any}
-use Rattle.std.proofs.lemmas.Bool.{cases_Bool, cases_lt}
-use Rattle.std.proofs.lemmas.List.{take-map, take-take, get_or-map}
-use Rattle.std.proofs.lemmas.List.Sums.{count_by_more_yes, sum_by-cons, sum_by-take-le, count_by-le-length}
-use Rattle.maildir_name.specs.declared.target.Target.{Target}
-use Rattle.maildir_name.specs.Targets.{numbered, same_digest, targets}
-use Rattle.maildir_name.proofs.TargetLemmas.{length-targets, get_or-targets}
+use Rattle.std.proofs.Common.{◌≡◌, ℕ, zero, suc, ◌+◌, ◌<◌, ◌≤◌, ◌^◌, Bool, true, false, cond, List, [], ◌∷◌, length, get_or, take, map, count_by, refl, sym, ap, subst, ◌∙◌, inl, inr, arith, take-take}
+use Rattle.maildir_run.proofs.Common.{list_any, cases_Bool, cases_lt, take-map, get_or-map, count_by_more_yes, sum_by-cons, sum_by-take-le, count_by-le-length, Target, numbered, same_digest, targets, length-targets, get_or-targets, Message, with_bodies, messages_of, bodies_of, MessagesOf}
 use Rattle.maildir_name.proofs.DistinctBases.{number_after-is, target-base}
-use Rattle.maildir_run.specs.Delivery.{Message}
-use Rattle.maildir_run.specs.Texts.{with_bodies, messages_of, bodies_of, MessagesOf}
 use Rattle.maildir_run.proofs.MessageLemmas.{targets_of, length-messages_of, few_bodies}
 
 -- whether a message has the digest of this body
@@ -70,40 +62,41 @@ pub record Selected {X : Type 0} (p : X → Bool) (xs : List X) (k : ℕ) : Type
   pub hit : (d : X) → p (get_or xs i d) ≡ true
   pub before : count_by p (take i xs) ≡ k
 
-pub count-cons : {X : Type 0} (p : X → Bool) (x : X) (xs : List X) (t : Bool) → p x ≡ t → count_by p (x ∷ xs) ≡ cond t 1 0 + count_by p xs
-count-cons p x xs t e = sum_by-cons (λ y. cond (p y) 1 0) x xs ∙ ap (λ b. cond b 1 0 + count_by p xs) e
+module _ {X : Type 0} (p : X → Bool) where
+  pub count-cons : (x : X) (xs : List X) (t : Bool) → p x ≡ t → count_by p (x ∷ xs) ≡ cond t 1 0 + count_by p xs
+  count-cons x xs t e = sum_by-cons (λ y. cond (p y) 1 0) x xs ∙ ap (λ b. cond b 1 0 + count_by p xs) e
 
-selected_here : {X : Type 0} (p : X → Bool) (x : X) (xs : List X) (k : ℕ) → p x ≡ true → ((j : ℕ) → j < count_by p xs → Selected p xs j) → k < count_by p (x ∷ xs) → Selected p (x ∷ xs) k
-selected_here p x xs zero on later lt = record { i = 0; below = omega arith; hit = λ d. on; before = refl }
-selected_here p x xs (suc k) on later lt =
-    let s = later k (omega (arith, lt, count-cons p x xs true on)) in
-    record { i = suc s.i; below = omega (arith, s.below); hit = s.hit; before = omega (arith, s.before, count-cons p x (take s.i xs) true on) }
+  selected_here : (x : X) (xs : List X) (k : ℕ) → p x ≡ true → ((j : ℕ) → j < count_by p xs → Selected p xs j) → k < count_by p (x ∷ xs) → Selected p (x ∷ xs) k
+  selected_here x xs zero on later lt = record { i = 0; below = omega arith; hit = λ d. on; before = refl }
+  selected_here x xs (suc k) on later lt =
+      let s = later k (omega (arith, lt, count-cons x xs true on)) in
+      record { i = suc s.i; below = omega (arith, s.below); hit = s.hit; before = omega (arith, s.before, count-cons x (take s.i xs) true on) }
 
-pub select : {X : Type 0} (p : X → Bool) (xs : List X) (k : ℕ) → k < count_by p xs → Selected p xs k
-select p [] k lt = absurd (omega (arith, lt))
-select p (x ∷ xs) k lt =
-    elim (cases_Bool (p x)) as (λ _. Selected p (x ∷ xs) k) [
-      | inl on ↦ selected_here p x xs k on (select p xs) lt
-      | inr off ↦
-          let s = select p xs k (omega (arith, lt, count-cons p x xs false off)) in
-          record { i = suc s.i; below = omega (arith, s.below); hit = s.hit; before = omega (arith, s.before, count-cons p x (take s.i xs) false off) }
-    ]
+  pub select : (xs : List X) (k : ℕ) → k < count_by p xs → Selected p xs k
+  select [] k lt = absurd (omega (arith, lt))
+  select (x ∷ xs) k lt =
+      elim (cases_Bool (p x)) [
+        | inl on ↦ selected_here x xs k on (select xs) lt
+        | inr off ↦
+            let s = select xs k (omega (arith, lt, count-cons x xs false off)) in
+            record { i = suc s.i; below = omega (arith, s.below); hit = s.hit; before = omega (arith, s.before, count-cons x (take s.i xs) false off) }
+      ]
 
-pub count-front : {X : Type 0} (p : X → Bool) (xs : List X) (i : ℕ) (d : X) → i < length xs → p (get_or xs i d) ≡ true → count_by p (take i xs) < count_by p xs
-count-front p xs i d below on =
-    let more = count_by_more_yes p xs i d below on in
-    let le = sum_by-take-le (λ x. cond (p x) 1 0) xs (i + 1) in
-    omega (arith, more, le)
+  pub count-front : (xs : List X) (i : ℕ) (d : X) → i < length xs → p (get_or xs i d) ≡ true → count_by p (take i xs) < count_by p xs
+  count-front xs i d below on =
+      let more = count_by_more_yes p xs i d below on in
+      let le = sum_by-take-le (λ x. cond (p x) 1 0) xs (i + 1) in
+      omega (arith, more, le)
 
-pub fewer_before : {X : Type 0} (p : X → Bool) (xs : List X) (i j : ℕ) → count_by p (take i xs) < count_by p (take j xs) → i < j
-fewer_before p xs i j lt =
-    elim (cases_lt i j) as (λ _. i < j) [
-      | inl before ↦ before
-      | inr ge ↦
-          let within : take j (take i xs) ≡ take j xs = take-take j i xs ge in
-          let le : count_by p (take j xs) ≤ count_by p (take i xs) = rw within at (sum_by-take-le (λ x. cond (p x) 1 0) (take i xs) j) in
-          absurd (omega (arith, lt, le))
-    ]
+  pub fewer_before : (xs : List X) (i j : ℕ) → count_by p (take i xs) < count_by p (take j xs) → i < j
+  fewer_before xs i j lt =
+      elim (cases_lt i j) [
+        | inl before ↦ before
+        | inr ge ↦
+            let within : take j (take i xs) ≡ take j xs = take-take j i xs ge in
+            let le : count_by p (take j xs) ≤ count_by p (take i xs) = rw within at (sum_by-take-le (λ x. cond (p x) 1 0) (take i xs) j) in
+            absurd (omega (arith, lt, le))
+      ]
 
 pub few_with_digest : (b : List ℕ) (ms : List Message) (i : ℕ) → with_digest b (take i ms) ≤ length ms
 few_with_digest b ms i =
@@ -114,7 +107,7 @@ few_with_digest b ms i =
 pub any_at : {X : Type 0} (p : X → Bool) (xs : List X) (d : X) → list_any p xs ≡ true → (i : ℕ) × (i < length xs) × (p (get_or xs i d) ≡ true)
 any_at p [] d e = cc
 any_at p (x ∷ xs) d e =
-    elim (cases_Bool (p x)) as (λ _. (i : ℕ) × (i < length (x ∷ xs)) × (p (get_or (x ∷ xs) i d) ≡ true)) [
+    elim (cases_Bool (p x)) [
       | inl on ↦ (0, omega arith, on)
       | inr off ↦ let a = any_at p xs d (rw off at e) in (suc a.0, omega (arith, a.1), a.2)
     ]

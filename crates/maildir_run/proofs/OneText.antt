@@ -1,13 +1,7 @@
 -- For one text, what is said of several is what is said of it.
-use Rattle.std.proofs.Common.{◌≡◌, ℕ, zero, suc, ◌<◌, ◌&&◌, ◌||◌, ◌⊎◌, true, false, List, [], ◌∷◌, length, get_or, map, bytes_eq, All, Contains, refl, sym, ap, subst, ◌∙◌, inl, inr, arith}
-use Rattle.std.specs.Cmp.Lexicographic.{bytes_decides}
-use Rattle.std.proofs.Math.Bool.{or-false}
-use Rattle.std.proofs.lemmas.Bool.{cases_lt, and_parts, or_parts}
-use Rattle.std.proofs.lemmas.Cmp.{eq_by_cmp_equiv}
-use Rattle.std.proofs.lemmas.List.Elements.{All-head, All-from_get_or}
-use Rattle.maildir_run.specs.Files.{Files, is_name}
-use Rattle.maildir_run.specs.Delivery.{Message, IsMissing, IsSoundAt, AreDistinct, Sound, is_base_of}
-use Rattle.maildir_run.specs.Runs.{Run, Link, Ran, Acted, Linked, Runs}
+use Rattle.std.proofs.Common.{◌≡◌, ℕ, zero, suc, ◌<◌, ◌&&◌, ◌||◌, ◌⊎◌, true, false, List, [], ◌∷◌, length, get_or, map, bytes_eq, All, Contains, refl, sym, ap, ◌∙◌, inl, inr, arith}
+use Rattle.maildir_run.proofs.Common.{bytes_decides, or-false, cases_lt, and_parts, or_parts, eq_by_cmp_equiv, All-head, All-from_get_or, Files, is_name, Message, IsMissing, IsSoundAt, AreDistinct, Sound, is_base_of, Link, Acted, Linked, Runs}
+use Rattle.maildir_run.specs.Runs.{Ran}
 use Rattle.maildir_run.specs.Several.{Text, IsText, HoldsGiven, SoundForAll, LinkOver, RanOver, ActedOver, LinkedOver, RunsOver, link_over, link_of}
 use Rattle.maildir_run.proofs.Chains.{chain_map}
 use Rattle.maildir_run.proofs.Maps.{total}
@@ -18,9 +12,9 @@ use Rattle.maildir_run.proofs.SeveralTexts.{home_given}
 -- messages with one base are one message
 same_place : (ms : List Message) → AreDistinct ms → (i j : ℕ) (d : Message) → i < length ms → j < length ms → is_name (get_or ms j d).target.base (get_or ms i d).target.base ≡ true → i ≡ j
 same_place ms distinct i j d in_i in_j same =
-    elim (cases_lt i j) as (λ _. i ≡ j) [
+    elim (cases_lt i j) [
       | inl lt ↦ let off : is_name (get_or ms j d).target.base (get_or ms i d).target.base ≡ false = (eq_by_cmp_equiv total).symm (get_or ms j d).target.base (get_or ms i d).target.base ∙ distinct i j d lt in_j in cc
-      | inr ge ↦ elim (cases_lt j i) as (λ _. i ≡ j) [
+      | inr ge ↦ elim (cases_lt j i) [
         | inl lt ↦ let off : is_name (get_or ms j d).target.base (get_or ms i d).target.base ≡ false = distinct j i d lt in_i in cc
         | inr le ↦ omega (arith, ge, le)
       ]
@@ -62,7 +56,7 @@ only_one text other (zero, below, is) = sym is
 only_one text other (suc k, below, is) = absurd (omega (arith, below))
 
 one_link : (text : Text) (link : LinkOver) (a b : Files) → LinkedOver (text ∷ []) link a b → Linked text.bytes (link_of link) a b
-one_link text (RanOver other answer) a b (among, run) = subst (λ (x : Text). Run x.bytes a answer b) (only_one text other among) run
+one_link text (RanOver other answer) a b (among, run) = rw (only_one text other among) at run
 one_link text (ActedOver action) a b e = e
 
 link_one : (text : Text) (link : Link) (a b : Files) → Linked text.bytes link a b → LinkedOver (text ∷ []) (link_over text link) a b

@@ -1,9 +1,6 @@
 -- An action outside reaches just the states that leave the converter's names as they are.
 use Rattle.std.proofs.Common.{◌≡◌, ℕ, true, false, cond, not, List, [], ◌∷◌, ◌++◌, Some, None, refl, sym, ◌∙◌, inl, inr}
-use Rattle.std.specs.FinMap.{get, entries, retain_keys, find, get-entries, get-from_entries, same_map}
-use Rattle.std.proofs.lemmas.Bool.{cases_Bool}
-use Rattle.maildir_name.specs.Names.{is_converter_name}
-use Rattle.maildir_run.specs.Files.{name_cmp, is_name, FileMap, Files, LeavesConverters, outsiders_of, Outside, acted}
+use Rattle.maildir_run.proofs.Common.{get, entries, retain_keys, find, get-entries, get-from_entries, same_map, cases_Bool, is_converter_name, name_cmp, is_name, FileMap, Files, LeavesConverters, outsiders_of, Outside, acted}
 use Rattle.maildir_run.proofs.Maps.{total, same, get_under}
 use Rattle.maildir_run.proofs.Homes.{get-outsiders_of}
 
@@ -28,7 +25,7 @@ get-outsiders_other ours theirs q h =
 pub outsiders_alike : (ours theirs : FileMap) → ((q : List ℕ) → is_converter_name q ≡ true → get ours q ≡ get theirs q) → outsiders_of ours theirs ≡ theirs
 outsiders_alike ours theirs alike =
     same_map total same _ _ (λ q.
-    elim (cases_Bool (is_converter_name q)) as (λ _. get (outsiders_of ours theirs) q ≡ get theirs q) [
+    elim (cases_Bool (is_converter_name q)) [
       | inl on ↦ get-outsiders_of ours theirs q on ∙ alike q on
       | inr off ↦ get-outsiders_other ours theirs q off
     ])

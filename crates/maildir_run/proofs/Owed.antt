@@ -1,35 +1,7 @@
 -- What a run owes where it ends, from the tasks that it performed.
-use Rattle.std.proofs.Common.{◌≡◌, ℕ, ◌+◌, ◌*◌, ◌<◌, ◌≤◌, ◌^◌, Bool, true, false, cond, Option, Some, None, List, [], ◌∷◌, ◌++◌, length, All, Result, Ok, Err, IfOk, OnOk, IsPermutation, IsTrue, refl, sym, ap, subst, ◌∙◌, inl, inr, arith, append_assoc, length-append}
-use Rattle.std.specs.Prelude.{IsErrOf}
-use Rattle.std.specs.List.{filter}
-use Rattle.std.specs.FinMap.{get, keys}
-use Rattle.std.proofs.lemmas.List.{append-nil, length-map}
-use Rattle.std.proofs.lemmas.List.Elements.{All-head, All-tail}
-use Rattle.std.proofs.lemmas.List.Sums.{length-filter, count_by-le-length}
+use Rattle.std.proofs.Common.{◌≡◌, ℕ, ◌+◌, ◌*◌, ◌<◌, ◌≤◌, ◌^◌, Bool, true, false, cond, Option, Some, None, List, [], ◌∷◌, ◌++◌, length, All, Result, Ok, Err, IfOk, OnOk, IsTrue, refl, sym, ap, subst, ◌∙◌, inl, inr, arith, append_assoc, length-append, IsErrOf, filter, append-nil}
+use Rattle.maildir_run.proofs.Common.{get, keys, length-map, All-head, All-tail, length-filter, count_by-le-length, IsAtEnd, Entry, Target, base, is_converter_name, is_converter_base, RunFault, NoFromLine, TooManyReads, Report, swept, filled, alone, Conversion, Tells, run_tasks, Seen, Ran, sweep_of, delivery_of, delivery_if, deliveries_of, fault_of, capped, IsNumbered, Numbers, Left, Message, IsSoundAt, IsMissing, Delivered, AreDistinct, Sound, has_home, there_count, leftover_count, Files, GaveAll, Refused, is_listed, TmpWithin, Knows, Progress, IsTarget, LeavesOthers, ReadsAtLeast, Possible, Keeps, Run, CountsRun, Link, Runs, Mbox, Task, Do, Performs, AllDone, Stopped, reported, undisturbed, Names, listings, planned_tasks, Way, leaving, Removing, messages_of, bodies_of, MessagesOf, flat_map-append}
 use Rattle.std.proofs.lemmas.Result.{on_ok_weaker, IfErr-at_err}
-use Rattle.std.specs.Io.KnownBytes.{IsAtEnd}
-use Rattle.mbox_text.specs.declared.entry.Entry.{Entry}
-use Rattle.maildir_name.specs.declared.target.Target.{Target}
-use Rattle.maildir_name.specs.Names.{base, is_converter_name, is_converter_base}
-use Rattle.maildir_run.specs.declared.fault.RunFault.{RunFault}
-use Rattle.maildir_run.specs.declared.fault.RunFault.TheVariants.{NoFromLine, TooManyReads}
-use Rattle.maildir_run.specs.declared.report.Report.{Report}
-use Rattle.maildir_run.specs.Alone.{swept, filled, alone}
-use Rattle.maildir_run.specs.Parts.{Conversion, Tells, run_tasks, Seen, Ran, sweep_of, delivery_of, delivery_if, deliveries_of}
-use Rattle.maildir_run.specs.Counting.{fault_of, capped, IsNumbered, Makes, Numbers}
-use Rattle.maildir_run.specs.Cuts.{Left}
-use Rattle.maildir_run.specs.Delivery.{Message, IsSoundAt, IsMissing, Delivered, AreDistinct, Sound, has_home, there_count, leftover_count}
-use Rattle.maildir_run.specs.Files.{Files}
-use Rattle.maildir_run.specs.Given.{GaveAll, Refused}
-use Rattle.maildir_run.specs.Plan.{is_listed}
-use Rattle.maildir_run.specs.Progress.{TmpWithin, Knows, Progress, IsTarget}
-use Rattle.maildir_run.specs.Quietly.{LeavesOthers}
-use Rattle.maildir_run.specs.Reading.{ReadsAtLeast}
-use Rattle.maildir_run.specs.Runs.{Possible, Keeps, Run, CountsRun, Link, Runs}
-use Rattle.mbox_text.specs.Mbox.{Mbox}
-use Rattle.maildir_run.specs.Tasks.{Task, Do, Performs, AllDone, Stopped, reported, undisturbed, Names, listings, planned_tasks, Way, leaving}
-use Rattle.maildir_run.specs.Calls.{Removing}
-use Rattle.maildir_run.specs.Texts.{messages_of, bodies_of, MessagesOf}
 use Rattle.maildir_run.proofs.CallCounts.{run_counts}
 use Rattle.maildir_run.proofs.Maps.{is_name-true}
 use Rattle.maildir_run.proofs.MessageLemmas.{text_named, text_distinct, text_targets, messages_distinct, messages_targets, length-messages_of}
@@ -42,7 +14,6 @@ use Rattle.maildir_run.proofs.Surveys.{filter-length}
 use Rattle.maildir_run.proofs.Numbers.{count-cons}
 use Rattle.maildir_run.proofs.Planned.{planned_are}
 use Rattle.maildir_run.proofs.Tasks.{stopped_before, reported_stops, MayStop, leaving_stops}
-use Rattle.std.proofs.lemmas.List.Concat.{flat_map-append}
 use Rattle.maildir_run.proofs.TaskEffects.{EachTask, each_of_both, PlacesNone, IsOurs, done_leaves, all_parts, stopped_parts, looked, looked_quietly, all_swept, sweep_ours, listings_place_none, sweep_places_none, all_progress, stopped_came, CameTo, all_filled, done_others}
 
 -- ---- tasks that name converter's names alone
@@ -137,7 +108,7 @@ module _ (names : Names) (ms : List Message) (distinct : AreDistinct ms) (are : 
             messages = messages;
             there = tells.there ∙ (omega (arith, messages, placed, count));
             placed = omega (arith, messages, placed, count);
-            swept = subst (λ n. n ≤ leftover_count start) (sym (tells.swept ∙ sweep_count names.tmp)) look.few;
+            swept = rw (tells.swept ∙ sweep_count names.tmp) look.few;
           };
         };
       }
@@ -149,7 +120,7 @@ module _ (names : Names) (ms : List Message) (distinct : AreDistinct ms) (are : 
       let one = all_parts undisturbed (listings names) (sweep_of names.tmp ++ deliveries_of (is_listed names.new names.cur) ms) start now h in
       let two = all_parts undisturbed (sweep_of names.tmp) (deliveries_of (is_listed names.new names.cur) ms) one.0 now one.2 in
       let l = looked_quietly names start one.0 one.1 in
-      let clean : two.0 ≡ swept start = swept_exact names.tmp one.0 two.0 (subst (λ s. IsPermutation names.tmp (keys s.tmp)) (sym l.0) l.1) two.1 ∙ ap swept l.0 in (
+      let clean : two.0 ≡ swept start = swept_exact names.tmp one.0 two.0 (rw l.0 l.1) two.1 ∙ ap swept l.0 in (
         all_filled start (is_listed names.new names.cur) look.knows ms are two.0 now (λ name ours. ap (λ s. get s.tmp name) clean ∙ swept_free start name ours) two.2 ∙ ap (filled start ms) clean,
         tells.swept ∙ sweep_count names.tmp ∙ filter-length is_converter_name names.tmp (keys start.tmp) l.1,
       )
@@ -182,7 +153,7 @@ calls_made names ms start now made made' (Err fault) ran tells = tt
 calls_made names ms start now made made' (Ok report) ran tells =
     let placed = tells.placed in
     let all_made : ran.n ≡ 3 + length (sweep_of names.tmp) + 2 * report.placed = ran.all refl ∙ (omega (arith, placed, length-append (sweep_of names.tmp) (deliveries_of (is_listed names.new names.cur) ms))) in
-    run_counts report (length (sweep_of names.tmp)) report.placed made made' start.calls now.calls tells.swept refl (subst (λ n. Makes n made made' start.calls now.calls) all_made ran.makes)
+    run_counts report (length (sweep_of names.tmp)) report.placed made made' start.calls now.calls tells.swept refl (rw all_made at ran.makes)
 
 -- ---- how many the tasks are
 deliveries_most : (is_there : List ℕ → Bool) (ms : List Message) → length (deliveries_of is_there ms) ≤ 2 * length ms
@@ -209,25 +180,26 @@ module _ {before after : Option (List ℕ)} {reads : ℕ} {start now : Seen} {r 
   given_here : (t : List ℕ) (ms : List Message) → Possible before after t → MessagesOf t ms → (more : List Message) × (ms ≡ messages_of (bodies_of run.given) ++ more) × OnOk r (ms ≡ messages_of (bodies_of run.given))
   given_here = given_of r before after reads run.given run.front run.whole
 
-  performs_here : start.honest → (t : List ℕ) (ms : List Message) → Possible before after t → MessagesOf t ms → Performs reported (planned_tasks run.names ms) start.files r now.files
-  performs_here h t ms p of =
-      let g = given_here t ms p of in
-      planned_performs run.names (messages_of (bodies_of run.given)) g.0 ms g.1 reported reported_stops r g.2 start.files now.files (run.ran.reported_of h)
+  module _ (h : start.honest) (t : List ℕ) (ms : List Message) (p : Possible before after t) (of : MessagesOf t ms) where
+    performs_here : Performs reported (planned_tasks run.names ms) start.files r now.files
+    performs_here =
+        let g = given_here t ms p of in
+        planned_performs run.names (messages_of (bodies_of run.given)) g.0 ms g.1 reported reported_stops r g.2 start.files now.files (run.ran.reported_of h)
 
-  pub owes_planned : start.honest → (t : List ℕ) (ms : List Message) → Possible before after t → MessagesOf t ms → (names : Names) × Performs reported (planned_tasks names ms) start.files r now.files
-  owes_planned h t ms p of = (run.names, performs_here h t ms p of)
+    pub owes_planned : (names : Names) × Performs reported (planned_tasks names ms) start.files r now.files
+    owes_planned = (run.names, performs_here)
 
-  pub owes_left : start.honest → (t : List ℕ) (ms : List Message) → Possible before after t → MessagesOf t ms → Left (λ old new. (names : Names) × Performs leaving (planned_tasks names ms) old r new) start.may_leave now.may_leave
-  owes_left h t ms p of =
-      let g = given_here t ms p of in
-      left_as _ _ start.may_leave now.may_leave (λ old new q. (run.names, planned_performs run.names (messages_of (bodies_of run.given)) g.0 ms g.1 leaving leaving_stops r g.2 old new q)) (run.ran.left h)
+    pub owes_left : Left (λ old new. (names : Names) × Performs leaving (planned_tasks names ms) old r new) start.may_leave now.may_leave
+    owes_left =
+        let g = given_here t ms p of in
+        left_as _ _ start.may_leave now.may_leave (λ old new q. (run.names, planned_performs run.names (messages_of (bodies_of run.given)) g.0 ms g.1 leaving leaving_stops r g.2 old new q)) (run.ran.left h)
 
   pub owes_run : start.honest → (t : List ℕ) → length t < 2 ^ 63 → Possible before after t → Run t start.files r now.files
   owes_run h t small p = record {
     keeps = λ ms of sound.
-        keeps run.names ms (text_distinct t ms of small) (text_targets t ms of small) start.files now.files r (subst (λ ts. Performs reported ts start.files r now.files) (planned_are run.names ms) (performs_here h t ms p of))
-        (both_ok r (λ (same : ms ≡ messages_of (bodies_of run.given)) report tells. subst (λ x. Tells run.names x report) (sym same) tells) (given_here t ms p of).2 run.tells) sound;
-    is_read = on_ok_weaker r (λ (w : (text : List ℕ) × GaveAll before after reads text run.given). (run.given, whole_text before after reads w.0 run.given w.1 t p)) run.whole;
+        keeps run.names ms (text_distinct t ms of small) (text_targets t ms of small) start.files now.files r (rw (planned_are run.names ms) at (performs_here h t ms p of))
+        (both_ok r (λ (same : ms ≡ messages_of (bodies_of run.given)) report tells. rw same tells) (given_here t ms p of).2 run.tells) sound;
+    is_read = on_ok_weaker r (λ (w : GaveAll before after reads run.given). (run.given, whole_text w t p)) run.whole;
   }
 
   pub owes_restart : start.honest → (t : List ℕ) (ms : List Message) (links : List Link) (first : Files) → length t < 2 ^ 63 → Possible before after t → MessagesOf t ms → All (IsMissing first) ms → Runs t links first start.files → OnOk r (Delivered ms now.files)
@@ -251,7 +223,7 @@ module _ {before after : Option (List ℕ)} {reads : ℕ} {start now : Seen} {r 
 
   -- ---- and of its source
   pub owes_end : OnOk r (IsAtEnd after)
-  owes_end = on_ok_weaker r (λ (w : (text : List ℕ) × GaveAll before after reads text run.given). w.1.end) run.whole
+  owes_end = on_ok_weaker r (λ (w : GaveAll before after reads run.given). w.end) run.whole
 
   refused_as : (fault : RunFault) → IsErrOf r fault → Refused before after reads fault
   refused_as fault e = IfErr-at_err (Refused before after reads) e run.refused

@@ -1,10 +1,7 @@
 -- The plan of a list of targets, from those of each target alone.
-use Rattle.std.proofs.Common.{◌≡◌, ℕ, suc, ◌<◌, take, get_or, length, arith, ◌+◌, Bool, true, false, cond, List, [], ◌∷◌, ◌++◌, map, refl, sym, ap, ◌∙◌, add-zero, append_assoc}
-use Rattle.std.proofs.lemmas.List.{append-nil, take_more, length-take-le}
-use Rattle.maildir_name.specs.declared.target.Target.{Target}
-use Rattle.maildir_run.specs.declared.planner.Step.{Step}
-use Rattle.maildir_run.specs.declared.planner.Step.TheVariants.{Write, Place}
-use Rattle.maildir_run.specs.Plan.{is_listed, removals, delivery, deliveries_from, planned, numbered, each_alone}
+use Rattle.std.proofs.Common.{◌≡◌, ℕ, suc, ◌<◌, take, get_or, length, arith, ◌+◌, Bool, true, false, cond, List, [], ◌∷◌, ◌++◌, map, refl, sym, ap, ◌∙◌, add-zero, append_assoc, append-nil, length-take-le}
+use Rattle.maildir_run.proofs.Common.{take_more, Target, Step, Write, Place, is_listed, removals, delivery, deliveries_from, planned, each_alone}
+use Rattle.maildir_run.specs.Plan.{numbered}
 
 one_numbered : (i : ℕ) (shown : Bool) → map (numbered i) (cond shown [] (Write 0 ∷ Place 0 ∷ []) ++ []) ≡ cond shown [] (Write i ∷ Place i ∷ [])
 one_numbered i true = refl
@@ -32,15 +29,16 @@ deliveries_from-push is_there i (x ∷ targets) target =
     ∙ sym (append_assoc (delivery is_there i x) (deliveries_from is_there (i + 1) targets) (delivery is_there (i + suc (length targets)) target))
 
 -- one more target of a list
-pub deliveries-more : (is_there : List ℕ → Bool) (targets : List Target) (i : ℕ) (d : Target) → i < length targets → deliveries_from is_there 0 (take (i + 1) targets) ≡ deliveries_from is_there 0 (take i targets) ++ delivery is_there i (get_or targets i d)
-deliveries-more is_there targets i d h =
-    ap (deliveries_from is_there 0) (take_more targets i d h)
-    ∙ deliveries_from-push is_there 0 (take i targets) (get_or targets i d)
-    ∙ ap (λ k. deliveries_from is_there 0 (take i targets) ++ delivery is_there k (get_or targets i d)) (omega (arith, length-take-le i targets (omega arith)))
+module _ (is_there : List ℕ → Bool) (targets : List Target) (i : ℕ) (d : Target) where
+  pub deliveries-more : i < length targets → deliveries_from is_there 0 (take (i + 1) targets) ≡ deliveries_from is_there 0 (take i targets) ++ delivery is_there i (get_or targets i d)
+  deliveries-more h =
+      ap (deliveries_from is_there 0) (take_more targets i d h)
+      ∙ deliveries_from-push is_there 0 (take i targets) (get_or targets i d)
+      ∙ ap (λ k. deliveries_from is_there 0 (take i targets) ++ delivery is_there k (get_or targets i d)) (omega (arith, length-take-le i targets (omega arith)))
 
-pub deliveries-step : (is_there : List ℕ → Bool) (targets : List Target) (i : ℕ) (d : Target) (before now after : List Step) (shown : Bool) → i < length targets → is_there (get_or targets i d).base ≡ shown → now ≡ before ++ deliveries_from is_there 0 (take i targets) → after ≡ now ++ cond shown [] (Write i ∷ Place i ∷ []) → after ≡ before ++ deliveries_from is_there 0 (take (i + 1) targets)
-deliveries-step is_there targets i d before now after shown h is had added =
-    added
-    ∙ ap (λ xs. xs ++ cond shown [] (Write i ∷ Place i ∷ [])) had
-    ∙ append_assoc before (deliveries_from is_there 0 (take i targets)) (cond shown [] (Write i ∷ Place i ∷ []))
-    ∙ ap (λ xs. before ++ xs) (ap (λ t. deliveries_from is_there 0 (take i targets) ++ cond t [] (Write i ∷ Place i ∷ [])) (sym is) ∙ sym (deliveries-more is_there targets i d h))
+  pub deliveries-step : (before now after : List Step) (shown : Bool) → i < length targets → is_there (get_or targets i d).base ≡ shown → now ≡ before ++ deliveries_from is_there 0 (take i targets) → after ≡ now ++ cond shown [] (Write i ∷ Place i ∷ []) → after ≡ before ++ deliveries_from is_there 0 (take (i + 1) targets)
+  deliveries-step before now after shown h is had added =
+      added
+      ∙ ap (λ xs. xs ++ cond shown [] (Write i ∷ Place i ∷ [])) had
+      ∙ append_assoc before (deliveries_from is_there 0 (take i targets)) (cond shown [] (Write i ∷ Place i ∷ []))
+      ∙ ap (λ xs. before ++ xs) (ap (λ t. deliveries_from is_there 0 (take i targets) ++ cond t [] (Write i ∷ Place i ∷ [])) (sym is) ∙ sym (deliveries-more h))

@@ -1,16 +1,6 @@
 -- What a run asks of its folder is what is planned for its messages.
-use Rattle.std.proofs.Common.{◌≡◌, ℕ, ◌+◌, Bool, true, false, cond, List, [], ◌∷◌, ◌++◌, map, length, refl, ap, subst, ◌∙◌, arith, append_assoc, length-append}
-use Rattle.std.specs.List.{filter, flat_map}
-use Rattle.std.proofs.Math.Seq.{drop-append_seam}
-use Rattle.std.proofs.lemmas.List.{append-nil}
-use Rattle.std.proofs.lemmas.List.Concat.{flat_map-append}
-use Rattle.maildir_name.specs.Names.{is_converter_name}
-use Rattle.maildir_run.specs.declared.planner.Step.TheVariants.{Remove, Write, Place}
-use Rattle.maildir_run.specs.Calls.{Removing}
-use Rattle.maildir_run.specs.Delivery.{Message}
-use Rattle.maildir_run.specs.Plan.{is_listed, planned, removals, delivery, deliveries_from}
-use Rattle.maildir_run.specs.Tasks.{Do, Names, listings, task_of, tasks_of, planned_tasks}
-use Rattle.maildir_run.specs.Parts.{sweep_of, delivery_of, delivery_if, deliveries_of}
+use Rattle.std.proofs.Common.{◌≡◌, ℕ, ◌+◌, Bool, true, false, cond, List, [], ◌∷◌, ◌++◌, map, length, refl, ap, ◌∙◌, arith, append_assoc, length-append, filter, flat_map, append-nil}
+use Rattle.maildir_run.proofs.Common.{drop-append_seam, flat_map-append, is_converter_name, Remove, Write, Place, Removing, Message, is_listed, planned, removals, delivery, deliveries_from, Do, Names, listings, task_of, tasks_of, planned_tasks, sweep_of, delivery_of, delivery_if, deliveries_of}
 
 -- ---- the removals
 swept_each : (ms : List Message) (names : List (List ℕ)) → flat_map (task_of ms) (map Remove names) ≡ map (λ name. Do (Removing name)) names
@@ -33,8 +23,7 @@ each_delivery is_there before (m ∷ ms) i e =
     flat_map-append f (delivery is_there i m.target) (deliveries_from is_there (i + 1) (map (λ (n : Message). n.target) ms))
     ∙ ap (λ ts. ts ++ flat_map f (deliveries_from is_there (i + 1) (map (λ (n : Message). n.target) ms))) (ap (λ k. flat_map f (delivery is_there k m.target)) e ∙ one_delivery is_there before ms m (is_there m.target.base))
     ∙ ap (λ ts. delivery_if is_there m ++ ts)
-    (subst (λ all. flat_map (task_of all) (deliveries_from is_there (i + 1) (map (λ (n : Message). n.target) ms)) ≡ deliveries_of is_there ms) (append_assoc before (m ∷ []) ms)
-    (each_delivery is_there more ms (i + 1) (omega (arith, e, length-append before (m ∷ [])))))
+    (rw (append_assoc before (m ∷ []) ms) at (each_delivery is_there more ms (i + 1) (omega (arith, e, length-append before (m ∷ [])))))
 
 pub planned_are : (names : Names) (ms : List Message) → planned_tasks names ms ≡ listings names ++ (sweep_of names.tmp ++ deliveries_of (is_listed names.new names.cur) ms)
 planned_are names ms =

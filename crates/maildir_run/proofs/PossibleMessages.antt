@@ -1,18 +1,6 @@
 -- What a run has kept at its exits, for each text that its source may have had.
-use Rattle.std.proofs.Common.{◌≡◌, ℕ, ◌+◌, ◌*◌, ◌≤◌, ◌^◌, Option, Result, Ok, Err, OnOk, List, [], ◌++◌, length, sym, ap, subst, ◌∙◌, inl, inr, arith}
-use Rattle.std.proofs.lemmas.List.{append-nil, map-append, length-append, length-map}
-use Rattle.std.proofs.lemmas.List.Elements.{All-nil}
-use Rattle.mbox_text.specs.declared.entry.Entry.{Entry}
-use Rattle.mbox_text.specs.Mbox.{Mbox}
-use Rattle.mbox_text.proofs.OneReading.{mbox-one}
-use Rattle.maildir_run.specs.declared.fault.RunFault.{RunFault}
-use Rattle.maildir_run.specs.Files.{Files}
-use Rattle.maildir_run.specs.Delivery.{Message, IsHome, AreNamed, AreDistinct, Sound}
-use Rattle.maildir_run.specs.Texts.{messages_of, bodies_of, MessagesOf}
-use Rattle.maildir_run.specs.Parts.{messages_after}
-use Rattle.maildir_run.specs.Runs.{Possible, Keeps}
-use Rattle.maildir_run.specs.Progress.{LeavesHomes, Progress}
-use Rattle.maildir_run.specs.Given.{Front, GaveAll}
+use Rattle.std.proofs.Common.{◌≡◌, ℕ, ◌+◌, ◌*◌, ◌≤◌, ◌^◌, Option, Result, Ok, Err, OnOk, List, [], ◌++◌, length, sym, ap, subst, ◌∙◌, inl, inr, arith, append-nil, length-append}
+use Rattle.maildir_run.proofs.Common.{map-append, length-map, All-nil, Entry, Mbox, mbox-one, RunFault, Files, Message, IsHome, AreNamed, AreDistinct, Sound, messages_of, bodies_of, MessagesOf, messages_after, Possible, Keeps, LeavesHomes, Progress, Front, GaveAll}
 use Rattle.maildir_run.proofs.Progress.{Stands, progress_stands}
 use Rattle.maildir_run.proofs.Batches.{after_these, no_messages}
 use Rattle.maildir_run.proofs.Givens.{read_is}
@@ -26,7 +14,7 @@ stands_keeps ms start now fault s = record { sound = s.sound; still = s.still; i
 -- messages of which the first are done
 pub front_stands : (ms done more : List Message) (start now : Files) → AreNamed ms → AreDistinct ms → Sound ms start start → ms ≡ done ++ more → Progress done start now → Stands ms start now
 front_stands ms done more start now named distinct sound e p =
-    subst (λ x. Stands x start now) (sym e) (progress_stands done more start now (subst AreNamed e named) (subst AreDistinct e distinct) (subst (λ x. Sound x start start) e sound) p)
+    rw e (progress_stands done more start now (subst AreNamed e named) (subst AreDistinct e distinct) (rw e at sound) p)
 
 bodies_parts : (all rest : List Entry) → bodies_of (all ++ rest) ≡ bodies_of all ++ bodies_of rest
 bodies_parts all rest = map-append (λ (e : Entry). e.body) all rest
@@ -36,7 +24,7 @@ bodies_parts all rest = map-append (λ (e : Entry). e.body) all rest
 front_of : (before after : Option (List ℕ)) (reads : ℕ) (given : List Entry) → Front before after reads given → (t : List ℕ) (ms : List Message) → Possible before after t → MessagesOf t ms → (more : List Message) × (ms ≡ messages_of (bodies_of given) ++ more)
 front_of before after reads given f t ms p of =
     let is : t ≡ f.text ++ p.more = rw (← read_is before after f.text t f.read p) p.front in
-    elim of as (λ _. (more : List Message) × (ms ≡ messages_of (bodies_of given) ++ more)) [
+    elim of [
       | inl (entries, m, e) ↦
           let r = f.tells p.more p.left entries p.has p.whole (rw is at m) in
           (messages_after (bodies_of given) (bodies_of r.0), e ∙ ap messages_of (ap bodies_of r.1 ∙ bodies_parts given r.0) ∙ after_these (bodies_of given) (bodies_of r.0))
@@ -44,10 +32,10 @@ front_of before after reads given f t ms p of =
     ]
 
 -- and with Ok all of them
-pub whole_text : (before after : Option (List ℕ)) (reads : ℕ) (text : List ℕ) (all : List Entry) → GaveAll before after reads text all → (t : List ℕ) → Possible before after t → Mbox t all
-whole_text before after reads text all gave t p =
+pub whole_text : {before after : Option (List ℕ)} {reads : ℕ} {all : List Entry} → GaveAll before after reads all → (t : List ℕ) → Possible before after t → Mbox t all
+whole_text {before} {after} gave t p =
     let at_end : p.left ≡ [] = rw p.has at gave.end in
-    let is : t ≡ text = rw (← read_is before after text t gave.read p) p.front ∙ ap (λ xs. text ++ xs) (p.whole at_end) ∙ append-nil text in
+    let is : t ≡ gave.text = rw (← read_is before after gave.text t gave.read p) p.front ∙ ap (λ xs. gave.text ++ xs) (p.whole at_end) ∙ append-nil gave.text in
     rw is gave.all
 
 pub whole_messages : (t : List ℕ) (all : List Entry) → Mbox t all → (ms : List Message) → MessagesOf t ms → ms ≡ messages_of (bodies_of all)
@@ -55,9 +43,9 @@ whole_messages t all whole ms (inl (entries, m, e)) = e ∙ ap (λ es. messages_
 whole_messages t all whole ms (inr (none, e)) = absurd (none all whole)
 
 -- the messages that were given, and those that were not; with Ok there are no others
-pub given_of : {A E : Type 0} (r : Result A E) (before after : Option (List ℕ)) (reads : ℕ) (given : List Entry) → Front before after reads given → OnOk r ((text : List ℕ) × GaveAll before after reads text given) → (t : List ℕ) (ms : List Message) → Possible before after t → MessagesOf t ms → (more : List Message) × (ms ≡ messages_of (bodies_of given) ++ more) × OnOk r (ms ≡ messages_of (bodies_of given))
+pub given_of : {A E : Type 0} (r : Result A E) (before after : Option (List ℕ)) (reads : ℕ) (given : List Entry) → Front before after reads given → OnOk r (GaveAll before after reads given) → (t : List ℕ) (ms : List Message) → Possible before after t → MessagesOf t ms → (more : List Message) × (ms ≡ messages_of (bodies_of given) ++ more) × OnOk r (ms ≡ messages_of (bodies_of given))
 given_of (Ok x) before after reads given front whole t ms p of =
-    let same = whole_messages t given (whole_text before after reads whole.0 given whole.1 t p) ms of in
+    let same = whole_messages t given (whole_text whole t p) ms of in
     ([], same ∙ sym (append-nil (messages_of (bodies_of given))), same)
 given_of (Err e) before after reads given front whole t ms p of = let f = front_of before after reads given front t ms p of in (f.0, f.1, tt)
 

@@ -1,14 +1,6 @@
 -- How far a run has come, and what that says at its exits.
-use Rattle.std.proofs.Common.{◌≡◌, ℕ, ◌<◌, ◌≤◌, false, List, [], ◌∷◌, ◌++◌, All, IsPermutation, IsFalse, length, get_or, refl, sym, subst, ◌∙◌, inl, inr, ◌⊎◌, arith}
-use Rattle.std.specs.Prelude.{AllPairs}
-use Rattle.std.proofs.lemmas.Bool.{or_parts, cases_Bool, cases_lt}
-use Rattle.std.proofs.lemmas.List.Elements.{All-push, All-from_get_or}
-use Rattle.std.proofs.lemmas.List.{get_or_append_left}
-use Rattle.std.proofs.lemmas.List.Folds.{list_any-append, list_any_none}
-use Rattle.std.proofs.lemmas.List.Sorted.{IsPermutation-refl, IsPermutation-sym, IsPermutation-trans}
-use Rattle.maildir_run.specs.Files.{Files, is_name, homes}
-use Rattle.maildir_run.specs.Delivery.{Message, IsMissing, IsHome, IsSoundAt, HasHome, is_any, AreNamed, AreDistinct, is_base_of, Sound}
-use Rattle.maildir_run.specs.Progress.{LeavesHomes, Brings, Progress}
+use Rattle.std.proofs.Common.{◌≡◌, ℕ, ◌<◌, ◌≤◌, false, List, [], ◌∷◌, ◌++◌, All, IsPermutation, IsFalse, length, get_or, refl, sym, subst, ◌∙◌, inl, inr, ◌⊎◌, arith, AllPairs}
+use Rattle.maildir_run.proofs.Common.{or_parts, cases_Bool, cases_lt, All-push, All-from_get_or, get_or_append_left, list_any-append, list_any_none, IsPermutation-refl, IsPermutation-sym, IsPermutation-trans, Files, is_name, homes, Message, IsMissing, IsHome, IsSoundAt, HasHome, is_any, AreNamed, AreDistinct, is_base_of, Sound, LeavesHomes, Brings, Progress}
 use Rattle.maildir_run.proofs.Maps.{is_name-true}
 use Rattle.maildir_run.proofs.Moves.{homes_none, homes_one, none_kept}
 
@@ -67,13 +59,14 @@ at_done : (P : Message → Type 0) (done rest : List Message) (k : ℕ) (d : Mes
 at_done P done rest k d lt h = subst P (sym (get_or_append_left done rest d k lt)) h
 
 module _ (done rest : List Message) (old now : Files) (named : AreNamed (done ++ rest)) (distinct : AreDistinct (done ++ rest)) (sound : Sound (done ++ rest) old old) (p : Progress done old now) where
-  base_apart : (k : ℕ) (d : Message) → length done ≤ k → k < length (done ++ rest) → IsFalse (is_base_of done (get_or (done ++ rest) k d).target.base)
-  base_apart k d ge h =
-      list_any_none _ done (All-from_get_or (λ m. IsFalse (is_name m.target.base (get_or (done ++ rest) k d).target.base)) done d (λ i lt.
-      subst (λ m. IsFalse (is_name m.target.base (get_or (done ++ rest) k d).target.base)) (get_or_append_left done rest d i lt) (distinct i k d (omega arith) h)))
+  module _ (k : ℕ) (d : Message) (ge : length done ≤ k) (h : k < length (done ++ rest)) where
+    base_apart : IsFalse (is_base_of done (get_or (done ++ rest) k d).target.base)
+    base_apart =
+        list_any_none _ done (All-from_get_or (λ m. IsFalse (is_name m.target.base (get_or (done ++ rest) k d).target.base)) done d (λ i lt.
+        rw (get_or_append_left done rest d i lt) at (distinct i k d (omega arith) h)))
 
-  kept_at : (k : ℕ) (d : Message) → length done ≤ k → k < length (done ++ rest) → IsPermutation (homes old (get_or (done ++ rest) k d).target.base) (homes now (get_or (done ++ rest) k d).target.base)
-  kept_at k d ge h = p.kept _ (named k d h) (base_apart k d ge h)
+    kept_at : IsPermutation (homes old (get_or (done ++ rest) k d).target.base) (homes now (get_or (done ++ rest) k d).target.base)
+    kept_at = p.kept _ (named k d h) (base_apart)
 
   sound_at : (m : Message) → IsPermutation (homes old m.target.base) (homes now m.target.base) → IsSoundAt old m → IsSoundAt now m
   sound_at m kept (inl none) = inl (homes_none _ old now kept none)
@@ -81,21 +74,21 @@ module _ (done rest : List Message) (old now : Files) (named : AreNamed (done ++
 
   sound_now : (k : ℕ) (d : Message) → k < length (done ++ rest) → IsSoundAt now (get_or (done ++ rest) k d)
   sound_now k d h =
-      elim (cases_lt k (length done)) as (λ _. IsSoundAt now (get_or (done ++ rest) k d)) [
+      elim (cases_lt k (length done)) [
         | inl lt ↦ at_done (IsSoundAt now) done rest k d lt (inr (p.homes_are k d lt))
         | inr ge ↦ sound_at (get_or (done ++ rest) k d) (kept_at k d ge h) (sound.own k d h)
       ]
 
   still_now : (k : ℕ) (d : Message) → k < length (done ++ rest) → HasHome old (get_or (done ++ rest) k d) → HasHome now (get_or (done ++ rest) k d)
   still_now k d h there =
-      elim (cases_lt k (length done)) as (λ _. HasHome now (get_or (done ++ rest) k d)) [
+      elim (cases_lt k (length done)) [
         | inl lt ↦ at_done (HasHome now) done rest k d lt (home_there (get_or done k d) now (p.homes_are k d lt))
         | inr ge ↦ sym (any_kept _ _ (kept_at k d ge h)) ∙ there
       ]
 
   in_order_now : (i j : ℕ) (d : Message) → i < j → j < length (done ++ rest) → IsMissing old (get_or (done ++ rest) j d) → HasHome now (get_or (done ++ rest) j d) → HasHome now (get_or (done ++ rest) i d)
   in_order_now i j d lt h missing there =
-      elim (cases_lt j (length done)) as (λ _. HasHome now (get_or (done ++ rest) i d)) [
+      elim (cases_lt j (length done)) [
         | inl lt_done ↦ let before : i < length done = omega arith in at_done (HasHome now) done rest i d before (home_there (get_or done i d) now (p.homes_are i d before))
         | inr ge ↦ absurd (missing_there (get_or (done ++ rest) j d) now (homes_none (get_or (done ++ rest) j d).target.base old now (kept_at j d ge h) missing) there)
       ]
@@ -123,7 +116,7 @@ nothing_brought m mid now was is brings = record {
 -- a message that was missing was brought, or is missing yet
 pub progress_or_more : (done : List Message) (m : Message) (old mid now : Files) → AreNamed done → All (λ n. IsFalse (is_name m.target.base n.target.base)) done → IsMissing mid m → Brings m mid now → Progress done old mid → Progress done old now ⊎ Progress (done ++ m ∷ []) old now
 progress_or_more done m old mid now named apart was brings p =
-    elim brings.own as (λ _. Progress done old now ⊎ Progress (done ++ m ∷ []) old now) [
+    elim brings.own [
       | inl is ↦ inl (progress_on done old mid now named (nothing_brought m mid now was is brings) p)
       | inr home ↦ inr (progress_brought done m old mid now named apart brings home p)
     ]

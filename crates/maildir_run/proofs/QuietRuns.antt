@@ -1,21 +1,9 @@
 -- What a run's calls leave in a quiet folder.
-use Rattle.std.proofs.Common.{◌≡◌, ℕ, Bool, true, false, cond, not, ◌&&◌, ◌||◌, List, [], ◌∷◌, map, Option, Some, None, IsPermutation, IsTrue, IsFalse, refl, sym, ap, ◌∙◌, inl, inr}
-use Rattle.std.specs.List.{filter, list_any}
-use Rattle.std.specs.FinMap.{get, insert, remove, keys, retain_keys, same_map, get-insert, get-remove, contains_key-keys}
-use Rattle.std.proofs.lemmas.Bool.{cases_Bool, false_from_ne_true}
-use Rattle.std.proofs.lemmas.Map.Views.{any-filter_same}
-use Rattle.std.proofs.lemmas.List.Sorted.{list_any-IsPermutation}
+use Rattle.std.proofs.Common.{◌≡◌, ℕ, Bool, true, false, cond, not, List, [], ◌∷◌, map, Option, Some, None, IsPermutation, IsTrue, IsFalse, refl, sym, ap, ◌∙◌, arith, filter}
+use Rattle.maildir_run.proofs.Common.{list_any, get, insert, remove, keys, retain_keys, same_map, contains_key-keys, any-filter_same, list_any-IsPermutation, is_converter_name, Files, FileMap, is_name, Call, Listing, Writing, Placing, Removing, Move, Other, Again, Torn, after, effect, placed, torn, IsOwn, swept, added, Message, LeavesOthers, Do, undisturbed, AllDone, sweep_of}
 use Rattle.maildir_name.specs.declared.target.Place.{Place}
 use Rattle.maildir_name.specs.declared.target.Place.TheVariants.{New, Cur}
-use Rattle.maildir_name.specs.Names.{is_converter_name}
-use Rattle.maildir_run.specs.Files.{Files, FileMap, is_name}
-use Rattle.maildir_run.specs.Calls.{Call, Listing, Writing, Placing, Removing, Move, Other, Again, Torn, after, effect, placed, torn, IsOwn}
-use Rattle.maildir_run.specs.Alone.{swept, added}
-use Rattle.maildir_run.specs.Delivery.{Message}
-use Rattle.maildir_run.specs.Quietly.{LeavesOthers}
-use Rattle.maildir_run.specs.Tasks.{Do, undisturbed, AllDone}
-use Rattle.maildir_run.specs.Parts.{sweep_of}
-use Rattle.maildir_run.proofs.Maps.{nothing, total, same, is_name-true, get_under, get-insert_same}
+use Rattle.maildir_run.proofs.Maps.{nothing, total, same, is_name-true, alike, get_under, get_inserted, get_removed, get-insert_same, put_away}
 
 pub others_same : (s : Files) → LeavesOthers s s
 others_same s = record { in_tmp = λ q off. refl; in_new = λ q off. refl; in_cur = λ q off. refl }
@@ -34,15 +22,11 @@ OfConverter (Writing name bytes) = IsTrue (is_converter_name name)
 OfConverter (Placing name p target) = IsTrue (is_converter_name name) × IsTrue (is_converter_name target)
 OfConverter (Removing name) = IsTrue (is_converter_name name)
 
-another : (q name : List ℕ) → IsTrue (is_converter_name name) → IsFalse (is_converter_name q) → is_name q name ≡ false
-another q name ours off =
-    false_from_ne_true (is_name q name) (λ e. let alike : is_converter_name q ≡ is_converter_name name = ap is_converter_name (is_name-true q name e) in cc)
-
 insert_other : (m : FileMap) (q name bytes : List ℕ) → IsTrue (is_converter_name name) → IsFalse (is_converter_name q) → get (insert m name bytes) q ≡ get m q
-insert_other m q name bytes ours off = get-insert total m name bytes q ∙ ap (λ t. cond t (Some bytes) (get m q)) (another q name ours off)
+insert_other m q name bytes ours off = grind (arith, get_inserted, alike is_converter_name q name)
 
 remove_other : (m : FileMap) (q name : List ℕ) → IsTrue (is_converter_name name) → IsFalse (is_converter_name q) → get (remove m name) q ≡ get m q
-remove_other m q name ours off = get-remove total m name q ∙ ap (λ t. cond t None (get m q)) (another q name ours off)
+remove_other m q name ours off = grind (arith, get_removed, alike is_converter_name q name)
 
 wrote : (s : Files) (name bytes : List ℕ) → IsTrue (is_converter_name name) → LeavesOthers s (record s { tmp = insert s.tmp name bytes })
 wrote s name bytes ours = record { in_tmp = λ q off. insert_other s.tmp q name bytes ours off; in_new = λ q off. refl; in_cur = λ q off. refl }
@@ -69,25 +53,15 @@ own_others call h (Again ∷ ms) s own = others_then s (effect call s) (after s 
 own_others call h (Torn bytes ∷ ms) s own = others_then s (torn call bytes s) (after s call (Torn bytes ∷ ms)) (torn_others call h bytes s) (own_others call h ms (torn call bytes s) own)
 
 -- ---- the sweep
-either : (a b : Bool) (o : Option (List ℕ)) → cond b None (cond a None o) ≡ cond (a || b) None o
-either true true o = refl
-either true false o = refl
-either false b o = refl
-
 -- these names are out of `tmp`, and nothing else has changed
 all_removed : (names : List (List ℕ)) (old new : Files) → AllDone undisturbed (map (λ name. Do (Removing name)) names) old new → ((q : List ℕ) → get new.tmp q ≡ cond (list_any (is_name q) names) None (get old.tmp q)) × (new.new ≡ old.new) × (new.cur ≡ old.cur)
 all_removed [] old new e = ((λ q. ap (λ s. get s.tmp q) e), ap (λ s. s.new) e, ap (λ s. s.cur) e)
 all_removed (x ∷ names) old new (mid, one, more) =
     let r = all_removed names mid new more in (
-      (λ q. r.0 q ∙ ap (λ s. cond (list_any (is_name q) names) None (get s.tmp q)) one.1 ∙ ap (cond (list_any (is_name q) names) None) (get-remove total old.tmp x q) ∙ either (is_name q x) (list_any (is_name q) names) (get old.tmp q)),
+      (λ q. r.0 q ∙ ap (λ s. cond (list_any (is_name q) names) None (get s.tmp q)) one.1 ∙ grind (arith, get_removed)),
       r.1 ∙ ap (λ s. s.new) one.1,
       r.2 ∙ ap (λ s. s.cur) one.1,
     )
-
-all_out : (c a : Bool) (o : Option (List ℕ)) → (a ≡ false → o ≡ None) → cond (c && a) None o ≡ cond (not c) o None
-all_out true true o h = refl
-all_out true false o h = h refl
-all_out false a o h = refl
 
 pub swept_exact : (names : List (List ℕ)) (start now : Files) → IsPermutation names (keys start.tmp) → AllDone undisturbed (sweep_of names) start now → now ≡ swept start
 swept_exact names start now listed done =
@@ -95,21 +69,13 @@ swept_exact names start now listed done =
     let tmp : now.tmp ≡ retain_keys start.tmp (λ name. not (is_converter_name name)) = same_map total same _ _ (λ q.
     r.0 q
     ∙ ap (λ t. cond t None (get start.tmp q)) (any-filter_same (is_name q) is_converter_name (is_converter_name q) (λ k e. ap is_converter_name (sym (is_name-true q k e))) names)
-    ∙ all_out (is_converter_name q) (list_any (is_name q) names) (get start.tmp q) (λ off. nothing (get start.tmp q) (contains_key-keys start.tmp q ∙ sym (list_any-IsPermutation (is_name q) names (keys start.tmp) listed) ∙ off))
-    ∙ sym (get_under (λ name. not (is_converter_name name)) start.tmp q)) in
+    ∙ (let gone : list_any (is_name q) names ≡ false → get start.tmp q ≡ None = λ off. nothing (get start.tmp q) (contains_key-keys start.tmp q ∙ sym (list_any-IsPermutation (is_name q) names (keys start.tmp) listed) ∙ off) in
+    grind (arith, gone, get_under))) in
     ap (λ m. record now { tmp = m }) tmp
     ∙ ap (λ m. record { tmp = (swept start).tmp; new = m; cur = now.cur }) r.1
     ∙ ap (λ m. record { tmp = (swept start).tmp; new = start.new; cur = m }) r.2
 
 -- ---- a message
-put_away : (m : FileMap) (k v : List ℕ) → get m k ≡ None → remove (insert m k v) k ≡ m
-put_away m k v none = same_map total same _ _ (λ q.
-    get-remove total (insert m k v) k q ∙ ap (cond (is_name q k) None) (get-insert total m k v q)
-    ∙ elim (cases_Bool (is_name q k)) as (λ _. cond (is_name q k) None (cond (is_name q k) (Some v) (get m q)) ≡ get m q) [
-      | inl e ↦ ap (λ t. cond t None (cond t (Some v) (get m q))) e ∙ sym (ap (get m) (is_name-true q k e) ∙ none)
-      | inr e ↦ ap (λ t. cond t None (cond t (Some v) (get m q))) e
-    ])
-
 placed_exact : (old : Files) (b body : List ℕ) (p : Place) (name : List ℕ) → get old.tmp b ≡ None → placed (record old { tmp = insert old.tmp b body }) b p name (Some body) ≡ added old p name body
 placed_exact old b body New name none = ap (λ m. record { tmp = m; new = insert old.new name body; cur = old.cur }) (put_away old.tmp b body none)
 placed_exact old b body Cur name none = ap (λ m. record { tmp = m; new = old.new; cur = insert old.cur name body }) (put_away old.tmp b body none)

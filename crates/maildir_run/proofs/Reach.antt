@@ -1,15 +1,6 @@
 -- One more message of a run.
 use Rattle.std.proofs.Common.{◌≡◌, ℕ, true, false, List, [], ◌∷◌, ◌++◌, length, get_or, All, IsTrue, IsFalse, refl, sym, ap, ◌∙◌, inl, inr, arith, length-append}
-use Rattle.std.proofs.Math.Seq.{get_or-append_seam}
-use Rattle.std.proofs.lemmas.Cmp.{eq_by_cmp_equiv}
-use Rattle.std.proofs.lemmas.List.{get_or_append_left}
-use Rattle.std.proofs.lemmas.List.Elements.{All-weaker, All-from_get_or}
-use Rattle.std.proofs.lemmas.List.Folds.{list_any_none}
-use Rattle.maildir_name.specs.declared.target.Target.{Target}
-use Rattle.maildir_name.specs.Names.{is_converter_base}
-use Rattle.maildir_run.specs.Files.{Files, is_name}
-use Rattle.maildir_run.specs.Delivery.{Message, IsMissing, IsHome, IsSoundAt, AreDistinct, is_base_of, is_any, has_home}
-use Rattle.maildir_run.specs.Progress.{Progress}
+use Rattle.maildir_run.proofs.Common.{get_or-append_seam, eq_by_cmp_equiv, get_or_append_left, All-weaker, All-from_get_or, list_any_none, Target, is_converter_base, Files, is_name, Message, IsMissing, IsHome, IsSoundAt, AreDistinct, is_base_of, is_any, has_home, Progress}
 use Rattle.maildir_run.proofs.Maps.{total}
 use Rattle.maildir_run.proofs.Moves.{homes_none, homes_one}
 
@@ -26,11 +17,12 @@ apart_front done m later distinct =
 not_done : (done : List Message) (m : Message) → All (λ n. IsFalse (is_name m.target.base n.target.base)) done → IsFalse (is_base_of done m.target.base)
 not_done done m apart = list_any_none (λ n. is_name n.target.base m.target.base) done (All-weaker (λ n. is_name m.target.base n.target.base ≡ false) (λ n. is_name n.target.base m.target.base ≡ false) (λ n h. (eq_by_cmp_equiv total).symm n.target.base m.target.base ∙ h) done apart)
 
-pub still_missing : (done : List Message) (m : Message) (old now : Files) → IsTrue (is_converter_base m.target.base) → All (λ n. IsFalse (is_name m.target.base n.target.base)) done → Progress done old now → IsMissing old m → IsMissing now m
-still_missing done m old now named apart p h = homes_none m.target.base old now (p.kept m.target.base named (not_done done m apart)) h
+module _ (done : List Message) (m : Message) (old now : Files) (named : IsTrue (is_converter_base m.target.base)) (apart : All (λ n. IsFalse (is_name m.target.base n.target.base)) done) (p : Progress done old now) where
+  pub still_missing : IsMissing old m → IsMissing now m
+  still_missing h = homes_none m.target.base old now (p.kept m.target.base named (not_done done m apart)) h
 
-pub still_there : (done : List Message) (m : Message) (old now : Files) → IsTrue (is_converter_base m.target.base) → All (λ n. IsFalse (is_name m.target.base n.target.base)) done → Progress done old now → IsHome old m → IsHome now m
-still_there done m old now named apart p h = homes_one m.target.base m.body old now (p.kept m.target.base named (not_done done m apart)) h
+  pub still_there : IsHome old m → IsHome now m
+  still_there h = homes_one m.target.base m.body old now (p.kept m.target.base named (not_done done m apart)) h
 
 pub none_of : (xs : List (List ℕ)) → is_any xs ≡ false → xs ≡ []
 none_of [] e = refl

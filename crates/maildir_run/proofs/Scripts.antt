@@ -1,39 +1,22 @@
 -- What a script makes of a folder in memory is what other programs and a call may do.
-use Rattle.std.proofs.Common.{◌≡◌, ℕ, Bool, true, false, cond, not, List, [], ◌∷◌, ◌++◌, length, take, drop, get_or, ◌<◌, ◌+◌, ◌==◌, map, Option, Some, None, Result, Ok, Err, IsTrue, IsFalse, IsOk, IsErrOf, OnErr, string_bytes, IsPermutation, ◌&&◌, ◌/◌, append-nil, refl, sym, ap, subst, ◌∙◌, inl, inr, append_assoc, suc}
-use Rattle.std.proofs.Math.Seq.{drop-cons}
-use Rattle.std.proofs.lemmas.Bool.{false_from_ne_true}
-use Rattle.std.proofs.lemmas.List.{take_more, take-append-drop}
-use Rattle.std.proofs.lemmas.List.Sorted.{IsPermutation-refl}
-use Rattle.std.specs.FinMap.{insert, remove, get, keys, get-insert, get-remove, contains_key}
-use Rattle.std.specs.Option.{is_some}
-use Rattle.std.specs.Str.{bytes_eq}
+use Rattle.std.proofs.Common.{◌≡◌, ℕ, Bool, true, false, cond, not, List, [], ◌∷◌, ◌++◌, length, take, drop, get_or, ◌<◌, ◌+◌, ◌==◌, map, Option, Some, None, Result, Ok, Err, IsTrue, IsFalse, IsOk, IsErrOf, OnErr, string_bytes, IsPermutation, ◌&&◌, ◌/◌, append-nil, refl, sym, ap, subst, ◌∙◌, inl, inr, append_assoc, suc, arith, take-append-drop, is_some, bytes_eq}
+use Rattle.maildir_run.proofs.Common.{drop-cons, false_from_ne_true, take_more, IsPermutation-refl, insert, remove, get, keys, contains_key, base, is_converter_name, Sub, Tmp, New, Cur, FolderFault, Mode, Plain, FailBefore, FailAfter, Half, Twice, Files, FileMap, Action, ToCur, Reflag, DropTmp, Outside, acted, all_acted, is_name, may_take, AgreeOnConverters, LeavesConverters, Call, Listing, Writing, Placing, Move, Other, Again, Torn, placed, effect, after, IsOthers, IsWhole, IsReady, folder_of, Failed, Lists, Called, linked, with_file, without_file, performed, all_performed, acts_at, may_link, IsCutShort, IsPart, Answers, halved, fails, done}
 use Rattle.std.proofs.lemmas.Map.Text.{is_eq-slice_cmp}
-use Rattle.maildir_name.specs.Names.{base, is_converter_name}
-use Rattle.maildir_run.specs.declared.folder.Sub.{Sub}
-use Rattle.maildir_run.specs.declared.folder.Sub.TheVariants.{Tmp, New, Cur}
-use Rattle.maildir_run.specs.declared.folder.FolderFault.{FolderFault}
-use Rattle.maildir_run.specs.declared.folder.FolderFault.TheVariants as fault
 use Rattle.maildir_name.specs.declared.target.Place.{Place}
 use Rattle.maildir_run.specs.declared.script.Act.{Act}
-use Rattle.maildir_run.specs.declared.script.Act.TheVariants as act
-use Rattle.maildir_run.specs.declared.script.Mode.{Mode}
-use Rattle.maildir_run.specs.declared.script.Mode.TheVariants.{Plain, FailBefore, FailAfter, Half, Twice}
 use Rattle.maildir_run.specs.declared.script.ScriptLine.{ScriptLine}
-use Rattle.maildir_run.specs.Files.{Files, FileMap, Action, ToCur, Reflag, DropTmp, Outside, acted, all_acted, is_name, may_take, AgreeOnConverters, LeavesConverters}
-use Rattle.maildir_run.specs.Calls.{Call, Listing, Writing, Placing, Move, Other, Again, Torn, placed, effect, after, IsOthers, IsWhole, IsReady, folder_of, Failed, Lists, Called}
-use Rattle.maildir_run.specs.Cuts.{linked}
-use Rattle.maildir_run.specs.MemFiles.{with_file, without_file}
-use Rattle.maildir_run.specs.Script.{performed, all_performed, acts_at, may_link, IsCutShort, IsPart, Answers, halved, fails, done}
-use Rattle.maildir_run.proofs.Maps.{total, is_name-true, outside, apart, remove-insert}
+use Rattle.maildir_run.proofs.Maps.{is_name-true, alike, get_inserted, get_removed, remove-insert}
 use Rattle.maildir_run.proofs.Moves.{after-append}
 use Rattle.maildir_run.proofs.Outsiders.{outside_reaches}
+use Rattle.maildir_run.specs.declared.folder.FolderFault.TheVariants as fault
+use Rattle.maildir_run.specs.declared.script.Act.TheVariants as act
 
 -- ---- acts are actions of other programs
 set_agrees : (m : FileMap) (k v : List ℕ) → is_converter_name k ≡ false → AgreeOnConverters m (insert m k v)
-set_agrees m k v off = λ q ours. get-insert total m k v q ∙ outside (is_name q k) _ _ (apart is_converter_name k q off ours)
+set_agrees m k v off = λ q ours. grind (arith, get_inserted, alike is_converter_name q k)
 
 removed_agrees : (m : FileMap) (k : List ℕ) → is_converter_name k ≡ false → AgreeOnConverters m (remove m k)
-removed_agrees m k off = λ q ours. get-remove total m k q ∙ outside (is_name q k) _ _ (apart is_converter_name k q off ours)
+removed_agrees m k off = λ q ours. grind (arith, get_removed, alike is_converter_name q k)
 
 agrees : (m : FileMap) → AgreeOnConverters m m
 agrees m = λ q ours. refl

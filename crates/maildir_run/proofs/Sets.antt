@@ -1,18 +1,7 @@
 -- Sets of bases: what each change leaves in them.
-use Rattle.std.proofs.Common.{◌≡◌, ℕ, Bool, true, false, cond, ◌||◌, List, [], ◌∷◌, ◌++◌, map, Option, Some, None, refl, sym, ap, ◌∙◌, Bor, take, get_or, length, ◌<◌, ◌+◌, String, Global, string_bytes}
-use Rattle.std.specs.List.{list_any}
-use Rattle.std.specs.Option.{is_some}
-use Rattle.std.specs.Ordering.{nat_cmp}
-use Rattle.std.specs.Cmp.Lexicographic.{slice_cmp}
+use Rattle.std.proofs.Common.{◌≡◌, ℕ, Bool, true, false, cond, ◌||◌, List, [], ◌∷◌, ◌++◌, map, Option, Some, None, refl, sym, ap, ◌∙◌, Bor, take, get_or, length, ◌<◌, ◌+◌, String, Global, string_bytes, is_some, nat_cmp}
+use Rattle.maildir_run.proofs.Common.{list_any, slice_cmp, insert, empty, contains_key, find, get-from_entries, get-insert, get-empty, same_map, or-false, map-append, take_more, eq_by_cmp_equiv, base, name_cmp, is_name, has_base, is_listed, BaseSet, set_of, with_bases}
 use Rattle.std.specs.BTreeSet.{BTreeSet, UpdatesBy}
-use Rattle.std.specs.FinMap.{insert, empty, contains_key, find, get-from_entries, get-insert, get-empty, same_map}
-use Rattle.std.proofs.Math.Bool.{or-false}
-use Rattle.std.proofs.lemmas.List.{map-append, take_more}
-use Rattle.std.proofs.lemmas.Cmp.{eq_by_cmp_equiv}
-use Rattle.maildir_name.specs.Names.{base}
-use Rattle.maildir_run.specs.Files.{name_cmp, is_name, has_base}
-use Rattle.maildir_run.specs.Plan.{is_listed}
-use Rattle.maildir_run.specs.Bases.{BaseSet, set_of, with_bases}
 use Rattle.maildir_run.proofs.Maps.{total, same}
 
 -- ---- the set that some texts make

@@ -1,22 +1,9 @@
 -- What runs over any of several texts, and actions of other programs, leave.
 use Rattle.std.proofs.Common.{◌≡◌, ℕ, zero, suc, ◌+◌, ◌<◌, ◌≤◌, ◌^◌, ◌&&◌, ◌⊎◌, max, Bool, true, false, cond, List, [], ◌∷◌, length, get_or, count_by, bytes_eq, All, Contains, IsTrue, IsPermutation, Result, Ok, Err, refl, sym, ap, subst, ◌∙◌, inl, inr, arith}
-use Rattle.std.specs.List.{list_any}
-use Rattle.std.specs.Cmp.Lexicographic.{nat_list_eq_equiv, bytes_decides}
-use Rattle.std.proofs.lemmas.Bool.{cases_Bool, false_from_ne_true}
-use Rattle.std.proofs.lemmas.List.Elements.{All-head, All-tail, All-contains, All-from_get_or, Contains-get_or}
-use Rattle.std.proofs.lemmas.List.Folds.{list_any_at}
-use Rattle.std.proofs.lemmas.List.Sums.{count_by-le-length}
-use Rattle.std.proofs.lemmas.List.Sorted.{IsPermutation-refl, IsPermutation-trans}
+use Rattle.maildir_run.proofs.Common.{list_any, nat_list_eq_equiv, bytes_decides, cases_Bool, false_from_ne_true, All-head, All-tail, All-contains, All-from_get_or, Contains-get_or, list_any_at, count_by-le-length, IsPermutation-refl, IsPermutation-trans, is_converter_base, digest_text, numbered, same_digest, RunFault, Report, Files, Action, acted, homes, is_name, Message, IsMissing, IsHome, IsSoundAt, Sound, is_base_of, Run}
 use Rattle.maildir_name.specs.declared.target.Place.TheVariants.{New}
-use Rattle.maildir_name.specs.Names.{is_converter_base}
-use Rattle.maildir_name.specs.Targets.{digest_text, numbered, same_digest}
 use Rattle.maildir_name.proofs.Digests.{same_digest-refl, same_digest-text}
 use Rattle.maildir_name.proofs.BaseLemmas.{numbered-converter}
-use Rattle.maildir_run.specs.declared.fault.RunFault.{RunFault}
-use Rattle.maildir_run.specs.declared.report.Report.{Report}
-use Rattle.maildir_run.specs.Files.{Files, Action, acted, homes, is_name}
-use Rattle.maildir_run.specs.Delivery.{Message, IsMissing, IsHome, IsSoundAt, Sound, is_base_of}
-use Rattle.maildir_run.specs.Runs.{Run}
 use Rattle.maildir_run.specs.Several.{Text, IsText, OfEach, is_base_of_any, HoldsGiven, SoundForAll, LinkOver, RanOver, ActedOver, LinkedOver, RunsOver, HaveOwnDigests, IsUnknown, count_in, most_delivered, most_tried, StandsAfter}
 use Rattle.maildir_run.proofs.Maps.{is_name-refl}
 use Rattle.maildir_run.proofs.Chains.{chain_fold, chain_keeps, chain_at, sound_now}
@@ -29,7 +16,7 @@ use Rattle.maildir_run.proofs.Levels.{Level, Rise, home_level, sound_level, rise
 -- ---- a count of bodies is one of digests
 same_test : (b : List ℕ) (m : Message) → (digest_text m.body ≡ digest_text b → m.body ≡ b) → same_digest b m.body ≡ bytes_eq b m.body
 same_test b m own =
-    elim (cases_Bool (same_digest b m.body)) as (λ _. same_digest b m.body ≡ bytes_eq b m.body) [
+    elim (cases_Bool (same_digest b m.body)) [
       | inl on ↦ let is = own (sym (same_digest-text b m.body on)) in on ∙ sym (ap (bytes_eq b) is ∙ nat_list_eq_equiv.refl b)
       | inr off ↦ off ∙ sym (false_from_ne_true (bytes_eq b m.body) (λ on.
           let on' : same_digest b m.body ≡ true = ap (same_digest b) (sym ((bytes_decides b m.body).0 on)) ∙ same_digest-refl b in cc))
@@ -98,7 +85,7 @@ home_given texts k d below i e inside s (inr home) =
 -- a text of which a run answered Ok is among those whose counts are taken
 delivered_count : (b : List ℕ) (links : List LinkOver) (text : Text) (report : Report) → Contains links (RanOver text (Ok report)) → count_in b text ≤ most_delivered b links
 delivered_count b [] text report (k, below, is) = absurd (omega (arith, below))
-delivered_count b (link ∷ links) text report (zero, below, is) = subst (λ l. count_in b text ≤ most_delivered b (l ∷ links)) (sym is) (omega arith)
+delivered_count b (link ∷ links) text report (zero, below, is) = rw is (omega arith)
 delivered_count b (RanOver other (Ok _) ∷ links) text report (suc k, below, is) =
     let before = delivered_count b links text report (k, omega (arith, below), is) in omega (arith, before)
 delivered_count b (RanOver other (Err _) ∷ links) text report (suc k, below, is) = delivered_count b links text report (k, omega (arith, below), is)
@@ -109,43 +96,43 @@ module _ (texts : List Text) (are : All IsText texts) (own : HaveOwnDigests text
   abbrev pub AreLevel : Files → Type 0
   AreLevel s = (b : List ℕ) → IsBodyOf texts b → Level b s
 
-  own_in : (text : Text) → Contains texts text → (b : List ℕ) → IsBodyOf texts b → All (λ m. digest_text m.body ≡ digest_text b → m.body ≡ b) text.messages
-  own_in text among b is =
-      All-from_get_or (λ (m : Message). digest_text m.body ≡ digest_text b → m.body ≡ b) text.messages nobody (λ i below e.
-      let m = get_or text.messages i nobody in
-      let of_m = All-contains (λ (x : Text). All (λ (n : Message). OfEach (λ n'. digest_text n.body ≡ digest_text n'.body → n.body ≡ n'.body) texts) x.messages) texts text own among i nobody below in
-      let of_text = All-contains (λ (x : Text). All (λ (n : Message). digest_text m.body ≡ digest_text n.body → m.body ≡ n.body) x.messages) texts is.text of_m is.among in
-      All-contains (λ (n : Message). digest_text m.body ≡ digest_text n.body → m.body ≡ n.body) is.text.messages is.m of_text is.inside (e ∙ ap digest_text (sym is.is)) ∙ is.is)
+  module _ (text : Text) (among : Contains texts text) where
+    own_in : (b : List ℕ) → IsBodyOf texts b → All (λ m. digest_text m.body ≡ digest_text b → m.body ≡ b) text.messages
+    own_in b is =
+        All-from_get_or (λ (m : Message). digest_text m.body ≡ digest_text b → m.body ≡ b) text.messages nobody (λ i below e.
+        let m = get_or text.messages i nobody in
+        let of_m = All-contains (λ (x : Text). All (λ (n : Message). OfEach (λ n'. digest_text n.body ≡ digest_text n'.body → n.body ≡ n'.body) texts) x.messages) texts text own among i nobody below in
+        let of_text = All-contains (λ (x : Text). All (λ (n : Message). digest_text m.body ≡ digest_text n.body → m.body ≡ n.body) x.messages) texts is.text of_m is.among in
+        All-contains (λ (n : Message). digest_text m.body ≡ digest_text n.body → m.body ≡ n.body) is.text.messages is.m of_text is.inside (e ∙ ap digest_text (sym is.is)) ∙ is.is)
 
-  text_at : (text : Text) → Contains texts text → IsText text
-  text_at text among = All-contains IsText texts text are among
+    text_at : IsText text
+    text_at = All-contains IsText texts text are among
 
-  level_sound_at : (text : Text) → Contains texts text → (s : Files) → AreLevel s → All (IsSoundAt s) text.messages
-  level_sound_at text among s levels i d below =
-      let t = text_at text among in
-      sound_level text.messages s (text_numbered text.bytes text.messages t.are) (text_few text.bytes text.messages t.are t.small) (text_named text.bytes text.messages t.are t.small) i d below
-      (levels (get_or text.messages i d).body (record { text = text; among = among; m = get_or text.messages i d; inside = Contains-get_or text.messages i d below; is = refl }))
+    level_sound_at : (s : Files) → AreLevel s → All (IsSoundAt s) text.messages
+    level_sound_at s levels i d below =
+        let t = text_at in
+        sound_level text.messages s (text_numbered text.bytes text.messages t.are) (text_few text.bytes text.messages t.are t.small) (text_named text.bytes text.messages t.are t.small) i d below
+        (levels (get_or text.messages i d).body (record { text = text; among = among; m = get_or text.messages i d; inside = Contains-get_or text.messages i d below; is = refl }))
 
-  level_sound : (text : Text) → Contains texts text → (s : Files) → AreLevel s → Sound text.messages s s
-  level_sound text among s levels = sound_now text.messages s (level_sound_at text among s levels)
+    level_sound : (s : Files) → AreLevel s → Sound text.messages s s
+    level_sound s levels = sound_now text.messages s (level_sound_at s levels)
 
-  ran_rise : (text : Text) → Contains texts text → (answer : Result Report RunFault) (old new : Files) → AreLevel old → Run text.bytes old answer new → (b : List ℕ) → IsBodyOf texts b → (l : Level b old) → Rise b (count_in b text) l.n answer new
-  ran_rise text among answer old new levels run b is l =
-      let t = text_at text among in
-      let keeps = run.keeps text.messages t.are (level_sound text among old levels) in
-      let mine = own_in text among b is in
-      subst (λ c. Rise b c l.n answer new) (counts_alike b text.messages mine)
-      (rise nobody text.messages b (text_numbered text.bytes text.messages t.are) (λ i below. mine i nobody below) (text_few text.bytes text.messages t.are t.small) old new answer keeps l.n l.there l.small)
+    ran_rise : (answer : Result Report RunFault) (old new : Files) → AreLevel old → Run text.bytes old answer new → (b : List ℕ) → IsBodyOf texts b → (l : Level b old) → Rise b (count_in b text) l.n answer new
+    ran_rise answer old new levels run b is l =
+        let t = text_at in
+        let keeps = run.keeps text.messages t.are (level_sound old levels) in
+        let mine = own_in b is in
+        rw (counts_alike b text.messages mine) at (rise nobody text.messages b (text_numbered text.bytes text.messages t.are) (λ i below. mine i nobody below) (text_few text.bytes text.messages t.are t.small) old new answer keeps l.n l.there l.small)
 
-  count_small : (text : Text) → Contains texts text → (b : List ℕ) → count_in b text ≤ 2 ^ 63
-  count_small text among b =
-      let t = text_at text among in
-      let most = count_by-le-length (λ (m : Message). bytes_eq b m.body) text.messages in
-      let few = text_few text.bytes text.messages t.are t.small in
-      omega (arith, most, few)
+    count_small : (b : List ℕ) → count_in b text ≤ 2 ^ 63
+    count_small b =
+        let t = text_at in
+        let most = count_by-le-length (λ (m : Message). bytes_eq b m.body) text.messages in
+        let few = text_few text.bytes text.messages t.are t.small in
+        omega (arith, most, few)
 
-  abbrev rise_level : (text : Text) → Contains texts text → (answer : Result Report RunFault) (s : Files) (b : List ℕ) (n : ℕ) → n ≤ 2 ^ 63 → Rise b (count_in b text) n answer s → Level b s
-  rise_level text among answer s b n small r = record { n = r.now; there = r.there; small = (let to = r.to in let few = count_small text among b in omega (arith, to, small, few)) }
+    abbrev rise_level : (answer : Result Report RunFault) (s : Files) (b : List ℕ) (n : ℕ) → n ≤ 2 ^ 63 → Rise b (count_in b text) n answer s → Level b s
+    rise_level answer s b n small r = record { n = r.now; there = r.there; small = (let to = r.to in let few = count_small b in omega (arith, to, small, few)) }
 
   abbrev acted_level : (action : Action) (s : Files) (b : List ℕ) → Level b s → Level b (acted action s)
   acted_level action s b l = record {
@@ -186,7 +173,7 @@ module _ (texts : List Text) (are : All IsText texts) (own : HaveOwnDigests text
   linked_others x named off (RanOver text answer) old new levels (among, run) =
       let keeps = run.keeps text.messages (text_at text among).are (level_sound text among old levels) in
       keeps.sound.others x named (none_at (λ (y : Text). is_base_of y.messages x) texts text off among)
-  linked_others x named off (ActedOver action) old new levels e = subst (λ s. IsPermutation (homes old x) (homes s x)) (sym e) (acted_kept x named action old)
+  linked_others x named off (ActedOver action) old new levels e = rw e (acted_kept x named action old)
 
   chain_others : (links : List LinkOver) (old new : Files) → AreLevel old → RunsOver texts links old new → (x : List ℕ) → IsTrue (is_converter_base x) → is_base_of_any texts x ≡ false → IsPermutation (homes old x) (homes new x)
   chain_others links old new levels runs x named off =

@@ -1,19 +1,7 @@
 -- What one call of a run gives, in the words of a run.
-use Rattle.std.proofs.Common.{◌≡◌, ℕ, true, false, ◌||◌, List, [], ◌∷◌, ◌++◌, Some, None, IsPermutation, IsTrue, IsFalse, refl, sym, ap, subst, ◌∙◌, inl, inr}
-use Rattle.std.specs.List.{list_any}
-use Rattle.std.specs.Option.{is_some}
-use Rattle.std.specs.FinMap.{get, keys, contains_key-keys}
-use Rattle.std.proofs.Math.Bool.{or-true}
-use Rattle.std.proofs.lemmas.Bool.{or_parts, cases_Bool, false_from_ne_true}
-use Rattle.std.proofs.lemmas.List.Sorted.{list_any-IsPermutation, IsPermutation-trans}
-use Rattle.maildir_run.specs.declared.folder.Sub.{Sub}
-use Rattle.maildir_run.specs.declared.folder.Sub.TheVariants.{Tmp}
+use Rattle.std.proofs.Common.{◌≡◌, ℕ, true, false, ◌||◌, List, [], ◌∷◌, ◌++◌, Some, None, IsPermutation, IsTrue, IsFalse, refl, sym, ap, subst, ◌∙◌, inl, inr, is_some}
+use Rattle.maildir_run.proofs.Common.{list_any, get, keys, contains_key-keys, or-true, or_parts, cases_Bool, false_from_ne_true, list_any-IsPermutation, IsPermutation-refl, IsPermutation-trans, Sub, Tmp, is_converter_name, is_converter_base, Files, FileMap, is_name, has_base, held_under, homes, Call, Listing, Writing, Placing, Removing, Again, after, effect, Succeeded, Failed, Lists, PlacesElsewhere, WritesElsewhere, StaysOrGoes, Message, IsMissing, IsHome, LeavesHomes, TmpWithin, Brings, IsTarget}
 use Rattle.maildir_name.specs.declared.target.Place.{Place}
-use Rattle.maildir_name.specs.Names.{is_converter_name, is_converter_base}
-use Rattle.maildir_run.specs.Files.{Files, FileMap, is_name, has_base, held_under, homes}
-use Rattle.maildir_run.specs.Calls.{Call, Listing, Writing, Placing, Removing, Again, after, effect, Succeeded, Failed, Lists, PlacesElsewhere, WritesElsewhere, StaysOrGoes}
-use Rattle.maildir_run.specs.Delivery.{Message, IsMissing, IsHome, IsSoundAt}
-use Rattle.maildir_run.specs.Progress.{LeavesHomes, TmpWithin, Brings, IsTarget}
 use Rattle.maildir_run.proofs.Maps.{nothing, is_name-true, is_name-refl, get-remove_same}
 use Rattle.maildir_run.proofs.Moves.{after_kept, after_tmp, after-append, homes_none, none_held, placing, placing_ok, WrittenOrGone, writing_ok}
 
@@ -23,16 +11,16 @@ ok_moves call old new h = record { moves = h.before ++ Again ∷ h.rest; left = 
 
 pub called_kept : (b : List ℕ) → IsTrue (is_converter_base b) → (call : Call) → PlacesElsewhere b call → (old new : Files) → Failed call old new → IsPermutation (homes old b) (homes new b)
 called_kept b named call h old new c =
-    subst (λ s. IsPermutation (homes old b) (homes s b)) (sym c.left) (after_kept b named call h c.moves old)
+    rw c.left (after_kept b named call h c.moves old)
 
 pub called_tmp : (q : List ℕ) → IsTrue (is_converter_name q) → (call : Call) → WritesElsewhere q call → (old new : Files) → Failed call old new → StaysOrGoes q old new
-called_tmp q ours call h old new c = subst (λ s. StaysOrGoes q old s) (sym c.left) (after_tmp q ours call h c.moves old)
+called_tmp q ours call h old new c = rw c.left (after_tmp q ours call h c.moves old)
 
 -- ---- tmp
 pub within_on : (names : List (List ℕ)) (old new : Files) → ((q : List ℕ) → IsTrue (is_converter_name q) → IsFalse (list_any (is_name q) names) → StaysOrGoes q old new) → TmpWithin names old → TmpWithin names new
 within_on names old new stays within = record {
   gone = λ q ours off.
-      elim (stays q ours off) as (λ _. get new.tmp q ≡ None) [ inl e ↦ e ∙ within.gone q ours off | inr e ↦ e ];
+      elim (stays q ours off) [ inl e ↦ e ∙ within.gone q ours off | inr e ↦ e ];
 }
 
 none_within : (names : List (List ℕ)) (s : Files) → TmpWithin [] s → TmpWithin names s
@@ -48,7 +36,7 @@ writing_within name bytes old new c within =
 without : (name : List ℕ) (names : List (List ℕ)) (s : Files) → get s.tmp name ≡ None → TmpWithin (name ∷ names) s → TmpWithin names s
 without name names s gone within = record {
   gone = λ q ours off.
-      elim (cases_Bool (is_name q name)) as (λ _. get s.tmp q ≡ None) [
+      elim (cases_Bool (is_name q name)) [
         | inl e ↦ ap (get s.tmp) (is_name-true q name e) ∙ gone
         | inr e ↦ within.gone q ours (rw e off)
       ];
@@ -62,8 +50,7 @@ removing_gone : (name : List ℕ) → IsTrue (is_converter_name name) → (old n
 removing_gone name ours old new done =
     let call = Removing name in
     let mid = effect call (after old call done.before) in
-    subst (λ s. get s.tmp name ≡ None) (sym (done.left ∙ after-append old call done.before (Again ∷ done.rest)))
-    (gone_on name mid (after mid call done.rest) (after_tmp name ours call tt done.rest mid) (get-remove_same (after old call done.before).tmp name))
+    rw (done.left ∙ after-append old call done.before (Again ∷ done.rest)) (gone_on name mid (after mid call done.rest) (after_tmp name ours call tt done.rest mid) (get-remove_same (after old call done.before).tmp name))
 
 pub removing_within : (name : List ℕ) (names : List (List ℕ)) → IsTrue (is_converter_name name) → (old new : Files) → Succeeded (Removing name) old new → TmpWithin (name ∷ names) old → TmpWithin names new
 removing_within name names ours old new done within =
@@ -86,7 +73,7 @@ listing_within old names new listed =
 pub listing_leaves : (sub : Sub) (old : Files) (names : List (List ℕ)) (new : Files) → Lists sub old names new → LeavesHomes old new
 listing_leaves sub old names new listed = record {
   kept = λ base named.
-      subst (λ s. IsPermutation (homes old base) (homes s base)) (sym listed.left) (after_kept base named (Listing sub) tt (listed.before ++ Again ∷ listed.rest) old);
+      rw listed.left (after_kept base named (Listing sub) tt (listed.before ++ Again ∷ listed.rest) old);
 }
 
 elsewhere : (m : Message) (base target : List ℕ) → IsTrue (has_base m.target.base target) → IsFalse (is_name m.target.base base) → IsFalse (has_base base target)
@@ -151,11 +138,10 @@ module _ (m : Message) (is : IsTarget m.target) (old mid new : Files) (w : Writt
   pub place_brings : Failed put mid new → Brings m old new
   place_brings c =
       record {
-        own = subst (λ s. IsSoundAt s m) (sym c.left)
-            (elim (placing m.target.base m.target.base m.target.place m.target.name is.named (base_name m is) is.under c.moves mid w.missing) as (λ _. IsSoundAt (after mid put c.moves) m) [
-              | inl waits ↦ inl waits.homes_are
-              | inr a ↦ inr (a.homes_are ∙ ap (λ x. x ∷ []) (body_of m.target.base m.body a.bytes mid w.written a.was))
-            ]);
+        own = rw c.left (elim (placing m.target.base m.target.base m.target.place m.target.name is.named (base_name m is) is.under c.moves mid w.missing) [
+          | inl waits ↦ inl waits.homes_are
+          | inr a ↦ inr (a.homes_are ∙ ap (λ x. x ∷ []) (body_of m.target.base m.body a.bytes mid w.written a.was))
+        ]);
         others = λ base named off. IsPermutation-trans _ _ _ (w.leaves.kept base named) (called_kept base named put (elsewhere m base m.target.name is.under off) mid new c);
       }
 
@@ -166,6 +152,9 @@ module _ (m : Message) (is : IsTarget m.target) (old mid new : Files) (w : Writt
         λ within. placing_within m.target.base m.target.place m.target.name mid new done a.gone (w.within within),
       )
 
--- ---- the sweep
+-- ---- from one moment to another
+pub leaves_none : (s : Files) → LeavesHomes s s
+leaves_none s = record { kept = λ base named. IsPermutation-refl _ }
+
 pub leaves_trans : (a b c : Files) → LeavesHomes a b → LeavesHomes b c → LeavesHomes a c
 leaves_trans a b c first then = record { kept = λ base named. IsPermutation-trans _ _ _ (first.kept base named) (then.kept base named) }

@@ -1,18 +1,6 @@
 -- What the three listings tell together.
-use Rattle.std.proofs.Common.{◌≡◌, ℕ, ◌≤◌, Bool, List, [], ◌∷◌, ◌++◌, IsPermutation, IsTrue, length, cond, sym, ap, ◌∙◌, inl, inr, arith}
-use Rattle.std.specs.List.{list_any, filter}
-use Rattle.std.specs.FinMap.{keys, len, retain_keys}
-use Rattle.std.proofs.lemmas.Bool.{or_parts, or_cases, cases_Bool}
-use Rattle.std.proofs.lemmas.List.Sums.{length-filter}
-use Rattle.std.proofs.lemmas.List.Sorted.{IsPermutation-trans, sum_by-IsPermutation}
-use Rattle.maildir_run.specs.declared.folder.Sub.{Sub}
-use Rattle.maildir_run.specs.declared.folder.Sub.TheVariants.{Tmp, New, Cur}
-use Rattle.maildir_name.specs.Names.{is_converter_base, is_converter_name}
-use Rattle.maildir_run.specs.Files.{Files, has_base, held_under, homes}
-use Rattle.maildir_run.specs.Calls.{Listing, Move, Other, Again, Torn, moved, after, folder_of, Lists}
-use Rattle.maildir_run.specs.Delivery.{has_home, is_any, leftover_count}
-use Rattle.maildir_run.specs.Plan.{is_listed}
-use Rattle.maildir_run.specs.Progress.{TmpWithin}
+use Rattle.std.proofs.Common.{◌≡◌, ℕ, ◌≤◌, Bool, List, [], ◌∷◌, ◌++◌, IsPermutation, IsTrue, length, cond, sym, ap, ◌∙◌, inl, inr, arith, filter}
+use Rattle.maildir_run.proofs.Common.{list_any, keys, len, retain_keys, or_parts, or_cases, cases_Bool, length-filter, IsPermutation-trans, sum_by-IsPermutation, Sub, Tmp, New, Cur, is_converter_base, is_converter_name, Files, has_base, held_under, homes, Listing, Move, Other, Again, Torn, moved, after, folder_of, Lists, has_home, is_any, leftover_count, is_listed, TmpWithin}
 use Rattle.maildir_run.proofs.Moves.{homes_none, both_none, after_kept}
 use Rattle.maildir_run.proofs.ListedNowhere.{listed_new, listed_cur}
 use Rattle.maildir_run.proofs.Leftovers.{leftovers_are, acted_count}
@@ -35,13 +23,13 @@ two_listings : (b : List ℕ) → IsTrue (is_converter_base b) → (s t u : File
 two_listings b named s t u in_new in_cur first second =
     let kept_first = (listing_leaves New s in_new t first).kept b named in
     let kept_both = IsPermutation-trans _ _ _ kept_first ((listing_leaves Cur t in_cur u second).kept b named) in
-    elim (cases_Bool (is_listed in_new in_cur b)) as (λ _. is_listed in_new in_cur b ≡ has_home s b) [
+    elim (cases_Bool (is_listed in_new in_cur b)) [
       | inl on ↦
-          elim (cases_Bool (has_home s b)) as (λ _. is_listed in_new in_cur b ≡ has_home s b) [
+          elim (cases_Bool (has_home s b)) [
             | inl e ↦ on ∙ sym e
             | inr e ↦
                 let none = none_of (homes s b) e in
-                absurd (elim (or_cases (list_any (has_base b) in_new) (list_any (has_base b) in_cur) on) as (λ _. ⊥) [
+                absurd (elim (or_cases (list_any (has_base b) in_new) (list_any (has_base b) in_cur) on) [
                   | inl shown ↦ shows_none b named New (λ x e. (both_none (held_under b x.new) (held_under b x.cur) e).0) s in_new t first shown none
                   | inr shown ↦ shows_none b named Cur (λ x e. (both_none (held_under b x.new) (held_under b x.cur) e).1) t in_cur u second shown (homes_none b s t kept_first none)
                 ])

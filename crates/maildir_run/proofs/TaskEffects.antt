@@ -1,31 +1,12 @@
 -- What tasks that were performed leave.
-use Rattle.std.proofs.Common.{Option, Some, None, ◌≡◌, ℕ, ◌≤◌, Bool, true, false, cond, List, [], ◌∷◌, ◌++◌, ◌⊎◌, map, length, All, IsPermutation, IsTrue, IsFalse, refl, sym, ap, subst, ◌∙◌, inl, inr, arith, append_assoc, length-append}
-use Rattle.std.specs.List.{filter}
-use Rattle.std.specs.FinMap.{get, keys}
-use Rattle.std.proofs.lemmas.Bool.{cases_Bool}
-use Rattle.std.proofs.Math.Seq.{get_or-append_seam}
-use Rattle.std.proofs.lemmas.List.{append-nil, get_or_append_left}
-use Rattle.std.proofs.lemmas.List.Elements.{All-head, All-tail}
-use Rattle.std.proofs.lemmas.Map.Views.{any-filter_same}
-use Rattle.std.proofs.lemmas.List.Sorted.{IsPermutation-refl, IsPermutation-trans}
-use Rattle.maildir_name.specs.declared.target.Target.{Target}
-use Rattle.maildir_name.specs.Names.{is_converter_name, is_converter_base}
-use Rattle.maildir_run.specs.declared.fault.RunFault.{RunFault}
-use Rattle.maildir_run.specs.declared.folder.Sub.TheVariants.{New, Cur}
-use Rattle.maildir_run.specs.Alone.{filled, added}
-use Rattle.maildir_run.specs.Calls.{Placing, Removing, Again, Failed, PlacesElsewhere}
-use Rattle.maildir_run.specs.Delivery.{IsSwept, Message, IsMissing, IsHome, IsSoundAt, AreNamed, AreDistinct, has_home, leftover_count}
-use Rattle.maildir_run.specs.Files.{Files, homes, is_name}
-use Rattle.maildir_run.specs.Plan.{is_listed}
-use Rattle.maildir_run.specs.Progress.{LeavesHomes, TmpWithin, Brings, Progress, Knows, IsTarget}
-use Rattle.maildir_run.specs.Quietly.{LeavesOthers}
-use Rattle.maildir_run.specs.Tasks.{Task, Ask, Do, call_of, Done, Way, reported, undisturbed, AllDone, Stopped, Names, listings, DoneUntil}
-use Rattle.maildir_run.specs.Parts.{sweep_of, delivery_of, delivery_if, deliveries_of}
+use Rattle.std.proofs.Common.{Option, Some, None, ◌≡◌, ℕ, ◌≤◌, Bool, true, false, cond, List, [], ◌∷◌, ◌++◌, ◌⊎◌, map, length, All, IsPermutation, IsFalse, refl, sym, ap, subst, ◌∙◌, inl, inr, arith, append_assoc, length-append, filter, append-nil}
+use Rattle.maildir_run.proofs.Common.{get, keys, cases_Bool, get_or-append_seam, get_or_append_left, All-head, All-tail, any-filter_same, Target, is_converter_name, RunFault, New, Cur, filled, added, Placing, Removing, Again, Failed, PlacesElsewhere, IsSwept, Message, IsMissing, IsHome, IsSoundAt, AreNamed, AreDistinct, has_home, leftover_count, Files, homes, is_name, is_listed, LeavesHomes, TmpWithin, Brings, Progress, Knows, IsTarget, LeavesOthers, Task, Ask, Do, call_of, Done, Way, reported, undisturbed, AllDone, Stopped, Names, listings, DoneUntil, sweep_of, delivery_of, delivery_if, deliveries_of}
+use Rattle.maildir_run.specs.Tasks.{Refused}
 use Rattle.maildir_run.proofs.Maps.{is_name-true}
 use Rattle.maildir_run.proofs.Progress.{progress_home, progress_brought, progress_or_more}
 use Rattle.maildir_run.proofs.QuietRuns.{OfConverter, others_same, others_then, effect_others, own_others, brought_exact, step_tmp}
 use Rattle.maildir_run.proofs.Reach.{apart_front, still_missing, still_there, none_of, home_known}
-use Rattle.maildir_run.proofs.Steps.{ok_moves, called_kept, write_brings, write_ok, place_brings, place_home, removing_within, listing_within, base_name}
+use Rattle.maildir_run.proofs.Steps.{ok_moves, called_kept, write_brings, write_ok, place_brings, place_home, removing_within, listing_within, base_name, leaves_none, leaves_trans}
 use Rattle.maildir_run.proofs.Surveys.{listed_within, three_listings, few_listed}
 
 -- ---- the parts of a list of tasks
@@ -37,7 +18,7 @@ pub stopped_parts : (w : Way) (xs ys : List Task) (a c : Files) → Stopped w (x
 stopped_parts w [] ys a c h = inr (a, refl, h)
 stopped_parts w (x ∷ xs) ys a c (inl h) = inl (inl h)
 stopped_parts w (x ∷ xs) ys a c (inr (mid, one, more)) =
-    elim (stopped_parts w xs ys mid c more) as (λ _. Stopped w (x ∷ xs) a c ⊎ ((b : Files) × AllDone w (x ∷ xs) a b × Stopped w ys b c)) [
+    elim (stopped_parts w xs ys mid c more) [
       | inl h ↦ inl (inr (mid, one, h))
       | inr (b, first, then) ↦ inr (b, (mid, one, first), then)
     ]
@@ -60,21 +41,22 @@ each_of_both P (x ∷ xs) ys a b = (a.0, each_of_both P xs ys a.1 b)
 abbrev pub PlacesNone : Task → Type 0
 PlacesNone task = (b : List ℕ) → PlacesElsewhere b (call_of task)
 
-module _ (b : List ℕ) (named : IsTrue (is_converter_base b)) where
-  one_kept : (task : Task) → PlacesNone task → (old new : Files) → Failed (call_of task) old new → IsPermutation (homes old b) (homes new b)
-  one_kept task off old new h = called_kept b named (call_of task) (off b) old new h
+-- what each of them keeps from one moment to the next, done or refused, all of them keep
+module _ (w : Way) (R : Files → Files → Type 0) (same : (s : Files) → R s s) (then : (a b c : Files) → R a b → R b c → R a c) (P : Task → Type 0) (one : (task : Task) → P task → (old new : Files) → w.done task old new ⊎ w.refused task old new → R old new) where
+  pub across : (fault : Option RunFault) (tasks : List Task) → EachTask P tasks → (old new : Files) → DoneUntil w tasks old fault new → R old new
+  across None [] each old new e = subst (R old) (sym e) (same old)
+  across (Some f) [] each old new e = subst (R old) (sym e) (same old)
+  across None (task ∷ tasks) each old new (mid, done, more) = then old mid new (one task each.0 old mid (inl done)) (across None tasks each.1 mid new more)
+  across (Some f) (task ∷ tasks) each old new (inl refused) = one task each.0 old new (inr refused)
+  across (Some f) (task ∷ tasks) each old new (inr (mid, done, more)) = then old mid new (one task each.0 old mid (inl done)) (across (Some f) tasks each.1 mid new more)
 
-  done_kept : (fault : Option RunFault) (tasks : List Task) → EachTask PlacesNone tasks → (old new : Files) → DoneUntil reported tasks old fault new → IsPermutation (homes old b) (homes new b)
-  done_kept None [] off old new e = subst (λ s. IsPermutation (homes old b) (homes s b)) (sym e) (IsPermutation-refl _)
-  done_kept (Some f) [] off old new e = subst (λ s. IsPermutation (homes old b) (homes s b)) (sym e) (IsPermutation-refl _)
-  done_kept (Some f) (task ∷ tasks) off old new (inl h) = one_kept task off.0 old new h
-  done_kept (Some f) (task ∷ tasks) off old new (inr (mid, one, more)) =
-      IsPermutation-trans _ _ _ (one_kept task off.0 old mid (done_moves task old mid one)) (done_kept (Some f) tasks off.1 mid new more)
-  done_kept None (task ∷ tasks) off old new (mid, one, more) =
-      IsPermutation-trans _ _ _ (one_kept task off.0 old mid (done_moves task old mid one)) (done_kept None tasks off.1 mid new more)
+one_leaves : (task : Task) → PlacesNone task → (old new : Files) → Done task old new ⊎ Refused task old new → LeavesHomes old new
+one_leaves task off old new h = record {
+  kept = λ b named. called_kept b named (call_of task) (off b) old new (elim h [ inl done ↦ done_moves task old new done | inr refused ↦ refused ]);
+}
 
 pub done_leaves : (fault : Option RunFault) (tasks : List Task) → EachTask PlacesNone tasks → (old new : Files) → DoneUntil reported tasks old fault new → LeavesHomes old new
-done_leaves fault tasks off old new h = record { kept = λ b named. done_kept b named fault tasks off old new h }
+done_leaves = across reported LeavesHomes leaves_none leaves_trans PlacesNone one_leaves
 
 pub listings_place_none : (names : Names) → EachTask PlacesNone (listings names)
 listings_place_none names = ((λ b. tt), ((λ b. tt), ((λ b. tt), tt)))
@@ -131,21 +113,22 @@ pub record Delivered (m : Message) (old new : Files) : Type 0 where
   pub home : IsHome new m
   pub within : TmpWithin [] old → TmpWithin [] new
 
-pub delivered : (m : Message) → IsTarget m.target → (old new : Files) → IsMissing old m → AllDone reported (delivery_of m.target m.body) old new → Delivered m old new
-delivered m is old new missing (mid, wrote, (end, put, e)) =
-    let t = m.target in
-    let w = write_ok m is old mid wrote missing in
-    let home = place_home m is old mid end w put in
-    subst (Delivered m old) (sym e) (record {
-      brings = place_brings m is old mid end w (ok_moves (Placing t.base t.place t.name) mid end put);
-      home = home.0;
-      within = home.1;
-    })
+module _ (m : Message) (is : IsTarget m.target) (old new : Files) (missing : IsMissing old m) where
+  pub delivered : AllDone reported (delivery_of m.target m.body) old new → Delivered m old new
+  delivered (mid, wrote, (end, put, e)) =
+      let t = m.target in
+      let w = write_ok m is old mid wrote missing in
+      let home = place_home m is old mid end w put in
+      subst (Delivered m old) (sym e) (record {
+        brings = place_brings m is old mid end w (ok_moves (Placing t.base t.place t.name) mid end put);
+        home = home.0;
+        within = home.1;
+      })
 
-pub stopped_brings : (m : Message) → IsTarget m.target → (old new : Files) → IsMissing old m → Stopped reported (delivery_of m.target m.body) old new → Brings m old new
-stopped_brings m is old new missing (inl h) = write_brings m is old new h missing
-stopped_brings m is old new missing (inr (mid, wrote, inl h)) = place_brings m is old mid new (write_ok m is old mid wrote missing) h
-stopped_brings m is old new missing (inr (mid, wrote, inr (end, put, e))) = (delivered m is old new missing (mid, wrote, (end, put, e))).brings
+  pub stopped_brings : Stopped reported (delivery_of m.target m.body) old new → Brings m old new
+  stopped_brings (inl h) = write_brings m is old new h missing
+  stopped_brings (inr (mid, wrote, inl h)) = place_brings m is old mid new (write_ok m is old mid wrote missing) h
+  stopped_brings (inr (mid, wrote, inr (end, put, e))) = (delivered (mid, wrote, (end, put, e))).brings
 
 -- ---- messages, in order
 -- how far a run has come, of whose messages these are done
@@ -160,7 +143,7 @@ module _ (start : Files) (is_there : List ℕ → Bool) (knows : Knows is_there 
   home_is t shown named e = sym (knows t.base named.named) ∙ e
 
   as_shown : (w : Way) (m : Message) (shown : Bool) (old new : Files) → is_there m.target.base ≡ shown → AllDone w (delivery_if is_there m) old new → AllDone w (cond shown [] (delivery_of m.target m.body)) old new
-  as_shown w m shown old new e h = subst (λ b. AllDone w (cond b [] (delivery_of m.target m.body)) old new) e h
+  as_shown w m shown old new e h = rw e at h
 
   module _ (all : List Message) (distinct : AreDistinct all) (are : All (λ m. IsTarget m.target) all) (sound : All (IsSoundAt start) all) where
     at : (P : Message → Type 0) → All P all → (done ms : List Message) (m : Message) → all ≡ done ++ m ∷ ms → P m
@@ -170,35 +153,36 @@ module _ (start : Files) (is_there : List ℕ → Bool) (knows : Knows is_there 
     apart done ms m e = apart_front done m ms (subst AreDistinct e distinct)
 
     done_named : (done ms : List Message) → all ≡ done ++ ms → AreNamed done
-    done_named done ms e = λ k d h. subst (λ m. IsTrue (is_converter_base m.target.base)) (get_or_append_left done ms d k h) ((subst (All (λ m. IsTarget m.target)) e are k d (omega (arith, h, length-append done ms))).named)
+    done_named done ms e = λ k d h. rw (get_or_append_left done ms d k h) at ((subst (All (λ m. IsTarget m.target)) e are k d (omega (arith, h, length-append done ms))).named)
 
-    missing_here : (done ms : List Message) (m : Message) (now : Files) → all ≡ done ++ m ∷ ms → is_there m.target.base ≡ false → Progress done start now → IsMissing now m
-    missing_here done ms m now e off p =
-        let is = at (λ m. IsTarget m.target) are done ms m e in
-        still_missing done m start now is.named (apart done ms m e) p (none_of (homes start m.target.base) (home_is m.target false is off))
+    module _ (done ms : List Message) (m : Message) where
+      missing_here : (now : Files) → all ≡ done ++ m ∷ ms → is_there m.target.base ≡ false → Progress done start now → IsMissing now m
+      missing_here now e off p =
+          let is = at (λ m. IsTarget m.target) are done ms m e in
+          still_missing done m start now is.named (apart done ms m e) p (none_of (homes start m.target.base) (home_is m.target false is off))
 
-    home_here : (done ms : List Message) (m : Message) (now : Files) → all ≡ done ++ m ∷ ms → is_there m.target.base ≡ true → Progress done start now → IsHome now m
-    home_here done ms m now e on p =
-        let is = at (λ m. IsTarget m.target) are done ms m e in
-        still_there done m start now is.named (apart done ms m e) p (home_known m start (home_is m.target true is on) (at (IsSoundAt start) sound done ms m e))
+      home_here : (now : Files) → all ≡ done ++ m ∷ ms → is_there m.target.base ≡ true → Progress done start now → IsHome now m
+      home_here now e on p =
+          let is = at (λ m. IsTarget m.target) are done ms m e in
+          still_there done m start now is.named (apart done ms m e) p (home_known m start (home_is m.target true is on) (at (IsSoundAt start) sound done ms m e))
 
-    next : (done ms : List Message) (m : Message) → all ≡ done ++ m ∷ ms → all ≡ (done ++ m ∷ []) ++ ms
-    next done ms m e = e ∙ sym (append_assoc done (m ∷ []) ms)
+      next : all ≡ done ++ m ∷ ms → all ≡ (done ++ m ∷ []) ++ ms
+      next e = e ∙ sym (append_assoc done (m ∷ []) ms)
 
-    -- one message was done
-    one_done : (done ms : List Message) (m : Message) (old new : Files) → all ≡ done ++ m ∷ ms → Progress done start old → TmpWithin [] old → AllDone reported (delivery_if is_there m) old new → Progress (done ++ m ∷ []) start new × TmpWithin [] new
-    one_done done ms m old new e p within h =
-        elim (cases_Bool (is_there m.target.base)) as (λ _. Progress (done ++ m ∷ []) start new × TmpWithin [] new) [
-          | inl on ↦
-              let same : new ≡ old = as_shown reported m true old new on h in
-              (subst (Progress (done ++ m ∷ []) start) (sym same) (progress_home done m start old (home_here done ms m old e on p) p), subst (TmpWithin []) (sym same) within)
-          | inr off ↦
-              let d = delivered m (at (λ m. IsTarget m.target) are done ms m e) old new (missing_here done ms m old e off p) (as_shown reported m false old new off h) in
-              (progress_brought done m start old new (done_named done (m ∷ ms) e) (apart done ms m e) d.brings d.home p, d.within within)
-        ]
+      -- one message was done
+      one_done : (old new : Files) → all ≡ done ++ m ∷ ms → Progress done start old → TmpWithin [] old → AllDone reported (delivery_if is_there m) old new → Progress (done ++ m ∷ []) start new × TmpWithin [] new
+      one_done old new e p within h =
+          elim (cases_Bool (is_there m.target.base)) [
+            | inl on ↦
+                let same : new ≡ old = as_shown reported m true old new on h in
+                (subst (Progress (done ++ m ∷ []) start) (sym same) (progress_home done m start old (home_here old e on p) p), subst (TmpWithin []) (sym same) within)
+            | inr off ↦
+                let d = delivered m (at (λ m. IsTarget m.target) are done ms m e) old new (missing_here old e off p) (as_shown reported m false old new off h) in
+                (progress_brought done m start old new (done_named done (m ∷ ms) e) (apart done ms m e) d.brings d.home p, d.within within)
+          ]
 
     pub all_progress : (done ms : List Message) (old new : Files) → all ≡ done ++ ms → Progress done start old → TmpWithin [] old → AllDone reported (deliveries_of is_there ms) old new → Progress all start new × TmpWithin [] new
-    all_progress done [] old new e p within h = (subst (λ xs. Progress xs start new) (sym (e ∙ append-nil done)) (subst (Progress done start) (sym h) p), subst (TmpWithin []) (sym h) within)
+    all_progress done [] old new e p within h = (rw (e ∙ append-nil done) (subst (Progress done start) (sym h) p), subst (TmpWithin []) (sym h) within)
     all_progress done (m ∷ ms) old new e p within h =
         let r = all_parts reported (delivery_if is_there m) (deliveries_of is_there ms) old new h in
         let one = one_done done ms m old r.0 e p within r.1 in
@@ -207,14 +191,14 @@ module _ (start : Files) (is_there : List ℕ → Bool) (knows : Knows is_there 
     -- the run stopped at one message
     one_stopped : (done ms : List Message) (m : Message) (old new : Files) → all ≡ done ++ m ∷ ms → Progress done start old → Stopped reported (delivery_if is_there m) old new → CameTo all start new
     one_stopped done ms m old new e p h =
-        elim (cases_Bool (is_there m.target.base)) as (λ _. CameTo all start new) [
+        elim (cases_Bool (is_there m.target.base)) [
           | inl on ↦
-              let same : new ≡ old = subst (λ b. Stopped reported (cond b [] (delivery_of m.target m.body)) old new) on h in
+              let same : new ≡ old = rw on at h in
               record { done = done; rest = m ∷ ms; is = e; progress = subst (Progress done start) (sym same) p }
           | inr off ↦
               let missing = missing_here done ms m old e off p in
-              let brings = stopped_brings m (at (λ m. IsTarget m.target) are done ms m e) old new missing (subst (λ b. Stopped reported (cond b [] (delivery_of m.target m.body)) old new) off h) in
-              elim (progress_or_more done m start old new (done_named done (m ∷ ms) e) (apart done ms m e) missing brings p) as (λ _. CameTo all start new) [
+              let brings = stopped_brings m (at (λ m. IsTarget m.target) are done ms m e) old new missing (rw off at h) in
+              elim (progress_or_more done m start old new (done_named done (m ∷ ms) e) (apart done ms m e) missing brings p) [
                 | inl q ↦ record { done = done; rest = m ∷ ms; is = e; progress = q }
                 | inr q ↦ record { done = done ++ m ∷ []; rest = ms; is = next done ms m e; progress = q }
               ]
@@ -223,7 +207,7 @@ module _ (start : Files) (is_there : List ℕ → Bool) (knows : Knows is_there 
     pub stopped_came : (done ms : List Message) (old new : Files) → all ≡ done ++ ms → Progress done start old → TmpWithin [] old → Stopped reported (deliveries_of is_there ms) old new → CameTo all start new
     stopped_came done [] old new e p within h = record { done = done; rest = []; is = e; progress = subst (Progress done start) (sym h) p }
     stopped_came done (m ∷ ms) old new e p within h =
-        elim (stopped_parts reported (delivery_if is_there m) (deliveries_of is_there ms) old new h) as (λ _. CameTo all start new) [
+        elim (stopped_parts reported (delivery_if is_there m) (deliveries_of is_there ms) old new h) [
           | inl s ↦ one_stopped done ms m old new e p s
           | inr (mid, first, then) ↦
               let one = one_done done ms m old mid e p within first in
@@ -239,7 +223,7 @@ module _ (start : Files) (is_there : List ℕ → Bool) (knows : Knows is_there 
       let t = m.target in
       let r = all_parts undisturbed (delivery_if is_there m) (deliveries_of is_there ms) old new h in
       let step : r.0 ≡ cond (has_home start t.base) old (added old t.place t.name m.body) =
-      elim (cases_Bool (is_there t.base)) as (λ _. r.0 ≡ cond (has_home start t.base) old (added old t.place t.name m.body)) [
+      elim (cases_Bool (is_there t.base)) [
         | inl on ↦ as_shown undisturbed m true old r.0 on r.1 ∙ ap (λ b. cond b old (added old t.place t.name m.body)) (sym (home_is t true is on))
         | inr off ↦
             let d = as_shown undisturbed m false old r.0 off r.1 in
@@ -251,16 +235,10 @@ module _ (start : Files) (is_there : List ℕ → Bool) (knows : Knows is_there 
       ∙ ap (filled start ms) step
 
 -- ---- other files
-one_others : (task : Task) → OfConverter (call_of task) → (old new : Files) → undisturbed.done task old new → LeavesOthers old new
-one_others (Ask sub names) ours old new h = subst (LeavesOthers old) (sym h.0) (others_same old)
-one_others (Do call) ours old new h = subst (LeavesOthers old) (sym h.1) (effect_others call ours old)
-
-refused_others : (task : Task) → OfConverter (call_of task) → (old new : Files) → undisturbed.refused task old new → LeavesOthers old new
-refused_others task ours old new h = subst (LeavesOthers old) (sym h.2) (own_others (call_of task) ours h.0 old h.1)
+one_others : (task : Task) → IsOurs task → (old new : Files) → undisturbed.done task old new ⊎ undisturbed.refused task old new → LeavesOthers old new
+one_others (Ask sub names) ours old new (inl h) = subst (LeavesOthers old) (sym h.0) (others_same old)
+one_others (Do call) ours old new (inl h) = subst (LeavesOthers old) (sym h.1) (effect_others call ours old)
+one_others task ours old new (inr h) = subst (LeavesOthers old) (sym h.2) (own_others (call_of task) ours h.0 old h.1)
 
 pub done_others : (fault : Option RunFault) (tasks : List Task) → EachTask IsOurs tasks → (old new : Files) → DoneUntil undisturbed tasks old fault new → LeavesOthers old new
-done_others None [] ours old new e = subst (LeavesOthers old) (sym e) (others_same old)
-done_others (Some f) [] ours old new e = subst (LeavesOthers old) (sym e) (others_same old)
-done_others (Some f) (task ∷ tasks) ours old new (inl h) = refused_others task ours.0 old new h
-done_others (Some f) (task ∷ tasks) ours old new (inr (mid, one, more)) = others_then old mid new (one_others task ours.0 old mid one) (done_others (Some f) tasks ours.1 mid new more)
-done_others None (task ∷ tasks) ours old new (mid, one, more) = others_then old mid new (one_others task ours.0 old mid one) (done_others None tasks ours.1 mid new more)
+done_others = across undisturbed LeavesOthers others_same others_then IsOurs one_others

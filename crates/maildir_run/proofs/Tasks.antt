@@ -1,24 +1,7 @@
 -- Tasks after one another.
-use Rattle.std.proofs.Common.{◌≡◌, ℕ, ◌+◌, ◌<◌, List, [], ◌∷◌, ◌++◌, length, take, drop, get_or, Result, Ok, Err, IsPermutation, IfOk, refl, sym, ap, subst, ◌∙◌, inl, inr, arith, length-append, append_assoc, Option, Some, None}
-use Rattle.std.specs.Prelude.{IsErrAnd}
-use Rattle.std.specs.FinMap.{keys}
-use Rattle.std.specs.List.{flat_map}
-use Rattle.std.proofs.lemmas.List.{take_more, take-append-drop, append-nil}
-use Rattle.std.proofs.lemmas.List.Concat.{flat_map-append}
-use Rattle.std.specs.declared.vec.Vec.{Vec}
-use Rattle.std.specs.declared.string.String.{String}
-use Rattle.std.specs.declared.alloc.Global.{Global}
-use Rattle.maildir_run.specs.declared.fault.RunFault.{RunFault}
-use Rattle.maildir_run.specs.declared.folder.FolderFault.{FolderFault}
+use Rattle.std.proofs.Common.{◌≡◌, ℕ, ◌+◌, ◌<◌, List, [], ◌∷◌, ◌++◌, length, take, drop, get_or, Result, Ok, Err, IsPermutation, IfOk, refl, sym, ap, subst, ◌∙◌, inl, inr, arith, length-append, append_assoc, Option, Some, None, IsErrAnd, flat_map, take-append-drop, append-nil, Vec, String, Global}
+use Rattle.maildir_run.proofs.Common.{keys, take_more, flat_map-append, RunFault, FolderFault, Sub, Call, Called, CalledQuietly, Listed, Listing, GoesUp, CountsFailure, folder_of, names_of, fault_of, run_answer, capped, GoesUpWith, CountsFault, IsNumbered, Left, LeavesOf, Files, Task, Ask, Do, Way, reported, undisturbed, leaving, AllDone, Stopped, DoneUntil, Performs, Seen, Ran, names_in, IsReading}
 use Rattle.maildir_run.specs.declared.folder.FolderFault.TheVariants.{Absent, Failed as Broken}
-use Rattle.maildir_run.specs.declared.folder.Sub.{Sub}
-use Rattle.maildir_run.specs.Calls.{Call, Called, CalledQuietly, Listed, Listing, GoesUp, CountsFailure, folder_of, names_of}
-use Rattle.maildir_run.specs.Counting.{fault_of, run_answer, capped, GoesUpWith, CountsFault, IsNumbered}
-use Rattle.maildir_run.specs.Cuts.{Left, LeavesOf}
-use Rattle.maildir_run.specs.Files.{Files}
-use Rattle.maildir_run.specs.Tasks.{Task, Ask, Do, Way, reported, undisturbed, leaving, AllDone, Stopped, DoneUntil, Performs}
-use Rattle.maildir_run.specs.Parts.{Seen, Ran, names_in}
-use Rattle.maildir_run.specs.Reading.{IsReading}
 use Rattle.maildir_run.proofs.Faults.{at_reading}
 use Rattle.maildir_run.proofs.Cuts.{left_as, left_then}
 use Rattle.maildir_run.proofs.CallCounts.{one_call, more_calls, no_call}
@@ -42,7 +25,7 @@ stopped_here w still [] s = refl
 stopped_here w still (task ∷ tasks) s = inl (still task s)
 
 done_then : (w : Way) (xs ys : List Task) (a b c : Files) (fault : Option RunFault) → AllDone w xs a b → DoneUntil w ys b fault c → DoneUntil w (xs ++ ys) a fault c
-done_then w [] ys a b c fault e h = subst (λ s. DoneUntil w ys s fault c) e h
+done_then w [] ys a b c fault e h = rw e at h
 done_then w (x ∷ xs) ys a b c None (mid, one, more) h = (mid, one, done_then w xs ys mid b c None more h)
 done_then w (x ∷ xs) ys a b c (Some e) (mid, one, more) h = inr (mid, one, done_then w xs ys mid b c (Some e) more h)
 
@@ -53,7 +36,7 @@ all_stopped w (x ∷ xs) a b (mid, one, more) = inr (mid, one, all_stopped w xs 
 
 -- what follows is not begun
 pub stopped_before : (w : Way) → MayStop w → (xs ys : List Task) (a b : Files) → Stopped w xs a b → Stopped w (xs ++ ys) a b
-stopped_before w still [] ys a b e = subst (λ s. Stopped w ys a s) (sym e) (stopped_here w still ys a)
+stopped_before w still [] ys a b e = rw e (stopped_here w still ys a)
 stopped_before w still (x ∷ xs) ys a b (inl h) = inl h
 stopped_before w still (x ∷ xs) ys a b (inr (mid, one, more)) = inr (mid, one, stopped_before w still xs ys mid b more)
 
@@ -87,7 +70,7 @@ ran_then {xs} {ys} {a} {b} {c} {made} {mid} {made'} {fault} first then =
       most = omega (arith, length-append xs ys);
       all = λ e. omega (arith, length-append xs ys, first.all refl, then.all e);
       makes = more_calls first.n then.n _ _ _ _ _ _ first.makes then.makes;
-      cause = subst (λ k. GoesUpWith fault k c.failures) first.cause then.cause;
+      cause = rw first.cause at then.cause;
       numbered = then.numbered;
     }
 
@@ -132,7 +115,7 @@ ran_nothing fault reading tasks s made = ran_before tasks (ran_stop fault readin
 -- the fault of a refused call, as that of the answer of the function that made it
 pub ran_err : {B : Type 0} {xs : List Task} {a b : Seen} {made made' : ℕ} {fault : RunFault} (r : Result B RunFault) → IsErrAnd r (λ e. e ≡ fault) → Ran xs a b made made' (Some fault) → Ran xs a b made made' (fault_of r)
 ran_err (Ok x) is h = absurd is
-ran_err {B} {xs} {a} {b} {made} {made'} (Err e) is h = subst (λ f. Ran xs a b made made' (Some f)) (sym is) h
+ran_err {B} {xs} {a} {b} {made} {made'} (Err e) is h = rw is h
 
 -- ---- one call
 run_performs : {A : Type 0} (w : Way) (xs : List Task) (old : Files) (r : Result A FolderFault) (new : Files) (number : ℕ) → Performs w xs old r new → Performs w xs old (run_answer number r) new
@@ -200,8 +183,7 @@ ran_do call old new made made' r answer up is honest called left quiet alone =
 -- a listing
 pub ran_ask : (sub : Sub) (old new : Seen) (made made' : ℕ) (r : Result (Vec (String Global) Global) FolderFault) (answer : Result (Vec (String Global) Global) RunFault) → made' ≡ capped (made + 1) → answer ≡ run_answer made' r → (old.honest → new.honest) → (old.honest → Listed sub old.files r new.files) → (old.honest → Left (λ before now. LeavesOf (Listing sub) before r now) old.may_leave new.may_leave) → (old.quiet → new.quiet) → (old.quiet → CalledQuietly (Listing sub) old.files r new.files) → (old.quiet → IfOk r (λ v. IsPermutation (names_of v) (keys (folder_of sub old.files)))) → GoesUp old.calls new.calls → CountsFailure r old.failures new.failures → Ran (Ask sub (names_in answer) ∷ []) old new made made' (fault_of answer)
 ran_ask sub old new made made' r answer up is honest called left quiet alone names counted cause =
-    subst (λ xs. Ran (Ask sub xs ∷ []) old new made made' (fault_of answer)) (sym (ap names_in is ∙ told_names r made'))
-    (ran_one (Ask sub (names_in r)) old new made made' r answer up is honest (λ h. ask_reported sub old.files r new.files (called h)) (λ h. left_as _ _ old.may_leave new.may_leave (ask_leaving sub r) (left h))
+    rw (ap names_in is ∙ told_names r made') (ran_one (Ask sub (names_in r)) old new made made' r answer up is honest (λ h. ask_reported sub old.files r new.files (called h)) (λ h. left_as _ _ old.may_leave new.may_leave (ask_leaving sub r) (left h))
     quiet (λ q. ask_undisturbed sub old.files r new.files (alone q) (names q)) counted cause)
 
 -- one more step of a plan, which has these tasks

@@ -1,28 +1,16 @@
 -- Trees of files, seen as finite maps: what each change leaves.
-use Rattle.std.proofs.Common.{append_assoc, ◌≡◌, ◌&&◌, vec_len, ℕ, Bool, true, false, cond, List, [], ◌∷◌, ◌++◌, map, length, Option, Some, None, refl, sym, ap, subst, ◌∙◌, Bor, String, Vec, Global, string_bytes}
+use Rattle.std.proofs.Common.{append_assoc, ◌≡◌, ◌&&◌, vec_len, ℕ, Bool, true, false, cond, List, [], ◌∷◌, ◌++◌, map, length, Option, Some, None, refl, sym, ap, ◌∙◌, Bor, String, Vec, Global, string_bytes, option_map, MatchOption, IfSome, is_eq, nat_cmp, string_cmp, string_eq, bytes_eq, append-nil}
+use Rattle.maildir_run.proofs.Common.{AllZip, each_same, slice_cmp, nat_list_eq_equiv, bytes_decides, get, insert, remove, find, put, empty, entries, keys, len, from_entries, entries-insert, len-empty, len-entries, get-from_entries, get-insert, get-remove, same_map, Less, nil_from_length, length-map, map-append, and_parts, eq_by_cmp_equiv, name_cmp, is_name, FileMap}
 use lib.Pointwise.{pointwise}
-use Rattle.std.specs.List.{AllZip, each_same}
 use Rattle.std.specs.Iterator.{Yields}
-use Rattle.std.specs.Option.{option_map, MatchOption, IfSome}
-use Rattle.std.specs.Ordering.{is_eq, nat_cmp}
-use Rattle.std.specs.String.{string_cmp, string_eq}
-use Rattle.std.specs.Str.{bytes_eq}
-use Rattle.std.specs.Cmp.Lexicographic.{slice_cmp, nat_list_eq_equiv, bytes_decides}
 use Rattle.std.specs.Map.{lookup, keys_of}
 use Rattle.std.specs.List.Sorted.{IsStrictlySortedBy}
-use Rattle.std.specs.BTreeMap as tree
 use Rattle.std.specs.BTreeMap.{BTreeMap, UpdatesBy, get_by_text, IsOrdered}
-use Rattle.std.specs.FinMap.{get, insert, remove, find, put, empty, entries, keys, len, from_entries, entries-insert, len-empty, len-entries, get-from_entries, get-insert, get-remove, same_map}
-use Rattle.std.specs.declared.cmp.Ordering.TheVariants.{Less}
-use Rattle.std.proofs.lemmas.List.{nil_from_length, length-map, map-append}
-use Rattle.std.proofs.lemmas.Bool.{and_parts}
 use Rattle.std.proofs.lemmas.Map.Keys.{sorted_head, sorted_tail}
-use Rattle.std.proofs.lemmas.Cmp.{eq_by_cmp_equiv}
 use Rattle.std.proofs.lemmas.Map.Text.{btree_map_updates_text, is_eq-slice_cmp}
-use Rattle.maildir_run.specs.Files.{name_cmp, is_name, FileMap}
 use Rattle.maildir_run.specs.FileTree.{map_of}
 use Rattle.maildir_run.proofs.Maps.{total, same}
-use Rattle.std.proofs.lemmas.List.{append-nil}
+use Rattle.std.specs.BTreeMap as tree
 
 abbrev Tree : Type 0
 Tree = BTreeMap (String Global) (Vec ℕ Global)
@@ -181,7 +169,7 @@ last_names s t u v (Some x) (Some y) r first then last = (
 
 pub names_compared : (s t s' t' u v : List (String Global)) (xs ys : List (Bor (String Global))) (o p : Option (Bor (String Global))) (r : Bool) → Yields Step s xs s' → Step s' o u → Yields Step t ys t' → Step t' p v → AllZip (λ (x y : Bor (String Global)). string_eq x.now y.now ≡ true) xs ys → Last o p r → Tells r s t
 names_compared s t s' t' u v [] [] o p r from_s ends_s from_t ends_t same last =
-    last_names s t u v o p r (subst (λ x. Step x o u) (sym from_s) ends_s) (subst (λ x. Step x p v) (sym from_t) ends_t) last
+    last_names s t u v o p r (rw from_s ends_s) (rw from_t ends_t) last
 names_compared s t s' t' u v [] (y ∷ ys) o p r from_s ends_s from_t ends_t same last = absurd same
 names_compared s t s' t' u v (x ∷ xs) [] o p r from_s ends_s from_t ends_t same last = absurd same
 names_compared s t s' t' u v (x ∷ xs) (y ∷ ys) o p r (j, first_s, from_s) ends_s (k, first_t, from_t) ends_t same last =

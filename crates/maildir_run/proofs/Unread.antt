@@ -1,22 +1,9 @@
 -- Texts that no list of messages fits.
-use Rattle.std.proofs.Common.{◌≡◌, ◌⊎◌, ℕ, ◌≤◌, Bool, true, Option, Result, Ok, Err, List, [], ◌++◌, length, refl, ap, arith, inl, inr}
-use Rattle.std.specs.Prelude.{◌*◌, IsErr, IsErrAnd}
-use Rattle.std.specs.Io.KnownBytes.{Consumes, IsAtEnd}
-use Rattle.std.proofs.lemmas.Bool.{both_ways, false≢true}
-use Rattle.std.proofs.lemmas.List.{append-nil}
-use Rattle.mbox_text.specs.declared.entry.Entry.{Entry}
-use Rattle.mbox_text.specs.declared.splitter.Splitter.{Splitter}
+use Rattle.std.proofs.Common.{◌≡◌, ◌⊎◌, ℕ, ◌≤◌, Bool, true, Option, Result, Ok, Err, List, [], ◌++◌, length, refl, ap, arith, inl, inr, ◌*◌, IsErr, IsErrAnd, append-nil}
+use Rattle.maildir_run.proofs.Common.{Consumes, IsAtEnd, both_ways, false≢true, Entry, Splitter, IsUnreadable, AllButLast, NeverFrom, IsTooShort, NeverBegins, begins_from-more, RunFault, NoFromLine, TooManyReads, OutOfMemory, Messages, NeverReads, Taken, Breaks, Went}
 use Rattle.mbox_text.specs.Quoting.{begins_from, begins_with, from_bytes}
-use Rattle.mbox_text.specs.Mbox.{IsUnreadable}
-use Rattle.mbox_text.specs.Fronts.{AllButLast, NeverFrom}
-use Rattle.mbox_text.specs.Fed.{IsTooShort, NeverBegins}
 use Rattle.mbox_text.proofs.Fields.{never-more}
 use Rattle.mbox_text.proofs.Heads.{from-long, mbox-starts}
-use Rattle.mbox_text.proofs.LineLemmas.{begins_from-more}
-use Rattle.maildir_run.specs.declared.fault.RunFault.{RunFault}
-use Rattle.maildir_run.specs.declared.fault.RunFault.TheVariants.{NoFromLine, TooManyReads, OutOfMemory}
-use Rattle.maildir_run.specs.declared.messages.Messages.{Messages}
-use Rattle.maildir_run.specs.Reading.{NeverReads, Taken, Breaks, Went}
 
 -- what begins neither with `From ` nor with a front of it
 pub never_unreadable : (text : List ℕ) → NeverFrom text → IsUnreadable text

@@ -10,24 +10,26 @@ use Rattle.maildir_run.specs.declared.fault.RunFault.TheVariants.{NoFromLine, To
 use Rattle.maildir_run.specs.Runs.{Possible}
 use Rattle.maildir_run.specs.Reading.{ReadsAtLeast, ReadsAtMost}
 
--- this text was read, these messages were given of it, and so many reads are left of those that were allowed; each that was made gave a byte
-pub record Gave (before now : Option (List ℕ)) (splitter : Splitter) (left reads : ℕ) (text : List ℕ) (given : List Entry) : Type 0 where
+-- a text was read, these messages were given of it, and so many reads are left of those that were allowed; each that was made gave a byte
+pub record Gave (before now : Option (List ℕ)) (splitter : Splitter) (left reads : ℕ) (given : List Entry) : Type 0 where
+  pub text : List ℕ
   pub read : Consumes before now text
   pub budget : length text + 65536 * left ≤ 65536 * reads
   pub spent : reads ≤ left + length text
   pub fed : Fed text given splitter
 
--- this text was read up to the source's end, and these are its messages
-pub record GaveAll (before now : Option (List ℕ)) (reads : ℕ) (text : List ℕ) (given : List Entry) : Type 0 where
+-- a text was read up to the source's end, and these are its messages
+pub record GaveAll (before now : Option (List ℕ)) (reads : ℕ) (given : List Entry) : Type 0 where
+  pub text : List ℕ
   pub read : Consumes before now text
   pub budget : length text ≤ 65536 * reads
   pub end : IsAtEnd now
   pub all : Mbox text given
 
--- this text was read, up to the end or not, and these messages were given of it
-abbrev pub IsGiven : Bool → Option (List ℕ) → Option (List ℕ) → Splitter → ℕ → ℕ → List ℕ → List Entry → Type 0
-IsGiven false before now splitter left reads text given = Gave before now splitter left reads text given
-IsGiven true before now splitter left reads text given = GaveAll before now reads text given
+-- a text was read, up to the end or not, and these messages were given of it
+abbrev pub IsGiven : Bool → Option (List ℕ) → Option (List ℕ) → Splitter → ℕ → ℕ → List Entry → Type 0
+IsGiven false before now splitter left reads given = Gave before now splitter left reads given
+IsGiven true before now splitter left reads given = GaveAll before now reads given
 
 -- this text was read, and these messages are the first of each text that may begin so; one that has none begins with none
 pub record Front (before now : Option (List ℕ)) (reads : ℕ) (given : List Entry) : Type 0 where
@@ -40,8 +42,7 @@ pub record Front (before now : Option (List ℕ)) (reads : ℕ) (given : List En
 
 -- the source was read up to its end, or up to where these messages are whole, of which there is one
 pub record Begins (ended : Bool) (before now : Option (List ℕ)) (splitter : Splitter) (left reads : ℕ) (whole : List Entry) : Type 0 where
-  pub text : List ℕ
-  pub gave : IsGiven ended before now splitter left reads text whole
+  pub gave : IsGiven ended before now splitter left reads whole
   pub begun : ended ≡ false → 0 < length whole
 
 -- nothing more could be read; with `TooManyReads` each of the reads gave a byte, and with `NoFromLine` no text that the source may have had is an mbox text

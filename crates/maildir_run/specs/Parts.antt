@@ -12,6 +12,7 @@ use Rattle.maildir_name.specs.Targets.{target}
 use Rattle.maildir_run.specs.declared.fault.RunFault.{RunFault}
 use Rattle.maildir_run.specs.declared.fault.RunFault.TheVariants.{NoFromLine}
 use Rattle.maildir_run.specs.declared.report.Report.{Report}
+use Rattle.maildir_run.specs.declared.folder.Folder.{Ghosts}
 use Rattle.maildir_run.specs.Calls.{Writing, Placing, Removing, names_of}
 use Rattle.maildir_run.specs.Counting.{Makes, GoesUpWith, IsNumbered, fault_of}
 use Rattle.maildir_run.specs.Cuts.{Left}
@@ -33,8 +34,8 @@ pub record Seen : Type 1 where
   pub failures : ℕ
 
 -- what these say of a folder
-abbrev pub seen : {S : Type 0} → (S → Type 0) → (S → Type 0) → (S → Files) → (S → Files → Type 0) → (S → ℕ) → (S → ℕ) → S → Seen
-seen honest quiet files may_leave calls failures s = record { honest = honest s; quiet = quiet s; files = files s; may_leave = may_leave s; calls = calls s; failures = failures s }
+abbrev pub seen : {S : Type 0} → Ghosts S → S → Seen
+seen f s = record { honest = f.honest s; quiet = f.quiet s; files = f.files s; may_leave = f.may_leave s; calls = f.calls s; failures = f.failures s }
 
 -- A run that had made so many calls performed these tasks: all of them with no fault, and with one up to the one that was refused.
 pub record Ran (tasks : List Task) (old new : Seen) (made made' : ℕ) (fault : Option RunFault) : Type 0 where
@@ -99,7 +100,7 @@ pub record Tells (names : Names) (ms : List Message) (report : Report) : Type 0 
 pub record Conversion (before now : Option (List ℕ)) (reads : ℕ) (old new : Seen) (result : Result Report RunFault) : Type 0 where
   pub given : List Entry
   pub front : Front before now reads given
-  pub whole : OnOk result ((text : List ℕ) × GaveAll before now reads text given)
+  pub whole : OnOk result (GaveAll before now reads given)
   pub refused : IfErr result (Refused before now reads)
   pub untouched : IsErrOf result NoFromLine → new.calls ≡ old.calls
   pub names : Names

@@ -44,7 +44,7 @@ impl Calls {
         folder: &mut F,
         sub: Sub,
     ) -> Result<Vec<String>, RunFault>
-        ensures ran { let at = seen F.honest F.quiet F.files F.may_leave F.calls F.failures in
+        ensures ran { let at = seen F.Folder in
             Ran (Ask sub (names_in result) ∷ []) (at folder.old) (at folder.new) self.old.made self.new.made (fault_of result) }
         ensures causes { IfErr result IsOfFolder }
     {
@@ -59,7 +59,7 @@ impl Calls {
         name: &str,
         bytes: &[u8],
     ) -> Result<(), RunFault>
-        ensures ran { let at = seen F.honest F.quiet F.files F.may_leave F.calls F.failures in
+        ensures ran { let at = seen F.Folder in
             Ran (Do (Writing name.now bytes.now) ∷ []) (at folder.old) (at folder.new) self.old.made self.new.made (fault_of result) }
         ensures causes { IfErr result IsOfFolder }
     {
@@ -75,7 +75,7 @@ impl Calls {
         place: Place,
         target: &str,
     ) -> Result<(), RunFault>
-        ensures ran { let at = seen F.honest F.quiet F.files F.may_leave F.calls F.failures in
+        ensures ran { let at = seen F.Folder in
             Ran (Do (Placing name.now place target.now) ∷ []) (at folder.old) (at folder.new) self.old.made self.new.made (fault_of result) }
         ensures causes { IfErr result IsOfFolder }
     {
@@ -85,7 +85,7 @@ impl Calls {
 
     /// Removes a file of `tmp`.
     pub(crate) fn remove<F: Folder>(&mut self, folder: &mut F, name: &str) -> Result<(), RunFault>
-        ensures ran { let at = seen F.honest F.quiet F.files F.may_leave F.calls F.failures in
+        ensures ran { let at = seen F.Folder in
             Ran (Do (Removing name.now) ∷ []) (at folder.old) (at folder.new) self.old.made self.new.made (fault_of result) }
         ensures causes { IfErr result IsOfFolder }
     {

@@ -85,7 +85,7 @@ fn run<F: Folder, R: Read>(
     reads: u64,
 ) -> Result<Report, RunFault>
     requires { reads ≤ 2 ^ 40 }
-    ensures is { let at = seen F.honest F.quiet F.files F.may_leave F.calls F.failures in Conversion (R.remaining source.old) (R.remaining source.new) reads (at folder.old) (at folder.new) result }
+    ensures is { let at = seen F.Folder in Conversion (R.remaining source.old) (R.remaining source.new) reads (at folder.old) (at folder.new) result }
     ensures causes { IfErr result (λ fault. IsReading fault ⊎ IsOfFolder fault) }
 {
     let mut messages = Messages::new(alloc, reads)?;

@@ -16,7 +16,7 @@ pub(crate) fn bring<F: Folder>(
     target: &Target,
     body: &[u8],
 ) -> Result<(), RunFault>
-    ensures ran { let at = seen F.honest F.quiet F.files F.may_leave F.calls F.failures in
+    ensures ran { let at = seen F.Folder in
         Ran (delivery_of target.now body.now) (at folder.old) (at folder.new) calls.old.made calls.new.made (fault_of result) }
     ensures causes { IfErr result IsOfFolder }
 {

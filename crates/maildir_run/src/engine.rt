@@ -40,7 +40,7 @@ impl<'a> Engine<'a> {
         calls: Calls,
         found: &'a Survey,
     ) -> Result<Engine<'a>, RunFault>
-        ensures ran { let at = seen F.honest F.quiet F.files F.may_leave F.calls F.failures in (made : ℕ)
+        ensures ran { let at = seen F.Folder in (made : ℕ)
             × Ran (sweep_of (names_of found.now.tmp)) (at folder.old) (at folder.new) calls.made made (fault_of result)
             × IfOk result (λ engine. engine.calls.made ≡ made) }
         ensures there { IfOk result (λ engine. (b : List ℕ) → contains_key engine.there b ≡ is_listed (names_of found.now.new) (names_of found.now.cur) b) }
@@ -79,7 +79,7 @@ impl<'a> Engine<'a> {
     /// Brings the next message, if it was not there. The set of bases is asked once.
     fn deliver<F: Folder>(&mut self, folder: &mut F, body: &[u8]) -> Result<(), RunFault>
         requires { self.old.messages < 2 ^ 63 }
-        ensures brought { let at = seen F.honest F.quiet F.files F.may_leave F.calls F.failures in (bodies : List (List ℕ)) → Named bodies self.old.namer → length bodies < 2 ^ 63 →
+        ensures brought { let at = seen F.Folder in (bodies : List (List ℕ)) → Named bodies self.old.namer → length bodies < 2 ^ 63 →
             Brought (contains_key self.old.there) bodies (body.now ∷ []) (at folder.old) (at folder.new) self.old.calls.made self.new.calls.made self.old.placed self.new.placed self.new.namer (fault_of result) }
         ensures there { self.new.there ≡ self.old.there }
         ensures swept { self.new.swept ≡ self.old.swept }
@@ -102,7 +102,7 @@ impl<'a> Engine<'a> {
         entries: &[Entry],
     ) -> Result<(), RunFault>
         requires { self.old.messages + length entries.now < 2 ^ 63 }
-        ensures brought { let at = seen F.honest F.quiet F.files F.may_leave F.calls F.failures in (bodies : List (List ℕ)) → Named bodies self.old.namer → length bodies + length entries.now ≤ 2 ^ 63 →
+        ensures brought { let at = seen F.Folder in (bodies : List (List ℕ)) → Named bodies self.old.namer → length bodies + length entries.now ≤ 2 ^ 63 →
             Brought (contains_key self.old.there) bodies (bodies_of entries.now) (at folder.old) (at folder.new) self.old.calls.made self.new.calls.made self.old.placed self.new.placed self.new.namer (fault_of result) }
         ensures there { self.new.there ≡ self.old.there }
         ensures swept { self.new.swept ≡ self.old.swept }

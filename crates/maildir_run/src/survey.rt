@@ -19,7 +19,7 @@ pub(crate) struct Survey {
 
 /// Lists the three folders. `new` comes before `cur`, since a mail reader moves files from the one to the other.
 pub(crate) fn look<F: Folder>(folder: &mut F, calls: &mut Calls) -> Result<Survey, RunFault>
-    ensures ran { let at = seen F.honest F.quiet F.files F.may_leave F.calls F.failures in
+    ensures ran { let at = seen F.Folder in
         (names : Names) × (length names.tmp < 2 ^ 64) × Ran (listings names) (at folder.old) (at folder.new) calls.old.made calls.new.made (fault_of result)
         × IfOk result (λ found. (names_of found.tmp ≡ names.tmp) × (names_of found.new ≡ names.new) × (names_of found.cur ≡ names.cur)) }
     ensures causes { IfErr result IsOfFolder }

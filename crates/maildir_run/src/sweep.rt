@@ -18,7 +18,7 @@ pub(crate) fn sweep<F: Folder>(
     calls: &mut Calls,
     listed: &[String],
 ) -> Result<u64, RunFault>
-    ensures ran { let at = seen F.honest F.quiet F.files F.may_leave F.calls F.failures in
+    ensures ran { let at = seen F.Folder in
         Ran (sweep_of (map string_bytes listed.now)) (at folder.old) (at folder.new) calls.old.made calls.new.made (fault_of result) }
     ensures count { IfOk result (λ n. n ≡ length (sweep_of (map string_bytes listed.now))) }
     ensures causes { IfErr result IsOfFolder }
@@ -33,7 +33,7 @@ fn remove_planned<F: Folder>(
     calls: &mut Calls,
     steps: &[Step],
 ) -> Result<u64, RunFault>
-    ensures ran { let at = seen F.honest F.quiet F.files F.may_leave F.calls F.failures in
+    ensures ran { let at = seen F.Folder in
         Ran (tasks_of [] steps.now) (at folder.old) (at folder.new) calls.old.made calls.new.made (fault_of result) }
     ensures count { IfOk result (λ n. n ≡ length (tasks_of [] steps.now)) }
     ensures causes { IfErr result IsOfFolder }

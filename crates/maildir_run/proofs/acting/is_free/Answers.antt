@@ -1,6 +1,5 @@
-use Rattle.std.proofs.Common.{◌≡◌, None, ap, ◌∙◌, rules}
-use Rattle.std.specs.Str.{bytes_eq}
-use Rattle.std.specs.FinMap.{get}
+use Rattle.std.proofs.Common.{◌≡◌, None, ap, ◌∙◌, rules, bytes_eq}
+use Rattle.maildir_run.proofs.Common.{get}
 use Rattle.maildir_run.proofs.Scripts.{free_name}
 use Rattle.maildir_run.proofs.acting.is_free.Goals as goal
 

@@ -1,11 +1,10 @@
-use Rattle.std.proofs.Common.{◌≡◌, ℕ, List, []}
-use Rattle.maildir_run.specs.Given.{Gave}
+use Rattle.std.proofs.Common.{◌≡◌, []}
+use Rattle.maildir_run.proofs.Common.{Gave}
 use Rattle.maildir_run.proofs.converting.read_first.Given as goal
 
 abbrev pub invariant-pieces : goal.invariant-pieces
 invariant-pieces g l = record {
-  text : List ℕ;
-  gave : Gave (g.R.Read.remaining l.initial.source) (g.R.Read.remaining l.source) l.messages.splitter l.messages.reads l.initial.messages.reads text [];
+  gave : Gave (g.R.Read.remaining l.initial.source) (g.R.Read.remaining l.source) l.messages.splitter l.messages.reads l.initial.messages.reads [];
   empty : l.whole.items ≡ [];
 }
 

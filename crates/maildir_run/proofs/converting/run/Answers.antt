@@ -1,32 +1,30 @@
 use Rattle.std.proofs.Common.{◌*◌, [], ◌++◌, refl, ◌∙◌, inr}
-use Rattle.maildir_run.specs.declared.fault.RunFault.TheVariants.{OutOfMemory}
-use Rattle.maildir_run.specs.Parts.{seen}
-use Rattle.maildir_run.specs.Texts.{bodies_of}
+use Rattle.maildir_run.proofs.Common.{OutOfMemory, seen, bodies_of}
 use Rattle.maildir_run.proofs.Bringing.{brought_none}
 use Rattle.maildir_run.proofs.Conversions.{stops, stops_in_folder, stops_unread, all_ran, tells_listed, one_batch, report_tells}
-use Rattle.maildir_run.proofs.Exits.{refused_of, read_nothing, batch_fits, batch_count, batch_begun, went_down}
-use Rattle.maildir_run.proofs.Givens.{gave_more, gave_refused, given_front, broken_front, given_few, not_ended, at_end, never_again}
+use Rattle.maildir_run.proofs.Exits.{read_nothing, batch_fits, batch_count, batch_begun, went_down}
+use Rattle.maildir_run.proofs.Givens.{gave_more, gave_refused, given_front, front_few, broken_front, never_again}
 use Rattle.maildir_run.proofs.Tasks.{ran_then, ran_before, ran_stop}
 use Rattle.maildir_run.proofs.converting.run.Goals as goal
 
 pub returns-in_err-messages-clause-is : goal.returns-in_err-messages-clause-is
 returns-in_err-messages-clause-is g c =
-    let at = seen g.F.Folder.honest g.F.Folder.quiet g.F.Folder.files g.F.Folder.may_leave g.F.Folder.calls g.F.Folder.failures in
+    let at = seen g.F.Folder in
     stops_unread _ _ _ (at c.args.folder.now) _ OutOfMemory c.from_residual.ensures.1 (inr (inr (inr refl)))
     (record { budget = read_nothing (g.R.Read.remaining c.args.source.now) (65536 * c.args.reads); spent = λ e. absurd (cc); unreadable = λ e. absurd (cc) })
 
 pub returns-in_err-ended-clause-is : goal.returns-in_err-ended-clause-is
 returns-in_err-ended-clause-is g c =
-    let at = seen g.F.Folder.honest g.F.Folder.quiet g.F.Folder.files g.F.Folder.may_leave g.F.Folder.calls g.F.Folder.failures in
+    let at = seen g.F.Folder in
     stops_unread _ _ _ (at c.args.folder.now) _ _ c.from_residual-in_err-ended.ensures.1 c.in_err-ended.ensures.causes
-    (refused_of _ _ _ c.args.reads _ c.in_ok-messages.ensures.1 c.in_err-ended.ensures.refused)
+    (rw c.in_ok-messages.ensures.1 at c.in_err-ended.ensures.refused)
 
 pub returns-in_err-found-clause-is : goal.returns-in_err-found-clause-is
 returns-in_err-found-clause-is g c =
     let is = c.from_residual-in_err-found.ensures.1 in
     let begins = rw c.in_ok-messages.ensures.1 at c.in_ok-ended.ensures.begins in
     let look = c.in_err-found.ensures.ran in
-    stops_in_folder _ _ _ _ _ _ _ is c.in_err-found.ensures.causes _ (given_front c.in_ok-ended.ended _ _ _ _ _ begins.text _ begins.gave) look.0 look.1 _ _ c.new-calls.ensures
+    stops_in_folder _ _ _ _ _ _ _ is c.in_err-found.ensures.causes _ (given_front c.in_ok-ended.ended _ _ _ _ _ _ begins.gave) look.0 look.1 _ _ c.new-calls.ensures
     (ran_before _ look.2)
 
 pub returns-in_err-engine-clause-is : goal.returns-in_err-engine-clause-is
@@ -35,14 +33,13 @@ returns-in_err-engine-clause-is g c =
     let begins = rw c.in_ok-messages.ensures.1 at c.in_ok-ended.ensures.begins in
     let look = c.in_ok-found.ensures.ran in
     let sweep = rw look.3.0 at c.in_err-engine.ensures.ran.1 in
-    stops_in_folder _ _ _ _ _ _ _ is c.in_err-engine.ensures.causes _ (given_front c.in_ok-ended.ended _ _ _ _ _ begins.text _ begins.gave) look.0 look.1 _ _ c.new-calls.ensures
+    stops_in_folder _ _ _ _ _ _ _ is c.in_err-engine.ensures.causes _ (given_front c.in_ok-ended.ended _ _ _ _ _ _ begins.gave) look.0 look.1 _ _ c.new-calls.ensures
     (ran_then look.2 (ran_before _ sweep))
 
 pub pieces-init : goal.pieces-init
 pieces-init g c =
     let begins = rw c.in_ok-messages.ensures.1 at c.in_ok-ended.ensures.begins in
     record {
-      text = begins.text;
       given = [];
       gave = begins.gave;
       begun = begins.begun;
@@ -55,7 +52,7 @@ pieces-init g c =
 pub deliver_entries-requires : goal.deliver_entries-requires
 deliver_entries-requires g c =
     let i = c.pieces.invariant in
-    let few = given_few c.pieces.ended _ _ _ _ _ i.text (i.given ++ c.pieces.whole.items) i.gave in
+    let few = front_few (given_front c.pieces.ended _ _ _ _ _ _ i.gave) in
     batch_fits c.pieces.engine.messages c.args.reads i.given c.pieces.whole.items c.deref.result.now i.count few c.requires c.deref.ensures.value
 
 pub pieces-preserved : goal.pieces-preserved
@@ -64,13 +61,10 @@ pieces-preserved g c =
     let whole = c.pieces.whole.items in
     let entries = c.deref.result.now in
     let is = c.deref.ensures.value in
-    let few = given_few c.pieces.ended _ _ _ _ _ i.text (i.given ++ whole) i.gave in
-    let more = gave_more c.in_ok-ended-2.ended _ _ _ c.pieces.messages _ _ _ i.text (i.given ++ whole) c.clear.new.self.items c.read.new.out.items c.clear.ensures.items
-    (not_ended c.pieces.ended _ _ _ _ _ i.text (i.given ++ whole) c.if-ended.false i.gave) c.in_ok-ended-2.ensures.went in
+    let few = front_few (given_front c.pieces.ended _ _ _ _ _ _ i.gave) in
     record {
-      text = more.text;
       given = i.given ++ whole;
-      gave = more.gave;
+      gave = gave_more c.in_ok-ended-2.ended _ c.pieces.messages _ _ c.clear.new.self.items c.read.new.out.items c.clear.ensures.items (rw c.if-ended.false at i.gave) c.in_ok-ended-2.ensures.went;
       begun = λ e. batch_begun (i.given ++ whole) c.read.new.out.items (i.begun c.if-ended.false);
       count = batch_count c.pieces.engine.messages c.deliver_entries.new.self.messages i.given whole entries i.count c.in_ok-deliver_entries.ensures.all is;
       there = c.in_ok-deliver_entries.ensures.there ∙ i.there;
@@ -85,10 +79,11 @@ returns-in_err-deliver_entries-clause-is g c =
     let given = i.given ++ c.pieces.whole.items in
     let look = c.in_ok-found.ensures.ran in
     let begin = c.in_ok-engine.ensures.ran in
-    let few = given_few c.pieces.ended _ _ _ _ _ i.text given i.gave in
+    let front = given_front c.pieces.ended _ _ _ _ _ given i.gave in
+    let few = front_few front in
     let listed = tells_listed c.in_ok-engine.engine.there _ _ look.0 (bodies_of given) c.in_ok-engine.ensures.there look.3.1 look.3.2 in
     let brought = one_batch i.given c.pieces.whole.items c.deref.result.now c.args.reads i.there c.deref.ensures.value few c.requires i.brought c.in_err-deliver_entries.ensures.brought in
-    stops_in_folder _ _ _ _ _ _ _ is c.in_err-deliver_entries.ensures.causes given (given_front c.pieces.ended _ _ _ _ _ i.text given i.gave) look.0 look.1 _ _ refl
+    stops_in_folder _ _ _ _ _ _ _ is c.in_err-deliver_entries.ensures.causes given front look.0 look.1 _ _ refl
     (all_ran look.0 _ c.new-calls.ensures look.3.0 begin.2 listed look.2 begin.1 brought.ran)
 
 pub returns-in_err-ended-2-clause-is : goal.returns-in_err-ended-2-clause-is
@@ -99,13 +94,14 @@ returns-in_err-ended-2-clause-is g c =
     let given = i.given ++ c.pieces.whole.items in
     let look = c.in_ok-found.ensures.ran in
     let begin = c.in_ok-engine.ensures.ran in
-    let few = given_few c.pieces.ended _ _ _ _ _ i.text given i.gave in
+    let front = given_front c.pieces.ended _ _ _ _ _ given i.gave in
+    let few = front_few front in
     let listed = tells_listed c.in_ok-engine.engine.there _ _ look.0 (bodies_of given) c.in_ok-engine.ensures.there look.3.1 look.3.2 in
     let brought = one_batch i.given c.pieces.whole.items c.deref.result.now c.args.reads i.there c.deref.ensures.value few c.requires i.brought c.in_ok-deliver_entries.ensures.brought in
-    let gave = not_ended c.pieces.ended _ _ _ _ _ i.text given c.if-ended.false i.gave in
+    let gave = rw c.if-ended.false at i.gave in
     let went = c.in_err-ended-2.ensures.went in
-    stops _ _ _ _ _ _ fault is (gave_refused _ _ _ c.pieces.messages c.args.reads i.text given fault gave went) (λ e. absurd (never_again _ _ c.pieces.messages i.text given fault gave.fed (i.begun c.if-ended.false) went e))
-    given (broken_front _ _ _ c.pieces.messages c.args.reads i.text given fault gave went) look.0 look.1 _ _ refl
+    stops _ _ _ _ _ _ fault is (gave_refused _ c.pieces.messages fault gave went) (λ e. absurd (never_again _ c.pieces.messages fault gave (i.begun c.if-ended.false) went e))
+    given (broken_front _ c.pieces.messages fault gave went) look.0 look.1 _ _ refl
     (ran_stop fault c.in_err-ended-2.ensures.causes (all_ran look.0 _ c.new-calls.ensures look.3.0 begin.2 listed look.2 begin.1 brought.ran))
 
 pub returns-then-ended-clause-is : goal.returns-then-ended-clause-is
@@ -116,14 +112,15 @@ returns-then-ended-clause-is g c =
     let look = c.in_ok-found.ensures.ran in
     let begin = c.in_ok-engine.ensures.ran in
     let counts = c.in_ok-engine.ensures.counts in
-    let few = given_few c.pieces.ended _ _ _ _ _ i.text given i.gave in
+    let front = given_front c.pieces.ended _ _ _ _ _ given i.gave in
+    let few = front_few front in
     let listed = tells_listed c.in_ok-engine.engine.there _ _ look.0 (bodies_of given) c.in_ok-engine.ensures.there look.3.1 look.3.2 in
     let brought = one_batch i.given c.pieces.whole.items entries c.args.reads i.there c.deref.ensures.value few c.requires i.brought c.in_ok-deliver_entries.ensures.brought in
     let count = batch_count c.pieces.engine.messages c.deliver_entries.new.self.messages i.given c.pieces.whole.items entries i.count c.in_ok-deliver_entries.ensures.all c.deref.ensures.value in
     record {
       given = given;
-      front = given_front c.pieces.ended _ _ _ _ _ i.text given i.gave;
-      whole = (i.text, at_end c.pieces.ended _ _ _ _ _ i.text given c.if-ended.true i.gave);
+      front = front;
+      whole = rw c.if-ended.true at i.gave;
       refused = tt;
       untouched = λ e. absurd (cc);
       names = look.0;

@@ -1,18 +1,13 @@
-use Rattle.std.proofs.Common.{◌≡◌, ℕ, suc, ◌<◌, false, cond, List, [], ◌++◌, length, None}
-use Rattle.std.specs.FinMap.{contains_key}
-use Rattle.mbox_text.specs.declared.entry.Entry.{Entry}
-use Rattle.maildir_run.specs.Given.{IsGiven}
-use Rattle.maildir_run.specs.Parts.{Brought, seen}
-use Rattle.maildir_run.specs.Texts.{bodies_of}
+use Rattle.std.proofs.Common.{◌≡◌, suc, ◌<◌, false, cond, List, [], ◌++◌, length, None}
+use Rattle.maildir_run.proofs.Common.{contains_key, Entry, IsGiven, Brought, seen, bodies_of}
 use Rattle.maildir_run.proofs.converting.run.Given as goal
 
 abbrev pub invariant-pieces : goal.invariant-pieces
 invariant-pieces g l =
-    let at = seen g.F.Folder.honest g.F.Folder.quiet g.F.Folder.files g.F.Folder.may_leave g.F.Folder.calls g.F.Folder.failures in
+    let at = seen g.F.Folder in
     record {
-      text : List ℕ;
       given : List Entry;
-      gave : IsGiven l.ended (g.R.Read.remaining l.fn.source) (g.R.Read.remaining l.source) l.messages.splitter l.messages.reads l.reads text (given ++ l.whole.items);
+      gave : IsGiven l.ended (g.R.Read.remaining l.fn.source) (g.R.Read.remaining l.source) l.messages.splitter l.messages.reads l.reads (given ++ l.whole.items);
       begun : l.ended ≡ false → 0 < length (given ++ l.whole.items);
       count : l.engine.messages ≡ length given;
       there : l.engine.there ≡ l.initial.engine.there;

@@ -1,12 +1,10 @@
 use Rattle.std.proofs.Common.{inl, inr}
-use Rattle.std.specs.FinMap.{get}
-use Rattle.maildir_run.specs.Calls.{after, Placing, NoneOrOne}
 use Rattle.maildir_run.proofs.Moves.{placing, placing_ok}
 use Rattle.maildir_run.proofs.laws.place_brings_one.Goals as goal
 
 pub returns-clause-any : goal.returns-clause-any
 returns-clause-any c = λ b name target place moves s named ours on e.
-    elim (placing b name place target named ours on moves s e) as (λ _. NoneOrOne b (get s.tmp name) (after s (Placing name place target) moves)) [
+    elim (placing b name place target named ours on moves s e) [
       | inl w ↦ inl w.homes_are
       | inr a ↦ inr (a.bytes, a.was, a.homes_are)
     ]

@@ -1,6 +1,5 @@
-use Rattle.std.proofs.Common.{◌≡◌, ◌++◌, map, take, sym, ◌∙◌, ap}
-use Rattle.std.proofs.lemmas.List.{take_all}
-use Rattle.maildir_run.specs.Listing.{shown_byte}
+use Rattle.std.proofs.Common.{◌≡◌, ◌++◌, map, take, sym, ◌∙◌, ap, take_all}
+use Rattle.maildir_run.proofs.Common.{shown_byte}
 use Rattle.maildir_run.proofs.ListLines.{sender-some}
 use Rattle.maildir_run.proofs.line.add_sender.Goals as goal
 

@@ -1,5 +1,5 @@
 use Rattle.std.proofs.Common.{◌≡◌, ◌++◌, map, take}
-use Rattle.maildir_run.specs.Listing.{shown_byte}
+use Rattle.maildir_run.proofs.Common.{shown_byte}
 use Rattle.maildir_run.proofs.line.add_sender.Given as goal
 
 abbrev pub invariant-loop-byte : goal.invariant-loop-byte

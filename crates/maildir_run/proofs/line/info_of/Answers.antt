@@ -1,8 +1,6 @@
-use Rattle.std.proofs.Common.{◌≡◌, refl, lit<, length, arith, ltb, false}
-use Rattle.std.specs.List.{position_or_len}
-use Rattle.std.proofs.lemmas.Bool.{lt-ltb, le-ltb}
+use Rattle.std.proofs.Common.{◌≡◌, refl, lit<, length, arith, ltb, false, lt-ltb, le-ltb}
+use Rattle.maildir_run.proofs.Common.{position_or_len, is_colon}
 use Rattle.std.proofs.lemmas.Str.Pattern.{split_once_first}
-use Rattle.maildir_name.specs.Names.{is_colon}
 use Rattle.maildir_run.proofs.line.info_of.Goals as goal
 
 pub returns-in-Some : goal.returns-in-Some

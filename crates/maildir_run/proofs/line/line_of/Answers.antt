@@ -1,5 +1,5 @@
 use Rattle.std.proofs.Common.{length, ap, ◌∙◌}
-use Rattle.mbox_text.specs.FromLine.{sender}
+use Rattle.maildir_run.proofs.Common.{sender}
 use Rattle.maildir_run.proofs.ListLines.{line-is}
 use Rattle.maildir_run.proofs.line.line_of.Goals as goal
 

@@ -1,7 +1,5 @@
-use Rattle.std.proofs.Common.{◌≡◌, ◌+◌, ◌++◌, List, [], length, arith, inl}
-use Rattle.std.proofs.lemmas.List.{length-append}
-use Rattle.mbox_text.specs.declared.entry.Entry.{Entry}
-use Rattle.maildir_run.specs.Listing.{listing}
+use Rattle.std.proofs.Common.{◌≡◌, ◌+◌, ◌++◌, List, [], length, arith, inl, length-append}
+use Rattle.maildir_run.proofs.Common.{Entry, listing}
 use Rattle.maildir_run.proofs.ListLines.{listing_output}
 use Rattle.maildir_run.proofs.Poured.{read_broken, batch, batch_broken, names_fit, poured_none, poured_all, poured_more}
 use Rattle.maildir_run.proofs.Faults.{if_err, fault_is, unless_ok}
@@ -18,7 +16,7 @@ pub returns-in_err-ended : goal.returns-in_err-ended
 returns-in_err-ended g c =
     let r = c.from_residual-in_err-ended in
     let fault = c.in_err-ended.field-0.0 in
-    let b = read_broken listing c.pieces.invariant.0 _ _ _ _ _ c.pieces.messages c.pieces.whole.items c.args.reads c.pieces.lister.count fault listing_output c.pieces.invariant.1 c.in_err-ended.ensures.went in
+    let b = read_broken _ c.pieces.messages fault listing_output c.pieces.invariant.1 c.in_err-ended.ensures.went in
     record {
       all = unless_ok _ r.result r.ensures.0;
       end = unless_ok _ r.result r.ensures.0;
@@ -31,46 +29,39 @@ returns-in_err-ended g c =
 
 pub list-requires : goal.list-requires
 list-requires g c =
-    let b = batch listing c.pieces.invariant.0 _ _ _ _ _ c.pieces.messages c.read.new.self.splitter c.read.new.self.reads c.pieces.whole.items c.read.new.out.items c.args.reads c.pieces.lister.count c.in_ok-ended.ended
-    c.pieces.invariant.1 c.in_ok-ended.ensures.went in
+    let b = batch _ c.pieces.messages c.read.new.self.splitter c.read.new.self.reads c.read.new.out.items c.in_ok-ended.ended c.pieces.invariant.1 c.in_ok-ended.ensures.went in
     rw c.deref.ensures.value b.from_lines
 
 pub returns-in_err-list-clause-front : goal.returns-in_err-list-clause-front
 returns-in_err-list-clause-front g c =
     let given : List Entry = c.pieces.invariant.0 in
-    let b = batch listing c.pieces.invariant.0 _ _ _ _ _ c.pieces.messages c.read.new.self.splitter c.read.new.self.reads c.pieces.whole.items c.read.new.out.items c.args.reads c.pieces.lister.count c.in_ok-ended.ended
-    c.pieces.invariant.1 c.in_ok-ended.ensures.went in
-    let fit = names_fit listing given _ _ _ _ c.read.new.out.items c.args.reads c.pieces.lister.count b c.requires in
+    let b = batch _ c.pieces.messages c.read.new.self.splitter c.read.new.self.reads c.read.new.out.items c.in_ok-ended.ended c.pieces.invariant.1 c.in_ok-ended.ensures.went in
+    let fit = names_fit b c.requires in
     let s = rw c.deref.ensures.value at (c.in_err-list.ensures.lists given c.pieces.invariant.2 (rw c.deref.ensures.value fit)) in
-    on_err c.from_residual-in_err-list.result (batch_broken listing given _ _ _ _ _ c.read.new.out.items c.args.reads c.pieces.lister.count s.0 listing_output b s.1 s.2)
+    on_err c.from_residual-in_err-list.result (batch_broken b _ s.0 listing_output s.1 s.2)
 
 pub returns-in_err-list-clause-budget : goal.returns-in_err-list-clause-budget
 returns-in_err-list-clause-budget g c =
-    let b = batch listing c.pieces.invariant.0 _ _ _ _ _ c.pieces.messages c.read.new.self.splitter c.read.new.self.reads c.pieces.whole.items c.read.new.out.items c.args.reads c.pieces.lister.count c.in_ok-ended.ended
-    c.pieces.invariant.1 c.in_ok-ended.ensures.went in
+    let b = batch _ c.pieces.messages c.read.new.self.splitter c.read.new.self.reads c.read.new.out.items c.in_ok-ended.ended c.pieces.invariant.1 c.in_ok-ended.ensures.went in
     (b.front.text, b.front.read, b.front.budget)
 
 pub returns-then-ended-clause-all : goal.returns-then-ended-clause-all
 returns-then-ended-clause-all g c =
     let given : List Entry = c.pieces.invariant.0 in
-    let b = batch listing c.pieces.invariant.0 _ _ _ _ _ c.pieces.messages c.read.new.self.splitter c.read.new.self.reads c.pieces.whole.items c.read.new.out.items c.args.reads c.pieces.lister.count c.in_ok-ended.ended
-    c.pieces.invariant.1 c.in_ok-ended.ensures.went in
-    let fit = names_fit listing given _ _ _ _ c.read.new.out.items c.args.reads c.pieces.lister.count b c.requires in
+    let b = batch _ c.pieces.messages c.read.new.self.splitter c.read.new.self.reads c.read.new.out.items c.in_ok-ended.ended c.pieces.invariant.1 c.in_ok-ended.ensures.went in
+    let fit = names_fit b c.requires in
     let s = rw c.deref.ensures.value at (c.in_ok-list.ensures.lists given c.pieces.invariant.2 (rw c.deref.ensures.value fit)) in
-    let all = poured_all listing given _ _ _ _ _ _ c.pieces.messages c.read.new.self.splitter c.read.new.self.reads c.pieces.whole.items c.read.new.out.items c.args.reads c.pieces.lister.count
-    s.0 c.pieces.invariant.1 s.1 s.2 (rw c.if-ended.true at c.in_ok-ended.ensures.went) in
+    let all = poured_all _ _ c.pieces.messages c.read.new.self.splitter c.read.new.self.reads c.read.new.out.items s.0 c.pieces.invariant.1 s.1 s.2 (rw c.if-ended.true at c.in_ok-ended.ensures.went) in
     let count : c.list.new.self.count ≡ c.pieces.lister.count + length c.read.new.out.items = omega (arith, s.3.count_is, c.pieces.invariant.2.count_is, length-append given c.read.new.out.items) in
     rw count all
 
 pub pieces-preserved : goal.pieces-preserved
 pieces-preserved g c =
     let given : List Entry = c.pieces.invariant.0 in
-    let b = batch listing given _ _ _ _ _ c.pieces.messages c.read.new.self.splitter c.read.new.self.reads c.pieces.whole.items c.read.new.out.items c.args.reads c.pieces.lister.count c.in_ok-ended.ended
-    c.pieces.invariant.1 c.in_ok-ended.ensures.went in
-    let fit = names_fit listing given _ _ _ _ c.read.new.out.items c.args.reads c.pieces.lister.count b c.requires in
+    let b = batch _ c.pieces.messages c.read.new.self.splitter c.read.new.self.reads c.read.new.out.items c.in_ok-ended.ended c.pieces.invariant.1 c.in_ok-ended.ensures.went in
+    let fit = names_fit b c.requires in
     let s = rw c.deref.ensures.value at (c.in_ok-list.ensures.lists given c.pieces.invariant.2 (rw c.deref.ensures.value fit)) in
-    let more = poured_more listing given _ _ _ _ _ _ c.pieces.messages c.read.new.self.splitter c.read.new.self.reads c.pieces.whole.items c.read.new.out.items c.args.reads c.pieces.lister.count
-    s.0 c.pieces.invariant.1 s.1 s.2 c.clear.new.self.items (rw c.if-ended.false at c.in_ok-ended.ensures.went) c.clear.ensures.items in
+    let more = poured_more _ _ c.pieces.messages c.read.new.self.splitter c.read.new.self.reads c.read.new.out.items s.0 c.pieces.invariant.1 s.1 s.2 c.clear.new.self.items (rw c.if-ended.false at c.in_ok-ended.ensures.went) c.clear.ensures.items in
     let count : c.list.new.self.count ≡ c.pieces.lister.count + length c.read.new.out.items = omega (arith, s.3.count_is, c.pieces.invariant.2.count_is, length-append given c.read.new.out.items) in
     (given ++ c.read.new.out.items, rw count more, s.3)
 

@@ -1,7 +1,5 @@
 use Rattle.std.proofs.Common.{List}
-use Rattle.mbox_text.specs.declared.entry.Entry.{Entry}
-use Rattle.maildir_run.specs.Listing.{listing}
-use Rattle.maildir_run.specs.ListedSoFar.{HasListed}
+use Rattle.maildir_run.proofs.Common.{Entry, listing, HasListed}
 use Rattle.maildir_run.proofs.Poured.{Poured}
 use Rattle.maildir_run.proofs.listing.list_text.Given as goal
 

@@ -1,11 +1,8 @@
 use Rattle.std.proofs.Common.{append-nil, ◌≡◌, List, [], ◌∷◌, ◌++◌, true, false, sym, ap, ◌∙◌, get_or, append_assoc}
-use Rattle.std.specs.FinMap.{contains_key}
-use Rattle.maildir_name.specs.declared.target.Target.{Target}
-use Rattle.maildir_run.specs.declared.planner.Step.{Step}
-use Rattle.maildir_run.specs.declared.planner.Step.TheVariants.{Write, Place}
+use Rattle.maildir_run.proofs.Common.{contains_key, Target, Step, Write, Place}
 use Rattle.maildir_run.proofs.PlanLemmas.{deliveries-step}
-use Rattle.maildir_run.proofs.planner.add_deliveries.Goals as goal
 use Rattle.maildir_run.proofs.planner.add_deliveries.Goals.{then-not-contains+in_ok-push+in_ok-push-2, else-not-contains}
+use Rattle.maildir_run.proofs.planner.add_deliveries.Goals as goal
 
 pub loop-i-preserved : goal.loop-i-preserved
 loop-i-preserved c =

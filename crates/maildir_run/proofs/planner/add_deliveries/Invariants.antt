@@ -1,6 +1,5 @@
 use Rattle.std.proofs.Common.{◌≡◌, ◌++◌, take}
-use Rattle.std.specs.FinMap.{contains_key}
-use Rattle.maildir_run.specs.Plan.{deliveries_from}
+use Rattle.maildir_run.proofs.Common.{contains_key, deliveries_from}
 use Rattle.maildir_run.proofs.planner.add_deliveries.Given as goal
 
 abbrev pub invariant-loop-i : goal.invariant-loop-i

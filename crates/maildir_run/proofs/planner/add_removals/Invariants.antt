@@ -1,5 +1,5 @@
 use Rattle.std.proofs.Common.{◌≡◌, ◌++◌, map, take, string_bytes}
-use Rattle.maildir_run.specs.Plan.{removals}
+use Rattle.maildir_run.proofs.Common.{removals}
 use Rattle.maildir_run.proofs.planner.add_removals.Given as goal
 
 abbrev pub invariant-loop-name : goal.invariant-loop-name

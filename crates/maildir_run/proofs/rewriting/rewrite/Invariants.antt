@@ -1,7 +1,5 @@
-use Rattle.std.proofs.Common.{List}
-use Rattle.mbox_text.specs.declared.entry.Entry.{Entry}
-use Rattle.std.specs.List.{flat_map}
-use Rattle.mbox_text.specs.Spelling.{spelling}
+use Rattle.std.proofs.Common.{List, flat_map}
+use Rattle.maildir_run.proofs.Common.{Entry, spelling}
 use Rattle.maildir_run.proofs.Poured.{Poured}
 use Rattle.maildir_run.proofs.rewriting.rewrite.Given as goal
 

@@ -1,7 +1,5 @@
-use Rattle.std.proofs.Common.{take}
-use Rattle.std.specs.List.{flat_map}
-use Rattle.std.specs.Io.KnownBytes.{Appends}
-use Rattle.mbox_text.specs.Spelling.{spelling}
+use Rattle.std.proofs.Common.{take, flat_map}
+use Rattle.maildir_run.proofs.Common.{Appends, spelling}
 use Rattle.maildir_run.proofs.rewriting.write_entries.Given as goal
 
 abbrev pub invariant-loop-entry : goal.invariant-loop-entry

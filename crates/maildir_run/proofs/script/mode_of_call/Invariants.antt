@@ -1,5 +1,5 @@
 use Rattle.std.proofs.Common.{◌≡◌, drop}
-use Rattle.maildir_run.specs.Script.{mode_at}
+use Rattle.maildir_run.proofs.Common.{mode_at}
 use Rattle.maildir_run.proofs.script.mode_of_call.Given as goal
 
 abbrev pub invariant-loop-line : goal.invariant-loop-line

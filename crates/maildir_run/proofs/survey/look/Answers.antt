@@ -1,6 +1,5 @@
 use Rattle.std.proofs.Common.{◌<◌, ◌^◌, List, String, Global, [], map, length, string_bytes, refl, arith}
-use Rattle.std.proofs.lemmas.List.{length-map}
-use Rattle.maildir_run.specs.Calls.{names_of}
+use Rattle.maildir_run.proofs.Common.{length-map, names_of}
 use Rattle.maildir_run.proofs.Faults.{unless_ok}
 use Rattle.maildir_run.proofs.Tasks.{ran_then, ran_before, ran_err}
 use Rattle.maildir_run.proofs.survey.look.Goals as goal

@@ -1,14 +1,8 @@
-use Rattle.std.proofs.Common.{◌≡◌, ℕ, List, ◌∷◌, [], length, take, map, ap, sym, ◌∙◌, arith, refl}
-use Rattle.maildir_run.specs.Calls.{Removing, Writing, Placing}
-use Rattle.maildir_run.specs.Delivery.{Message}
-use Rattle.maildir_run.specs.Tasks.{Do, task_of, tasks_of}
-use Rattle.std.proofs.Math.Seq.{drop-nil}
-use Rattle.std.proofs.lemmas.List.{append-nil, take_all}
-use Rattle.maildir_run.specs.declared.planner.Step.{Step}
-use Rattle.maildir_run.specs.declared.planner.Step.TheVariants.{Remove, Write, Place}
+use Rattle.std.proofs.Common.{◌≡◌, ℕ, List, ◌∷◌, [], length, take, map, ap, sym, ◌∙◌, arith, refl, append-nil, take_all}
+use Rattle.maildir_run.proofs.Common.{Removing, Writing, Placing, Message, Do, task_of, tasks_of, drop-nil, Step, Remove, Write, Place}
 use Rattle.maildir_run.proofs.Tasks.{ran_none, ran_then, ran_before, ran_err, next_step, other_steps, next_count}
-use Rattle.maildir_run.proofs.sweep.remove_planned.Goals as goal
 use Rattle.maildir_run.proofs.sweep.remove_planned.Goals.{in-Remove+in_ok-remove, in_default}
+use Rattle.maildir_run.proofs.sweep.remove_planned.Goals as goal
 
 none_removed : (step : Step) → ((name : List ℕ) → step ≡ Remove name → ⊥) → task_of [] step ≡ []
 none_removed (Remove name) other = absurd (other name refl)

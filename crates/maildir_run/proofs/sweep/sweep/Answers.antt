@@ -1,7 +1,5 @@
 use Rattle.std.proofs.Common.{[], map, string_bytes, sym, ap, subst, ◌∙◌, inr}
-use Rattle.maildir_run.specs.Counting.{IsOfFolder}
-use Rattle.maildir_run.specs.Tasks.{tasks_of}
-use Rattle.maildir_run.specs.Parts.{seen}
+use Rattle.maildir_run.proofs.Common.{IsOfFolder, tasks_of, seen}
 use Rattle.maildir_run.proofs.Faults.{if_err, unless_ok}
 use Rattle.maildir_run.proofs.Planned.{plan_sweeps}
 use Rattle.maildir_run.proofs.Tasks.{ran_nothing, ran_err}
@@ -11,7 +9,7 @@ pub returns-in_err-steps : goal.returns-in_err-steps
 returns-in_err-steps g c =
     let r = c.from_residual in
     let fault = c.in_err-steps.field-0.0 in
-    let at = seen g.F.Folder.honest g.F.Folder.quiet g.F.Folder.files g.F.Folder.may_leave g.F.Folder.calls g.F.Folder.failures in
+    let at = seen g.F.Folder in
     record {
       ran = ran_err _ r.ensures.1 (ran_nothing fault (inr (inr (inr c.in_err-steps.ensures.refused))) _ (at c.args.folder.now) c.args.calls.now.made);
       count = unless_ok _ r.result r.ensures.0;

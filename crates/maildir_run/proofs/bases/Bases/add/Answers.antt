@@ -1,5 +1,5 @@
 use Rattle.std.proofs.Common.{ap, ◌∙◌}
-use Rattle.std.specs.FinMap.{insert}
+use Rattle.maildir_run.proofs.Common.{insert}
 use Rattle.maildir_run.proofs.Sets.{set_of-insert}
 use Rattle.maildir_run.proofs.bases.Bases.add.Goals as goal
 

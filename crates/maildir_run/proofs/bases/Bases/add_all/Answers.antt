@@ -1,8 +1,5 @@
-use Rattle.std.proofs.Common.{◌≡◌, map, string_bytes, get_or, ap, ◌∙◌}
-use Rattle.std.proofs.lemmas.List.{take_all}
-use Rattle.std.specs.FinMap.{insert}
-use Rattle.maildir_name.specs.Names.{base}
-use Rattle.maildir_run.specs.Bases.{with_bases}
+use Rattle.std.proofs.Common.{◌≡◌, map, string_bytes, get_or, ap, ◌∙◌, take_all}
+use Rattle.maildir_run.proofs.Common.{insert, base, with_bases}
 use Rattle.maildir_run.proofs.Sets.{with_bases-more}
 use Rattle.maildir_run.proofs.bases.Bases.add_all.Goals as goal
 

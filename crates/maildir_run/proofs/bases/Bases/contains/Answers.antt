@@ -1,5 +1,5 @@
 use Rattle.std.proofs.Common.{sym, ap, ◌∙◌}
-use Rattle.std.specs.FinMap.{contains_key}
+use Rattle.maildir_run.proofs.Common.{contains_key}
 use Rattle.maildir_run.proofs.Sets.{contains_key-set_of}
 use Rattle.maildir_run.proofs.bases.Bases.contains.Goals as goal
 

@@ -1,6 +1,5 @@
 use Rattle.std.proofs.Common.{map, string_bytes, ap, ◌∙◌}
-use Rattle.std.specs.FinMap.{contains_key}
-use Rattle.maildir_run.specs.Bases.{with_bases}
+use Rattle.maildir_run.proofs.Common.{contains_key, with_bases}
 use Rattle.maildir_run.proofs.Sets.{contains_key-listed}
 use Rattle.maildir_run.proofs.bases.Bases.of_listings.Goals as goal
 

@@ -1,4 +1,4 @@
-use Rattle.maildir_run.specs.Calls.{Placing}
+use Rattle.maildir_run.proofs.Common.{Placing}
 use Rattle.maildir_run.proofs.Tasks.{ran_do}
 use Rattle.maildir_run.proofs.calls.Calls.place.Goals as goal
 

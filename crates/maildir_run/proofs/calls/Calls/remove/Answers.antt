@@ -1,4 +1,4 @@
-use Rattle.maildir_run.specs.Calls.{Removing}
+use Rattle.maildir_run.proofs.Common.{Removing}
 use Rattle.maildir_run.proofs.Tasks.{ran_do}
 use Rattle.maildir_run.proofs.calls.Calls.remove.Goals as goal
 

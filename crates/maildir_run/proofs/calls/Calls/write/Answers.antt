@@ -1,4 +1,4 @@
-use Rattle.maildir_run.specs.Calls.{Writing}
+use Rattle.maildir_run.proofs.Common.{Writing}
 use Rattle.maildir_run.proofs.Tasks.{ran_do}
 use Rattle.maildir_run.proofs.calls.Calls.write.Goals as goal
 

@@ -1,10 +1,10 @@
 use Rattle.std.proofs.Common.{◌≡◌, false, sym, ap, ◌∙◌, refl}
-use Rattle.std.specs.FinMap.{contains_key}
+use Rattle.maildir_run.proofs.Common.{contains_key}
 use Rattle.maildir_run.proofs.Faults.{is_fault}
 use Rattle.maildir_run.proofs.Tasks.{ran_err}
 use Rattle.maildir_run.proofs.Bringing.{brought_refused, brought_one, brought_nothing}
-use Rattle.maildir_run.proofs.engine.Engine.deliver.Goals as goal
 use Rattle.maildir_run.proofs.engine.Engine.deliver.Goals.{then-not-contains+in_ok-bring, else-not-contains}
+use Rattle.maildir_run.proofs.engine.Engine.deliver.Goals as goal
 
 pub returns-in_err-target-clause-brought : goal.returns-in_err-target-clause-brought
 returns-in_err-target-clause-brought g c = λ bodies named few. brought_refused c.from_residual.result _ bodies _ _ _ _ _ c.from_residual.ensures.1

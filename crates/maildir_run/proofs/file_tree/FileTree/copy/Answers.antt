@@ -1,5 +1,5 @@
 use Rattle.std.proofs.Common.{ap, ◌∙◌}
-use Rattle.std.specs.FinMap.{from_entries}
+use Rattle.maildir_run.proofs.Common.{from_entries}
 use Rattle.maildir_run.proofs.Trees.{copied_pairs}
 use Rattle.maildir_run.proofs.file_tree.FileTree.copy.Goals as goal
 

@@ -1,5 +1,5 @@
 use Rattle.std.proofs.Common.{Some, sym, ap, ◌∙◌}
-use Rattle.std.specs.FinMap.{get}
+use Rattle.maildir_run.proofs.Common.{get}
 use Rattle.maildir_run.proofs.Trees.{bytes_in, get-map_of}
 use Rattle.maildir_run.proofs.file_tree.FileTree.get.Goals as goal
 

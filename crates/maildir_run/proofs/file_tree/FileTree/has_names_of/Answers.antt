@@ -1,5 +1,5 @@
 use Rattle.std.proofs.Common.{◌≡◌, sym, ap, ◌∙◌, map, string_bytes}
-use Rattle.std.specs.FinMap.{keys}
+use Rattle.maildir_run.proofs.Common.{keys}
 use Rattle.maildir_run.proofs.Trees.{keys-map_of, names_compared}
 use Rattle.maildir_run.proofs.file_tree.FileTree.has_names_of.Goals as goal
 

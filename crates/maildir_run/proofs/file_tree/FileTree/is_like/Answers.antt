@@ -1,5 +1,5 @@
 use Rattle.std.proofs.Common.{sym, ap, ◌∙◌}
-use Rattle.std.specs.FinMap.{len}
+use Rattle.maildir_run.proofs.Common.{len}
 use Rattle.std.proofs.lemmas.Bool.Decides.{Decides-eqb}
 use Rattle.maildir_run.proofs.Trees.{trees_alike, alike_trees, len-map_of}
 use Rattle.maildir_run.proofs.file_tree.FileTree.is_like.Goals as goal

@@ -1,5 +1,5 @@
 use Rattle.std.proofs.Common.{sym, ap, ◌∙◌}
-use Rattle.std.specs.FinMap.{len}
+use Rattle.maildir_run.proofs.Common.{len}
 use Rattle.maildir_run.proofs.Trees.{len-map_of}
 use Rattle.maildir_run.proofs.file_tree.FileTree.len.Goals as goal
 

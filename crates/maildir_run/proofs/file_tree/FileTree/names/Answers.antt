@@ -1,5 +1,5 @@
 use Rattle.std.proofs.Common.{◌++◌, map, string_bytes, sym, ap, ◌∙◌}
-use Rattle.std.specs.FinMap.{keys}
+use Rattle.maildir_run.proofs.Common.{keys}
 use Rattle.std.specs.Map.Iter.{deref}
 use Rattle.std.proofs.lemmas.Map.Iter.{rest_more, rest_all}
 use Rattle.maildir_run.proofs.Trees.{keys-map_of, one_listed, all_listed}

@@ -1,5 +1,5 @@
 use Rattle.std.proofs.Common.{◌≡◌, ◌++◌, map, string_bytes}
-use Rattle.std.specs.FinMap.{keys}
+use Rattle.maildir_run.proofs.Common.{keys}
 use Rattle.maildir_run.proofs.file_tree.FileTree.names.Given as goal
 
 abbrev pub invariant-loop-name : goal.invariant-loop-name

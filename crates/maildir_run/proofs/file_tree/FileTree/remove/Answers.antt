@@ -1,5 +1,5 @@
 use Rattle.std.proofs.Common.{ap, ◌∙◌}
-use Rattle.std.specs.FinMap.{remove}
+use Rattle.maildir_run.proofs.Common.{remove}
 use Rattle.maildir_run.proofs.Trees.{map_of-remove}
 use Rattle.maildir_run.proofs.file_tree.FileTree.remove.Goals as goal
 

@@ -1,5 +1,5 @@
 use Rattle.std.proofs.Common.{string_bytes, ap, ◌∙◌}
-use Rattle.std.specs.FinMap.{insert}
+use Rattle.maildir_run.proofs.Common.{insert}
 use Rattle.maildir_run.proofs.Trees.{map_of-insert}
 use Rattle.maildir_run.proofs.file_tree.FileTree.set.Goals as goal
 

@@ -1,6 +1,5 @@
 use Rattle.std.proofs.Common.{◌++◌, ◌<◌, ◌^◌, List, length}
-use Rattle.mbox_text.specs.declared.entry.Entry.{Entry}
-use Rattle.maildir_run.specs.ListedSoFar.{HasListed}
+use Rattle.maildir_run.proofs.Common.{Entry, HasListed}
 use Rattle.maildir_run.proofs.ListLines.{ListedTo}
 use Rattle.maildir_run.proofs.listing.Lister.list.Given as goal
 

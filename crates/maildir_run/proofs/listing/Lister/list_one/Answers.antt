@@ -1,7 +1,5 @@
-use Rattle.std.proofs.Common.{◌≡◌, ◌+◌, [], ◌∷◌, length, arith, ap, ◌∙◌}
-use Rattle.std.proofs.lemmas.List.{length-append, length-map}
-use Rattle.mbox_text.specs.declared.entry.Entry.{Entry}
-use Rattle.maildir_run.specs.Listing.{message_line}
+use Rattle.std.proofs.Common.{◌≡◌, ◌+◌, [], ◌∷◌, length, arith, ap, ◌∙◌, length-append}
+use Rattle.maildir_run.proofs.Common.{length-map, Entry, message_line}
 use Rattle.maildir_run.proofs.ListLines.{bodies, lists_none, lists_err, listing-push, listed_more}
 use Rattle.maildir_run.proofs.listing.Lister.list_one.Goals as goal
 

@@ -1,10 +1,8 @@
-use Rattle.std.proofs.Common.{◌≡◌, ◌==◌, true, false, [], cond, get_or, refl, sym, ap, subst, ◌∙◌}
-use Rattle.std.proofs.lemmas.Bool.{eq-eqb, ne_eqb}
-use Rattle.maildir_run.specs.MemFiles.{files_in}
-use Rattle.maildir_run.specs.Script.{IsCutShort}
+use Rattle.std.proofs.Common.{◌≡◌, ◌==◌, true, false, [], cond, get_or, refl, sym, ap, ◌∙◌, eq-eqb, ne_eqb}
+use Rattle.maildir_run.proofs.Common.{files_in}
 use Rattle.maildir_run.proofs.Scripts.{on_err, lines_more, lines_cut}
-use Rattle.maildir_run.proofs.mem_files.MemFiles.act_before.Goals as goal
 use Rattle.maildir_run.proofs.mem_files.MemFiles.act_before.Goals.{then-line-call+in_ok-perform_all, else-line-call}
+use Rattle.maildir_run.proofs.mem_files.MemFiles.act_before.Goals as goal
 
 pub returns-in_err-perform_all-clause-err : goal.returns-in_err-perform_all-clause-err
 returns-in_err-perform_all-clause-err c =
@@ -14,7 +12,7 @@ returns-in_err-perform_all-clause-err c =
     let on : line.call == c.args.call ≡ true = eq-eqb line.call c.args.call same in
     on_err c.from_residual.result
     (lines_cut c.args.call c.args.lines.now i c.line-item.result (files_in c.args.self.now) (files_in c.loop-line.self) (files_in c.perform_all.new.self) c.loop-line-test.true on c.loop-line.invariant
-    (subst (λ acts. IsCutShort acts (files_in c.loop-line.self) (files_in c.perform_all.new.self)) (c.deref.ensures.value ∙ ap (λ l. l.acts.items) c.line-item.is) c.in_err-perform_all.ensures.err))
+    (rw (c.deref.ensures.value ∙ ap (λ l. l.acts.items) c.line-item.is) at c.in_err-perform_all.ensures.err))
 
 pub loop-line-preserved : goal.loop-line-preserved
 loop-line-preserved c =

@@ -1,6 +1,5 @@
 use Rattle.std.proofs.Common.{◌≡◌, take}
-use Rattle.maildir_run.specs.MemFiles.{files_in}
-use Rattle.maildir_run.specs.Script.{acts_at, all_performed}
+use Rattle.maildir_run.proofs.Common.{files_in, acts_at, all_performed}
 use Rattle.maildir_run.proofs.mem_files.MemFiles.act_before.Given as goal
 
 abbrev pub invariant-loop-line : goal.invariant-loop-line

@@ -1,6 +1,5 @@
 use Rattle.std.proofs.Common.{ap, ◌∙◌}
-use Rattle.maildir_run.specs.MemFiles.{files_in}
-use Rattle.maildir_run.specs.Script.{performed}
+use Rattle.maildir_run.proofs.Common.{files_in, performed}
 use Rattle.maildir_run.proofs.Scripts.{on_err, one_more, cut_at}
 use Rattle.maildir_run.proofs.mem_files.MemFiles.perform_all.Goals as goal
 

@@ -1,6 +1,5 @@
 use Rattle.std.proofs.Common.{◌≡◌, take}
-use Rattle.maildir_run.specs.MemFiles.{files_in}
-use Rattle.maildir_run.specs.Script.{all_performed}
+use Rattle.maildir_run.proofs.Common.{files_in, all_performed}
 use Rattle.maildir_run.proofs.mem_files.MemFiles.perform_all.Given as goal
 
 abbrev pub invariant-loop-act : goal.invariant-loop-act

@@ -1,8 +1,5 @@
-use Rattle.std.proofs.Common.{refl, sym, ap, subst, ◌∙◌}
-use Rattle.maildir_run.specs.declared.script.Mode.TheVariants.{Plain, Twice}
-use Rattle.maildir_run.specs.MemFiles.{files_in}
-use Rattle.maildir_run.specs.Calls.{Placing, effect}
-use Rattle.maildir_run.specs.Script.{Answers}
+use Rattle.std.proofs.Common.{refl, ap, ◌∙◌}
+use Rattle.maildir_run.proofs.Common.{Plain, Twice, files_in, Placing, effect}
 use Rattle.maildir_run.proofs.Scripts.{placed_in}
 use Rattle.maildir_run.proofs.mem_files.MemFiles.place_in.Goals as goal
 
@@ -13,8 +10,7 @@ returns-in_ok-rename-in-Plain c =
     let there = c.in_ok-rename-in-Plain.ensures in
     let old = files_in c.args.self.now in
     let new = files_in c.rename.new.self in
-    subst (λ mode. Answers mode (Placing name c.args.place target) old c.found.result new) (sym c.in-Plain.is)
-    (placed_in Plain name c.args.place target old new c.found.result c.in_ok-rename-in-Plain.field-0 refl there.found there.absent c.found.ensures.there c.found.ensures.gone there.done)
+    rw c.in-Plain.is (placed_in Plain name c.args.place target old new c.found.result c.in_ok-rename-in-Plain.field-0 refl there.found there.absent c.found.ensures.there c.found.ensures.gone there.done)
 
 pub returns-in_ok-rename-in-Twice : goal.returns-in_ok-rename-in-Twice
 returns-in_ok-rename-in-Twice c =
@@ -23,6 +19,5 @@ returns-in_ok-rename-in-Twice c =
     let there = c.in_ok-was_there-in-Twice.ensures in
     let old = files_in c.args.self.now in
     let new = files_in c.rename-in-Twice-2.new.self in
-    subst (λ mode. Answers mode (Placing name c.args.place target) old c.found-in-Twice.result new) (sym c.in-Twice.is)
-    (placed_in Twice name c.args.place target old new c.found-in-Twice.result c.in_ok-was_there-in-Twice.was_there refl there.found there.absent c.found-in-Twice.ensures.there c.found-in-Twice.ensures.gone
+    rw c.in-Twice.is (placed_in Twice name c.args.place target old new c.found-in-Twice.result c.in_ok-was_there-in-Twice.was_there refl there.found there.absent c.found-in-Twice.ensures.there c.found-in-Twice.ensures.gone
     (c.in_ok-rename-in-Twice.ensures.done ∙ ap (effect (Placing name c.args.place target)) there.done))

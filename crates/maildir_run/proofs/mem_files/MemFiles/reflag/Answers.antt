@@ -1,7 +1,5 @@
 use Rattle.std.proofs.Common.{refl, sym, ap, ◌∙◌}
-use Rattle.std.specs.FinMap.{get}
-use Rattle.maildir_run.specs.Files.{FileMap}
-use Rattle.maildir_run.specs.MemFiles.{files_in}
+use Rattle.maildir_run.proofs.Common.{get, FileMap, files_in}
 use Rattle.maildir_run.proofs.Scripts.{unlinked}
 use Rattle.maildir_run.proofs.mem_files.MemFiles.reflag.Goals as goal
 

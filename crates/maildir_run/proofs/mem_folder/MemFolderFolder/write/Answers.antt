@@ -1,5 +1,5 @@
 use Rattle.std.proofs.Common.{rules}
-use Rattle.maildir_run.specs.Calls.{Writing}
+use Rattle.maildir_run.proofs.Common.{Writing}
 use Rattle.maildir_run.proofs.Cuts.{called_left}
 use Rattle.maildir_run.proofs.Followed.{follows_called, never_cut}
 use Rattle.maildir_run.proofs.mem_folder.MemFolderFolder.write.Goals as goal

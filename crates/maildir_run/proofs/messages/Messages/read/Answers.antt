@@ -1,5 +1,5 @@
-use Rattle.std.proofs.Common.{◌≡◌, Err, vec_len, length, take, arith, ap}
-use Rattle.std.proofs.lemmas.List.{length-take-le, with_items_is}
+use Rattle.std.proofs.Common.{◌≡◌, Err, vec_len, length, take, arith, ap, length-take-le}
+use Rattle.maildir_run.proofs.Common.{with_items_is}
 use Rattle.maildir_run.proofs.Unread.{breaks_went, finish_breaks, feed_breaks}
 use Rattle.maildir_run.proofs.messages.Messages.read.Goals as goal
 
