@@ -11,7 +11,7 @@ pub returns-in-Some-clause-passes : goal.returns-in-Some-clause-passes
 returns-in-Some-clause-passes c = λ sub.
     let first : Passes sub (world_of c.args.self.now) (world_of (record c.args.self.now { clock = c.tick.new.clock })) =
     record { acts = record { actions = []; files_are = refl }; later = c.tick.ensures; stamp_is = inl refl } in
-    passes_on sub _ _ _ first (c.act.ensures.passes sub)
+    passes_on first (c.act.ensures.passes sub)
 
 pub returns-in_default-clause-left : goal.returns-in_default-clause-left
-returns-in_default-clause-left c = left_none (Listing Tmp) (may_be_left c.args.self.now)
+returns-in_default-clause-left c = left_none
