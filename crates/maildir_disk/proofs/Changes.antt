@@ -4,11 +4,10 @@ use Rattle.std.specs.FinMap.{get, keys, contains_key, contains_key-keys}
 use Rattle.std.specs.List.{list_any}
 use Rattle.std.proofs.Math.Seq.{take-append-add}
 use Rattle.std.proofs.lemmas.List.{take-take}
-use Rattle.maildir_name.specs.declared.target.Place as target
 use Rattle.maildir_run.specs.declared.folder.Sub.{Sub}
 use Rattle.maildir_run.specs.declared.folder.Sub.TheVariants.{Tmp}
 use Rattle.maildir_run.specs.declared.mem_folder.MemFolder.{MemFolder}
-use Rattle.maildir_run.specs.Calls.{Call, Listing, Writing, Placing, Removing, Again, Torn, Other, Called, CalledQuietly, effect, folder_of, placed}
+use Rattle.maildir_run.specs.Calls.{Call, Listing, Writing, Placing, Removing, Again, Torn, Other, Called, CalledQuietly, effect, folder_of}
 use Rattle.maildir_run.specs.Cuts.{Leaves, Left, Came, Doubled}
 use Rattle.maildir_run.specs.MemFolder.{files_of}
 use Rattle.maildir_run.specs.Files.{Files, Action, ToCur, Reflag, all_acted, is_name}

@@ -9,7 +9,6 @@ use Rattle.maildir_run.specs.declared.fault.RunFault.{RunFault}
 use Rattle.maildir_run.specs.declared.report.Report.{Report}
 use Rattle.maildir_run.specs.Delivery.{Message, HasHome, IsMissing, IsHome, IsSoundAt, Delivered, is_any, is_base_of}
 use Rattle.maildir_run.specs.declared.folder.Sub.{Sub}
-use Rattle.maildir_run.specs.declared.folder.Sub.TheVariants.{New, Cur}
 use Rattle.maildir_run.specs.Files.{Files, Action, acted, all_acted, homes, is_name}
 use Rattle.maildir_run.specs.Runs.{Keeps, Run}
 use Rattle.maildir_run.specs.Several.{Text, IsText, OfEach}

@@ -9,8 +9,7 @@ use Rattle.maildir_name.specs.declared.target.Place.{Place}
 use Rattle.maildir_name.specs.declared.target.Place.TheVariants.{New, Cur}
 use Rattle.maildir_name.specs.Names.{is_converter_name, is_converter_base}
 use Rattle.maildir_run.specs.Files.{FileMap, Files, is_name, has_base, held_under, homes, Action, ToCur, Reflag, DropTmp, Outside, may_take, acted}
-use Rattle.maildir_run.specs.declared.folder.Sub.TheVariants.{Tmp}
-use Rattle.maildir_run.specs.Calls.{Call, Listing, Writing, Placing, Move, Other, Again, Torn, placed, moved, PlacesElsewhere, StaysOrGoes}
+use Rattle.maildir_run.specs.Calls.{Call, Writing, Placing, Move, Other, Again, Torn, placed, moved, PlacesElsewhere, StaysOrGoes}
 use Rattle.maildir_run.specs.Cuts.{Leaves, IsFoundWhole, Came, Doubled, linked, doubled, left_after}
 use Rattle.maildir_run.specs.Cuts as cuts
 use Rattle.maildir_run.specs.Delivery.{Message, AreNamed}

@@ -1,16 +1,13 @@
 -- What a cut leaves, from one moment of a call to the next.
-use Rattle.std.proofs.Common.{◌≡◌, inl, inr, ℕ, List, [], ◌∷◌, ◌++◌, map, refl, sym, ◌∙◌, ap, subst}
+use Rattle.std.proofs.Common.{◌≡◌, inl, inr, ℕ, List, [], ◌∷◌, ◌++◌, refl, sym, ◌∙◌, ap}
 use Rattle.std.specs.Prelude.{IsErr, IsOk, OnErr, OnOk, Result, Ok, Err}
-use Rattle.std.specs.FinMap.{contains_key}
-use Rattle.maildir_run.specs.declared.folder.Sub.{Sub}
 use Rattle.maildir_run.specs.declared.folder.Sub.TheVariants.{Tmp}
-use Rattle.maildir_run.specs.Calls.{Call, Listing, Writing, Called, Other, Again, Torn, Succeeded, moved, folder_of}
+use Rattle.maildir_run.specs.Calls.{Call, Listing, Writing, Other, Again, Torn, Succeeded, moved}
 use Rattle.maildir_run.specs.Cuts.{Kept, Came, Doubled, Leaves, LeavesOf, IsFoundWhole, Left, left_after, doubled}
-use Rattle.maildir_run.specs.Files.{Files, Action, acted, all_acted}
+use Rattle.maildir_run.specs.Files.{Files}
 use Rattle.maildir_run.proofs.Cuts.{left_as}
 use Rattle.maildir_run.proofs.Moves.{writing_ok}
-use Rattle.maildir_disk.specs.PowerCuts.{LeavesOthers, KeepsHeld, KeepsNames}
-use Rattle.maildir_disk.specs.World.{World, Acts}
+use Rattle.maildir_disk.specs.PowerCuts.{LeavesOthers, KeepsHeld}
 
 -- ---- one after the other
 left_after-append : (call : Call) (xs ys : List Kept) (s : Files) → left_after s call (xs ++ ys) ≡ left_after (left_after s call xs) call ys

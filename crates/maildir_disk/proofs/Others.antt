@@ -1,20 +1,14 @@
 -- A run, and then a sync: what they leave of the messages of other texts.
-use Rattle.std.proofs.Common.{◌≡◌, ℕ, ◌<◌, ◌^◌, List, [], ◌∷◌, length, get_or, All, IsTrue, Result, sym, ap, subst, ◌∙◌, inl, inr}
-use Rattle.std.proofs.lemmas.Bool.{cases_Bool, false≢true}
-use Rattle.std.proofs.lemmas.List.Folds.{Any-from_list_any}
-use Rattle.maildir_name.specs.Names.{is_converter_base}
+use Rattle.std.proofs.Common.{◌≡◌, ℕ, ◌<◌, ◌^◌, List, length, get_or, All, Result, sym, subst}
 use Rattle.maildir_run.specs.declared.fault.RunFault.{RunFault}
 use Rattle.maildir_run.specs.declared.report.Report.{Report}
 use Rattle.maildir_run.specs.Cuts.{Left}
-use Rattle.maildir_run.specs.Delivery.{Message, AreNamed, HasHome, IsHome, IsSoundAt, is_any, is_base_of}
-use Rattle.maildir_run.specs.Files.{Files, Action, acted, all_acted, homes, is_name}
-use Rattle.maildir_run.specs.Runs.{Run, Keeps}
+use Rattle.maildir_run.specs.Delivery.{Message, AreNamed, IsHome, IsSoundAt}
+use Rattle.maildir_run.specs.Files.{Files, Action, all_acted}
+use Rattle.maildir_run.specs.Runs.{Run}
 use Rattle.maildir_run.specs.Tasks.{Names, Performs, leaving, planned_tasks}
 use Rattle.maildir_run.specs.Texts.{MessagesOf}
 use Rattle.maildir_run.proofs.Chains.{sound_now}
-use Rattle.maildir_run.proofs.Homes.{acted_kept}
-use Rattle.maildir_run.proofs.Maps.{is_name-true}
-use Rattle.maildir_run.proofs.Moves.{homes_one}
 use Rattle.maildir_disk.specs.Others.{Stays}
 use Rattle.maildir_disk.specs.PowerCuts.{AreAlike, LeavesOthers}
 use Rattle.maildir_disk.specs.World.{World, Acts}

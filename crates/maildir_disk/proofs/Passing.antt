@@ -7,7 +7,7 @@ use Rattle.std.specs.declared.alloc.Global.{Global}
 use Rattle.std.specs.FinMap.{keys}
 use Rattle.maildir_run.specs.declared.folder.Sub.{Sub}
 use Rattle.maildir_run.specs.Files.{Files, Action, acted, all_acted}
-use Rattle.maildir_run.specs.Calls.{Call, Listing, Move, Other, Again, Torn, moved, after, folder_of, IsWhole, Lists, Listed, Failed}
+use Rattle.maildir_run.specs.Calls.{Call, Listing, Move, Other, Again, moved, after, folder_of, IsWhole, Lists, Listed, Failed}
 use Rattle.maildir_disk.specs.declared.one_moment.Look.{Look}
 use Rattle.maildir_disk.specs.Look.{IsSettled, IsFarAhead, Looked, Watched, WatchedOr}
 use Rattle.maildir_disk.specs.World.{World, margin_of, IsOfChange, Acts, Passes, Tells, Reads}

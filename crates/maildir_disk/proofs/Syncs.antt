@@ -6,8 +6,7 @@ use Rattle.std.specs.Option.{is_some}
 use Rattle.std.proofs.lemmas.List.Elements.{Contains-append_left, Contains-append_right}
 use Rattle.maildir_name.specs.Names.{base, is_converter_name, is_converter_base}
 use Rattle.maildir_run.specs.declared.folder.Sub.{Sub}
-use Rattle.maildir_run.specs.declared.folder.Sub.TheVariants.{Tmp, New, Cur}
-use Rattle.maildir_run.specs.Calls.{Listing}
+use Rattle.maildir_run.specs.declared.folder.Sub.TheVariants.{New, Cur}
 use Rattle.maildir_disk.specs.World.{World, Acts}
 use Rattle.maildir_disk.proofs.Passing.{all_acted-append}
 use Rattle.maildir_disk.proofs.Lefts.{leaves_then}

@@ -1,7 +1,6 @@
 use Rattle.std.proofs.Common.{◌≡◌, subst, arith}
 use Rattle.std.proofs.lemmas.Grind.{common_steps}
 use Rattle.std.specs.Time.{system_time_nanos}
-use Rattle.maildir_run.specs.Calls.{names_of}
 use Rattle.maildir_disk.specs.World.{Tells}
 use Rattle.maildir_disk.proofs.Passing.{acts_on, watched_fault, watched}
 use Rattle.maildir_disk.proofs.Lefts.{others_then}

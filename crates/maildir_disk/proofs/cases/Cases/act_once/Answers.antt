@@ -1,8 +1,5 @@
-use Rattle.maildir_run.specs.declared.folder.Sub.TheVariants.{Tmp}
-use Rattle.maildir_run.specs.Calls.{Listing}
 use Rattle.maildir_run.specs.MemFolder.{files_of}
 use Rattle.maildir_disk.specs.declared.cases.Change.TheVariants.{Half, Other}
-use Rattle.maildir_disk.specs.Cases.{may_find}
 use Rattle.maildir_disk.proofs.Changes.{acted, acted_leaves, keeps_lost, keeps_on, left_by_change}
 use Rattle.maildir_disk.proofs.Lefts.{leaves_none, on_ok, others_then}
 use Rattle.maildir_disk.proofs.cases.Cases.act_once.Goals as goal

@@ -1,4 +1,4 @@
-use Rattle.std.proofs.Common.{◌≡◌, refl}
+use Rattle.std.proofs.Common.{refl}
 use Rattle.maildir_run.specs.MemFolder.{files_of}
 use Rattle.maildir_disk.proofs.CaseLists.{adds_one, pushed}
 use Rattle.maildir_disk.proofs.cases.Cases.add.Goals as goal

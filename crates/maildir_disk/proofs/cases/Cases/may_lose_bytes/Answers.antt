@@ -1,9 +1,7 @@
-use Rattle.std.proofs.Common.{◌≤◌, ◌∙◌, [], length, take, refl, inr, arith}
-use Rattle.maildir_run.specs.Calls.{Writing}
-use Rattle.maildir_run.specs.MemFolder.{files_of}
+use Rattle.std.proofs.Common.{◌≤◌, ◌∙◌, length, take, refl, inr, arith}
 use Rattle.maildir_disk.specs.Cases.{HasRoom, lefts_of}
 use Rattle.maildir_disk.proofs.CaseLists.{no_fewer, one_front, still_there}
-use Rattle.maildir_disk.proofs.Changes.{IsOfBytes, left_by_bytes}
+use Rattle.maildir_disk.proofs.Changes.{left_by_bytes}
 use Rattle.maildir_disk.proofs.Lefts.{leaves_none}
 use Rattle.maildir_disk.proofs.cases.Cases.may_lose_bytes.Goals as goal
 

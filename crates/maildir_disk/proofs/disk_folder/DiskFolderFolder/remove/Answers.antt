@@ -1,5 +1,4 @@
 use Rattle.std.proofs.Common.{rules}
-use Rattle.maildir_run.specs.Calls.{Removing}
 use Rattle.maildir_disk.proofs.Lefts.{left_always}
 use Rattle.maildir_disk.proofs.disk_folder.DiskFolderFolder.remove.Goals as goal
 

@@ -1,7 +1,5 @@
 use Rattle.std.proofs.Common.{[], inl, refl}
-use Rattle.maildir_run.specs.declared.folder.Sub.TheVariants.{Tmp}
-use Rattle.maildir_run.specs.Calls.{Listing}
-use Rattle.maildir_disk.specs.MemSystem.{may_be_left, world_of}
+use Rattle.maildir_disk.specs.MemSystem.{world_of}
 use Rattle.maildir_disk.specs.World.{Passes}
 use Rattle.maildir_disk.proofs.Lefts.{left_none}
 use Rattle.maildir_disk.proofs.Passing.{passes_on}

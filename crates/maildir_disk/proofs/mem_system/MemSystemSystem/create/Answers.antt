@@ -2,7 +2,6 @@ use Rattle.std.proofs.Common.{◌∙◌, ap, [], inl}
 use Rattle.maildir_run.specs.Calls.{Writing, effect}
 use Rattle.maildir_disk.proofs.Pieces.{created_fault}
 use Rattle.maildir_disk.specs.declared.cases.Change.TheVariants.{Make}
-use Rattle.maildir_disk.specs.MemSystem.{may_be_left}
 use Rattle.maildir_disk.proofs.Changes.{left_made, left_unmade, lost_after}
 use Rattle.maildir_disk.proofs.Lefts.{if_ok, left_early, left_none}
 use Rattle.std.proofs.Common.{rules}

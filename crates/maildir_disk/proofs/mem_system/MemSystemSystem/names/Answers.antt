@@ -1,13 +1,6 @@
 use Rattle.std.proofs.Common.{◌≡◌, [], refl, inl, inr, arith, true}
 use Rattle.std.specs.Duration.{as_nanos}
-use Rattle.maildir_run.specs.Calls.{Listing, names_of}
-use Rattle.maildir_disk.specs.World.{Reads}
-use Rattle.maildir_disk.specs.MemSystem.{world_of}
 use Rattle.maildir_disk.proofs.Passing.{passes_on}
-use Rattle.maildir_run.specs.declared.folder.Sub.TheVariants.{Tmp}
-use Rattle.maildir_disk.specs.Cases.{may_find}
-use Rattle.maildir_disk.specs.MemSystem.{may_be_left}
-use Rattle.maildir_disk.specs.PowerCuts.{LeavesOthers}
 use Rattle.maildir_disk.proofs.Changes.{same_found}
 use Rattle.maildir_disk.proofs.Lefts.{left_none}
 use Rattle.maildir_disk.proofs.mem_system.MemSystemSystem.names.Goals as goal

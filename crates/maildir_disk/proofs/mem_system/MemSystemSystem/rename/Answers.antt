@@ -1,8 +1,5 @@
-use Rattle.maildir_run.specs.Calls.{Listing, Placing}
 use Rattle.maildir_disk.proofs.Gone.{gone_quietly}
 use Rattle.maildir_disk.specs.declared.cases.Change.TheVariants.{Place}
-use Rattle.maildir_disk.specs.MemSystem.{may_be_left}
-use Rattle.maildir_run.specs.declared.folder.Sub.TheVariants.{Tmp}
 use Rattle.maildir_disk.proofs.Changes.{left_made, left_unmade}
 use Rattle.maildir_disk.proofs.Lefts.{left_none}
 use Rattle.maildir_disk.proofs.mem_system.MemSystemSystem.rename.Goals as goal

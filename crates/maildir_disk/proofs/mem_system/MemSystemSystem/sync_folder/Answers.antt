@@ -3,8 +3,7 @@ use Rattle.std.specs.FinMap.{keys}
 use Rattle.maildir_run.specs.Calls.{folder_of}
 use Rattle.maildir_run.specs.Files.{Files}
 use Rattle.maildir_run.specs.MemFolder.{files_of}
-use Rattle.maildir_disk.specs.MemSystem.{may_be_left, world_of}
-use Rattle.maildir_disk.specs.Paths.{folder_of_place}
+use Rattle.maildir_disk.specs.MemSystem.{world_of}
 use Rattle.maildir_disk.proofs.Changes.{left_stayed, names_stayed}
 use Rattle.maildir_disk.proofs.Lefts.{others_then}
 use Rattle.maildir_disk.proofs.mem_system.MemSystemSystem.sync_folder.Goals as goal

@@ -1,7 +1,4 @@
-use Rattle.maildir_run.specs.Calls.{Listing, Removing}
 use Rattle.maildir_disk.specs.declared.cases.Change.TheVariants.{Remove}
-use Rattle.maildir_disk.specs.MemSystem.{may_be_left}
-use Rattle.maildir_run.specs.declared.folder.Sub.TheVariants.{Tmp}
 use Rattle.maildir_disk.proofs.Changes.{left_made, left_unmade, lost_after, keeps_none}
 use Rattle.maildir_disk.proofs.Lefts.{if_ok, left_none}
 use Rattle.std.proofs.Common.{rules}
