@@ -1,5 +1,5 @@
 -- What a cut leaves of the files of one base, from one move to the next.
-use Rattle.std.proofs.Common.{◌≡◌, ℕ, true, false, cond, zero, suc, List, [], ◌∷◌, ◌++◌, ◌⊎◌, Option, Some, None, IsPermutation, IsTrue, refl, sym, ap, subst, ◌∙◌, inl, inr, arith}
+use Rattle.std.proofs.Common.{◌≡◌, ℕ, true, false, cond, zero, suc, List, [], ◌∷◌, ◌++◌, ◌⊎◌, Option, Some, None, All, get_or, IsPermutation, IsTrue, refl, sym, ap, subst, ◌∙◌, inl, inr, arith}
 use Rattle.std.specs.List.{Contains}
 use Rattle.std.specs.FinMap.{get, insert, remove, get-insert, get-remove, same_map}
 use Rattle.std.proofs.lemmas.Bool.{cases_Bool, and_parts}
@@ -9,27 +9,26 @@ use Rattle.maildir_name.specs.declared.target.Place.{Place}
 use Rattle.maildir_name.specs.declared.target.Place.TheVariants.{New, Cur}
 use Rattle.maildir_name.specs.Names.{is_converter_name, is_converter_base}
 use Rattle.maildir_run.specs.Files.{FileMap, Files, is_name, has_base, held_under, homes, Action, ToCur, Reflag, DropTmp, Outside, may_take, acted}
-use Rattle.maildir_run.specs.declared.folder.Sub.TheVariants.{Tmp}
-use Rattle.maildir_run.specs.Calls.{Call, Listing, Writing, Placing, Move, Other, Again, Torn, placed, moved, PlacesElsewhere, StaysOrGoes}
+use Rattle.maildir_run.specs.Calls.{Call, Writing, Placing, Move, Other, Again, Torn, placed, moved, PlacesElsewhere, StaysOrGoes}
 use Rattle.maildir_run.specs.Cuts.{Leaves, IsFoundWhole, Came, Doubled, linked, doubled, left_after}
 use Rattle.maildir_run.specs.Cuts as cuts
-use Rattle.maildir_run.specs.Delivery.{Message}
+use Rattle.maildir_run.specs.Delivery.{Message, AreNamed}
 use Rattle.maildir_run.proofs.Maps.{total, same, is_name-true, get-insert_same}
 use Rattle.maildir_run.proofs.Homes.{absent, acted_kept, equally, held-insert_other, held-insert_new, held-remove_old}
 use Rattle.maildir_run.proofs.Moves.{after_kept, after_tmp}
-use Rattle.maildir_disk.specs.PowerCuts.{IsIntact, LeavesOthers}
+use Rattle.maildir_disk.specs.PowerCuts.{IsIntact, HasBody, LeavesOthers}
 use Rattle.maildir_disk.proofs.Pieces.{again}
 
 -- ---- one more element
-pub none_in : {X : Type 0} (y : X) → Contains [] y → ⊥
-none_in y (k, below, at) = omega (arith, below)
+pub none_in : {X : Type 0} {y : X} → Contains [] y → ⊥
+none_in (k, below, at) = omega (arith, below)
 
-pub first_in : {X : Type 0} (x : X) (xs : List X) → Contains (x ∷ xs) x
-first_in x xs = Contains-append_left (x ∷ []) xs x (Contains-push [] x)
+pub first_in : {X : Type 0} {x : X} (xs : List X) → Contains (x ∷ xs) x
+first_in {x} xs = Contains-append_left (x ∷ []) xs x (Contains-push [] x)
 
-pub first_or : {X : Type 0} (x : X) (xs : List X) (y : X) → Contains (x ∷ xs) y → (y ≡ x) ⊎ Contains xs y
-first_or x xs y (zero, below, at) = inl (sym at)
-first_or x xs y (suc k, below, at) = inr (k, omega (arith, below), at)
+pub first_or : {X : Type 0} {x : X} (xs : List X) {y : X} → Contains (x ∷ xs) y → (y ≡ x) ⊎ Contains xs y
+first_or xs (zero, below, at) = inl (sym at)
+first_or xs (suc k, below, at) = inr (k, omega (arith, below), at)
 
 -- ---- one folder, where a file comes under a name of the base
 remove_inserted : (m : FileMap) (k v : List ℕ) → remove (insert m k v) k ≡ remove m k
@@ -45,20 +44,20 @@ module _ (b : List ℕ) (m : FileMap) (k v : List ℕ) (on : has_base b k ≡ tr
   replaced = subst (λ n. IsPermutation (v ∷ held_under b n) (held_under b (insert m k v))) (remove_inserted m k v) (held-remove_old b (insert m k v) k v on (get-insert_same m k v))
 
   inserted_in : Contains (held_under b (insert m k v)) v
-  inserted_in = Contains-permutation _ _ v replaced (first_in v _)
+  inserted_in = Contains-permutation _ _ v replaced (first_in _)
 
   held_in : get m k ≡ Some v → Contains (held_under b m) v
-  held_in has = Contains-permutation _ _ v (held-remove_old b m k v on has) (first_in v _)
+  held_in has = Contains-permutation _ _ v (held-remove_old b m k v on has) (first_in _)
 
-  still_in : get m k ≡ None → (y : List ℕ) → Contains (held_under b m) y → Contains (held_under b (insert m k v)) y
-  still_in free y h = Contains-permutation _ _ y (held-insert_new b m k v on free) (Contains-append_right (v ∷ []) _ y h)
+  still_in : get m k ≡ None → {y : List ℕ} → Contains (held_under b m) y → Contains (held_under b (insert m k v)) y
+  still_in free {y} h = Contains-permutation _ _ y (held-insert_new b m k v on free) (Contains-append_right (v ∷ []) _ y h)
 
   inserted_or : (y : List ℕ) → Contains (held_under b (insert m k v)) y → (y ≡ v) ⊎ Contains (held_under b m) y
   inserted_or y h =
       elim (get m k) as (λ o. get m k ≡ o → (y ≡ v) ⊎ Contains (held_under b m) y) [
-        | None ↦ λ free. first_or v _ y (Contains-permutation _ _ y (IsPermutation-sym _ _ (held-insert_new b m k v on free)) h)
+        | None ↦ λ free. first_or _ (Contains-permutation _ _ y (IsPermutation-sym _ _ (held-insert_new b m k v on free)) h)
         | Some old ↦ λ has.
-            elim (first_or v _ y (Contains-permutation _ _ y (IsPermutation-sym _ _ replaced) h)) as (λ _. (y ≡ v) ⊎ Contains (held_under b m) y) [
+            elim (first_or _ (Contains-permutation _ _ y (IsPermutation-sym _ _ replaced) h)) [
               | inl is ↦ inl is
               | inr other ↦ inr (Contains-permutation _ _ y (held-remove_old b m k old on has) (Contains-append_right (old ∷ []) _ y other))
             ]
@@ -70,22 +69,22 @@ pub record Steady (x : List ℕ) (old new : List (List ℕ)) : Type 0 where
   pub within : (y : List ℕ) → Contains new y → (y ≡ x) ⊎ Contains old y
   pub still : Contains old x → Contains new x
 
-steady_left : (x : List ℕ) (old new more : List (List ℕ)) → Steady x old new → Steady x (old ++ more) (new ++ more)
-steady_left x old new more steady = record {
-  within = λ y h. elim (Contains-append_cases new more y h) as (λ _. (y ≡ x) ⊎ Contains (old ++ more) y) [
+steady_left : {x : List ℕ} {old new : List (List ℕ)} (more : List (List ℕ)) → Steady x old new → Steady x (old ++ more) (new ++ more)
+steady_left {x} {old} {new} more steady = record {
+  within = λ y h. elim (Contains-append_cases new more y h) [
     | inr there ↦ inr (Contains-append_right old more y there)
-    | inl there ↦ elim (steady.within y there) as (λ _. (y ≡ x) ⊎ Contains (old ++ more) y) [ inl is ↦ inl is | inr before ↦ inr (Contains-append_left old more y before) ]
+    | inl there ↦ elim (steady.within y there) [ inl is ↦ inl is | inr before ↦ inr (Contains-append_left old more y before) ]
   ];
-  still = λ h. elim (Contains-append_cases old more x h) as (λ _. Contains (new ++ more) x) [ inl there ↦ Contains-append_left new more x (steady.still there) | inr there ↦ Contains-append_right new more x there ];
+  still = λ h. elim (Contains-append_cases old more x h) [ inl there ↦ Contains-append_left new more x (steady.still there) | inr there ↦ Contains-append_right new more x there ];
 }
 
-steady_right : (x : List ℕ) (old new first : List (List ℕ)) → Steady x old new → Steady x (first ++ old) (first ++ new)
-steady_right x old new first steady = record {
-  within = λ y h. elim (Contains-append_cases first new y h) as (λ _. (y ≡ x) ⊎ Contains (first ++ old) y) [
+steady_right : {x : List ℕ} {old new : List (List ℕ)} (first : List (List ℕ)) → Steady x old new → Steady x (first ++ old) (first ++ new)
+steady_right {x} {old} {new} first steady = record {
+  within = λ y h. elim (Contains-append_cases first new y h) [
     | inl there ↦ inr (Contains-append_left first old y there)
-    | inr there ↦ elim (steady.within y there) as (λ _. (y ≡ x) ⊎ Contains (first ++ old) y) [ inl is ↦ inl is | inr before ↦ inr (Contains-append_right first old y before) ]
+    | inr there ↦ elim (steady.within y there) [ inl is ↦ inl is | inr before ↦ inr (Contains-append_right first old y before) ]
   ];
-  still = λ h. elim (Contains-append_cases first old x h) as (λ _. Contains (first ++ new) x) [ inl there ↦ Contains-append_left first new x there | inr there ↦ Contains-append_right first new x (steady.still there) ];
+  still = λ h. elim (Contains-append_cases first old x h) [ inl there ↦ Contains-append_left first new x there | inr there ↦ Contains-append_right first new x (steady.still there) ];
 }
 
 -- ---- the homes of a base, as against some bytes
@@ -114,7 +113,7 @@ module _ (b x : List ℕ) where
 
   pub steady_then : (r s t : Files) → Holds b x r s → Holds b x s t → Holds b x r t
   steady_then r s t first then = record {
-    within = λ y h. elim (then.within y h) as (λ _. (y ≡ x) ⊎ Contains (homes r b) y) [ inl is ↦ inl is | inr there ↦ first.within y there ];
+    within = λ y h. elim (then.within y h) [ inl is ↦ inl is | inr there ↦ first.within y there ];
     still = λ h. then.still (first.still h);
   }
 
@@ -125,18 +124,18 @@ module _ (b x : List ℕ) where
   }
 
   -- a file of the base is under one more of its names
-  linked_in : (s : Files) (target bytes : List ℕ) → has_base b target ≡ true → get s.cur target ≡ None → Contains (homes s b) bytes → Holds b x s (record s { cur = insert s.cur target bytes })
-  linked_in s target bytes on free has = record {
-    within = λ y h. inr (elim (Contains-append_cases (held_under b s.new) _ y h) as (λ _. Contains (homes s b) y) [
+  linked_in : (s : Files) (target : List ℕ) {bytes : List ℕ} → has_base b target ≡ true → get s.cur target ≡ None → Contains (homes s b) bytes → Holds b x s (record s { cur = insert s.cur target bytes })
+  linked_in s target {bytes} on free has = record {
+    within = λ y h. inr (elim (Contains-append_cases (held_under b s.new) _ y h) [
       | inl there ↦ Contains-append_left _ _ y there
-      | inr there ↦ elim (inserted_or b s.cur target bytes on y there) as (λ _. Contains (homes s b) y) [
+      | inr there ↦ elim (inserted_or b s.cur target bytes on y there) [
         | inl is ↦ subst (Contains (homes s b)) (sym is) has
         | inr before ↦ Contains-append_right _ _ y before
       ]
     ]);
-    still = λ h. elim (Contains-append_cases (held_under b s.new) _ x h) as (λ _. Contains (held_under b s.new ++ held_under b (insert s.cur target bytes)) x) [
+    still = λ h. elim (Contains-append_cases (held_under b s.new) _ x h) [
       | inl there ↦ Contains-append_left _ _ x there
-      | inr there ↦ Contains-append_right _ _ x (still_in b s.cur target bytes on free x there)
+      | inr there ↦ Contains-append_right _ _ x (still_in b s.cur target bytes on free there)
     ];
   }
 
@@ -148,8 +147,8 @@ module _ (b x : List ℕ) where
         | true ↦ λ may.
             let parts = and_parts _ _ may in
             let alike : has_base b target ≡ has_base b name = ap (is_name b) (sym (is_name-true _ _ parts.1)) in
-            elim (cases_Bool (has_base b name)) as (λ _. Holds b x s (record s { cur = insert s.cur target bytes })) [
-              | inl on ↦ linked_in s target bytes (alike ∙ on) (absent _ parts.0) (has bytes on refl)
+            elim (cases_Bool (has_base b name)) [
+              | inl on ↦ linked_in s target (alike ∙ on) (absent _ parts.0) (has bytes on refl)
               | inr off ↦ let t : Files = record s { cur = insert s.cur target bytes } in steady_kept s t (equally b s t (rw (held-insert_other b s.cur target bytes (alike ∙ off)) refl))
             ]
       ] refl
@@ -167,9 +166,9 @@ module _ (b x : List ℕ) where
   placed_steady : (s : Files) (name : List ℕ) (p : Place) (target : List ℕ) (o : Option (List ℕ)) → has_base b target ≡ true → ((held : List ℕ) → o ≡ Some held → held ≡ x) → Holds b x s (placed s name p target o)
   placed_steady s name p target None on whole = steady_same s
   placed_steady s name New target (Some held) on whole =
-      subst (λ bytes. Holds b x s (placed s name New target (Some bytes))) (sym (whole held refl)) (steady_left x _ _ (held_under b s.cur) (inserted_steady s.new target on))
+      subst (λ bytes. Holds b x s (placed s name New target (Some bytes))) (sym (whole held refl)) (steady_left (held_under b s.cur) (inserted_steady s.new target on))
   placed_steady s name Cur target (Some held) on whole =
-      subst (λ bytes. Holds b x s (placed s name Cur target (Some bytes))) (sym (whole held refl)) (steady_right x _ _ (held_under b s.new) (inserted_steady s.cur target on))
+      subst (λ bytes. Holds b x s (placed s name Cur target (Some bytes))) (sym (whole held refl)) (steady_right (held_under b s.new) (inserted_steady s.cur target on))
 
   module _ (named : IsTrue (is_converter_base b)) where
     -- a call that places nothing at the base
@@ -180,8 +179,8 @@ module _ (b x : List ℕ) where
     left_elsewhere call off (Doubled action ∷ kept) s =
         steady_then s (doubled action s) (left_after s call (Doubled action ∷ kept)) (doubled_steady action s) (left_elsewhere call off kept (doubled action s))
 
-    pub leaves_elsewhere : (call : Call) → PlacesElsewhere b call → (s t : Files) → Leaves call s t → Holds b x s t
-    leaves_elsewhere call off s t leaves = subst (Holds b x s) (sym leaves.are) (left_elsewhere call off leaves.kept s)
+    pub leaves_elsewhere : {call : Call} → PlacesElsewhere b call → {s t : Files} → Leaves call s t → Holds b x s t
+    leaves_elsewhere {call} off {s} leaves = subst (Holds b x s) (sym leaves.are) (left_elsewhere call off leaves.kept s)
 
     -- a call that places there what `tmp` has under a name, where these bytes were written
     module _ (name : List ℕ) (p : Place) (target : List ℕ) (ours : IsTrue (is_converter_name name)) (on : has_base b target ≡ true) where
@@ -199,12 +198,25 @@ module _ (b x : List ℕ) where
           let t = doubled action s in
           steady_then s t (left_after s (Placing name p target) (Doubled action ∷ kept)) (doubled_steady action s) (left_placing kept t (whole_on name x s t (inl (ap (λ m. get m name) (doubled_tmp action s))) whole))
 
-      pub leaves_placing : (s t : Files) → IsFoundWhole (Writing name x) s → Leaves (Placing name p target) s t → Holds b x s t
-      leaves_placing s t whole leaves = subst (Holds b x s) (sym leaves.are) (left_placing leaves.kept s whole)
+      pub leaves_placing : {s t : Files} → IsFoundWhole (Writing name x) s → Leaves (Placing name p target) s t → Holds b x s t
+      leaves_placing {s} whole leaves = subst (Holds b x s) (sym leaves.are) (left_placing leaves.kept s whole)
 
 -- ---- a message, of whose base this holds
 pub intact_on : (m : Message) (s t : Files) → Holds m.target.base m.body s t → IsIntact s m → IsIntact t m
-intact_on m s t holds intact bytes h = elim (holds.within bytes h) as (λ _. bytes ≡ m.body) [ inl is ↦ is | inr there ↦ intact bytes there ]
+intact_on m s t holds intact bytes h = elim (holds.within bytes h) [ inl is ↦ is | inr there ↦ intact bytes there ]
 
-pub others_hold : (m : Message) → IsTrue (is_converter_base m.target.base) → (s t : Files) → LeavesOthers s t → Holds m.target.base m.body s t
-others_hold m named s t leaves = leaves_elsewhere m.target.base m.body named (Listing Tmp) tt s t leaves
+pub others_hold : (m : Message) → IsTrue (is_converter_base m.target.base) → {s t : Files} → LeavesOthers s t → Holds m.target.base m.body s t
+others_hold m named leaves = leaves_elsewhere m.target.base m.body named tt leaves
+
+-- ---- messages, of each of which this holds
+abbrev pub AllHold : List Message → Files → Files → Type 0
+AllHold ms s t = All (λ m. Holds m.target.base m.body s t) ms
+
+pub all_intact : (ms : List Message) (s t : Files) → AllHold ms s t → All (IsIntact s) ms → All (IsIntact t) ms
+all_intact ms s t hold intact k d below = intact_on (get_or ms k d) s t (hold k d below) (intact k d below)
+
+pub all_bodies : (ms : List Message) (s t : Files) → AllHold ms s t → All (HasBody s) ms → All (HasBody t) ms
+all_bodies ms s t hold bodies k d below = (hold k d below).still (bodies k d below)
+
+pub all_beside : (ms : List Message) {s t : Files} → AreNamed ms → LeavesOthers s t → AllHold ms s t
+all_beside ms named leaves k d below = others_hold (get_or ms k d) (named k d below) leaves

@@ -19,8 +19,8 @@ use Rattle.maildir_run.proofs.Maps.{is_name-true, is_name-refl}
 use Rattle.maildir_run.proofs.MessageLemmas.{text_named, text_targets, text_distinct}
 use Rattle.maildir_run.proofs.Planned.{planned_are}
 use Rattle.maildir_run.proofs.TaskEffects.{EachTask, PlacesNone, all_parts, stopped_parts, listings_place_none, sweep_places_none}
-use Rattle.maildir_disk.specs.PowerCuts.{IsIntact, HasBody}
-use Rattle.maildir_disk.proofs.LeftHomes.{Holds, steady_same, steady_then, leaves_elsewhere, leaves_placing, intact_on}
+use Rattle.maildir_disk.specs.PowerCuts.{AreAlike}
+use Rattle.maildir_disk.proofs.LeftHomes.{Holds, steady_same, steady_then, leaves_elsewhere, leaves_placing, AllHold}
 
 -- ---- the parts of a list of tasks
 -- what a cut leaves of tasks that were all done, or of which one was refused
@@ -28,17 +28,17 @@ abbrev pub LeavesTasks : (ended : Bool) → List Task → Files → Files → Ty
 LeavesTasks true tasks old new = AllDone leaving tasks old new
 LeavesTasks false tasks old new = Stopped leaving tasks old new
 
-none_left : (ended : Bool) (old new : Files) → LeavesTasks ended [] old new → new ≡ old
-none_left true old new e = e
-none_left false old new e = e
+none_left : (ended : Bool) {old new : Files} → LeavesTasks ended [] old new → new ≡ old
+none_left true e = e
+none_left false e = e
 
 one_done : (task : Task) (old new : Files) → LeavesTasks true (task ∷ []) old new → LeavesDone task old new
 one_done task old new (mid, done, e) = subst (LeavesDone task old) (sym e) done
 
-one_left : (ended : Bool) (task : Task) (old new : Files) → LeavesTasks ended (task ∷ []) old new → Leaves (call_of task) old new
-one_left true task old new h = (one_done task old new h).0
-one_left false task old new (inl refused) = refused
-one_left false task old new (inr done) = (one_done task old new done).0
+one_left : (ended : Bool) (task : Task) {old new : Files} → LeavesTasks ended (task ∷ []) old new → Leaves (call_of task) old new
+one_left true task {old} {new} h = (one_done task old new h).0
+one_left false task (inl refused) = refused
+one_left false task {old} {new} (inr done) = (one_done task old new done).0
 
 -- a front of the first part, or all of it and then of the other
 abbrev pub InParts : (ended : Bool) (xs ys : List Task) (old new : Files) → Type 0
@@ -59,17 +59,17 @@ module _ (b x : List ℕ) (named : IsTrue (is_converter_base b)) where
   AreSteady tasks = (ended : Bool) (old new : Files) → LeavesTasks ended tasks old new → Holds b x old new
 
   none_steady : AreSteady []
-  none_steady ended old new h = subst (Holds b x old) (sym (none_left ended old new h)) (steady_same b x old)
+  none_steady ended old new h = subst (Holds b x old) (sym (none_left ended h)) (steady_same b x old)
 
   both_steady : (xs ys : List Task) → AreSteady xs → AreSteady ys → AreSteady (xs ++ ys)
   both_steady xs ys first then ended old new h =
-      elim (parts_left ended xs ys old new h) as (λ _. Holds b x old new) [
+      elim (parts_left ended xs ys old new h) [
         | inl front ↦ first ended old new front
         | inr (mid, all, more) ↦ steady_then b x old mid new (first true old mid all) (then ended mid new more)
       ]
 
   elsewhere_steady : (task : Task) → PlacesElsewhere b (call_of task) → AreSteady (task ∷ [])
-  elsewhere_steady task off ended old new h = leaves_elsewhere b x named (call_of task) off old new (one_left ended task old new h)
+  elsewhere_steady task off ended old new h = leaves_elsewhere b x named off (one_left ended task h)
 
   all_elsewhere : (tasks : List Task) → EachTask PlacesNone tasks → AreSteady tasks
   all_elsewhere [] off = none_steady
@@ -85,18 +85,18 @@ module _ (b x : List ℕ) (named : IsTrue (is_converter_base b)) where
   own_steady t ours on ended old new h =
       let write = Do (Writing t.base x) in
       let place = Do (Placing t.base t.place t.name) in
-      elim (parts_left ended (write ∷ []) (place ∷ []) old new h) as (λ _. Holds b x old new) [
+      elim (parts_left ended (write ∷ []) (place ∷ []) old new h) [
         | inl front ↦ elsewhere_steady write tt ended old new front
         | inr (mid, wrote, put) ↦
             steady_then b x old mid new (elsewhere_steady write tt true old mid wrote)
-            (leaves_placing b x named t.base t.place t.name ours on mid new (one_done write old mid wrote).1 (one_left ended place mid new put))
+            (leaves_placing b x named t.base t.place t.name ours on (one_done write old mid wrote).1 (one_left ended place put))
       ]
 
   delivery_steady : (m : Message) → IsTarget m.target → (m.target.base ≡ b → m.body ≡ x) → AreSteady (delivery_of m.target m.body)
   delivery_steady m is body =
       let t = m.target in
       let same : t.base ≡ base t.name = is_name-true _ _ is.under in
-      elim (cases_Bool (is_name b t.base)) as (λ _. AreSteady (delivery_of t m.body)) [
+      elim (cases_Bool (is_name b t.base)) [
         | inl on ↦
             subst (λ bytes. AreSteady (delivery_of t bytes)) (sym (body (sym (is_name-true b t.base on))))
             (own_steady t (converters t.base t.base is.named is.whole) (ap (is_name b) (sym same) ∙ on))
@@ -131,12 +131,12 @@ module _ (b x : List ℕ) (named : IsTrue (is_converter_base b)) where
 differ : (m n : Message) → IsFalse (is_name m.target.base n.target.base) → m.target.base ≡ n.target.base → ⊥
 differ m n apart alike = false≢true (sym apart ∙ (ap (is_name m.target.base) (sym alike) ∙ is_name-refl m.target.base))
 
-pub own_bodies : (ms : List Message) → AreDistinct ms → (k : ℕ) (d : Message) → k < length ms → All (λ n. n.target.base ≡ (get_or ms k d).target.base → n.body ≡ (get_or ms k d).body) ms
+pub own_bodies : (ms : List Message) → AreDistinct ms → AreAlike ms ms
 own_bodies ms distinct k d below j e there =
     let m = get_or ms k d in
     let n = get_or ms j d in
     subst (λ (o : Message). o.target.base ≡ m.target.base → o.body ≡ m.body) (get_or_default ms j d e there) (λ alike.
-    elim (cases_order j k) as (λ _. n.body ≡ m.body) [
+    elim (cases_order j k) [
       | inl same ↦ ap (λ i. (get_or ms i d).body) same
       | inr (inl before) ↦ absurd (differ n m (distinct j k d before below) alike)
       | inr (inr after) ↦ absurd (differ m n (distinct k j d after there) (sym alike))
@@ -147,17 +147,8 @@ module _ (t : List ℕ) (ms : List Message) (are : MessagesOf t ms) (small : len
   pub text_holds : (b x : List ℕ) → IsTrue (is_converter_base b) → All (λ m. m.target.base ≡ b → m.body ≡ x) ms → Holds b x before now
   text_holds b x named bodies = run_holds b x named names ms (text_targets t ms are small) bodies before r now ran
 
-  pub run_intact : All (IsIntact before) ms → All (IsIntact now) ms
-  run_intact intact k d below =
-      let m = get_or ms k d in
-      intact_on m before now (text_holds m.target.base m.body (text_named t ms are small k d below) (own_bodies ms (text_distinct t ms are small) k d below)) (intact k d below)
+  pub texts_hold : (others : List Message) → AreNamed others → AreAlike others ms → AllHold others before now
+  texts_hold others named alike k d below = text_holds (get_or others k d).target.base (get_or others k d).body (named k d below) (alike k d below)
 
-  pub run_bodies : (others : List Message) → AreNamed others → All (λ m. All (λ n. n.target.base ≡ m.target.base → n.body ≡ m.body) ms) others → All (HasBody before) others → All (HasBody now) others
-  run_bodies others named alike bodies k d below =
-      let m = get_or others k d in
-      (text_holds m.target.base m.body (named k d below) (alike k d below)).still (bodies k d below)
-
-  pub run_others_intact : (others : List Message) → AreNamed others → All (λ m. All (λ n. n.target.base ≡ m.target.base → n.body ≡ m.body) ms) others → All (IsIntact before) others → All (IsIntact now) others
-  run_others_intact others named alike intact k d below =
-      let m = get_or others k d in
-      intact_on m before now (text_holds m.target.base m.body (named k d below) (alike k d below)) (intact k d below)
+  pub own_hold : AllHold ms before now
+  own_hold = texts_hold ms (text_named t ms are small) (own_bodies ms (text_distinct t ms are small))

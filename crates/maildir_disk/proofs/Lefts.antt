@@ -1,16 +1,13 @@
 -- What a cut leaves, from one moment of a call to the next.
-use Rattle.std.proofs.Common.{◌≡◌, inl, inr, ℕ, List, [], ◌∷◌, ◌++◌, map, refl, sym, ◌∙◌, ap, subst}
+use Rattle.std.proofs.Common.{◌≡◌, inl, inr, ℕ, List, [], ◌∷◌, ◌++◌, refl, sym, ◌∙◌, ap}
 use Rattle.std.specs.Prelude.{IsErr, IsOk, OnErr, OnOk, Result, Ok, Err}
-use Rattle.std.specs.FinMap.{contains_key}
-use Rattle.maildir_run.specs.declared.folder.Sub.{Sub}
 use Rattle.maildir_run.specs.declared.folder.Sub.TheVariants.{Tmp}
-use Rattle.maildir_run.specs.Calls.{Call, Listing, Writing, Called, Other, Again, Torn, Succeeded, moved, folder_of}
+use Rattle.maildir_run.specs.Calls.{Call, Listing, Writing, Other, Again, Torn, Succeeded, moved}
 use Rattle.maildir_run.specs.Cuts.{Kept, Came, Doubled, Leaves, LeavesOf, IsFoundWhole, Left, left_after, doubled}
-use Rattle.maildir_run.specs.Files.{Files, Action, acted, all_acted}
-use Rattle.maildir_run.proofs.Cuts.{all_left, leaves_moves, left_as, left_then}
+use Rattle.maildir_run.specs.Files.{Files}
+use Rattle.maildir_run.proofs.Cuts.{left_as}
 use Rattle.maildir_run.proofs.Moves.{writing_ok}
-use Rattle.maildir_disk.specs.PowerCuts.{LeavesOthers, KeepsHeld, KeepsNames}
-use Rattle.maildir_disk.specs.World.{World, Acts}
+use Rattle.maildir_disk.specs.PowerCuts.{LeavesOthers, KeepsHeld}
 
 -- ---- one after the other
 left_after-append : (call : Call) (xs ys : List Kept) (s : Files) → left_after s call (xs ++ ys) ≡ left_after (left_after s call xs) call ys
@@ -18,11 +15,11 @@ left_after-append call [] ys s = refl
 left_after-append call (Came move ∷ xs) ys s = left_after-append call xs ys (moved call move s)
 left_after-append call (Doubled action ∷ xs) ys s = left_after-append call xs ys (doubled action s)
 
-pub leaves_none : (call : Call) (s : Files) → Leaves call s s
-leaves_none call s = record { kept = []; are = refl }
+pub leaves_none : {call : Call} {s : Files} → Leaves call s s
+leaves_none = record { kept = []; are = refl }
 
-pub leaves_then : (call : Call) (a b c : Files) → Leaves call a b → Leaves call b c → Leaves call a c
-leaves_then call a b c first then = record {
+pub leaves_then : {call : Call} {a b c : Files} → Leaves call a b → Leaves call b c → Leaves call a c
+leaves_then {call} {a} first then = record {
   kept = first.kept ++ then.kept;
   are = then.are ∙ (ap (λ s. left_after s call then.kept) first.are ∙ sym (left_after-append call first.kept then.kept a));
 }
@@ -43,8 +40,8 @@ others_after call (Came Again ∷ kept) s = others_after call kept s
 others_after call (Came (Torn bytes) ∷ kept) s = others_after call kept s
 others_after call (Doubled action ∷ kept) s = others_after call kept _
 
-pub others_leave : (call : Call) (a b : Files) → LeavesOthers a b → Leaves call a b
-others_leave call a b h = record { kept = of_others h.kept; are = h.are ∙ others_after call h.kept a }
+pub others_leave : {call : Call} {a b : Files} → LeavesOthers a b → Leaves call a b
+others_leave {call} {a} h = record { kept = of_others h.kept; are = h.are ∙ others_after call h.kept a }
 
 -- ---- a write of other bytes, torn
 as_torn : List ℕ → List Kept → List Kept
@@ -62,40 +59,29 @@ torn_after name held bytes (Came Again ∷ kept) s = torn_after name held bytes 
 torn_after name held bytes (Came (Torn _) ∷ kept) s = torn_after name held bytes kept _
 torn_after name held bytes (Doubled action ∷ kept) s = torn_after name held bytes kept _
 
-pub leaves_torn : (name held bytes : List ℕ) (a b : Files) → Leaves (Writing name held) a b → Leaves (Writing name bytes) a b
-leaves_torn name held bytes a b h = record { kept = as_torn held h.kept; are = h.are ∙ torn_after name held bytes h.kept a }
+pub leaves_torn : {name held bytes : List ℕ} {a b : Files} → Leaves (Writing name held) a b → Leaves (Writing name bytes) a b
+leaves_torn {name} {held} {bytes} {a} h = record { kept = as_torn held h.kept; are = h.are ∙ torn_after name held bytes h.kept a }
 
 -- ---- from one call to the next
-pub left_both : (call : Call) (a b c : Files → Type 0) → Left (Leaves call) a b → Left (Leaves call) b c → Left (Leaves call) a c
-left_both call a b c first then = left_then (Leaves call) (Leaves call) (Leaves call) a b c (leaves_then call) first then
+pub left_both : {call : Call} {a b c : Files → Type 0} → Left (Leaves call) a b → Left (Leaves call) b c → Left (Leaves call) a c
+left_both first then new may = let r = then new may in let q = first r.0 r.1 in (q.0, q.1, leaves_then q.2 r.2)
 
-pub left_more : (call : Call) (a b c : Files → Type 0) → Left (Leaves call) a b → Left LeavesOthers b c → Left (Leaves call) a c
-left_more call a b c first then = left_both call a b c first (left_as LeavesOthers (Leaves call) b c (others_leave call) then)
+pub left_early : {call : Call} {a b : Files → Type 0} → Left LeavesOthers a b → Left (Leaves call) a b
+left_early others new may = let r = others new may in (r.0, r.1, others_leave r.2)
 
-pub left_none : (call : Call) (a : Files → Type 0) → Left (Leaves call) a a
-left_none call a new may = (new, may, leaves_none call new)
+pub left_torn : {name held bytes : List ℕ} {a b : Files → Type 0} → Left (Leaves (Writing name held)) a b → Left (Leaves (Writing name bytes)) a b
+left_torn torn new may = let r = torn new may in (r.0, r.1, leaves_torn r.2)
 
-pub others_then : (a b c : Files → Type 0) → Left LeavesOthers a b → Left LeavesOthers b c → Left LeavesOthers a c
-others_then = left_both (Listing Tmp)
+pub left_more : {call : Call} {a b c : Files → Type 0} → Left (Leaves call) a b → Left LeavesOthers b c → Left (Leaves call) a c
+left_more first then = left_both first (left_early then)
 
--- ---- where a cut leaves what is there, and that alone
-pub same_left : (call : Call) (a b : Files) → b ≡ a → Left (Leaves call) (λ left. left ≡ a) (λ left. left ≡ b)
-same_left call a b same = all_left (Leaves call) a b (record { kept = []; are = same })
+pub left_none : {call : Call} {a : Files → Type 0} → Left (Leaves call) a a
+left_none new may = (new, may, leaves_none)
 
-others_kept : (call : Call) (xs : List Action) (s : Files) → left_after s call (map (λ action. Came (Other action)) xs) ≡ all_acted xs s
-others_kept call [] s = refl
-others_kept call (x ∷ xs) s = others_kept call xs (acted x s)
+pub others_then : {a b c : Files → Type 0} → Left LeavesOthers a b → Left LeavesOthers b c → Left LeavesOthers a c
+others_then = left_both
 
-acts_leave : (call : Call) (a b : World) → Acts a b → Leaves call a.files b.files
-acts_leave call a b acts = record { kept = map (λ action. Came (Other action)) acts.actions; are = acts.files_are ∙ sym (others_kept call acts.actions a.files) }
-
-pub acts_left : (call : Call) (a b : World) → Acts a b → Left (Leaves call) (λ left. left ≡ a.files) (λ left. left ≡ b.files)
-acts_left call a b acts = all_left (Leaves call) a.files b.files (acts_leave call a b acts)
-
-pub called_left : {A E : Type 0} (call : Call) (a : Files) (outcome : Result A E) (b : Files) → Called call a outcome b → Left (Leaves call) (λ left. left ≡ a) (λ left. left ≡ b)
-called_left call a (Ok _) b h = all_left (Leaves call) a b (leaves_moves call a b (h.before ++ Again ∷ h.rest) h.left)
-called_left call a (Err _) b h = all_left (Leaves call) a b (leaves_moves call a b h.moves h.left)
-
+-- ---- where a call answered Ok
 pub on_ok : {A E : Type 0} (P : Type 0) (outcome : Result A E) → P → OnOk outcome P
 on_ok P (Ok x) h = h
 on_ok P (Err e) h = tt
@@ -108,51 +94,33 @@ pub if_ok : {A E : Type 0} (outcome : Result A E) (P : Type 0) → IsOk outcome 
 if_ok (Ok x) P is h = h
 if_ok (Err e) P is h = cc
 
-pub names_kept : {A E : Type 0} (sub : Sub) (a : World) (outcome : Result A E) (b : World) → Acts a b → OnOk outcome (Left (λ before left. KeepsNames sub a.files before b.files left) (λ left. left ≡ a.files) (λ left. left ≡ b.files))
-names_kept sub a outcome b acts = on_ok _ outcome (λ left e. (
-  a.files,
-  refl,
-  record {
-    moment = b.files;
-    actions = acts.actions;
-    moment_is = acts.files_are;
-    rest = [];
-    new_is = refl;
-    there = left;
-    earlier = subst (LeavesOthers a.files) (sym e) (acts_leave (Listing Tmp) a b acts);
-    later = leaves_none (Listing Tmp) left;
-    names_are = λ name ours. ap (λ s. contains_key (folder_of sub s) name) e;
-  },
-))
-
--- ---- with the answer of a call
-pub left_fault : {A E : Type 0} (call : Call) (outcome : Result A E) (a b : Files → Type 0) → IsErr outcome → Left (Leaves call) a b → Left (λ before now. LeavesOf call before outcome now) a b
-left_fault call (Ok x) a b is_err h = cc
-left_fault call (Err e) a b is_err h = h
+pub left_fault : {A E : Type 0} {call : Call} (outcome : Result A E) {a b : Files → Type 0} → IsErr outcome → Left (Leaves call) a b → Left (λ before now. LeavesOf call before outcome now) a b
+left_fault (Ok x) is_err h = cc
+left_fault (Err e) is_err h = h
 
 -- nothing is to be found whole
-pub left_always : {A E : Type 0} (call : Call) (outcome : Result A E) (a b : Files → Type 0) → ((s : Files) → IsFoundWhole call s) → Left (Leaves call) a b → Left (λ before now. LeavesOf call before outcome now) a b
-left_always call (Ok x) a b whole h = left_as (Leaves call) _ a b (λ old new leaves. (leaves, whole new)) h
-left_always call (Err e) a b whole h = h
+pub left_always : {A E : Type 0} {call : Call} (outcome : Result A E) {a b : Files → Type 0} → ((s : Files) → IsFoundWhole call s) → Left (Leaves call) a b → Left (λ before now. LeavesOf call before outcome now) a b
+left_always {call} (Ok x) {a} {b} whole h = left_as (Leaves call) _ a b (λ old new leaves. (leaves, whole new)) h
+left_always (Err e) whole h = h
 
 -- the answer of a folder for that of the system
-pub left_answered : {A E F : Type 0} (call : Call) (outcome : Result A E) (answer : Result A F) (a b : Files → Type 0) → OnErr outcome (IsErr answer) → Left (λ before now. LeavesOf call before outcome now) a b → Left (λ before now. LeavesOf call before answer now) a b
-left_answered call (Ok x) (Ok y) a b is h = h
-left_answered call (Ok x) (Err f) a b is h = left_as _ (Leaves call) a b (λ old new leaves. leaves.0) h
-left_answered call (Err e) (Ok y) a b is h = cc
-left_answered call (Err e) (Err f) a b is h = h
+pub left_answered : {A E F : Type 0} (call : Call) (outcome : Result A E) (answer : Result A F) {a b : Files → Type 0} → OnErr outcome (IsErr answer) → Left (λ before now. LeavesOf call before outcome now) a b → Left (λ before now. LeavesOf call before answer now) a b
+left_answered call (Ok x) (Ok y) is h = h
+left_answered call (Ok x) (Err f) {a} {b} is h = left_as _ (Leaves call) a b (λ old new leaves. leaves.0) h
+left_answered call (Err e) (Ok y) is h = cc
+left_answered call (Err e) (Err f) is h = h
 
 -- a file that was written and kept
-pub left_written : {A E : Type 0} (name bytes : List ℕ) (outcome : Result A E) (a b : Files → Type 0) (old new : Files) → Succeeded (Writing name bytes) old new → OnOk outcome (KeepsHeld name new b) → Left (Leaves (Writing name bytes)) a b → Left (λ before now. LeavesOf (Writing name bytes) before outcome now) a b
-left_written name bytes (Err e) a b old new done kept h = h
-left_written name bytes (Ok x) a b old new done kept h = λ left may.
+pub left_written : {A E : Type 0} {name bytes : List ℕ} (outcome : Result A E) {a b : Files → Type 0} {old new : Files} → Succeeded (Writing name bytes) old new → OnOk outcome (KeepsHeld name new b) → Left (Leaves (Writing name bytes)) a b → Left (λ before now. LeavesOf (Writing name bytes) before outcome now) a b
+left_written (Err e) done kept h = h
+left_written {name} {bytes} (Ok x) {old} {new} done kept h = λ left may.
     let r = h left may in (
       r.0,
       r.1,
       (
         r.2,
         λ ours held has.
-            elim (writing_ok name bytes ours old new done) as (λ _. held ≡ bytes) [
+            elim (writing_ok name bytes ours old new done) [
               | inl is ↦ let e = sym has ∙ (kept left may ours ∙ is) in cc
               | inr gone ↦ let e = sym has ∙ (kept left may ours ∙ gone) in cc
             ],

@@ -7,15 +7,15 @@ use Rattle.maildir_run.specs.Files.{Files, homes}
 use Rattle.maildir_disk.specs.PowerCuts.{IsIntact, HasBody, IsSingle}
 use Rattle.maildir_disk.proofs.LeftHomes.{none_in, first_in, first_or}
 
-only_one : (x : List ℕ) (ys : List (List ℕ)) → length ys ≤ 1 → ((y : List ℕ) → Contains ys y → y ≡ x) → (ys ≡ []) ⊎ (ys ≡ x ∷ [])
-only_one x [] few all = inl refl
-only_one x (y ∷ []) few all = inr (ap (λ z. z ∷ []) (all y (first_in y [])))
-only_one x (y ∷ z ∷ ys) few all = absurd (omega (arith, few))
+only_one : {x : List ℕ} (ys : List (List ℕ)) → length ys ≤ 1 → ((y : List ℕ) → Contains ys y → y ≡ x) → (ys ≡ []) ⊎ (ys ≡ x ∷ [])
+only_one [] few all = inl refl
+only_one (y ∷ []) few all = inr (ap (λ z. z ∷ []) (all y (first_in [])))
+only_one (y ∷ z ∷ ys) few all = absurd (omega (arith, few))
 
-the_one : (x : List ℕ) (ys : List (List ℕ)) → length ys ≤ 1 → Contains ys x → ys ≡ x ∷ []
-the_one x [] few has = absurd (none_in x has)
-the_one x (y ∷ []) few has = elim (first_or y [] x has) as (λ _. y ∷ [] ≡ x ∷ []) [ inl is ↦ ap (λ z. z ∷ []) (sym is) | inr none ↦ absurd (none_in x none) ]
-the_one x (y ∷ z ∷ ys) few has = absurd (omega (arith, few))
+the_one : {x : List ℕ} (ys : List (List ℕ)) → length ys ≤ 1 → Contains ys x → ys ≡ x ∷ []
+the_one [] few has = absurd (none_in has)
+the_one (y ∷ []) few has = elim (first_or [] has) [ inl is ↦ ap (λ z. z ∷ []) (sym is) | inr none ↦ absurd (none_in none) ]
+the_one (y ∷ z ∷ ys) few has = absurd (omega (arith, few))
 
 at_most_one : (m : Message) (s : Files) → IsSoundAt s m → length (homes s m.target.base) ≤ 1
 at_most_one m s (inl none) = let e = ap length none in omega (arith, e)
@@ -25,10 +25,10 @@ pub single_sound : (m : Message) → IsTrue (is_converter_base m.target.base) �
 single_sound m named s left sound intact single =
     let few = at_most_one m s sound in
     let no_more = single m.target.base named in
-    only_one m.body (homes left m.target.base) (omega (arith, few, no_more)) intact
+    only_one (homes left m.target.base) (omega (arith, few, no_more)) intact
 
 pub single_home : (m : Message) → IsTrue (is_converter_base m.target.base) → (s left : Files) → IsHome s m → HasBody left m → IsSingle s left → IsHome left m
 single_home m named s left home has single =
     let few = at_most_one m s (inr home) in
     let no_more = single m.target.base named in
-    the_one m.body (homes left m.target.base) (omega (arith, few, no_more)) has
+    the_one (homes left m.target.base) (omega (arith, few, no_more)) has

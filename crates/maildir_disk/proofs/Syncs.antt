@@ -6,8 +6,7 @@ use Rattle.std.specs.Option.{is_some}
 use Rattle.std.proofs.lemmas.List.Elements.{Contains-append_left, Contains-append_right}
 use Rattle.maildir_name.specs.Names.{base, is_converter_name, is_converter_base}
 use Rattle.maildir_run.specs.declared.folder.Sub.{Sub}
-use Rattle.maildir_run.specs.declared.folder.Sub.TheVariants.{Tmp, New, Cur}
-use Rattle.maildir_run.specs.Calls.{Listing}
+use Rattle.maildir_run.specs.declared.folder.Sub.TheVariants.{New, Cur}
 use Rattle.maildir_disk.specs.World.{World, Acts}
 use Rattle.maildir_disk.proofs.Passing.{all_acted-append}
 use Rattle.maildir_disk.proofs.Lefts.{leaves_then}
@@ -21,9 +20,9 @@ use Rattle.maildir_disk.specs.PowerCuts.{IsIntact, HasBody, KeepsNames, LeavesOt
 use Rattle.maildir_disk.proofs.LeftHomes.{first_in, intact_on, others_hold}
 
 -- what is there, where one thing alone may be
-only : (x : List ℕ) (found : List (List ℕ)) → ((y : List ℕ) → Contains found y → y ≡ x) → (found ≡ [] → ⊥) → Contains found x
-only x [] is some = absurd (some refl)
-only x (y ∷ found) is some = subst (Contains (y ∷ found)) (is y (first_in y found)) (first_in y found)
+only : {x : List ℕ} (found : List (List ℕ)) → ((y : List ℕ) → Contains found y → y ≡ x) → (found ≡ [] → ⊥) → Contains found x
+only [] is some = absurd (some refl)
+only (y ∷ found) is some = subst (Contains (y ∷ found)) (is y (first_in found)) (first_in found)
 
 nothing : (o : Option (List ℕ)) → is_some o ≡ false → o ≡ None
 nothing None e = refl
@@ -42,26 +41,26 @@ module _ (m : Message) (named : IsTrue (is_converter_base m.target.base)) where
 
   found_new : (moment there : Files) → Alike there.new moment.new → IsIntact there m → (held_under m.target.base moment.new ≡ [] → ⊥) → HasBody there m
   found_new moment there alike intact some =
-      Contains-append_left _ _ m.body (only m.body (held_under m.target.base there.new) (λ y h. intact y (Contains-append_left _ _ y h)) (λ none. some (none_alike there.new moment.new alike none)))
+      Contains-append_left _ _ m.body (only (held_under m.target.base there.new) (λ y h. intact y (Contains-append_left _ _ y h)) (λ none. some (none_alike there.new moment.new alike none)))
 
   found_cur : (moment there : Files) → Alike there.cur moment.cur → IsIntact there m → (held_under m.target.base moment.cur ≡ [] → ⊥) → HasBody there m
   found_cur moment there alike intact some =
-      Contains-append_right _ _ m.body (only m.body (held_under m.target.base there.cur) (λ y h. intact y (Contains-append_right _ _ y h)) (λ none. some (none_alike there.cur moment.cur alike none)))
+      Contains-append_right _ _ m.body (only (held_under m.target.base there.cur) (λ y h. intact y (Contains-append_right _ _ y h)) (λ none. some (none_alike there.cur moment.cur alike none)))
 
   pub still_home : (actions : List Action) (s : Files) → IsHome s m → IsHome (all_acted actions s) m
   still_home [] s home = home
   still_home (action ∷ actions) s home = still_home actions (acted action s) (homes_one m.target.base m.body s (acted action s) (acted_kept m.target.base named action s) home)
 
-  pub kept_names : (s t u before mid left : Files) → IsHome s m → IsIntact before m → KeepsNames New s before t mid → KeepsNames Cur t mid u left → HasBody left m
-  kept_names s t u before mid left home intact first then =
-      let whole = intact_on m before first.there (others_hold m named before first.there first.earlier) intact in
-      let whole_mid = intact_on m first.there mid (others_hold m named first.there mid first.later) whole in
-      let whole_then = intact_on m mid then.there (others_hold m named mid then.there then.earlier) whole_mid in
+  pub kept_names : {s t u before mid left : Files} → IsHome s m → IsIntact before m → KeepsNames New s before t mid → KeepsNames Cur t mid u left → HasBody left m
+  kept_names {s} {before} {mid} {left} home intact first then =
+      let whole = intact_on m before first.there (others_hold m named first.earlier) intact in
+      let whole_mid = intact_on m first.there mid (others_hold m named first.later) whole in
+      let whole_then = intact_on m mid then.there (others_hold m named then.earlier) whole_mid in
       elim (held_under m.target.base first.moment.new) as (λ found. held_under m.target.base first.moment.new ≡ found → HasBody left m) [
         | y ∷ found ↦ λ e.
             let has = found_new first.moment first.there first.names_are whole (λ none. let off = sym none ∙ e in cc) in
-            (others_hold m named then.there left then.later).still
-            ((others_hold m named mid then.there then.earlier).still ((others_hold m named first.there mid first.later).still has))
+            (others_hold m named then.later).still
+            ((others_hold m named then.earlier).still ((others_hold m named first.later).still has))
         | [] ↦ λ none.
             let none_then : held_under m.target.base then.moment.new ≡ [] =
             subst (λ x. held_under m.target.base x.new ≡ []) (sym (then.moment_is ∙ ap (all_acted then.actions) first.new_is))
@@ -71,16 +70,16 @@ module _ (m : Message) (named : IsTrue (is_converter_base m.target.base)) where
             (still_home then.actions _ (still_home first.rest _ (still_home first.actions s home))) in
             let has = found_cur then.moment then.there then.names_are whole_then (λ off.
             let one = sym home_then ∙ (ap (λ xs. xs ++ held_under m.target.base then.moment.cur) none_then ∙ off) in cc) in
-            (others_hold m named then.there left then.later).still has
+            (others_hold m named then.later).still has
       ] refl
 
-pub synced_bodies : (ms : List Message) → AreNamed ms → (old before new left : Files) → All (IsHome old) ms → All (IsIntact before) ms → Syncs old before new left → All (HasBody left) ms
-synced_bodies ms named old before new left home intact syncs k d below =
-    kept_names (get_or ms k d) (named k d below) old syncs.mid.files new before syncs.mid.left left (home k d below) (intact k d below) syncs.first syncs.then
+pub synced_bodies : (ms : List Message) → AreNamed ms → {old before new left : Files} → All (IsHome old) ms → All (IsIntact before) ms → Syncs old before new left → All (HasBody left) ms
+synced_bodies ms named home intact syncs k d below =
+    kept_names (get_or ms k d) (named k d below) (home k d below) (intact k d below) syncs.first syncs.then
 
 -- names that were kept, and then what others did
-pub kept_later : (sub : Sub) (s before : Files) (t u : World) (mid left : Files) → KeepsNames sub s before t.files mid → Acts t u → LeavesOthers mid left → KeepsNames sub s before u.files left
-kept_later sub s before t u mid left keeps acts leaves = record {
+pub kept_later : {sub : Sub} {s before : Files} {t u : World} {mid left : Files} → KeepsNames sub s before t.files mid → Acts t u → LeavesOthers mid left → KeepsNames sub s before u.files left
+kept_later keeps acts leaves = record {
   moment = keeps.moment;
   actions = keeps.actions;
   moment_is = keeps.moment_is;
@@ -88,6 +87,6 @@ kept_later sub s before t u mid left keeps acts leaves = record {
   new_is = acts.files_are ∙ (ap (all_acted acts.actions) keeps.new_is ∙ sym (all_acted-append keeps.rest acts.actions keeps.moment));
   there = keeps.there;
   earlier = keeps.earlier;
-  later = leaves_then (Listing Tmp) keeps.there mid left keeps.later leaves;
+  later = leaves_then keeps.later leaves;
   names_are = keeps.names_are;
 }

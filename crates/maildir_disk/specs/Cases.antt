@@ -36,9 +36,11 @@ may_find folder cases left = (left ≡ files_of folder) ⊎ Contains (lefts_of c
 abbrev pub HasRoom : Cases → Type 0
 HasRoom cases = length (lefts_of cases) < cases.room
 
--- some of these files are added, and none is taken away
-abbrev pub Adds : (Files → Type 0) → List Files → List Files → Type 0
-Adds P old new = (more : List Files) × (new ≡ old ++ more) × All P more
+-- Some of these files are added, and none is taken away.
+pub record Adds (P : Files → Type 0) (old new : List Files) : Type 0 where
+  pub more : List Files
+  pub are : new ≡ old ++ more
+  pub each : All P more
 
 -- what a change adds: the files as they are, or a case with the change
 abbrev pub IsAdded : Change → Files → Cases → Files → Type 0

@@ -1,8 +1,9 @@
-use Rattle.maildir_disk.proofs.LeftTasks.{run_intact, run_bodies}
+use Rattle.maildir_disk.proofs.LeftHomes.{all_bodies, all_intact}
+use Rattle.maildir_disk.proofs.LeftTasks.{own_hold, texts_hold}
 use Rattle.maildir_disk.proofs.cuts.left_of_a_run.Goals as goal
 
 pub returns-clause-intact : goal.returns-clause-intact
-returns-clause-intact c = λ t ms names before now answer are small ran intact. run_intact t ms are small names before answer now ran intact
+returns-clause-intact c = λ t ms names before now answer are small ran. all_intact ms before now (own_hold t ms are small names before answer now ran)
 
 pub returns-clause-bodies : goal.returns-clause-bodies
-returns-clause-bodies c = λ t ms others names before now answer are small ran named alike bodies. run_bodies t ms are small names before answer now ran others named alike bodies
+returns-clause-bodies c = λ t ms others names before now answer are small ran named alike. all_bodies others before now (texts_hold t ms are small names before answer now ran others named alike)

@@ -7,7 +7,10 @@ use Rattle.maildir_disk.proofs.one_moment.names_of_one_moment.Given as goal
 -- the system stays honest, and nothing but other programs acted; where it is quiet, it stays so, and none did
 abbrev pub invariant-loop : goal.invariant-loop
 invariant-loop g l = record {
-  acted : g.S.System.honest l.initial.system → g.S.System.honest l.system × Acts (g.S.System.world l.initial.system) (g.S.System.world l.system)
-      × Left LeavesOthers (g.S.System.may_leave l.initial.system) (g.S.System.may_leave l.system);
-  alone : g.S.System.quiet l.initial.system → g.S.System.quiet l.system × SameFiles (g.S.System.world l.initial.system) (g.S.System.world l.system);
+  acted : g.S.System.honest l.fn.system → record {
+    honest : g.S.System.honest l.system;
+    acts : Acts (g.S.System.world l.fn.system) (g.S.System.world l.system);
+    left : Left LeavesOthers (g.S.System.may_leave l.fn.system) (g.S.System.may_leave l.system);
+  };
+  alone : g.S.System.quiet l.fn.system → g.S.System.quiet l.system × SameFiles (g.S.System.world l.fn.system) (g.S.System.world l.system);
 }

@@ -8,19 +8,19 @@ use Rattle.maildir_disk.proofs.one_moment.take_names.Goals as goal
 pub returns-in_err-now-clause-looked : goal.returns-in_err-now-clause-looked
 returns-in_err-now-clause-looked g c = λ honest.
     let told = c.stamp.ensures.honest honest in
-    looked_fault c.args.sub _ _ _ c.from_residual-in_err-now.ensures.0 (acts_on _ _ _ (c.stamp.ensures.passes honest).acts (c.now.ensures.acts told))
+    looked_fault c.args.sub _ c.from_residual-in_err-now.ensures.0 (acts_on (c.stamp.ensures.passes honest).acts (c.now.ensures.acts told))
 
 pub returns-in-Young-clause-looked : goal.returns-in-Young-clause-looked
 returns-in-Young-clause-looked g c = λ honest.
     let told = c.stamp.ensures.honest honest in
-    acts_on _ _ _ (c.stamp.ensures.passes honest).acts (c.now.ensures.acts told)
+    acts_on (c.stamp.ensures.passes honest).acts (c.now.ensures.acts told)
 
 pub returns-in_err-names-clause-looked : goal.returns-in_err-names-clause-looked
 returns-in_err-names-clause-looked g c = λ honest.
     let told = c.stamp.ensures.honest honest in
     let timed = c.now.ensures.honest told in
-    looked_fault c.args.sub _ _ _ c.from_residual-in_err-names.ensures.0
-    (acts_on _ _ _ (acts_on _ _ _ (c.stamp.ensures.passes honest).acts (c.now.ensures.acts told)) (c.in_err-names.ensures.watched timed))
+    looked_fault c.args.sub _ c.from_residual-in_err-names.ensures.0
+    (acts_on (acts_on (c.stamp.ensures.passes honest).acts (c.now.ensures.acts told)) (c.in_err-names.ensures.watched timed))
 
 pub returns-in_default-2 : goal.returns-in_default-2
 returns-in_default-2 g c = record {
@@ -29,10 +29,10 @@ returns-in_default-2 g c = record {
       let told = c.stamp.ensures.honest honest in
       let timed = c.now.ensures.honest told in
       let watched = rw c.in_default-2.is at (c.in_ok-names.ensures.watched timed) in
-      acts_on _ _ _ (acts_on _ _ _ (c.stamp.ensures.passes honest).acts (c.now.ensures.acts told)) watched;
+      acts_on (acts_on (c.stamp.ensures.passes honest).acts (c.now.ensures.acts told)) watched;
   left = λ honest.
       let told = c.stamp.ensures.honest honest in
-      others_then _ _ _ (others_then _ _ _ (c.stamp.ensures.left honest) (c.now.ensures.left told)) (c.watched_names.ensures.left (c.now.ensures.honest told));
+      others_then (others_then (c.stamp.ensures.left honest) (c.now.ensures.left told)) (c.watched_names.ensures.left (c.now.ensures.honest told));
   quiet = λ quiet. c.watched_names.ensures.quiet (c.now.ensures.quiet (c.stamp.ensures.quiet quiet));
   alone = λ quiet.
       let told = c.stamp.ensures.quiet quiet in
@@ -44,13 +44,11 @@ pub returns-in-Settled-clause-looked : goal.returns-in-Settled-clause-looked
 returns-in-Settled-clause-looked g c = λ honest.
     let told = c.stamp.ensures.honest honest in
     let timed = c.now.ensures.honest told in
-    let before = g.S.System.world c.now.new.self in
-    let end = g.S.System.world c.watched_names.new.system in
     let watched = rw c.in-Some.is at (c.in_ok-names.ensures.watched timed) in
     let settled : IsSettled (system_time_nanos c.in_ok-stamp.stamp) (system_time_nanos c.in_ok-now.now) = rw c.in-Settled.is at c.of-age.ensures in
-    lists_at c.args.sub _ before end _
-    (acts_on _ _ _ (c.stamp.ensures.passes honest).acts (c.now.ensures.acts told)) watched.acts
-    (exact_if_settled c.args.sub before end _ _ _ settled (c.in_ok-now.ensures.now told).no_later watched)
+    lists_at
+    (acts_on (c.stamp.ensures.passes honest).acts (c.now.ensures.acts told)) watched.acts
+    (exact_if_settled settled (c.in_ok-now.ensures.now told).no_later watched)
 
 pub returns-in_err-later-clause-looked : goal.returns-in_err-later-clause-looked
 returns-in_err-later-clause-looked g c = λ honest.
@@ -58,22 +56,20 @@ returns-in_err-later-clause-looked g c = λ honest.
     let timed = c.now.ensures.honest told in
     let read = c.watched_names.ensures.honest timed in
     let watched = rw c.in-Some.is at (c.in_ok-names.ensures.watched timed) in
-    looked_fault c.args.sub _ _ _ c.from_residual-in_err-later.ensures.0
-    (acts_on _ _ _ (acts_on _ _ _ (c.stamp.ensures.passes honest).acts (c.now.ensures.acts told)) (acts_on _ _ _ watched.acts (c.now-2.ensures.acts read)))
+    looked_fault c.args.sub _ c.from_residual-in_err-later.ensures.0
+    (acts_on (acts_on (c.stamp.ensures.passes honest).acts (c.now.ensures.acts told)) (acts_on watched.acts (c.now-2.ensures.acts read)))
 
 pub returns-in-Ahead-clause-looked : goal.returns-in-Ahead-clause-looked
 returns-in-Ahead-clause-looked g c = λ honest.
     let told = c.stamp.ensures.honest honest in
     let timed = c.now.ensures.honest told in
     let read = c.watched_names.ensures.honest timed in
-    let before = g.S.System.world c.now.new.self in
-    let end = g.S.System.world c.watched_names.new.system in
     let watched = rw c.in-Some.is at (c.in_ok-names.ensures.watched timed) in
     let ahead : IsFarAhead (system_time_nanos c.in_ok-stamp.stamp) (system_time_nanos c.in_ok-later.later) = rw c.in-Ahead.is at c.of.ensures in
-    lists_at c.args.sub _ before _ _
-    (acts_on _ _ _ (c.stamp.ensures.passes honest).acts (c.now.ensures.acts told))
-    (acts_on _ _ _ watched.acts (c.now-2.ensures.acts read))
-    (exact_if_ahead c.args.sub before end _ _ _ ahead (c.in_ok-later.ensures.now read).no_earlier watched)
+    lists_at
+    (acts_on (c.stamp.ensures.passes honest).acts (c.now.ensures.acts told))
+    (acts_on watched.acts (c.now-2.ensures.acts read))
+    (exact_if_ahead ahead (c.in_ok-later.ensures.now read).no_earlier watched)
 
 pub returns-in_default-of : goal.returns-in_default-of
 returns-in_default-of g c = record {
@@ -83,12 +79,12 @@ returns-in_default-of g c = record {
       let timed = c.now.ensures.honest told in
       let read = c.watched_names.ensures.honest timed in
       let watched = rw c.in-Some.is at (c.in_ok-names.ensures.watched timed) in
-      acts_on _ _ _ (acts_on _ _ _ (c.stamp.ensures.passes honest).acts (c.now.ensures.acts told)) (acts_on _ _ _ watched.acts (c.now-2.ensures.acts read));
+      acts_on (acts_on (c.stamp.ensures.passes honest).acts (c.now.ensures.acts told)) (acts_on watched.acts (c.now-2.ensures.acts read));
   left = λ honest.
       let told = c.stamp.ensures.honest honest in
       let timed = c.now.ensures.honest told in
-      let so_far = others_then _ _ _ (others_then _ _ _ (c.stamp.ensures.left honest) (c.now.ensures.left told)) (c.watched_names.ensures.left timed) in
-      others_then _ _ _ so_far (c.now-2.ensures.left (c.watched_names.ensures.honest timed));
+      let so_far = others_then (others_then (c.stamp.ensures.left honest) (c.now.ensures.left told)) (c.watched_names.ensures.left timed) in
+      others_then so_far (c.now-2.ensures.left (c.watched_names.ensures.honest timed));
   quiet = λ quiet. c.now-2.ensures.quiet (c.watched_names.ensures.quiet (c.now.ensures.quiet (c.stamp.ensures.quiet quiet)));
   alone = λ quiet.
       let told = c.stamp.ensures.quiet quiet in
@@ -99,31 +95,31 @@ returns-in_default-of g c = record {
 }
 
 pub returns-in_err-now-clause-left : goal.returns-in_err-now-clause-left
-returns-in_err-now-clause-left g c = λ honest. others_then _ _ _ (c.stamp.ensures.left honest) (c.now.ensures.left (c.stamp.ensures.honest honest))
+returns-in_err-now-clause-left g c = λ honest. others_then (c.stamp.ensures.left honest) (c.now.ensures.left (c.stamp.ensures.honest honest))
 
 pub returns-in-Young-clause-left : goal.returns-in-Young-clause-left
-returns-in-Young-clause-left g c = λ honest. others_then _ _ _ (c.stamp.ensures.left honest) (c.now.ensures.left (c.stamp.ensures.honest honest))
+returns-in-Young-clause-left g c = λ honest. others_then (c.stamp.ensures.left honest) (c.now.ensures.left (c.stamp.ensures.honest honest))
 
 pub returns-in_err-names-clause-left : goal.returns-in_err-names-clause-left
 returns-in_err-names-clause-left g c = λ honest.
     let told = c.stamp.ensures.honest honest in
-    others_then _ _ _ (others_then _ _ _ (c.stamp.ensures.left honest) (c.now.ensures.left told)) (c.watched_names.ensures.left (c.now.ensures.honest told))
+    others_then (others_then (c.stamp.ensures.left honest) (c.now.ensures.left told)) (c.watched_names.ensures.left (c.now.ensures.honest told))
 
 pub returns-in-Settled-clause-left : goal.returns-in-Settled-clause-left
 returns-in-Settled-clause-left g c = λ honest.
     let told = c.stamp.ensures.honest honest in
-    others_then _ _ _ (others_then _ _ _ (c.stamp.ensures.left honest) (c.now.ensures.left told)) (c.watched_names.ensures.left (c.now.ensures.honest told))
+    others_then (others_then (c.stamp.ensures.left honest) (c.now.ensures.left told)) (c.watched_names.ensures.left (c.now.ensures.honest told))
 
 pub returns-in_err-later-clause-left : goal.returns-in_err-later-clause-left
 returns-in_err-later-clause-left g c = λ honest.
     let told = c.stamp.ensures.honest honest in
     let timed = c.now.ensures.honest told in
-    let so_far = others_then _ _ _ (others_then _ _ _ (c.stamp.ensures.left honest) (c.now.ensures.left told)) (c.watched_names.ensures.left timed) in
-    others_then _ _ _ so_far (c.now-2.ensures.left (c.watched_names.ensures.honest timed))
+    let so_far = others_then (others_then (c.stamp.ensures.left honest) (c.now.ensures.left told)) (c.watched_names.ensures.left timed) in
+    others_then so_far (c.now-2.ensures.left (c.watched_names.ensures.honest timed))
 
 pub returns-in-Ahead-clause-left : goal.returns-in-Ahead-clause-left
 returns-in-Ahead-clause-left g c = λ honest.
     let told = c.stamp.ensures.honest honest in
     let timed = c.now.ensures.honest told in
-    let so_far = others_then _ _ _ (others_then _ _ _ (c.stamp.ensures.left honest) (c.now.ensures.left told)) (c.watched_names.ensures.left timed) in
-    others_then _ _ _ so_far (c.now-2.ensures.left (c.watched_names.ensures.honest timed))
+    let so_far = others_then (others_then (c.stamp.ensures.left honest) (c.now.ensures.left told)) (c.watched_names.ensures.left timed) in
+    others_then so_far (c.now-2.ensures.left (c.watched_names.ensures.honest timed))

@@ -1,7 +1,6 @@
 use Rattle.std.proofs.Common.{◌≡◌, subst, arith}
 use Rattle.std.proofs.lemmas.Grind.{common_steps}
 use Rattle.std.specs.Time.{system_time_nanos}
-use Rattle.maildir_run.specs.Calls.{names_of}
 use Rattle.maildir_disk.specs.World.{Tells}
 use Rattle.maildir_disk.proofs.Passing.{acts_on, watched_fault, watched}
 use Rattle.maildir_disk.proofs.Lefts.{others_then}
@@ -10,29 +9,28 @@ use Rattle.maildir_disk.proofs.one_moment.watched_names.Goals as goal
 pub returns-in_err-after-clause-watched : goal.returns-in_err-after-clause-watched
 returns-in_err-after-clause-watched g c = λ honest.
     let read = c.names.ensures.honest honest in
-    watched_fault c.args.sub _ _ _ _ c.from_residual-in_err-after.ensures.0 (acts_on _ _ _ (c.names.ensures.passes honest).acts (c.stamp.ensures.passes read).acts)
+    watched_fault c.args.sub _ _ c.from_residual-in_err-after.ensures.0 (acts_on (c.names.ensures.passes honest).acts (c.stamp.ensures.passes read).acts)
 
 pub returns-then-eq-clause-watched : goal.returns-then-eq-clause-watched
 returns-then-eq-clause-watched g c = λ honest.
     let read = c.names.ensures.honest honest in
-    let before = g.S.System.world c.args.system.now in
     let after = g.S.System.world c.names.new.self in
     let end = g.S.System.world c.stamp.new.self in
     let stamp = system_time_nanos c.args.stamp in
     let same : system_time_nanos c.in_ok-after.after ≡ stamp = grind (arith, common_steps, c.if-eq.ensures) in
     let tells : Tells c.args.sub after stamp end = subst (λ s. Tells c.args.sub after s end) same (c.in_ok-after.ensures.stamp read) in
-    watched c.args.sub before after end (names_of c.in_ok-names.names) stamp (c.names.ensures.passes honest) (c.stamp.ensures.passes read) (c.in_ok-names.ensures.names honest) tells
+    watched (c.names.ensures.passes honest) (c.stamp.ensures.passes read) (c.in_ok-names.ensures.names honest) tells
 
 pub returns-else-eq-clause-watched : goal.returns-else-eq-clause-watched
 returns-else-eq-clause-watched g c = λ honest.
     let read = c.names.ensures.honest honest in
-    acts_on _ _ _ (c.names.ensures.passes honest).acts (c.stamp.ensures.passes read).acts
+    acts_on (c.names.ensures.passes honest).acts (c.stamp.ensures.passes read).acts
 
 pub returns-in_err-after-clause-left : goal.returns-in_err-after-clause-left
-returns-in_err-after-clause-left g c = λ honest. others_then _ _ _ (c.names.ensures.left honest) (c.stamp.ensures.left (c.names.ensures.honest honest))
+returns-in_err-after-clause-left g c = λ honest. others_then (c.names.ensures.left honest) (c.stamp.ensures.left (c.names.ensures.honest honest))
 
 pub returns-then-eq-clause-left : goal.returns-then-eq-clause-left
-returns-then-eq-clause-left g c = λ honest. others_then _ _ _ (c.names.ensures.left honest) (c.stamp.ensures.left (c.names.ensures.honest honest))
+returns-then-eq-clause-left g c = λ honest. others_then (c.names.ensures.left honest) (c.stamp.ensures.left (c.names.ensures.honest honest))
 
 pub returns-else-eq-clause-left : goal.returns-else-eq-clause-left
-returns-else-eq-clause-left g c = λ honest. others_then _ _ _ (c.names.ensures.left honest) (c.stamp.ensures.left (c.names.ensures.honest honest))
+returns-else-eq-clause-left g c = λ honest. others_then (c.names.ensures.left honest) (c.stamp.ensures.left (c.names.ensures.honest honest))

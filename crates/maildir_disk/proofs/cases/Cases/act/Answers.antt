@@ -1,10 +1,7 @@
 use Rattle.std.proofs.Common.{[], refl, ap, ◌∙◌}
-use Rattle.maildir_run.specs.declared.folder.Sub.TheVariants.{Tmp}
-use Rattle.maildir_run.specs.Calls.{Listing}
 use Rattle.maildir_run.specs.MemFolder.{files_of}
 use Rattle.maildir_run.specs.Script.{performed}
 use Rattle.maildir_run.proofs.Scripts.{one_more}
-use Rattle.maildir_disk.specs.Cases.{may_find}
 use Rattle.maildir_disk.proofs.Changes.{acted_on, keeps_none, keeps_on}
 use Rattle.maildir_disk.proofs.Lefts.{left_none, others_then}
 use Rattle.maildir_disk.proofs.cases.Cases.act.Goals as goal
@@ -14,23 +11,23 @@ loop-act-init c = record {
   script = record { lines = refl; fail_from = refl };
   acts = ([], refl);
   done = refl;
-  left = left_none (Listing Tmp) (may_find c.args.folder.now c.args.self.now);
-  keeps = keeps_none c.args.folder.now c.args.self.now;
+  left = left_none;
+  keeps = keeps_none c.args.folder.now;
 }
 
 pub returns-in_err-act_once-clause-acts : goal.returns-in_err-act_once-clause-acts
-returns-in_err-act_once-clause-acts c = acted_on (files_of c.args.folder.now) (files_of c.loop-act.folder) (files_of c.act_once.new.folder) c.loop-act.invariant.acts c.act_once.ensures.acts
+returns-in_err-act_once-clause-acts c = acted_on (files_of c.args.folder.now) c.loop-act.invariant.acts c.act_once.ensures.acts
 
 pub returns-in_err-act_once-clause-left : goal.returns-in_err-act_once-clause-left
 returns-in_err-act_once-clause-left c =
-    others_then (may_find c.args.folder.now c.args.self.now) (may_find c.loop-act.folder c.loop-act.self) (may_find c.act_once.new.folder c.act_once.new.self) c.loop-act.invariant.left c.act_once.ensures.left
+    others_then c.loop-act.invariant.left c.act_once.ensures.left
 
 pub loop-act-preserved : goal.loop-act-preserved
 loop-act-preserved c = record {
   script = record { lines = c.act_once.ensures.script.lines ∙ c.loop-act.invariant.script.lines; fail_from = c.act_once.ensures.script.fail_from ∙ c.loop-act.invariant.script.fail_from };
-  acts = acted_on (files_of c.args.folder.now) (files_of c.loop-act.folder) (files_of c.act_once.new.folder) c.loop-act.invariant.acts c.act_once.ensures.acts;
+  acts = acted_on (files_of c.args.folder.now) c.loop-act.invariant.acts c.act_once.ensures.acts;
   done = one_more c.args.acts.now c.loop-act.act-index c.act-item.result (files_of c.args.folder.now) (files_of c.loop-act.folder) (files_of c.act_once.new.folder) c.loop-act-test.true c.loop-act.invariant.done
       (c.in_ok-act_once.ensures.done ∙ ap (λ act. performed act (files_of c.loop-act.folder)) c.act-item.is);
-  left = others_then (may_find c.args.folder.now c.args.self.now) (may_find c.loop-act.folder c.loop-act.self) (may_find c.act_once.new.folder c.act_once.new.self) c.loop-act.invariant.left c.act_once.ensures.left;
-  keeps = keeps_on (may_find c.args.folder.now c.args.self.now) (may_find c.loop-act.folder c.loop-act.self) (may_find c.act_once.new.folder c.act_once.new.self) c.args.self.now c.loop-act.self c.act_once.new.self c.loop-act.invariant.keeps c.in_ok-act_once.ensures.keeps;
+  left = others_then c.loop-act.invariant.left c.act_once.ensures.left;
+  keeps = keeps_on c.loop-act.invariant.keeps c.in_ok-act_once.ensures.keeps;
 }

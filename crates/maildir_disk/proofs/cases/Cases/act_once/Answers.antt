@@ -1,36 +1,33 @@
-use Rattle.maildir_run.specs.declared.folder.Sub.TheVariants.{Tmp}
-use Rattle.maildir_run.specs.Calls.{Listing}
 use Rattle.maildir_run.specs.MemFolder.{files_of}
 use Rattle.maildir_disk.specs.declared.cases.Change.TheVariants.{Half, Other}
-use Rattle.maildir_disk.specs.Cases.{may_find}
 use Rattle.maildir_disk.proofs.Changes.{acted, acted_leaves, keeps_lost, keeps_on, left_by_change}
 use Rattle.maildir_disk.proofs.Lefts.{leaves_none, on_ok, others_then}
 use Rattle.maildir_disk.proofs.cases.Cases.act_once.Goals as goal
 
 pub returns-in_err-may_lose-clause-left : goal.returns-in_err-may_lose-clause-left
 returns-in_err-may_lose-clause-left c =
-    left_by_change (Half c.args.act) c.args.folder.now c.args.folder.now c.args.self.now c.may_lose.new.self c.may_lose.ensures.more (leaves_none (Listing Tmp) _)
+    left_by_change (Half c.args.act) c.args.folder.now c.args.folder.now c.args.self.now c.may_lose.new.self c.may_lose.ensures.more leaves_none
 
 pub returns-in_err-may_lose-2-clause-left : goal.returns-in_err-may_lose-2-clause-left
 returns-in_err-may_lose-2-clause-left c =
     let folder = c.args.folder.now in
-    others_then (may_find folder c.args.self.now) (may_find folder c.may_lose.new.self) (may_find folder c.may_lose-2.new.self)
-    (left_by_change (Half c.args.act) folder folder c.args.self.now c.may_lose.new.self c.may_lose.ensures.more (leaves_none (Listing Tmp) _))
-    (left_by_change (Other c.args.act) folder folder c.may_lose.new.self c.may_lose-2.new.self c.may_lose-2.ensures.more (leaves_none (Listing Tmp) _))
+    others_then
+    (left_by_change (Half c.args.act) folder folder c.args.self.now c.may_lose.new.self c.may_lose.ensures.more leaves_none)
+    (left_by_change (Other c.args.act) folder folder c.may_lose.new.self c.may_lose-2.new.self c.may_lose-2.ensures.more leaves_none)
 
 pub returns-clause-acts : goal.returns-clause-acts
-returns-clause-acts c = acted c.args.act.now (files_of c.args.folder.now) c.act.result (files_of c.act.new.self) c.act.ensures.ok c.act.ensures.err
+returns-clause-acts c = acted c.args.act.now (files_of c.args.folder.now) c.act.result c.act.ensures.ok c.act.ensures.err
 
 pub returns-clause-left : goal.returns-clause-left
 returns-clause-left c =
     let folder = c.args.folder.now in
-    others_then (may_find folder c.args.self.now) (may_find folder c.may_lose.new.self) (may_find c.act.new.self c.may_lose-2.new.self)
-    (left_by_change (Half c.args.act) folder folder c.args.self.now c.may_lose.new.self c.may_lose.ensures.more (leaves_none (Listing Tmp) _))
-    (left_by_change (Other c.args.act) folder c.act.new.self c.may_lose.new.self c.may_lose-2.new.self c.may_lose-2.ensures.more (acted_leaves c.args.act.now (files_of folder) c.act.result (files_of c.act.new.self) c.act.ensures.ok c.act.ensures.err))
+    others_then
+    (left_by_change (Half c.args.act) folder folder c.args.self.now c.may_lose.new.self c.may_lose.ensures.more leaves_none)
+    (left_by_change (Other c.args.act) folder c.act.new.self c.may_lose.new.self c.may_lose-2.new.self c.may_lose-2.ensures.more (acted_leaves c.args.act.now c.act.result c.act.ensures.ok c.act.ensures.err))
 
 pub returns-clause-keeps : goal.returns-clause-keeps
 returns-clause-keeps c =
     let folder = c.args.folder.now in
-    on_ok _ c.act.result (keeps_on (may_find folder c.args.self.now) (may_find folder c.may_lose.new.self) (may_find c.act.new.self c.may_lose-2.new.self) c.args.self.now c.may_lose.new.self c.may_lose-2.new.self
+    on_ok _ c.act.result (keeps_on
     (keeps_lost (Half c.args.act) folder folder c.args.self.now c.may_lose.new.self c.may_lose.ensures.more c.may_lose.ensures.room c.in_ok-may_lose.ensures.loses)
     (keeps_lost (Other c.args.act) folder c.act.new.self c.may_lose.new.self c.may_lose-2.new.self c.may_lose-2.ensures.more c.may_lose-2.ensures.room c.in_ok-may_lose-2.ensures.loses))

@@ -1,8 +1,8 @@
-use Rattle.std.proofs.Common.{◌≡◌, refl}
+use Rattle.std.proofs.Common.{refl}
 use Rattle.maildir_run.specs.MemFolder.{files_of}
 use Rattle.maildir_disk.proofs.CaseLists.{adds_one, pushed}
 use Rattle.maildir_disk.proofs.cases.Cases.add.Goals as goal
 
 pub returns-in_ok-push-clause-one : goal.returns-in_ok-push-clause-one
 returns-in_ok-push-clause-one c =
-    adds_one (λ left. left ≡ files_of c.args.folder) _ _ (files_of c.args.folder) (pushed c.args.self.now.folders.items _ c.args.folder c.in_ok-push.ensures.items) refl
+    adds_one (files_of c.args.folder) (pushed c.args.self.now.folders.items c.args.folder c.in_ok-push.ensures.items) refl

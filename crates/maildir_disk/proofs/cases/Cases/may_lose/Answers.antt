@@ -1,6 +1,6 @@
 use Rattle.std.proofs.Common.{◌≡◌, ◌<◌, ◌∙◌, Contains, length, arith}
 use Rattle.maildir_run.specs.MemFolder.{files_of}
-use Rattle.maildir_disk.specs.Cases.{HasRoom, Loses, lefts_of, made, nth_left}
+use Rattle.maildir_disk.specs.Cases.{HasRoom, Loses, lefts_of}
 use Rattle.maildir_disk.proofs.CaseLists.{all_lost, all_more, as_many, no_fewer, one_more, one_more_with, with_more}
 use Rattle.maildir_disk.proofs.Lefts.{ok_then}
 use Rattle.maildir_disk.proofs.cases.Cases.may_lose.Goals as goal
@@ -9,7 +9,7 @@ pub returns-in_err-add_with-clause-more : goal.returns-in_err-add_with-clause-mo
 returns-in_err-add_with-clause-more c =
     let below : c.loop-at.at < length (lefts_of c.args.self.now) = omega (arith, c.loop-at-test.true, c.len-at-end.ensures, as_many c.args.self.now) in
     with_more c.args.change.now c.args.self.now c.add_with.new.self (files_of c.args.folder.now)
-    (one_more c.args.change.now c.args.self.now c.loop-at.self c.add_with.new.self c.loop-at.at below c.loop-at.invariant.more c.add_with.ensures.one)
+    (one_more c.args.change.now c.args.self.now c.loop-at.self c.add_with.new.self below c.loop-at.invariant.more c.add_with.ensures.one)
 
 pub loop-at-preserved : goal.loop-at-preserved
 loop-at-preserved c =
@@ -19,11 +19,11 @@ loop-at-preserved c =
     let below : c.loop-at.at < length (lefts_of old) = omega (arith, c.loop-at-test.true, c.len-at-end.ensures, as_many old) in
     record {
       room = c.add_with.ensures.room ∙ c.loop-at.invariant.room;
-      more = one_more c.args.change.now old mid new c.loop-at.at below c.loop-at.invariant.more c.add_with.ensures.one;
+      more = one_more c.args.change.now old mid new below c.loop-at.invariant.more c.add_with.ensures.one;
       with = λ room.
-          let longer = no_fewer (λ left. left ≡ made c.args.change.now (nth_left c.loop-at.at mid)) (lefts_of mid) (lefts_of new) c.add_with.ensures.one in
+          let longer = no_fewer c.add_with.ensures.one in
           let before : HasRoom mid = omega (arith, room, longer, c.add_with.ensures.room) in
-          one_more_with c.args.change.now old mid new c.loop-at.at below c.loop-at.invariant.more c.add_with.ensures.one (c.loop-at.invariant.with before) (c.in_ok-add_with.ensures.there room);
+          one_more_with c.args.change.now old mid new below c.loop-at.invariant.more c.add_with.ensures.one (c.loop-at.invariant.with before) (c.in_ok-add_with.ensures.there room);
     }
 
 pub returns-in_err-copy-clause-more : goal.returns-in_err-copy-clause-more
@@ -31,7 +31,7 @@ returns-in_err-copy-clause-more c = with_more c.args.change.now c.args.self.now 
 
 pub returns-clause-more : goal.returns-clause-more
 returns-clause-more c =
-    all_more c.args.change.now c.args.self.now c.loop-at.self c.add.new.self (files_of c.args.folder.now) (files_of c.in_ok-copy.field-0) c.in_ok-copy.ensures.files c.loop-at.invariant.more c.add.ensures.one
+    all_more c.args.change.now c.args.self.now c.loop-at.self c.add.new.self c.in_ok-copy.ensures.files c.loop-at.invariant.more c.add.ensures.one
 
 pub returns-clause-loses : goal.returns-clause-loses
 returns-clause-loses c =
@@ -41,6 +41,6 @@ returns-clause-loses c =
     let x = files_of c.in_ok-copy.field-0 in
     let count : c.loop-at.at ≡ length (lefts_of old) = omega (arith, c.loop-at-test.false, c.loop-at.auto.at-end, c.len-at-end.ensures, as_many old) in
     ok_then (HasRoom new → Contains (lefts_of new) x) (HasRoom new → Loses c.args.change.now (files_of c.args.folder.now) old new) c.add.result (λ there room.
-    let longer = no_fewer (λ left. left ≡ x) (lefts_of mid) (lefts_of new) c.add.ensures.one in
+    let longer = no_fewer c.add.ensures.one in
     let before : HasRoom mid = omega (arith, room, longer, c.add.ensures.room) in
-    all_lost c.args.change.now old mid new (files_of c.args.folder.now) x c.loop-at.at c.in_ok-copy.ensures.files count c.loop-at.invariant.more c.add.ensures.one (c.loop-at.invariant.with before) (there room)) c.add.ensures.there
+    all_lost c.args.change.now old mid c.in_ok-copy.ensures.files count c.loop-at.invariant.more c.add.ensures.one (c.loop-at.invariant.with before) (there room)) c.add.ensures.there

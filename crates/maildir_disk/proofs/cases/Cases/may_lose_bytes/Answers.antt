@@ -1,9 +1,7 @@
-use Rattle.std.proofs.Common.{◌≤◌, ◌∙◌, [], length, take, refl, inr, arith}
-use Rattle.maildir_run.specs.Calls.{Writing}
-use Rattle.maildir_run.specs.MemFolder.{files_of}
+use Rattle.std.proofs.Common.{◌≤◌, ◌∙◌, length, take, refl, inr, arith}
 use Rattle.maildir_disk.specs.Cases.{HasRoom, lefts_of}
 use Rattle.maildir_disk.proofs.CaseLists.{no_fewer, one_front, still_there}
-use Rattle.maildir_disk.proofs.Changes.{IsOfBytes, left_by_bytes}
+use Rattle.maildir_disk.proofs.Changes.{left_by_bytes}
 use Rattle.maildir_disk.proofs.Lefts.{leaves_none}
 use Rattle.maildir_disk.proofs.cases.Cases.may_lose_bytes.Goals as goal
 
@@ -12,29 +10,28 @@ loop-end-init c = record {
   room = refl;
   no_fewer = omega arith;
   still = λ left has. has;
-  left = λ left has. (left, inr has, leaves_none (Writing c.args.name.now []) left);
+  left = λ left has. (left, inr has, leaves_none);
   loses = λ room. record { without = λ lt. absurd (omega (arith, lt)); fronts = λ n above below. absurd (omega (arith, above, below)) };
 }
 
 pub returns-in_err-may_lose-clause-left : goal.returns-in_err-may_lose-clause-left
 returns-in_err-may_lose-clause-left c =
-    left_by_bytes c.args.name.now (take c.loop-end.end c.args.holds.now) c.args.folder.now c.args.self.now c.loop-end.self c.may_lose.new.self c.loop-end.invariant.left c.may_lose.ensures.more
+    left_by_bytes (take c.loop-end.end c.args.holds.now) c.args.folder.now c.args.self.now c.loop-end.self c.may_lose.new.self c.loop-end.invariant.left c.may_lose.ensures.more
 
 pub loop-end-preserved : goal.loop-end-preserved
 loop-end-preserved c =
     let mid = c.loop-end.self in
     let new = c.may_lose.new.self in
     let bytes = take c.loop-end.end c.args.holds.now in
-    let Of = IsOfBytes c.args.name.now bytes (files_of c.args.folder.now) mid in
-    let longer : length (lefts_of mid) ≤ length (lefts_of new) = no_fewer Of (lefts_of mid) (lefts_of new) c.may_lose.ensures.more in
+    let longer : length (lefts_of mid) ≤ length (lefts_of new) = no_fewer c.may_lose.ensures.more in
     record {
       room = c.may_lose.ensures.room ∙ c.loop-end.invariant.room;
       no_fewer = omega (arith, longer, c.loop-end.invariant.no_fewer);
-      still = λ left has. still_there Of (lefts_of mid) (lefts_of new) c.may_lose.ensures.more left (c.loop-end.invariant.still left has);
-      left = left_by_bytes c.args.name.now bytes c.args.folder.now c.args.self.now mid new c.loop-end.invariant.left c.may_lose.ensures.more;
+      still = λ left has. still_there c.may_lose.ensures.more (c.loop-end.invariant.still left has);
+      left = left_by_bytes bytes c.args.folder.now c.args.self.now mid new c.loop-end.invariant.left c.may_lose.ensures.more;
       loses = λ room.
           let before : HasRoom mid = omega (arith, room, longer, c.may_lose.ensures.room) in
-          one_front c.args.name.now c.args.holds.now c.args.held c.args.folder.now c.args.self.now _ mid new c.loop-end.end c.loop-end.auto.end (λ s. refl) c.loop-end.invariant.still (c.loop-end.invariant.loses before) (c.in_ok-may_lose.ensures.loses room);
+          one_front c.args.name.now c.args.holds.now c.args.held c.args.folder.now c.args.self.now c.loop-end.auto.end (λ s. refl) c.loop-end.invariant.still (c.loop-end.invariant.loses before) (c.in_ok-may_lose.ensures.loses room);
     }
 
 pub returns-clause-loses : goal.returns-clause-loses

@@ -6,23 +6,23 @@ use Rattle.maildir_disk.proofs.disk_folder.DiskFolder.sync_all.Goals as goal
 pub returns-in_err-sync_folder-2-clause-acts : goal.returns-in_err-sync_folder-2-clause-acts
 returns-in_err-sync_folder-2-clause-acts g c = λ honest.
     let first = c.in_ok-sync_folder.ensures.honest honest in
-    acts_on _ _ _ (c.sync_folder.ensures.acts honest) (c.sync_folder-2.ensures.acts first)
+    acts_on (c.sync_folder.ensures.acts honest) (c.sync_folder-2.ensures.acts first)
 
 pub returns-clause-acts : goal.returns-clause-acts
 returns-clause-acts g c = λ honest.
     let first = c.in_ok-sync_folder.ensures.honest honest in
     let second = c.in_ok-sync_folder-2.ensures.honest first in
-    acts_on _ _ _ (acts_on _ _ _ (c.sync_folder.ensures.acts honest) (c.sync_folder-2.ensures.acts first)) (c.sync_root.ensures.acts second)
+    acts_on (acts_on (c.sync_folder.ensures.acts honest) (c.sync_folder-2.ensures.acts first)) (c.sync_root.ensures.acts second)
 
 pub returns-in_err-sync_folder-2-clause-left : goal.returns-in_err-sync_folder-2-clause-left
 returns-in_err-sync_folder-2-clause-left g c = λ honest.
-    others_then _ _ _ (c.sync_folder.ensures.left honest) (c.sync_folder-2.ensures.left (c.in_ok-sync_folder.ensures.honest honest))
+    others_then (c.sync_folder.ensures.left honest) (c.sync_folder-2.ensures.left (c.in_ok-sync_folder.ensures.honest honest))
 
 pub returns-clause-left : goal.returns-clause-left
 returns-clause-left g c = λ honest.
     let first = c.in_ok-sync_folder.ensures.honest honest in
     let second = c.in_ok-sync_folder-2.ensures.honest first in
-    others_then _ _ _ (others_then _ _ _ (c.sync_folder.ensures.left honest) (c.sync_folder-2.ensures.left first)) (c.sync_root.ensures.left second)
+    others_then (others_then (c.sync_folder.ensures.left honest) (c.sync_folder-2.ensures.left first)) (c.sync_root.ensures.left second)
 
 pub returns-clause-synced : goal.returns-clause-synced
 returns-clause-synced g c = λ honest.
@@ -32,4 +32,4 @@ returns-clause-synced g c = λ honest.
     let three = c.sync_root.ensures.left second left may in
     let two = c.in_ok-sync_folder-2.ensures.names first three.0 three.1 in
     let one = c.in_ok-sync_folder.ensures.names honest two.0 two.1 in
-    (one.0, one.1, record { mid = record { files = (g.S.System.world c.sync_folder.new.self).files; left = two.0 }; first = one.2; then = kept_later _ _ _ _ _ _ _ two.2 (c.sync_root.ensures.acts second) three.2 }))
+    (one.0, one.1, record { mid = record { files = (g.S.System.world c.sync_folder.new.self).files; left = two.0 }; first = one.2; then = kept_later two.2 (c.sync_root.ensures.acts second) three.2 }))

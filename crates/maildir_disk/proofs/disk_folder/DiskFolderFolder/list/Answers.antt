@@ -1,11 +1,10 @@
 use Rattle.std.proofs.Common.{rules}
-use Rattle.maildir_run.proofs.Cuts.{left_as}
 use Rattle.maildir_run.specs.Calls.{Listing}
-use Rattle.maildir_disk.proofs.Lefts.{left_always, others_leave}
+use Rattle.maildir_disk.proofs.Lefts.{left_always, left_early}
 use Rattle.maildir_disk.proofs.disk_folder.DiskFolderFolder.list.Goals as goal
 
 pub returns-clause-left : goal.returns-clause-left
-returns-clause-left g c = λ honest. rw c.count_call.ensures.system (left_always (Listing c.args.sub) _ _ _ (λ s. tt) (left_as _ _ _ _ (others_leave (Listing c.args.sub)) (c.names_of_one_moment.ensures.left honest)))
+returns-clause-left g c = λ honest. rw c.count_call.ensures.system (left_always _ (λ s. tt) (left_early {call = Listing c.args.sub} (c.names_of_one_moment.ensures.left honest)))
 
 pub returns-clause-not_absent : goal.returns-clause-not_absent
 returns-clause-not_absent g c = search rules

@@ -1,10 +1,9 @@
 use Rattle.std.proofs.Common.{rules}
-use Rattle.maildir_run.specs.Calls.{Placing}
 use Rattle.maildir_disk.proofs.Lefts.{left_always}
 use Rattle.maildir_disk.proofs.disk_folder.DiskFolderFolder.place.Goals as goal
 
 pub returns-clause-left : goal.returns-clause-left
-returns-clause-left g c = λ honest. rw c.count_call.ensures.system (left_always (Placing c.args.name.now c.args.place c.args.target.now) _ _ _ (λ s. tt) (c.rename.ensures.left honest))
+returns-clause-left g c = λ honest. rw c.count_call.ensures.system (left_always _ (λ s. tt) (c.rename.ensures.left honest))
 
 pub returns-clause-called : goal.returns-clause-called
 returns-clause-called g c = search rules

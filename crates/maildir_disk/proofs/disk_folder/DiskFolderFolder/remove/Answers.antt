@@ -1,10 +1,9 @@
 use Rattle.std.proofs.Common.{rules}
-use Rattle.maildir_run.specs.Calls.{Removing}
 use Rattle.maildir_disk.proofs.Lefts.{left_always}
 use Rattle.maildir_disk.proofs.disk_folder.DiskFolderFolder.remove.Goals as goal
 
 pub returns-clause-left : goal.returns-clause-left
-returns-clause-left g c = λ honest. rw c.count_call.ensures.system (left_always (Removing c.args.name.now) _ _ _ (λ s. tt) (c.unlink.ensures.left honest))
+returns-clause-left g c = λ honest. rw c.count_call.ensures.system (left_always _ (λ s. tt) (c.unlink.ensures.left honest))
 
 pub returns-clause-called : goal.returns-clause-called
 returns-clause-called g c = search rules

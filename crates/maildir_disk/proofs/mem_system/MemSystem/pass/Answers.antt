@@ -1,7 +1,5 @@
 use Rattle.std.proofs.Common.{[], inl, refl}
-use Rattle.maildir_run.specs.declared.folder.Sub.TheVariants.{Tmp}
-use Rattle.maildir_run.specs.Calls.{Listing}
-use Rattle.maildir_disk.specs.MemSystem.{may_be_left, world_of}
+use Rattle.maildir_disk.specs.MemSystem.{world_of}
 use Rattle.maildir_disk.specs.World.{Passes}
 use Rattle.maildir_disk.proofs.Lefts.{left_none}
 use Rattle.maildir_disk.proofs.Passing.{passes_on}
@@ -11,7 +9,7 @@ pub returns-in-Some-clause-passes : goal.returns-in-Some-clause-passes
 returns-in-Some-clause-passes c = λ sub.
     let first : Passes sub (world_of c.args.self.now) (world_of (record c.args.self.now { clock = c.tick.new.clock })) =
     record { acts = record { actions = []; files_are = refl }; later = c.tick.ensures; stamp_is = inl refl } in
-    passes_on sub _ _ _ first (c.act.ensures.passes sub)
+    passes_on first (c.act.ensures.passes sub)
 
 pub returns-in_default-clause-left : goal.returns-in_default-clause-left
-returns-in_default-clause-left c = left_none (Listing Tmp) (may_be_left c.args.self.now)
+returns-in_default-clause-left c = left_none

@@ -4,26 +4,26 @@ use Rattle.std.specs.Option.{option_copied}
 use Rattle.maildir_run.specs.Calls.{Writing, effect}
 use Rattle.maildir_run.specs.MemFolder.{files_of}
 use Rattle.maildir_disk.proofs.Pieces.{appended_fault, comes_to_none, comes_by_write}
-use Rattle.maildir_disk.specs.MemSystem.{may_be_left, opened_as, world_of}
-use Rattle.maildir_disk.proofs.Changes.{bytes_after, front_of, called_leaves, left_early, left_of_bytes}
-use Rattle.maildir_disk.proofs.Lefts.{if_ok, leaves_none, leaves_torn}
+use Rattle.maildir_disk.specs.MemSystem.{opened_as}
+use Rattle.maildir_disk.proofs.Changes.{bytes_after, front_of, called_leaves, left_of_bytes}
+use Rattle.maildir_disk.proofs.Lefts.{if_ok, left_early, leaves_none, leaves_torn}
 use Rattle.std.proofs.lemmas.List.{length-take}
 use Rattle.maildir_disk.specs.Cases.{HasRoom, LosesBytes, may_find}
 use Rattle.maildir_disk.specs.Writing.{changed}
 use Rattle.maildir_disk.proofs.mem_system.MemSystemSystem.append.Goals as goal
 
 pub returns-in_err-pass_shortly-clause-appended : goal.returns-in_err-pass_shortly-clause-appended
-returns-in_err-pass_shortly-clause-appended c = λ honest current. appended_fault _ _ _ _ _ c.from_residual.ensures.0 c.pass_shortly.ensures.acts
+returns-in_err-pass_shortly-clause-appended c = λ honest current. appended_fault _ _ _ c.from_residual.ensures.0 c.pass_shortly.ensures.acts
 
 pub returns-in_err-holds-clause-appended : goal.returns-in_err-holds-clause-appended
-returns-in_err-holds-clause-appended c = λ honest current. appended_fault _ _ _ _ _ c.from_residual-in_err-holds.ensures.0 c.pass_shortly.ensures.acts
+returns-in_err-holds-clause-appended c = λ honest current. appended_fault _ _ _ c.from_residual-in_err-holds.ensures.0 c.pass_shortly.ensures.acts
 
 pub returns-in_default-clause-appended : goal.returns-in_default-clause-appended
 returns-in_default-clause-appended c = λ honest current.
     let acts = c.pass_shortly.ensures.acts in
     let mid = files_of c.pass_shortly.new.self.folder in
     let none : get mid.tmp (opened_as c.args.file.now) ≡ None = rw c.as_str.ensures.value at (sym c.bytes_of.ensures ∙ ap option_copied c.in_default.is) in
-    comes_to_none (opened_as c.args.file.now) _ _ (world_of c.pass_shortly.new.self) acts none
+    comes_to_none (opened_as c.args.file.now) _ acts none
 
 pub returns-in-Ok-clause-appended : goal.returns-in-Ok-clause-appended
 returns-in-Ok-clause-appended c = λ honest current.
@@ -33,39 +33,38 @@ returns-in-Ok-clause-appended c = λ honest current.
     let has : get mid.tmp (opened_as c.args.file.now) ≡ Some c.in-Some.held.now = rw c.as_str.ensures.value at (sym c.bytes_of.ensures ∙ ap option_copied c.in-Some.is) in
     let name = ap (λ n. effect (Writing n c.deref-2.result.now) mid) c.as_str-3.ensures.value in
     let bytes = ap (λ b. effect (Writing (opened_as c.args.file.now) b) mid) (c.deref-2.ensures.value ∙ c.in_ok-holds.ensures) in
-    comes_by_write (opened_as c.args.file.now) c.in-Some.held.now _ _ (world_of c.pass_shortly.new.self) _ acts has (written ∙ (name ∙ bytes))
+    comes_by_write (opened_as c.args.file.now) _ acts has (written ∙ (name ∙ bytes))
 
 pub returns-in_err-pass_shortly-clause-left : goal.returns-in_err-pass_shortly-clause-left
-returns-in_err-pass_shortly-clause-left c = λ honest. left_early (Writing (opened_as c.args.file.now) []) (may_be_left c.args.self.now) (may_be_left c.pass_shortly.new.self) c.pass_shortly.ensures.left
+returns-in_err-pass_shortly-clause-left c = λ honest. left_early c.pass_shortly.ensures.left
 
 pub returns-in_default-clause-left : goal.returns-in_default-clause-left
-returns-in_default-clause-left c = λ honest. left_early (Writing (opened_as c.args.file.now) []) (may_be_left c.args.self.now) (may_be_left c.pass_shortly.new.self) c.pass_shortly.ensures.left
+returns-in_default-clause-left c = λ honest. left_early c.pass_shortly.ensures.left
 
 pub returns-in_err-holds-clause-left : goal.returns-in_err-holds-clause-left
-returns-in_err-holds-clause-left c = λ honest. left_early (Writing (opened_as c.args.file.now) []) (may_be_left c.args.self.now) (may_be_left c.pass_shortly.new.self) c.pass_shortly.ensures.left
+returns-in_err-holds-clause-left c = λ honest. left_early c.pass_shortly.ensures.left
 
 pub returns-in_err-map_err-clause-left : goal.returns-in_err-map_err-clause-left
 returns-in_err-map_err-clause-left c = λ honest.
     let mid = c.pass_shortly.new.self in
-    rw c.as_str-2.ensures.value at (left_of_bytes c.as_str-2.result.now (may_be_left c.args.self.now) mid.folder mid.folder mid.cases c.may_lose_bytes.new.self c.pass_shortly.ensures.left c.may_lose_bytes.ensures.left (leaves_none (Writing c.as_str-2.result.now []) (files_of mid.folder)))
+    rw c.as_str-2.ensures.value at (left_of_bytes mid.folder mid.folder mid.cases c.may_lose_bytes.new.self c.pass_shortly.ensures.left c.may_lose_bytes.ensures.left leaves_none)
 
 pub returns-in-Ok-clause-left : goal.returns-in-Ok-clause-left
 returns-in-Ok-clause-left c = λ honest.
     let mid = c.pass_shortly.new.self in
-    let written = rw (c.as_str-3.ensures.value) at (leaves_torn c.as_str-3.result.now c.deref-2.result.now [] (files_of mid.folder) (files_of c.write.new.self) (called_leaves (Writing c.as_str-3.result.now c.deref-2.result.now) (files_of mid.folder) c.write.result (files_of c.write.new.self) c.write.ensures.called)) in
+    let written = rw (c.as_str-3.ensures.value) at (leaves_torn {bytes = []} (called_leaves c.write.result c.write.ensures.called)) in
     let bytes = rw (c.as_str-2.ensures.value) at c.may_lose_bytes.ensures.left in
-    left_of_bytes (opened_as c.args.file.now) (may_be_left c.args.self.now) mid.folder c.write.new.self mid.cases c.may_lose_bytes.new.self c.pass_shortly.ensures.left bytes written
+    left_of_bytes mid.folder c.write.new.self mid.cases c.may_lose_bytes.new.self c.pass_shortly.ensures.left bytes written
 
 pub returns-clause-left : goal.returns-clause-left
 returns-clause-left c = λ honest.
     let mid = c.pass_shortly.new.self in
-    let written = rw (c.as_str-3.ensures.value) at (leaves_torn c.as_str-3.result.now c.deref-2.result.now [] (files_of mid.folder) (files_of c.write.new.self) (called_leaves (Writing c.as_str-3.result.now c.deref-2.result.now) (files_of mid.folder) c.write.result (files_of c.write.new.self) c.write.ensures.called)) in
+    let written = rw (c.as_str-3.ensures.value) at (leaves_torn {bytes = []} (called_leaves c.write.result c.write.ensures.called)) in
     let bytes = rw (c.as_str-2.ensures.value) at c.may_lose_bytes.ensures.left in
-    left_of_bytes (opened_as c.args.file.now) (may_be_left c.args.self.now) mid.folder c.write.new.self mid.cases c.may_lose_bytes.new.self c.pass_shortly.ensures.left bytes written
+    left_of_bytes mid.folder c.write.new.self mid.cases c.may_lose_bytes.new.self c.pass_shortly.ensures.left bytes written
 
 pub returns-in-Ok-clause-loses : goal.returns-in-Ok-clause-loses
 returns-in-Ok-clause-loses c = λ honest has there.
-    let old = c.args.self.now in
     let mid = c.pass_shortly.new.self in
     let new = c.may_lose_bytes.new.self in
     let name = opened_as c.args.file.now in
@@ -79,9 +78,9 @@ returns-in-Ok-clause-loses c = λ honest has there.
       held = held;
       fronts = λ k above below.
           let long : length held + k ≤ length (held ++ take n bytes) = simp (length-append, length-take) (omega (arith, below)) in
-          let each = bytes_after name (held ++ take n bytes) (length held) (may_be_left old) mid.folder c.write.new.self old.cases mid.cases new c.in_ok-pass_shortly.ensures.keeps c.may_lose_bytes.ensures.no_fewer c.may_lose_bytes.ensures.room loses has (length held + k) (omega (arith, above)) long in
+          let each = bytes_after c.write.new.self c.in_ok-pass_shortly.ensures.keeps c.may_lose_bytes.ensures.no_fewer c.may_lose_bytes.ensures.room loses has (omega (arith, above)) long in
           record {
             without = λ left may. (each left may).0;
-            also = λ left may. subst (λ front. may_find c.write.new.self new (changed name (λ _. front) left)) (front_of held bytes n k below) (each left may).1;
+            also = λ left may. subst (λ front. may_find c.write.new.self new (changed name (λ _. front) left)) (front_of held bytes below) (each left may).1;
           };
     }

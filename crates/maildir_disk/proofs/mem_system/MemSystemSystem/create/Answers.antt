@@ -2,16 +2,15 @@ use Rattle.std.proofs.Common.{◌∙◌, ap, [], inl}
 use Rattle.maildir_run.specs.Calls.{Writing, effect}
 use Rattle.maildir_disk.proofs.Pieces.{created_fault}
 use Rattle.maildir_disk.specs.declared.cases.Change.TheVariants.{Make}
-use Rattle.maildir_disk.specs.MemSystem.{may_be_left}
-use Rattle.maildir_disk.proofs.Changes.{left_early, left_made, left_unmade, lost_after}
-use Rattle.maildir_disk.proofs.Lefts.{if_ok, left_none}
+use Rattle.maildir_disk.proofs.Changes.{left_made, left_unmade, lost_after}
+use Rattle.maildir_disk.proofs.Lefts.{if_ok, left_early, left_none}
 use Rattle.std.proofs.Common.{rules}
 use Rattle.maildir_run.specs.MemFolder.{files_of}
 use Rattle.maildir_disk.specs.Cases.{HasRoom, Loses}
 use Rattle.maildir_disk.proofs.mem_system.MemSystemSystem.create.Goals as goal
 
 pub returns-in_err-pass_shortly-clause-created : goal.returns-in_err-pass_shortly-clause-created
-returns-in_err-pass_shortly-clause-created c = λ honest. created_fault _ _ _ _ c.from_residual-in_err-pass_shortly.ensures.0 c.pass_shortly.ensures.acts
+returns-in_err-pass_shortly-clause-created c = λ honest. created_fault _ _ c.from_residual-in_err-pass_shortly.ensures.0 c.pass_shortly.ensures.acts
 
 pub returns-in-Err-clause-created : goal.returns-in-Err-clause-created
 returns-in-Err-clause-created c = λ honest.
@@ -26,31 +25,30 @@ returns-in-Ok-clause-created c = λ honest.
     record { before = acts.actions; rest = []; left = written ∙ ap (effect (Writing c.args.name.now [])) acts.files_are }
 
 pub returns-in_err-from_str-clause-left : goal.returns-in_err-from_str-clause-left
-returns-in_err-from_str-clause-left c = λ honest. left_none (Writing c.args.name.now []) (may_be_left c.args.self.now)
+returns-in_err-from_str-clause-left c = λ honest. left_none
 
 pub returns-in_err-pass_shortly-clause-left : goal.returns-in_err-pass_shortly-clause-left
-returns-in_err-pass_shortly-clause-left c = λ honest. left_early (Writing c.args.name.now []) (may_be_left c.args.self.now) (may_be_left c.pass_shortly.new.self) c.pass_shortly.ensures.left
+returns-in_err-pass_shortly-clause-left c = λ honest. left_early c.pass_shortly.ensures.left
 
 pub returns-in_err-map_err-clause-left : goal.returns-in_err-map_err-clause-left
 returns-in_err-map_err-clause-left c = λ honest.
     let mid = c.pass_shortly.new.self in
-    left_unmade (Make c.args.name) (may_be_left c.args.self.now) mid.folder mid.cases c.may_lose.new.self c.pass_shortly.ensures.left c.may_lose.ensures.more
+    left_unmade (Make c.args.name) mid.folder mid.cases c.may_lose.new.self c.pass_shortly.ensures.left c.may_lose.ensures.more
 
 pub returns-in-Ok-clause-left : goal.returns-in-Ok-clause-left
 returns-in-Ok-clause-left c = λ honest.
     let mid = c.pass_shortly.new.self in
-    left_made (Make c.args.name) (may_be_left c.args.self.now) mid.folder c.write.new.self mid.cases c.may_lose.new.self c.write.result c.pass_shortly.ensures.left c.may_lose.ensures.more c.write.ensures.called
+    left_made (Make c.args.name) mid.folder c.write.new.self mid.cases c.may_lose.new.self c.write.result c.pass_shortly.ensures.left c.may_lose.ensures.more c.write.ensures.called
 
 pub returns-in-Err-clause-left : goal.returns-in-Err-clause-left
 returns-in-Err-clause-left c = λ honest.
     let mid = c.pass_shortly.new.self in
-    left_made (Make c.args.name) (may_be_left c.args.self.now) mid.folder c.write.new.self mid.cases c.may_lose.new.self c.write.result c.pass_shortly.ensures.left c.may_lose.ensures.more c.write.ensures.called
+    left_made (Make c.args.name) mid.folder c.write.new.self mid.cases c.may_lose.new.self c.write.result c.pass_shortly.ensures.left c.may_lose.ensures.more c.write.ensures.called
 
 pub returns-in-Ok-clause-loses : goal.returns-in-Ok-clause-loses
 returns-in-Ok-clause-loses c = λ honest has.
-    let old = c.args.self.now in
     let mid = c.pass_shortly.new.self in
     let written = (rw c.in-Ok.is at (c.write.ensures.alone (c.pass_shortly.ensures.honest honest))).1 in
     let loses = if_ok c.may_lose.result (HasRoom c.may_lose.new.self → Loses (Make c.args.name) (files_of mid.folder) mid.cases c.may_lose.new.self) (search rules) c.may_lose.ensures.loses in
-    let there = lost_after (Make c.args.name) (may_be_left old) mid.folder c.write.new.self old.cases mid.cases c.may_lose.new.self c.in_ok-pass_shortly.ensures.keeps c.may_lose.ensures.more c.may_lose.ensures.room loses written has in
+    let there = lost_after mid.folder c.write.new.self c.in_ok-pass_shortly.ensures.keeps c.may_lose.ensures.more c.may_lose.ensures.room loses written has in
     record { without = λ left may. (there left may).0; also = λ left may. (there left may).1 }

@@ -1,13 +1,6 @@
 use Rattle.std.proofs.Common.{◌≡◌, [], refl, inl, inr, arith, true}
 use Rattle.std.specs.Duration.{as_nanos}
-use Rattle.maildir_run.specs.Calls.{Listing, names_of}
-use Rattle.maildir_disk.specs.World.{Reads}
-use Rattle.maildir_disk.specs.MemSystem.{world_of}
 use Rattle.maildir_disk.proofs.Passing.{passes_on}
-use Rattle.maildir_run.specs.declared.folder.Sub.TheVariants.{Tmp}
-use Rattle.maildir_disk.specs.Cases.{may_find}
-use Rattle.maildir_disk.specs.MemSystem.{may_be_left}
-use Rattle.maildir_disk.specs.PowerCuts.{LeavesOthers}
 use Rattle.maildir_disk.proofs.Changes.{same_found}
 use Rattle.maildir_disk.proofs.Lefts.{left_none}
 use Rattle.maildir_disk.proofs.mem_system.MemSystemSystem.names.Goals as goal
@@ -15,21 +8,21 @@ use Rattle.maildir_disk.proofs.mem_system.MemSystemSystem.names.Goals as goal
 pub returns-in_err-pass_shortly-in-Ok-clause-passes : goal.returns-in_err-pass_shortly-in-Ok-clause-passes
 returns-in_err-pass_shortly-in-Ok-clause-passes c = λ honest.
     let same = (rw c.in-Ok.is at (c.list.ensures.alone honest)).1 in
-    passes_on c.args.sub (world_of c.args.self.now) _ _ (record { acts = record { actions = []; files_are = same }; later = omega arith; stamp_is = inl refl }) (c.pass_shortly.ensures.passes c.args.sub)
+    passes_on (record { acts = record { actions = []; files_are = same }; later = omega arith; stamp_is = inl refl }) (c.pass_shortly.ensures.passes c.args.sub)
 
 pub returns-in-Ok-duration_since-clause-passes : goal.returns-in-Ok-duration_since-clause-passes
 returns-in-Ok-duration_since-clause-passes c = λ honest.
     let same = (rw c.in-Ok.is at (c.list.ensures.alone honest)).1 in
-    passes_on c.args.sub (world_of c.args.self.now) _ _ (record { acts = record { actions = []; files_are = same }; later = omega arith; stamp_is = inl refl }) (c.pass_shortly.ensures.passes c.args.sub)
+    passes_on (record { acts = record { actions = []; files_are = same }; later = omega arith; stamp_is = inl refl }) (c.pass_shortly.ensures.passes c.args.sub)
 
 pub returns-in_default-clause-passes : goal.returns-in_default-clause-passes
 returns-in_default-clause-passes c = λ honest.
     let same = (rw c.in-Ok.is at (c.list.ensures.alone honest)).1 in
-    passes_on c.args.sub (world_of c.args.self.now) _ _ (record { acts = record { actions = []; files_are = same }; later = omega arith; stamp_is = inl refl }) (c.pass_shortly.ensures.passes c.args.sub)
+    passes_on (record { acts = record { actions = []; files_are = same }; later = omega arith; stamp_is = inl refl }) (c.pass_shortly.ensures.passes c.args.sub)
 
 pub returns-in-Ok-duration_since-clause-names : goal.returns-in-Ok-duration_since-clause-names
 returns-in-Ok-duration_since-clause-names c = λ honest.
-    elim (c.pass_shortly.ensures.passes c.args.sub).stamp_is as (λ _. Reads c.args.sub (world_of c.args.self.now) (names_of c.new.result) (world_of c.pass_shortly.new.self)) [
+    elim (c.pass_shortly.ensures.passes c.args.sub).stamp_is [
       | inl same ↦
           let none : as_nanos c.in-Ok-duration_since.later ≡ 0 = omega (arith, same, c.in-Ok-duration_since.ensures.ok) in
           let zero : c.is_zero.result ≡ true = c.is_zero.ensures.1 none in
@@ -40,19 +33,19 @@ returns-in-Ok-duration_since-clause-names c = λ honest.
 pub returns-in_err-pass_shortly-in-Ok-clause-left : goal.returns-in_err-pass_shortly-in-Ok-clause-left
 returns-in_err-pass_shortly-in-Ok-clause-left c = λ honest.
     let old = c.args.self.now in
-    same_found LeavesOthers old.folder c.list.new.self old.cases (may_be_left c.pass_shortly.new.self) (rw c.in-Ok.is at (c.list.ensures.alone honest)).1 c.pass_shortly.ensures.left
+    same_found old.folder c.list.new.self old.cases (rw c.in-Ok.is at (c.list.ensures.alone honest)).1 c.pass_shortly.ensures.left
 
 pub returns-in-Ok-duration_since-clause-left : goal.returns-in-Ok-duration_since-clause-left
 returns-in-Ok-duration_since-clause-left c = λ honest.
     let old = c.args.self.now in
-    same_found LeavesOthers old.folder c.list.new.self old.cases (may_be_left c.pass_shortly.new.self) (rw c.in-Ok.is at (c.list.ensures.alone honest)).1 c.pass_shortly.ensures.left
+    same_found old.folder c.list.new.self old.cases (rw c.in-Ok.is at (c.list.ensures.alone honest)).1 c.pass_shortly.ensures.left
 
 pub returns-in_default-clause-left : goal.returns-in_default-clause-left
 returns-in_default-clause-left c = λ honest.
     let old = c.args.self.now in
-    same_found LeavesOthers old.folder c.list.new.self old.cases (may_be_left c.pass_shortly.new.self) (rw c.in-Ok.is at (c.list.ensures.alone honest)).1 c.pass_shortly.ensures.left
+    same_found old.folder c.list.new.self old.cases (rw c.in-Ok.is at (c.list.ensures.alone honest)).1 c.pass_shortly.ensures.left
 
 pub returns-in-Err-clause-left : goal.returns-in-Err-clause-left
 returns-in-Err-clause-left c = λ honest.
     let old = c.args.self.now in
-    same_found LeavesOthers old.folder c.list.new.self old.cases (may_find c.list.new.self old.cases) (rw c.in-Err.is at (c.list.ensures.err honest)) (left_none (Listing Tmp) (may_find c.list.new.self old.cases))
+    same_found old.folder c.list.new.self old.cases (rw c.in-Err.is at (c.list.ensures.err honest)) left_none

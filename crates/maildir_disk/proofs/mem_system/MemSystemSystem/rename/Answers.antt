@@ -1,8 +1,5 @@
-use Rattle.maildir_run.specs.Calls.{Listing, Placing}
 use Rattle.maildir_disk.proofs.Gone.{gone_quietly}
 use Rattle.maildir_disk.specs.declared.cases.Change.TheVariants.{Place}
-use Rattle.maildir_disk.specs.MemSystem.{may_be_left}
-use Rattle.maildir_run.specs.declared.folder.Sub.TheVariants.{Tmp}
 use Rattle.maildir_disk.proofs.Changes.{left_made, left_unmade}
 use Rattle.maildir_disk.proofs.Lefts.{left_none}
 use Rattle.maildir_disk.proofs.mem_system.MemSystemSystem.rename.Goals as goal
@@ -12,19 +9,19 @@ returns-in-Err-clause-gone c = λ honest not_found.
     gone_quietly c.args.self.now.folder c.place.new.self c.args.name.now c.args.place c.args.target.now c.place.result honest (rw (c.error_of.ensures not_found) at c.in-Err.is) c.place.ensures.scripted
 
 pub returns-in_err-begin-clause-left : goal.returns-in_err-begin-clause-left
-returns-in_err-begin-clause-left c = λ honest. left_none (Placing c.args.name.now c.args.place c.args.target.now) (may_be_left c.args.self.now)
+returns-in_err-begin-clause-left c = λ honest. left_none
 
 pub returns-in_err-map_err-clause-left : goal.returns-in_err-map_err-clause-left
 returns-in_err-map_err-clause-left c = λ honest.
     let old = c.args.self.now in
-    left_unmade (Place c.args.name c.args.place c.args.target) (may_be_left old) old.folder old.cases c.may_lose.new.self (left_none (Listing Tmp) (may_be_left old)) c.may_lose.ensures.more
+    left_unmade (Place c.args.name c.args.place c.args.target) old.folder old.cases c.may_lose.new.self left_none c.may_lose.ensures.more
 
 pub returns-in-Ok-clause-left : goal.returns-in-Ok-clause-left
 returns-in-Ok-clause-left c = λ honest.
     let old = c.args.self.now in
-    left_made (Place c.args.name c.args.place c.args.target) (may_be_left old) old.folder c.place.new.self old.cases c.may_lose.new.self c.place.result (left_none (Listing Tmp) (may_be_left old)) c.may_lose.ensures.more c.place.ensures.called
+    left_made (Place c.args.name c.args.place c.args.target) old.folder c.place.new.self old.cases c.may_lose.new.self c.place.result left_none c.may_lose.ensures.more c.place.ensures.called
 
 pub returns-in-Err-clause-left : goal.returns-in-Err-clause-left
 returns-in-Err-clause-left c = λ honest.
     let old = c.args.self.now in
-    left_made (Place c.args.name c.args.place c.args.target) (may_be_left old) old.folder c.place.new.self old.cases c.may_lose.new.self c.place.result (left_none (Listing Tmp) (may_be_left old)) c.may_lose.ensures.more c.place.ensures.called
+    left_made (Place c.args.name c.args.place c.args.target) old.folder c.place.new.self old.cases c.may_lose.new.self c.place.result left_none c.may_lose.ensures.more c.place.ensures.called

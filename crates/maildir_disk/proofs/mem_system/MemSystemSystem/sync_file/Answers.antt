@@ -2,7 +2,6 @@ use Rattle.std.proofs.Common.{◌≡◌}
 use Rattle.std.specs.FinMap.{get}
 use Rattle.maildir_run.specs.Files.{Files}
 use Rattle.maildir_run.specs.MemFolder.{files_of}
-use Rattle.maildir_disk.specs.MemSystem.{may_be_left}
 use Rattle.maildir_disk.proofs.Changes.{left_stayed}
 use Rattle.maildir_disk.proofs.Lefts.{others_then}
 use Rattle.maildir_disk.proofs.mem_system.MemSystemSystem.sync_file.Goals as goal
@@ -12,4 +11,4 @@ returns-clause-left c = λ honest.
     let mid = c.pass_shortly.new.self in
     let name = c.as_str.result.now in
     let alike = λ (s : Files). get s.tmp name ≡ get (files_of mid.folder).tmp name in
-    others_then (may_be_left c.args.self.now) (may_be_left mid) _ c.pass_shortly.ensures.left (left_stayed alike mid.folder mid.cases c.keep_file.new.self c.keep_file.ensures.stays)
+    others_then c.pass_shortly.ensures.left (left_stayed alike mid.folder mid.cases c.keep_file.new.self c.keep_file.ensures.stays)

@@ -3,8 +3,7 @@ use Rattle.std.specs.FinMap.{keys}
 use Rattle.maildir_run.specs.Calls.{folder_of}
 use Rattle.maildir_run.specs.Files.{Files}
 use Rattle.maildir_run.specs.MemFolder.{files_of}
-use Rattle.maildir_disk.specs.MemSystem.{may_be_left, world_of}
-use Rattle.maildir_disk.specs.Paths.{folder_of_place}
+use Rattle.maildir_disk.specs.MemSystem.{world_of}
 use Rattle.maildir_disk.proofs.Changes.{left_stayed, names_stayed}
 use Rattle.maildir_disk.proofs.Lefts.{others_then}
 use Rattle.maildir_disk.proofs.mem_system.MemSystemSystem.sync_folder.Goals as goal
@@ -13,10 +12,10 @@ pub returns-clause-left : goal.returns-clause-left
 returns-clause-left c = λ honest.
     let mid = c.pass_shortly.new.self in
     let alike = λ (s : Files). keys (folder_of c.sub_of.result s) ≡ keys (folder_of c.sub_of.result (files_of mid.folder)) in
-    others_then (may_be_left c.args.self.now) (may_be_left mid) _ c.pass_shortly.ensures.left (left_stayed alike mid.folder mid.cases c.keep_names.new.self c.keep_names.ensures.stays)
+    others_then c.pass_shortly.ensures.left (left_stayed alike mid.folder mid.cases c.keep_names.new.self c.keep_names.ensures.stays)
 
 pub returns-clause-names : goal.returns-clause-names
 returns-clause-names c = λ honest.
     let mid = c.pass_shortly.new.self in
     let acts = c.pass_shortly.ensures.acts in
-    names_stayed c.sub_of.result (folder_of_place c.args.place) c.sub_of.ensures (world_of c.args.self.now) (may_be_left c.args.self.now) mid.folder mid.cases c.keep_names.new.self (acts.actions, acts.files_are) c.pass_shortly.ensures.left c.keep_names.ensures.stays
+    names_stayed c.sub_of.ensures (world_of c.args.self.now) mid.folder mid.cases c.keep_names.new.self (acts.actions, acts.files_are) c.pass_shortly.ensures.left c.keep_names.ensures.stays

@@ -1,7 +1,4 @@
-use Rattle.maildir_run.specs.Calls.{Listing, Removing}
 use Rattle.maildir_disk.specs.declared.cases.Change.TheVariants.{Remove}
-use Rattle.maildir_disk.specs.MemSystem.{may_be_left}
-use Rattle.maildir_run.specs.declared.folder.Sub.TheVariants.{Tmp}
 use Rattle.maildir_disk.proofs.Changes.{left_made, left_unmade, lost_after, keeps_none}
 use Rattle.maildir_disk.proofs.Lefts.{if_ok, left_none}
 use Rattle.std.proofs.Common.{rules}
@@ -10,27 +7,27 @@ use Rattle.maildir_disk.specs.Cases.{HasRoom, Loses}
 use Rattle.maildir_disk.proofs.mem_system.MemSystemSystem.unlink.Goals as goal
 
 pub returns-in_err-begin-clause-left : goal.returns-in_err-begin-clause-left
-returns-in_err-begin-clause-left c = λ honest. left_none (Removing c.args.name.now) (may_be_left c.args.self.now)
+returns-in_err-begin-clause-left c = λ honest. left_none
 
 pub returns-in_err-map_err-clause-left : goal.returns-in_err-map_err-clause-left
 returns-in_err-map_err-clause-left c = λ honest.
     let old = c.args.self.now in
-    left_unmade (Remove c.args.name) (may_be_left old) old.folder old.cases c.may_lose.new.self (left_none (Listing Tmp) (may_be_left old)) c.may_lose.ensures.more
+    left_unmade (Remove c.args.name) old.folder old.cases c.may_lose.new.self left_none c.may_lose.ensures.more
 
 pub returns-in-Ok-clause-left : goal.returns-in-Ok-clause-left
 returns-in-Ok-clause-left c = λ honest.
     let old = c.args.self.now in
-    left_made (Remove c.args.name) (may_be_left old) old.folder c.remove.new.self old.cases c.may_lose.new.self c.remove.result (left_none (Listing Tmp) (may_be_left old)) c.may_lose.ensures.more c.remove.ensures.called
+    left_made (Remove c.args.name) old.folder c.remove.new.self old.cases c.may_lose.new.self c.remove.result left_none c.may_lose.ensures.more c.remove.ensures.called
 
 pub returns-in-Err-clause-left : goal.returns-in-Err-clause-left
 returns-in-Err-clause-left c = λ honest.
     let old = c.args.self.now in
-    left_made (Remove c.args.name) (may_be_left old) old.folder c.remove.new.self old.cases c.may_lose.new.self c.remove.result (left_none (Listing Tmp) (may_be_left old)) c.may_lose.ensures.more c.remove.ensures.called
+    left_made (Remove c.args.name) old.folder c.remove.new.self old.cases c.may_lose.new.self c.remove.result left_none c.may_lose.ensures.more c.remove.ensures.called
 
 pub returns-in-Ok-clause-loses : goal.returns-in-Ok-clause-loses
 returns-in-Ok-clause-loses c = λ honest has.
     let old = c.args.self.now in
     let removed = (rw c.in-Ok.is at (c.remove.ensures.alone honest)).1 in
     let loses = if_ok c.may_lose.result (HasRoom c.may_lose.new.self → Loses (Remove c.args.name) (files_of old.folder) old.cases c.may_lose.new.self) (search rules) c.may_lose.ensures.loses in
-    let there = lost_after (Remove c.args.name) (may_be_left old) old.folder c.remove.new.self old.cases old.cases c.may_lose.new.self (keeps_none old.folder old.cases) c.may_lose.ensures.more c.may_lose.ensures.room loses removed has in
+    let there = lost_after old.folder c.remove.new.self (keeps_none old.folder) c.may_lose.ensures.more c.may_lose.ensures.room loses removed has in
     record { without = λ left may. (there left may).0; also = λ left may. (there left may).1 }
