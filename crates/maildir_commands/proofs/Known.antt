@@ -9,10 +9,10 @@ use Rattle.maildir_run.specs.Delivery.{Message, AreNamed, IsHome, has_home, is_a
 use Rattle.maildir_run.specs.Files.{Files, Action, acted, all_acted, is_name}
 use Rattle.maildir_run.specs.Runs.{Keeps, Reports}
 use Rattle.maildir_run.specs.Several.{Text}
-use Rattle.maildir_run.proofs.Homes.{acted_kept}
-use Rattle.maildir_run.proofs.Maps.{is_name-true}
-use Rattle.maildir_run.proofs.Numbers.{count-cons}
-use Rattle.maildir_run.proofs.Progress.{any_kept}
+use Rattle.maildir_run.proofs.Call.Homes.{acted_kept}
+use Rattle.maildir_run.proofs.Names.Maps.{is_name-true}
+use Rattle.maildir_run.proofs.Chains.Numbers.{count-cons}
+use Rattle.maildir_run.proofs.Tasks.Progress.{any_kept}
 use Rattle.maildir_disk.specs.World.{World, Acts}
 use Rattle.maildir_commands.specs.Machines.{Held, Rests, HasAlso}
 use Rattle.maildir_commands.specs.Report.{IsReportOf, AreReportsOf, also}

@@ -1,7 +1,14 @@
-pub mod Reports
+-- The words of a conversion.
 pub mod Forms
+-- Which bases have a home, from one moment to another.
 pub mod Known
-pub mod Resting
+-- Several texts that are delivered one after the other.
 pub mod Several
+-- Lines of runs that are printed one after the other.
+pub mod Reports
+-- What a buffer is given, and what it hands on.
 pub mod Written
+-- A Maildir that rests.
+pub mod Resting
+-- Maildirs in memory under their words, where one of them is taken or put back.
 pub mod MemMachines

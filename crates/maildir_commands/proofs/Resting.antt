@@ -1,7 +1,7 @@
 -- A Maildir that rests.
 use Rattle.std.proofs.Common.{[], ◌∷◌, ◌++◌, ◌≡◌, List, refl, sym, ap, ◌∙◌}
 use Rattle.maildir_run.specs.Files.{Files, Action, acted, all_acted}
-use Rattle.maildir_disk.proofs.Lefts.{left_none, others_then}
+use Rattle.maildir_disk.proofs.Left.Lefts.{left_none, others_then}
 use Rattle.maildir_commands.specs.Machines.{Held, Rests}
 
 pub rest_same : (maildir : Held) → Rests maildir maildir

@@ -14,10 +14,10 @@ use Rattle.maildir_run.specs.Reading.{ReadsAtMost}
 use Rattle.maildir_run.specs.Runs.{Possible}
 use Rattle.maildir_run.specs.Several.{Text, IsText}
 use Rattle.maildir_run.specs.declared.report.Report.{Report}
-use Rattle.maildir_run.proofs.MessageLemmas.{text_named}
+use Rattle.maildir_run.proofs.Chains.MessageLemmas.{text_named}
 use Rattle.maildir_disk.specs.Others.{Stays}
 use Rattle.maildir_disk.specs.PowerCuts.{AreAlike, AreIntact, AreSafe}
-use Rattle.maildir_disk.proofs.Others.{stays_acted, stays_then}
+use Rattle.maildir_disk.proofs.Kept.Others.{stays_acted, stays_then}
 use Rattle.maildir_commands.specs.Machines.{Held, Rests, AreFit, IsSoundFor, AreAllSafe, AreAllKept, AreKept, Gives, HasAlso, OthersStay, bytes_of}
 use Rattle.maildir_commands.specs.Report.{AreReportsOf, IsReportOf, PrintsEach, PrintsOne, PrintsReport, PrintsSome, report_line}
 use Rattle.maildir_commands.proofs.Forms.{map_both, none_named}

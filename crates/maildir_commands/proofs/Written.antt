@@ -5,7 +5,7 @@ use Rattle.std.proofs.Math.Seq.{take-length}
 use Rattle.std.specs.Io.KnownBytes.{Appends, Keeps, append_known}
 use Rattle.std.specs.List.{flat_map}
 use Rattle.mbox_text.specs.declared.entry.Entry.{Entry}
-use Rattle.mbox_text.proofs.OneReading.{mbox-one}
+use Rattle.mbox_text.proofs.Reading.OneReading.{mbox-one}
 use Rattle.maildir_run.specs.Delivery.{has_home}
 use Rattle.maildir_commands.specs.Report.{AreReportsOf, PrintsEach, PrintsReports, PrintsSome, report_line}
 use Rattle.maildir_commands.specs.Written.{WritesAll, WritesFront}

@@ -1,6 +1,6 @@
 // The machine itself.
 ghost use Rattle.std.specs.Prelude.{◌≡◌, [], IfOk};
-ghost use Rattle.maildir_disk.specs.Paths.{root_at};
+ghost use Rattle.maildir_disk.specs.Private.Paths.{root_at};
 ghost use Rattle.maildir_commands.specs.Machines.{nothing_held};
 
 use crate::machine::Machine;

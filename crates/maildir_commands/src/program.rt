@@ -11,7 +11,8 @@ ghost use Rattle.maildir_run.specs.Several.{Text};
 ghost use Rattle.maildir_commands.specs.Faults.{told};
 ghost use Rattle.maildir_commands.specs.Machines.{AreAllSafe, Converts, OthersStay, Rests};
 ghost use Rattle.maildir_commands.specs.Report.{PrintsEach, PrintsReports, PrintsSome};
-ghost use Rattle.maildir_commands.specs.Words.{AreOfAForm, AreRewrite, IsOf, convert_words};
+ghost use Rattle.maildir_commands.specs.Words.{AreOfAForm, AreRewrite, convert_words};
+ghost use Rattle.maildir_commands.specs.Private.Words.{IsOf};
 ghost use Rattle.maildir_commands.specs.Written.{WritesAll, WritesFront};
 
 use crate::command::Command;

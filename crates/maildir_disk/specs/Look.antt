@@ -1,16 +1,6 @@
--- What a look at a folder gives.
-use Rattle.std.specs.Prelude.{ℕ, ◌+◌, ◌≤◌, List, Result, Ok, Err, Option, Some, None}
-use Rattle.std.specs.declared.vec.Vec.{Vec}
-use Rattle.std.specs.declared.string.String.{String}
-use Rattle.std.specs.declared.alloc.Global.{Global}
-use Rattle.std.specs.Duration.{as_nanos}
-use Rattle.maildir_run.specs.declared.folder.Sub.{Sub}
-use Rattle.maildir_run.specs.Calls.{Lists, names_of}
-use Rattle.maildir_disk.specs.declared.one_moment.Age.{Age}
-use Rattle.maildir_disk.specs.declared.one_moment.Age.TheVariants.{Settled, Young, Ahead}
-use Rattle.maildir_disk.specs.declared.one_moment.Look.{Look}
-use Rattle.maildir_disk.specs.declared.one_moment.Look.TheVariants.{Names, Again}
-use Rattle.maildir_disk.specs.World.{World, Acts, AreUnless, margin_of}
+-- How a folder's stamp stands to the clock.
+use Rattle.std.specs.Prelude.{ℕ, ◌+◌, ◌≤◌}
+use Rattle.maildir_disk.specs.World.{margin_of}
 
 -- no change from this time on gives this stamp
 abbrev pub IsSettled : ℕ → ℕ → Type 0
@@ -19,26 +9,3 @@ IsSettled stamp now = stamp + margin_of stamp ≤ now
 -- no change up to this time has given this stamp
 abbrev pub IsFarAhead : ℕ → ℕ → Type 0
 IsFarAhead stamp now = now + margin_of stamp ≤ stamp
-
--- how a stamp stands to the clock; a young one is waited for until it has settled, and no longer
-abbrev pub IsAged : ℕ → ℕ → Age → Type 0
-IsAged stamp now Settled = IsSettled stamp now
-IsAged stamp now Ahead = IsFarAhead stamp now
-IsAged stamp now (Young pause) = now + as_nanos pause ≤ stamp + margin_of stamp
-
--- These names were read, and then the folder had this stamp: they are its names, or the stamp is of a change meanwhile.
-pub record Watched (sub : Sub) (stamp : ℕ) (old : World) (names : List (List ℕ)) (new : World) : Type 0 where
-  pub acts : Acts old new
-  pub are : AreUnless sub old names new.time stamp
-
--- the names with this stamp after them, or nothing but what others did
-abbrev pub WatchedOr : {E : Type 0} → Sub → ℕ → World → Result (Option (Vec (String Global) Global)) E → World → Type 0
-WatchedOr sub stamp old (Ok (Some names)) new = Watched sub stamp old (names_of names) new
-WatchedOr sub stamp old (Ok None) new = Acts old new
-WatchedOr sub stamp old (Err _) new = Acts old new
-
--- the names as of one moment, or nothing but what others did
-abbrev pub Looked : {E : Type 0} → Sub → World → Result Look E → World → Type 0
-Looked sub old (Ok (Names names)) new = Lists sub old.files (names_of names) new.files
-Looked sub old (Ok (Again _)) new = Acts old new
-Looked sub old (Err _) new = Acts old new

@@ -1,31 +1,14 @@
--- The paths of a Maildir on the disk.
-use Rattle.std.specs.Prelude.{ℕ, List, codes}
-use Rattle.std.specs.String.{string_bytes}
+-- The folder of a place, and the system of a folder.
 use Rattle.maildir_name.specs.declared.target.Place.{Place}
 use Rattle.maildir_name.specs.declared.target.Place.TheVariants as place
 use Rattle.maildir_run.specs.declared.folder.Sub.{Sub}
-use Rattle.maildir_run.specs.declared.folder.Sub.TheVariants.{Tmp, New, Cur}
+use Rattle.maildir_run.specs.declared.folder.Sub.TheVariants.{New, Cur}
 use Rattle.maildir_disk.specs.declared.disk_folder.DiskFolder.{DiskFolder}
-use Rattle.maildir_disk.specs.declared.host.Host.{Host}
-
--- the name of one of the three folders (maildir(5))
-abbrev pub folder_name : Sub → List ℕ
-folder_name Tmp = codes "tmp"
-folder_name New = codes "new"
-folder_name Cur = codes "cur"
 
 -- the folder that a message is placed in
 abbrev pub folder_of_place : Place → Sub
 folder_of_place place.New = New
 folder_of_place place.Cur = Cur
-
--- the path that the system's calls reach the Maildir at
-abbrev pub root_at : {R : Type 0} → Host R → List ℕ
-root_at system = string_bytes system.root
-
--- the path of the Maildir that a folder on the disk was opened at
-abbrev pub root_of : {R : Type 0} → DiskFolder (Host R) → List ℕ
-root_of folder = root_at folder.system
 
 -- the system that a folder on the disk is on
 abbrev pub system_of : {S : Type 0} → DiskFolder S → S

@@ -9,8 +9,7 @@ use Rattle.maildir_run.specs.declared.report.Report.{Report}
 use Rattle.maildir_run.specs.Calls.{Listing, folder_of}
 use Rattle.maildir_run.specs.Cuts.{Leaves}
 use Rattle.maildir_run.specs.Delivery.{Message, IsHome}
-use Rattle.maildir_run.specs.Files.{Files, Action, acted, all_acted, homes}
-use Rattle.maildir_run.specs.Progress.{LeavesHomes}
+use Rattle.maildir_run.specs.Files.{Files, Action, acted, all_acted, homes, LeavesHomes}
 use Rattle.maildir_run.specs.Runs.{Chain, Run}
 use Rattle.maildir_run.specs.Tasks.{Names, Performs, leaving, planned_tasks}
 use Rattle.maildir_run.specs.Texts.{MessagesOf}

@@ -1,5 +1,5 @@
 -- What a call of the system does while no other program acts.
-use Rattle.std.specs.Prelude.{◌≡◌, ◌⊎◌, ℕ, List, ◌++◌, take, Result, Ok, Err, Option, Some, None, IsPermutation}
+use Rattle.std.specs.Prelude.{◌≡◌, ◌⊎◌, ℕ, List, ◌++◌, take, Result, Ok, Err, IsPermutation}
 use Rattle.std.specs.IoError.{error_kind}
 use Rattle.std.specs.declared.alloc.Global.{Global}
 use Rattle.std.specs.declared.io.Error.{Error}
@@ -10,8 +10,6 @@ use Rattle.std.specs.FinMap.{keys}
 use Rattle.maildir_run.specs.declared.folder.Sub.{Sub}
 use Rattle.maildir_run.specs.Calls.{folder_of, names_of}
 use Rattle.maildir_run.specs.Files.{Files}
-use Rattle.maildir_disk.specs.declared.one_moment.Look.{Look}
-use Rattle.maildir_disk.specs.declared.one_moment.Look.TheVariants.{Names, Again}
 use Rattle.maildir_disk.specs.World.{World}
 use Rattle.maildir_disk.specs.Writing.{changed}
 
@@ -28,13 +26,3 @@ abbrev pub AppendedQuietly : List ℕ → List ℕ → Files → Result ℕ Erro
 AppendedQuietly name bytes old (Ok n) new = new ≡ changed name (λ held. held ++ take n bytes) old
 AppendedQuietly name bytes old (Err error) new =
     (new ≡ old) ⊎ ((error_kind error ≡ Interrupted → ⊥) × (held : List ℕ) × (new ≡ changed name (λ _. held) old))
-
--- what was found of a folder: its names, or nothing
-abbrev pub FoundNames : Sub → Files → Option (Vec (String Global) Global) → Type 0
-FoundNames sub s (Some names) = AreNames sub s names
-FoundNames sub s None = Unit {0}
-
--- what a look at a folder gave: its names, or nothing
-abbrev pub LookedAt : Sub → Files → Look → Type 0
-LookedAt sub s (Names names) = AreNames sub s names
-LookedAt sub s (Again _) = Unit {0}

@@ -6,7 +6,7 @@ use Rattle.maildir_run.specs.Delivery.{IsMissing}
 use Rattle.maildir_run.specs.Files.{Action}
 use Rattle.maildir_run.specs.Runs.{Chain}
 use Rattle.maildir_run.specs.Several.{Text, IsText, OfEach}
-use Rattle.maildir_disk.specs.PowerCuts.{Moment, Syncs, Event, Ran, Acted, Cut, Happens}
+use Rattle.maildir_disk.specs.PowerCuts.{Moment, Syncs, Ran, Acted, Cut, Happens}
 
 -- what comes to a folder into which several texts go
 pub data EventOver : Type 0 where
@@ -18,12 +18,6 @@ pub data EventOver : Type 0 where
   SyncedOver : EventOver
   -- a power cut
   CutOver : EventOver
-
--- an event of a chain over one text, as one over several
-abbrev pub event_over : Text → Event → EventOver
-event_over text (Ran answer) = RanOver text answer
-event_over text (Acted action) = ActedOver action
-event_over text Cut = CutOver
 
 -- an event leads from one moment to another
 abbrev pub HappensOver : List Text → EventOver → Moment → Moment → Type 0

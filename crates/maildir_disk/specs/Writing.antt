@@ -1,10 +1,9 @@
 -- What the calls of a write do to the files: a file of `tmp` is made or emptied, bytes are appended to it, and it is kept.
-use Rattle.std.specs.Prelude.{◌≡◌, ◌⊎◌, ℕ, IsFalse, List, [], ◌++◌, take, Option, Some, None, Result, Ok, Err}
+use Rattle.std.specs.Prelude.{◌≡◌, ◌⊎◌, ℕ, List, [], ◌++◌, take, Option, Some, None, Result, Ok, Err}
 use Rattle.std.specs.IoError.{error_kind}
 use Rattle.std.specs.declared.io.Error.{Error}
 use Rattle.std.specs.declared.io.ErrorKind.TheVariants.{Interrupted}
 use Rattle.std.specs.FinMap.{get, insert}
-use Rattle.maildir_name.specs.Names.{is_converter_name}
 use Rattle.maildir_run.specs.Files.{Files, FileMap, Action, all_acted}
 use Rattle.maildir_run.specs.Calls.{Writing, effect}
 use Rattle.maildir_disk.specs.World.{World, Acts}
@@ -34,7 +33,3 @@ abbrev pub Appended : List ℕ → List ℕ → World → Result ℕ Error → W
 Appended name bytes old (Ok n) new = Comes (changed name (λ held. held ++ take n bytes)) old new
 Appended name bytes old (Err error) new =
     Acts old new ⊎ ((error_kind error ≡ Interrupted → ⊥) × (held : List ℕ) × Comes (changed name (λ _. held)) old new)
-
--- The file that was made holds these bytes, as if they had come into it when it was made. Under a name that is no converter's other programs may make files of their own, and nothing is known.
-abbrev pub Written : List ℕ → List ℕ → World → World → Type 0
-Written name bytes old new = Comes (effect (Writing name bytes)) old new ⊎ (IsFalse (is_converter_name name) × Acts old new)

@@ -7,7 +7,8 @@ ghost use Rattle.maildir_run.specs.Cuts.{Leaves, Left};
 ghost use Rattle.maildir_run.specs.Files.{Action, Files, all_acted};
 ghost use Rattle.maildir_run.specs.MemFolder.{IsQuiet, IsUndisturbed, SameScript, files_of};
 ghost use Rattle.maildir_run.specs.Script.{all_performed, performed};
-ghost use Rattle.maildir_disk.specs.Cases.{Adds, HasRoom, IsAdded, KeepsCases, Loses, LosesBytes, lefts_of, made, may_find, nth_left};
+ghost use Rattle.maildir_disk.specs.Private.Cases.{Adds, IsAdded, KeepsCases, Loses, LosesBytes, made, nth_left};
+ghost use Rattle.maildir_disk.specs.Cases.{HasRoom, lefts_of, may_find};
 ghost use Rattle.maildir_disk.specs.PowerCuts.{LeavesOthers};
 
 use maildir_name::Place;

@@ -1,6 +1,7 @@
 // A Maildir's calls on the file system, and the folder over them.
 ghost use Rattle.std.specs.Prelude.{◌≡◌, [], ◌++◌, ◌∷◌, IfErr, IfOk, string_bytes};
-ghost use Rattle.maildir_disk.specs.Paths.{folder_name, folder_of_place, root_of};
+ghost use Rattle.maildir_disk.specs.Private.Paths.{folder_name, root_of};
+ghost use Rattle.maildir_disk.specs.Paths.{folder_of_place};
 
 use crate::disk;
 use crate::disk_folder::DiskFolder;

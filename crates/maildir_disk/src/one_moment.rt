@@ -4,9 +4,9 @@ ghost use Rattle.std.specs.Duration.{as_nanos};
 ghost use Rattle.std.specs.Time.{system_time_nanos};
 ghost use Rattle.maildir_run.specs.Calls.{Listed};
 ghost use Rattle.maildir_run.specs.Cuts.{Left};
-ghost use Rattle.maildir_disk.specs.Quiet.{AreNames, FoundNames, LookedAt, SameFiles};
+ghost use Rattle.maildir_disk.specs.Quiet.{AreNames, SameFiles};
+ghost use Rattle.maildir_disk.specs.Private.Look.{FoundNames, LookedAt, IsAged, Looked, WatchedOr};
 ghost use Rattle.maildir_disk.specs.World.{margin_of};
-ghost use Rattle.maildir_disk.specs.Look.{IsAged, Looked, WatchedOr};
 ghost use Rattle.maildir_disk.specs.PowerCuts.{LeavesOthers};
 
 use crate::system::System;

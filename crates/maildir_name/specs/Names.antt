@@ -32,7 +32,3 @@ is_converter_name name = is_converter_base (base name)
 -- a base is this converter's
 abbrev pub IsConverterBase : List ℕ → Type 0
 IsConverterBase b = IsTrue (is_converter_base b)
-
--- a name is this converter's
-abbrev pub IsConverterName : List ℕ → Type 0
-IsConverterName name = IsTrue (is_converter_name name)

@@ -4,21 +4,15 @@ pub use Rattle.std.proofs.Math.Bool.{or-false, or-true}
 pub use Rattle.std.proofs.Math.Seq.{drop-append_seam, drop-cons, drop-nil, get_or-append_seam, take-length}
 pub use Rattle.std.proofs.lemmas.Bool.{and_parts, both_ways, cases_Bool, cases_lt, false_from_ne_true, false≢true, or_cases, or_parts}
 pub use Rattle.std.proofs.lemmas.Cmp.{eq_by_cmp_equiv, nat_list_cmp_total}
-pub use Rattle.std.proofs.lemmas.List.{append_cancel_right, drop_more, get_or-map, get_or_append_left, length-map, map-append, nil_from_length, take-map}
-pub use Rattle.std.proofs.lemmas.List.{take_more, with_items_is}
+pub use Rattle.std.proofs.lemmas.List.{append_cancel_right, drop_more, get_or-map, get_or_append_left, length-map, map-append, nil_from_length, take-map, take_more, with_items_is}
 pub use Rattle.std.proofs.lemmas.List.Concat.{flat_map-append}
 pub use Rattle.std.proofs.lemmas.List.Elements.{All-cons, All-contains, All-from_get_or, All-head, All-nil, All-push, All-tail, All-weaker, Contains-get_or}
 pub use Rattle.std.proofs.lemmas.List.Folds.{list_any-append, list_any_at, list_any_none}
-pub use Rattle.std.proofs.lemmas.List.Sorted.{All-permutation, IsPermutation-append_left, IsPermutation-append_right, IsPermutation-cons}
-pub use Rattle.std.proofs.lemmas.List.Sorted.{IsPermutation-middle, IsPermutation-refl, IsPermutation-sym, IsPermutation-trans, length_permutation}
-pub use Rattle.std.proofs.lemmas.List.Sorted.{list_any-IsPermutation, sum_by-IsPermutation}
+pub use Rattle.std.proofs.lemmas.List.Sorted.{All-permutation, IsPermutation-append_left, IsPermutation-append_right, IsPermutation-cons, IsPermutation-middle, IsPermutation-refl, IsPermutation-sym, IsPermutation-trans, length_permutation, list_any-IsPermutation, sum_by-IsPermutation}
 pub use Rattle.std.proofs.lemmas.List.Sums.{count_by-le-length, count_by_more_yes, length-filter, sum_by-cons, sum_by-take-le}
 pub use Rattle.std.proofs.lemmas.Map.Views.{any-filter_same}
 pub use Rattle.std.specs.Cmp.Lexicographic.{bytes_decides, nat_list_eq_equiv, slice_cmp}
-pub use Rattle.std.specs.FinMap.{contains_key, contains_key-keys, empty, entries, entries-from_sorted, entries-insert, entries_sorted, find, from_entries}
-pub use Rattle.std.specs.FinMap.{from_sorted, get, get-empty, get-entries, get-from_entries, get-from_sorted, get-insert, get-remove, get-retain_keys, insert}
-pub use Rattle.std.specs.FinMap.{IsAntisymmetric, keys, len, len-empty, len-entries, len-remove, nat_cmp-IsAntisymmetric, put, remove, retain_keys, same_map}
-pub use Rattle.std.specs.FinMap.{slice_cmp-IsAntisymmetric, values}
+pub use Rattle.std.specs.FinMap.{contains_key, contains_key-keys, empty, entries, entries-from_sorted, entries-insert, entries_sorted, find, from_entries, from_sorted, get, get-empty, get-entries, get-from_entries, get-from_sorted, get-insert, get-remove, get-retain_keys, insert, IsAntisymmetric, keys, len, len-empty, len-entries, len-remove, nat_cmp-IsAntisymmetric, put, remove, retain_keys, same_map, slice_cmp-IsAntisymmetric, values}
 pub use Rattle.std.specs.Io.KnownBytes.{Appends, Consumes, IsAtEnd}
 pub use Rattle.std.specs.List.{AllZip, each_same, list_any, position_or_len}
 pub use Rattle.std.specs.declared.cmp.Ordering.TheVariants.{Equal, Greater, Less}
@@ -27,9 +21,9 @@ pub use Rattle.maildir_name.specs.Named.{Counts, Named}
 pub use Rattle.maildir_name.specs.Names.{base, is_colon, is_converter_base, is_converter_name, IsConverterBase}
 pub use Rattle.maildir_name.specs.Targets.{digest_text, numbered, same_digest, target, targets}
 pub use Rattle.maildir_name.specs.declared.target.Target.{Target}
-pub use Rattle.mbox_text.proofs.Appended.{front_more, front_then}
-pub use Rattle.mbox_text.proofs.LineLemmas.{begins_from-more}
-pub use Rattle.mbox_text.proofs.OneReading.{mbox-one}
+pub use Rattle.mbox_text.proofs.Written.Appended.{front_more, front_then}
+pub use Rattle.mbox_text.proofs.TextLines.LineLemmas.{begins_from-more}
+pub use Rattle.mbox_text.proofs.Reading.OneReading.{mbox-one}
 pub use Rattle.mbox_text.specs.Fed.{Fed, IsTooShort, NeverBegins}
 pub use Rattle.mbox_text.specs.FromLine.{IsFromLine, sender}
 pub use Rattle.mbox_text.specs.Fronts.{AllButLast, NeverFrom}
@@ -39,30 +33,29 @@ pub use Rattle.mbox_text.specs.Writing.{AppendsFront, Writes}
 pub use Rattle.mbox_text.specs.declared.entry.Entry.{Entry}
 pub use Rattle.mbox_text.specs.declared.splitter.Splitter.{Splitter}
 pub use Rattle.maildir_run.specs.Alone.{added, alone, filled, swept}
-pub use Rattle.maildir_run.specs.Bases.{BaseSet, set_of, with_bases}
-pub use Rattle.maildir_run.specs.Calls.{after, Again, Call, Called, CalledQuietly, CountsFailure, effect, Failed, folder_of, GoesUp, IsOthers, IsOwn, IsReady}
-pub use Rattle.maildir_run.specs.Calls.{IsWhole, Listed, Listing, Lists, Move, moved, names_of, NoneOrOne, Other, placed, PlacesElsewhere, Placing, Removing}
-pub use Rattle.maildir_run.specs.Calls.{StaysOrGoes, Succeeded, Torn, torn, WritesElsewhere, Writing}
-pub use Rattle.maildir_run.specs.Counting.{capped, CountsFault, fault_of, GoesUpWith, IsNumbered, IsOfFolder, Makes, Numbers, raised, run_answer}
+pub use Rattle.maildir_run.specs.Private.Bases.{BaseSet, set_of, with_bases}
+pub use Rattle.maildir_run.specs.Calls.{after, Again, Call, Called, CalledQuietly, CountsFailure, effect, Failed, folder_of, GoesUp, IsOthers, IsOwn, IsReady, IsWhole, Listed, Listing, Lists, Move, moved, names_of, NoneOrOne, Other, placed, PlacesElsewhere, Placing, Removing, StaysOrGoes, Succeeded, Torn, torn, WritesElsewhere, Writing}
+pub use Rattle.maildir_run.specs.Counting.{capped, CountsFault, fault_of, GoesUpWith, IsNumbered, IsOfFolder, Numbers, raised}
+pub use Rattle.maildir_run.specs.Private.Counting.{Makes, run_answer}
 pub use Rattle.maildir_run.specs.Cuts.{Came, IsFoundWhole, Leaves, LeavesOf, Left, left_after, linked}
-pub use Rattle.maildir_run.specs.Delivery.{AreDistinct, AreNamed, Delivered, has_home, HasHome, is_any, is_base_of, IsHome, IsMissing, IsSoundAt, IsSwept}
-pub use Rattle.maildir_run.specs.Delivery.{leftover_count, Message, Sound, there_count}
-pub use Rattle.maildir_run.specs.Files.{acted, Action, AgreeOnConverters, all_acted, DropTmp, FileMap, Files, has_base, held_under, homes, is_name}
-pub use Rattle.maildir_run.specs.Files.{LeavesConverters, may_take, name_cmp, Outside, outsiders_of, Reflag, reflag, to_cur, ToCur}
-pub use Rattle.maildir_run.specs.Given.{Front, Gave, GaveAll, IsGiven, Refused}
-pub use Rattle.maildir_run.specs.ListedSoFar.{HasListed}
+pub use Rattle.maildir_run.specs.Delivery.{AreDistinct, AreNamed, Delivered, has_home, HasHome, is_any, is_base_of, IsHome, IsMissing, IsSoundAt, IsSwept, leftover_count, Message, Sound, there_count}
+pub use Rattle.maildir_run.specs.Files.{acted, Action, AgreeOnConverters, all_acted, DropTmp, FileMap, Files, has_base, held_under, homes, is_name, LeavesConverters, may_take, name_cmp, Outside, outsiders_of, Reflag, reflag, to_cur, ToCur, LeavesHomes}
+pub use Rattle.maildir_run.specs.Private.Given.{Front, Gave, GaveAll, IsGiven, Refused}
+pub use Rattle.maildir_run.specs.Private.ListedSoFar.{HasListed}
 pub use Rattle.maildir_run.specs.Listing.{info, listing, message_line, place_word, shown_byte, shown_sender}
 pub use Rattle.maildir_run.specs.MemFiles.{files_in, with_file, without_file}
-pub use Rattle.maildir_run.specs.Parts.{Brought, Conversion, deliveries_of, delivery_if, delivery_of, messages_after, names_in, Ran, run_tasks, Seen, seen}
-pub use Rattle.maildir_run.specs.Parts.{sweep_of, Tells}
+pub use Rattle.maildir_run.specs.Private.Parts.{Brought, Conversion, messages_after, names_in, Ran, run_tasks, Seen, seen, Tells}
+pub use Rattle.maildir_run.specs.Parts.{deliveries_of, delivery_if, delivery_of, sweep_of}
 pub use Rattle.maildir_run.specs.Plan.{deliveries_from, delivery, each_alone, is_listed, planned, removals}
-pub use Rattle.maildir_run.specs.Progress.{Brings, IsTarget, Knows, LeavesHomes, message_at, Progress, TmpWithin}
+pub use Rattle.maildir_run.specs.Private.Progress.{Brings, IsTarget, Knows, message_at, Progress, TmpWithin}
 pub use Rattle.maildir_run.specs.Quietly.{LeavesOthers}
-pub use Rattle.maildir_run.specs.Reading.{Breaks, IsReading, NeverReads, ReadsAtLeast, ReadsAtMost, Taken, Went}
+pub use Rattle.maildir_run.specs.Private.Reading.{Breaks, NeverReads, Taken, Went}
+pub use Rattle.maildir_run.specs.Reading.{IsReading, ReadsAtLeast, ReadsAtMost}
 pub use Rattle.maildir_run.specs.Runs.{Acted, Chain, CountsRun, Keeps, Link, Linked, Possible, Run, Runs}
-pub use Rattle.maildir_run.specs.Script.{acts_at, all_performed, Answers, done, fails, halved, IsCutShort, IsPart, may_link, mode_at, performed}
-pub use Rattle.maildir_run.specs.Tasks.{AllDone, Ask, call_of, Do, Done, DoneUntil, leaving, listings, Names, Performs, planned_tasks, reported, Stopped}
-pub use Rattle.maildir_run.specs.Tasks.{Task, task_of, tasks_of, undisturbed, Way}
+pub use Rattle.maildir_run.specs.Script.{acts_at, all_performed, Answers, done, fails, halved, IsCutShort, IsPart, mode_at, performed}
+pub use Rattle.maildir_run.specs.Private.Script.{may_link}
+pub use Rattle.maildir_run.specs.Tasks.{AllDone, Ask, call_of, Do, Done, DoneUntil, leaving, listings, Names, Performs, planned_tasks, reported, Stopped, Task, task_of, tasks_of, Way}
+pub use Rattle.maildir_run.specs.Private.Tasks.{undisturbed}
 pub use Rattle.maildir_run.specs.Texts.{bodies_of, messages_of, MessagesOf, with_bodies}
 pub use Rattle.maildir_run.specs.declared.fault.RunFault.{RunFault}
 pub use Rattle.maildir_run.specs.declared.fault.RunFault.TheVariants.{NoFromLine, OutOfMemory, ReadFault, TooManyReads}

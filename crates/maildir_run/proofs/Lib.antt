@@ -1,43 +1,18 @@
+-- The words that the proofs cite, passed on from one place. Declares nothing.
 pub mod Common
-pub mod Maps
-pub mod Homes
-pub mod Moves
-pub mod Cuts
-pub mod ListedNowhere
-pub mod Chains
-pub mod Outsiders
-pub mod Leftovers
-pub mod PlanLemmas
-pub mod Sets
-pub mod CallCounts
-pub mod Steps
-pub mod Surveys
-pub mod Reach
-pub mod Batches
-pub mod Givens
-pub mod PossibleMessages
-pub mod Exits
-pub mod Faults
-pub mod Progress
-pub mod Unread
-pub mod Trees
-pub mod QuietCalls
-pub mod Scripts
-pub mod Followed
-pub mod FromLines
-pub mod Poured
-pub mod Each
-pub mod MessageLemmas
-pub mod Numbers
-pub mod Levels
-pub mod SeveralTexts
-pub mod OneText
-pub mod AloneLemmas
-pub mod QuietRuns
-pub mod ListLines
+-- Names and bases, in finite maps and sets.
+pub mod Names
+-- What one call leaves, whatever other programs do meanwhile.
+pub mod Call
+-- What calls leave that were planned and made in order, up to the first that was refused.
 pub mod Tasks
-pub mod Planned
-pub mod Bringing
-pub mod TaskEffects
-pub mod Owed
-pub mod Conversions
+-- What was read of a source, and which texts it may have had.
+pub mod Source
+-- A run: what it was given and did, and that it owes what follows.
+pub mod Run
+-- Any number of runs over one text or several, and other programs' actions.
+pub mod Chains
+-- What `rewrite` and `list_text` write while a source is read.
+pub mod Output
+-- The folder in memory: its files, its script, and that it takes effect as reported.
+pub mod Memory

@@ -1,8 +1,5 @@
 -- How a run counts its folder calls, and what its faults say of them.
 use Rattle.std.specs.Prelude.{◌≡◌, ℕ, zero, suc, ◌+◌, ◌%◌, ◌^◌, ◌<◌, min, Option, Some, None, Result, Ok, Err}
-use Rattle.maildir_run.specs.declared.folder.FolderFault.{FolderFault}
-use Rattle.maildir_run.specs.declared.folder.FolderFault.TheVariants.{Absent, Failed}
-use Rattle.maildir_run.specs.declared.folder.FolderFault.TheVariants as folder
 use Rattle.maildir_run.specs.declared.fault.RunFault.{RunFault}
 use Rattle.maildir_run.specs.declared.fault.RunFault.TheVariants.{FolderAbsent, FolderFailed, OutOfMemory}
 use Rattle.maildir_run.specs.Calls.{GoesUp}
@@ -20,17 +17,6 @@ capped n = min n 18446744073709551615
 abbrev pub fault_of : {A E : Type 0} → Result A E → Option E
 fault_of (Ok _) = None
 fault_of (Err fault) = Some fault
-
--- the fault of a folder call, as the run gives it; this is the number of the call
-abbrev pub run_fault : ℕ → FolderFault → RunFault
-run_fault number Absent = FolderAbsent
-run_fault number Failed = FolderFailed number
-run_fault number folder.OutOfMemory = OutOfMemory
-
--- and its answer
-abbrev pub run_answer : {A : Type 0} → ℕ → Result A FolderFault → Result A RunFault
-run_answer number (Ok value) = Ok value
-run_answer number (Err fault) = Err (run_fault number fault)
 
 -- the count of failures goes up with `FolderAbsent` and `FolderFailed`, and with no other fault
 abbrev pub GoesUpWith : Option RunFault → ℕ → ℕ → Type 0
@@ -53,11 +39,6 @@ IsOfFolder FolderAbsent = Unit {0}
 IsOfFolder (FolderFailed _) = Unit {0}
 IsOfFolder OutOfMemory = Unit {0}
 IsOfFolder other = ⊥
-
--- so many calls were made: the folder counts them, and so does the run
-pub record Makes (n made made' calls calls' : ℕ) : Type 0 where
-  pub count_is : calls' ≡ raised n calls
-  pub numbered : (k : ℕ) → made ≡ capped k → made' ≡ capped (k + n)
 
 -- A run made so many folder calls, fewer than 2^66, and a `FolderFailed` has their number, or 2^64 - 1 if that is smaller.
 pub record Numbers {A : Type 0} (answer : Result A RunFault) (old new : ℕ) : Type 0 where

@@ -1,10 +1,10 @@
 -- The files of a Maildir, and what other programs may do to them.
-use Rattle.std.specs.Prelude.{◌≡◌, ◌&&◌, not, ℕ, Bool, IsTrue, List, [], ◌∷◌, ◌++◌, Option, Some, None, if◌then◌else◌}
+use Rattle.std.specs.Prelude.{◌≡◌, ◌&&◌, not, ℕ, Bool, IsTrue, List, [], ◌∷◌, ◌++◌, Option, Some, None, if◌then◌else◌, IsPermutation}
 use Rattle.std.specs.declared.cmp.Ordering.{Ordering}
 use Rattle.std.specs.Ordering.{nat_cmp, eq_by_cmp}
 use Rattle.std.specs.Cmp.Lexicographic.{slice_cmp}
 use Rattle.std.specs.FinMap.{FinMap, get, insert, remove, entries, values, contains_key, retain_keys, from_entries}
-use Rattle.maildir_name.specs.Names.{base, is_converter_name}
+use Rattle.maildir_name.specs.Names.{base, is_converter_name, is_converter_base}
 
 -- names in the order of their bytes (this project's own rule)
 abbrev pub name_cmp : List ℕ → List ℕ → Ordering
@@ -88,3 +88,7 @@ pub record LeavesConverters (old new : Files) : Type 0 where
   pub tmp_alike : AgreeOnConverters old.tmp new.tmp
   pub new_alike : AgreeOnConverters old.new new.new
   pub cur_alike : AgreeOnConverters old.cur new.cur
+
+-- each converter's base keeps its homes
+pub record LeavesHomes (old new : Files) : Type 0 where
+  pub kept : (b : List ℕ) → IsTrue (is_converter_base b) → IsPermutation (homes old b) (homes new b)

@@ -1,24 +1,42 @@
+-- The files of a Maildir, and what other programs may do to them.
 pub mod Files
-pub mod Calls
-pub mod Cuts
+-- What the messages of a text are in a folder: missing or at home, sound, delivered.
 pub mod Delivery
+-- The messages of a text, as a folder is to have them.
 pub mod Texts
+-- What one run owes, and what may follow one another: runs with any answers, and other programs' actions.
 pub mod Runs
-pub mod Several
-pub mod Alone
+-- The calls of a folder: the effect of each, and what may happen before, within and after it.
+pub mod Calls
+-- What a power cut may leave of a folder, from one call to the next. In `new` and `cur` it is the files that are found then;
+pub mod Cuts
+-- The steps of a run, from what is listed and what is owed.
 pub mod Plan
-pub mod Bases
-pub mod Given
-pub mod Counting
-pub mod Progress
-pub mod Reading
-pub mod FileTree
-pub mod MemFiles
-pub mod Script
-pub mod MemFolder
-pub mod Output
-pub mod Quietly
-pub mod Listing
-pub mod ListedSoFar
-pub mod Tasks
+-- Which calls each part of a run makes.
 pub mod Parts
+-- What a run did with its folder: calls that were planned, in order, up to the first that was refused.
+pub mod Tasks
+-- How a run counts its folder calls, and what its faults say of them.
+pub mod Counting
+-- What a run leaves that nobody disturbs.
+pub mod Alone
+-- What the parts of a run leave that nobody disturbs.
+pub mod Quietly
+-- How much a call reads of its source, and what it may be refused for.
+pub mod Reading
+-- Several texts that go into one Maildir: what is sound for all of them, and what runs over any of them leave.
+pub mod Several
+-- What a call that writes owes of its output, for the texts that its source may have had.
+pub mod Output
+-- What a listing shows of a text: one line a message (this project's own rule).
+pub mod Listing
+-- The files of one folder in memory, as a finite map.
+pub mod FileTree
+-- The files of a folder in memory.
+pub mod MemFiles
+-- What a script makes of a folder in memory: what other programs do before its calls, and which calls fail or come twice.
+pub mod Script
+-- What a folder in memory shows.
+pub mod MemFolder
+-- Words of the contracts of private functions and of proofs. No public contract reaches them, and no reader need believe them.
+pub mod Private

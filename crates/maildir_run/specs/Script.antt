@@ -8,7 +8,7 @@ use Rattle.maildir_run.specs.declared.script.Act.TheVariants as act
 use Rattle.maildir_run.specs.declared.script.Mode.{Mode}
 use Rattle.maildir_run.specs.declared.script.Mode.TheVariants.{Plain, FailBefore, FailAfter, Half, Twice}
 use Rattle.maildir_run.specs.declared.script.ScriptLine.{ScriptLine}
-use Rattle.maildir_run.specs.Files.{Files, ToCur, Reflag, DropTmp, acted, may_take}
+use Rattle.maildir_run.specs.Files.{Files, ToCur, Reflag, DropTmp, acted}
 use Rattle.maildir_run.specs.Cuts.{doubled}
 use Rattle.maildir_run.specs.Calls.{Call, Writing, Placing, Removing, effect, torn, IsReady}
 use Rattle.maildir_run.specs.MemFiles.{with_file, without_file}
@@ -20,11 +20,6 @@ performed (act.Reflag name target) s = acted (Reflag (string_bytes name) (string
 performed (act.DropTmp name) s = acted (DropTmp (string_bytes name)) s
 performed (act.PutOther sub name bytes) s = if is_converter_name (string_bytes name) then s else with_file sub (string_bytes name) bytes.items s
 performed (act.DropOther sub name) s = if is_converter_name (string_bytes name) then s else without_file sub (string_bytes name) s
-
--- whether a file, which holds this if it is there, may be put under this name too
-abbrev pub may_link : Files → List ℕ → List ℕ → Option (List ℕ) → Bool
-may_link s name target None = false
-may_link s name target (Some bytes) = may_take s.cur name target
 
 -- the files after half of an act: a file that is moved is under both names, and of any other act half is nothing
 abbrev pub half_performed : Act → Files → Files

@@ -1,12 +1,11 @@
 -- What a run did with its folder: calls that were planned, in order, up to the first that was refused.
-use Rattle.std.specs.Prelude.{◌≡◌, ℕ, ◌⊎◌, List, [], ◌∷◌, ◌++◌, map, take, drop, IsPermutation, Option, Some, None, Result}
-use Rattle.std.specs.FinMap.{keys}
+use Rattle.std.specs.Prelude.{◌≡◌, ℕ, ◌⊎◌, List, [], ◌∷◌, ◌++◌, map, take, drop, Option, Some, None, Result}
 use Rattle.std.specs.List.{flat_map}
 use Rattle.maildir_run.specs.declared.folder.Sub.{Sub}
 use Rattle.maildir_run.specs.declared.folder.Sub.TheVariants.{Tmp, New, Cur}
 use Rattle.maildir_run.specs.declared.planner.Step.{Step}
 use Rattle.maildir_run.specs.declared.planner.Step.TheVariants.{Remove, Write, Place}
-use Rattle.maildir_run.specs.Calls.{Call, Listing, Writing, Placing, Removing, Move, Succeeded, Failed, Lists, IsReady, IsOwn, effect, after, folder_of}
+use Rattle.maildir_run.specs.Calls.{Call, Listing, Writing, Placing, Removing, Succeeded, Failed, Lists}
 use Rattle.maildir_run.specs.Cuts.{Leaves, IsFoundWhole}
 use Rattle.maildir_run.specs.Counting.{fault_of}
 use Rattle.maildir_run.specs.Delivery.{Message}
@@ -28,18 +27,9 @@ abbrev pub Done : Task → Files → Files → Type 0
 Done (Ask sub names) old new = Lists sub old names new
 Done (Do call) old new = Succeeded call old new
 
--- and in a quiet one
-abbrev pub DoneQuietly : Task → Files → Files → Type 0
-DoneQuietly (Ask sub names) old new = (new ≡ old) × IsPermutation names (keys (folder_of sub old))
-DoneQuietly (Do call) old new = IsReady call old × (new ≡ effect call old)
-
 -- it was refused, or not made
 abbrev pub Refused : Task → Files → Files → Type 0
 Refused task old new = Failed (call_of task) old new
-
--- and in a quiet folder
-abbrev pub RefusedQuietly : Task → Files → Files → Type 0
-RefusedQuietly task old new = (moves : List Move) × IsOwn moves × (new ≡ after old (call_of task) moves)
 
 -- a way in which tasks are done and refused
 pub record Way : Type 1 where
@@ -49,10 +39,6 @@ pub record Way : Type 1 where
 -- as reported
 abbrev pub reported : Way
 reported = record { done = Done; refused = Refused }
-
--- and with nobody else at work
-abbrev pub undisturbed : Way
-undisturbed = record { done = DoneQuietly; refused = RefusedQuietly }
 
 -- what a cut leaves of a task that was done
 abbrev pub LeavesDone : Task → Files → Files → Type 0

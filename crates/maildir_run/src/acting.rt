@@ -6,7 +6,8 @@ ghost use Rattle.maildir_run.specs.Cuts.{linked};
 ghost use Rattle.maildir_run.specs.Files.{acted, may_take};
 ghost use Rattle.maildir_run.specs.Files.Action.{ToCur, Reflag};
 ghost use Rattle.maildir_run.specs.MemFiles.{files_in};
-ghost use Rattle.maildir_run.specs.Script.{acts_at, performed, half_performed, all_performed, may_link, IsCutShort};
+ghost use Rattle.maildir_run.specs.Script.{acts_at, performed, half_performed, all_performed, IsCutShort};
+ghost use Rattle.maildir_run.specs.Private.Script.{may_link};
 
 use crate::file_tree::FileTree;
 use crate::folder::Sub;

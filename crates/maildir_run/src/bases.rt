@@ -3,7 +3,7 @@ ghost use Rattle.std.specs.Prelude.{◌≡◌, ℕ, List, map, string_bytes, IfO
 ghost use Rattle.std.specs.FinMap.{contains_key, empty, insert};
 ghost use Rattle.maildir_name.specs.Names.{base};
 ghost use Rattle.maildir_run.specs.Plan.{is_listed};
-ghost use Rattle.maildir_run.specs.Bases.{with_bases};
+ghost use Rattle.maildir_run.specs.Private.Bases.{with_bases};
 
 use maildir_name::base_of;
 use std::alloc::{AllocError, Global};
@@ -17,7 +17,7 @@ pub(crate) struct Bases<'a> {
 }
 
 impl<'a> Model for Bases<'a> {
-    ghost use Rattle.maildir_run.specs.Bases.{BaseSet, base_set_code, set_of};
+    ghost use Rattle.maildir_run.specs.Private.Bases.{BaseSet, base_set_code, set_of};
 
     ghost Value = { BaseSet };
 

@@ -1,8 +1,9 @@
 // The folder calls of a run, and their number for its faults.
 ghost use Rattle.std.specs.Prelude.{◌≡◌, ◌+◌, [], ◌∷◌, IfErr};
-ghost use Rattle.maildir_run.specs.Counting.{capped, fault_of, run_answer, IsOfFolder};
+ghost use Rattle.maildir_run.specs.Counting.{capped, fault_of, IsOfFolder};
+ghost use Rattle.maildir_run.specs.Private.Counting.{run_answer};
 ghost use Rattle.maildir_run.specs.Calls.Call.{Writing, Placing, Removing};
-ghost use Rattle.maildir_run.specs.Parts.{Ran, seen, names_in};
+ghost use Rattle.maildir_run.specs.Private.Parts.{Ran, seen, names_in};
 ghost use Rattle.maildir_run.specs.Tasks.Task.{Ask, Do};
 
 use crate::fault::RunFault;

@@ -1,7 +1,8 @@
 // One message on its way to its target.
 ghost use Rattle.std.specs.Prelude.{IfErr};
 ghost use Rattle.maildir_run.specs.Counting.{IsOfFolder, fault_of};
-ghost use Rattle.maildir_run.specs.Parts.{Ran, seen, delivery_of};
+ghost use Rattle.maildir_run.specs.Private.Parts.{Ran, seen};
+ghost use Rattle.maildir_run.specs.Parts.{delivery_of};
 
 use crate::calls::Calls;
 use crate::fault::RunFault;

@@ -3,7 +3,7 @@ ghost use Rattle.std.specs.Prelude.{◌≡◌, ◌⊎◌, ◌*◌, ◌^◌, ◌�
 ghost use Rattle.std.specs.Io.KnownBytes.{IsAtEnd};
 ghost use Rattle.mbox_text.specs.FromLine.{IsFromLine};
 ghost use Rattle.mbox_text.specs.Spelling.{FromLines};
-ghost use Rattle.maildir_run.specs.ListedSoFar.{HasListed, ListsMore};
+ghost use Rattle.maildir_run.specs.Private.ListedSoFar.{HasListed, ListsMore};
 ghost use Rattle.maildir_run.specs.Listing.{listing as listing_of};
 ghost use Rattle.maildir_run.specs.Output.{GivesAll, GivesFront, GivesNothing};
 ghost use Rattle.maildir_run.specs.Reading.{IsReading, ReadsAtLeast, ReadsAtMost};

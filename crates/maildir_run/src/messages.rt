@@ -24,7 +24,8 @@ pub(crate) struct Messages {
 }
 
 impl Messages {
-    ghost use Rattle.maildir_run.specs.Reading.{IsReading, Taken, Went};
+    ghost use Rattle.maildir_run.specs.Reading.{IsReading};
+    ghost use Rattle.maildir_run.specs.Private.Reading.{Taken, Went};
 
     /// Nothing was read. So many reads may be made.
     pub(crate) fn new(alloc: Global, reads: u64) -> Result<Messages, AllocError>

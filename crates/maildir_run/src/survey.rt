@@ -3,7 +3,7 @@ ghost use Rattle.std.specs.Prelude.{◌≡◌, ◌<◌, ◌^◌, length, IfOk, I
 ghost use Rattle.maildir_run.specs.Calls.{names_of};
 ghost use Rattle.maildir_run.specs.Counting.{IsOfFolder, fault_of};
 ghost use Rattle.maildir_run.specs.Tasks.{listings, Names};
-ghost use Rattle.maildir_run.specs.Parts.{Ran, seen};
+ghost use Rattle.maildir_run.specs.Private.Parts.{Ran, seen};
 
 use crate::calls::Calls;
 use crate::fault::RunFault;

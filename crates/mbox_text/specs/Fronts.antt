@@ -18,7 +18,3 @@ AllButLast text given =
 -- the first list holds the first messages of the second, and not all of them
 abbrev pub IsProperFront : List Entry → List Entry → Type 0
 IsProperFront front entries = (next : Entry) × (rest : List Entry) × (entries ≡ front ++ next ∷ rest)
-
--- whatever comes behind the text, these are none, or the first messages of the whole and not all of them
-abbrev pub Stay : List ℕ → List Entry → Type 0
-Stay text given = (more : List ℕ) (entries : List Entry) → Mbox (text ++ more) entries → (given ≡ []) ⊎ IsProperFront given entries

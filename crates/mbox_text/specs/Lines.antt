@@ -1,5 +1,5 @@
 -- The lines of a text. A line ends with the byte 10, LF, as in the default format of RFC 4155, appendix A.
-use Rattle.std.specs.Prelude.{◌≡◌, ℕ, ◌==◌, ◌<◌, ◌≤◌, false, length, take, List, [], ◌∷◌, ◌++◌, ◌⊎◌, if◌then◌else◌}
+use Rattle.std.specs.Prelude.{◌≡◌, ℕ, ◌==◌, false, List, [], ◌∷◌, ◌++◌, ◌⊎◌, if◌then◌else◌}
 
 -- these lines, with the byte c before the first of them
 abbrev pub before_first : ℕ → List (List ℕ) → List (List ℕ)
@@ -19,10 +19,3 @@ Ended text = (text ≡ []) ⊎ (front : List ℕ) × (text ≡ front ++ 10 ∷ [
 abbrev pub NoEnd : List ℕ → Type 0
 NoEnd [] = Unit {0}
 NoEnd (c ∷ text) = ((c == 10) ≡ false) × NoEnd text
-
--- the first bytes of the text are one line
-pub record IsLine (text : List ℕ) (n : ℕ) : Type 0 where
-  pub some : 0 < n
-  pub within : n ≤ length text
-  pub line : lines (take n text) ≡ take n text ∷ []
-  pub ends : (n ≡ length text) ⊎ Ended (take n text)

@@ -1,6 +1,5 @@
 -- Which lines begin a message, and how a line of a body is quoted (qmail's mbox(5), the format that is called mboxrd).
-use Rattle.std.specs.Prelude.{◌≡◌, ℕ, ◌==◌, ◌<◌, Bool, true, false, ◌&&◌, List, [], ◌∷◌, length, take, drop, Option, MatchOption, if◌then◌else◌}
-use Rattle.mbox_text.specs.Lines.{lines, Ended}
+use Rattle.std.specs.Prelude.{ℕ, ◌==◌, Bool, true, false, ◌&&◌, List, [], ◌∷◌, if◌then◌else◌}
 
 -- whether the first list is the front of the second
 abbrev pub begins_with : List ℕ → List ℕ → Bool
@@ -29,19 +28,3 @@ quoted line = if quotable line then 62 ∷ line else line
 unfoldable pub unquoted : List ℕ → List ℕ
 unquoted [] = []
 unquoted (c ∷ line) = if c == 62 && quotable line then line else c ∷ line
-
--- no line is quotable
-abbrev pub NoneQuotable : List (List ℕ) → Type 0
-NoneQuotable [] = Unit {0}
-NoneQuotable (l ∷ ls) = (quotable l ≡ false) × NoneQuotable ls
-
--- the first quotable line of the text begins at this place
-pub record FirstQuotable (text : List ℕ) (n : ℕ) : Type 0 where
-  pub within : n < length text
-  pub ended : Ended (take n text)
-  pub none : NoneQuotable (lines (take n text))
-  pub there : quotable (drop n text) ≡ true
-
--- this is where the first quotable line of the text begins
-abbrev pub FindsQuotable : List ℕ → Option ℕ → Type 0
-FindsQuotable text result = MatchOption result (NoneQuotable (lines text)) (λ n. FirstQuotable text n)

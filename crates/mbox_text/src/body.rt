@@ -4,7 +4,7 @@ ghost use Rattle.std.specs.List.{flat_map};
 ghost use Rattle.mbox_text.specs.Lines.{lines, Ended, NoEnd};
 ghost use Rattle.mbox_text.specs.Quoting.{begins_from, unquoted};
 ghost use Rattle.mbox_text.specs.Mbox.{NoFrom};
-ghost use Rattle.mbox_text.specs.Held.{chopped};
+ghost use Rattle.mbox_text.specs.Private.Moved.{chopped};
 
 use crate::from_line::begins_with_from;
 use crate::lines::whole_len;

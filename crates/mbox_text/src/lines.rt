@@ -1,6 +1,7 @@
 // Where the lines of a text end.
 ghost use Rattle.std.specs.Prelude.{◌<◌, ◌≤◌, length, take, drop};
-ghost use Rattle.mbox_text.specs.Lines.{Ended, IsLine, NoEnd};
+ghost use Rattle.mbox_text.specs.Lines.{Ended, NoEnd};
+ghost use Rattle.mbox_text.specs.Private.Lines.{IsLine};
 
 use memchr::{memchr, memrchr};
 

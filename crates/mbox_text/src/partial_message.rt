@@ -1,6 +1,6 @@
 // The message that a splitter is reading.
 ghost use Rattle.std.specs.Prelude.{◌≡◌, ◌++◌, IfOk};
-ghost use Rattle.mbox_text.specs.Held.{chopped};
+ghost use Rattle.mbox_text.specs.Private.Moved.{chopped};
 ghost use Rattle.mbox_text.specs.Quoting.{unquoted};
 
 use crate::body::{add_unquoted, drop_blank};

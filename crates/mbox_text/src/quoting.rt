@@ -1,6 +1,7 @@
 // The `>` before a line of a body that would read as a From_ line.
 ghost use Rattle.std.specs.Prelude.{◌≡◌, ◌<◌, length, drop, MatchBool};
-ghost use Rattle.mbox_text.specs.Quoting.{FindsQuotable, quotable, unquoted};
+ghost use Rattle.mbox_text.specs.Private.Lines.{FindsQuotable};
+ghost use Rattle.mbox_text.specs.Quoting.{quotable, unquoted};
 
 use crate::from_line::begins_with_from;
 use crate::lines::{line_len, whole_len};

@@ -2,7 +2,7 @@
 ghost use Rattle.std.specs.Prelude.{◌≡◌, ◌↔◌, ◌⊎◌, true, IfOk, IfErr, IsErrOf};
 ghost use Rattle.mbox_text.specs.Mbox.{Mbox, IsMboxText, IsUnreadable};
 ghost use Rattle.mbox_text.specs.Quoting.{begins_from};
-ghost use Rattle.mbox_text.specs.Split.{IsFirstBlock, IsFirstBody};
+ghost use Rattle.mbox_text.specs.Private.Split.{IsFirstBlock, IsFirstBody};
 
 use crate::body::{add_unquoted, drop_blank, take_lines};
 use crate::bytes::Bytes;

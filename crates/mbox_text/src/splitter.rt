@@ -1,7 +1,8 @@
 // The splitter: messages out of a text that comes in pieces.
 ghost use Rattle.std.specs.Prelude.{◌≡◌, ◌<◌, ◌≤◌, ◌↔◌, [], ◌∷◌, length, take, IfErr, IfOk, IsErr, IsErrOf, OnErr, OnOk};
 ghost use Rattle.mbox_text.specs.Fed.{Ends, Fed, IsSplitterFault, NeverBegins, RefusesShort, Takes, TakesPart};
-ghost use Rattle.mbox_text.specs.Held.{Gives, HasFailed, Moves, Refuses, Stops};
+ghost use Rattle.mbox_text.specs.Private.Moved.{Gives, Moves, Refuses, Stops};
+ghost use Rattle.mbox_text.specs.Held.{HasFailed};
 ghost use Rattle.mbox_text.specs.Lines.{NoEnd};
 
 use crate::body::{add_line, take_lines};

@@ -1,1 +1,2 @@
+-- Sources that break off.
 pub mod Broken

@@ -3,7 +3,7 @@ use Rattle.std.specs.Io.Buffered.{writer_buffer, writer_contents}
 use Rattle.std.specs.List.{flat_map}
 use Rattle.mbox_text.specs.Spelling.{spelling}
 use Rattle.maildir_run.specs.Listing.{listing as listing_of}
-use Rattle.maildir_disk.proofs.Lefts.{on_ok}
+use Rattle.maildir_disk.proofs.Left.Lefts.{on_ok}
 use Rattle.maildir_commands.proofs.Several.{on_err, on_ok_then}
 use Rattle.maildir_commands.proofs.Written.{all_front, each_some, handed_all, handed_each, handed_reports, some_kept}
 use Rattle.maildir_commands.proofs.program.perform.Goals as goal

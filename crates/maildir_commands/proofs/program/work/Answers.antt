@@ -1,6 +1,7 @@
 use Rattle.std.proofs.Common.{◌≡◌, OnOk, map, string_bytes, sym, subst, ◌∙◌}
 use Rattle.maildir_commands.specs.Machines.{AreAllSafe, Gives, IsSoundFor}
-use Rattle.maildir_commands.specs.Words.{IsOf, convert_words}
+use Rattle.maildir_commands.specs.Private.Words.{IsOf}
+use Rattle.maildir_commands.specs.Words.{convert_words}
 use Rattle.maildir_commands.proofs.Forms.{same_words}
 use Rattle.maildir_commands.proofs.program.work.Goals as goal
 

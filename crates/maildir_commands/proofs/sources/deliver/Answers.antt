@@ -1,7 +1,7 @@
 use Rattle.std.proofs.Common.{inr, rules}
-use Rattle.maildir_run.proofs.Chains.{sound_now}
-use Rattle.maildir_disk.proofs.Others.{stays_after_run, stays_after_both}
-use Rattle.maildir_disk.proofs.Safety.{intact_after_run, intact_after_both, survive_after_run, survive_after_both, safe_after_both, reports_after_run}
+use Rattle.maildir_run.proofs.Chains.Chains.{sound_now}
+use Rattle.maildir_disk.proofs.Kept.Others.{stays_after_run, stays_after_both}
+use Rattle.maildir_disk.proofs.Kept.Safety.{intact_after_run, intact_after_both, survive_after_run, survive_after_both, safe_after_both, reports_after_run}
 use Rattle.maildir_commands.proofs.Known.{both_have, of_reports}
 use Rattle.maildir_commands.proofs.Several.{on_err}
 use Rattle.maildir_commands.proofs.sources.deliver.Goals as goal

@@ -3,7 +3,7 @@ use Rattle.std.proofs.KnownBytes.{Appends-kept}
 use Rattle.std.proofs.lemmas.List.Elements.{All-head}
 use Rattle.maildir_run.specs.Several.{Text}
 use Rattle.maildir_disk.specs.PowerCuts.{AreAlike}
-use Rattle.maildir_disk.proofs.Lefts.{on_ok}
+use Rattle.maildir_disk.proofs.Left.Lefts.{on_ok}
 use Rattle.maildir_commands.specs.Report.{report_line}
 use Rattle.maildir_commands.proofs.Known.{of_reports}
 use Rattle.maildir_commands.proofs.Reports.{one_report}

@@ -1,5 +1,5 @@
-use Rattle.maildir_run.proofs.Chains.{sound_now}
-use Rattle.maildir_disk.proofs.CutChains.{cuts_stand}
+use Rattle.maildir_run.proofs.Chains.Chains.{sound_now}
+use Rattle.maildir_disk.proofs.Kept.CutChains.{cuts_stand}
 use Rattle.maildir_disk.proofs.cuts.after_any_cuts.Goals as goal
 
 pub returns-clause-sound : goal.returns-clause-sound

@@ -1,4 +1,4 @@
-use Rattle.maildir_disk.proofs.CutChains.{delivers, kept_then, stand_new, stand_then}
+use Rattle.maildir_disk.proofs.Kept.CutChains.{delivers, kept_then, stand_new, stand_then}
 use Rattle.maildir_disk.proofs.cuts.after_cuts_of_several.Goals as goal
 
 pub returns-clause-sound : goal.returns-clause-sound

@@ -1,4 +1,4 @@
-use Rattle.maildir_disk.proofs.Syncs.{synced_bodies}
+use Rattle.maildir_disk.proofs.Kept.Syncs.{synced_bodies}
 use Rattle.maildir_disk.proofs.cuts.kept_by_a_sync.Goals as goal
 
 pub returns : goal.returns

@@ -1,4 +1,4 @@
-use Rattle.maildir_disk.proofs.LeftHomes.{all_beside, all_bodies, all_intact}
+use Rattle.maildir_disk.proofs.Left.LeftHomes.{all_beside, all_bodies, all_intact}
 use Rattle.maildir_disk.proofs.cuts.left_by_others.Goals as goal
 
 pub returns-clause-intact : goal.returns-clause-intact

@@ -1,5 +1,5 @@
-use Rattle.maildir_disk.proofs.LeftHomes.{all_bodies, all_intact}
-use Rattle.maildir_disk.proofs.LeftTasks.{own_hold, texts_hold}
+use Rattle.maildir_disk.proofs.Left.LeftHomes.{all_bodies, all_intact}
+use Rattle.maildir_disk.proofs.Left.LeftTasks.{own_hold, texts_hold}
 use Rattle.maildir_disk.proofs.cuts.left_of_a_run.Goals as goal
 
 pub returns-clause-intact : goal.returns-clause-intact

@@ -1,5 +1,5 @@
 use Rattle.std.proofs.Common.{get_or}
-use Rattle.maildir_disk.proofs.SingleHomes.{single_sound, single_home}
+use Rattle.maildir_disk.proofs.Left.SingleHomes.{single_sound, single_home}
 use Rattle.maildir_disk.proofs.cuts.one_name_each.Goals as goal
 
 pub returns-clause-sound : goal.returns-clause-sound

@@ -1,8 +1,8 @@
 use Rattle.std.proofs.Common.{◌∙◌}
 use Rattle.std.specs.Time.{system_time_nanos}
 use Rattle.maildir_disk.specs.Look.{IsSettled, IsFarAhead}
-use Rattle.maildir_disk.proofs.Passing.{acts_on, looked_fault, lists_at, exact_if_settled, exact_if_ahead}
-use Rattle.maildir_disk.proofs.Lefts.{others_then}
+use Rattle.maildir_disk.proofs.Calls.Passing.{acts_on, looked_fault, lists_at, exact_if_settled, exact_if_ahead}
+use Rattle.maildir_disk.proofs.Left.Lefts.{others_then}
 use Rattle.maildir_disk.proofs.one_moment.take_names.Goals as goal
 
 pub returns-in_err-now-clause-looked : goal.returns-in_err-now-clause-looked

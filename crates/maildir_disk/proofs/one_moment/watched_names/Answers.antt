@@ -2,8 +2,8 @@ use Rattle.std.proofs.Common.{◌≡◌, subst, arith}
 use Rattle.std.proofs.lemmas.Grind.{common_steps}
 use Rattle.std.specs.Time.{system_time_nanos}
 use Rattle.maildir_disk.specs.World.{Tells}
-use Rattle.maildir_disk.proofs.Passing.{acts_on, watched_fault, watched}
-use Rattle.maildir_disk.proofs.Lefts.{others_then}
+use Rattle.maildir_disk.proofs.Calls.Passing.{acts_on, watched_fault, watched}
+use Rattle.maildir_disk.proofs.Left.Lefts.{others_then}
 use Rattle.maildir_disk.proofs.one_moment.watched_names.Goals as goal
 
 pub returns-in_err-after-clause-watched : goal.returns-in_err-after-clause-watched

@@ -1,6 +1,6 @@
 use Rattle.std.proofs.Common.{◌≡◌, None, ap, ◌∙◌, rules, bytes_eq}
 use Rattle.maildir_run.proofs.Common.{get}
-use Rattle.maildir_run.proofs.Scripts.{free_name}
+use Rattle.maildir_run.proofs.Memory.Scripts.{free_name}
 use Rattle.maildir_run.proofs.acting.is_free.Goals as goal
 
 pub returns-then-is_none : goal.returns-then-is_none

@@ -1,6 +1,6 @@
 use Rattle.std.proofs.Common.{◌≡◌, [], arith}
-use Rattle.maildir_run.proofs.Givens.{gave_more, gave_refused, some_left, none_left}
-use Rattle.maildir_run.proofs.Faults.{if_err}
+use Rattle.maildir_run.proofs.Source.Givens.{gave_more, gave_refused, some_left, none_left}
+use Rattle.maildir_run.proofs.Tasks.Faults.{if_err}
 use Rattle.maildir_run.proofs.converting.read_first.Goals.{then-ended-via-then-ended, then-ended-via-else-ended+then-not-is_empty}
 use Rattle.maildir_run.proofs.converting.read_first.Goals as goal
 

@@ -1,10 +1,10 @@
 use Rattle.std.proofs.Common.{◌*◌, [], ◌++◌, refl, ◌∙◌, inr}
 use Rattle.maildir_run.proofs.Common.{OutOfMemory, seen, bodies_of}
-use Rattle.maildir_run.proofs.Bringing.{brought_none}
-use Rattle.maildir_run.proofs.Conversions.{stops, stops_in_folder, stops_unread, all_ran, tells_listed, one_batch, report_tells}
-use Rattle.maildir_run.proofs.Exits.{read_nothing, batch_fits, batch_count, batch_begun, went_down}
-use Rattle.maildir_run.proofs.Givens.{gave_more, gave_refused, given_front, front_few, broken_front, never_again}
-use Rattle.maildir_run.proofs.Tasks.{ran_then, ran_before, ran_stop}
+use Rattle.maildir_run.proofs.Run.Bringing.{brought_none}
+use Rattle.maildir_run.proofs.Run.Conversions.{stops, stops_in_folder, stops_unread, all_ran, tells_listed, one_batch, report_tells}
+use Rattle.maildir_run.proofs.Source.Givens.{read_nothing, went_down, gave_more, gave_refused, given_front, front_few, broken_front, never_again}
+use Rattle.maildir_run.proofs.Run.Batches.{batch_fits, batch_count, batch_begun}
+use Rattle.maildir_run.proofs.Tasks.Tasks.{ran_then, ran_before, ran_stop}
 use Rattle.maildir_run.proofs.converting.run.Goals as goal
 
 pub returns-in_err-messages-clause-is : goal.returns-in_err-messages-clause-is

@@ -1,4 +1,4 @@
-use Rattle.maildir_run.proofs.Tasks.{ran_then, ran_before, ran_err}
+use Rattle.maildir_run.proofs.Tasks.Tasks.{ran_then, ran_before, ran_err}
 use Rattle.maildir_run.proofs.delivery.bring.Goals as goal
 
 pub returns-in_err-write-clause-ran : goal.returns-in_err-write-clause-ran

@@ -1,5 +1,5 @@
-use Rattle.maildir_run.proofs.Homes.{acted_kept}
-use Rattle.maildir_run.proofs.Moves.{after_kept}
+use Rattle.maildir_run.proofs.Call.Homes.{acted_kept}
+use Rattle.maildir_run.proofs.Call.Moves.{after_kept}
 use Rattle.maildir_run.proofs.laws.homes_are_kept.Goals as goal
 
 pub returns-clause-acted : goal.returns-clause-acted

@@ -1,4 +1,4 @@
-use Rattle.maildir_run.proofs.Leftovers.{leftovers}
+use Rattle.maildir_run.proofs.Call.Leftovers.{leftovers}
 use Rattle.maildir_run.proofs.laws.leftovers_never_grow.Goals as goal
 
 pub returns : goal.returns

@@ -1,4 +1,4 @@
-use Rattle.maildir_run.proofs.ListedNowhere.{listed_twice}
+use Rattle.maildir_run.proofs.Call.ListedNowhere.{listed_twice}
 use Rattle.maildir_run.proofs.laws.listed_nowhere.Goals as goal
 
 pub returns : goal.returns

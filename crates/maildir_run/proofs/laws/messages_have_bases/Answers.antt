@@ -1,4 +1,4 @@
-use Rattle.maildir_run.proofs.MessageLemmas.{text_named, text_distinct}
+use Rattle.maildir_run.proofs.Chains.MessageLemmas.{text_named, text_distinct}
 use Rattle.maildir_run.proofs.laws.messages_have_bases.Goals as goal
 
 pub returns-clause-named : goal.returns-clause-named

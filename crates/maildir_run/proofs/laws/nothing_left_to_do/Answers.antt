@@ -1,4 +1,4 @@
-use Rattle.maildir_run.proofs.AloneLemmas.{alone-delivered, three_calls}
+use Rattle.maildir_run.proofs.Tasks.AloneLemmas.{alone-delivered, three_calls}
 use Rattle.maildir_run.proofs.laws.nothing_left_to_do.Goals as goal
 
 pub returns-clause-same : goal.returns-clause-same

@@ -1,4 +1,4 @@
-use Rattle.maildir_run.proofs.OneText.{one_sound, sound_one, one_runs, runs_one}
+use Rattle.maildir_run.proofs.Chains.OneText.{one_sound, sound_one, one_runs, runs_one}
 use Rattle.maildir_run.proofs.laws.one_text.Goals as goal
 
 pub returns-clause-sound : goal.returns-clause-sound

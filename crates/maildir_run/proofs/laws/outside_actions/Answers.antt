@@ -1,4 +1,4 @@
-use Rattle.maildir_run.proofs.Outsiders.{outside_leaves, outside_reaches}
+use Rattle.maildir_run.proofs.Call.Outsiders.{outside_leaves, outside_reaches}
 use Rattle.maildir_run.proofs.laws.outside_actions.Goals as goal
 
 pub returns-clause-leaves : goal.returns-clause-leaves

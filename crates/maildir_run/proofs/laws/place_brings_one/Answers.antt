@@ -1,5 +1,5 @@
 use Rattle.std.proofs.Common.{inl, inr}
-use Rattle.maildir_run.proofs.Moves.{placing, placing_ok}
+use Rattle.maildir_run.proofs.Call.Moves.{placing, placing_ok}
 use Rattle.maildir_run.proofs.laws.place_brings_one.Goals as goal
 
 pub returns-clause-any : goal.returns-clause-any

@@ -1,4 +1,4 @@
-use Rattle.maildir_run.proofs.PlanLemmas.{planned_each_alone}
+use Rattle.maildir_run.proofs.Tasks.PlanLemmas.{planned_each_alone}
 use Rattle.maildir_run.proofs.laws.plan_is_each_alone.Goals as goal
 
 pub returns : goal.returns

@@ -1,4 +1,4 @@
-use Rattle.maildir_run.proofs.Planned.{planned_are}
+use Rattle.maildir_run.proofs.Tasks.PlanLemmas.{planned_are}
 use Rattle.maildir_run.proofs.laws.runs_are_planned.Goals as goal
 
 pub returns : goal.returns

@@ -1,4 +1,4 @@
-use Rattle.maildir_run.proofs.SeveralTexts.{chain_sound, chain_counted, chain_whole}
+use Rattle.maildir_run.proofs.Chains.SeveralTexts.{chain_sound, chain_counted, chain_whole}
 use Rattle.maildir_run.proofs.laws.several_texts.Goals as goal
 
 pub returns-clause-sound : goal.returns-clause-sound

@@ -1,6 +1,6 @@
 use Rattle.std.proofs.Common.{◌≡◌, ◌++◌, map, take, sym, ◌∙◌, ap, take_all}
 use Rattle.maildir_run.proofs.Common.{shown_byte}
-use Rattle.maildir_run.proofs.ListLines.{sender-some}
+use Rattle.maildir_run.proofs.Output.ListLines.{sender-some}
 use Rattle.maildir_run.proofs.line.add_sender.Goals as goal
 
 pub returns : goal.returns

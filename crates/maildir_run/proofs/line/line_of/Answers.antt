@@ -1,6 +1,6 @@
 use Rattle.std.proofs.Common.{length, ap, ◌∙◌}
 use Rattle.maildir_run.proofs.Common.{sender}
-use Rattle.maildir_run.proofs.ListLines.{line-is}
+use Rattle.maildir_run.proofs.Output.ListLines.{line-is}
 use Rattle.maildir_run.proofs.line.line_of.Goals as goal
 
 pub returns : goal.returns

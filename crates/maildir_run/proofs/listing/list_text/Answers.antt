@@ -1,10 +1,10 @@
 use Rattle.std.proofs.Common.{◌≡◌, ◌+◌, ◌++◌, List, [], length, arith, inl, length-append}
 use Rattle.maildir_run.proofs.Common.{Entry, listing}
-use Rattle.maildir_run.proofs.ListLines.{listing_output}
-use Rattle.maildir_run.proofs.Poured.{read_broken, batch, batch_broken, names_fit, poured_none, poured_all, poured_more}
-use Rattle.maildir_run.proofs.Faults.{if_err, fault_is, unless_ok}
-use Rattle.maildir_run.proofs.Scripts.{on_err}
-use Rattle.maildir_run.proofs.Exits.{went_on}
+use Rattle.maildir_run.proofs.Output.ListLines.{listing_output}
+use Rattle.maildir_run.proofs.Output.Poured.{read_broken, batch, batch_broken, names_fit, poured_none, poured_all, poured_more}
+use Rattle.maildir_run.proofs.Tasks.Faults.{if_err, fault_is, unless_ok}
+use Rattle.maildir_run.proofs.Memory.Scripts.{on_err}
+use Rattle.maildir_run.proofs.Source.Givens.{went_on}
 use Rattle.maildir_run.proofs.listing.list_text.Goals as goal
 
 pub pieces-init : goal.pieces-init

@@ -1,6 +1,6 @@
 use Rattle.std.proofs.Common.{List}
 use Rattle.maildir_run.proofs.Common.{Entry, listing, HasListed}
-use Rattle.maildir_run.proofs.Poured.{Poured}
+use Rattle.maildir_run.proofs.Output.Poured.{Poured}
 use Rattle.maildir_run.proofs.listing.list_text.Given as goal
 
 abbrev pub invariant-pieces : goal.invariant-pieces

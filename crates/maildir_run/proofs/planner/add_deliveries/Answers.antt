@@ -1,6 +1,6 @@
 use Rattle.std.proofs.Common.{append-nil, ◌≡◌, List, [], ◌∷◌, ◌++◌, true, false, sym, ap, ◌∙◌, get_or, append_assoc}
 use Rattle.maildir_run.proofs.Common.{contains_key, Target, Step, Write, Place}
-use Rattle.maildir_run.proofs.PlanLemmas.{deliveries-step}
+use Rattle.maildir_run.proofs.Tasks.PlanLemmas.{deliveries-step}
 use Rattle.maildir_run.proofs.planner.add_deliveries.Goals.{then-not-contains+in_ok-push+in_ok-push-2, else-not-contains}
 use Rattle.maildir_run.proofs.planner.add_deliveries.Goals as goal
 

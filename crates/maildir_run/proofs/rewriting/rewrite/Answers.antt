@@ -1,9 +1,9 @@
 use Rattle.std.proofs.Common.{◌≡◌, ◌++◌, length, arith, inl, flat_map}
 use Rattle.maildir_run.proofs.Common.{spelling}
-use Rattle.maildir_run.proofs.Poured.{flat_output, flat_more, read_broken, batch, batch_broken, count_fits, poured_all, poured_more}
-use Rattle.maildir_run.proofs.Faults.{if_err, fault_is, unless_ok}
-use Rattle.maildir_run.proofs.Scripts.{on_err}
-use Rattle.maildir_run.proofs.Exits.{went_on}
+use Rattle.maildir_run.proofs.Output.Poured.{flat_output, flat_more, read_broken, batch, batch_broken, count_fits, poured_all, poured_more}
+use Rattle.maildir_run.proofs.Tasks.Faults.{if_err, fault_is, unless_ok}
+use Rattle.maildir_run.proofs.Memory.Scripts.{on_err}
+use Rattle.maildir_run.proofs.Source.Givens.{went_on}
 use Rattle.maildir_run.proofs.rewriting.rewrite.Goals as goal
 
 pub returns-in_err-ended : goal.returns-in_err-ended

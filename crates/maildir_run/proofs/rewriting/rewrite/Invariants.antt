@@ -1,6 +1,6 @@
 use Rattle.std.proofs.Common.{List, flat_map}
 use Rattle.maildir_run.proofs.Common.{Entry, spelling}
-use Rattle.maildir_run.proofs.Poured.{Poured}
+use Rattle.maildir_run.proofs.Output.Poured.{Poured}
 use Rattle.maildir_run.proofs.rewriting.rewrite.Given as goal
 
 abbrev pub invariant-pieces : goal.invariant-pieces

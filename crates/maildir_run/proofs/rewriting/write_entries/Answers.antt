@@ -1,4 +1,4 @@
-use Rattle.maildir_run.proofs.Each.{each_front}
+use Rattle.maildir_run.proofs.Output.Each.{each_front}
 use Rattle.maildir_run.proofs.rewriting.write_entries.Goals as goal
 
 pub returns-then-is_err-clause-written : goal.returns-then-is_err-clause-written

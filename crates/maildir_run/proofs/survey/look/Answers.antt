@@ -1,7 +1,7 @@
 use Rattle.std.proofs.Common.{◌<◌, ◌^◌, List, String, Global, [], map, length, string_bytes, refl, arith}
 use Rattle.maildir_run.proofs.Common.{length-map, names_of}
-use Rattle.maildir_run.proofs.Faults.{unless_ok}
-use Rattle.maildir_run.proofs.Tasks.{ran_then, ran_before, ran_err}
+use Rattle.maildir_run.proofs.Tasks.Faults.{unless_ok}
+use Rattle.maildir_run.proofs.Tasks.Tasks.{ran_then, ran_before, ran_err}
 use Rattle.maildir_run.proofs.survey.look.Goals as goal
 
 few_names : (names : List (String Global)) → length names < 2 ^ 64 → length (map string_bytes names) < 2 ^ 64

@@ -1,6 +1,6 @@
 use Rattle.std.proofs.Common.{◌≡◌, ℕ, List, ◌∷◌, [], length, take, map, ap, sym, ◌∙◌, arith, refl, append-nil, take_all}
 use Rattle.maildir_run.proofs.Common.{Removing, Writing, Placing, Message, Do, task_of, tasks_of, drop-nil, Step, Remove, Write, Place}
-use Rattle.maildir_run.proofs.Tasks.{ran_none, ran_then, ran_before, ran_err, next_step, other_steps, next_count}
+use Rattle.maildir_run.proofs.Tasks.Tasks.{ran_none, ran_then, ran_before, ran_err, next_step, other_steps, next_count}
 use Rattle.maildir_run.proofs.sweep.remove_planned.Goals.{in-Remove+in_ok-remove, in_default}
 use Rattle.maildir_run.proofs.sweep.remove_planned.Goals as goal
 

@@ -1,8 +1,8 @@
 use Rattle.std.proofs.Common.{[], map, string_bytes, sym, ap, subst, ◌∙◌, inr}
 use Rattle.maildir_run.proofs.Common.{IsOfFolder, tasks_of, seen}
-use Rattle.maildir_run.proofs.Faults.{if_err, unless_ok}
-use Rattle.maildir_run.proofs.Planned.{plan_sweeps}
-use Rattle.maildir_run.proofs.Tasks.{ran_nothing, ran_err}
+use Rattle.maildir_run.proofs.Tasks.Faults.{if_err, unless_ok}
+use Rattle.maildir_run.proofs.Tasks.PlanLemmas.{plan_sweeps}
+use Rattle.maildir_run.proofs.Tasks.Tasks.{ran_nothing, ran_err}
 use Rattle.maildir_run.proofs.sweep.sweep.Goals as goal
 
 pub returns-in_err-steps : goal.returns-in_err-steps

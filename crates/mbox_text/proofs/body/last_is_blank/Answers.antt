@@ -1,6 +1,6 @@
 use Rattle.std.proofs.lemmas.Bool.Decides.{Decides-eqb}
 use Rattle.std.proofs.lemmas.Slice.Eq.{slice_eq-Decides}
-use Rattle.mbox_text.proofs.Chopped.{only_blank, last_blank}
+use Rattle.mbox_text.proofs.Reading.Chopped.{only_blank, last_blank}
 use Rattle.mbox_text.proofs.body.last_is_blank.Goals as goal
 
 pub returns-then-eq : goal.returns-then-eq

@@ -1,8 +1,8 @@
 use Rattle.std.proofs.Common.{◌+◌, ◌-◌, take, drop, refl, sym, ◌∙◌, inl, inr}
 use Rattle.std.proofs.lemmas.List.{take_rest, drop-drop}
 use Rattle.std.proofs.lemmas.Slice.{pushed}
-use Rattle.mbox_text.proofs.LineEnds.{none-there}
-use Rattle.mbox_text.proofs.Runs.{taken_none, taken_found, taken_line, taken_rest}
+use Rattle.mbox_text.proofs.TextLines.LineEnds.{none-there}
+use Rattle.mbox_text.proofs.Splitting.Runs.{taken_none, taken_found, taken_line, taken_rest}
 use Rattle.mbox_text.proofs.body.take_lines.Goals as goal
 
 pub loop-n-init : goal.loop-n-init

@@ -1,5 +1,5 @@
 use Rattle.std.proofs.Common.{◌-◌, length}
-use Rattle.mbox_text.proofs.Runs.{Taken}
+use Rattle.mbox_text.proofs.Splitting.Runs.{Taken}
 use Rattle.mbox_text.proofs.body.take_lines.Given as goal
 
 abbrev pub invariant-loop-n : goal.invariant-loop-n

@@ -1,7 +1,7 @@
 use Rattle.std.proofs.Common.{◌++◌, List, ℕ, ap, map, sym, arith, ◌∙◌, take_all}
 use Rattle.std.proofs.lemmas.Bool.{eqb-true, eqb-false}
 use Rattle.mbox_text.specs.FromLine.{hyphened}
-use Rattle.mbox_text.proofs.BuiltLines.{extended_by, cleaned-none, cleaned-some}
+use Rattle.mbox_text.proofs.FromLine.BuiltLines.{extended_by, cleaned-none, cleaned-some}
 use Rattle.mbox_text.proofs.build.add_cleaned.Goals as goal
 
 pub returns-then-is_empty : goal.returns-then-is_empty

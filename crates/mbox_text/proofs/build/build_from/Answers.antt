@@ -1,5 +1,5 @@
 use Rattle.std.proofs.Common.{sym}
-use Rattle.mbox_text.proofs.BuiltLines.{is-built, not-found}
+use Rattle.mbox_text.proofs.FromLine.BuiltLines.{is-built, not-found}
 use Rattle.mbox_text.proofs.build.build_from.Goals as goal
 
 pub returns-clause-from_line : goal.returns-clause-from_line

@@ -2,7 +2,7 @@ use Rattle.std.proofs.Common.{◌++◌, [], ◌∷◌, List, ℕ, ap, sym, ◌�
 use Rattle.std.proofs.lemmas.Bool.{eqb-true, eqb-false}
 use Rattle.std.proofs.lemmas.Slice.{pushed}
 use Rattle.mbox_text.specs.FromLine.{cleaned}
-use Rattle.mbox_text.proofs.BuiltLines.{built-none, built-some}
+use Rattle.mbox_text.proofs.FromLine.BuiltLines.{built-none, built-some}
 use Rattle.mbox_text.proofs.build.join.Goals as goal
 use Rattle.mbox_text.proofs.build.join.Goals.{then-not-is_empty+in_ok-push+in_ok-extend_from_slice, else-not-is_empty}
 

@@ -1,4 +1,4 @@
-use Rattle.mbox_text.proofs.LineEnds.{found_none}
+use Rattle.mbox_text.proofs.TextLines.LineEnds.{found_none}
 use Rattle.mbox_text.proofs.from_line.holds_no_end.Goals as goal
 
 pub returns : goal.returns

@@ -1,6 +1,6 @@
 use Rattle.std.proofs.Common.{◌∙◌}
 use Rattle.mbox_text.specs.Quoting.{from_bytes}
-use Rattle.mbox_text.proofs.LineLemmas.{begins_with-starts}
+use Rattle.mbox_text.proofs.TextLines.LineLemmas.{begins_with-starts}
 use Rattle.mbox_text.proofs.from_line.is_from_start.Goals as goal
 
 pub returns : goal.returns

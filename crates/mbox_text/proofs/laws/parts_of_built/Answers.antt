@@ -1,4 +1,4 @@
-use Rattle.mbox_text.proofs.BuiltLines.{sender-built, rest-built}
+use Rattle.mbox_text.proofs.FromLine.BuiltLines.{sender-built, rest-built}
 use Rattle.mbox_text.proofs.laws.parts_of_built.Goals as goal
 
 pub returns : goal.returns

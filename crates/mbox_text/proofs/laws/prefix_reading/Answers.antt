@@ -1,4 +1,4 @@
-use Rattle.mbox_text.proofs.Prefixes.{prefix_reading}
+use Rattle.mbox_text.proofs.Reading.Prefixes.{prefix_reading}
 use Rattle.mbox_text.proofs.laws.prefix_reading.Goals as goal
 
 pub returns : goal.returns

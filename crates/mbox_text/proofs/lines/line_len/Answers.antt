@@ -1,4 +1,4 @@
-use Rattle.mbox_text.proofs.LineEnds.{line_ends, line_alone}
+use Rattle.mbox_text.proofs.TextLines.LineEnds.{line_ends, line_alone}
 use Rattle.mbox_text.proofs.lines.line_len.Goals as goal
 
 pub returns-in-Some : goal.returns-in-Some

@@ -1,4 +1,4 @@
-use Rattle.mbox_text.proofs.LineEnds.{none-there, NoEnd-behind}
+use Rattle.mbox_text.proofs.TextLines.LineEnds.{none-there, NoEnd-behind}
 use Rattle.mbox_text.proofs.lines.whole_len.Goals as goal
 
 pub returns-in-Some-clause-rest : goal.returns-in-Some-clause-rest

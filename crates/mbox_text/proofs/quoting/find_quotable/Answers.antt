@@ -1,5 +1,5 @@
 use Rattle.std.proofs.Common.{◌+◌, sym, ◌∙◌}
-use Rattle.mbox_text.proofs.Quotable.{plain_none, plain_front, plain_line, finds_none, finds_some}
+use Rattle.mbox_text.proofs.Written.Quotable.{plain_none, plain_front, plain_line, finds_none, finds_some}
 use Rattle.mbox_text.proofs.quoting.find_quotable.Goals as goal
 
 pub loop-n-init : goal.loop-n-init

@@ -1,5 +1,5 @@
 use Rattle.std.proofs.Common.{◌-◌, length}
-use Rattle.mbox_text.proofs.Quotable.{Plain}
+use Rattle.mbox_text.proofs.Written.Quotable.{Plain}
 use Rattle.mbox_text.proofs.quoting.find_quotable.Given as goal
 
 abbrev pub invariant-loop-n : goal.invariant-loop-n

@@ -1,7 +1,7 @@
 use Rattle.std.proofs.Common.{arith, sym, ap, ◌∙◌}
 use Rattle.std.proofs.lemmas.List.{take_rest}
 use Rattle.mbox_text.specs.Quoting.{begins_from}
-use Rattle.mbox_text.proofs.LineLemmas.{quotable-mark, quotable-stop}
+use Rattle.mbox_text.proofs.TextLines.LineLemmas.{quotable-mark, quotable-stop}
 use Rattle.mbox_text.proofs.quoting.is_quotable.Goals as goal
 use Rattle.mbox_text.proofs.quoting.is_quotable.Goals.{then-loop-at-test+else-line-at-eq62, else-loop-at-test}
 

@@ -1,5 +1,5 @@
 use Rattle.std.proofs.Common.{arith}
-use Rattle.mbox_text.proofs.LineLemmas.{unquoted-plain, unquoted_cases}
+use Rattle.mbox_text.proofs.TextLines.LineLemmas.{unquoted-plain, unquoted_cases}
 use Rattle.mbox_text.proofs.quoting.is_quoted.Goals as goal
 use Rattle.mbox_text.proofs.quoting.is_quoted.Goals.{then-line-eq0-via-then-line-eq0, then-line-eq0-via-else-line-eq0+then-line-ne62}
 

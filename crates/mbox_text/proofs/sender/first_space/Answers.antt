@@ -1,5 +1,5 @@
 use Rattle.std.proofs.Common.{arith, ◌∙◌, take_all}
-use Rattle.mbox_text.proofs.BuiltLines.{before-found, before-none}
+use Rattle.mbox_text.proofs.FromLine.BuiltLines.{before-found, before-none}
 use Rattle.mbox_text.proofs.sender.first_space.Goals as goal
 
 pub returns-in-Some-clause-before : goal.returns-in-Some-clause-before

@@ -1,5 +1,5 @@
-use Rattle.mbox_text.proofs.BuiltLines.{rest-at}
-use Rattle.mbox_text.proofs.Heads.{from-long}
+use Rattle.mbox_text.proofs.FromLine.BuiltLines.{rest-at}
+use Rattle.mbox_text.proofs.TextLines.Heads.{from-long}
 use Rattle.mbox_text.proofs.sender.rest_of.Goals as goal
 
 pub behind_from-behind-requires : goal.behind_from-behind-requires

@@ -1,6 +1,6 @@
 use Rattle.std.proofs.Common.{arith, sym, ◌∙◌}
 use Rattle.std.proofs.lemmas.List.{take_rest}
-use Rattle.mbox_text.proofs.BuiltLines.{past-mark, past-stop}
+use Rattle.mbox_text.proofs.FromLine.BuiltLines.{past-mark, past-stop}
 use Rattle.mbox_text.proofs.sender.without_spaces.Goals as goal
 use Rattle.mbox_text.proofs.sender.without_spaces.Goals.{then-loop-at-test+else-bytes-at-eq32, else-loop-at-test}
 

@@ -1,6 +1,6 @@
 use Rattle.std.proofs.Common.{◌+◌, ◌∙◌}
 use Rattle.std.proofs.lemmas.List.{take_rest}
-use Rattle.mbox_text.proofs.Blocks.{block_there, block_alone}
+use Rattle.mbox_text.proofs.Reading.Blocks.{block_there, block_alone}
 use Rattle.mbox_text.proofs.split.first_block.Goals as goal
 
 pub returns-in_ok-from_slice-in-Some : goal.returns-in_ok-from_slice-in-Some

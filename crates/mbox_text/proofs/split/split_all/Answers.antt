@@ -1,5 +1,5 @@
 use Rattle.std.proofs.Common.{rules, sym}
-use Rattle.mbox_text.proofs.Blocks.{not_mbox}
+use Rattle.mbox_text.proofs.Reading.Blocks.{not_mbox}
 use Rattle.mbox_text.proofs.split.split_all.Goals as goal
 
 pub returns-then-not-begins_with_from-clause-unreadable : goal.returns-then-not-begins_with_from-clause-unreadable

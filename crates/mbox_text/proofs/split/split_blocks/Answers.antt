@@ -1,6 +1,6 @@
 use Rattle.std.proofs.Common.{arith}
 use Rattle.std.proofs.lemmas.List.{take_rest}
-use Rattle.mbox_text.proofs.Blocks.{so_far_none, so_far_more, so_far_all, first-some}
+use Rattle.mbox_text.proofs.Reading.Blocks.{so_far_none, so_far_more, so_far_all, first-some}
 use Rattle.mbox_text.proofs.split.split_blocks.Goals as goal
 
 pub loop-at-init : goal.loop-at-init

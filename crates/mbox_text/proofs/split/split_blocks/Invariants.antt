@@ -1,5 +1,5 @@
 use Rattle.std.proofs.Common.{◌-◌, length}
-use Rattle.mbox_text.proofs.Blocks.{SoFar}
+use Rattle.mbox_text.proofs.Reading.Blocks.{SoFar}
 use Rattle.mbox_text.proofs.split.split_blocks.Given as goal
 
 abbrev pub invariant-loop-at : goal.invariant-loop-at

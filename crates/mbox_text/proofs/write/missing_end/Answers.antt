@@ -1,5 +1,5 @@
 use Rattle.std.proofs.Common.{sym}
-use Rattle.mbox_text.proofs.WrittenBody.{missing-empty, missing-some, missing-none}
+use Rattle.mbox_text.proofs.Written.WrittenBody.{missing-empty, missing-some, missing-none}
 use Rattle.mbox_text.proofs.write.missing_end.Goals as goal
 use Rattle.mbox_text.proofs.write.missing_end.Goals.{then-is_empty-via-then-is_empty, then-is_empty-via-else-is_empty+then-body-eq10}
 

@@ -1,5 +1,5 @@
 use Rattle.std.proofs.lemmas.Result.{MatchResult-from_err}
-use Rattle.mbox_text.proofs.WrittenBody.{written_none, written_found, written_line, written_front, written_rest, found_part, line_part}
+use Rattle.mbox_text.proofs.Written.WrittenBody.{written_none, written_found, written_line, written_front, written_rest, found_part, line_part}
 use Rattle.mbox_text.proofs.write.write_body.Goals as goal
 
 pub loop-n-init : goal.loop-n-init

@@ -1,5 +1,5 @@
 use Rattle.std.proofs.Common.{◌-◌, length}
-use Rattle.mbox_text.proofs.WrittenBody.{WrittenTo}
+use Rattle.mbox_text.proofs.Written.WrittenBody.{WrittenTo}
 use Rattle.mbox_text.proofs.write.write_body.Given as goal
 
 abbrev pub invariant-loop-n : goal.invariant-loop-n

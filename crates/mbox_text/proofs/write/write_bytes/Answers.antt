@@ -1,7 +1,7 @@
 use Rattle.std.proofs.Common.{arith}
 use Rattle.std.proofs.KnownBytes.{Appends-kept}
 use Rattle.std.proofs.lemmas.List.{take_rest, length-drop}
-use Rattle.mbox_text.proofs.Appended.{front_at, part_more}
+use Rattle.mbox_text.proofs.Written.Appended.{front_at, part_more}
 use Rattle.mbox_text.proofs.write.write_bytes.Goals as goal
 use Rattle.mbox_text.proofs.write.write_bytes.Goals.{in-Ok, in-Err+else-ne}
 

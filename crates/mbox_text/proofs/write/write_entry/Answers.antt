@@ -1,7 +1,7 @@
 use Rattle.std.proofs.Common.{◌∙◌, ap, refl}
 use Rattle.mbox_text.specs.Spelling.{missing_end}
-use Rattle.mbox_text.proofs.Appended.{wrote, broke}
-use Rattle.mbox_text.proofs.WrittenEntry.{spelling_parts}
+use Rattle.mbox_text.proofs.Written.Appended.{wrote, broke}
+use Rattle.mbox_text.proofs.Written.WrittenEntry.{spelling_parts}
 use Rattle.mbox_text.proofs.write.write_entry.Goals as goal
 
 pub returns-in_err-write_bytes-clause-written : goal.returns-in_err-write_bytes-clause-written

@@ -1,5 +1,5 @@
 use Rattle.std.proofs.Common.{[], ◌∷◌}
-use Rattle.mbox_text.proofs.Appended.{wrote, broke}
+use Rattle.mbox_text.proofs.Written.Appended.{wrote, broke}
 use Rattle.mbox_text.proofs.write.write_quoted.Goals as goal
 
 pub returns-in_err-write_bytes-clause-written : goal.returns-in_err-write_bytes-clause-written

@@ -1,9 +1,9 @@
 use Rattle.std.proofs.Common.{[], refl, ap, ◌∙◌}
 use Rattle.maildir_run.specs.MemFolder.{files_of}
 use Rattle.maildir_run.specs.Script.{performed}
-use Rattle.maildir_run.proofs.Scripts.{one_more}
-use Rattle.maildir_disk.proofs.Changes.{acted_on, keeps_none, keeps_on}
-use Rattle.maildir_disk.proofs.Lefts.{left_none, others_then}
+use Rattle.maildir_run.proofs.Memory.Scripts.{one_more}
+use Rattle.maildir_disk.proofs.Memory.Changes.{acted_on, keeps_none, keeps_on}
+use Rattle.maildir_disk.proofs.Left.Lefts.{left_none, others_then}
 use Rattle.maildir_disk.proofs.cases.Cases.act.Goals as goal
 
 pub loop-act-init : goal.loop-act-init

@@ -3,7 +3,8 @@ use Rattle.maildir_run.specs.Cuts.{Left}
 use Rattle.maildir_run.specs.Files.{Action, all_acted}
 use Rattle.maildir_run.specs.MemFolder.{SameScript, files_of}
 use Rattle.maildir_run.specs.Script.{all_performed}
-use Rattle.maildir_disk.specs.Cases.{KeepsCases, may_find}
+use Rattle.maildir_disk.specs.Private.Cases.{KeepsCases}
+use Rattle.maildir_disk.specs.Cases.{may_find}
 use Rattle.maildir_disk.specs.PowerCuts.{LeavesOthers}
 use Rattle.maildir_disk.proofs.cases.Cases.act.Given as goal
 

@@ -1,7 +1,7 @@
 use Rattle.maildir_run.specs.MemFolder.{files_of}
 use Rattle.maildir_disk.specs.declared.cases.Change.TheVariants.{Half, Other}
-use Rattle.maildir_disk.proofs.Changes.{acted, acted_leaves, keeps_lost, keeps_on, left_by_change}
-use Rattle.maildir_disk.proofs.Lefts.{leaves_none, on_ok, others_then}
+use Rattle.maildir_disk.proofs.Memory.Changes.{acted, acted_leaves, keeps_lost, keeps_on, left_by_change}
+use Rattle.maildir_disk.proofs.Left.Lefts.{leaves_none, on_ok, others_then}
 use Rattle.maildir_disk.proofs.cases.Cases.act_once.Goals as goal
 
 pub returns-in_err-may_lose-clause-left : goal.returns-in_err-may_lose-clause-left

@@ -1,6 +1,6 @@
 use Rattle.std.proofs.Common.{refl}
 use Rattle.maildir_run.specs.MemFolder.{files_of}
-use Rattle.maildir_disk.proofs.CaseLists.{adds_one, pushed}
+use Rattle.maildir_disk.proofs.Memory.CaseLists.{adds_one, pushed}
 use Rattle.maildir_disk.proofs.cases.Cases.add.Goals as goal
 
 pub returns-in_ok-push-clause-one : goal.returns-in_ok-push-clause-one

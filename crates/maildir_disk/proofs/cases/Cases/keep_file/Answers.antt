@@ -1,7 +1,7 @@
 use Rattle.std.proofs.Common.{◌≡◌, rules}
 use Rattle.std.specs.FinMap.{get}
 use Rattle.maildir_run.specs.MemFolder.{files_of}
-use Rattle.maildir_disk.proofs.CaseLists.{stays}
+use Rattle.maildir_disk.proofs.Memory.CaseLists.{stays}
 use Rattle.maildir_disk.proofs.cases.Cases.keep_file.Goals as goal
 
 pub returns-clause-stays : goal.returns-clause-stays

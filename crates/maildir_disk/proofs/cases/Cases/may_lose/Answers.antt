@@ -1,8 +1,9 @@
 use Rattle.std.proofs.Common.{◌≡◌, ◌<◌, ◌∙◌, Contains, length, arith}
 use Rattle.maildir_run.specs.MemFolder.{files_of}
-use Rattle.maildir_disk.specs.Cases.{HasRoom, Loses, lefts_of}
-use Rattle.maildir_disk.proofs.CaseLists.{all_lost, all_more, as_many, no_fewer, one_more, one_more_with, with_more}
-use Rattle.maildir_disk.proofs.Lefts.{ok_then}
+use Rattle.maildir_disk.specs.Cases.{HasRoom, lefts_of}
+use Rattle.maildir_disk.specs.Private.Cases.{Loses}
+use Rattle.maildir_disk.proofs.Memory.CaseLists.{all_lost, all_more, as_many, no_fewer, one_more, one_more_with, with_more}
+use Rattle.maildir_disk.proofs.Left.Lefts.{ok_then}
 use Rattle.maildir_disk.proofs.cases.Cases.may_lose.Goals as goal
 
 pub returns-in_err-add_with-clause-more : goal.returns-in_err-add_with-clause-more

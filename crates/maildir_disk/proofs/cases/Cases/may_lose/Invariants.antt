@@ -1,6 +1,7 @@
 use Rattle.std.proofs.Common.{◌≡◌}
-use Rattle.maildir_disk.specs.Cases.{Adds, HasRoom, lefts_of}
-use Rattle.maildir_disk.proofs.CaseLists.{AreWith, With}
+use Rattle.maildir_disk.specs.Private.Cases.{Adds}
+use Rattle.maildir_disk.specs.Cases.{HasRoom, lefts_of}
+use Rattle.maildir_disk.proofs.Memory.CaseLists.{AreWith, With}
 use Rattle.maildir_disk.proofs.cases.Cases.may_lose.Given as goal
 
 abbrev pub invariant-loop-at : goal.invariant-loop-at

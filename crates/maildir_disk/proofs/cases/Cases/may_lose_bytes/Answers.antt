@@ -1,8 +1,8 @@
 use Rattle.std.proofs.Common.{◌≤◌, ◌∙◌, length, take, refl, inr, arith}
 use Rattle.maildir_disk.specs.Cases.{HasRoom, lefts_of}
-use Rattle.maildir_disk.proofs.CaseLists.{no_fewer, one_front, still_there}
-use Rattle.maildir_disk.proofs.Changes.{left_by_bytes}
-use Rattle.maildir_disk.proofs.Lefts.{leaves_none}
+use Rattle.maildir_disk.proofs.Memory.CaseLists.{no_fewer, one_front, still_there}
+use Rattle.maildir_disk.proofs.Memory.Changes.{left_by_bytes}
+use Rattle.maildir_disk.proofs.Left.Lefts.{leaves_none}
 use Rattle.maildir_disk.proofs.cases.Cases.may_lose_bytes.Goals as goal
 
 pub loop-end-init : goal.loop-end-init

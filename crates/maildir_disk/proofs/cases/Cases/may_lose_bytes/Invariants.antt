@@ -3,7 +3,7 @@ use Rattle.maildir_run.specs.Calls.{Writing}
 use Rattle.maildir_run.specs.Cuts.{Leaves, Left}
 use Rattle.maildir_run.specs.Files.{Files}
 use Rattle.maildir_disk.specs.Cases.{HasRoom, lefts_of, may_find}
-use Rattle.maildir_disk.proofs.CaseLists.{LosesUpTo}
+use Rattle.maildir_disk.proofs.Memory.CaseLists.{LosesUpTo}
 use Rattle.maildir_disk.proofs.cases.Cases.may_lose_bytes.Given as goal
 
 abbrev pub invariant-loop-end : goal.invariant-loop-end

@@ -1,6 +1,6 @@
-use Rattle.maildir_disk.proofs.Passing.{acts_on}
-use Rattle.maildir_disk.proofs.Lefts.{on_ok, others_then}
-use Rattle.maildir_disk.proofs.Syncs.{kept_later}
+use Rattle.maildir_disk.proofs.Calls.Passing.{acts_on}
+use Rattle.maildir_disk.proofs.Left.Lefts.{on_ok, others_then}
+use Rattle.maildir_disk.proofs.Kept.Syncs.{kept_later}
 use Rattle.maildir_disk.proofs.disk_folder.DiskFolder.sync_all.Goals as goal
 
 pub returns-in_err-sync_folder-2-clause-acts : goal.returns-in_err-sync_folder-2-clause-acts

@@ -1,5 +1,5 @@
 use Rattle.std.proofs.Common.{rules}
-use Rattle.maildir_disk.proofs.Lefts.{left_always}
+use Rattle.maildir_disk.proofs.Left.Lefts.{left_always}
 use Rattle.maildir_disk.proofs.disk_folder.DiskFolderFolder.remove.Goals as goal
 
 pub returns-clause-left : goal.returns-clause-left

@@ -3,12 +3,13 @@ use Rattle.std.specs.FinMap.{get}
 use Rattle.std.specs.Option.{option_copied}
 use Rattle.maildir_run.specs.Calls.{Writing, effect}
 use Rattle.maildir_run.specs.MemFolder.{files_of}
-use Rattle.maildir_disk.proofs.Pieces.{appended_fault, comes_to_none, comes_by_write}
+use Rattle.maildir_disk.proofs.Calls.Pieces.{appended_fault, comes_to_none, comes_by_write}
 use Rattle.maildir_disk.specs.MemSystem.{opened_as}
-use Rattle.maildir_disk.proofs.Changes.{bytes_after, front_of, called_leaves, left_of_bytes}
-use Rattle.maildir_disk.proofs.Lefts.{if_ok, left_early, leaves_none, leaves_torn}
+use Rattle.maildir_disk.proofs.Memory.Changes.{bytes_after, front_of, called_leaves, left_of_bytes}
+use Rattle.maildir_disk.proofs.Left.Lefts.{if_ok, left_early, leaves_none, leaves_torn}
 use Rattle.std.proofs.lemmas.List.{length-take}
-use Rattle.maildir_disk.specs.Cases.{HasRoom, LosesBytes, may_find}
+use Rattle.maildir_disk.specs.Cases.{HasRoom, may_find}
+use Rattle.maildir_disk.specs.Private.Cases.{LosesBytes}
 use Rattle.maildir_disk.specs.Writing.{changed}
 use Rattle.maildir_disk.proofs.mem_system.MemSystemSystem.append.Goals as goal
 

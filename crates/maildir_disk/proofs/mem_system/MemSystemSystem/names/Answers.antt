@@ -1,8 +1,8 @@
 use Rattle.std.proofs.Common.{◌≡◌, [], refl, inl, inr, arith, true}
 use Rattle.std.specs.Duration.{as_nanos}
-use Rattle.maildir_disk.proofs.Passing.{passes_on}
-use Rattle.maildir_disk.proofs.Changes.{same_found}
-use Rattle.maildir_disk.proofs.Lefts.{left_none}
+use Rattle.maildir_disk.proofs.Calls.Passing.{passes_on}
+use Rattle.maildir_disk.proofs.Memory.Changes.{same_found}
+use Rattle.maildir_disk.proofs.Left.Lefts.{left_none}
 use Rattle.maildir_disk.proofs.mem_system.MemSystemSystem.names.Goals as goal
 
 pub returns-in_err-pass_shortly-in-Ok-clause-passes : goal.returns-in_err-pass_shortly-in-Ok-clause-passes

@@ -1,7 +1,7 @@
-use Rattle.maildir_disk.proofs.Gone.{gone_quietly}
+use Rattle.maildir_disk.proofs.Memory.Gone.{gone_quietly}
 use Rattle.maildir_disk.specs.declared.cases.Change.TheVariants.{Place}
-use Rattle.maildir_disk.proofs.Changes.{left_made, left_unmade}
-use Rattle.maildir_disk.proofs.Lefts.{left_none}
+use Rattle.maildir_disk.proofs.Memory.Changes.{left_made, left_unmade}
+use Rattle.maildir_disk.proofs.Left.Lefts.{left_none}
 use Rattle.maildir_disk.proofs.mem_system.MemSystemSystem.rename.Goals as goal
 
 pub returns-in-Err-clause-gone : goal.returns-in-Err-clause-gone

@@ -1,6 +1,6 @@
 use Rattle.std.proofs.Common.{refl}
 use Rattle.maildir_disk.specs.MemSystem.{world_of}
-use Rattle.maildir_disk.proofs.Passing.{passes_none}
+use Rattle.maildir_disk.proofs.Calls.Passing.{passes_none}
 use Rattle.maildir_disk.proofs.mem_system.MemSystemSystem.stamp.Goals as goal
 
 pub returns-in_err-pass_shortly-clause-passes : goal.returns-in_err-pass_shortly-clause-passes

@@ -4,8 +4,8 @@ use Rattle.maildir_run.specs.Calls.{folder_of}
 use Rattle.maildir_run.specs.Files.{Files}
 use Rattle.maildir_run.specs.MemFolder.{files_of}
 use Rattle.maildir_disk.specs.MemSystem.{world_of}
-use Rattle.maildir_disk.proofs.Changes.{left_stayed, names_stayed}
-use Rattle.maildir_disk.proofs.Lefts.{others_then}
+use Rattle.maildir_disk.proofs.Memory.Changes.{left_stayed, names_stayed}
+use Rattle.maildir_disk.proofs.Left.Lefts.{others_then}
 use Rattle.maildir_disk.proofs.mem_system.MemSystemSystem.sync_folder.Goals as goal
 
 pub returns-clause-left : goal.returns-clause-left

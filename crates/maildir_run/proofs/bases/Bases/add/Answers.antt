@@ -1,6 +1,6 @@
 use Rattle.std.proofs.Common.{ap, ◌∙◌}
 use Rattle.maildir_run.proofs.Common.{insert}
-use Rattle.maildir_run.proofs.Sets.{set_of-insert}
+use Rattle.maildir_run.proofs.Names.Sets.{set_of-insert}
 use Rattle.maildir_run.proofs.bases.Bases.add.Goals as goal
 
 pub returns : goal.returns

@@ -1,6 +1,6 @@
 use Rattle.std.proofs.Common.{◌≡◌, map, string_bytes, get_or, ap, ◌∙◌, take_all}
 use Rattle.maildir_run.proofs.Common.{insert, base, with_bases}
-use Rattle.maildir_run.proofs.Sets.{with_bases-more}
+use Rattle.maildir_run.proofs.Names.Sets.{with_bases-more}
 use Rattle.maildir_run.proofs.bases.Bases.add_all.Goals as goal
 
 pub loop-name-preserved : goal.loop-name-preserved

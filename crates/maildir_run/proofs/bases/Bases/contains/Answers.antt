@@ -1,6 +1,6 @@
 use Rattle.std.proofs.Common.{sym, ap, ◌∙◌}
 use Rattle.maildir_run.proofs.Common.{contains_key}
-use Rattle.maildir_run.proofs.Sets.{contains_key-set_of}
+use Rattle.maildir_run.proofs.Names.Sets.{contains_key-set_of}
 use Rattle.maildir_run.proofs.bases.Bases.contains.Goals as goal
 
 pub returns : goal.returns

@@ -1,6 +1,6 @@
 use Rattle.std.proofs.Common.{map, string_bytes, ap, ◌∙◌}
 use Rattle.maildir_run.proofs.Common.{contains_key, with_bases}
-use Rattle.maildir_run.proofs.Sets.{contains_key-listed}
+use Rattle.maildir_run.proofs.Names.Sets.{contains_key-listed}
 use Rattle.maildir_run.proofs.bases.Bases.of_listings.Goals as goal
 
 pub returns : goal.returns

@@ -1,4 +1,4 @@
-use Rattle.maildir_run.proofs.Tasks.{ran_ask}
+use Rattle.maildir_run.proofs.Tasks.Tasks.{ran_ask}
 use Rattle.maildir_run.proofs.calls.Calls.list.Goals as goal
 
 pub returns-clause-ran : goal.returns-clause-ran

@@ -1,5 +1,5 @@
 use Rattle.maildir_run.proofs.Common.{Placing}
-use Rattle.maildir_run.proofs.Tasks.{ran_do}
+use Rattle.maildir_run.proofs.Tasks.Tasks.{ran_do}
 use Rattle.maildir_run.proofs.calls.Calls.place.Goals as goal
 
 pub returns-clause-ran : goal.returns-clause-ran

@@ -1,8 +1,8 @@
 use Rattle.std.proofs.Common.{◌≡◌, false, sym, ap, ◌∙◌, refl}
 use Rattle.maildir_run.proofs.Common.{contains_key}
-use Rattle.maildir_run.proofs.Faults.{is_fault}
-use Rattle.maildir_run.proofs.Tasks.{ran_err}
-use Rattle.maildir_run.proofs.Bringing.{brought_refused, brought_one, brought_nothing}
+use Rattle.maildir_run.proofs.Tasks.Faults.{is_fault}
+use Rattle.maildir_run.proofs.Tasks.Tasks.{ran_err}
+use Rattle.maildir_run.proofs.Run.Bringing.{brought_refused, brought_one, brought_nothing}
 use Rattle.maildir_run.proofs.engine.Engine.deliver.Goals.{then-not-contains+in_ok-bring, else-not-contains}
 use Rattle.maildir_run.proofs.engine.Engine.deliver.Goals as goal
 

@@ -1,7 +1,7 @@
 use Rattle.std.proofs.Common.{◌+◌, ◌<◌, [], ◌++◌, length, take, drop, ◌∙◌, arith, refl}
 use Rattle.maildir_run.proofs.Common.{bodies_of}
-use Rattle.maildir_run.proofs.Batches.{bodies_next, bodies_split, few_next}
-use Rattle.maildir_run.proofs.Bringing.{brought_none, brought_then, brought_before}
+use Rattle.maildir_run.proofs.Run.Batches.{bodies_next, bodies_split, few_next}
+use Rattle.maildir_run.proofs.Run.Bringing.{brought_none, brought_then, brought_before}
 use Rattle.maildir_run.proofs.engine.Engine.deliver_entries.Goals as goal
 
 pub loop-entry-init : goal.loop-entry-init

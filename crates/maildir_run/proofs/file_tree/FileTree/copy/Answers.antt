@@ -1,6 +1,6 @@
 use Rattle.std.proofs.Common.{ap, ◌∙◌}
 use Rattle.maildir_run.proofs.Common.{from_entries}
-use Rattle.maildir_run.proofs.Trees.{copied_pairs}
+use Rattle.maildir_run.proofs.Memory.Trees.{copied_pairs}
 use Rattle.maildir_run.proofs.file_tree.FileTree.copy.Goals as goal
 
 pub returns : goal.returns

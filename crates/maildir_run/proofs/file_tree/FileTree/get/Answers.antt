@@ -1,6 +1,6 @@
 use Rattle.std.proofs.Common.{Some, sym, ap, ◌∙◌}
 use Rattle.maildir_run.proofs.Common.{get}
-use Rattle.maildir_run.proofs.Trees.{bytes_in, get-map_of}
+use Rattle.maildir_run.proofs.Memory.Trees.{bytes_in, get-map_of}
 use Rattle.maildir_run.proofs.file_tree.FileTree.get.Goals as goal
 
 pub returns-in-Some : goal.returns-in-Some

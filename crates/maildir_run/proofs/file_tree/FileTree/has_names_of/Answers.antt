@@ -1,6 +1,6 @@
 use Rattle.std.proofs.Common.{◌≡◌, sym, ap, ◌∙◌, map, string_bytes}
 use Rattle.maildir_run.proofs.Common.{keys}
-use Rattle.maildir_run.proofs.Trees.{keys-map_of, names_compared}
+use Rattle.maildir_run.proofs.Memory.Trees.{keys-map_of, names_compared}
 use Rattle.maildir_run.proofs.file_tree.FileTree.has_names_of.Goals as goal
 
 pub returns : goal.returns

@@ -1,7 +1,7 @@
 use Rattle.std.proofs.Common.{sym, ap, ◌∙◌}
 use Rattle.maildir_run.proofs.Common.{len}
 use Rattle.std.proofs.lemmas.Bool.Decides.{Decides-eqb}
-use Rattle.maildir_run.proofs.Trees.{trees_alike, alike_trees, len-map_of}
+use Rattle.maildir_run.proofs.Memory.Trees.{trees_alike, alike_trees, len-map_of}
 use Rattle.maildir_run.proofs.file_tree.FileTree.is_like.Goals as goal
 
 pub returns-then-len : goal.returns-then-len

@@ -1,6 +1,6 @@
 use Rattle.std.proofs.Common.{sym, ap, ◌∙◌}
 use Rattle.maildir_run.proofs.Common.{len}
-use Rattle.maildir_run.proofs.Trees.{len-map_of}
+use Rattle.maildir_run.proofs.Memory.Trees.{len-map_of}
 use Rattle.maildir_run.proofs.file_tree.FileTree.len.Goals as goal
 
 pub returns : goal.returns

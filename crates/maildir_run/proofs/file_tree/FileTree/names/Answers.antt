@@ -2,7 +2,7 @@ use Rattle.std.proofs.Common.{◌++◌, map, string_bytes, sym, ap, ◌∙◌}
 use Rattle.maildir_run.proofs.Common.{keys}
 use Rattle.std.specs.Map.Iter.{deref}
 use Rattle.std.proofs.lemmas.Map.Iter.{rest_more, rest_all}
-use Rattle.maildir_run.proofs.Trees.{keys-map_of, one_listed, all_listed}
+use Rattle.maildir_run.proofs.Memory.Trees.{keys-map_of, one_listed, all_listed}
 use Rattle.maildir_run.proofs.file_tree.FileTree.names.Goals as goal
 
 pub loop-name-init : goal.loop-name-init

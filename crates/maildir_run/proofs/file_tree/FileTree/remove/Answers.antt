@@ -1,6 +1,6 @@
 use Rattle.std.proofs.Common.{ap, ◌∙◌}
 use Rattle.maildir_run.proofs.Common.{remove}
-use Rattle.maildir_run.proofs.Trees.{map_of-remove}
+use Rattle.maildir_run.proofs.Memory.Trees.{map_of-remove}
 use Rattle.maildir_run.proofs.file_tree.FileTree.remove.Goals as goal
 
 pub returns : goal.returns

@@ -1,6 +1,6 @@
 use Rattle.std.proofs.Common.{string_bytes, ap, ◌∙◌}
 use Rattle.maildir_run.proofs.Common.{insert}
-use Rattle.maildir_run.proofs.Trees.{map_of-insert}
+use Rattle.maildir_run.proofs.Memory.Trees.{map_of-insert}
 use Rattle.maildir_run.proofs.file_tree.FileTree.set.Goals as goal
 
 pub returns-clause-ok : goal.returns-clause-ok

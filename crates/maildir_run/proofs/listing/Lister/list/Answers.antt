@@ -1,6 +1,7 @@
 use Rattle.std.proofs.Common.{ℕ, ◌++◌, List, take, sym, subst}
 use Rattle.maildir_run.proofs.Common.{Entry, IsFromLine}
-use Rattle.maildir_run.proofs.ListLines.{from_line-at, listed_to_none, listed_to_more, listed_to_front, listed_to_all, lists_broken, room}
+use Rattle.mbox_text.proofs.FromLine.FromLines.{from_line-at}
+use Rattle.maildir_run.proofs.Output.ListLines.{listed_to_none, listed_to_more, listed_to_front, listed_to_all, lists_broken, room}
 use Rattle.maildir_run.proofs.listing.Lister.list.Goals as goal
 
 pub list_one-requires : goal.list_one-requires

@@ -1,6 +1,6 @@
 use Rattle.std.proofs.Common.{◌++◌, ◌<◌, ◌^◌, List, length}
 use Rattle.maildir_run.proofs.Common.{Entry, HasListed}
-use Rattle.maildir_run.proofs.ListLines.{ListedTo}
+use Rattle.maildir_run.proofs.Output.ListLines.{ListedTo}
 use Rattle.maildir_run.proofs.listing.Lister.list.Given as goal
 
 abbrev pub invariant-loop-entry : goal.invariant-loop-entry

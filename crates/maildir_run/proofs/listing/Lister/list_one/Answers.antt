@@ -1,6 +1,6 @@
 use Rattle.std.proofs.Common.{◌≡◌, ◌+◌, [], ◌∷◌, length, arith, ap, ◌∙◌, length-append}
 use Rattle.maildir_run.proofs.Common.{length-map, Entry, message_line}
-use Rattle.maildir_run.proofs.ListLines.{bodies, lists_none, lists_err, listing-push, listed_more}
+use Rattle.maildir_run.proofs.Output.ListLines.{bodies, lists_none, lists_err, listing-push, listed_more}
 use Rattle.maildir_run.proofs.listing.Lister.list_one.Goals as goal
 
 pub returns-in_default-clause-lists : goal.returns-in_default-clause-lists

@@ -1,6 +1,6 @@
 use Rattle.std.proofs.Common.{◌≡◌, ◌==◌, true, false, [], cond, get_or, refl, sym, ap, ◌∙◌, eq-eqb, ne_eqb}
 use Rattle.maildir_run.proofs.Common.{files_in}
-use Rattle.maildir_run.proofs.Scripts.{on_err, lines_more, lines_cut}
+use Rattle.maildir_run.proofs.Memory.Scripts.{on_err, lines_more, lines_cut}
 use Rattle.maildir_run.proofs.mem_files.MemFiles.act_before.Goals.{then-line-call+in_ok-perform_all, else-line-call}
 use Rattle.maildir_run.proofs.mem_files.MemFiles.act_before.Goals as goal
 

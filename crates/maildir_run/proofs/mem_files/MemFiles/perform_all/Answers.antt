@@ -1,6 +1,6 @@
 use Rattle.std.proofs.Common.{ap, ◌∙◌}
 use Rattle.maildir_run.proofs.Common.{files_in, performed}
-use Rattle.maildir_run.proofs.Scripts.{on_err, one_more, cut_at}
+use Rattle.maildir_run.proofs.Memory.Scripts.{on_err, one_more, cut_at}
 use Rattle.maildir_run.proofs.mem_files.MemFiles.perform_all.Goals as goal
 
 pub returns-in_err-perform-clause-err : goal.returns-in_err-perform-clause-err

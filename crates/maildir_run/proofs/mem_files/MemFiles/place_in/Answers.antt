@@ -1,6 +1,6 @@
 use Rattle.std.proofs.Common.{refl, ap, ◌∙◌}
 use Rattle.maildir_run.proofs.Common.{Plain, Twice, files_in, Placing, effect}
-use Rattle.maildir_run.proofs.Scripts.{placed_in}
+use Rattle.maildir_run.proofs.Memory.Scripts.{placed_in}
 use Rattle.maildir_run.proofs.mem_files.MemFiles.place_in.Goals as goal
 
 pub returns-in_ok-rename-in-Plain : goal.returns-in_ok-rename-in-Plain

@@ -1,6 +1,6 @@
 use Rattle.std.proofs.Common.{refl, sym, ap, ◌∙◌}
 use Rattle.maildir_run.proofs.Common.{get, FileMap, files_in}
-use Rattle.maildir_run.proofs.Scripts.{unlinked}
+use Rattle.maildir_run.proofs.Memory.Scripts.{unlinked}
 use Rattle.maildir_run.proofs.mem_files.MemFiles.reflag.Goals as goal
 
 pub returns-then-branch-clause-ok : goal.returns-then-branch-clause-ok

@@ -1,6 +1,6 @@
 use Rattle.std.proofs.Common.{rules}
-use Rattle.maildir_run.proofs.Cuts.{listed_left}
-use Rattle.maildir_run.proofs.Followed.{follows_listed, never_cut}
+use Rattle.maildir_run.proofs.Call.Cuts.{listed_left}
+use Rattle.maildir_run.proofs.Memory.Followed.{follows_listed, never_cut}
 use Rattle.maildir_run.proofs.mem_folder.MemFolderFolder.list.Goals as goal
 
 pub returns-in_err-mode-clause-called : goal.returns-in_err-mode-clause-called

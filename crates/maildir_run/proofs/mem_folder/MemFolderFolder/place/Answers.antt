@@ -1,7 +1,7 @@
 use Rattle.std.proofs.Common.{rules}
 use Rattle.maildir_run.proofs.Common.{Placing}
-use Rattle.maildir_run.proofs.Cuts.{called_left}
-use Rattle.maildir_run.proofs.Followed.{follows_called, never_cut}
+use Rattle.maildir_run.proofs.Call.Cuts.{called_left}
+use Rattle.maildir_run.proofs.Memory.Followed.{follows_called, never_cut}
 use Rattle.maildir_run.proofs.mem_folder.MemFolderFolder.place.Goals as goal
 
 pub returns-in_err-mode-clause-called : goal.returns-in_err-mode-clause-called

@@ -1,6 +1,6 @@
 use Rattle.std.proofs.Common.{◌≡◌, Err, vec_len, length, take, arith, ap, length-take-le}
 use Rattle.maildir_run.proofs.Common.{with_items_is}
-use Rattle.maildir_run.proofs.Unread.{breaks_went, finish_breaks, feed_breaks}
+use Rattle.maildir_run.proofs.Source.Unread.{breaks_went, finish_breaks, feed_breaks}
 use Rattle.maildir_run.proofs.messages.Messages.read.Goals as goal
 
 pub returns-in_err-finish-clause-went : goal.returns-in_err-finish-clause-went

@@ -1,9 +1,9 @@
 use Rattle.std.proofs.Common.{◌≡◌, ℕ, ◌+◌, ◌-◌, ◌++◌, List, [], ◌∷◌, length, take, drop, arith, ap, ◌∙◌, sym, append_assoc, refl}
 use Rattle.std.proofs.lemmas.List.{append-nil, take_rest, take-append-drop}
 use Rattle.mbox_text.specs.declared.fault.TextFault.TheVariants.{OutOfMemory}
-use Rattle.mbox_text.proofs.LineEnds.{line-there, none-there}
-use Rattle.mbox_text.proofs.Giving.{gives_none, gives_nothing, gives_then, stops_at, handed_on}
-use Rattle.mbox_text.proofs.Fields.{take-at, three-parts}
+use Rattle.mbox_text.proofs.TextLines.LineEnds.{line-there, none-there}
+use Rattle.mbox_text.proofs.Splitting.Giving.{gives_none, gives_nothing, gives_then, stops_at, handed_on}
+use Rattle.mbox_text.proofs.Splitting.Fields.{take-at, three-parts}
 use Rattle.mbox_text.proofs.splitter.Splitter.advance.Goals as goal
 
 pub add_part-requires : goal.add_part-requires

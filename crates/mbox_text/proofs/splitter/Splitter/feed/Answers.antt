@@ -1,4 +1,4 @@
-use Rattle.mbox_text.proofs.Giving.{fed_taken, fed_never, fed_part}
+use Rattle.mbox_text.proofs.Splitting.Giving.{fed_taken, fed_never, fed_part}
 use Rattle.mbox_text.proofs.splitter.Splitter.feed.Goals as goal
 
 pub returns-clause-fed : goal.returns-clause-fed

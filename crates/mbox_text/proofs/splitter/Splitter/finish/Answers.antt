@@ -3,9 +3,9 @@ use Rattle.std.proofs.lemmas.Bool.{eqb-true, eqb-false}
 use Rattle.std.proofs.lemmas.List.{nil_from_length}
 use Rattle.std.proofs.lemmas.Result.{err_from_is_err_and}
 use Rattle.mbox_text.specs.declared.partial_message.PartialMessage.{PartialMessage}
-use Rattle.mbox_text.specs.Held.{chopped}
+use Rattle.mbox_text.specs.Private.Moved.{chopped}
 use Rattle.mbox_text.specs.Quoting.{unquoted}
-use Rattle.mbox_text.proofs.Finishing.{ends_body, ends_head, ends_none, ends_some, not_short_body, not_short_head, short_none, short_refused}
+use Rattle.mbox_text.proofs.Splitting.Finishing.{ends_body, ends_head, ends_none, ends_some, not_short_body, not_short_head, short_none, short_refused}
 use Rattle.mbox_text.proofs.splitter.Splitter.finish.Goals as goal
 
 pub returns-in_err-close_with-in-Some-clause-no_from_line : goal.returns-in_err-close_with-in-Some-clause-no_from_line

@@ -1,6 +1,6 @@
 use Rattle.std.proofs.Common.{vec_len, arith, rules, sym, eqb-true}
 use Rattle.std.proofs.lemmas.List.{nil_from_length}
-use Rattle.mbox_text.proofs.Fields.{lines_taken}
+use Rattle.mbox_text.proofs.Splitting.Fields.{lines_taken}
 use Rattle.mbox_text.proofs.splitter.Splitter.take_body_lines.Goals as goal
 
 pub returns-in-Some-clause-held : goal.returns-in-Some-clause-held

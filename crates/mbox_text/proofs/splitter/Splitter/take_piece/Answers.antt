@@ -1,7 +1,7 @@
 use Rattle.std.proofs.Common.{◌≡◌, ◌-◌, ◌++◌, length, take, drop, arith, ◌∙◌, sym, refl}
 use Rattle.std.proofs.lemmas.List.{take-append-drop, take_rest, length-drop}
-use Rattle.mbox_text.proofs.Fields.{take-at}
-use Rattle.mbox_text.proofs.Giving.{gives_nothing, gives_then, stops_behind, handed_on}
+use Rattle.mbox_text.proofs.Splitting.Fields.{take-at}
+use Rattle.mbox_text.proofs.Splitting.Giving.{gives_nothing, gives_then, stops_behind, handed_on}
 use Rattle.mbox_text.proofs.splitter.Splitter.take_piece.Goals as goal
 
 pub loop-at-init : goal.loop-at-init

@@ -1,5 +1,5 @@
 use Rattle.std.proofs.Common.{◌≡◌, ◌≤◌, ◌-◌, length, take}
-use Rattle.mbox_text.specs.Held.{Gives}
+use Rattle.mbox_text.specs.Private.Moved.{Gives}
 use Rattle.mbox_text.proofs.splitter.Splitter.take_piece.Given as goal
 
 abbrev pub invariant-loop-at : goal.invariant-loop-at

@@ -1,0 +1,8 @@
+-- A call of the folder on a disk, from the calls of the system.
+
+-- What follows from what is assumed of a system.
+pub mod Passing
+-- A write that comes in pieces, between which other programs act, is one write at the moment when its file was made.
+pub mod Pieces
+-- A write that comes in pieces while no other program acts.
+pub mod QuietWrites

@@ -1,0 +1,157 @@
+-- What follows from what is assumed of a system.
+use Rattle.std.proofs.Common.{◌≡◌, ◌⊎◌, inl, inr, ℕ, ◌+◌, ◌%◌, ◌==◌, true, false, cond, ◌≤◌, ◌<◌, List, [], ◌∷◌, ◌++◌, map, append_assoc, refl, sym, ◌∙◌, ap, subst, arith, IsPermutation}
+use Rattle.std.specs.Prelude.{Result, Ok, Err, IsErr, Option}
+use Rattle.std.specs.declared.vec.Vec.{Vec}
+use Rattle.std.specs.declared.string.String.{String}
+use Rattle.std.specs.declared.alloc.Global.{Global}
+use Rattle.std.specs.FinMap.{keys}
+use Rattle.maildir_run.specs.declared.folder.Sub.{Sub}
+use Rattle.maildir_run.specs.Files.{Files, Action, acted, all_acted}
+use Rattle.maildir_run.specs.Calls.{Call, Listing, Move, Other, Again, moved, after, folder_of, IsWhole, Lists, Listed, Failed}
+use Rattle.maildir_disk.specs.declared.one_moment.Look.{Look}
+use Rattle.maildir_disk.specs.Look.{IsSettled, IsFarAhead}
+use Rattle.maildir_disk.specs.Private.Look.{Looked, Watched, WatchedOr}
+use Rattle.maildir_disk.specs.World.{World, margin_of, IsOfChange, Acts, Passes, Tells, Reads}
+
+pub all_acted-append : (xs ys : List Action) (s : Files) → all_acted (xs ++ ys) s ≡ all_acted ys (all_acted xs s)
+all_acted-append [] ys s = refl
+all_acted-append (a ∷ xs) ys s = all_acted-append xs ys (acted a s)
+
+-- moves of other programs alone
+pub after-others : (xs : List Action) (call : Call) (s : Files) → after s call (map Other xs) ≡ all_acted xs s
+after-others [] call s = refl
+after-others (a ∷ xs) call s = after-others xs call (acted a s)
+
+pub after-append : (call : Call) (ms ns : List Move) (s : Files) → after s call (ms ++ ns) ≡ after (after s call ms) call ns
+after-append call [] ns s = refl
+after-append call (m ∷ ms) ns s = after-append call ms ns (moved call m s)
+
+pub others_whole : (xs : List Action) → IsWhole (map Other xs)
+others_whole [] = tt
+others_whole (a ∷ xs) = others_whole xs
+
+-- no other program acts, or some and then others do
+pub acts_none : {a : World} → Acts a a
+acts_none = record { actions = []; files_are = refl }
+
+pub acts_on : {a b c : World} → Acts a b → Acts b c → Acts a c
+acts_on {a} p q =
+    record {
+      actions = p.actions ++ q.actions;
+      files_are = q.files_are ∙ (ap (all_acted q.actions) p.files_are ∙ sym (all_acted-append p.actions q.actions a.files));
+    }
+
+-- no time passes
+pub passes_none : {sub : Sub} {a : World} → Passes sub a a
+passes_none = record { acts = acts_none; later = omega arith; stamp_is = inl refl }
+
+-- a stamp of a change in a part of a time is one of a change in all of it
+pub longer : {s t u v stamp : ℕ} → s ≤ t → u ≤ v → IsOfChange t u stamp → IsOfChange s v stamp
+longer before after change = record {
+  time = change.time;
+  no_earlier = omega (arith, change.no_earlier, before);
+  no_later = omega (arith, change.no_later, after);
+  less_behind = change.less_behind;
+  less_ahead = change.less_ahead;
+}
+
+pub passes_on : {sub : Sub} {a b c : World} → Passes sub a b → Passes sub b c → Passes sub a c
+passes_on {a} {c} p q =
+    record {
+      acts = acts_on p.acts q.acts;
+      later = omega (arith, p.later, q.later);
+      stamp_is = elim q.stamp_is [
+        | inr change ↦ inr (longer p.later (omega arith) change)
+        | inl same ↦
+            elim p.stamp_is [
+              | inl alike ↦ inl (same ∙ alike)
+              | inr change ↦ inr (subst (IsOfChange a.time c.time) (sym same) (longer (omega arith) q.later change))
+            ]
+      ];
+    }
+
+-- a look that failed
+pub looked_fault : {E : Type 0} (sub : Sub) {a b : World} (outcome : Result Look E) → IsErr outcome → Acts a b → Looked sub a outcome b
+looked_fault sub (Ok _) is_err p = cc
+looked_fault sub (Err _) is_err p = p
+
+pub watched_fault : {E : Type 0} (sub : Sub) (stamp : ℕ) {a b : World} (outcome : Result (Option (Vec (String Global) Global)) E) → IsErr outcome → Acts a b → WatchedOr sub stamp a outcome b
+watched_fault sub stamp (Ok _) is_err p = cc
+watched_fault sub stamp (Err _) is_err p = p
+
+-- a listing that failed
+pub failed_listing : {sub : Sub} {a b : World} → Acts a b → Failed (Listing sub) a.files b.files
+failed_listing {sub} {a} p =
+    record { moves = map Other p.actions; left = p.files_are ∙ sym (after-others p.actions (Listing sub) a.files) }
+
+pub listed_fault : {E : Type 0} (sub : Sub) {a b : World} (outcome : Result (Vec (String Global) Global) E) → IsErr outcome → Acts a b → Listed sub a.files outcome b.files
+listed_fault sub (Ok _) is_err p = cc
+listed_fault sub (Err _) is_err p = failed_listing p
+
+-- names as of a moment
+pub lists_at : {sub : Sub} {a b c : World} {names : List (List ℕ)} → Acts a b → Acts b c → IsPermutation names (keys (folder_of sub b.files)) → Lists sub a.files names c.files
+lists_at {sub} {a} {b} {names} p q are =
+    let before = map Other p.actions in
+    let rest = map Other q.actions in
+    let at : b.files ≡ after a.files (Listing sub) before = p.files_are ∙ sym (after-others p.actions (Listing sub) a.files) in
+    let call = Listing sub in
+    record {
+      before = before;
+      rest = rest;
+      whole_before = others_whole p.actions;
+      whole = others_whole q.actions;
+      names_are = subst (λ s. IsPermutation names (keys (folder_of sub s))) at are;
+      left = q.files_are ∙ (sym (after-others q.actions call b.files) ∙ (ap (λ s. after s call rest) at ∙ sym (after-append call before (Again ∷ rest) a.files)));
+    }
+
+-- names as of a moment of a later part of the call
+others_first : (xs : List Action) (call : Call) (ns : List Move) (a : Files) {b : Files} → b ≡ all_acted xs a → after a call (map Other xs ++ ns) ≡ after b call ns
+others_first xs call ns a e = after-append call (map Other xs) ns a ∙ ap (λ s. after s call ns) (after-others xs call a ∙ sym e)
+
+others_then : (xs : List Action) (ns : List Move) → IsWhole ns → IsWhole (map Other xs ++ ns)
+others_then [] ns whole = whole
+others_then (a ∷ xs) ns whole = others_then xs ns whole
+
+pub lists_later : {sub : Sub} {a b : World} {end : Files} {names : List (List ℕ)} → Acts a b → Lists sub b.files names end → Lists sub a.files names end
+lists_later {sub} {a} {names} p lists =
+    let call = Listing sub in
+    let others = map Other p.actions in
+    record {
+      before = others ++ lists.before;
+      rest = lists.rest;
+      whole_before = others_then p.actions lists.before lists.whole_before;
+      whole = lists.whole;
+      names_are = subst (λ s. IsPermutation names (keys (folder_of sub s))) (sym (others_first p.actions call lists.before a.files p.files_are)) lists.names_are;
+      left = lists.left ∙ (sym (others_first p.actions call (lists.before ++ Again ∷ lists.rest) a.files p.files_are) ∙ ap (after a.files call) (sym (append_assoc others lists.before (Again ∷ lists.rest))));
+    }
+
+-- names that were read, and the folder's stamp after them
+pub watched : {sub : Sub} {b c d : World} {names : List (List ℕ)} {stamp : ℕ} → Passes sub b c → Passes sub c d → Reads sub b names c → Tells sub c stamp d → Watched sub stamp b names d
+watched p q (inl exact) tells = record { acts = acts_on p.acts q.acts; are = inl exact }
+watched {sub} {b} {c} {d} {stamp} p q (inr change) tells =
+    let same : (tells.moment.stamp_of sub ≡ c.stamp_of sub) ⊎ IsOfChange c.time tells.moment.time (tells.moment.stamp_of sub) = tells.before.stamp_is in
+    let here : IsOfChange b.time d.time stamp =
+    elim same [
+      | inl e ↦ subst (IsOfChange b.time d.time) (sym (tells.is ∙ e)) (longer (omega arith) q.later change)
+      | inr since ↦ subst (IsOfChange b.time d.time) (sym tells.is) (longer p.later tells.rest.later since)
+    ] in
+    record { acts = acts_on p.acts q.acts; are = inr here }
+
+-- what was read is exact where the stamp was settled before the reading
+pub exact_if_settled : {sub : Sub} {b d : World} {names : List (List ℕ)} {now stamp : ℕ} → IsSettled stamp now → now ≤ b.time → Watched sub stamp b names d → IsPermutation names (keys (folder_of sub b.files))
+exact_if_settled settled le w =
+    elim w.are [
+      | inl exact ↦ exact
+      | inr change ↦ absurd (omega (arith, settled, le, change.no_earlier, change.less_behind))
+    ]
+
+-- and where it was far ahead of the clock after the reading
+pub exact_if_ahead : {sub : Sub} {b d : World} {names : List (List ℕ)} {later stamp : ℕ} → IsFarAhead stamp later → d.time ≤ later → Watched sub stamp b names d → IsPermutation names (keys (folder_of sub b.files))
+exact_if_ahead ahead le w =
+    elim w.are [
+      | inl exact ↦ exact
+      | inr change ↦ absurd (omega (arith, ahead, le, change.no_later, change.less_ahead))
+    ]
+
+pub within : (time : ℕ) → time < time + margin_of time
+within time = elim (time % 1_000_000_000 == 0) as (λ t. time < time + cond t 2_050_000_000 50_000_000) [ true ↦ omega arith | false ↦ omega arith ]

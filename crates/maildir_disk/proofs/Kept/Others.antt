@@ -1,0 +1,62 @@
+-- A run, and then a sync: what they leave of the messages of other texts.
+use Rattle.std.proofs.Common.{◌≡◌, ℕ, ◌<◌, ◌^◌, List, length, get_or, All, Result, sym, subst}
+use Rattle.maildir_run.specs.declared.fault.RunFault.{RunFault}
+use Rattle.maildir_run.specs.declared.report.Report.{Report}
+use Rattle.maildir_run.specs.Cuts.{Left}
+use Rattle.maildir_run.specs.Delivery.{Message, AreNamed, IsHome, IsSoundAt}
+use Rattle.maildir_run.specs.Files.{Files, Action, all_acted}
+use Rattle.maildir_run.specs.Runs.{Run}
+use Rattle.maildir_run.specs.Tasks.{Names, Performs, leaving, planned_tasks}
+use Rattle.maildir_run.specs.Texts.{MessagesOf}
+use Rattle.maildir_run.proofs.Chains.Chains.{sound_now}
+use Rattle.maildir_disk.specs.Others.{Stays}
+use Rattle.maildir_disk.specs.PowerCuts.{AreAlike, LeavesOthers}
+use Rattle.maildir_disk.specs.World.{World, Acts}
+use Rattle.maildir_disk.proofs.Kept.CutChains.{kept_by_run, still_sound}
+use Rattle.maildir_disk.proofs.Left.LeftHomes.{all_beside, all_bodies, all_intact}
+use Rattle.maildir_disk.proofs.Left.LeftTasks.{texts_hold}
+use Rattle.maildir_disk.proofs.Kept.Syncs.{still_home}
+
+-- ---- what other programs do
+pub stays_acted : (others : List Message) → AreNamed others → (actions : List Action) (old new : Files) (before now : Files → Type 0) → new ≡ all_acted actions old → Left LeavesOthers before now → Stays others old before new now
+stays_acted others named actions old new before now are left = record {
+  sound = λ sound k d below.
+      let m = get_or others k d in
+      subst (λ s. IsSoundAt s m) (sym are) (still_sound m (named k d below) actions old (sound k d below));
+  intact = λ intact after may. let was = left after may in all_intact others was.0 after (all_beside others named was.2) (intact was.0 was.1);
+  home = λ home k d below.
+      let m = get_or others k d in
+      subst (λ s. IsHome s m) (sym are) (still_home m (named k d below) actions old (home k d below));
+  survive = λ survive after may. let was = left after may in all_bodies others was.0 after (all_beside others named was.2) (survive was.0 was.1);
+}
+
+stays_beside : {others : List Message} → AreNamed others → {old new : World} {before now : Files → Type 0} → Acts old new → Left LeavesOthers before now → Stays others old.files before new.files now
+stays_beside {others} named {old} {new} {before} {now} acts left = stays_acted others named acts.actions old.files new.files before now acts.files_are left
+
+-- one after the other
+pub stays_then : (others : List Message) (r : Files) (a : Files → Type 0) (s : Files) (b : Files → Type 0) (t : Files) (c : Files → Type 0) → Stays others r a s b → Stays others s b t c → Stays others r a t c
+stays_then others r a s b t c first then = record {
+  sound = λ h. then.sound (first.sound h);
+  intact = λ h. then.intact (first.intact h);
+  home = λ h. then.home (first.home h);
+  survive = λ h. then.survive (first.survive h);
+}
+
+module _ (t : List ℕ) (ms : List Message) (are : MessagesOf t ms) (small : length t < 2 ^ 63) (others : List Message) (named : AreNamed others) (alike : AreAlike others ms) where
+  pub stays_after_run : (old new : Files) (before now : Files → Type 0) (answer : Result Report RunFault) → Run t old answer new → All (IsSoundAt old) ms → Left (λ old new. (names : Names) × Performs leaving (planned_tasks names ms) old answer new) before now → Stays others old before new now
+  stays_after_run old new before now answer run sound left =
+      let keeps = run.keeps ms are (sound_now ms old sound) in
+      record {
+        sound = λ sound k d below. (kept_by_run keeps (get_or others k d) (named k d below) (alike k d below)).0 (sound k d below);
+        intact = λ intact after may.
+            let was = left after may in
+            all_intact others was.0 after (texts_hold t ms are small was.2.0 was.0 answer after was.2.1 others named alike) (intact was.0 was.1);
+        home = λ home k d below. (kept_by_run keeps (get_or others k d) (named k d below) (alike k d below)).1 (home k d below);
+        survive = λ survive after may.
+            let was = left after may in
+            all_bodies others was.0 after (texts_hold t ms are small was.2.0 was.0 answer after was.2.1 others named alike) (survive was.0 was.1);
+      }
+
+  pub stays_after_both : (old : Files) (mid new : World) (before between now : Files → Type 0) (answer : Result Report RunFault) → Run t old answer mid.files → All (IsSoundAt old) ms → Left (λ old new. (names : Names) × Performs leaving (planned_tasks names ms) old answer new) before between → Acts mid new → Left LeavesOthers between now → Stays others old before new.files now
+  stays_after_both old mid new before between now answer run sound left acts others_left =
+      stays_then others old before mid.files between new.files now (stays_after_run old mid.files before between answer run sound left) (stays_beside named acts others_left)

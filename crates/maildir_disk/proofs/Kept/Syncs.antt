@@ -1,0 +1,92 @@
+-- What a cut leaves after the names in `new` were kept, and then those in `cur`.
+use Rattle.std.proofs.Common.{◌≡◌, ℕ, false, List, [], ◌∷◌, ◌++◌, Option, Some, None, IsTrue, All, get_or, refl, sym, ap, subst, ◌∙◌}
+use Rattle.std.specs.List.{Contains}
+use Rattle.std.specs.FinMap.{get, contains_key}
+use Rattle.std.specs.Option.{is_some}
+use Rattle.std.proofs.lemmas.List.Elements.{Contains-append_left, Contains-append_right}
+use Rattle.maildir_name.specs.Names.{base, is_converter_name, is_converter_base}
+use Rattle.maildir_run.specs.declared.folder.Sub.{Sub}
+use Rattle.maildir_run.specs.declared.folder.Sub.TheVariants.{New, Cur}
+use Rattle.maildir_disk.specs.World.{World, Acts}
+use Rattle.maildir_disk.proofs.Calls.Passing.{all_acted-append}
+use Rattle.maildir_disk.proofs.Left.Lefts.{leaves_then}
+use Rattle.maildir_run.specs.Delivery.{Message, AreNamed, IsHome}
+use Rattle.maildir_run.specs.Files.{FileMap, Files, Action, acted, all_acted, held_under}
+use Rattle.maildir_run.proofs.Call.Homes.{acted_kept}
+use Rattle.maildir_run.proofs.Call.ListedNowhere.{all_acted_new}
+use Rattle.maildir_run.proofs.Names.Maps.{is_name-true}
+use Rattle.maildir_run.proofs.Call.Moves.{homes_one, none_held, held_none}
+use Rattle.maildir_disk.specs.PowerCuts.{IsIntact, HasBody, KeepsNames, LeavesOthers, Syncs}
+use Rattle.maildir_disk.proofs.Left.LeftHomes.{first_in, intact_on, others_hold}
+
+-- what is there, where one thing alone may be
+only : {x : List ℕ} (found : List (List ℕ)) → ((y : List ℕ) → Contains found y → y ≡ x) → (found ≡ [] → ⊥) → Contains found x
+only [] is some = absurd (some refl)
+only (y ∷ found) is some = subst (Contains (y ∷ found)) (is y (first_in found)) (first_in found)
+
+nothing : (o : Option (List ℕ)) → is_some o ≡ false → o ≡ None
+nothing None e = refl
+nothing (Some x) e = cc
+
+module _ (m : Message) (named : IsTrue (is_converter_base m.target.base)) where
+  -- two folders with the same converter's names
+  abbrev Alike : FileMap → FileMap → Type 0
+  Alike there moment = (name : List ℕ) → IsTrue (is_converter_name name) → contains_key there name ≡ contains_key moment name
+
+  none_alike : (there moment : FileMap) → Alike there moment → held_under m.target.base there ≡ [] → held_under m.target.base moment ≡ []
+  none_alike there moment alike none =
+      held_none m.target.base moment (λ q on.
+      let ours : IsTrue (is_converter_name q) = ap is_converter_base (sym (is_name-true m.target.base (base q) on)) ∙ named in
+      nothing (get moment q) (sym (alike q ours) ∙ ap is_some (none_held m.target.base there none q on)))
+
+  found_new : (moment there : Files) → Alike there.new moment.new → IsIntact there m → (held_under m.target.base moment.new ≡ [] → ⊥) → HasBody there m
+  found_new moment there alike intact some =
+      Contains-append_left _ _ m.body (only (held_under m.target.base there.new) (λ y h. intact y (Contains-append_left _ _ y h)) (λ none. some (none_alike there.new moment.new alike none)))
+
+  found_cur : (moment there : Files) → Alike there.cur moment.cur → IsIntact there m → (held_under m.target.base moment.cur ≡ [] → ⊥) → HasBody there m
+  found_cur moment there alike intact some =
+      Contains-append_right _ _ m.body (only (held_under m.target.base there.cur) (λ y h. intact y (Contains-append_right _ _ y h)) (λ none. some (none_alike there.cur moment.cur alike none)))
+
+  pub still_home : (actions : List Action) (s : Files) → IsHome s m → IsHome (all_acted actions s) m
+  still_home [] s home = home
+  still_home (action ∷ actions) s home = still_home actions (acted action s) (homes_one m.target.base m.body s (acted action s) (acted_kept m.target.base named action s) home)
+
+  pub kept_names : {s t u before mid left : Files} → IsHome s m → IsIntact before m → KeepsNames New s before t mid → KeepsNames Cur t mid u left → HasBody left m
+  kept_names {s} {before} {mid} {left} home intact first then =
+      let whole = intact_on m before first.there (others_hold m named first.earlier) intact in
+      let whole_mid = intact_on m first.there mid (others_hold m named first.later) whole in
+      let whole_then = intact_on m mid then.there (others_hold m named then.earlier) whole_mid in
+      elim (held_under m.target.base first.moment.new) as (λ found. held_under m.target.base first.moment.new ≡ found → HasBody left m) [
+        | y ∷ found ↦ λ e.
+            let has = found_new first.moment first.there first.names_are whole (λ none. let off = sym none ∙ e in cc) in
+            (others_hold m named then.later).still
+            ((others_hold m named then.earlier).still ((others_hold m named first.later).still has))
+        | [] ↦ λ none.
+            let none_then : held_under m.target.base then.moment.new ≡ [] =
+            subst (λ x. held_under m.target.base x.new ≡ []) (sym (then.moment_is ∙ ap (all_acted then.actions) first.new_is))
+            (all_acted_new m.target.base named then.actions (all_acted first.rest first.moment) (all_acted_new m.target.base named first.rest first.moment none)) in
+            let home_then : IsHome then.moment m =
+            subst (λ x. IsHome x m) (sym (then.moment_is ∙ (ap (all_acted then.actions) (first.new_is ∙ ap (all_acted first.rest) first.moment_is))))
+            (still_home then.actions _ (still_home first.rest _ (still_home first.actions s home))) in
+            let has = found_cur then.moment then.there then.names_are whole_then (λ off.
+            let one = sym home_then ∙ (ap (λ xs. xs ++ held_under m.target.base then.moment.cur) none_then ∙ off) in cc) in
+            (others_hold m named then.later).still has
+      ] refl
+
+pub synced_bodies : (ms : List Message) → AreNamed ms → {old before new left : Files} → All (IsHome old) ms → All (IsIntact before) ms → Syncs old before new left → All (HasBody left) ms
+synced_bodies ms named home intact syncs k d below =
+    kept_names (get_or ms k d) (named k d below) (home k d below) (intact k d below) syncs.first syncs.then
+
+-- names that were kept, and then what others did
+pub kept_later : {sub : Sub} {s before : Files} {t u : World} {mid left : Files} → KeepsNames sub s before t.files mid → Acts t u → LeavesOthers mid left → KeepsNames sub s before u.files left
+kept_later keeps acts leaves = record {
+  moment = keeps.moment;
+  actions = keeps.actions;
+  moment_is = keeps.moment_is;
+  rest = keeps.rest ++ acts.actions;
+  new_is = acts.files_are ∙ (ap (all_acted acts.actions) keeps.new_is ∙ sym (all_acted-append keeps.rest acts.actions keeps.moment));
+  there = keeps.there;
+  earlier = keeps.earlier;
+  later = leaves_then keeps.later leaves;
+  names_are = keeps.names_are;
+}

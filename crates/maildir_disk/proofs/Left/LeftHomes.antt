@@ -1,0 +1,222 @@
+-- What a cut leaves of the files of one base, from one move to the next.
+use Rattle.std.proofs.Common.{◌≡◌, ℕ, true, false, cond, zero, suc, List, [], ◌∷◌, ◌++◌, ◌⊎◌, Option, Some, None, All, get_or, IsPermutation, IsTrue, refl, sym, ap, subst, ◌∙◌, inl, inr, arith}
+use Rattle.std.specs.List.{Contains}
+use Rattle.std.specs.FinMap.{get, insert, remove, get-insert, get-remove, same_map}
+use Rattle.std.proofs.lemmas.Bool.{cases_Bool, and_parts}
+use Rattle.std.proofs.lemmas.List.Elements.{Contains-push, Contains-append_left, Contains-append_right, Contains-append_cases}
+use Rattle.std.proofs.lemmas.List.Sorted.{IsPermutation-sym, Contains-permutation}
+use Rattle.maildir_name.specs.declared.target.Place.{Place}
+use Rattle.maildir_name.specs.declared.target.Place.TheVariants.{New, Cur}
+use Rattle.maildir_name.specs.Names.{is_converter_name, is_converter_base}
+use Rattle.maildir_run.specs.Files.{FileMap, Files, is_name, has_base, held_under, homes, Action, ToCur, Reflag, DropTmp, Outside, may_take, acted}
+use Rattle.maildir_run.specs.Calls.{Call, Writing, Placing, Move, Other, Again, Torn, placed, moved, PlacesElsewhere, StaysOrGoes}
+use Rattle.maildir_run.specs.Cuts.{Leaves, IsFoundWhole, Came, Doubled, linked, doubled, left_after}
+use Rattle.maildir_run.specs.Cuts as cuts
+use Rattle.maildir_run.specs.Delivery.{Message, AreNamed}
+use Rattle.maildir_run.proofs.Names.Maps.{total, same, is_name-true, get-insert_same}
+use Rattle.maildir_run.proofs.Call.Homes.{absent, acted_kept, equally, held-insert_other, held-insert_new, held-remove_old}
+use Rattle.maildir_run.proofs.Call.Moves.{after_kept, after_tmp}
+use Rattle.maildir_disk.specs.PowerCuts.{IsIntact, HasBody, LeavesOthers}
+use Rattle.maildir_disk.proofs.Calls.Pieces.{again}
+
+-- ---- one more element
+pub none_in : {X : Type 0} {y : X} → Contains [] y → ⊥
+none_in (k, below, at) = omega (arith, below)
+
+pub first_in : {X : Type 0} {x : X} (xs : List X) → Contains (x ∷ xs) x
+first_in {x} xs = Contains-append_left (x ∷ []) xs x (Contains-push [] x)
+
+pub first_or : {X : Type 0} {x : X} (xs : List X) {y : X} → Contains (x ∷ xs) y → (y ≡ x) ⊎ Contains xs y
+first_or xs (zero, below, at) = inl (sym at)
+first_or xs (suc k, below, at) = inr (k, omega (arith, below), at)
+
+-- ---- one folder, where a file comes under a name of the base
+remove_inserted : (m : FileMap) (k v : List ℕ) → remove (insert m k v) k ≡ remove m k
+remove_inserted m k v =
+    same_map total same _ _ (λ q.
+    get-remove total (insert m k v) k q
+    ∙ ap (cond (is_name q k) None) (get-insert total m k v q)
+    ∙ again (is_name q k) None (Some v) (get m q)
+    ∙ sym (get-remove total m k q))
+
+module _ (b : List ℕ) (m : FileMap) (k v : List ℕ) (on : has_base b k ≡ true) where
+  replaced : IsPermutation (v ∷ held_under b (remove m k)) (held_under b (insert m k v))
+  replaced = subst (λ n. IsPermutation (v ∷ held_under b n) (held_under b (insert m k v))) (remove_inserted m k v) (held-remove_old b (insert m k v) k v on (get-insert_same m k v))
+
+  inserted_in : Contains (held_under b (insert m k v)) v
+  inserted_in = Contains-permutation _ _ v replaced (first_in _)
+
+  held_in : get m k ≡ Some v → Contains (held_under b m) v
+  held_in has = Contains-permutation _ _ v (held-remove_old b m k v on has) (first_in _)
+
+  still_in : get m k ≡ None → {y : List ℕ} → Contains (held_under b m) y → Contains (held_under b (insert m k v)) y
+  still_in free {y} h = Contains-permutation _ _ y (held-insert_new b m k v on free) (Contains-append_right (v ∷ []) _ y h)
+
+  inserted_or : (y : List ℕ) → Contains (held_under b (insert m k v)) y → (y ≡ v) ⊎ Contains (held_under b m) y
+  inserted_or y h =
+      elim (get m k) as (λ o. get m k ≡ o → (y ≡ v) ⊎ Contains (held_under b m) y) [
+        | None ↦ λ free. first_or _ (Contains-permutation _ _ y (IsPermutation-sym _ _ (held-insert_new b m k v on free)) h)
+        | Some old ↦ λ has.
+            elim (first_or _ (Contains-permutation _ _ y (IsPermutation-sym _ _ replaced) h)) [
+              | inl is ↦ inl is
+              | inr other ↦ inr (Contains-permutation _ _ y (held-remove_old b m k old on has) (Contains-append_right (old ∷ []) _ y other))
+            ]
+      ] refl
+
+-- ---- lists, as against one element
+-- each element was one before, or is this one; and this one stays
+pub record Steady (x : List ℕ) (old new : List (List ℕ)) : Type 0 where
+  pub within : (y : List ℕ) → Contains new y → (y ≡ x) ⊎ Contains old y
+  pub still : Contains old x → Contains new x
+
+steady_left : {x : List ℕ} {old new : List (List ℕ)} (more : List (List ℕ)) → Steady x old new → Steady x (old ++ more) (new ++ more)
+steady_left {x} {old} {new} more steady = record {
+  within = λ y h. elim (Contains-append_cases new more y h) [
+    | inr there ↦ inr (Contains-append_right old more y there)
+    | inl there ↦ elim (steady.within y there) [ inl is ↦ inl is | inr before ↦ inr (Contains-append_left old more y before) ]
+  ];
+  still = λ h. elim (Contains-append_cases old more x h) [ inl there ↦ Contains-append_left new more x (steady.still there) | inr there ↦ Contains-append_right new more x there ];
+}
+
+steady_right : {x : List ℕ} {old new : List (List ℕ)} (first : List (List ℕ)) → Steady x old new → Steady x (first ++ old) (first ++ new)
+steady_right {x} {old} {new} first steady = record {
+  within = λ y h. elim (Contains-append_cases first new y h) [
+    | inl there ↦ inr (Contains-append_left first old y there)
+    | inr there ↦ elim (steady.within y there) [ inl is ↦ inl is | inr before ↦ inr (Contains-append_right first old y before) ]
+  ];
+  still = λ h. elim (Contains-append_cases first old x h) [ inl there ↦ Contains-append_left first new x there | inr there ↦ Contains-append_right first new x (steady.still there) ];
+}
+
+-- ---- the homes of a base, as against some bytes
+abbrev pub Holds : (b x : List ℕ) (old new : Files) → Type 0
+Holds b x old new = Steady x (homes old b) (homes new b)
+
+-- a file that was written is found whole as long as nothing writes it
+whole_on : (name x : List ℕ) (s t : Files) → StaysOrGoes name s t → IsFoundWhole (Writing name x) s → IsFoundWhole (Writing name x) t
+whole_on name x s t (inl stays) whole = λ ours held has. whole ours held (sym stays ∙ has)
+whole_on name x s t (inr gone) whole = λ ours held has. let e = sym gone ∙ has in cc
+
+linked_tmp : (s : Files) (name target : List ℕ) (o : Option (List ℕ)) → (linked s name target o).tmp ≡ s.tmp
+linked_tmp s name target None = refl
+linked_tmp s name target (Some bytes) =
+    elim (may_take s.cur name target) as (λ t. (cond t (record s { cur = insert s.cur target bytes }) s).tmp ≡ s.tmp) [ true ↦ refl | false ↦ refl ]
+
+doubled_tmp : (action : Action) (s : Files) → (doubled action s).tmp ≡ s.tmp
+doubled_tmp (ToCur name target) s = linked_tmp s name target (get s.new name)
+doubled_tmp (Reflag name target) s = linked_tmp s name target (get s.cur name)
+doubled_tmp (DropTmp name) s = refl
+doubled_tmp (Outside files) s = refl
+
+module _ (b x : List ℕ) where
+  pub steady_same : (s : Files) → Holds b x s s
+  steady_same s = record { within = λ y h. inr h; still = λ h. h }
+
+  pub steady_then : (r s t : Files) → Holds b x r s → Holds b x s t → Holds b x r t
+  steady_then r s t first then = record {
+    within = λ y h. elim (then.within y h) [ inl is ↦ inl is | inr there ↦ first.within y there ];
+    still = λ h. then.still (first.still h);
+  }
+
+  pub steady_kept : (s t : Files) → IsPermutation (homes s b) (homes t b) → Holds b x s t
+  steady_kept s t kept = record {
+    within = λ y h. inr (Contains-permutation _ _ y (IsPermutation-sym _ _ kept) h);
+    still = Contains-permutation _ _ x kept;
+  }
+
+  -- a file of the base is under one more of its names
+  linked_in : (s : Files) (target : List ℕ) {bytes : List ℕ} → has_base b target ≡ true → get s.cur target ≡ None → Contains (homes s b) bytes → Holds b x s (record s { cur = insert s.cur target bytes })
+  linked_in s target {bytes} on free has = record {
+    within = λ y h. inr (elim (Contains-append_cases (held_under b s.new) _ y h) [
+      | inl there ↦ Contains-append_left _ _ y there
+      | inr there ↦ elim (inserted_or b s.cur target bytes on y there) [
+        | inl is ↦ subst (Contains (homes s b)) (sym is) has
+        | inr before ↦ Contains-append_right _ _ y before
+      ]
+    ]);
+    still = λ h. elim (Contains-append_cases (held_under b s.new) _ x h) [
+      | inl there ↦ Contains-append_left _ _ x there
+      | inr there ↦ Contains-append_right _ _ x (still_in b s.cur target bytes on free there)
+    ];
+  }
+
+  linked_steady : (s : Files) (name target : List ℕ) (o : Option (List ℕ)) → ((bytes : List ℕ) → has_base b name ≡ true → o ≡ Some bytes → Contains (homes s b) bytes) → Holds b x s (linked s name target o)
+  linked_steady s name target None has = steady_same s
+  linked_steady s name target (Some bytes) has =
+      elim (may_take s.cur name target) as (λ t. may_take s.cur name target ≡ t → Holds b x s (cond t (record s { cur = insert s.cur target bytes }) s)) [
+        | false ↦ λ may. steady_same s
+        | true ↦ λ may.
+            let parts = and_parts _ _ may in
+            let alike : has_base b target ≡ has_base b name = ap (is_name b) (sym (is_name-true _ _ parts.1)) in
+            elim (cases_Bool (has_base b name)) [
+              | inl on ↦ linked_in s target (alike ∙ on) (absent _ parts.0) (has bytes on refl)
+              | inr off ↦ let t : Files = record s { cur = insert s.cur target bytes } in steady_kept s t (equally b s t (rw (held-insert_other b s.cur target bytes (alike ∙ off)) refl))
+            ]
+      ] refl
+
+  doubled_steady : (action : Action) (s : Files) → Holds b x s (doubled action s)
+  doubled_steady (ToCur name target) s = linked_steady s name target (get s.new name) (λ bytes on has. Contains-append_left _ _ bytes (held_in b s.new name bytes on has))
+  doubled_steady (Reflag name target) s = linked_steady s name target (get s.cur name) (λ bytes on has. Contains-append_right _ _ bytes (held_in b s.cur name bytes on has))
+  doubled_steady (DropTmp name) s = steady_same s
+  doubled_steady (Outside files) s = steady_same s
+
+  -- these bytes come under a name of the base, also one that is taken
+  inserted_steady : (m : FileMap) (target : List ℕ) → has_base b target ≡ true → Steady x (held_under b m) (held_under b (insert m target x))
+  inserted_steady m target on = record { within = inserted_or b m target x on; still = λ h. inserted_in b m target x on }
+
+  placed_steady : (s : Files) (name : List ℕ) (p : Place) (target : List ℕ) (o : Option (List ℕ)) → has_base b target ≡ true → ((held : List ℕ) → o ≡ Some held → held ≡ x) → Holds b x s (placed s name p target o)
+  placed_steady s name p target None on whole = steady_same s
+  placed_steady s name New target (Some held) on whole =
+      subst (λ bytes. Holds b x s (placed s name New target (Some bytes))) (sym (whole held refl)) (steady_left (held_under b s.cur) (inserted_steady s.new target on))
+  placed_steady s name Cur target (Some held) on whole =
+      subst (λ bytes. Holds b x s (placed s name Cur target (Some bytes))) (sym (whole held refl)) (steady_right (held_under b s.new) (inserted_steady s.cur target on))
+
+  module _ (named : IsTrue (is_converter_base b)) where
+    -- a call that places nothing at the base
+    left_elsewhere : (call : Call) → PlacesElsewhere b call → (kept : List cuts.Kept) (s : Files) → Holds b x s (left_after s call kept)
+    left_elsewhere call off [] s = steady_same s
+    left_elsewhere call off (Came move ∷ kept) s =
+        steady_then s (moved call move s) (left_after s call (Came move ∷ kept)) (steady_kept s (moved call move s) (after_kept b named call off (move ∷ []) s)) (left_elsewhere call off kept (moved call move s))
+    left_elsewhere call off (Doubled action ∷ kept) s =
+        steady_then s (doubled action s) (left_after s call (Doubled action ∷ kept)) (doubled_steady action s) (left_elsewhere call off kept (doubled action s))
+
+    pub leaves_elsewhere : {call : Call} → PlacesElsewhere b call → {s t : Files} → Leaves call s t → Holds b x s t
+    leaves_elsewhere {call} off {s} leaves = subst (Holds b x s) (sym leaves.are) (left_elsewhere call off leaves.kept s)
+
+    -- a call that places there what `tmp` has under a name, where these bytes were written
+    module _ (name : List ℕ) (p : Place) (target : List ℕ) (ours : IsTrue (is_converter_name name)) (on : has_base b target ≡ true) where
+      placing_moved : (move : Move) (s : Files) → IsFoundWhole (Writing name x) s → Holds b x s (moved (Placing name p target) move s)
+      placing_moved (Other action) s whole = steady_kept s (acted action s) (acted_kept b named action s)
+      placing_moved Again s whole = placed_steady s name p target (get s.tmp name) on (whole ours)
+      placing_moved (Torn bytes) s whole = steady_same s
+
+      left_placing : (kept : List cuts.Kept) (s : Files) → IsFoundWhole (Writing name x) s → Holds b x s (left_after s (Placing name p target) kept)
+      left_placing [] s whole = steady_same s
+      left_placing (Came move ∷ kept) s whole =
+          let t = moved (Placing name p target) move s in
+          steady_then s t (left_after s (Placing name p target) (Came move ∷ kept)) (placing_moved move s whole) (left_placing kept t (whole_on name x s t (after_tmp name ours (Placing name p target) tt (move ∷ []) s) whole))
+      left_placing (Doubled action ∷ kept) s whole =
+          let t = doubled action s in
+          steady_then s t (left_after s (Placing name p target) (Doubled action ∷ kept)) (doubled_steady action s) (left_placing kept t (whole_on name x s t (inl (ap (λ m. get m name) (doubled_tmp action s))) whole))
+
+      pub leaves_placing : {s t : Files} → IsFoundWhole (Writing name x) s → Leaves (Placing name p target) s t → Holds b x s t
+      leaves_placing {s} whole leaves = subst (Holds b x s) (sym leaves.are) (left_placing leaves.kept s whole)
+
+-- ---- a message, of whose base this holds
+pub intact_on : (m : Message) (s t : Files) → Holds m.target.base m.body s t → IsIntact s m → IsIntact t m
+intact_on m s t holds intact bytes h = elim (holds.within bytes h) [ inl is ↦ is | inr there ↦ intact bytes there ]
+
+pub others_hold : (m : Message) → IsTrue (is_converter_base m.target.base) → {s t : Files} → LeavesOthers s t → Holds m.target.base m.body s t
+others_hold m named leaves = leaves_elsewhere m.target.base m.body named tt leaves
+
+-- ---- messages, of each of which this holds
+abbrev pub AllHold : List Message → Files → Files → Type 0
+AllHold ms s t = All (λ m. Holds m.target.base m.body s t) ms
+
+pub all_intact : (ms : List Message) (s t : Files) → AllHold ms s t → All (IsIntact s) ms → All (IsIntact t) ms
+all_intact ms s t hold intact k d below = intact_on (get_or ms k d) s t (hold k d below) (intact k d below)
+
+pub all_bodies : (ms : List Message) (s t : Files) → AllHold ms s t → All (HasBody s) ms → All (HasBody t) ms
+all_bodies ms s t hold bodies k d below = (hold k d below).still (bodies k d below)
+
+pub all_beside : (ms : List Message) {s t : Files} → AreNamed ms → LeavesOthers s t → AllHold ms s t
+all_beside ms named leaves k d below = others_hold (get_or ms k d) (named k d below) leaves

@@ -1,0 +1,154 @@
+-- What a cut leaves of the tasks of a run.
+use Rattle.std.proofs.Common.{◌≡◌, ℕ, ◌<◌, ◌^◌, length, get_or, Bool, true, false, cond, List, [], ◌∷◌, ◌++◌, ◌⊎◌, All, IsTrue, IsFalse, Result, Ok, Err, sym, ap, subst, ◌∙◌, inl, inr}
+use Rattle.std.proofs.lemmas.Bool.{cases_Bool, cases_order, false≢true}
+use Rattle.std.proofs.lemmas.List.{get_or_default}
+use Rattle.std.proofs.lemmas.List.Elements.{All-head, All-tail}
+use Rattle.maildir_name.specs.declared.target.Target.{Target}
+use Rattle.maildir_name.specs.Names.{base, is_converter_name, is_converter_base}
+use Rattle.maildir_run.specs.Calls.{Writing, Placing, PlacesElsewhere}
+use Rattle.maildir_run.specs.Cuts.{Leaves}
+use Rattle.maildir_run.specs.Delivery.{Message, AreNamed, AreDistinct}
+use Rattle.maildir_run.specs.Files.{Files, is_name, has_base}
+use Rattle.maildir_run.specs.Parts.{sweep_of, delivery_of, delivery_if, deliveries_of}
+use Rattle.maildir_run.specs.Plan.{is_listed}
+use Rattle.maildir_run.specs.Private.Progress.{IsTarget}
+use Rattle.maildir_run.specs.Tasks.{Task, Do, call_of, AllDone, Stopped, Performs, leaving, Names, LeavesDone, listings, planned_tasks}
+use Rattle.maildir_run.specs.Texts.{MessagesOf}
+use Rattle.maildir_run.proofs.Call.Homes.{converters}
+use Rattle.maildir_run.proofs.Names.Maps.{is_name-true, is_name-refl}
+use Rattle.maildir_run.proofs.Chains.MessageLemmas.{text_named, text_targets, text_distinct}
+use Rattle.maildir_run.proofs.Tasks.PlanLemmas.{planned_are}
+use Rattle.maildir_run.proofs.Tasks.TaskEffects.{EachTask, PlacesNone, all_parts, stopped_parts, listings_place_none, sweep_places_none}
+use Rattle.maildir_disk.specs.PowerCuts.{AreAlike}
+use Rattle.maildir_disk.proofs.Left.LeftHomes.{Holds, steady_same, steady_then, leaves_elsewhere, leaves_placing, AllHold}
+
+-- ---- the parts of a list of tasks
+-- what a cut leaves of tasks that were all done, or of which one was refused
+abbrev pub LeavesTasks : (ended : Bool) → List Task → Files → Files → Type 0
+LeavesTasks true tasks old new = AllDone leaving tasks old new
+LeavesTasks false tasks old new = Stopped leaving tasks old new
+
+none_left : (ended : Bool) {old new : Files} → LeavesTasks ended [] old new → new ≡ old
+none_left true e = e
+none_left false e = e
+
+one_done : (task : Task) (old new : Files) → LeavesTasks true (task ∷ []) old new → LeavesDone task old new
+one_done task old new (mid, done, e) = subst (LeavesDone task old) (sym e) done
+
+one_left : (ended : Bool) (task : Task) {old new : Files} → LeavesTasks ended (task ∷ []) old new → Leaves (call_of task) old new
+one_left true task {old} {new} h = (one_done task old new h).0
+one_left false task (inl refused) = refused
+one_left false task {old} {new} (inr done) = (one_done task old new done).0
+
+-- a front of the first part, or all of it and then of the other
+abbrev pub InParts : (ended : Bool) (xs ys : List Task) (old new : Files) → Type 0
+InParts ended xs ys old new = LeavesTasks ended xs old new ⊎ ((mid : Files) × LeavesTasks true xs old mid × LeavesTasks ended ys mid new)
+
+parts_left : (ended : Bool) (xs ys : List Task) (old new : Files) → LeavesTasks ended (xs ++ ys) old new → InParts ended xs ys old new
+parts_left true xs ys old new h = inr (all_parts leaving xs ys old new h)
+parts_left false xs ys old new h = stopped_parts leaving xs ys old new h
+
+performs_left : {A E : Type 0} (tasks : List Task) (old new : Files) (r : Result A E) → Performs leaving tasks old r new → (ended : Bool) × LeavesTasks ended tasks old new
+performs_left tasks old new (Ok _) h = (true, h)
+performs_left tasks old new (Err _) h = (false, h)
+
+-- ---- a base of which no message has another body than these bytes
+module _ (b x : List ℕ) (named : IsTrue (is_converter_base b)) where
+  -- whatever a cut leaves of these tasks, of the base it leaves what was there, or these bytes
+  abbrev pub AreSteady : List Task → Type 0
+  AreSteady tasks = (ended : Bool) (old new : Files) → LeavesTasks ended tasks old new → Holds b x old new
+
+  none_steady : AreSteady []
+  none_steady ended old new h = subst (Holds b x old) (sym (none_left ended h)) (steady_same b x old)
+
+  both_steady : (xs ys : List Task) → AreSteady xs → AreSteady ys → AreSteady (xs ++ ys)
+  both_steady xs ys first then ended old new h =
+      elim (parts_left ended xs ys old new h) [
+        | inl front ↦ first ended old new front
+        | inr (mid, all, more) ↦ steady_then b x old mid new (first true old mid all) (then ended mid new more)
+      ]
+
+  elsewhere_steady : (task : Task) → PlacesElsewhere b (call_of task) → AreSteady (task ∷ [])
+  elsewhere_steady task off ended old new h = leaves_elsewhere b x named off (one_left ended task h)
+
+  all_elsewhere : (tasks : List Task) → EachTask PlacesNone tasks → AreSteady tasks
+  all_elsewhere [] off = none_steady
+  all_elsewhere (task ∷ tasks) off = both_steady (task ∷ []) tasks (elsewhere_steady task (off.0 b)) (all_elsewhere tasks off.1)
+
+  -- a message of another base
+  other_steady : (t : Target) (body : List ℕ) → has_base b t.name ≡ false → AreSteady (delivery_of t body)
+  other_steady t body off =
+      both_steady (Do (Writing t.base body) ∷ []) (Do (Placing t.base t.place t.name) ∷ []) (elsewhere_steady (Do (Writing t.base body)) tt) (elsewhere_steady (Do (Placing t.base t.place t.name)) off)
+
+  -- a message of the base, which is placed once it was written
+  own_steady : (t : Target) → IsTrue (is_converter_name t.base) → has_base b t.name ≡ true → AreSteady (delivery_of t x)
+  own_steady t ours on ended old new h =
+      let write = Do (Writing t.base x) in
+      let place = Do (Placing t.base t.place t.name) in
+      elim (parts_left ended (write ∷ []) (place ∷ []) old new h) [
+        | inl front ↦ elsewhere_steady write tt ended old new front
+        | inr (mid, wrote, put) ↦
+            steady_then b x old mid new (elsewhere_steady write tt true old mid wrote)
+            (leaves_placing b x named t.base t.place t.name ours on (one_done write old mid wrote).1 (one_left ended place put))
+      ]
+
+  delivery_steady : (m : Message) → IsTarget m.target → (m.target.base ≡ b → m.body ≡ x) → AreSteady (delivery_of m.target m.body)
+  delivery_steady m is body =
+      let t = m.target in
+      let same : t.base ≡ base t.name = is_name-true _ _ is.under in
+      elim (cases_Bool (is_name b t.base)) [
+        | inl on ↦
+            subst (λ bytes. AreSteady (delivery_of t bytes)) (sym (body (sym (is_name-true b t.base on))))
+            (own_steady t (converters t.base t.base is.named is.whole) (ap (is_name b) (sym same) ∙ on))
+        | inr off ↦ other_steady t m.body (ap (is_name b) (sym same) ∙ off)
+      ]
+
+  delivery_if_steady : (shown : Bool) (m : Message) → AreSteady (delivery_of m.target m.body) → AreSteady (cond shown [] (delivery_of m.target m.body))
+  delivery_if_steady true m steady = none_steady
+  delivery_if_steady false m steady = steady
+
+  deliveries_steady : (is_there : List ℕ → Bool) (ms : List Message) → All (λ m. IsTarget m.target) ms → All (λ m. m.target.base ≡ b → m.body ≡ x) ms → AreSteady (deliveries_of is_there ms)
+  deliveries_steady is_there [] are bodies = none_steady
+  deliveries_steady is_there (m ∷ ms) are bodies =
+      both_steady (delivery_if is_there m) (deliveries_of is_there ms)
+      (delivery_if_steady (is_there m.target.base) m (delivery_steady m (All-head (λ (n : Message). IsTarget n.target) m ms are) (All-head (λ (n : Message). n.target.base ≡ b → n.body ≡ x) m ms bodies)))
+      (deliveries_steady is_there ms (All-tail (λ (n : Message). IsTarget n.target) m ms are) (All-tail (λ (n : Message). n.target.base ≡ b → n.body ≡ x) m ms bodies))
+
+  planned_steady : (names : Names) (ms : List Message) → All (λ m. IsTarget m.target) ms → All (λ m. m.target.base ≡ b → m.body ≡ x) ms → AreSteady (planned_tasks names ms)
+  planned_steady names ms are bodies =
+      let sweep = sweep_of names.tmp in
+      let deliveries = deliveries_of (is_listed names.new names.cur) ms in
+      subst AreSteady (sym (planned_are names ms))
+      (both_steady (listings names) (sweep ++ deliveries) (all_elsewhere (listings names) (listings_place_none names))
+      (both_steady sweep deliveries (all_elsewhere sweep (sweep_places_none names.tmp)) (deliveries_steady (is_listed names.new names.cur) ms are bodies)))
+
+  run_holds : {A E : Type 0} (names : Names) (ms : List Message) → All (λ m. IsTarget m.target) ms → All (λ m. m.target.base ≡ b → m.body ≡ x) ms → (old : Files) (r : Result A E) (new : Files) → Performs leaving (planned_tasks names ms) old r new → Holds b x old new
+  run_holds names ms are bodies old r new h =
+      let left = performs_left (planned_tasks names ms) old new r h in
+      planned_steady names ms are bodies left.0 old new left.1
+
+-- ---- no two messages of a text have the same base
+differ : (m n : Message) → IsFalse (is_name m.target.base n.target.base) → m.target.base ≡ n.target.base → ⊥
+differ m n apart alike = false≢true (sym apart ∙ (ap (is_name m.target.base) (sym alike) ∙ is_name-refl m.target.base))
+
+pub own_bodies : (ms : List Message) → AreDistinct ms → AreAlike ms ms
+own_bodies ms distinct k d below j e there =
+    let m = get_or ms k d in
+    let n = get_or ms j d in
+    subst (λ (o : Message). o.target.base ≡ m.target.base → o.body ≡ m.body) (get_or_default ms j d e there) (λ alike.
+    elim (cases_order j k) [
+      | inl same ↦ ap (λ i. (get_or ms i d).body) same
+      | inr (inl before) ↦ absurd (differ n m (distinct j k d before below) alike)
+      | inr (inr after) ↦ absurd (differ m n (distinct k j d after there) (sym alike))
+    ])
+
+-- ---- the messages of a text
+module _ (t : List ℕ) (ms : List Message) (are : MessagesOf t ms) (small : length t < 2 ^ 63) (names : Names) {A E : Type 0} (before : Files) (r : Result A E) (now : Files) (ran : Performs leaving (planned_tasks names ms) before r now) where
+  pub text_holds : (b x : List ℕ) → IsTrue (is_converter_base b) → All (λ m. m.target.base ≡ b → m.body ≡ x) ms → Holds b x before now
+  text_holds b x named bodies = run_holds b x named names ms (text_targets t ms are small) bodies before r now ran
+
+  pub texts_hold : (others : List Message) → AreNamed others → AreAlike others ms → AllHold others before now
+  texts_hold others named alike k d below = text_holds (get_or others k d).target.base (get_or others k d).body (named k d below) (alike k d below)
+
+  pub own_hold : AllHold ms before now
+  own_hold = texts_hold ms (text_named t ms are small) (own_bodies ms (text_distinct t ms are small))

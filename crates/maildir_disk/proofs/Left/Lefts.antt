@@ -1,0 +1,128 @@
+-- What a cut leaves, from one moment of a call to the next.
+use Rattle.std.proofs.Common.{◌≡◌, inl, inr, ℕ, List, [], ◌∷◌, ◌++◌, refl, sym, ◌∙◌, ap}
+use Rattle.std.specs.Prelude.{IsErr, IsOk, OnErr, OnOk, Result, Ok, Err}
+use Rattle.maildir_run.specs.declared.folder.Sub.TheVariants.{Tmp}
+use Rattle.maildir_run.specs.Calls.{Call, Listing, Writing, Other, Again, Torn, Succeeded, moved}
+use Rattle.maildir_run.specs.Cuts.{Kept, Came, Doubled, Leaves, LeavesOf, IsFoundWhole, Left, left_after, doubled}
+use Rattle.maildir_run.specs.Files.{Files}
+use Rattle.maildir_run.proofs.Call.Cuts.{left_as}
+use Rattle.maildir_run.proofs.Call.Moves.{writing_ok}
+use Rattle.maildir_disk.specs.PowerCuts.{LeavesOthers, KeepsHeld}
+
+-- ---- one after the other
+left_after-append : (call : Call) (xs ys : List Kept) (s : Files) → left_after s call (xs ++ ys) ≡ left_after (left_after s call xs) call ys
+left_after-append call [] ys s = refl
+left_after-append call (Came move ∷ xs) ys s = left_after-append call xs ys (moved call move s)
+left_after-append call (Doubled action ∷ xs) ys s = left_after-append call xs ys (doubled action s)
+
+pub leaves_none : {call : Call} {s : Files} → Leaves call s s
+leaves_none = record { kept = []; are = refl }
+
+pub leaves_then : {call : Call} {a b c : Files} → Leaves call a b → Leaves call b c → Leaves call a c
+leaves_then {call} {a} first then = record {
+  kept = first.kept ++ then.kept;
+  are = then.are ∙ (ap (λ s. left_after s call then.kept) first.are ∙ sym (left_after-append call first.kept then.kept a));
+}
+
+-- ---- what others do within any call
+of_others : List Kept → List Kept
+of_others [] = []
+of_others (Came (Other action) ∷ kept) = Came (Other action) ∷ of_others kept
+of_others (Came Again ∷ kept) = of_others kept
+of_others (Came (Torn bytes) ∷ kept) = of_others kept
+of_others (Doubled action ∷ kept) = Doubled action ∷ of_others kept
+
+others_after : (call : Call) (kept : List Kept) (s : Files) → left_after s (Listing Tmp) kept ≡ left_after s call (of_others kept)
+unfolding of_others
+others_after call [] s = refl
+others_after call (Came (Other action) ∷ kept) s = others_after call kept _
+others_after call (Came Again ∷ kept) s = others_after call kept s
+others_after call (Came (Torn bytes) ∷ kept) s = others_after call kept s
+others_after call (Doubled action ∷ kept) s = others_after call kept _
+
+pub others_leave : {call : Call} {a b : Files} → LeavesOthers a b → Leaves call a b
+others_leave {call} {a} h = record { kept = of_others h.kept; are = h.are ∙ others_after call h.kept a }
+
+-- ---- a write of other bytes, torn
+as_torn : List ℕ → List Kept → List Kept
+as_torn held [] = []
+as_torn held (Came (Other action) ∷ kept) = Came (Other action) ∷ as_torn held kept
+as_torn held (Came Again ∷ kept) = Came (Torn held) ∷ as_torn held kept
+as_torn held (Came (Torn bytes) ∷ kept) = Came (Torn bytes) ∷ as_torn held kept
+as_torn held (Doubled action ∷ kept) = Doubled action ∷ as_torn held kept
+
+torn_after : (name held bytes : List ℕ) (kept : List Kept) (s : Files) → left_after s (Writing name held) kept ≡ left_after s (Writing name bytes) (as_torn held kept)
+unfolding as_torn
+torn_after name held bytes [] s = refl
+torn_after name held bytes (Came (Other action) ∷ kept) s = torn_after name held bytes kept _
+torn_after name held bytes (Came Again ∷ kept) s = torn_after name held bytes kept _
+torn_after name held bytes (Came (Torn _) ∷ kept) s = torn_after name held bytes kept _
+torn_after name held bytes (Doubled action ∷ kept) s = torn_after name held bytes kept _
+
+pub leaves_torn : {name held bytes : List ℕ} {a b : Files} → Leaves (Writing name held) a b → Leaves (Writing name bytes) a b
+leaves_torn {name} {held} {bytes} {a} h = record { kept = as_torn held h.kept; are = h.are ∙ torn_after name held bytes h.kept a }
+
+-- ---- from one call to the next
+pub left_both : {call : Call} {a b c : Files → Type 0} → Left (Leaves call) a b → Left (Leaves call) b c → Left (Leaves call) a c
+left_both first then new may = let r = then new may in let q = first r.0 r.1 in (q.0, q.1, leaves_then q.2 r.2)
+
+pub left_early : {call : Call} {a b : Files → Type 0} → Left LeavesOthers a b → Left (Leaves call) a b
+left_early others new may = let r = others new may in (r.0, r.1, others_leave r.2)
+
+pub left_torn : {name held bytes : List ℕ} {a b : Files → Type 0} → Left (Leaves (Writing name held)) a b → Left (Leaves (Writing name bytes)) a b
+left_torn torn new may = let r = torn new may in (r.0, r.1, leaves_torn r.2)
+
+pub left_more : {call : Call} {a b c : Files → Type 0} → Left (Leaves call) a b → Left LeavesOthers b c → Left (Leaves call) a c
+left_more first then = left_both first (left_early then)
+
+pub left_none : {call : Call} {a : Files → Type 0} → Left (Leaves call) a a
+left_none new may = (new, may, leaves_none)
+
+pub others_then : {a b c : Files → Type 0} → Left LeavesOthers a b → Left LeavesOthers b c → Left LeavesOthers a c
+others_then = left_both
+
+-- ---- where a call answered Ok
+pub on_ok : {A E : Type 0} (P : Type 0) (outcome : Result A E) → P → OnOk outcome P
+on_ok P (Ok x) h = h
+on_ok P (Err e) h = tt
+
+pub ok_then : {A E : Type 0} (P Q : Type 0) (outcome : Result A E) → (P → Q) → OnOk outcome P → OnOk outcome Q
+ok_then P Q (Ok x) f h = f h
+ok_then P Q (Err e) f h = tt
+
+pub if_ok : {A E : Type 0} (outcome : Result A E) (P : Type 0) → IsOk outcome → OnOk outcome P → P
+if_ok (Ok x) P is h = h
+if_ok (Err e) P is h = cc
+
+pub left_fault : {A E : Type 0} {call : Call} (outcome : Result A E) {a b : Files → Type 0} → IsErr outcome → Left (Leaves call) a b → Left (λ before now. LeavesOf call before outcome now) a b
+left_fault (Ok x) is_err h = cc
+left_fault (Err e) is_err h = h
+
+-- nothing is to be found whole
+pub left_always : {A E : Type 0} {call : Call} (outcome : Result A E) {a b : Files → Type 0} → ((s : Files) → IsFoundWhole call s) → Left (Leaves call) a b → Left (λ before now. LeavesOf call before outcome now) a b
+left_always {call} (Ok x) {a} {b} whole h = left_as (Leaves call) _ a b (λ old new leaves. (leaves, whole new)) h
+left_always (Err e) whole h = h
+
+-- the answer of a folder for that of the system
+pub left_answered : {A E F : Type 0} (call : Call) (outcome : Result A E) (answer : Result A F) {a b : Files → Type 0} → OnErr outcome (IsErr answer) → Left (λ before now. LeavesOf call before outcome now) a b → Left (λ before now. LeavesOf call before answer now) a b
+left_answered call (Ok x) (Ok y) is h = h
+left_answered call (Ok x) (Err f) {a} {b} is h = left_as _ (Leaves call) a b (λ old new leaves. leaves.0) h
+left_answered call (Err e) (Ok y) is h = cc
+left_answered call (Err e) (Err f) is h = h
+
+-- a file that was written and kept
+pub left_written : {A E : Type 0} {name bytes : List ℕ} (outcome : Result A E) {a b : Files → Type 0} {old new : Files} → Succeeded (Writing name bytes) old new → OnOk outcome (KeepsHeld name new b) → Left (Leaves (Writing name bytes)) a b → Left (λ before now. LeavesOf (Writing name bytes) before outcome now) a b
+left_written (Err e) done kept h = h
+left_written {name} {bytes} (Ok x) {old} {new} done kept h = λ left may.
+    let r = h left may in (
+      r.0,
+      r.1,
+      (
+        r.2,
+        λ ours held has.
+            elim (writing_ok name bytes ours old new done) [
+              | inl is ↦ let e = sym has ∙ (kept left may ours ∙ is) in cc
+              | inr gone ↦ let e = sym has ∙ (kept left may ours ∙ gone) in cc
+            ],
+      ),
+    )

@@ -1,0 +1,34 @@
+-- What a cut leaves of a message where it leaves each file under one name.
+use Rattle.std.proofs.Common.{◌≡◌, ℕ, ◌≤◌, List, [], ◌∷◌, ◌⊎◌, length, IsTrue, sym, ap, inl, inr, arith, refl}
+use Rattle.std.specs.List.{Contains}
+use Rattle.maildir_name.specs.Names.{is_converter_base}
+use Rattle.maildir_run.specs.Delivery.{Message, IsHome, IsSoundAt}
+use Rattle.maildir_run.specs.Files.{Files, homes}
+use Rattle.maildir_disk.specs.PowerCuts.{IsIntact, HasBody, IsSingle}
+use Rattle.maildir_disk.proofs.Left.LeftHomes.{none_in, first_in, first_or}
+
+only_one : {x : List ℕ} (ys : List (List ℕ)) → length ys ≤ 1 → ((y : List ℕ) → Contains ys y → y ≡ x) → (ys ≡ []) ⊎ (ys ≡ x ∷ [])
+only_one [] few all = inl refl
+only_one (y ∷ []) few all = inr (ap (λ z. z ∷ []) (all y (first_in [])))
+only_one (y ∷ z ∷ ys) few all = absurd (omega (arith, few))
+
+the_one : {x : List ℕ} (ys : List (List ℕ)) → length ys ≤ 1 → Contains ys x → ys ≡ x ∷ []
+the_one [] few has = absurd (none_in has)
+the_one (y ∷ []) few has = elim (first_or [] has) [ inl is ↦ ap (λ z. z ∷ []) (sym is) | inr none ↦ absurd (none_in none) ]
+the_one (y ∷ z ∷ ys) few has = absurd (omega (arith, few))
+
+at_most_one : (m : Message) (s : Files) → IsSoundAt s m → length (homes s m.target.base) ≤ 1
+at_most_one m s (inl none) = let e = ap length none in omega (arith, e)
+at_most_one m s (inr one) = let e = ap length one in omega (arith, e)
+
+pub single_sound : (m : Message) → IsTrue (is_converter_base m.target.base) → (s left : Files) → IsSoundAt s m → IsIntact left m → IsSingle s left → IsSoundAt left m
+single_sound m named s left sound intact single =
+    let few = at_most_one m s sound in
+    let no_more = single m.target.base named in
+    only_one (homes left m.target.base) (omega (arith, few, no_more)) intact
+
+pub single_home : (m : Message) → IsTrue (is_converter_base m.target.base) → (s left : Files) → IsHome s m → HasBody left m → IsSingle s left → IsHome left m
+single_home m named s left home has single =
+    let few = at_most_one m s (inr home) in
+    let no_more = single m.target.base named in
+    the_one (homes left m.target.base) (omega (arith, few, no_more)) has

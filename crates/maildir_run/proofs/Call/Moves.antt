@@ -1,0 +1,280 @@
+-- What a call's moves leave: of the homes of a base, and of a name in tmp.
+use Rattle.std.proofs.Common.{◌≡◌, ℕ, true, false, cond, List, [], ◌∷◌, ◌++◌, ◌⊎◌, Option, Some, None, IsPermutation, IsTrue, refl, sym, ap, subst, ◌∙◌, inl, inr, map, arith, is_some}
+use Rattle.maildir_run.proofs.Common.{get, insert, remove, values, contains_key, entries, retain_keys, empty, get-entries, get-insert, get-empty, same_map, len, len-empty, len-entries, cases_Bool, All-nil, All-cons, nil_from_length, IsPermutation-refl, IsPermutation-sym, IsPermutation-trans, IsPermutation-middle, IsPermutation-append_left, IsPermutation-append_right, length_permutation, All-permutation, is_converter_name, is_converter_base, name_cmp, is_name, FileMap, Files, has_base, held_under, homes, Action, ToCur, Reflag, DropTmp, Outside, may_take, to_cur, reflag, acted, Call, Listing, Writing, Placing, Removing, Move, Other, Again, Torn, placed, effect, torn, moved, after, IsOthers, IsWhole, Succeeded, PlacesElsewhere, WritesElsewhere, StaysOrGoes, IsReady}
+use Rattle.maildir_name.specs.declared.target.Place.{Place}
+use Rattle.maildir_name.specs.declared.target.Place.TheVariants.{New, Cur}
+use Rattle.maildir_run.proofs.Names.Maps.{total, same, get_under, get_removed, get-insert_same, get-remove_same}
+use Rattle.maildir_run.proofs.Call.Homes.{Kept, equally, acted_kept, held-insert_other, held-insert_new, get-outsiders_of}
+
+-- ---- a base at which nothing is placed
+placed_kept : (b : List ℕ) (name : List ℕ) (p : Place) (target : List ℕ) → has_base b target ≡ false → (o : Option (List ℕ)) (s : Files) → Kept b s (placed s name p target o)
+placed_kept b name p target off None s = IsPermutation-refl _
+placed_kept b name New target off (Some bytes) s = equally b s (placed s name New target (Some bytes)) (rw (held-insert_other b s.new target bytes off) refl)
+placed_kept b name Cur target off (Some bytes) s = equally b s (placed s name Cur target (Some bytes)) (rw (held-insert_other b s.cur target bytes off) refl)
+
+effect_kept : (b : List ℕ) (call : Call) → PlacesElsewhere b call → (s : Files) → Kept b s (effect call s)
+effect_kept b (Placing name p target) h s = placed_kept b name p target h (get s.tmp name) s
+effect_kept b other h s = IsPermutation-refl _
+
+pub torn_kept : (b : List ℕ) (call : Call) (bytes : List ℕ) (s : Files) → Kept b s (torn call bytes s)
+torn_kept b (Writing name _) bytes s = IsPermutation-refl _
+torn_kept b other bytes s = IsPermutation-refl _
+
+module _ (b : List ℕ) (named : IsTrue (is_converter_base b)) (call : Call) (h : PlacesElsewhere b call) where
+  moved_kept : (m : Move) (s : Files) → Kept b s (moved call m s)
+  moved_kept (Other action) s = acted_kept b named action s
+  moved_kept Again s = effect_kept b call h s
+  moved_kept (Torn bytes) s = torn_kept b call bytes s
+
+  pub after_kept : (ms : List Move) (s : Files) → Kept b s (after s call ms)
+  after_kept [] s = IsPermutation-refl _
+  after_kept (m ∷ ms) s = IsPermutation-trans _ _ _ (moved_kept m s) (after_kept ms (moved call m s))
+
+-- ---- a name in tmp
+pub stays : (q : List ℕ) (s : Files) → StaysOrGoes q s s
+stays q s = inl refl
+
+pub stays_trans : (q : List ℕ) (a b c : Files) → StaysOrGoes q a b → StaysOrGoes q b c → StaysOrGoes q a c
+stays_trans q a b c (inl e) (inl f) = inl (f ∙ e)
+stays_trans q a b c (inl e) (inr f) = inr f
+stays_trans q a b c (inr e) (inl f) = inr (f ∙ e)
+stays_trans q a b c (inr e) (inr f) = inr f
+
+dropped : (q name : List ℕ) (s : Files) → StaysOrGoes q s (record s { tmp = remove s.tmp name })
+dropped q name s = elim (cases_Bool (is_name q name)) [ inl e ↦ inr (get_removed s.tmp name q ∙ rw e refl) | inr e ↦ inl (get_removed s.tmp name q ∙ rw e refl) ]
+
+module _ (s : Files) (name target : List ℕ) where
+  pub to_cur_tmp : (o : Option (List ℕ)) → (to_cur s name target o).tmp ≡ s.tmp
+  to_cur_tmp None = refl
+  to_cur_tmp (Some bytes) =
+      elim (may_take s.cur name target) as (λ t. (cond t (record s { new = remove s.new name; cur = insert s.cur target bytes }) s).tmp ≡ s.tmp) [ true ↦ refl | false ↦ refl ]
+
+  pub reflag_tmp : (o : Option (List ℕ)) → (reflag s name target o).tmp ≡ s.tmp
+  reflag_tmp None = refl
+  reflag_tmp (Some bytes) =
+      elim (may_take s.cur name target) as (λ t. (cond t (record s { cur = insert (remove s.cur name) target bytes }) s).tmp ≡ s.tmp) [ true ↦ refl | false ↦ refl ]
+
+pub acted_tmp : (q : List ℕ) → IsTrue (is_converter_name q) → (action : Action) (s : Files) → StaysOrGoes q s (acted action s)
+acted_tmp q ours (ToCur name target) s = inl (ap (λ m. get m q) (to_cur_tmp s name target (get s.new name)))
+acted_tmp q ours (Reflag name target) s = inl (ap (λ m. get m q) (reflag_tmp s name target (get s.cur name)))
+acted_tmp q ours (DropTmp name) s =
+    elim (is_converter_name name) as (λ t. StaysOrGoes q s (cond t (record s { tmp = remove s.tmp name }) s)) [ true ↦ dropped q name s | false ↦ inl refl ]
+acted_tmp q ours (Outside files) s = inl (get-outsiders_of s.tmp files.tmp q ours)
+
+written_elsewhere : (q name bytes : List ℕ) (s : Files) → is_name q name ≡ false → StaysOrGoes q s (record s { tmp = insert s.tmp name bytes })
+written_elsewhere q name bytes s off = inl (get-insert total s.tmp name bytes q ∙ rw off refl)
+
+placed_tmp : (q name : List ℕ) (p : Place) (target : List ℕ) (o : Option (List ℕ)) (s : Files) → StaysOrGoes q s (placed s name p target o)
+placed_tmp q name p target None s = inl refl
+placed_tmp q name New target (Some bytes) s = dropped q name s
+placed_tmp q name Cur target (Some bytes) s = dropped q name s
+
+effect_tmp : (q : List ℕ) (call : Call) → WritesElsewhere q call → (s : Files) → StaysOrGoes q s (effect call s)
+effect_tmp q (Listing sub) h s = inl refl
+effect_tmp q (Writing name bytes) h s = written_elsewhere q name bytes s h
+effect_tmp q (Placing name p target) h s = placed_tmp q name p target (get s.tmp name) s
+effect_tmp q (Removing name) h s = dropped q name s
+
+torn_tmp : (q : List ℕ) (call : Call) → WritesElsewhere q call → (bytes : List ℕ) (s : Files) → StaysOrGoes q s (torn call bytes s)
+torn_tmp q (Writing name _) h bytes s = written_elsewhere q name bytes s h
+torn_tmp q other h bytes s = inl refl
+
+module _ (q : List ℕ) (ours : IsTrue (is_converter_name q)) (call : Call) (h : WritesElsewhere q call) where
+  moved_tmp : (m : Move) (s : Files) → StaysOrGoes q s (moved call m s)
+  moved_tmp (Other action) s = acted_tmp q ours action s
+  moved_tmp Again s = effect_tmp q call h s
+  moved_tmp (Torn bytes) s = torn_tmp q call h bytes s
+
+  pub after_tmp : (ms : List Move) (s : Files) → StaysOrGoes q s (after s call ms)
+  after_tmp [] s = inl refl
+  after_tmp (m ∷ ms) s = stays_trans q s (moved call m s) (after s call (m ∷ ms)) (moved_tmp m s) (after_tmp ms (moved call m s))
+
+-- ---- small lists in any order
+pub none_kept : {X : Type 0} (ys : List X) → IsPermutation [] ys → ys ≡ []
+none_kept ys h = nil_from_length ys (length_permutation [] ys h)
+
+pub one_kept : {X : Type 0} (x : X) (ys : List X) → IsPermutation (x ∷ []) ys → ys ≡ x ∷ []
+one_kept x [] h = absurd (omega (arith, length_permutation (x ∷ []) [] h))
+one_kept x (y ∷ []) h = ap (λ z. z ∷ []) (All-permutation (λ z. z ≡ x) (x ∷ []) (y ∷ []) h (All-cons (λ z. z ≡ x) x [] refl (All-nil _)) 0 y (omega arith))
+one_kept x (y ∷ z ∷ ys) h = absurd (omega (arith, length_permutation (x ∷ []) (y ∷ z ∷ ys) h))
+
+pub homes_none : (b : List ℕ) (old new : Files) → Kept b old new → homes old b ≡ [] → homes new b ≡ []
+homes_none b old new h e = none_kept (homes new b) (rw e at h)
+
+pub homes_one : (b x : List ℕ) (old new : Files) → Kept b old new → homes old b ≡ x ∷ [] → homes new b ≡ x ∷ []
+homes_one b x old new h e = one_kept x (homes new b) (rw e at h)
+
+-- ---- no file under a base
+no_entries : (es : List (List ℕ × List ℕ)) → map (λ e. e.1) es ≡ [] → es ≡ []
+no_entries [] e = refl
+no_entries (x ∷ es) e = cc
+
+pub none_held : (b : List ℕ) (m : FileMap) → held_under b m ≡ [] → (q : List ℕ) → has_base b q ≡ true → get m q ≡ None
+none_held b m e q on =
+    let kept = retain_keys m (has_base b) in
+    let is : get kept q ≡ get m q = get_under (has_base b) m q ∙ rw on refl in
+    sym is ∙ get-entries kept q ∙ rw (no_entries (entries kept) e) refl
+
+no_values : (m : FileMap) → len m ≡ 0 → values m ≡ []
+no_values m e = rw (nil_from_length (entries m) (sym (len-entries m) ∙ e)) refl
+
+pub held_none : (b : List ℕ) (m : FileMap) → ((q : List ℕ) → has_base b q ≡ true → get m q ≡ None) → held_under b m ≡ []
+held_none b m none =
+    let is : retain_keys m (has_base b) ≡ empty = same_map total same _ _ (λ q. grind (arith, get_under, none q, get-empty {X = List ℕ} name_cmp q)) in
+    no_values (retain_keys m (has_base b)) (ap len is ∙ len-empty name_cmp (List ℕ))
+
+-- ---- a base that has no home, at which a call places
+pub both_none : {X : Type 0} (xs ys : List X) → xs ++ ys ≡ [] → (xs ≡ []) × (ys ≡ [])
+both_none [] ys e = (refl, e)
+both_none (x ∷ xs) ys e = cc
+
+-- it has none as yet, and tmp has under the name what it had, or nothing
+pub record Waits (b name : List ℕ) (had : Option (List ℕ)) (s : Files) : Type 0 where
+  pub homes_are : homes s b ≡ []
+  pub waiting : (get s.tmp name ≡ had) ⊎ (get s.tmp name ≡ None)
+
+-- it has one, which holds what tmp had under the name
+pub record Arrived (b name : List ℕ) (had : Option (List ℕ)) (s : Files) : Type 0 where
+  pub bytes : List ℕ
+  pub was : had ≡ Some bytes
+  pub homes_are : homes s b ≡ bytes ∷ []
+  pub gone : get s.tmp name ≡ None
+
+homes_first : (xs ys : List (List ℕ)) (v : List ℕ) (zs : List (List ℕ)) → xs ++ ys ≡ [] → IsPermutation (v ∷ (xs ++ ys)) zs → zs ≡ v ∷ []
+homes_first xs ys v zs e h = one_kept v zs (rw e at h)
+
+-- a base that has no home, and then the file of tmp
+placed_first : (b name : List ℕ) (p : Place) (target bytes : List ℕ) (s : Files) → has_base b target ≡ true → homes s b ≡ [] → homes (placed s name p target (Some bytes)) b ≡ bytes ∷ []
+placed_first b name New target bytes s on e =
+    let parts = both_none (held_under b s.new) (held_under b s.cur) e in
+    homes_first (held_under b s.new) (held_under b s.cur) bytes _ e
+    (IsPermutation-append_left (held_under b s.cur) _ _ (held-insert_new b s.new target bytes on (none_held b s.new parts.0 target on)))
+placed_first b name Cur target bytes s on e =
+    let parts = both_none (held_under b s.new) (held_under b s.cur) e in
+    homes_first (held_under b s.new) (held_under b s.cur) bytes _ e
+    (IsPermutation-trans _ _ _
+    (IsPermutation-sym _ _ (IsPermutation-middle (held_under b s.new) bytes (held_under b s.cur)))
+    (IsPermutation-append_right (held_under b s.new) _ _ (held-insert_new b s.cur target bytes on (none_held b s.cur parts.1 target on))))
+
+module _ (b name : List ℕ) (had : Option (List ℕ)) (s t : Files) (kept : Kept b s t) where
+  waits_on : StaysOrGoes name s t → Waits b name had s → Waits b name had t
+  waits_on (inr gone) w = record { homes_are = homes_none b s t kept w.homes_are; waiting = inr gone }
+  waits_on (inl stays) w =
+      record {
+        homes_are = homes_none b s t kept w.homes_are;
+        waiting = elim w.waiting [ inl e ↦ inl (stays ∙ e) | inr e ↦ inr (stays ∙ e) ];
+      }
+
+  arrived_on : StaysOrGoes name s t → Arrived b name had s → Arrived b name had t
+  arrived_on stays a =
+      record {
+        bytes = a.bytes;
+        was = a.was;
+        homes_are = homes_one b a.bytes s t kept a.homes_are;
+        gone = elim stays [ inl e ↦ e ∙ a.gone | inr e ↦ e ];
+      }
+
+pub placed_gone : (s : Files) (name : List ℕ) (p : Place) (target bytes : List ℕ) → get (placed s name p target (Some bytes)).tmp name ≡ None
+placed_gone s name New target bytes = get-remove_same s.tmp name
+placed_gone s name Cur target bytes = get-remove_same s.tmp name
+
+-- the effect, where tmp has the file
+arrives : (b name : List ℕ) (p : Place) (target : List ℕ) (had : Option (List ℕ)) (s : Files) → has_base b target ≡ true → Waits b name had s → (bytes : List ℕ) → get s.tmp name ≡ Some bytes → Arrived b name had (placed s name p target (Some bytes))
+arrives b name p target had s on w bytes has =
+    record {
+      bytes = bytes;
+      was = elim w.waiting [ inl e ↦ sym e ∙ has | inr e ↦ cc ];
+      homes_are = placed_first b name p target bytes s on w.homes_are;
+      gone = placed_gone s name p target bytes;
+    }
+
+abbrev pub Stage : (b name : List ℕ) (had : Option (List ℕ)) (s : Files) → Type 0
+Stage b name had s = Waits b name had s ⊎ Arrived b name had s
+
+module _ (b name : List ℕ) (p : Place) (target : List ℕ) (named : IsTrue (is_converter_base b)) (ours : IsTrue (is_converter_name name)) (on : has_base b target ≡ true) (had : Option (List ℕ)) where
+  arrived_again : (s : Files) → Arrived b name had s → Arrived b name had (effect (Placing name p target) s)
+  arrived_again s a = rw a.gone a
+
+  waits_again : (s : Files) → Waits b name had s → Stage b name had (effect (Placing name p target) s)
+  waits_again s w =
+      elim (get s.tmp name) as (λ o. get s.tmp name ≡ o → Stage b name had (placed s name p target o)) [
+        | None ↦ λ has. inl w
+        | Some bytes ↦ λ has. inr (arrives b name p target had s on w bytes has)
+      ] refl
+
+  arrived_moved : (m : Move) (s : Files) → Arrived b name had s → Arrived b name had (moved (Placing name p target) m s)
+  arrived_moved (Other action) s a = arrived_on b name had s (acted action s) (acted_kept b named action s) (acted_tmp name ours action s) a
+  arrived_moved Again s a = arrived_again s a
+  arrived_moved (Torn bytes) s a = a
+
+  pub arrived_after : (ms : List Move) (s : Files) → Arrived b name had s → Arrived b name had (after s (Placing name p target) ms)
+  arrived_after [] s a = a
+  arrived_after (m ∷ ms) s a = arrived_after ms (moved (Placing name p target) m s) (arrived_moved m s a)
+
+  stage_moved : (m : Move) (s : Files) → Stage b name had s → Stage b name had (moved (Placing name p target) m s)
+  stage_moved m s (inr a) = inr (arrived_moved m s a)
+  stage_moved (Other action) s (inl w) = inl (waits_on b name had s (acted action s) (acted_kept b named action s) (acted_tmp name ours action s) w)
+  stage_moved Again s (inl w) = waits_again s w
+  stage_moved (Torn bytes) s (inl w) = inl w
+
+  pub stage_after : (ms : List Move) (s : Files) → Stage b name had s → Stage b name had (after s (Placing name p target) ms)
+  stage_after [] s st = st
+  stage_after (m ∷ ms) s st = stage_after ms (moved (Placing name p target) m s) (stage_moved m s st)
+
+  -- others alone let it wait
+  pub waits_after : (ms : List Move) (s : Files) → IsOthers ms → Waits b name had s → Waits b name had (after s (Placing name p target) ms)
+  waits_after [] s others w = w
+  waits_after (Other action ∷ ms) s others w = waits_after ms (acted action s) others (waits_on b name had s (acted action s) (acted_kept b named action s) (acted_tmp name ours action s) w)
+  waits_after (other ∷ ms) s others w = absurd others
+
+  ready : (s : Files) → Waits b name had s → IsTrue (contains_key s.tmp name) → Arrived b name had (effect (Placing name p target) s)
+  ready s w has =
+      elim (get s.tmp name) as (λ o. get s.tmp name ≡ o → IsTrue (is_some o) → Arrived b name had (placed s name p target o)) [
+        | None ↦ λ is has. cc
+        | Some bytes ↦ λ is has. arrives b name p target had s on w bytes is
+      ] refl has
+
+pub after-append : (s : Files) (call : Call) (ms ns : List Move) → after s call (ms ++ ns) ≡ after (after s call ms) call ns
+after-append s call [] ns = refl
+after-append s call (m ∷ ms) ns = after-append (moved call m s) call ms ns
+
+-- whatever a call that places at a base without a home answers
+module _ (b name : List ℕ) (p : Place) (target : List ℕ) (named : IsTrue (is_converter_base b)) (ours : IsTrue (is_converter_name name)) (on : has_base b target ≡ true) where
+  pub placing : (ms : List Move) (s : Files) → homes s b ≡ [] → Stage b name (get s.tmp name) (after s (Placing name p target) ms)
+  placing ms s e = stage_after b name p target named ours on (get s.tmp name) ms s (inl record { homes_are = e; waiting = inl refl })
+
+  -- and with Ok
+  pub placing_ok : (old new : Files) → Succeeded (Placing name p target) old new → homes old b ≡ [] → Arrived b name (get old.tmp name) new
+  placing_ok old new done e =
+      let had = get old.tmp name in
+      let call = Placing name p target in
+      let mid = after old call done.before in
+      let w : Waits b name had mid = waits_after b name p target named ours on had done.before old done.others (record { homes_are = e; waiting = inl refl }) in
+      subst (Arrived b name had) (sym (done.left ∙ after-append old call done.before (Again ∷ done.rest)))
+      (arrived_after b name p target named ours on had done.rest (effect call mid) (ready b name p target named ours on had mid w done.ready))
+
+-- ---- what was written
+module _ (name bytes : List ℕ) where
+  abbrev pub WrittenOrGone : (s : Files) → Type 0
+  WrittenOrGone s = (get s.tmp name ≡ Some bytes) ⊎ (get s.tmp name ≡ None)
+
+  written_on : (s : Files) (t : Files) → StaysOrGoes name s t → WrittenOrGone s → WrittenOrGone t
+  written_on s t (inr gone) w = inr gone
+  written_on s t (inl stays) (inl e) = inl (stays ∙ e)
+  written_on s t (inl stays) (inr e) = inr (stays ∙ e)
+
+  written_after : IsTrue (is_converter_name name) → (ms : List Move) (s : Files) → IsWhole ms → WrittenOrGone s → WrittenOrGone (after s (Writing name bytes) ms)
+  written_after ours [] s whole w = w
+  written_after ours (Other action ∷ ms) s whole w = written_after ours ms (acted action s) whole (written_on s (acted action s) (acted_tmp name ours action s) w)
+  written_after ours (Again ∷ ms) s whole w = written_after ours ms (effect (Writing name bytes) s) whole (inl (get-insert_same s.tmp name bytes))
+  written_after ours (Torn _ ∷ ms) s whole w = absurd whole
+
+  pub writing_ok : IsTrue (is_converter_name name) → (old new : Files) → Succeeded (Writing name bytes) old new → WrittenOrGone new
+  writing_ok ours old new done =
+      let call = Writing name bytes in
+      let mid = after old call done.before in
+      subst (WrittenOrGone) (sym (done.left ∙ after-append old call done.before (Again ∷ done.rest)))
+      (written_after ours done.rest (effect call mid) done.whole (inl (get-insert_same mid.tmp name bytes)))
+
+pub once : (call : Call) (old new : Files) → IsReady call old → new ≡ effect call old → Succeeded call old new
+once call old new ready left = record { before = []; rest = []; others = tt; ready = ready; whole = tt; left = left }

@@ -1,0 +1,185 @@
+-- How often a body is there, before a run over one of several texts and after it.
+use Rattle.std.proofs.Common.{◌≡◌, ℕ, ◌+◌, ◌-◌, ◌<◌, ◌≤◌, ◌^◌, true, false, List, [], ◌∷◌, length, get_or, take, All, IsTrue, Result, Ok, Err, refl, sym, ap, subst, ◌∙◌, inl, inr, arith, OnOk}
+use Rattle.maildir_run.proofs.Common.{take-length, cases_Bool, cases_lt, is_converter_base, digest_text, numbered, RunFault, Report, Files, homes, is_name, Message, AreNamed, IsSoundAt, IsHome, is_any, has_home, is_base_of, Keeps}
+use Rattle.maildir_name.proofs.Digests.{same_digest-refl, same_digest-text}
+use Rattle.maildir_name.proofs.BaseLemmas.{numbered-converter, numbered-digits, same-number}
+use Rattle.maildir_run.specs.Several.{IsThere}
+use Rattle.maildir_run.proofs.Names.Maps.{is_name-true}
+use Rattle.maildir_run.proofs.Call.Moves.{homes_none, homes_one}
+use Rattle.maildir_run.proofs.Call.Homes.{none_of, home_known}
+use Rattle.maildir_run.proofs.Chains.Numbers.{has_digest_of, with_digest, AreNumbered, select, count-front, fewer_before, few_with_digest, any_at, Gap, gap}
+
+-- a body is there so often
+pub record Level (b : List ℕ) (s : Files) : Type 0 where
+  pub n : ℕ
+  pub there : IsThere n b s
+  pub small : n ≤ 2 ^ 63
+
+-- it is there so often after a run over a text in which it stands c times
+pub record Rise (b : List ℕ) (c n : ℕ) (answer : Result Report RunFault) (s : Files) : Type 0 where
+  pub now : ℕ
+  pub there : IsThere now b s
+  pub from : n ≤ now
+  pub to : now ≤ n + (c - n)
+  pub done : OnOk answer (c ≤ now)
+
+-- a number is that of no other
+other_number : (b x : List ℕ) (j k : ℕ) → j < k → k ≤ 2 ^ 63 → x ≡ numbered b (k + 1) → numbered b (j + 1) ≡ x → ⊥
+other_number b x j k lt few is e =
+    let same = same-number b b (j + 1) (k + 1) (omega (arith, lt, few)) (omega (arith, few)) (e ∙ is) in
+    absurd (omega (arith, same, lt))
+
+-- a message whose number is among those that are there is at home
+pub home_level : (ms : List Message) (s : Files) → AreNumbered ms → (i : ℕ) (d : Message) → i < length ms → (level : Level (get_or ms i d).body s) → with_digest (get_or ms i d).body (take i ms) < level.n → IsHome s (get_or ms i d)
+home_level ms s nums i d below level lt = ap (homes s) (nums i d below) ∙ level.there.up_to (with_digest (get_or ms i d).body (take i ms)) lt
+
+-- a message whose body is there so often is sound
+pub sound_level : (ms : List Message) (s : Files) → AreNumbered ms → length ms ≤ 2 ^ 63 → AreNamed ms → (i : ℕ) (d : Message) → i < length ms → Level (get_or ms i d).body s → IsSoundAt s (get_or ms i d)
+sound_level ms s nums few named i d below level =
+    let m = get_or ms i d in
+    let k = with_digest m.body (take i ms) in
+    let is : m.target.base ≡ numbered m.body (k + 1) = nums i d below in
+    let most : k ≤ length ms = few_with_digest m.body ms i in
+    elim (cases_lt k level.n) [
+      | inl lt ↦ inr (home_level ms s nums i d below level lt)
+      | inr ge ↦ inl (level.there.no_other m.target.base (named i d below) (ap (take 64) is ∙ numbered-digits m.body (k + 1)) (λ j lt. other_number m.body m.target.base j k (omega (arith, lt, ge)) (omega (arith, most, few)) is))
+    ]
+
+-- the message of a text with this body and this base, before which the body stands k times
+pub record AtNumber (d : Message) (ms : List Message) (b x : List ℕ) (k : ℕ) : Type 0 where
+  pub i : ℕ
+  pub below : i < length ms
+  pub before : with_digest b (take i ms) ≡ k
+  pub body_is : (get_or ms i d).body ≡ b
+  pub base_is : (get_or ms i d).target.base ≡ x
+
+-- a base is that of a message with this body
+pub record OfBody (d : Message) (ms : List Message) (b x : List ℕ) : Type 0 where
+  pub k : ℕ
+  pub below : k < with_digest b ms
+  pub is : x ≡ numbered b (k + 1)
+  pub at : AtNumber d ms b x k
+
+-- no other body of the text has the digest of this
+abbrev pub IsOwnDigest : Message → List Message → List ℕ → Type 0
+IsOwnDigest d ms b = (i : ℕ) → i < length ms → digest_text (get_or ms i d).body ≡ digest_text b → (get_or ms i d).body ≡ b
+
+-- ---- the messages of one text with one body
+module _ (d : Message) (ms : List Message) (b : List ℕ) (nums : AreNumbered ms) (own : IsOwnDigest d ms b) where
+  base_at : (i : ℕ) → i < length ms → (get_or ms i d).body ≡ b → (get_or ms i d).target.base ≡ numbered b (with_digest b (take i ms) + 1)
+  base_at i below e = nums i d below ∙ ap (λ x. numbered x (with_digest x (take i ms) + 1)) e
+
+  pub at_number : (k : ℕ) → k < with_digest b ms → AtNumber d ms b (numbered b (k + 1)) k
+  at_number k lt =
+      let s = select (has_digest_of b) ms k lt in
+      let body_is = own s.i s.below (sym (same_digest-text b (get_or ms s.i d).body (s.hit d))) in
+      record { i = s.i; below = s.below; before = s.before; body_is = body_is; base_is = base_at s.i s.below body_is ∙ ap (λ n. numbered b (n + 1)) s.before }
+
+  pub of_base : (x : List ℕ) → take 64 x ≡ digest_text b → is_base_of ms x ≡ true → OfBody d ms b x
+  of_base x digits on =
+      let a = any_at (λ (m : Message). is_name m.target.base x) ms d on in
+      let m = get_or ms a.0 d in
+      let same : m.target.base ≡ x = is_name-true m.target.base x a.2 in
+      let text : digest_text m.body ≡ digest_text b =
+      sym (ap (take 64) (nums a.0 d a.1) ∙ numbered-digits m.body (with_digest m.body (take a.0 ms) + 1)) ∙ ap (take 64) same ∙ digits in
+      let body_is = own a.0 a.1 text in
+      let hit : has_digest_of b m ≡ true = rw body_is (same_digest-refl b) in
+      record {
+        k = with_digest b (take a.0 ms);
+        below = count-front (has_digest_of b) ms a.0 d a.1 hit;
+        is = sym same ∙ base_at a.0 a.1 body_is;
+        at = record { i = a.0; below = a.1; before = refl; body_is = body_is; base_is = same };
+      }
+
+-- ---- one run over the text
+module _ (d : Message) (ms : List Message) (b : List ℕ) (nums : AreNumbered ms) (own : IsOwnDigest d ms b) (few : length ms ≤ 2 ^ 63) (old new : Files) (answer : Result Report RunFault) (keeps : Keeps ms old answer new) (n : ℕ) (there : IsThere n b old) (small : n ≤ 2 ^ 63) where
+  most : with_digest b ms ≤ length ms
+  most = rw (take-length ms) at (few_with_digest b ms (length ms))
+
+  named_at : (k : ℕ) → k ≤ 2 ^ 63 → IsTrue (is_converter_base (numbered b (k + 1)))
+  named_at k le = numbered-converter b (k + 1) (omega arith) (omega (arith, le))
+
+  at_home : (x : List ℕ) (k : ℕ) (a : AtNumber d ms b x k) → has_home new x ≡ true → homes new x ≡ b ∷ []
+  at_home x k a on =
+      let m = get_or ms a.i d in
+      let home : homes new m.target.base ≡ m.body ∷ [] = home_known m new (ap (has_home new) a.base_is ∙ on) (keeps.sound.own a.i d a.below) in
+      sym (ap (homes new) a.base_is) ∙ home ∙ ap (λ x. x ∷ []) a.body_is
+
+  -- what was there is there
+  stays : (k : ℕ) → k < n → homes new (numbered b (k + 1)) ≡ b ∷ []
+  stays k lt =
+      let x = numbered b (k + 1) in
+      elim (cases_Bool (is_base_of ms x)) [
+        | inl on ↦
+            let o = of_base d ms b nums own x (numbered-digits b (k + 1)) on in
+            let had : has_home old (get_or ms o.at.i d).target.base ≡ true = ap (has_home old) o.at.base_is ∙ ap is_any (there.up_to k lt) in
+            at_home x o.k o.at (ap (has_home new) (sym o.at.base_is) ∙ keeps.still o.at.i d o.at.below had)
+        | inr off ↦ homes_one x b old new (keeps.sound.others x (named_at k (omega (arith, lt, small))) off) (there.up_to k lt)
+      ]
+
+  risen : Gap (λ k. has_home new (numbered b (k + 1))) n (n + (with_digest b ms - n))
+  risen = gap (λ k. has_home new (numbered b (k + 1))) (with_digest b ms - n) n (n + (with_digest b ms - n)) refl
+
+  up_to_now : (k : ℕ) → k < risen.j → homes new (numbered b (k + 1)) ≡ b ∷ []
+  up_to_now k lt =
+      elim (cases_lt k n) [
+        | inl early ↦ stays k early
+        | inr ge ↦ at_home (numbered b (k + 1)) k (at_number d ms b nums own k (omega (arith, lt, ge, risen.to))) (risen.full k ge lt)
+      ]
+
+  -- a message without a home has none after it with one that came
+  none_later : (x : List ℕ) (o : OfBody d ms b x) → IsTrue (is_converter_base x) → take 64 x ≡ digest_text b → risen.j ≤ o.k → homes new x ≡ []
+  none_later x o named digits ge =
+      let c = with_digest b ms in
+      let at_end : has_home new (numbered b (risen.j + 1)) ≡ false = risen.ends (omega (arith, ge, o.below, risen.from)) in
+      elim (cases_lt risen.j o.k) [
+        | inr le ↦ let same : o.k ≡ risen.j = omega (arith, ge, le) in none_of (homes new x) (ap (has_home new) (o.is ∙ ap (λ z. numbered b (z + 1)) same) ∙ at_end)
+        | inl lt ↦
+            let a = at_number d ms b nums own risen.j (omega (arith, lt, o.below)) in
+            let before : a.i < o.at.i = fewer_before (has_digest_of b) ms a.i o.at.i (omega (arith, a.before, o.at.before, lt)) in
+            let missing : homes old (get_or ms o.at.i d).target.base ≡ [] =
+            ap (homes old) o.at.base_is ∙ there.no_other x named digits (λ k below. other_number b x k o.k (omega (arith, below, risen.from, ge)) (omega (arith, o.below, most, few)) o.is) in
+            elim (cases_Bool (has_home new x)) [
+              | inr off ↦ none_of (homes new x) off
+              | inl on ↦
+                  let came : has_home new (get_or ms a.i d).target.base ≡ true = keeps.in_order a.i o.at.i d before o.at.below missing (ap (has_home new) o.at.base_is ∙ on) in
+                  let came_at : has_home new (numbered b (risen.j + 1)) ≡ true = ap (has_home new) (sym a.base_is) ∙ came in
+                  cc
+            ]
+      ]
+
+  no_other_now : (x : List ℕ) → IsTrue (is_converter_base x) → take 64 x ≡ digest_text b → ((k : ℕ) → k < risen.j → numbered b (k + 1) ≡ x → ⊥) → homes new x ≡ []
+  no_other_now x named digits apart =
+      elim (cases_Bool (is_base_of ms x)) [
+        | inr off ↦ homes_none x old new (keeps.sound.others x named off) (there.no_other x named digits (λ k lt. apart k (omega (arith, lt, risen.from))))
+        | inl on ↦
+            let o = of_base d ms b nums own x digits on in
+            elim (cases_lt o.k risen.j) [
+              | inl lt ↦ absurd (apart o.k lt (sym o.is))
+              | inr ge ↦ none_later x o named digits ge
+            ]
+      ]
+
+  all_home : All (IsHome new) ms → with_digest b ms ≤ risen.j
+  all_home all =
+      elim (cases_lt risen.j (with_digest b ms)) [
+        | inr ge ↦ ge
+        | inl lt ↦
+            let a = at_number d ms b nums own risen.j lt in
+            let on : has_home new (numbered b (risen.j + 1)) ≡ true = ap (has_home new) (sym a.base_is) ∙ ap is_any (all a.i d a.below) in
+            let off : has_home new (numbered b (risen.j + 1)) ≡ false = risen.ends (omega (arith, lt, risen.from)) in
+            cc
+      ]
+
+  done_now : (r : Result Report RunFault) → r ≡ answer → OnOk r (with_digest b ms ≤ risen.j)
+  done_now (Ok report) e = all_home ((subst (λ a. Keeps ms old a new) (sym e) keeps).ends.delivered.homes_are)
+  done_now (Err fault) e = tt
+
+  pub rise : Rise b (with_digest b ms) n answer new
+  rise = record {
+    now = risen.j;
+    there = record { up_to = up_to_now; no_other = no_other_now };
+    from = risen.from;
+    to = risen.to;
+    done = done_now answer refl;
+  }

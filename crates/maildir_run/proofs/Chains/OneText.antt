@@ -1,0 +1,70 @@
+-- For one text, what is said of several is what is said of it.
+use Rattle.std.proofs.Common.{◌≡◌, ℕ, zero, suc, ◌<◌, ◌&&◌, ◌||◌, ◌⊎◌, true, false, List, [], ◌∷◌, length, get_or, map, bytes_eq, All, Contains, refl, sym, ap, ◌∙◌, inl, inr, arith}
+use Rattle.maildir_run.proofs.Common.{bytes_decides, or-false, cases_lt, and_parts, or_parts, eq_by_cmp_equiv, All-head, All-from_get_or, Files, is_name, Message, IsMissing, IsSoundAt, AreDistinct, Sound, is_base_of, Link, Acted, Linked, Runs}
+use Rattle.maildir_run.specs.Runs.{Ran}
+use Rattle.maildir_run.specs.Several.{Text, IsText, HoldsGiven, SoundForAll, LinkOver, RanOver, ActedOver, LinkedOver, RunsOver, link_over, link_of}
+use Rattle.maildir_run.proofs.Chains.Chains.{chain_map}
+use Rattle.maildir_run.proofs.Names.Maps.{total}
+use Rattle.maildir_run.proofs.Chains.MessageLemmas.{text_distinct}
+use Rattle.maildir_run.proofs.Chains.Numbers.{any_at}
+use Rattle.maildir_run.proofs.Chains.SeveralTexts.{home_given}
+
+-- messages with one base are one message
+same_place : (ms : List Message) → AreDistinct ms → (i j : ℕ) (d : Message) → i < length ms → j < length ms → is_name (get_or ms j d).target.base (get_or ms i d).target.base ≡ true → i ≡ j
+same_place ms distinct i j d in_i in_j same =
+    elim (cases_lt i j) [
+      | inl lt ↦ let off : is_name (get_or ms j d).target.base (get_or ms i d).target.base ≡ false = (eq_by_cmp_equiv total).symm (get_or ms j d).target.base (get_or ms i d).target.base ∙ distinct i j d lt in_j in cc
+      | inr ge ↦ elim (cases_lt j i) [
+        | inl lt ↦ let off : is_name (get_or ms j d).target.base (get_or ms i d).target.base ≡ false = distinct j i d lt in_i in cc
+        | inr le ↦ omega (arith, ge, le)
+      ]
+    ]
+
+-- the text gives to each base the body of its message alone
+own_body : (text : Text) → AreDistinct text.messages → (i : ℕ) (d : Message) → i < length text.messages → (s : Files) → IsMissing s (get_or text.messages i d) ⊎ HoldsGiven (text ∷ []) s (get_or text.messages i d) → IsSoundAt s (get_or text.messages i d)
+own_body text distinct i d below s (inl none) = inl none
+own_body text distinct i d below s (inr holds) =
+    let ms = text.messages in
+    let m = get_or ms i d in
+    let a = any_at (λ (n : Message). is_name n.target.base m.target.base && bytes_eq n.body holds.body) ms d (sym (or-false _) ∙ holds.given) in
+    let parts = and_parts _ _ a.2 in
+    let same : i ≡ a.0 = same_place ms distinct i a.0 d below a.1 parts.0 in
+    let body : holds.body ≡ m.body = sym ((bytes_decides (get_or ms a.0 d).body holds.body).0 parts.1) ∙ ap (λ k. (get_or ms k d).body) (sym same) in
+    inr (holds.homes_are ∙ ap (λ b. b ∷ []) body)
+
+pub one_sound : (text : Text) (old new : Files) → IsText text → SoundForAll (text ∷ []) old new → Sound text.messages old new
+one_sound text old new is sound =
+    let all = All-head (λ (x : Text). All (λ (m : Message). IsMissing new m ⊎ HoldsGiven (text ∷ []) new m) x.messages) text [] sound.own in
+    record {
+      own = λ i d below. own_body text (text_distinct text.bytes text.messages is.are is.small) i d below new (all i d below);
+      others = λ b named off. sound.others b named (ap (λ t. t || false) off);
+    }
+
+one_place : (text : Text) (old new : Files) → Sound text.messages old new → (k : ℕ) → k < length (text ∷ []) → All (λ (m : Message). IsMissing new m ⊎ HoldsGiven (text ∷ []) new m) (get_or (text ∷ []) k text).messages
+one_place text old new sound zero below = λ i e inside. home_given (text ∷ []) 0 text below i e inside new (sound.own i e inside)
+one_place text old new sound (suc k) below = absurd (omega (arith, below))
+
+pub sound_one : (text : Text) (old new : Files) → Sound text.messages old new → SoundForAll (text ∷ []) old new
+sound_one text old new sound = record {
+  own = All-from_get_or (λ (x : Text). All (λ (m : Message). IsMissing new m ⊎ HoldsGiven (text ∷ []) new m) x.messages) (text ∷ []) text (one_place text old new sound);
+  others = λ b named off. sound.others b named (or_parts (is_base_of text.messages b) false off).0;
+}
+
+-- ---- chains
+only_one : (text other : Text) → Contains (text ∷ []) other → other ≡ text
+only_one text other (zero, below, is) = sym is
+only_one text other (suc k, below, is) = absurd (omega (arith, below))
+
+one_link : (text : Text) (link : LinkOver) (a b : Files) → LinkedOver (text ∷ []) link a b → Linked text.bytes (link_of link) a b
+one_link text (RanOver other answer) a b (among, run) = rw (only_one text other among) at run
+one_link text (ActedOver action) a b e = e
+
+link_one : (text : Text) (link : Link) (a b : Files) → Linked text.bytes link a b → LinkedOver (text ∷ []) (link_over text link) a b
+link_one text (Ran answer) a b run = ((0, omega arith, refl), run)
+link_one text (Acted action) a b e = e
+
+pub one_runs : (text : Text) (links : List LinkOver) (old new : Files) → RunsOver (text ∷ []) links old new → Runs text.bytes (map link_of links) old new
+one_runs text = chain_map (LinkedOver (text ∷ [])) (Linked text.bytes) link_of (one_link text)
+
+pub runs_one : (text : Text) (links : List Link) (old new : Files) → Runs text.bytes links old new → RunsOver (text ∷ []) (map (link_over text) links) old new
+runs_one text = chain_map (Linked text.bytes) (LinkedOver (text ∷ [])) (link_over text) (link_one text)

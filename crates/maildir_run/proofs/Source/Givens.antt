@@ -1,0 +1,146 @@
+-- What one more read gives, and what a refused one leaves.
+use Rattle.std.proofs.Common.{◌≡◌, ℕ, ◌*◌, ◌<◌, ◌≤◌, Bool, true, false, Option, Some, Ok, List, [], ◌∷◌, ◌++◌, length, refl, sym, ◌∙◌, ap, arith, append_assoc, ◌==◌, eqb-true, eq-eqb, append-nil, length-append, inl, inr, suc, cond}
+use Rattle.maildir_run.proofs.Common.{Consumes, IsAtEnd, Consumes-trans, append_cancel_right, Entry, Splitter, mbox-one, RunFault, NoFromLine, Messages, Breaks, Went, Front, Gave, IsGiven, Refused, Possible, FromLines, Consumes-nil, ReadsAtMost}
+use Rattle.mbox_text.proofs.Reading.FirstGiven.{few_given, first_of, unread_none, mbox-length}
+use Rattle.mbox_text.proofs.FromLine.FromLines.{from_lines-before, from_lines-behind, mbox-from_lines}
+
+-- ---- what was read
+consumed : (before now : Option (List ℕ)) (had left text : List ℕ) → before ≡ Some had → now ≡ Some left → Consumes before now text → had ≡ text ++ left
+consumed before now had left text e f read =
+    let at_start : Consumes (Some had) now text = rw e at read in
+    let at_end : Consumes (Some had) (Some left) text = rw f at at_start in
+    at_end
+
+-- what was read is the front of each possible text
+pub read_is : (before now : Option (List ℕ)) (text t : List ℕ) → Consumes before now text → (p : Possible before now t) → p.read ≡ text
+read_is before now text t read p =
+    append_cancel_right p.read text p.left (consumed before now (p.read ++ p.left) p.left text p.had p.has read)
+
+-- one more read, with what became whole by it
+pub gave_more : (ended : Bool) {before mid : Option (List ℕ)} (now : Option (List ℕ)) (old : Messages) (splitter : Splitter) (left : ℕ) {reads : ℕ} {given : List Entry} (out whole : List Entry) → out ≡ []
+    → Gave before mid old.splitter old.reads reads given → Went old mid now out whole splitter left (Ok ended) → IsGiven ended before now splitter left reads (given ++ whole)
+gave_more true {before} {mid} now old splitter left {given = given} out whole none p w =
+    let within = p.budget in
+    let added : whole ≡ w.0 = rw none at w.3 in
+    record {
+      text = p.text;
+      read = rw (append-nil p.text) at (Consumes-trans before mid now p.text [] p.read w.1);
+      budget = omega arith;
+      end = w.2;
+      all = rw added (w.4 p.text given p.fed);
+    }
+gave_more false {before} {mid} now old splitter left {given = given} out whole none p w =
+    let within = p.budget in
+    let spent = p.spent in
+    let added : whole ≡ w.1 = rw none at w.5 in
+    record {
+      text = p.text ++ w.0;
+      read = Consumes-trans before mid now p.text w.0 p.read w.2;
+      budget = omega (arith, length-append p.text w.0, w.3, w.4);
+      spent = omega (arith, spent, length-append p.text w.0, w.4, w.7);
+      fed = rw added (w.6 p.text given p.fed);
+    }
+
+module _ {before mid : Option (List ℕ)} (now : Option (List ℕ)) (old : Messages) {reads : ℕ} {given : List Entry} (fault : RunFault) (p : Gave before mid old.splitter old.reads reads given) where
+  pub gave_refused : Breaks old mid now fault → Refused before now reads fault
+  gave_refused b =
+      let within = p.budget in
+      let spent = p.spent in
+      let read = Consumes-trans before mid now p.text b.0 p.read b.1 in
+      record {
+        budget = (p.text ++ b.0, read, omega (arith, length-append p.text b.0, b.2));
+        spent = λ e. (p.text ++ b.0, read, omega (arith, spent, length-append p.text b.0, b.4 e));
+        unreadable = λ e t entries q m.
+            let never = (b.3 e p.text given p.fed).1 in
+            let is : t ≡ p.text ++ b.0 ++ q.more = rw (← read_is before now (p.text ++ b.0) t read q) q.front in
+            never q.more q.left q.has q.whole entries (rw is at m);
+      }
+
+  -- a message was given, so the text begins well
+  pub never_again : 0 < length given → Breaks old mid now fault → fault ≡ NoFromLine → ⊥
+  never_again some b e = let none = (b.3 e p.text given p.fed).0 in absurd (omega (arith, some, ap length none))
+
+pub read_nothing : (source : Option (List ℕ)) (most : ℕ) → ReadsAtMost source source most
+read_nothing source most = ([], Consumes-nil source, omega arith)
+
+-- ---- what was given is the first of each text that may begin so
+at_end_same : (text more left : List ℕ) (now : Option (List ℕ)) → IsAtEnd now → now ≡ Some left → (left ≡ [] → more ≡ []) → text ++ more ≡ text
+at_end_same text more left now end has whole = let none : left ≡ [] = rw has at end in rw (whole none) (append-nil text)
+
+pub given_front : (ended : Bool) (before now : Option (List ℕ)) (splitter : Splitter) (left reads : ℕ) (given : List Entry) → IsGiven ended before now splitter left reads given → Front before now reads given
+given_front false before now splitter left reads given p =
+    let within = p.budget in
+    record {
+      text = p.text;
+      read = p.read;
+      budget = omega arith;
+      few = few_given p.text given p.fed.given_are;
+      tells = λ more rest entries has whole m. first_of p.text more given entries p.fed.given_are m;
+      none = λ more rest has whole none. unread_none p.text more given p.fed.given_are none;
+    }
+given_front true before now splitter left reads given p = record {
+  text = p.text;
+  read = p.read;
+  budget = p.budget;
+  few = mbox-length p.text given p.all;
+  tells = λ more rest entries has whole m. ([], mbox-one p.text entries given (rw (at_end_same p.text more rest now p.end has whole) at m) p.all ∙ sym (append-nil given));
+  none = λ more rest has whole none. absurd (none given (rw (at_end_same p.text more rest now p.end has whole) p.all));
+}
+
+pub front_few : {before now : Option (List ℕ)} {reads : ℕ} {given : List Entry} → Front before now reads given → length given ≤ 65536 * reads
+front_few front = omega (arith, front.few, front.budget)
+
+-- a read was refused behind these messages
+pub broken_front : {before mid : Option (List ℕ)} (now : Option (List ℕ)) (old : Messages) {reads : ℕ} {given : List Entry} (fault : RunFault) → Gave before mid old.splitter old.reads reads given → Breaks old mid now fault → Front before now reads given
+broken_front {before} {mid} now old {given = given} fault p b =
+    let within = p.budget in
+    let few = few_given p.text given p.fed.given_are in
+    record {
+      text = p.text ++ b.0;
+      read = Consumes-trans before mid now p.text b.0 p.read b.1;
+      budget = omega (arith, length-append p.text b.0, b.2);
+      few = omega (arith, length-append p.text b.0);
+      tells = λ more rest entries has whole m. first_of p.text (b.0 ++ more) given entries p.fed.given_are (rw append_assoc at m);
+      none = λ more rest has whole none. unread_none p.text (b.0 ++ more) given p.fed.given_are (rw append_assoc at none);
+    }
+
+-- nothing was given before a read was refused
+pub refused_front : {before now : Option (List ℕ)} {reads : ℕ} {fault : RunFault} → Refused before now reads fault → Front before now reads []
+refused_front refused = record {
+  text = refused.budget.0;
+  read = refused.budget.1;
+  budget = refused.budget.2;
+  few = omega arith;
+  tells = λ more rest entries has whole m. (entries, refl);
+  none = λ more rest has whole none. refl;
+}
+
+-- whether a list is empty, by its length
+pub none_left : (items : List Entry) (n : ℕ) (b : Bool) → b ≡ (n == 0) → b ≡ true → n ≡ length items → items ≡ []
+none_left [] n b is on e = refl
+none_left (x ∷ xs) n b is on e = let none = eqb-true n 0 (sym is ∙ on) in absurd (omega arith)
+
+pub some_left : (items : List Entry) (n : ℕ) (b : Bool) → b ≡ (n == 0) → b ≡ false → n ≡ length items → 0 < length items
+some_left [] n b is off e = let f = eq-eqb n 0 e in let g : b ≡ true = is ∙ f in cc
+some_left (x ∷ xs) n b is off e = omega arith
+
+none_behind : (given whole : List Entry) → given ++ whole ≡ [] → FromLines whole
+none_behind [] whole e = rw e tt
+none_behind (g ∷ given) whole e = absurd (cc)
+
+pub given-from_lines : (ended : Bool) (before now : Option (List ℕ)) (splitter : Splitter) (left reads : ℕ) (given whole : List Entry) → IsGiven ended before now splitter left reads (given ++ whole) → FromLines whole
+given-from_lines true before now splitter left reads given whole p = from_lines-behind given whole (mbox-from_lines p.text (given ++ whole) p.all)
+given-from_lines false before now splitter left reads given whole p = elim p.fed.given_are [
+  | inl a ↦ from_lines-behind given whole (from_lines-before (given ++ whole) (a.1.0 ∷ []) (mbox-from_lines p.text ((given ++ whole) ++ a.1.0 ∷ []) a.1.1))
+  | inr a ↦ none_behind given whole a.1
+]
+
+-- ---- one more read
+pub went_on : (ended : Bool) (before after : Option (List ℕ)) (old : Messages) (splitter : Splitter) (left : ℕ) (out out' : List Entry) → ended ≡ false → Went old before after out out' splitter left (Ok ended) → left < old.reads
+went_on true before after old splitter left out out' e w = absurd (cc)
+went_on false before after old splitter left out out' e w = omega (arith, w.4)
+
+pub went_down : (was ended : Bool) (before after : Option (List ℕ)) (old : Messages) (splitter : Splitter) (left : ℕ) (out out' : List Entry) → was ≡ false → Went old before after out out' splitter left (Ok ended) → cond ended 0 (suc left) < cond was 0 (suc old.reads)
+went_down true ended before after old splitter left out out' e w = absurd (cc)
+went_down false true before after old splitter left out out' e w = omega arith
+went_down false false before after old splitter left out out' e w = omega (arith, w.4)

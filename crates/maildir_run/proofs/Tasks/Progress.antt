@@ -1,0 +1,142 @@
+-- How far a run has come, and what that says at its exits.
+use Rattle.std.proofs.Common.{◌≡◌, ℕ, ◌<◌, ◌≤◌, false, List, [], ◌∷◌, ◌++◌, All, IsPermutation, IsFalse, length, get_or, refl, sym, subst, ◌∙◌, inl, inr, ◌⊎◌, arith, AllPairs, IsTrue, ap, length-append}
+use Rattle.maildir_run.proofs.Common.{or_parts, cases_Bool, cases_lt, All-push, All-from_get_or, get_or_append_left, list_any-append, list_any_none, IsPermutation-refl, IsPermutation-sym, IsPermutation-trans, Files, is_name, homes, Message, IsMissing, IsHome, IsSoundAt, HasHome, is_any, AreNamed, AreDistinct, is_base_of, Sound, LeavesHomes, Brings, Progress, get_or-append_seam, eq_by_cmp_equiv, All-weaker, is_converter_base}
+use Rattle.maildir_run.proofs.Names.Maps.{is_name-true, total}
+use Rattle.maildir_run.proofs.Call.Moves.{homes_none, homes_one, none_kept}
+
+-- a call that leaves the homes
+pub progress_on : (done : List Message) (old mid now : Files) → AreNamed done → LeavesHomes mid now → Progress done old mid → Progress done old now
+progress_on done old mid now named leaves p = record {
+  homes_are = λ k d h. homes_one _ _ mid now (leaves.kept _ (named k d h)) (p.homes_are k d h);
+  kept = λ base is other. IsPermutation-trans _ _ _ (p.kept base is other) (leaves.kept base is);
+}
+
+not_before : (done : List Message) (m : Message) (base : List ℕ) → IsFalse (is_base_of (done ++ m ∷ []) base) → IsFalse (is_base_of done base) × IsFalse (is_name m.target.base base)
+not_before done m base off =
+    let parts = or_parts (is_base_of done base) (is_base_of (m ∷ []) base) (sym (list_any-append (λ n. is_name n.target.base base) done (m ∷ [])) ∙ off) in
+    (parts.0, (or_parts (is_name m.target.base base) false parts.1).0)
+
+-- one more message that is there
+pub progress_home : (done : List Message) (m : Message) (old now : Files) → IsHome now m → Progress done old now → Progress (done ++ m ∷ []) old now
+progress_home done m old now home p = record {
+  homes_are = All-push (IsHome now) done m p.homes_are home;
+  kept = λ base is other. p.kept base is (not_before done m base other).0;
+}
+
+-- the messages so far keep their homes as another is brought
+brought_done : (done : List Message) (m : Message) (mid now : Files) → AreNamed done → All (λ n. IsFalse (is_name m.target.base n.target.base)) done → Brings m mid now → All (IsHome mid) done → All (IsHome now) done
+brought_done done m mid now named apart brings all =
+    λ k d h. homes_one _ _ mid now (brings.others _ (named k d h) (apart k d h)) (all k d h)
+
+pub progress_brought : (done : List Message) (m : Message) (old mid now : Files) → AreNamed done → All (λ n. IsFalse (is_name m.target.base n.target.base)) done → Brings m mid now → IsHome now m → Progress done old mid → Progress (done ++ m ∷ []) old now
+progress_brought done m old mid now named apart brings home p = record {
+  homes_are = All-push (IsHome now) done m (brought_done done m mid now named apart brings p.homes_are) home;
+  kept = λ base is other.
+      let off = not_before done m base other in
+      IsPermutation-trans _ _ _ (p.kept base is off.0) (brings.others base is off.1);
+}
+
+-- ---- whether there is a home
+pub any_kept : (xs ys : List (List ℕ)) → IsPermutation xs ys → is_any xs ≡ is_any ys
+any_kept [] ys h = rw (none_kept ys h) refl
+any_kept (x ∷ xs) [] h = let e = none_kept (x ∷ xs) (IsPermutation-sym _ _ h) in cc
+any_kept (x ∷ xs) (y ∷ ys) h = refl
+
+pub home_there : (m : Message) (s : Files) → IsHome s m → HasHome s m
+home_there m s h = rw h refl
+
+missing_there : (m : Message) (s : Files) → IsMissing s m → HasHome s m → ⊥
+missing_there m s h there = let e : is_any (homes s m.target.base) ≡ false = rw h refl in cc
+
+-- ---- at an exit
+-- what a run keeps, whatever it answers
+pub record Stands (ms : List Message) (old now : Files) : Type 0 where
+  pub sound : Sound ms old now
+  pub still : All (λ m. HasHome old m → HasHome now m) ms
+  pub in_order : AllPairs (λ m n. IsMissing old n → HasHome now n → HasHome now m) ms
+
+at_done : (P : Message → Type 0) (done rest : List Message) (k : ℕ) (d : Message) → k < length done → P (get_or done k d) → P (get_or (done ++ rest) k d)
+at_done P done rest k d lt h = subst P (sym (get_or_append_left done rest d k lt)) h
+
+module _ (done rest : List Message) (old now : Files) (named : AreNamed (done ++ rest)) (distinct : AreDistinct (done ++ rest)) (sound : Sound (done ++ rest) old old) (p : Progress done old now) where
+  module _ (k : ℕ) (d : Message) (ge : length done ≤ k) (h : k < length (done ++ rest)) where
+    base_apart : IsFalse (is_base_of done (get_or (done ++ rest) k d).target.base)
+    base_apart =
+        list_any_none _ done (All-from_get_or (λ m. IsFalse (is_name m.target.base (get_or (done ++ rest) k d).target.base)) done d (λ i lt.
+        rw (get_or_append_left done rest d i lt) at (distinct i k d (omega arith) h)))
+
+    kept_at : IsPermutation (homes old (get_or (done ++ rest) k d).target.base) (homes now (get_or (done ++ rest) k d).target.base)
+    kept_at = p.kept _ (named k d h) (base_apart)
+
+  sound_at : (m : Message) → IsPermutation (homes old m.target.base) (homes now m.target.base) → IsSoundAt old m → IsSoundAt now m
+  sound_at m kept (inl none) = inl (homes_none _ old now kept none)
+  sound_at m kept (inr one) = inr (homes_one _ _ old now kept one)
+
+  sound_now : (k : ℕ) (d : Message) → k < length (done ++ rest) → IsSoundAt now (get_or (done ++ rest) k d)
+  sound_now k d h =
+      elim (cases_lt k (length done)) [
+        | inl lt ↦ at_done (IsSoundAt now) done rest k d lt (inr (p.homes_are k d lt))
+        | inr ge ↦ sound_at (get_or (done ++ rest) k d) (kept_at k d ge h) (sound.own k d h)
+      ]
+
+  still_now : (k : ℕ) (d : Message) → k < length (done ++ rest) → HasHome old (get_or (done ++ rest) k d) → HasHome now (get_or (done ++ rest) k d)
+  still_now k d h there =
+      elim (cases_lt k (length done)) [
+        | inl lt ↦ at_done (HasHome now) done rest k d lt (home_there (get_or done k d) now (p.homes_are k d lt))
+        | inr ge ↦ sym (any_kept _ _ (kept_at k d ge h)) ∙ there
+      ]
+
+  in_order_now : (i j : ℕ) (d : Message) → i < j → j < length (done ++ rest) → IsMissing old (get_or (done ++ rest) j d) → HasHome now (get_or (done ++ rest) j d) → HasHome now (get_or (done ++ rest) i d)
+  in_order_now i j d lt h missing there =
+      elim (cases_lt j (length done)) [
+        | inl lt_done ↦ let before : i < length done = omega arith in at_done (HasHome now) done rest i d before (home_there (get_or done i d) now (p.homes_are i d before))
+        | inr ge ↦ absurd (missing_there (get_or (done ++ rest) j d) now (homes_none (get_or (done ++ rest) j d).target.base old now (kept_at j d ge h) missing) there)
+      ]
+
+  other_now : (base : List ℕ) → IsFalse (is_base_of (done ++ rest) base) → IsFalse (is_base_of done base)
+  other_now base off = (or_parts (is_base_of done base) (is_base_of rest base) (sym (list_any-append (λ n. is_name n.target.base base) done rest) ∙ off)).0
+
+  pub progress_stands : Stands (done ++ rest) old now
+  progress_stands = record {
+    sound = record { own = sound_now; others = λ base is other. p.kept base is (other_now base other) };
+    still = still_now;
+    in_order = in_order_now;
+  }
+
+-- where a message that was missing is missing yet, nothing happened
+nothing_brought : (m : Message) (mid now : Files) → IsMissing mid m → IsMissing now m → Brings m mid now → LeavesHomes mid now
+nothing_brought m mid now was is brings = record {
+  kept = λ base named.
+      elim (cases_Bool (is_name m.target.base base)) as (λ _. IsPermutation (homes mid base) (homes now base)) [
+        | inl e ↦ subst (λ b. IsPermutation (homes mid b) (homes now b)) (is_name-true m.target.base base e) (rw (was, is) (IsPermutation-refl _))
+        | inr e ↦ brings.others base named e
+      ];
+}
+
+-- a message that was missing was brought, or is missing yet
+pub progress_or_more : (done : List Message) (m : Message) (old mid now : Files) → AreNamed done → All (λ n. IsFalse (is_name m.target.base n.target.base)) done → IsMissing mid m → Brings m mid now → Progress done old mid → Progress done old now ⊎ Progress (done ++ m ∷ []) old now
+progress_or_more done m old mid now named apart was brings p =
+    elim brings.own [
+      | inl is ↦ inl (progress_on done old mid now named (nothing_brought m mid now was is brings) p)
+      | inr home ↦ inr (progress_brought done m old mid now named apart brings home p)
+    ]
+
+-- ---- messages that were done
+pub apart_front : (done : List Message) (m : Message) (later : List Message) → AreDistinct (done ++ m ∷ later) → All (λ n. IsFalse (is_name m.target.base n.target.base)) done
+apart_front done m later distinct =
+    All-from_get_or (λ n. IsFalse (is_name m.target.base n.target.base)) done m (λ i lt.
+    let h : IsFalse (is_name (get_or (done ++ m ∷ later) i m).target.base (get_or (done ++ m ∷ later) (length done) m).target.base) = distinct i (length done) m lt (omega (arith, length-append done (m ∷ later))) in
+    (eq_by_cmp_equiv total).symm m.target.base (get_or done i m).target.base
+    ∙ ap (λ x. is_name x.target.base m.target.base) (sym (get_or_append_left done (m ∷ later) m i lt))
+    ∙ ap (λ y. is_name (get_or (done ++ m ∷ later) i m).target.base y.target.base) (sym (get_or-append_seam done m later m))
+    ∙ h)
+
+not_done : (done : List Message) (m : Message) → All (λ n. IsFalse (is_name m.target.base n.target.base)) done → IsFalse (is_base_of done m.target.base)
+not_done done m apart = list_any_none (λ n. is_name n.target.base m.target.base) done (All-weaker (λ n. is_name m.target.base n.target.base ≡ false) (λ n. is_name n.target.base m.target.base ≡ false) (λ n h. (eq_by_cmp_equiv total).symm n.target.base m.target.base ∙ h) done apart)
+
+module _ (done : List Message) (m : Message) (old now : Files) (named : IsTrue (is_converter_base m.target.base)) (apart : All (λ n. IsFalse (is_name m.target.base n.target.base)) done) (p : Progress done old now) where
+  pub still_missing : IsMissing old m → IsMissing now m
+  still_missing h = homes_none m.target.base old now (p.kept m.target.base named (not_done done m apart)) h
+
+  pub still_there : IsHome old m → IsHome now m
+  still_there h = homes_one m.target.base m.body old now (p.kept m.target.base named (not_done done m apart)) h

@@ -1,0 +1,20 @@
+-- Words of the contracts of private functions and of proofs. No public contract reaches them, and no reader need believe them.
+
+-- The bases of names, as a set.
+pub mod Bases
+-- What one read comes to.
+pub mod Reading
+-- How far a source was read, and which messages were given of it.
+pub mod Given
+-- The calls that a part of a run makes, and the fault that it answers for one.
+pub mod Counting
+-- A run's tasks where nobody disturbs it.
+pub mod Tasks
+-- What the parts of a run say of what they did.
+pub mod Parts
+-- What the parts of a run leave.
+pub mod Progress
+-- What a lister has listed.
+pub mod ListedSoFar
+-- Whether half of a rename comes.
+pub mod Script

@@ -1,0 +1,134 @@
+-- From_ lines that are taken apart and built.
+use Rattle.std.proofs.Common.{◌≡◌, ℕ, zero, suc, add-zero, ◌+◌, ◌-◌, ◌<◌, ◌≤◌, true, false, Option, Some, None, Result, Ok, Err, cond, eqb, List, [], ◌∷◌, ◌++◌, get_or, length, take, drop, map, refl, sym, ◌∙◌, ap, arith, append_assoc, Contains, OnOk, codes, is_ok, is_some}
+use Rattle.std.proofs.lemmas.Bool.{ne_eqb, false_from_ne_true, false≢true}
+use Rattle.std.proofs.lemmas.List.{append-nil, drop_at, drop_more, get_or-drop, length-drop, length-take, take_rest}
+use Rattle.memchr.specs.Find.{IsFirstByte, is_byte}
+use Rattle.mbox_text.specs.Lines.{NoEnd}
+use Rattle.mbox_text.specs.Quoting.{begins_from, from_bytes}
+use Rattle.mbox_text.specs.FromLine.{IsFromLine, before_space, past_spaces, sender, rest, hyphened, cleaned, behind_sender, built}
+use Rattle.mbox_text.proofs.TextLines.LineEnds.{none-there, NoEnd-append, NoEnd-at}
+
+-- a list that a call extended
+pub extended_by : {E : Type 0} (r : Result (Unit {0}) E) {now : List ℕ} (was : List ℕ) {ys zs : List ℕ} → now ≡ cond (is_ok r) (was ++ ys) was → ys ≡ zs → OnOk r (now ≡ was ++ zs)
+extended_by (Ok u) was e e' = rw (← e') e
+extended_by (Err x) was e e' = tt
+
+pub cleaned-none : (s : List ℕ) → length s ≡ 0 → codes "MAILER-DAEMON" ≡ cleaned s
+unfolding cleaned
+cleaned-none [] h = refl
+cleaned-none (c ∷ s) h = absurd (omega (arith, h))
+
+pub cleaned-some : (s : List ℕ) → (length s ≡ 0 → ⊥) → cleaned s ≡ map hyphened s
+unfolding cleaned
+cleaned-some [] h = absurd (h refl)
+cleaned-some (c ∷ s) h = refl
+
+-- no byte of a sender is written as a space or as a `\n`
+hyphened-space : (c : ℕ) → eqb (hyphened c) 32 ≡ false
+hyphened-space c = grind arith
+
+hyphened-end : (c : ℕ) → eqb (hyphened c) 10 ≡ false
+hyphened-end c = grind arith
+
+before-map : (s t : List ℕ) → before_space (map hyphened s ++ t) ≡ map hyphened s ++ before_space t
+before-map [] t = refl
+before-map (c ∷ s) t = rw (hyphened-space c, before-map s t) refl
+
+before-behind : (r : List ℕ) → before_space (behind_sender r) ≡ []
+before-behind [] = refl
+before-behind (c ∷ r) = refl
+
+before-cleaned : (s t : List ℕ) → before_space t ≡ [] → before_space (cleaned s ++ t) ≡ cleaned s
+unfolding cleaned
+before-cleaned [] t h = rw h refl
+before-cleaned (c ∷ s) t h = grind (arith, before-map, append-nil)
+
+pub sender-built : (s r : List ℕ) → sender (built s r) ≡ cleaned s
+unfolding sender built
+sender-built s r = before-cleaned s (behind_sender r) (before-behind r)
+
+past-behind : (r : List ℕ) → past_spaces (behind_sender r) ≡ past_spaces r
+past-behind [] = refl
+past-behind (c ∷ r) = refl
+
+pub rest-built : (s r : List ℕ) → rest (built s r) ≡ past_spaces r
+unfolding rest built
+rest-built s r = grind (arith, sender-built, drop_at, past-behind)
+
+NoEnd-map : (s : List ℕ) → NoEnd (map hyphened s)
+NoEnd-map [] = tt
+NoEnd-map (c ∷ s) = (hyphened-end c, NoEnd-map s)
+
+NoEnd-cleaned : (s : List ℕ) → NoEnd (cleaned s)
+unfolding cleaned
+NoEnd-cleaned [] = grind (arith)
+NoEnd-cleaned (c ∷ s) = NoEnd-map (c ∷ s)
+
+NoEnd-behind : (r : List ℕ) → NoEnd r → NoEnd (behind_sender r)
+NoEnd-behind [] h = tt
+NoEnd-behind (c ∷ r) h = (refl, h)
+
+built-line : (s r : List ℕ) → NoEnd r → IsFromLine (built s r)
+unfolding built begins_from
+built-line s r h = grind (arith, NoEnd-append, NoEnd-cleaned, NoEnd-behind)
+
+pub is-built : {line : List ℕ} (s r : List ℕ) (found : Option ℕ) → IsFirstByte (is_byte 10) r found → is_some found ≡ false → line ≡ built s r → IsFromLine line
+is-built s r None h e is = rw is (built-line s r (none-there r h))
+is-built s r (Some n) h e is = absurd (false≢true (sym e))
+
+pub not-found : (r : List ℕ) (found : Option ℕ) → IsFirstByte (is_byte 10) r found → is_some found ≡ false → Contains r 10 → ⊥
+not-found r None h e there = grind (arith, NoEnd-at r there.0 10 (none-there r h) there.1)
+not-found r (Some n) h e there = absurd (false≢true (sym e))
+
+pub built-none : (s r : List ℕ) → length r ≡ 0 → from_bytes ++ cleaned s ≡ built s r
+unfolding built
+built-none s [] h = ap (λ z. from_bytes ++ z) (sym (append-nil (cleaned s)))
+built-none s (c ∷ r) h = absurd (omega (arith, h))
+
+pub built-some : (s r : List ℕ) → (length r ≡ 0 → ⊥) → ((from_bytes ++ cleaned s) ++ 32 ∷ []) ++ r ≡ built s r
+unfolding built
+built-some s [] h = absurd (h refl)
+built-some s (c ∷ r) h = simp append_assoc
+
+-- a search for the first space
+before-at : (s : List ℕ) (n : ℕ) → ((k : ℕ) → k < n → eqb (get_or s k 0) 32 ≡ true → ⊥) → n < length s → eqb (get_or s n 0) 32 ≡ true → take n s ≡ before_space s
+before-at [] n h l e = absurd (omega (arith, l))
+before-at (c ∷ s) zero h l e = rw e refl
+before-at (c ∷ s) (suc n) h l e =
+    let here : eqb c 32 ≡ false = false_from_ne_true (eqb c 32) (h 0 (omega arith)) in
+    rw (here, before-at s n (λ k lt. h (suc k) (omega arith)) (omega (arith, l)) e) refl
+
+before-all : (s : List ℕ) → ((k : ℕ) → k < length s → eqb (get_or s k 0) 32 ≡ true → ⊥) → s ≡ before_space s
+before-all [] h = refl
+before-all (c ∷ s) h =
+    let here : eqb c 32 ≡ false = false_from_ne_true (eqb c 32) (h 0 (omega arith)) in
+    let ih = before-all s (λ k lt. h (suc k) (omega arith)) in
+    rw here (ap (λ z. c ∷ z) ih)
+
+pub before-found : (s : List ℕ) (n : ℕ) → IsFirstByte (is_byte 32) s (Some n) → take n s ≡ before_space s
+before-found s n h = grind (arith, before-at)
+
+pub before-none : (s : List ℕ) → IsFirstByte (is_byte 32) s None → s ≡ before_space s
+before-none s h = before-all s (λ k l. h k (omega arith) l)
+
+-- one space more
+pub past-mark : (s : List ℕ) (at : ℕ) → at < length s → get_or s at 0 ≡ 32 → past_spaces (drop at s) ≡ past_spaces (drop (at + 1) s)
+past-mark s at h e = rw (drop_more s at 0 h, e) refl
+
+past-plain : (s : List ℕ) → (0 < length s → get_or s 0 0 ≡ 32 → ⊥) → past_spaces s ≡ s
+past-plain [] h = refl
+past-plain (c ∷ s) h = rw (ne_eqb c 32 (h (omega arith))) refl
+
+-- no space more
+pub past-stop : (s : List ℕ) (at : ℕ) → (at < length s → get_or s at 0 ≡ 32 → ⊥) → past_spaces (drop at s) ≡ drop at s
+past-stop s at h = grind (arith, past-plain, length-drop, get_or-drop, add-zero)
+
+-- the parts of a From_ line, where the first space behind `From ` has this place
+pub sender-at : (line : List ℕ) {behind : List ℕ} (n : ℕ) → behind ≡ drop 5 line → take n behind ≡ before_space behind → take n behind ≡ sender line
+unfolding sender
+sender-at line n e b = b ∙ ap (λ z. before_space z) e
+
+pub rest-at : (line : List ℕ) {behind result : List ℕ} (n : ℕ) → behind ≡ drop 5 line → n ≤ length behind → take n behind ≡ before_space behind
+    → result ≡ past_spaces (take (length behind - n) (drop n behind)) → result ≡ rest line
+unfolding rest
+rest-at line {behind} n e w b is = grind (arith, sender-at, length-take, take_rest)

@@ -1,0 +1,48 @@
+-- The messages of a text have their From_ lines.
+use Rattle.std.proofs.Common.{◌≡◌, ℕ, true, eqb, List, [], ◌∷◌, ◌++◌, refl, ◌∙◌, inl, inr, eqb-true, zero, suc, ◌<◌, length, get_or, arith}
+use Rattle.std.proofs.lemmas.Bool.{cases_Bool}
+use Rattle.mbox_text.specs.declared.entry.Entry.{Entry}
+use Rattle.mbox_text.specs.FromLine.{IsFromLine}
+use Rattle.mbox_text.specs.Mbox.{Block, unended, Mbox}
+use Rattle.mbox_text.specs.Spelling.{FromLines}
+use Rattle.mbox_text.specs.Lines.{NoEnd}
+use Rattle.mbox_text.specs.Quoting.{begins_with, begins_from, from_bytes}
+
+unended-no_end : (l : List ℕ) → NoEnd (unended l)
+unended-no_end [] = tt
+unended-no_end (c ∷ l) = elim (cases_Bool (eqb c 10)) [ inl e ↦ rw e tt | inr e ↦ rw e (e, unended-no_end l) ]
+
+begins_with-unended : (prefix l : List ℕ) → NoEnd prefix → begins_with prefix (unended l) ≡ begins_with prefix l
+begins_with-unended [] l h = refl
+begins_with-unended (p ∷ prefix) [] h = refl
+begins_with-unended (p ∷ prefix) (c ∷ l) h =
+    elim (cases_Bool (eqb c 10)) [
+      | inl e ↦ let same : c ≡ 10 = eqb-true c 10 e in rw e (rw same (rw h.0 refl))
+      | inr e ↦ rw e (rw (begins_with-unended prefix l h.1) refl)
+    ]
+
+unended-from : (l : List ℕ) → begins_from l ≡ true → begins_from (unended l) ≡ true
+unfolding begins_from
+unended-from l b = begins_with-unended from_bytes l (refl, (refl, (refl, (refl, (refl, tt))))) ∙ b
+
+block-from_line : (block : List ℕ) (e : Entry) → Block block e → IsFromLine e.from_line
+block-from_line block e b = rw b.from_line (unended-from b.first b.head, unended-no_end b.first)
+
+pub mbox-from_lines : (text : List ℕ) (entries : List Entry) → Mbox text entries → FromLines entries
+unfolding Mbox
+mbox-from_lines text [] h = tt
+mbox-from_lines text (e ∷ es) h = (block-from_line h.0 e h.3, mbox-from_lines h.1 es h.5)
+
+pub from_lines-behind : (front behind : List Entry) → FromLines (front ++ behind) → FromLines behind
+from_lines-behind [] behind h = h
+from_lines-behind (e ∷ front) behind h = from_lines-behind front behind h.1
+
+pub from_lines-before : (front behind : List Entry) → FromLines (front ++ behind) → FromLines front
+from_lines-before [] behind h = tt
+from_lines-before (e ∷ front) behind h = (h.0, from_lines-before front behind h.1)
+
+-- each entry has its From_ line
+pub from_line-at : (entries : List Entry) (i : ℕ) (d : Entry) → FromLines entries → i < length entries → IsFromLine (get_or entries i d).from_line
+from_line-at [] i d h l = absurd (omega arith)
+from_line-at (e ∷ es) zero d h l = h.0
+from_line-at (e ∷ es) (suc i) d h l = from_line-at es i d h.1 (omega arith)

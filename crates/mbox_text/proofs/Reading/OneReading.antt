@@ -1,0 +1,92 @@
+-- A text is in `Mbox` with one list of entries.
+use Rattle.std.proofs.Common.{◌≡◌, ℕ, true, List, [], ◌∷◌, ◌++◌, refl, sym, ◌∙◌, ap, append_assoc, ap₂, inl, inr, ◌⊎◌, flat_map, append-nil, arith}
+use Rattle.std.proofs.lemmas.Bool.{both_ways}
+use Rattle.mbox_text.specs.declared.entry.Entry.{Entry}
+use Rattle.mbox_text.specs.Lines.{lines, Ended}
+use Rattle.mbox_text.specs.Quoting.{begins_from, unquoted}
+use Rattle.mbox_text.specs.Mbox.{without_blank, NoFrom, unended, Mbox}
+use Rattle.mbox_text.proofs.TextLines.LineLemmas.{lines-append}
+
+-- the lines of a message, and the lines after it
+pub record Split (ls : List (List ℕ)) (entry : Entry) (rest : List (List ℕ)) : Type 0 where
+  pub first : List ℕ
+  pub others : List (List ℕ)
+  pub is : ls ≡ first ∷ (others ++ rest)
+  pub head : begins_from first ≡ true
+  pub tail : NoFrom others
+  pub from_line : entry.from_line ≡ unended first
+  pub body : entry.body ≡ flat_map unquoted (without_blank others)
+
+-- these lines are those of these messages
+abbrev pub Reads : List (List ℕ) → List Entry → Type 0
+Reads ls [] = ls ≡ []
+Reads ls (entry ∷ entries) = (rest : List (List ℕ)) × Split ls entry rest × Reads rest entries
+
+-- no line is there, or the first begins a message
+abbrev Headed : List (List ℕ) → Type 0
+Headed [] = Unit {0}
+Headed (l ∷ ls) = begins_from l ≡ true
+
+reads-headed : (ls : List (List ℕ)) (entries : List Entry) → Reads ls entries → Headed ls
+reads-headed ls [] h = rw h tt
+reads-headed ls (entry ∷ entries) h = let s = h.1 in rw s.is s.head
+
+-- lines that begin no message, up to one that does, are cut off in one way
+cut_one : (others others' rest rest' : List (List ℕ)) → NoFrom others → NoFrom others' → Headed rest → Headed rest'
+    → others ++ rest ≡ others' ++ rest' → (others ≡ others') × (rest ≡ rest')
+cut_one [] [] rest rest' n n' h h' e = (refl, e)
+cut_one [] (o ∷ os) rest rest' n n' h h' e = let b = rw e at h in absurd (both_ways (begins_from o) n'.0 b)
+cut_one (o ∷ os) [] rest rest' n n' h h' e = let b = rw (← e) at h' in absurd (both_ways (begins_from o) n.0 b)
+cut_one (o ∷ os) (o' ∷ os') rest rest' n n' h h' e =
+    let heads : o ≡ o' = cc in
+    let tails : os ++ rest ≡ os' ++ rest' = cc in
+    let r = cut_one os os' rest rest' n.1 n'.1 h h' tails in
+    let r0 = r.0 in
+    (cc, r.1)
+
+entry-one : (e f : Entry) → e.from_line ≡ f.from_line → e.body ≡ f.body → e ≡ f
+entry-one e f a b = grind arith
+
+-- lines that are those of these messages stand before such
+headed-append : (ls tail : List (List ℕ)) (entries : List Entry) → Reads ls entries → Headed tail → Headed (ls ++ tail)
+headed-append [] tail entries h b = b
+headed-append (l ∷ ls) tail entries h b = reads-headed (l ∷ ls) entries h
+
+-- what the front of some lines reads as is the first of what they all read as
+pub reads-append : (ls tail : List (List ℕ)) (given entries : List Entry) → Reads ls given → Headed tail → Reads (ls ++ tail) entries
+    → (rest : List Entry) × (entries ≡ given ++ rest) × Reads tail rest
+reads-append ls tail [] entries r b h = (entries, refl, rw r at h)
+reads-append ls tail (g ∷ gs) [] r b h = let e = rw (r.1.is) at h in absurd (cc)
+reads-append ls tail (g ∷ gs) (e ∷ es) r b h =
+    let s = r.1 in
+    let s' = h.1 in
+    let whole : ls ++ tail ≡ s.first ∷ (s.others ++ (r.0 ++ tail)) = rw (s.is) (ap (λ z. s.first ∷ z) (append_assoc s.others r.0 tail)) in
+    let whole' = s'.is in
+    let firsts : s.first ≡ s'.first = cc in
+    let tails : s.others ++ (r.0 ++ tail) ≡ s'.others ++ h.0 = cc in
+    let c = cut_one s.others s'.others (r.0 ++ tail) h.0 s.tail s'.tail (headed-append r.0 tail gs r.2 b) (reads-headed h.0 es h.2) tails in
+    let bodies : g.body ≡ e.body = s.body ∙ ap (λ o. flat_map unquoted (without_blank o)) c.0 ∙ sym s'.body in
+    let heads = entry-one g e (s.from_line ∙ ap unended firsts ∙ sym s'.from_line) bodies in
+    let ih = reads-append r.0 tail gs es r.2 b (rw c.1 h.2) in
+    (ih.0, ap₂ (λ x y. x ∷ y) (sym heads) ih.1, ih.2)
+
+joined : {block : List ℕ} (rest : List ℕ) (entries : List Entry) → Ended block ⊎ (entries ≡ []) → Mbox rest entries → lines (block ++ rest) ≡ lines block ++ lines rest
+unfolding Mbox lines
+joined rest entries (inl e) h = lines-append rest e
+joined {block} rest [] (inr e) h = rw h (rw (append-nil block, append-nil (lines block)) refl)
+joined rest (f ∷ fs) (inr e) h = absurd (cc)
+
+pub mbox-reads : (text : List ℕ) (entries : List Entry) → Mbox text entries → Reads (lines text) entries
+unfolding Mbox lines
+mbox-reads text [] h = rw h refl
+mbox-reads text (entry ∷ entries) h = grind (arith, mbox-reads h.1 entries h.5, joined)
+
+-- no line, no message
+none-left : (rest : List Entry) → Reads [] rest → rest ≡ []
+none-left [] h = refl
+none-left (e ∷ es) h = let is = h.1.is in absurd (cc)
+
+pub mbox-one : (text : List ℕ) (entries others : List Entry) → Mbox text entries → Mbox text others → entries ≡ others
+mbox-one text entries others h h' =
+    let r = reads-append (lines text) [] entries others (mbox-reads text entries h) tt (rw (append-nil (lines text)) (mbox-reads text others h')) in
+    sym (r.1 ∙ rw (none-left r.0 r.2) (append-nil entries))

@@ -1,0 +1,67 @@
+-- What is read of a front of a text is read of the whole text.
+use Rattle.std.proofs.Common.{◌≡◌, ℕ, true, List, [], ◌∷◌, ◌++◌, refl, ◌∙◌, ap, append_assoc, inl, inr, append-nil}
+use Rattle.mbox_text.specs.declared.entry.Entry.{Entry}
+use Rattle.mbox_text.specs.Lines.{lines, Ended}
+use Rattle.mbox_text.specs.Quoting.{begins_from}
+use Rattle.mbox_text.specs.Fronts.{IsProperFront}
+use Rattle.mbox_text.specs.Mbox.{Block, Mbox}
+use Rattle.mbox_text.specs.Held.{Closed}
+use Rattle.mbox_text.proofs.TextLines.LineLemmas.{lines-append, begins_from-more}
+use Rattle.mbox_text.proofs.TextLines.Heads.{head-line, block-begins}
+use Rattle.mbox_text.proofs.Reading.OneReading.{reads-append, mbox-reads, Reads}
+use Rattle.mbox_text.proofs.Splitting.HeldLemmas.{Ended-append}
+use Rattle.mbox_text.proofs.Reading.Last.{closed-mbox}
+
+closed-ended : (front : List ℕ) (given : List Entry) → Closed front given → Ended front
+unfolding Closed
+closed-ended front [] h = inl h
+closed-ended front (g ∷ given) h = rw h.2 (Ended-append h.0 h.4 (closed-ended h.1 given h.5))
+
+-- a line that is left is a message's
+some-left : (l : List ℕ) (ls : List (List ℕ)) (given : List Entry) {entries : List Entry} (rest : List Entry) → entries ≡ given ++ rest → Reads (l ∷ ls) rest → IsProperFront given entries
+some-left l ls given [] e h = let no : l ∷ ls ≡ [] = h in absurd (cc)
+some-left l ls given (next ∷ rest) e h = (next, rest, e)
+
+-- whole blocks, and then a From_ line
+pub closed-front : (front tail : List ℕ) (given entries : List Entry) → Closed front given → begins_from tail ≡ true → Mbox (front ++ tail) entries
+    → IsProperFront given entries
+closed-front front tail given entries c b m =
+    let f = head-line tail b in
+    let e : lines (front ++ tail) ≡ lines front ++ f.0 ∷ f.1 = rw (lines-append tail (closed-ended front given c), f.2) refl in
+    let r = reads-append (lines front) (f.0 ∷ f.1) given entries (mbox-reads front given (closed-mbox front given c)) f.3 (rw e at (mbox-reads (front ++ tail) entries m)) in
+    some-left f.0 f.1 given r.0 r.1 r.2
+
+-- the blocks of all messages but the last
+record Front (text : List ℕ) (given : List Entry) (last : Entry) : Type 0 where
+  front : List ℕ
+  block : List ℕ
+  is : text ≡ front ++ block
+  closed : Closed front given
+  behind : Block block last
+
+not-nil : (given : List Entry) (last : Entry) → given ++ last ∷ [] ≡ [] → ⊥
+not-nil [] last e = absurd (cc)
+not-nil (g ∷ given) last e = absurd (cc)
+
+front-of : (text : List ℕ) (given : List Entry) (last : Entry) → Mbox text (given ++ last ∷ []) → Front text given last
+unfolding Mbox Closed
+front-of text [] last h = record { front = []; block = text; is = refl; closed = refl; behind = rw (h.2, h.5) (rw (append-nil h.0) h.3) }
+front-of text (g ∷ given) last h =
+    let r = front-of h.1 given last h.5 in
+    elim (h.4) [
+      | inl ends ↦ record {
+        front = h.0 ++ r.front;
+        block = r.block;
+        is = rw (h.2, append_assoc h.0 r.front r.block) (ap (λ z. h.0 ++ z) r.is);
+        closed = (h.0, r.front, refl, h.3, ends, r.closed);
+        behind = r.behind;
+      }
+      | inr e ↦ absurd (not-nil given last e)
+    ]
+
+pub prefix_reading : (text more : List ℕ) (entries given : List Entry) (last : Entry) → Mbox text (given ++ last ∷ []) → Mbox (text ++ more) entries
+    → IsProperFront given entries
+prefix_reading text more entries given last h h' =
+    let f = front-of text given last h in
+    let texts : text ++ more ≡ f.front ++ (f.block ++ more) = ap (λ z. z ++ more) f.is ∙ append_assoc f.front f.block more in
+    closed-front f.front (f.block ++ more) given entries f.closed (begins_from-more f.block more (block-begins f.behind)) (rw texts at h')

@@ -1,0 +1,154 @@
+-- What a splitter has given: all messages but the last, whatever comes behind the text.
+use Rattle.std.proofs.Common.{◌≡◌, ℕ, false, List, [], ◌∷◌, ◌++◌, refl, sym, ◌∙◌, ap, append_assoc, inl, inr, Option, Some, None, Result, Ok, Err, OnOk, IfErr, IsErr, IsErrOf, is_err, IsErrAnd, append-nil, arith}
+use Rattle.std.proofs.lemmas.Bool.{both_ways}
+use Rattle.std.proofs.lemmas.List.{append_cancel_left}
+use Rattle.mbox_text.specs.declared.entry.Entry.{Entry}
+use Rattle.mbox_text.specs.declared.partial_message.PartialMessage.{PartialMessage}
+use Rattle.mbox_text.specs.declared.fault.TextFault.{TextFault}
+use Rattle.mbox_text.specs.declared.fault.TextFault.TheVariants.{NoFromLine, LineEndInRest, Failed, OutOfMemory, WriteFault}
+use Rattle.mbox_text.specs.declared.splitter.Splitter.{Splitter}
+use Rattle.mbox_text.specs.Quoting.{begins_from, from_bytes}
+use Rattle.mbox_text.specs.Fronts.{AllButLast, NeverFrom}
+use Rattle.mbox_text.specs.Private.Fronts.{Stay}
+use Rattle.mbox_text.specs.Mbox.{Mbox, without_blank}
+use Rattle.mbox_text.specs.Held.{Held, Holds}
+use Rattle.mbox_text.specs.Private.Moved.{Moves, Gives, Refuses, Stops}
+use Rattle.mbox_text.specs.Fed.{Fed, Takes, NeverBegins, TakesPart}
+use Rattle.mbox_text.proofs.TextLines.LineLemmas.{begins_from-more}
+use Rattle.mbox_text.proofs.TextLines.Heads.{from-rest}
+use Rattle.mbox_text.proofs.Reading.Last.{from-block}
+use Rattle.mbox_text.proofs.Reading.Prefixes.{prefix_reading}
+use Rattle.mbox_text.proofs.Reading.Existence.{head-all, body-all}
+use Rattle.mbox_text.proofs.Splitting.Fields.{never-more}
+
+held-all : (message : Option PartialMessage) (text : List ℕ) (given : List Entry) (line : List ℕ) → Held text given message line → AllButLast text given
+held-all None text given line a = head-all a
+held-all (Some m) text given line a = body-all a
+
+pub fed_from : {splitter : Splitter} {text : List ℕ} {given : List Entry} → splitter.failed ≡ false → Holds text given splitter → Fed text given splitter
+fed_from {splitter} {text} {given} works h = grind (arith, held-all)
+
+-- all messages but the last stay the first ones, whatever comes behind the text
+pub all_stay : (text : List ℕ) (given : List Entry) → AllButLast text given → Stay text given
+all_stay text given (inl a) more entries h = inr (prefix_reading text more entries given a.1.0 a.1.1 h)
+all_stay text given (inr a) more entries h = inl a.1
+
+-- and are none where no mbox text begins so
+all_none : (text more : List ℕ) {given : List Entry} → AllButLast text given → NeverFrom (text ++ more) → given ≡ []
+all_none text more (inl a) n = grind (arith, both_ways, begins_from-more)
+all_none text more (inr a) n = a.1
+
+-- one part, and then another
+pub gives_then : (old mid new : Splitter) (p q : List ℕ) (out out1 out' : List Entry) → Gives old p out out1 mid → Gives mid q out1 out' new → Gives old (p ++ q) out out' new
+gives_then old mid new p q out out1 out' a b = grind (arith, append_assoc)
+
+pub gives_none : (old new : Splitter) (part : List ℕ) (out out' : List Entry) → out' ≡ out → Moves old part [] new → Gives old part out out' new
+gives_none old new part out out' e m = ([], e ∙ sym (append-nil out), m)
+
+pub gives_nothing : (splitter : Splitter) (out : List Entry) → Gives splitter [] out out splitter
+gives_nothing splitter out = grind (arith, gives_none, append-nil)
+
+-- the splitter refuses what comes next, and then more
+refuses_more : (fault : TextFault) (splitter : Splitter) (part more : List ℕ) → Refuses fault splitter part → Refuses fault splitter (part ++ more)
+refuses_more NoFromLine splitter part more r = λ text given h.
+    let x = r text given h in (x.0, rw (← append_assoc text part more) (never-more (text ++ part) more x.1))
+refuses_more OutOfMemory splitter part more r = tt
+refuses_more LineEndInRest splitter part more r = absurd r
+refuses_more Failed splitter part more r = absurd r
+refuses_more WriteFault splitter part more r = absurd r
+
+pub stops_at : (fault : TextFault) (old now : Splitter) {piece : List ℕ} (front part more : List ℕ) (out out' : List Entry) → Gives old front out out' now → Refuses fault now part
+    → piece ≡ front ++ (part ++ more) → Stops fault old piece out out'
+stops_at fault old now front part more out out' g r e = record {
+  front = front;
+  rest = part ++ more;
+  now = now;
+  is = e;
+  gives = g;
+  refuses = refuses_more fault now part more r;
+}
+
+pub stops_behind : {fault : TextFault} {old mid : Splitter} {piece : List ℕ} (front : List ℕ) {part : List ℕ} {out out1 out' : List Entry} → Gives old front out out1 mid → Stops fault mid part out1 out'
+    → piece ≡ front ++ part → Stops fault old piece out out'
+stops_behind {old} {mid} front {out} {out1} {out'} g s e = record {
+  front = front ++ s.front;
+  rest = s.rest;
+  now = s.now;
+  is = e ∙ ap (λ z. front ++ z) s.is ∙ sym (append_assoc front s.front s.rest);
+  gives = gives_then old mid s.now front s.front out out1 out' g s.gives;
+  refuses = s.refuses;
+}
+
+-- a fault that is handed on
+pub handed_on : {T : Type 0} (r : Result T TextFault) (e : TextFault) (P : TextFault → Type 0) → IsErr r × IsErrAnd r (λ v. v ≡ e) → P e → IfErr r P
+handed_on (Ok x) e P is h = absurd is.1
+handed_on (Err v) e P is h = rw is.1 h
+
+front-cut : (added all rest : List Entry) (last next : Entry) → all ++ last ∷ [] ≡ added ++ next ∷ rest → (r : List Entry) × (all ≡ added ++ r)
+front-cut [] all rest last next e = (all, refl)
+front-cut (x ∷ []) [] rest last next e = absurd (cc)
+front-cut (x ∷ y ∷ added) [] rest last next e = absurd (cc)
+front-cut (x ∷ added) (y ∷ all) rest last next e =
+    let heads : y ≡ x = cc in
+    let tails : all ++ last ∷ [] ≡ added ++ next ∷ rest = cc in
+    let r = front-cut added all rest last next tails in
+    let is = r.1 in
+    (r.0, cc)
+
+only-front : (given rest : List Entry) {last : Entry} (next : Entry) → last ∷ [] ≡ given ++ next ∷ rest → given ≡ []
+only-front [] rest next e = refl
+only-front (g ∷ []) rest next e = absurd (cc)
+only-front (g ∷ h ∷ given) rest next e = absurd (cc)
+
+nil_right : (a b : List Entry) → a ++ b ≡ [] → b ≡ []
+nil_right [] b e = e
+nil_right (x ∷ a) b e = absurd (cc)
+
+from-alone : (entry : Entry) × Mbox from_bytes (entry ∷ [])
+unfolding Mbox without_blank begins_from
+from-alone =
+    let entry : Entry = record { from_line = from_bytes; body = [] } in
+    (entry, (from_bytes, [], refl, from-block from_bytes (refl, (refl, (refl, (refl, (refl, tt))))) refl refl refl, inr refl, refl))
+
+-- what stays is the first of what is given where nothing is refused
+part : (text : List ℕ) (given added all : List Entry) → Stay text (given ++ added) → AllButLast text (given ++ all) → (rest : List Entry) × (all ≡ added ++ rest)
+part text given added all s (inl h) =
+    let texts = append-nil text in
+    elim (s [] ((given ++ all) ++ h.1.0 ∷ []) (rw texts h.1.1)) [
+      | inl none ↦ let n = nil_right given added none in (all, rw n refl)
+      | inr f ↦
+          let e = append_cancel_left given (all ++ h.1.0 ∷ []) (added ++ f.0 ∷ f.1) (sym (append_assoc given all (h.1.0 ∷ [])) ∙ f.2 ∙ append_assoc given added (f.0 ∷ f.1)) in
+          front-cut added all f.1 h.1.0 f.0 e
+    ]
+part text given added all s (inr h) =
+    let m = from-rest text h.0 in
+    let e = from-alone in
+    let none : given ++ added ≡ [] = elim (s m.0 (e.0 ∷ []) (rw m.1 e.1)) [ inl none ↦ none | inr f ↦ only-front (given ++ added) f.1 f.0 f.2 ] in
+    let n = nil_right given added none in
+    (all, rw n refl)
+
+-- what the three answers of a feed say
+pub fed_taken : {T : Type 0} (r : Result T TextFault) (old new : Splitter) (piece : List ℕ) (out out' : List Entry) → new.failed ≡ is_err r
+    → OnOk r (Gives old piece out out' new) → OnOk r (Takes old piece out out' new)
+fed_taken (Ok x) old new piece out out' works g = grind (arith, fed_from)
+fed_taken (Err e) old new piece out out' works g = tt
+
+pub fed_never : {T : Type 0} (r : Result T TextFault) (old : Splitter) (piece : List ℕ) (out out' : List Entry)
+    → IfErr r (λ fault. Stops fault old piece out out') → IsErrOf r NoFromLine → NeverBegins old piece out out'
+fed_never r old piece out out' h is text given fed = grind (arith, nil_right, append-nil, append_assoc)
+
+pub fed_part : {T : Type 0} (r : Result T TextFault) (old : Splitter) (piece : List ℕ) (out out' : List Entry)
+    → IfErr r (λ fault. Stops fault old piece out out') → IsErrOf r OutOfMemory → TakesPart old piece out out'
+fed_part r old piece out out' h is =
+    let s = rw is at h in
+    let g = s.gives in (
+      g.0,
+      g.1,
+      λ text given fed.
+          let front = text ++ s.front in
+          let now = given ++ g.0 in
+          let a = held-all s.now.message front now s.now.line.items (g.2 text given fed.held) in
+          let texts : text ++ piece ≡ front ++ s.rest = ap (λ z. text ++ z) s.is ∙ sym (append_assoc text s.front s.rest) in
+          let stay : Stay (text ++ piece) now = λ more entries m. all_stay front now a (s.rest ++ more) entries (rw (texts, append_assoc front s.rest more) at m) in
+          (λ all is_all. part (text ++ piece) given g.0 all stay is_all, λ n. nil_right given g.0 (all_none front s.rest a (rw texts at n))),
+    )

@@ -1,0 +1,138 @@
+-- What a splitter holds, step by step.
+use Rattle.std.proofs.Common.{◌≡◌, ℕ, true, false, List, [], ◌∷◌, ◌++◌, refl, sym, ◌∙◌, ap, append_assoc, inl, inr, ◌⊎◌, flat_map, append-nil, arith}
+use Rattle.std.proofs.lemmas.List.Concat.{flat_map-append}
+use Rattle.mbox_text.specs.declared.entry.Entry.{Entry}
+use Rattle.mbox_text.specs.Lines.{lines, Ended, NoEnd}
+use Rattle.mbox_text.specs.Quoting.{unquoted, begins_from, begins_with, from_bytes}
+use Rattle.mbox_text.specs.Mbox.{NoFrom, unended, without_blank, Block}
+use Rattle.mbox_text.specs.Private.Moved.{chopped}
+use Rattle.mbox_text.specs.Held.{Closed, Open, AtHead, InBody}
+use Rattle.mbox_text.proofs.TextLines.LineLemmas.{lines-append, lines-line, lines-part, unquoted-push, begins_from-cut, begins_from-more}
+use Rattle.mbox_text.proofs.Reading.Chopped.{chopped-body, chopped-part, without_blank-part, unquoted-some}
+use Rattle.mbox_text.proofs.TextLines.LineEnds.{NoEnd-append}
+
+pub NoFrom-append : (a b : List (List ℕ)) → NoFrom a → NoFrom b → NoFrom (a ++ b)
+NoFrom-append [] b h h' = h'
+NoFrom-append (c ∷ a) b h h' = (h.0, NoFrom-append a b h.1 h')
+
+pub Ended-append : (a : List ℕ) {b : List ℕ} → Ended a → Ended b → Ended (a ++ b)
+Ended-append a h (inl e) = rw e (rw (append-nil a) h)
+Ended-append a h (inr e) = inr (a ++ e.0, rw e.1 (sym (append_assoc a e.0 (10 ∷ []))))
+
+pub unended-push : (l : List ℕ) → NoEnd l → unended (l ++ 10 ∷ []) ≡ l
+unended-push [] h = refl
+unended-push (c ∷ l) h = rw (h.0, unended-push l h.1) refl
+
+pub Closed-push : (text : List ℕ) (given : List Entry) {block : List ℕ} {e : Entry} → Closed text given → Block block e → Ended block → Closed (text ++ block) (given ++ e ∷ [])
+unfolding Closed
+Closed-push text [] {block} h b ends = (block, [], rw h (sym (append-nil block)), b, ends, refl)
+Closed-push text (g ∷ given) {block} h b ends = grind (arith, Closed-push h.1 given h.5 b ends, append_assoc)
+
+open-ends : {block f body : List ℕ} → Open block f body → Ended block
+open-ends {f} o = elim (o.ended) [
+  | inl e ↦ inr (f, rw (o.is, e) refl)
+  | inr e ↦ inr (f ++ 10 ∷ e.0, rw (o.is, e.1) (sym (append_assoc f (10 ∷ e.0) (10 ∷ []))))
+]
+
+-- the last line of a body, which lacks its `\n`
+pub record LastBody (text body : List ℕ) : Type 0 where
+  pub none : NoFrom (lines text)
+  pub is : body ≡ flat_map unquoted (without_blank (lines text))
+
+pub last_body : {front : List ℕ} (rest : List ℕ) {body : List ℕ} → Ended front → NoFrom (lines front) → NoEnd rest → begins_from rest ≡ false
+    → body ≡ chopped (flat_map unquoted (lines front) ++ unquoted rest) → LastBody (front ++ rest) body
+unfolding unquoted
+last_body {front} [] ends none part b is =
+    rw (append-nil front) (record { none = none; is = is ∙ ap chopped (append-nil (flat_map unquoted (lines front))) ∙ chopped-body ends })
+last_body {front} (c ∷ l) ends none part b is =
+    let u = unquoted-some c l part in
+    let all : lines (front ++ c ∷ l) ≡ lines front ++ (c ∷ l) ∷ [] = rw (lines-append (c ∷ l) ends, lines-part c l part) refl in
+    record {
+      none = rw all (NoFrom-append (lines front) ((c ∷ l) ∷ []) none (b, tt));
+      is = rw (is, all, without_blank-part (lines front) c l part, flat_map-append unquoted (lines front) ((c ∷ l) ∷ []), append-nil (unquoted (c ∷ l)), u.2)
+          (chopped-part true (flat_map unquoted (lines front)) u.0 u.1 u.3);
+    }
+
+-- a block that ends in a line with no `\n`, or in a whole one
+pub open-last : {block f body : List ℕ} (line : List ℕ) (e : Entry) → Open block f body → NoEnd line → begins_from line ≡ false → e.from_line ≡ f → e.body ≡ chopped (body ++ unquoted line)
+    → Block (block ++ line) e
+open-last {f} {body} line e o h b ef eb =
+    let last = last_body line o.ended o.tail h b (eb ∙ ap (λ z. chopped (z ++ unquoted line)) o.as_read) in
+    record {
+      first = f ++ 10 ∷ [];
+      others = lines (o.others ++ line);
+      is = rw (o.is, append_assoc f (10 ∷ o.others) line) (lines-line f (o.others ++ line) o.line);
+      head = begins_from-more f (10 ∷ []) o.head;
+      tail = last.none;
+      from_line = ef ∙ sym (unended-push f o.line);
+      body = last.is;
+    }
+
+open-block : {block f body : List ℕ} (e : Entry) → Open block f body → e.from_line ≡ f → e.body ≡ chopped body → Block block e
+unfolding unquoted begins_from
+open-block {block} {body} e o ef eb =
+    let b = open-last [] e o tt refl ef (eb ∙ ap chopped (sym (append-nil body))) in rw (append-nil block) at b
+
+-- more comes of a From_ line
+pub head-add : {text : List ℕ} {given : List Entry} {line : List ℕ} (part : List ℕ) → AtHead text given line → NoEnd part
+    → (begins_from (line ++ part) ≡ true) ⊎ (begins_with (line ++ part) from_bytes ≡ true) → AtHead (text ++ part) given (line ++ part)
+head-add {line} part a h b = grind (arith, append_assoc, NoEnd-append, begins_from-more)
+
+-- more comes of a line that begins no message
+pub body-add : {text : List ℕ} {given : List Entry} {f body line : List ℕ} (part : List ℕ) → InBody text given f body line → NoEnd part
+    → begins_from (line ++ part) ≡ false → InBody (text ++ part) given f body (line ++ part)
+body-add {line} part a h b = grind (arith, append_assoc, NoEnd-append)
+
+-- the line begins the next message
+pub body-closes : {text : List ℕ} {given : List Entry} {f body line : List ℕ} (part : List ℕ) (e : Entry) → InBody text given f body line → NoEnd part
+    → begins_from (line ++ part) ≡ true → e.from_line ≡ f → e.body ≡ chopped body → AtHead (text ++ part) (given ++ e ∷ []) (line ++ part)
+body-closes {given} {line} part e a h b is_line is_body = grind (arith, append_assoc a.front (a.block ++ line) part, append_assoc a.block line part, append_assoc a.front a.block (line ++ part), Closed-push a.front given a.closed (open-block e a.opened is_line is_body) (open-ends a.opened), NoEnd-append line part a.part h)
+
+-- the From_ line is whole
+pub head-ends : {text : List ℕ} {given : List Entry} {line : List ℕ} → AtHead text given line → begins_from line ≡ true
+    → InBody (text ++ 10 ∷ []) given line [] []
+unfolding lines begins_from
+head-ends {line} a b = grind (arith, append-nil (line ++ 10 ∷ []), append_assoc a.front line (10 ∷ []))
+
+-- whole lines that begin no message
+pub body-lines : {text : List ℕ} {given : List Entry} {f body : List ℕ} (part : List ℕ) → InBody text given f body [] → Ended part → NoFrom (lines part)
+    → InBody (text ++ part) given f (body ++ flat_map unquoted (lines part)) []
+unfolding lines begins_from
+body-lines {f} part a ends none =
+    let o = a.opened in
+    record {
+      front = a.front;
+      block = a.block ++ part;
+      is = rw a.is (rw (append-nil (a.block ++ part), append-nil a.block) (append_assoc a.front a.block part));
+      closed = a.closed;
+      opened = record {
+        others = o.others ++ part;
+        is = rw o.is (append_assoc f (10 ∷ o.others) part);
+        head = o.head;
+        line = o.line;
+        ended = Ended-append o.others o.ended ends;
+        tail = rw (lines-append part o.ended) (NoFrom-append (lines o.others) (lines part) o.tail none);
+        as_read = rw (o.as_read, lines-append part o.ended) (sym (flat_map-append unquoted (lines o.others) (lines part)));
+      };
+      part = tt;
+      tail = refl;
+    }
+
+-- without the line
+body-whole : (text : List ℕ) (given : List Entry) (f body line : List ℕ) → (a : InBody text given f body line)
+    → InBody (a.front ++ a.block) given f body []
+unfolding begins_from
+body-whole text given f body line a = grind (arith, append-nil a.block)
+
+-- a line is whole that begins no message
+pub body-ends : {text : List ℕ} {given : List Entry} {f body line : List ℕ} → InBody text given f body line
+    → InBody (text ++ 10 ∷ []) given f ((body ++ unquoted line) ++ 10 ∷ []) []
+unfolding lines
+body-ends {text} {given} {f} {body} {line} a =
+    let part = line ++ 10 ∷ [] in
+    let one = lines-line line [] a.part in
+    let none : NoFrom (lines part) = rw one (begins_from-cut line [] ∙ a.tail, tt) in
+    let whole = body-lines part (body-whole text given f body line a) (inr (line, refl)) none in
+    let texts : (a.front ++ a.block) ++ part ≡ text ++ 10 ∷ [] = rw a.is (simp append_assoc) in
+    let bodies : body ++ flat_map unquoted (lines part) ≡ (body ++ unquoted line) ++ 10 ∷ [] = rw (one, append-nil (unquoted part), unquoted-push line) (sym (append_assoc body (unquoted line) (10 ∷ []))) in
+    rw (← texts, ← bodies) whole

@@ -1,0 +1,104 @@
+-- Whole lines that are added as they are read.
+use Rattle.std.proofs.Common.{◌≡◌, ℕ, ◌+◌, ◌-◌, ◌≤◌, true, false, Some, eqb, List, [], ◌∷◌, ◌++◌, length, take, drop, refl, sym, ◌∙◌, ap, arith, append_assoc, inr, take-add}
+use Rattle.std.specs.List.{flat_map, concat}
+use Rattle.std.proofs.lemmas.Bool.{false_from_ne_true, both_ways, cases_Bool}
+use Rattle.std.proofs.lemmas.List.{append-nil, take-append-drop, take_rest, length-drop}
+use Rattle.std.proofs.lemmas.List.Concat.{flat_map-append}
+use Rattle.memchr.specs.Find.{IsFirstByte, is_byte}
+use Rattle.mbox_text.specs.Lines.{lines, Ended}
+use Rattle.mbox_text.specs.Quoting.{unquoted, quotable, begins_from}
+use Rattle.mbox_text.specs.Private.Lines.{NoneQuotable, FirstQuotable}
+use Rattle.mbox_text.specs.Mbox.{NoFrom}
+use Rattle.mbox_text.proofs.TextLines.LineLemmas.{lines-append, lines-line, concat-lines, begins_from-more, unquoted-other}
+use Rattle.mbox_text.proofs.Splitting.HeldLemmas.{NoFrom-append, Ended-append}
+use Rattle.mbox_text.proofs.TextLines.LineEnds.{line-there}
+
+-- what a front begins with, the text begins with
+pub begins_from-take : (text : List ℕ) (n : ℕ) → begins_from (take n text) ≡ true → begins_from text ≡ true
+begins_from-take text n b = ap begins_from (sym (take-append-drop n text)) ∙ begins_from-more (take n text) (drop n text) b
+
+pub NoneQuotable-append : (a b : List (List ℕ)) → NoneQuotable a → NoneQuotable b → NoneQuotable (a ++ b)
+NoneQuotable-append [] b h h' = h'
+NoneQuotable-append (l ∷ a) b h h' = (h.0, NoneQuotable-append a b h.1 h')
+
+none-front : (a b : List (List ℕ)) → NoneQuotable (a ++ b) → NoneQuotable a
+none-front [] b h = tt
+none-front (l ∷ a) b h = (h.0, none-front a b h.1)
+
+-- a line that begins with `From ` is quotable
+from-quotable : (line : List ℕ) → quotable line ≡ false → begins_from line ≡ false
+unfolding quotable begins_from
+from-quotable [] q = refl
+from-quotable (c ∷ line) q = grind (arith, cases_Bool (eqb c 62))
+
+none-from : (ls : List (List ℕ)) → NoneQuotable ls → NoFrom ls
+none-from [] n = tt
+none-from (l ∷ ls) n = (from-quotable l n.0, none-from ls n.1)
+
+none-unquoted : (ls : List (List ℕ)) → NoneQuotable ls → flat_map unquoted ls ≡ concat ls
+none-unquoted [] n = refl
+none-unquoted (l ∷ ls) n = rw (unquoted-other l n.0, none-unquoted ls n.1) refl
+
+-- the lines of the text up to a place have been added as they are read, and none is a From_ line
+pub record Taken (text before body : List ℕ) (at : ℕ) : Type 0 where
+  pub within : at ≤ length text
+  pub added : body ≡ before ++ flat_map unquoted (lines (take at text))
+  pub ended : Ended (take at text)
+  pub none : NoFrom (lines (take at text))
+
+pub taken_none : {text before : List ℕ} → Taken text before before 0
+unfolding lines
+taken_none {before} = grind (arith, append-nil before)
+
+taken_more : {text before body body' : List ℕ} {at : ℕ} (n : ℕ) → Taken text before body at → n ≤ length (drop at text) → Ended (take n (drop at text))
+    → NoFrom (lines (take n (drop at text))) → body' ≡ body ++ flat_map unquoted (lines (take n (drop at text))) → Taken text before body' (at + n)
+taken_more {text} {before} {at} n t le ends none is =
+    let x = take n (drop at text) in
+    let front = ap lines (take-add at n text) ∙ lines-append x t.ended in
+    record {
+      within = omega (arith, t.within, le, length-drop at text);
+      added = rw (front, flat_map-append unquoted (lines (take at text)) (lines x))
+          (is ∙ ap (λ z. z ++ flat_map unquoted (lines x)) t.added ∙ append_assoc before (flat_map unquoted (lines (take at text))) (flat_map unquoted (lines x)));
+      ended = rw (take-add at n text) (Ended-append (take at text) t.ended ends);
+      none = rw front (NoFrom-append (lines (take at text)) (lines x) t.none none);
+    }
+
+-- lines of which none is quotable
+taken_plain : {text before body body' : List ℕ} {at : ℕ} (n : ℕ) → Taken text before body at → n ≤ length (drop at text) → Ended (take n (drop at text))
+    → NoneQuotable (lines (take n (drop at text))) → body' ≡ body ++ take n (drop at text) → Taken text before body' (at + n)
+taken_plain {text} {body} {at} n t le ends none is =
+    let x = take n (drop at text) in
+    let same = none-unquoted (lines x) none ∙ concat-lines x in
+    taken_more n t le ends (none-from (lines x) none) (is ∙ ap (λ z. body ++ z) (sym same))
+
+-- the lines before the first quotable one, where a body got them as the code cuts them
+pub taken_found : {text before body body' : List ℕ} {at : ℕ} (n : ℕ) → Taken text before body at → FirstQuotable (take (length text - at) (drop at text)) n
+    → body' ≡ body ++ take ((at + n) - at) (drop at text) → Taken text before body' (at + n)
+taken_found {text} {at} n t first is =
+    let f = rw (take_rest text at) at first in
+    let size : (at + n) - at ≡ n = omega arith in
+    taken_plain n t (omega (arith, f.within)) f.ended f.none (rw size at is)
+
+-- the whole lines of a rest of which no line is quotable
+pub taken_rest : {text before body body' : List ℕ} {at : ℕ} (n : ℕ) → let rest : List ℕ = take (length text - at) (drop at text) in
+    Taken text before body at → n ≤ length rest → Ended (take n rest) → NoneQuotable (lines rest)
+    → body' ≡ body ++ take ((at + n) - at) (drop at text) → Taken text before body' (at + n)
+taken_rest {text} {at} n t le ends none is =
+    let D = drop at text in
+    let size : (at + n) - at ≡ n = omega arith in
+    let ended = rw (take_rest text at) at ends in
+    let parts = ap lines (sym (take-append-drop n D)) ∙ lines-append (drop n D) ended in
+    let all = rw (take_rest text at) at none in
+    taken_plain n t (rw (take_rest text at) at le) ended (none-front (lines (take n D)) (lines (drop n D)) (rw parts at all)) (rw size at is)
+
+-- one whole line that begins no message
+pub taken_line : {text before body body' : List ℕ} {at : ℕ} (n : ℕ) → let line : List ℕ = take (length text - at) (drop at text) in
+    Taken text before body at → IsFirstByte (is_byte 10) line (Some n) → begins_from line ≡ false → body' ≡ body ++ unquoted (take (n + 1) line) → Taken text before body' (at + (n + 1))
+unfolding lines
+taken_line {text} {at} n t found none is =
+    let D = drop at text in
+    let x = take (n + 1) D in
+    let h = line-there D n (rw (take_rest text at) at found) in
+    let one : lines x ≡ x ∷ [] = rw h.is (lines-line (take n D) [] h.part) in
+    let plain : begins_from x ≡ false = false_from_ne_true (begins_from x) (λ b. both_ways (begins_from D) (rw (take_rest text at) at none) (begins_from-take D (n + 1) b)) in
+    taken_more (n + 1) t (omega (arith, h.within)) (inr (take n D, h.is)) (rw one (plain, tt)) (rw (take_rest text at) at is ∙ rw (one, append-nil (unquoted x)) refl)

@@ -1,0 +1,139 @@
+-- What is written of a body, part by part.
+use Rattle.std.proofs.Common.{◌≡◌, ℕ, zero, suc, ◌+◌, ◌-◌, ◌≤◌, ◌<◌, Option, Result, true, false, eqb, List, [], ◌∷◌, ◌++◌, length, take, drop, get_or, refl, sym, ◌∙◌, ap, arith, append_assoc, inl, inr, ◌⊎◌, take-add}
+use Rattle.std.specs.List.{flat_map, concat}
+use Rattle.std.specs.Io.KnownBytes.{Appends}
+use Rattle.std.proofs.KnownBytes.{Appends-trans, Appends-nil}
+use Rattle.std.proofs.lemmas.Bool.{ne_eqb, eqb-true, eqb-false}
+use Rattle.std.proofs.lemmas.List.{append-nil, take_more, take-append-drop, take_all, take_rest, drop_all, drop-drop, length-drop, nil_from_length}
+use Rattle.std.proofs.lemmas.List.Concat.{flat_map-append}
+use Rattle.mbox_text.specs.Lines.{lines, Ended}
+use Rattle.mbox_text.specs.Private.Lines.{IsLine, NoneQuotable, FirstQuotable}
+use Rattle.mbox_text.specs.Quoting.{quotable, quoted}
+use Rattle.mbox_text.specs.Spelling.{missing_end}
+use Rattle.mbox_text.specs.Writing.{AppendsFront, Writes}
+use Rattle.mbox_text.proofs.TextLines.LineLemmas.{lines-append, concat-lines, quotable-cut, missing-ended, missing-part}
+use Rattle.mbox_text.proofs.Splitting.HeldLemmas.{Ended-append}
+use Rattle.mbox_text.proofs.Written.Appended.{front_then, wrote}
+
+quotable-ended : {a : List ℕ} (x : List ℕ) → Ended a → 0 < length a → quotable (a ++ x) ≡ quotable a
+quotable-ended x (inl e) l = absurd (omega (arith, ap length e))
+quotable-ended x (inr e) l = grind (arith, append_assoc, quotable-cut)
+
+quoted-marked : (line : List ℕ) → quotable line ≡ true → quoted line ≡ 62 ∷ line
+unfolding quoted
+quoted-marked line q = rw q refl
+
+quoted-plain : (a : List ℕ) → quotable a ≡ false → quoted a ≡ a
+unfolding quoted
+quoted-plain a n = rw n refl
+
+front-length : (text : List ℕ) (n : ℕ) → 0 < n → n ≤ length text → 0 < length (take n text)
+front-length [] n s l = absurd (omega arith)
+front-length (c ∷ text) zero s l = absurd (omega arith)
+front-length (c ∷ text) (suc n) s l = omega arith
+
+-- whether a line is quotable does not depend on how the text goes on
+pub quotable-line : {text : List ℕ} {n : ℕ} → IsLine text n → quotable (take n text) ≡ quotable text
+quotable-line {text} {n} h = elim (h.ends) [
+  | inl e ↦ ap quotable (take_all n text (omega (arith, e)))
+  | inr e ↦ sym (quotable-ended (drop n text) e (front-length text n h.some h.within)) ∙ ap quotable (take-append-drop n text)
+]
+
+-- the body up to a place
+pub record WrittenTo (body : List ℕ) (old new : Option (List ℕ)) (at : ℕ) : Type 0 where
+  pub within : at ≤ length body
+  pub ends : (at ≡ length body) ⊎ Ended (take at body)
+  pub written : Appends old new (flat_map quoted (lines (take at body)))
+
+-- the first bytes are lines, and these are what is written of them
+pub record Part (text : List ℕ) (n : ℕ) (bytes : List ℕ) : Type 0 where
+  pub within : n ≤ length text
+  pub ends : (n ≡ length text) ⊎ Ended (take n text)
+  pub is : flat_map quoted (lines (take n text)) ≡ bytes
+
+-- lines that stay as they are
+plain : (ls : List (List ℕ)) → NoneQuotable ls → flat_map quoted ls ≡ concat ls
+plain [] n = refl
+plain (l ∷ ls) n = rw (quoted-plain l n.0, plain ls n.1) refl
+
+pub found_part : (body : List ℕ) (at n : ℕ) → FirstQuotable (take (length body - at) (drop at body)) n → Part (drop at body) n (take ((at + n) - at) (drop at body))
+found_part body at n found = grind (arith, take_rest, plain, concat-lines)
+
+-- the quotable line there
+pub line_part : (body : List ℕ) (at n len : ℕ) → FirstQuotable (take (length body - at) (drop at body)) n → IsLine (take (length body - (at + n)) (drop (at + n) body)) len
+    → Part (drop (at + n) body) len (62 ∷ take (((at + n) + len) - (at + n)) (drop (at + n) body))
+line_part body at n len found line = grind (arith, take_rest, quotable-line, drop-drop, append-nil, quoted-marked)
+
+-- a part comes off the front
+split-at : (text : List ℕ) {n : ℕ} → (n ≡ length text) ⊎ Ended (take n text) → flat_map quoted (lines text) ≡ flat_map quoted (lines (take n text)) ++ flat_map quoted (lines (drop n text))
+unfolding lines
+split-at text {n} (inl e) =
+    let all : take n text ≡ text = take_all n text (omega (arith, e)) in
+    let none : drop n text ≡ [] = drop_all n text (omega (arith, e)) in
+    rw (all, none) (sym (append-nil (flat_map quoted (lines text))))
+split-at text {n} (inr e) =
+    ap (λ z. flat_map quoted (lines z)) (sym (take-append-drop n text)) ∙ ap (flat_map quoted) (lines-append (drop n text) e)
+    ∙ flat_map-append quoted (lines (take n text)) (lines (drop n text))
+
+written_more : {body : List ℕ} {old mid : Option (List ℕ)} (new : Option (List ℕ)) {at n : ℕ} {bytes : List ℕ} → WrittenTo body old mid at → at < length body → Part (drop at body) n bytes
+    → Appends mid new bytes → WrittenTo body old new (at + n)
+written_more {body} {old} {mid} new {at} {n} {bytes} w lt p h =
+    let x = take n (drop at body) in
+    let front = take-add at n body in
+    let ended : Ended (take at body) = elim (w.ends) [ inl e ↦ absurd (omega (arith, e, lt)) | inr e ↦ e ] in
+    let lines_are : flat_map quoted (lines (take (at + n) body)) ≡ flat_map quoted (lines (take at body)) ++ bytes = rw (front, lines-append x ended, flat_map-append quoted (lines (take at body)) (lines x), p.is) refl in
+    record {
+      within = omega (arith, w.within, p.within, length-drop at body);
+      ends = elim (p.ends) [
+        | inl e ↦ inl (omega (arith, e, w.within, length-drop at body))
+        | inr e ↦ inr (rw front (Ended-append (take at body) ended e))
+      ];
+      written = rw lines_are (Appends-trans old mid new (flat_map quoted (lines (take at body))) bytes w.written h);
+    }
+
+pub written_found : {body : List ℕ} {old mid : Option (List ℕ)} (new : Option (List ℕ)) {at : ℕ} (n : ℕ) → WrittenTo body old mid at → FirstQuotable (take (length body - at) (drop at body)) n
+    → Appends mid new (take ((at + n) - at) (drop at body)) → WrittenTo body old new (at + n)
+written_found {body} new {at} n w found h =
+    let f = rw (take_rest body at) at found in written_more new w (omega (arith, f.within, length-drop at body)) (found_part body at n found) h
+
+pub written_line : (body : List ℕ) (old mid new : Option (List ℕ)) (at n len : ℕ) → WrittenTo body old mid (at + n) → FirstQuotable (take (length body - at) (drop at body)) n
+    → IsLine (take (length body - (at + n)) (drop (at + n) body)) len → Appends mid new (62 ∷ take (((at + n) + len) - (at + n)) (drop (at + n) body))
+    → WrittenTo body old new ((at + n) + len)
+written_line body old mid new at n len w found line h =
+    let f = rw (take_rest body at) at found in written_more new w (omega (arith, f.within, length-drop at body)) (line_part body at n len found line) h
+
+pub written_front : {body : List ℕ} {old mid : Option (List ℕ)} (new : Option (List ℕ)) {at n : ℕ} {bytes : List ℕ} → WrittenTo body old mid at → Part (drop at body) n bytes
+    → AppendsFront mid new bytes → AppendsFront old new (flat_map quoted (lines body))
+written_front {body} {old} {mid} new {at} {n} {bytes} w p h =
+    let D = drop at body in
+    let F = flat_map quoted (lines (take at body)) in
+    let R = flat_map quoted (lines (drop n D)) in
+    front_then old mid new F bytes R (flat_map quoted (lines body)) w.written h
+    (split-at body w.ends ∙ ap (λ z. F ++ z) (split-at D p.ends ∙ ap (λ z. z ++ R) p.is))
+
+-- the lines behind the last quotable one
+pub written_rest : {T E : Type 0} (r : Result T E) {body : List ℕ} {old mid : Option (List ℕ)} (new : Option (List ℕ)) {at : ℕ} → let rest : List ℕ = take (length body - at) (drop at body) in
+    WrittenTo body old mid at → NoneQuotable (lines rest) → Writes mid new r rest → Writes old new r (flat_map quoted (lines body))
+written_rest r {body} {old} {mid} new {at} w none h =
+    let D = drop at body in
+    let F = flat_map quoted (lines (take at body)) in
+    let same : flat_map quoted (lines D) ≡ D = plain (lines D) (rw (take_rest body at) at none) ∙ concat-lines D in
+    rw (split-at body w.ends, same) (wrote r old mid new F D w.written (rw (take_rest body at) at h))
+
+-- the last byte of a body tells whether it lacks its end
+last-is : {body : List ℕ} → eqb (length body) 0 ≡ false → body ≡ take (length body - 1) body ++ get_or body (length body - 1) 0 ∷ []
+last-is {body} e = grind (arith, eqb-false, take_all, take_more)
+
+pub missing-empty : (body : List ℕ) → eqb (length body) 0 ≡ true → missing_end body ≡ []
+unfolding missing_end
+missing-empty body e = rw (nil_from_length body (eqb-true (length body) 0 e)) refl
+
+pub missing-some : (body : List ℕ) → eqb (length body) 0 ≡ false → (get_or body (length body - 1) 0 ≡ 10 → ⊥) → missing_end body ≡ 10 ∷ []
+missing-some body e h = ap missing_end (last-is e) ∙ missing-part (take (length body - 1) body) (get_or body (length body - 1) 0) [] (ne_eqb _ 10 h, tt)
+
+pub missing-none : (body : List ℕ) → eqb (length body) 0 ≡ false → get_or body (length body - 1) 0 ≡ 10 → missing_end body ≡ []
+missing-none body e h = grind (arith, last-is e, missing-ended (take (length body - 1) body))
+
+pub written_none : {body : List ℕ} {old : Option (List ℕ)} → WrittenTo body old old 0
+unfolding lines
+written_none {old} = grind (arith, Appends-nil old)
