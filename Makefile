@@ -43,6 +43,7 @@ LANES := $(if $(filter 2,$(shell nproc)),RT_JOBS=3)
 # The documents, the gate, and then the tests that run what it has built.
 test:
 	tests/promises.py
+	tests/rooms.py
 	tests/documents
 	$(LANES) rt ci
 	mkdir -p build
