@@ -50,7 +50,7 @@ def declared(crate, module, name):
 
 def items(text):
     """The items of a file of code, each with its head: it ends at a brace at the front of a line."""
-    for block in re.split(r"(?<=^\}\n)", text, flags=re.MULTILINE):
+    for block in re.split(r"(?<=^\}\n)|(?<=^\{\}\n)", text, flags=re.MULTILINE):
         match = ITEM.search(block)
         if match:
             yield match.groups(), block[match.start() :]
@@ -127,7 +127,7 @@ def heads(block, is_public):
     """The heads of a block's functions, each with its contract: it ends where the body begins, or with a semicolon."""
     for match in FUNCTION.finditer(block):
         if match[1] or not is_public:
-            yield match[2], re.split(r"\{\n|;\n", block[match.start() :], maxsplit=1)[0]
+            yield match[2], re.split(r"\{\n|\{\}\n|;\n", block[match.start() :], maxsplit=1)[0]
 
 
 def contracts(head, block, exported):
