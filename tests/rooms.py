@@ -18,7 +18,7 @@ MODIFIERS = {"pub", "abbrev", "unfoldable", "record", "data"}
 ITEM = re.compile(r"^(pub )?(?:pub\(crate\) )?(?:(struct|enum|trait|fn) (\w+)|impl(?:<.*?>)? (?:(\w+)(?:<.*>)? for )?(\w+))", re.MULTILINE)
 EXPORT = re.compile(r"^pub use (\w+)::(?:\{([^}]*)\}|(\w+));", re.MULTILINE)
 PUBLIC_MODULE = re.compile(r"^pub mod (\w+);", re.MULTILINE)
-IMPORT = re.compile(r"^use crate::(\w+)::(?:\{([^}]*)\}|(\w+));", re.MULTILINE)
+IMPORT = re.compile(r"^use (?:crate::)?(\w+)::(?:\{([^}]*)\}|(\w+));", re.MULTILINE)
 FUNCTION = re.compile(r"^ *(pub )?fn (\w+)", re.MULTILINE)
 MODULE = re.compile(r"(?:pub )?mod (\S+)")
 GHOST = re.compile(r"^ *ghost (?!use ).*?[;,]$", re.DOTALL | re.MULTILINE)
@@ -46,6 +46,13 @@ def imports(text, pattern):
 def declared(crate, module, name):
     """Where specs find a type of the code."""
     return f"Rattle.{crate}.specs.declared.{module}.{name}.{name}"
+
+
+def exported_types(crate):
+    """Where specs find the types that another crate exports; none where it is no crate of ours."""
+    lib = TOP / "crates" / crate / "src/lib.rt"
+    found = EXPORT.findall(text_of(lib)) if lib.exists() else []
+    return {name: declared(crate, module, name) for module, many, one in found for name in re.findall(r"\w+", many or one)}
 
 
 def items(text):
@@ -91,8 +98,9 @@ class Specs:
         crate = file.relative_to(TOP).parts[1]
         text = without_comments(text_of(file), "//")
         scope = imports(text, GHOST_USE)
-        for module, many, one in IMPORT.findall(text):
-            scope.update((name, declared(crate, module, name)) for name in re.findall(r"\w+", many or one))
+        for origin, many, one in IMPORT.findall(text):
+            homes = exported_types(origin)
+            scope.update((name, homes.get(name, declared(crate, origin, name))) for name in re.findall(r"\w+", many or one))
         for (_, kind, item, _, owner), block in items(text):
             if owner or kind in ("struct", "enum"):
                 name = owner or item
