@@ -7,14 +7,14 @@ use Rattle.maildir_name.specs.Names.{is_converter_base}
 use Rattle.maildir_run.specs.declared.report.Report.{Report}
 use Rattle.maildir_run.specs.Delivery.{Message, AreNamed, IsHome, has_home, is_any, is_base_of}
 use Rattle.maildir_run.specs.Files.{Files, Action, acted, all_acted, is_name}
-use Rattle.maildir_run.specs.Runs.{Keeps, Reports}
-use Rattle.maildir_run.specs.Several.{Text}
+use Rattle.maildir_run.specs.Runs.{Keeps, ReportsMessages}
+use Rattle.maildir_run.specs.Several.{Mailbox}
 use Rattle.maildir_run.proofs.Call.Homes.{acted_kept}
 use Rattle.maildir_run.proofs.Names.Maps.{is_name-true}
-use Rattle.maildir_run.proofs.Chains.Numbers.{count-cons}
+use Rattle.maildir_run.proofs.Chains.BaseNumbers.{count-cons}
 use Rattle.maildir_run.proofs.Tasks.Progress.{any_kept}
 use Rattle.maildir_disk.specs.World.{World, Acts}
-use Rattle.maildir_commands.specs.Machines.{Held, Rests, HasAlso}
+use Rattle.maildir_commands.specs.Machines.{HeldMaildir, Rests, HasAlso}
 use Rattle.maildir_commands.specs.Report.{IsReportOf, AreReportsOf, also}
 
 -- ---- other programs take and bring no base
@@ -26,7 +26,7 @@ acted_has b named (action ∷ actions) s = acted_has b named actions (acted acti
 abbrev pub Agree : (List ℕ → Bool) → (List ℕ → Bool) → Type 0
 Agree has had = (b : List ℕ) → IsTrue (is_converter_base b) → has b ≡ had b
 
-pub rests_has : (old new : Held) → Rests old new → Agree (has_home new.files) (has_home old.files)
+pub rests_has : (old new : HeldMaildir) → Rests old new → Agree (has_home new.files) (has_home old.files)
 rests_has old new rests b named = ap (λ s. has_home s b) rests.files_are ∙ acted_has b named rests.actions old.files
 
 -- ---- a run, and a sync
@@ -45,7 +45,7 @@ both_have ms old mid new report keeps acts b named =
     (ap (λ s. has_home s b) acts.files_are ∙ acted_has b named acts.actions mid.files) ∙ run_has ms old mid.files report keeps b named
 
 -- ---- reports
-pub of_reports : (text : Text) (old : Files) (report : Report) → Reports text.messages old report → IsReportOf (has_home old) text report
+pub of_reports : (text : Mailbox) (old : Files) (report : Report) → ReportsMessages text.messages old report → IsReportOf (has_home old) text report
 of_reports text old report true_of = record { messages = true_of.messages; there = true_of.there; placed = true_of.placed }
 
 count_agree : (has had : List ℕ → Bool) → Agree has had → (ms : List Message) → AreNamed ms → count_by (λ (m : Message). has m.target.base) ms ≡ count_by (λ (m : Message). had m.target.base) ms
@@ -57,33 +57,33 @@ count_agree has had agree (m ∷ ms) named =
     ∙ (ap (λ k. cond (had m.target.base) 1 0 + k) (count_agree has had agree ms rest)
     ∙ sym (count-cons (λ (n : Message). had n.target.base) m ms (had m.target.base) refl))
 
-pub report_agree : (has had : List ℕ → Bool) → Agree has had → (text : Text) → AreNamed text.messages → (report : Report) → IsReportOf had text report → IsReportOf has text report
+pub report_agree : (has had : List ℕ → Bool) → Agree has had → (text : Mailbox) → AreNamed text.messages → (report : Report) → IsReportOf had text report → IsReportOf has text report
 report_agree has had agree text named report is =
     let same = count_agree has had agree text.messages named in
     record { messages = is.messages; there = subst (λ k. report.there ≡ k) (sym same) is.there; placed = subst (λ k. report.placed ≡ length text.messages - k) (sym same) is.placed }
 
-pub also_agree : (has had : List ℕ → Bool) → Agree has had → (text : Text) → Agree (also has text) (also had text)
+pub also_agree : (has had : List ℕ → Bool) → Agree has had → (text : Mailbox) → Agree (also has text) (also had text)
 also_agree has had agree text b named = ap (λ x. is_base_of text.messages b || x) (agree b named)
 
-pub reports_agree : (has had : List ℕ → Bool) → Agree has had → (texts : List Text) → All (λ text. AreNamed text.messages) texts → (reports : List Report) → AreReportsOf had texts reports → AreReportsOf has texts reports
+pub reports_agree : (has had : List ℕ → Bool) → Agree has had → (texts : List Mailbox) → All (λ text. AreNamed text.messages) texts → (reports : List Report) → AreReportsOf had texts reports → AreReportsOf has texts reports
 reports_agree has had agree [] named [] is = tt
 reports_agree has had agree [] named (report ∷ reports) is = absurd is
 reports_agree has had agree (text ∷ texts) named [] is = absurd is
 reports_agree has had agree (text ∷ texts) named (report ∷ reports) (first, rest) = (
-  report_agree has had agree text (All-head (λ (t : Text). AreNamed t.messages) text texts named) report first,
-  reports_agree (also has text) (also had text) (also_agree has had agree text) texts (All-tail (λ (t : Text). AreNamed t.messages) text texts named) reports rest,
+  report_agree has had agree text (All-head (λ (t : Mailbox). AreNamed t.messages) text texts named) report first,
+  reports_agree (also has text) (also had text) (also_agree has had agree text) texts (All-tail (λ (t : Mailbox). AreNamed t.messages) text texts named) reports rest,
 )
 
 -- which bases have a home once texts were delivered
-abbrev pub also_all : (List ℕ → Bool) → List Text → List ℕ → Bool
+abbrev pub also_all : (List ℕ → Bool) → List Mailbox → List ℕ → Bool
 also_all has [] = has
 also_all has (text ∷ texts) = also_all (also has text) texts
 
-pub also_all-last : (has : List ℕ → Bool) (texts : List Text) (text : Text) → also_all has (texts ++ text ∷ []) ≡ also (also_all has texts) text
+pub also_all-last : (has : List ℕ → Bool) (texts : List Mailbox) (text : Mailbox) → also_all has (texts ++ text ∷ []) ≡ also (also_all has texts) text
 also_all-last has [] text = refl
 also_all-last has (first ∷ texts) text = also_all-last (also has first) texts text
 
-pub reports_more : (has : List ℕ → Bool) (texts : List Text) (reports : List Report) (text : Text) (report : Report) → AreReportsOf has texts reports → IsReportOf (also_all has texts) text report → AreReportsOf has (texts ++ text ∷ []) (reports ++ report ∷ [])
+pub reports_more : (has : List ℕ → Bool) (texts : List Mailbox) (reports : List Report) (text : Mailbox) (report : Report) → AreReportsOf has texts reports → IsReportOf (also_all has texts) text report → AreReportsOf has (texts ++ text ∷ []) (reports ++ report ∷ [])
 reports_more has [] [] text report before is = (is, tt)
 reports_more has [] (other ∷ reports) text report before is = absurd before
 reports_more has (first ∷ texts) [] text report before is = absurd before

@@ -7,7 +7,7 @@ pub mod Several
 -- Lines of runs that are printed one after the other.
 pub mod Reports
 -- What a buffer is given, and what it hands on.
-pub mod Written
+pub mod Output
 -- A Maildir that rests.
 pub mod Resting
 -- Maildirs in memory under their words, where one of them is taken or put back.

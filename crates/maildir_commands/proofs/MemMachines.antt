@@ -8,7 +8,7 @@ use Rattle.std.specs.Str.{bytes_eq}
 use Rattle.maildir_run.specs.MemFolder.{IsQuiet}
 use Rattle.maildir_disk.specs.declared.mem_system.MemSystem.{MemSystem}
 use Rattle.maildir_commands.specs.Machines.{Rests}
-use Rattle.maildir_commands.specs.MemMachines.{AreQuiet, held_at, held_under}
+use Rattle.maildir_commands.specs.MemMachines.{AreQuiet, held_at, held_under_word}
 use Rattle.maildir_commands.proofs.Resting.{rest_same}
 
 module _ {X : Type 0} (old new : BTreeMap (String X) (Option MemSystem)) (path : List ℕ) (slot : Option MemSystem) (looked : (word : List ℕ) → get_by_text new word ≡ update bytes_eq (get_by_text old) path (Some slot) word) where
@@ -24,10 +24,10 @@ module _ {X : Type 0} (old new : BTreeMap (String X) (Option MemSystem)) (path :
   at_path : get_by_text new path ≡ Some slot
   at_path = on_path path (search (rules, bytes_eq-Decides))
 
-  pub others_rest : (word : List ℕ) → ¬ IsTrue (bytes_eq path word) → Rests (held_under old word) (held_under new word)
-  others_rest word other = subst (λ found. Rests (held_under old word) (held_at found)) (sym (off_path word other)) (rest_same (held_under old word))
+  pub others_rest : (word : List ℕ) → ¬ IsTrue (bytes_eq path word) → Rests (held_under_word old word) (held_under_word new word)
+  others_rest word other = subst (λ found. Rests (held_under_word old word) (held_at found)) (sym (off_path word other)) (rest_same (held_under_word old word))
 
-  pub path_rests : Rests (held_at (Some slot)) (held_under new path)
+  pub path_rests : Rests (held_at (Some slot)) (held_under_word new path)
   path_rests = subst (λ found. Rests (held_at (Some slot)) (held_at found)) (sym at_path) (rest_same (held_at (Some slot)))
 
   pub still_quiet : AreQuiet old → slot ≡ None → AreQuiet new
@@ -36,8 +36,8 @@ module _ {X : Type 0} (old new : BTreeMap (String X) (Option MemSystem)) (path :
     | inr off ↦ quiet word system (sym (looked word ∙ ap (λ t. cond t (Some slot) (get_by_text old word)) off) ∙ is)
   ]
 
-pub same_rests : {X : Type 0} (old new : BTreeMap (String X) (Option MemSystem)) → new ≡ old → (word : List ℕ) → Rests (held_under old word) (held_under new word)
-same_rests old new same word = subst (λ maildirs. Rests (held_under old word) (held_under maildirs word)) (sym same) (rest_same (held_under old word))
+pub same_rests : {X : Type 0} (old new : BTreeMap (String X) (Option MemSystem)) → new ≡ old → (word : List ℕ) → Rests (held_under_word old word) (held_under_word new word)
+same_rests old new same word = subst (λ maildirs. Rests (held_under_word old word) (held_under_word maildirs word)) (sym same) (rest_same (held_under_word old word))
 
-pub found_rests : {X : Type 0} (old : BTreeMap (String X) (Option MemSystem)) (path : List ℕ) (system : MemSystem) → get_by_text old path ≡ Some (Some system) → Rests (held_under old path) (held_at (Some (Some system)))
+pub found_rests : {X : Type 0} (old : BTreeMap (String X) (Option MemSystem)) (path : List ℕ) (system : MemSystem) → get_by_text old path ≡ Some (Some system) → Rests (held_under_word old path) (held_at (Some (Some system)))
 found_rests old path system is = subst (λ found. Rests (held_at found) (held_at (Some (Some system)))) (sym is) (rest_same (held_at (Some (Some system))))

@@ -12,13 +12,13 @@ use Rattle.maildir_run.specs.Delivery.{Message, AreNamed, IsSoundAt, has_home}
 use Rattle.maildir_run.specs.Files.{Files}
 use Rattle.maildir_run.specs.Reading.{ReadsAtMost}
 use Rattle.maildir_run.specs.Runs.{Possible}
-use Rattle.maildir_run.specs.Several.{Text, IsText}
+use Rattle.maildir_run.specs.Several.{Mailbox, IsMailbox}
 use Rattle.maildir_run.specs.declared.report.Report.{Report}
 use Rattle.maildir_run.proofs.Chains.MessageLemmas.{text_named}
 use Rattle.maildir_disk.specs.Others.{Stays}
 use Rattle.maildir_disk.specs.PowerCuts.{AreAlike, AreIntact, AreSafe}
 use Rattle.maildir_disk.proofs.Kept.Others.{stays_acted, stays_then}
-use Rattle.maildir_commands.specs.Machines.{Held, Rests, AreFit, IsSoundFor, AreAllSafe, AreAllKept, AreKept, Gives, HasAlso, OthersStay, bytes_of}
+use Rattle.maildir_commands.specs.Machines.{HeldMaildir, Rests, AreFit, IsSoundFor, AreAllSafe, AreAllKept, AreKept, GivesTexts, HasAlso, OthersStay, bytes_of}
 use Rattle.maildir_commands.specs.Report.{AreReportsOf, IsReportOf, PrintsEach, PrintsOne, PrintsReport, PrintsSome, report_line}
 use Rattle.maildir_commands.proofs.Forms.{map_both, none_named}
 use Rattle.maildir_commands.proofs.Known.{Agree, also_agree, also_all, also_all-last, report_agree, reports_agree, reports_more, rests_has}
@@ -44,56 +44,56 @@ possible_whole (Some xs) (Some left) most t e reads =
 no_stay : (others : List Message) (s : Files) (left : Files → Type 0) → Stays others s left s left
 no_stay others s left = record { sound = λ h. h; intact = λ h. h; home = λ h. h; survive = λ h. h }
 
-pub stay_none : (texts : List Text) (maildir : Held) → OthersStay texts maildir maildir
+pub stay_none : (texts : List Mailbox) (maildir : HeldMaildir) → OthersStay texts maildir maildir
 stay_none texts maildir = λ others named alike. no_stay others maildir.files maildir.may_leave
 
-pub stay_rest : (texts : List Text) (old new : Held) → Rests old new → OthersStay texts old new
+pub stay_rest : (texts : List Mailbox) (old new : HeldMaildir) → Rests old new → OthersStay texts old new
 stay_rest texts old new rests = λ others named alike. stays_acted others named rests.actions old.files new.files old.may_leave new.may_leave rests.files_are rests.left
 
-pub stay_both : (texts : List Text) (a b c : Held) → OthersStay texts a b → OthersStay texts b c → OthersStay texts a c
+pub stay_both : (texts : List Mailbox) (a b c : HeldMaildir) → OthersStay texts a b → OthersStay texts b c → OthersStay texts a c
 stay_both texts a b c first then = λ others named alike. stays_then others a.files a.may_leave b.files b.may_leave c.files c.may_leave (first others named alike) (then others named alike)
 
-kept_stay : (ms : List Message) (old new : Held) → Stays ms old.files old.may_leave new.files new.may_leave → AreKept ms old → AreKept ms new
+kept_stay : (ms : List Message) (old new : HeldMaildir) → Stays ms old.files old.may_leave new.files new.may_leave → AreKept ms old → AreKept ms new
 kept_stay ms old new stays kept = record { home = stays.home kept.home; survive = stays.survive kept.survive }
 
-named_of : (text : Text) → IsText text → AreNamed text.messages
+named_of : (text : Mailbox) → IsMailbox text → AreNamed text.messages
 named_of text is = text_named text.bytes text.messages is.are is.small
 
-named_all : (texts : List Text) → All IsText texts → All (λ text. AreNamed text.messages) texts
+named_all : (texts : List Mailbox) → All IsMailbox texts → All (λ text. AreNamed text.messages) texts
 named_all texts are k d below = named_of (get_or texts k d) (are k d below)
 
 -- ---- while nothing is done
-module _ (texts : List Text) (are : All IsText texts) where
-  rest_stays : (old new : Held) → Rests old new → (k : ℕ) (d : Text) → k < length texts → Stays (get_or texts k d).messages old.files old.may_leave new.files new.may_leave
+module _ (texts : List Mailbox) (are : All IsMailbox texts) where
+  rest_stays : (old new : HeldMaildir) → Rests old new → (k : ℕ) (d : Mailbox) → k < length texts → Stays (get_or texts k d).messages old.files old.may_leave new.files new.may_leave
   rest_stays old new rests k d below =
       stays_acted (get_or texts k d).messages (named_all texts are k d below) rests.actions old.files new.files old.may_leave new.may_leave rests.files_are rests.left
 
-  pub rest_sound : (old new : Held) → Rests old new → IsSoundFor texts old → IsSoundFor texts new
+  pub rest_sound : (old new : HeldMaildir) → Rests old new → IsSoundFor texts old → IsSoundFor texts new
   rest_sound old new rests is = record {
     sound = λ k d below. (rest_stays old new rests k d below).sound (is.sound k d below);
     intact = λ k d below. (rest_stays old new rests k d below).intact (is.intact k d below);
   }
 
-  pub rest_all_safe : (old new : Held) → Rests old new → AreAllSafe texts old → AreAllSafe texts new
+  pub rest_all_safe : (old new : HeldMaildir) → Rests old new → AreAllSafe texts old → AreAllSafe texts new
   rest_all_safe old new rests safe k d below =
       let was = safe k d below in
       let stays = rest_stays old new rests k d below in
       record { home = stays.home was.home; survive = stays.survive was.survive; found = rests.found was.found }
 
-  pub rest_all_kept : (old new : Held) → Rests old new → AreAllKept texts old → AreAllKept texts new
+  pub rest_all_kept : (old new : HeldMaildir) → Rests old new → AreAllKept texts old → AreAllKept texts new
   rest_all_kept old new rests kept k d below = kept_stay (get_or texts k d).messages old new (rest_stays old new rests k d below) (kept k d below)
 
 -- a Maildir that rests before the texts are delivered, and behind it
-pub rest_each : (texts : List Text) → All IsText texts → (old new : Held) (was is : Option (List ℕ)) → Rests old new → PrintsEach new texts was is → PrintsEach old texts was is
+pub rest_each : (texts : List Mailbox) → All IsMailbox texts → (old new : HeldMaildir) (was is : Option (List ℕ)) → Rests old new → PrintsEach new texts was is → PrintsEach old texts was is
 rest_each texts are old new was is rests prints = record {
   reports = prints.reports;
   true_of = reports_agree (has_home old.files) (has_home new.files) (λ b named. sym (rests_has old new rests b named)) texts (named_all texts are) prints.reports prints.true_of;
   lines = prints.lines;
 }
 
-pub rest_some : (texts : List Text) → All IsText texts → (old ready work new : Held) (was is : Option (List ℕ)) → Rests old ready → Rests work new → PrintsSome ready work texts was is → PrintsSome old new texts was is
+pub rest_some : (texts : List Mailbox) → All IsMailbox texts → (old ready work new : HeldMaildir) (was is : Option (List ℕ)) → Rests old ready → Rests work new → PrintsSome ready work texts was is → PrintsSome old new texts was is
 rest_some texts are old ready work new was is rests closes prints =
-    let first = All-take IsText prints.n texts are in
+    let first = All-take IsMailbox prints.n texts are in
     record {
       n = prints.n;
       reports = prints.reports;
@@ -103,28 +103,28 @@ rest_some texts are old ready work new was is rests closes prints =
     }
 
 -- ---- nothing was delivered
-pub none_some : (texts : List Text) (old new : Held) (was is : Option (List ℕ)) → Keeps was is → PrintsSome old new texts was is
+pub none_some : (texts : List Mailbox) (old new : HeldMaildir) (was is : Option (List ℕ)) → Keeps was is → PrintsSome old new texts was is
 none_some texts old new was is keeps = record {
   n = 0;
   reports = [];
   true_of = tt;
-  kept = All-nil (λ (text : Text). AreKept text.messages new);
+  kept = All-nil (λ (text : Mailbox). AreKept text.messages new);
   lines = ([], [], refl, Appends-kept was was is [] (Appends-nil was) keeps);
 }
 
 -- ---- how far several texts are
 -- The Maildir is sound for all of them, so many are safe, and their lines were written.
-pub record UpTo (n : ℕ) (texts : List Text) (start now : Held) (was is : Option (List ℕ)) : Type 0 where
+pub record UpTo (n : ℕ) (texts : List Mailbox) (start now : HeldMaildir) (was is : Option (List ℕ)) : Type 0 where
   pub sound : IsSoundFor texts now
-  pub safe : (k : ℕ) (d : Text) → k < n → k < length texts → AreSafe (get_or texts k d).messages now.files now.may_leave now.rooted
+  pub safe : (k : ℕ) (d : Mailbox) → k < n → k < length texts → AreSafe (get_or texts k d).messages now.files now.may_leave now.rooted
   pub has : Agree (has_home now.files) (also_all (has_home start.files) (take n texts))
   pub reports : List Report
   pub true_of : AreReportsOf (has_home start.files) (take n texts) reports
   pub lines : Appends was is (flat_map report_line reports)
   pub stay : OthersStay texts start now
 
-pub none_done : (texts : List Text) (start : Held) (was : Option (List ℕ)) → IsSoundFor texts start → UpTo 0 texts start start was was
-none_done texts start was sound = record {
+pub none_printed : (texts : List Mailbox) (start : HeldMaildir) (was : Option (List ℕ)) → IsSoundFor texts start → UpTo 0 texts start start was was
+none_printed texts start was sound = record {
   sound = sound;
   safe = λ k d lt below. absurd (omega (arith, lt));
   has = λ b named. refl;
@@ -158,46 +158,46 @@ more_front was mid is reports report before (taken, rest, are, line) = (
   Appends-trans was mid is (flat_map report_line reports) taken before line,
 )
 
-module _ (texts : List Text) (fit : AreFit texts) where
-  at_same : (k n : ℕ) (d e : Text) → k ≡ n → k < length texts → get_or texts n e ≡ get_or texts k d
+module _ (texts : List Mailbox) (fit : AreFit texts) where
+  at_same : (k n : ℕ) (d e : Mailbox) → k ≡ n → k < length texts → get_or texts n e ≡ get_or texts k d
   at_same k n d e same below = ap (λ i. get_or texts i e) (sym same) ∙ get_or_default texts k e d below
 
   -- what the delivery of one of them leaves of each
-  others_at : (n : ℕ) (e : Text) (old new : Held) → n < length texts → OthersStay (get_or texts n e ∷ []) old new → (k : ℕ) (d : Text) → k < length texts → Stays (get_or texts k d).messages old.files old.may_leave new.files new.may_leave
+  others_at : (n : ℕ) (e : Mailbox) (old new : HeldMaildir) → n < length texts → OthersStay (get_or texts n e ∷ []) old new → (k : ℕ) (d : Mailbox) → k < length texts → Stays (get_or texts k d).messages old.files old.may_leave new.files new.may_leave
   others_at n e old new inside stay k d below =
       let text = get_or texts n e in
       stay (get_or texts k d).messages (named_all texts fit.are k d below)
-      (All-cons (λ (t : Text). AreAlike (get_or texts k d).messages t.messages) text [] (fit.alike k d below n e inside) (All-nil (λ (t : Text). AreAlike (get_or texts k d).messages t.messages)))
+      (All-cons (λ (t : Mailbox). AreAlike (get_or texts k d).messages t.messages) text [] (fit.alike k d below n e inside) (All-nil (λ (t : Mailbox). AreAlike (get_or texts k d).messages t.messages)))
 
-  pub stay_more : (n : ℕ) (e : Text) (a b c : Held) → n < length texts → OthersStay texts a b → OthersStay (get_or texts n e ∷ []) b c → OthersStay texts a c
+  pub stay_more : (n : ℕ) (e : Mailbox) (a b c : HeldMaildir) → n < length texts → OthersStay texts a b → OthersStay (get_or texts n e ∷ []) b c → OthersStay texts a c
   stay_more n e a b c inside first then = λ others named alike.
       stays_then others a.files a.may_leave b.files b.may_leave c.files c.may_leave (first others named alike)
-      (then others named (All-cons (λ (t : Text). AreAlike others t.messages) (get_or texts n e) [] (alike n e inside) (All-nil (λ (t : Text). AreAlike others t.messages))))
+      (then others named (All-cons (λ (t : Mailbox). AreAlike others t.messages) (get_or texts n e) [] (alike n e inside) (All-nil (λ (t : Mailbox). AreAlike others t.messages))))
 
   -- those that were safe are kept, whatever comes of the next
-  kept_some : (n : ℕ) (old new : Held) → ((k : ℕ) (d : Text) → k < n → k < length texts → AreSafe (get_or texts k d).messages old.files old.may_leave old.rooted) → ((k : ℕ) (d : Text) → k < length texts → Stays (get_or texts k d).messages old.files old.may_leave new.files new.may_leave) → AreAllKept (take n texts) new
+  kept_some : (n : ℕ) (old new : HeldMaildir) → ((k : ℕ) (d : Mailbox) → k < n → k < length texts → AreSafe (get_or texts k d).messages old.files old.may_leave old.rooted) → ((k : ℕ) (d : Mailbox) → k < length texts → Stays (get_or texts k d).messages old.files old.may_leave new.files new.may_leave) → AreAllKept (take n texts) new
   kept_some n old new safe stays k d below =
       let most = length-take n texts in
       let lt : k < n = omega (arith, below, most) in
       let inside : k < length texts = omega (arith, below, most) in
       let was = safe k d lt inside in
-      subst (λ (text : Text). AreKept text.messages new) (sym (get_or-take n texts k d lt))
+      subst (λ (text : Mailbox). AreKept text.messages new) (sym (get_or-take n texts k d lt))
       (record { home = (stays k d inside).home was.home; survive = (stays k d inside).survive was.survive })
 
-  kept_more : (n : ℕ) (e : Text) (maildir : Held) → n < length texts → AreAllKept (take n texts) maildir → AreKept (get_or texts n e).messages maildir → AreAllKept (take (n + 1) texts) maildir
+  kept_more : (n : ℕ) (e : Mailbox) (maildir : HeldMaildir) → n < length texts → AreAllKept (take n texts) maildir → AreKept (get_or texts n e).messages maildir → AreAllKept (take (n + 1) texts) maildir
   kept_more n e maildir inside before last k d below =
       let most = length-take (n + 1) texts in
       let most_before = length-take n texts in
       let lt : k < n + 1 = omega (arith, below, most) in
       let here : k < length texts = omega (arith, below, most) in
-      subst (λ (text : Text). AreKept text.messages maildir) (sym (get_or-take (n + 1) texts k d lt))
+      subst (λ (text : Mailbox). AreKept text.messages maildir) (sym (get_or-take (n + 1) texts k d lt))
       (elim (last_or k n lt) as (λ _. AreKept (get_or texts k d).messages maildir) [
-        | inl less ↦ subst (λ (text : Text). AreKept text.messages maildir) (get_or-take n texts k d less) (before k d (omega (arith, less, here, most_before)))
-        | inr same ↦ subst (λ (text : Text). AreKept text.messages maildir) (at_same k n d e same here) last
+        | inl less ↦ subst (λ (text : Mailbox). AreKept text.messages maildir) (get_or-take n texts k d less) (before k d (omega (arith, less, here, most_before)))
+        | inr same ↦ subst (λ (text : Mailbox). AreKept text.messages maildir) (at_same k n d e same here) last
       ])
 
   -- one text more
-  pub one_more : (n : ℕ) (e : Text) (start old new : Held) (was mid is : Option (List ℕ)) → n < length texts → UpTo n texts start old was mid → AreSafe (get_or texts n e).messages new.files new.may_leave new.rooted → PrintsReport mid is (IsReportOf (has_home old.files) (get_or texts n e)) → HasAlso (get_or texts n e).messages old.files new.files → OthersStay (get_or texts n e ∷ []) old new → UpTo (n + 1) texts start new was is
+  pub one_more : (n : ℕ) (e : Mailbox) (start old new : HeldMaildir) (was mid is : Option (List ℕ)) → n < length texts → UpTo n texts start old was mid → AreSafe (get_or texts n e).messages new.files new.may_leave new.rooted → PrintsReport mid is (IsReportOf (has_home old.files) (get_or texts n e)) → HasAlso (get_or texts n e).messages old.files new.files → OthersStay (get_or texts n e ∷ []) old new → UpTo (n + 1) texts start new was is
   one_more n e start old new was mid is inside up safe line known stay =
       let text = get_or texts n e in
       let stays = others_at n e old new inside stay in
@@ -212,7 +212,7 @@ module _ (texts : List Text) (fit : AreFit texts) where
           | inl before ↦
               let was_safe = up.safe k d before below in
               record { home = (stays k d below).home was_safe.home; survive = (stays k d below).survive was_safe.survive; found = safe.found }
-          | inr same ↦ subst (λ (t : Text). AreSafe t.messages new.files new.may_leave new.rooted) (at_same k n d e same below) safe
+          | inr same ↦ subst (λ (t : Mailbox). AreSafe t.messages new.files new.may_leave new.rooted) (at_same k n d e same below) safe
         ];
         has = λ b named.
             known b named ∙ (also_agree (has_home old.files) (also_all first (take n texts)) up.has text b named
@@ -226,7 +226,7 @@ module _ (texts : List Text) (fit : AreFit texts) where
       }
 
   -- and then a text that is not delivered, or whose line was not written whole
-  pub then_stopped : (n : ℕ) (e : Text) (start old new : Held) (was mid is : Option (List ℕ)) → n < length texts → UpTo n texts start old was mid → OthersStay (get_or texts n e ∷ []) old new → Keeps mid is ⊎ PrintsOne old new (get_or texts n e) mid is → PrintsSome start new texts was is
+  pub then_stopped : (n : ℕ) (e : Mailbox) (start old new : HeldMaildir) (was mid is : Option (List ℕ)) → n < length texts → UpTo n texts start old was mid → OthersStay (get_or texts n e ∷ []) old new → Keeps mid is ⊎ PrintsOne old new (get_or texts n e) mid is → PrintsSome start new texts was is
   then_stopped n e start old new was mid is inside up stay (inl keeps) = record {
     n = n;
     reports = up.reports;
@@ -249,7 +249,7 @@ module _ (texts : List Text) (fit : AreFit texts) where
       }
 
   -- the next text could not be opened
-  pub stopped_between : (n : ℕ) (start now : Held) (was is : Option (List ℕ)) → UpTo n texts start now was is → PrintsSome start now texts was is
+  pub stopped_between : (n : ℕ) (start now : HeldMaildir) (was is : Option (List ℕ)) → UpTo n texts start now was is → PrintsSome start now texts was is
   stopped_between n start now was is up = record {
     n = n;
     reports = up.reports;
@@ -259,10 +259,10 @@ module _ (texts : List Text) (fit : AreFit texts) where
   }
 
 -- ---- at the end
-pub all_safe : (n : ℕ) (texts : List Text) (start now : Held) (was is : Option (List ℕ)) → length texts ≤ n → UpTo n texts start now was is → AreAllSafe texts now
+pub all_safe : (n : ℕ) (texts : List Mailbox) (start now : HeldMaildir) (was is : Option (List ℕ)) → length texts ≤ n → UpTo n texts start now was is → AreAllSafe texts now
 all_safe n texts start now was is most up k d below = up.safe k d (omega (arith, below, most)) below
 
-pub all_each : (n : ℕ) (texts : List Text) (start now : Held) (was is : Option (List ℕ)) → length texts ≤ n → UpTo n texts start now was is → PrintsEach start texts was is
+pub all_each : (n : ℕ) (texts : List Mailbox) (start now : HeldMaildir) (was is : Option (List ℕ)) → length texts ≤ n → UpTo n texts start now was is → PrintsEach start texts was is
 all_each n texts start now was is most up = record {
   reports = up.reports;
   true_of = subst (λ ts. AreReportsOf (has_home start.files) ts up.reports) (take_all n texts most) up.true_of;
@@ -270,18 +270,18 @@ all_each n texts start now was is most up = record {
 }
 
 -- ---- the bytes of texts
-pub bytes_length : (texts : List Text) (all : List (List ℕ)) → bytes_of texts ≡ all → length texts ≡ length all
-bytes_length texts all e = sym (length-map texts (λ (text : Text). text.bytes)) ∙ ap length e
+pub bytes_length : (texts : List Mailbox) (all : List (List ℕ)) → bytes_of texts ≡ all → length texts ≡ length all
+bytes_length texts all e = sym (length-map texts (λ (text : Mailbox). text.bytes)) ∙ ap length e
 
-pub bytes_at : (texts : List Text) (all : List (List ℕ)) → bytes_of texts ≡ all → (n : ℕ) (d : Text) (x : List ℕ) → n < length texts → (get_or texts n d).bytes ≡ get_or all n x
-bytes_at texts all e n d x inside = sym (get_or-map (λ (text : Text). text.bytes) texts n d x inside) ∙ ap (λ xs. get_or xs n x) e
+pub bytes_at : (texts : List Mailbox) (all : List (List ℕ)) → bytes_of texts ≡ all → (n : ℕ) (d : Mailbox) (x : List ℕ) → n < length texts → (get_or texts n d).bytes ≡ get_or all n x
+bytes_at texts all e n d x inside = sym (get_or-map (λ (text : Mailbox). text.bytes) texts n d x inside) ∙ ap (λ xs. get_or xs n x) e
 
 -- a text for places past a list's end
-pub no_text : Text
+pub no_text : Mailbox
 no_text = record { bytes = []; messages = [] }
 
 -- the first text, and those behind it
-module _ {X : Type 0} (texts : List Text) (text : List ℕ) (f : X → List ℕ) (rest : List X) (are : bytes_of texts ≡ text ∷ map f rest) where
+module _ {X : Type 0} (texts : List Mailbox) (text : List ℕ) (f : X → List ℕ) (rest : List X) (are : bytes_of texts ≡ text ∷ map f rest) where
   pub behind_length : length texts ≡ length rest + 1
   behind_length = bytes_length texts (text ∷ map f rest) are ∙ (ap suc (length-map rest f) ∙ sym (add-one _))
 
@@ -307,37 +307,37 @@ on_err P (Ok x) h = tt
 on_err P (Err e) h = h
 
 -- ---- one text of them
-pub sound_of : (texts : List Text) (maildir : Held) (n : ℕ) (e : Text) → n < length texts → IsSoundFor texts maildir → IsSoundFor (get_or texts n e ∷ []) maildir
+pub sound_of : (texts : List Mailbox) (maildir : HeldMaildir) (n : ℕ) (e : Mailbox) → n < length texts → IsSoundFor texts maildir → IsSoundFor (get_or texts n e ∷ []) maildir
 sound_of texts maildir n e inside is = record {
-  sound = All-cons (λ (t : Text). All (IsSoundAt maildir.files) t.messages) (get_or texts n e) [] (is.sound n e inside) (All-nil (λ (t : Text). All (IsSoundAt maildir.files) t.messages));
-  intact = All-cons (λ (t : Text). AreIntact t.messages maildir.may_leave) (get_or texts n e) [] (is.intact n e inside) (All-nil (λ (t : Text). AreIntact t.messages maildir.may_leave));
+  sound = All-cons (λ (t : Mailbox). All (IsSoundAt maildir.files) t.messages) (get_or texts n e) [] (is.sound n e inside) (All-nil (λ (t : Mailbox). All (IsSoundAt maildir.files) t.messages));
+  intact = All-cons (λ (t : Mailbox). AreIntact t.messages maildir.may_leave) (get_or texts n e) [] (is.intact n e inside) (All-nil (λ (t : Mailbox). AreIntact t.messages maildir.may_leave));
 }
 
-pub sound_of_one : (text : Text) (maildir : Held) → IsSoundFor (text ∷ []) maildir → All (IsSoundAt maildir.files) text.messages
-sound_of_one text maildir is = All-head (λ (t : Text). All (IsSoundAt maildir.files) t.messages) text [] is.sound
+pub sound_of_one : (text : Mailbox) (maildir : HeldMaildir) → IsSoundFor (text ∷ []) maildir → All (IsSoundAt maildir.files) text.messages
+sound_of_one text maildir is = All-head (λ (t : Mailbox). All (IsSoundAt maildir.files) t.messages) text [] is.sound
 
-pub intact_of_one : (text : Text) (maildir : Held) → IsSoundFor (text ∷ []) maildir → AreIntact text.messages maildir.may_leave
-intact_of_one text maildir is = All-head (λ (t : Text). AreIntact t.messages maildir.may_leave) text [] is.intact
+pub intact_of_one : (text : Mailbox) (maildir : HeldMaildir) → IsSoundFor (text ∷ []) maildir → AreIntact text.messages maildir.may_leave
+intact_of_one text maildir is = All-head (λ (t : Mailbox). AreIntact t.messages maildir.may_leave) text [] is.intact
 
 -- ---- where one text is all
-pub only_first : (texts : List Text) (text : Text) → texts ≡ text ∷ [] → text ≡ get_or texts 0 no_text
+pub only_first : (texts : List Mailbox) (text : Mailbox) → texts ≡ text ∷ [] → text ≡ get_or texts 0 no_text
 only_first texts text is = sym (ap (λ ts. get_or ts 0 no_text) is)
 
-pub only_length : (texts : List Text) (text : Text) → texts ≡ text ∷ [] → length texts ≡ 1
+pub only_length : (texts : List Mailbox) (text : Mailbox) → texts ≡ text ∷ [] → length texts ≡ 1
 only_length texts text is = ap length is
 
-pub first_up : {A E : Type 0} (answer : Result A E) (texts : List Text) → AreFit texts → (start now : Held) (was is : Option (List ℕ)) → IsSoundFor texts start → 0 < length texts → OthersStay (get_or texts 0 no_text ∷ []) start now
+pub first_up : {A E : Type 0} (answer : Result A E) (texts : List Mailbox) → AreFit texts → (start now : HeldMaildir) (was is : Option (List ℕ)) → IsSoundFor texts start → 0 < length texts → OthersStay (get_or texts 0 no_text ∷ []) start now
     → OnOk answer (AreSafe (get_or texts 0 no_text).messages now.files now.may_leave now.rooted) → OnOk answer (PrintsReport was is (IsReportOf (has_home start.files) (get_or texts 0 no_text))) → OnOk answer (HasAlso (get_or texts 0 no_text).messages start.files now.files)
     → OnOk answer (UpTo 1 texts start now was is)
-first_up (Ok x) texts fit start now was is sound inside stay safe line known = one_more texts fit 0 no_text start start now was was is inside (none_done texts start was sound) safe line known stay
+first_up (Ok x) texts fit start now was is sound inside stay safe line known = one_more texts fit 0 no_text start start now was was is inside (none_printed texts start was sound) safe line known stay
 first_up (Err e) texts fit start now was is sound inside stay safe line known = tt
 
 -- ---- the texts of files
-module _ {X : Type 0} (texts : List Text) (text_of : List ℕ → List ℕ) (name_of : X → List ℕ) (before after : Option (List ℕ)) (files : List X) (given : Gives text_of before after (map name_of files) texts) where
-  pub none_given : length files ≡ 0 → Gives text_of before after [] texts
-  none_given none = subst (λ names. Gives text_of before after names texts) (none_named name_of files none) given
+module _ {X : Type 0} (texts : List Mailbox) (text_of : List ℕ → List ℕ) (name_of : X → List ℕ) (before after : Option (List ℕ)) (files : List X) (given : GivesTexts text_of before after (map name_of files) texts) where
+  pub none_given : length files ≡ 0 → GivesTexts text_of before after [] texts
+  none_given none = subst (λ names. GivesTexts text_of before after names texts) (none_named name_of files none) given
 
   pub some_given : (first : X) (rest : List X) → files ≡ first ∷ rest → bytes_of texts ≡ text_of (name_of first) ∷ map (λ file. text_of (name_of file)) rest
   some_given first rest are =
-      let bytes : bytes_of texts ≡ text_of (name_of first) ∷ map text_of (map name_of rest) = subst (λ fs. Gives text_of before after (map name_of fs) texts) are given in
+      let bytes : bytes_of texts ≡ text_of (name_of first) ∷ map text_of (map name_of rest) = subst (λ fs. GivesTexts text_of before after (map name_of fs) texts) are given in
       bytes ∙ ap (λ xs. text_of (name_of first) ∷ xs) (map_both text_of name_of rest)

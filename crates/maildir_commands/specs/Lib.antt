@@ -5,7 +5,7 @@ pub mod Faults
 -- What is printed of a conversion.
 pub mod Report
 -- What is written of a source's text.
-pub mod Written
+pub mod Output
 -- What a machine has under a word, and what it is for several texts.
 pub mod Machines
 -- What a machine in memory has under a word.

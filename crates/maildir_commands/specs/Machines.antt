@@ -2,62 +2,62 @@
 use Rattle.std.specs.Prelude.{◌≡◌, ℕ, List, [], ◌∷◌, All, Option, map, ◌||◌, IsTrue}
 use Rattle.std.specs.FinMap.{empty}
 use Rattle.maildir_name.specs.Names.{is_converter_base}
-use Rattle.maildir_run.specs.Cuts.{Left}
+use Rattle.maildir_run.specs.Cuts.{Follows}
 use Rattle.maildir_run.specs.Delivery.{Message, AreNamed, IsHome, IsSoundAt, has_home, is_base_of}
 use Rattle.maildir_run.specs.Files.{Files, Action, all_acted}
 use Rattle.maildir_run.specs.Runs.{Possible}
-use Rattle.maildir_run.specs.Several.{Text, IsText, OfEach}
+use Rattle.maildir_run.specs.Several.{Mailbox, IsMailbox, OfEach}
 use Rattle.maildir_disk.specs.World.{World}
 use Rattle.maildir_disk.specs.Others.{Stays}
-use Rattle.maildir_disk.specs.PowerCuts.{AreAlike, AreIntact, AreSafe, LeavesOthers, Survive}
+use Rattle.maildir_disk.specs.PowerCuts.{AreAlike, AreIntact, AreSafe, LeftByOthers, Survive}
 use Rattle.maildir_commands.specs.Words.{convert_words}
 
 -- a Maildir at one moment: its files, what a power cut may leave of it, and that one leaves it and its three folders
-pub record Held : Type 1 where
+pub record HeldMaildir : Type 1 where
   pub files : Files
   pub may_leave : Files → Type 0
   pub rooted : Type 0
 
 -- what these say of a Maildir
-abbrev pub held : {S : Type 0} → (S → World) → (S → Files → Type 0) → (S → Type 0) → S → Held
+abbrev pub held : {S : Type 0} → (S → World) → (S → Files → Type 0) → (S → Type 0) → S → HeldMaildir
 held world may_leave rooted s = record { files = (world s).files; may_leave = may_leave s; rooted = rooted s }
 
 -- no Maildir
-abbrev pub nothing_held : Held
+abbrev pub nothing_held : HeldMaildir
 nothing_held = record { files = record { tmp = empty; new = empty; cur = empty }; may_leave = λ _. ⊥; rooted = ⊥ }
 
 -- A Maildir from one moment to the next, while nothing is done to it here: other programs acted, or none did.
-pub record Rests (old new : Held) : Type 0 where
+pub record Rests (old new : HeldMaildir) : Type 0 where
   pub actions : List Action
   pub files_are : new.files ≡ all_acted actions old.files
-  pub left : Left LeavesOthers old.may_leave new.may_leave
+  pub left : Follows LeftByOthers old.may_leave new.may_leave
   pub found : old.rooted → new.rooted
 
 -- These texts can go into one Maildir: no two of their messages have the same base and other bodies.
-pub record AreFit (texts : List Text) : Type 0 where
-  pub are : All IsText texts
+pub record AreFit (texts : List Mailbox) : Type 0 where
+  pub are : All IsMailbox texts
   pub alike : All (λ text. All (λ other. AreAlike text.messages other.messages) texts) texts
 
 -- A Maildir is sound for the texts, and so is what a power cut may leave of it.
-pub record IsSoundFor (texts : List Text) (maildir : Held) : Type 0 where
+pub record IsSoundFor (texts : List Mailbox) (maildir : HeldMaildir) : Type 0 where
   pub sound : OfEach (IsSoundAt maildir.files) texts
   pub intact : All (λ text. AreIntact text.messages maildir.may_leave) texts
 
 -- each of the texts is in the Maildir, and survives a power cut
-abbrev pub AreAllSafe : List Text → Held → Type 0
+abbrev pub AreAllSafe : List Mailbox → HeldMaildir → Type 0
 AreAllSafe texts maildir = All (λ text. AreSafe text.messages maildir.files maildir.may_leave maildir.rooted) texts
 
 -- The messages are at home, and in whatever a power cut leaves of the Maildir's files.
-pub record AreKept (ms : List Message) (maildir : Held) : Type 0 where
+pub record AreKept (ms : List Message) (maildir : HeldMaildir) : Type 0 where
   pub home : All (IsHome maildir.files) ms
   pub survive : Survive ms maildir.may_leave
 
 -- and so it is with the messages of each of the texts
-abbrev pub AreAllKept : List Text → Held → Type 0
+abbrev pub AreAllKept : List Mailbox → HeldMaildir → Type 0
 AreAllKept texts maildir = All (λ text. AreKept text.messages maildir) texts
 
 -- messages of other texts stay, where those that have the base of a message of these texts have its body
-abbrev pub OthersStay : List Text → Held → Held → Type 0
+abbrev pub OthersStay : List Mailbox → HeldMaildir → HeldMaildir → Type 0
 OthersStay texts old new = (others : List Message) → AreNamed others → All (λ text. AreAlike others text.messages) texts → Stays others old.files old.may_leave new.files new.may_leave
 
 -- behind it, a base has a home where it had one, or is one of the messages'
@@ -65,18 +65,18 @@ abbrev pub HasAlso : List Message → Files → Files → Type 0
 HasAlso ms old new = (b : List ℕ) → IsTrue (is_converter_base b) → has_home new b ≡ (is_base_of ms b || has_home old b)
 
 -- these are the bytes of the texts, in order
-abbrev pub bytes_of : List Text → List (List ℕ)
+abbrev pub bytes_of : List Mailbox → List (List ℕ)
 bytes_of texts = map (λ text. text.bytes) texts
 
 -- the texts of a conversion: one for each file, in order; where none is named, one that standard input may have had
-abbrev pub Gives : (List ℕ → List ℕ) → Option (List ℕ) → Option (List ℕ) → List (List ℕ) → List Text → Type 0
-Gives text_of before after [] texts = (text : Text) × (texts ≡ text ∷ []) × Possible before after text.bytes
-Gives text_of before after (file ∷ files) texts = bytes_of texts ≡ map text_of (file ∷ files)
+abbrev pub GivesTexts : (List ℕ → List ℕ) → Option (List ℕ) → Option (List ℕ) → List (List ℕ) → List Mailbox → Type 0
+GivesTexts text_of before after [] texts = (text : Mailbox) × (texts ≡ text ∷ []) × Possible before after text.bytes
+GivesTexts text_of before after (file ∷ files) texts = bytes_of texts ≡ map text_of (file ∷ files)
 
 -- The words are `convert MAILDIR [FILE]..`, these are the texts, which can go into one Maildir, and it is sound for them.
-pub record Converts (words : List (List ℕ)) (text_of : List ℕ → List ℕ) (before after : Option (List ℕ)) (maildir : List ℕ) (texts : List Text) (held : Held) : Type 0 where
+pub record Converts (words : List (List ℕ)) (text_of : List ℕ → List ℕ) (before after : Option (List ℕ)) (maildir : List ℕ) (texts : List Mailbox) (held : HeldMaildir) : Type 0 where
   pub files : List (List ℕ)
   pub words_are : words ≡ convert_words maildir files
-  pub given : Gives text_of before after files texts
+  pub given : GivesTexts text_of before after files texts
   pub fit : AreFit texts
   pub sound : IsSoundFor texts held

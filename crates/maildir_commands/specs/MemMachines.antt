@@ -6,7 +6,7 @@ use Rattle.maildir_run.specs.MemFolder.{IsQuiet}
 use Rattle.maildir_disk.specs.declared.mem_system.MemSystem.{MemSystem}
 use Rattle.maildir_disk.specs.MemSystem.{may_be_left, world_of}
 use Rattle.maildir_commands.specs.declared.mem_machine.NamedText.{NamedText}
-use Rattle.maildir_commands.specs.Machines.{Held, held, nothing_held}
+use Rattle.maildir_commands.specs.Machines.{HeldMaildir, held, nothing_held}
 
 -- the first text of this name, and none where no text has it
 abbrev pub text_under : List NamedText → List ℕ → List ℕ
@@ -14,14 +14,14 @@ text_under [] word = []
 text_under (named ∷ texts) word = if bytes_eq named.name.now word then named.text.now else text_under texts word
 
 -- the Maildir that is there and not open
-abbrev pub held_at : Option (Option MemSystem) → Held
+abbrev pub held_at : Option (Option MemSystem) → HeldMaildir
 held_at None = nothing_held
 held_at (Some None) = nothing_held
 held_at (Some (Some system)) = held world_of may_be_left (λ s. IsTrue s.is_rooted) system
 
 -- the Maildir under this word
-abbrev pub held_under : {X : Type 0} → BTreeMap (String X) (Option MemSystem) → List ℕ → Held
-held_under maildirs word = held_at (get_by_text maildirs word)
+abbrev pub held_under_word : {X : Type 0} → BTreeMap (String X) (Option MemSystem) → List ℕ → HeldMaildir
+held_under_word maildirs word = held_at (get_by_text maildirs word)
 
 -- none of the Maildirs follows a script
 abbrev pub AreQuiet : {X : Type 0} → BTreeMap (String X) (Option MemSystem) → Type 0

@@ -6,8 +6,8 @@ use Rattle.std.specs.List.{flat_map}
 use Rattle.mbox_text.specs.Writing.{AppendsFront}
 use Rattle.maildir_run.specs.Delivery.{is_base_of, has_home}
 use Rattle.maildir_run.specs.declared.report.Report.{Report}
-use Rattle.maildir_run.specs.Several.{Text}
-use Rattle.maildir_commands.specs.Machines.{Held, AreAllKept, AreKept}
+use Rattle.maildir_run.specs.Several.{Mailbox}
+use Rattle.maildir_commands.specs.Machines.{HeldMaildir, AreAllKept, AreKept}
 
 -- the line with the counts of a run
 abbrev pub report_line : Report → List ℕ
@@ -25,34 +25,34 @@ abbrev pub PrintsReports : Option (List ℕ) → Option (List ℕ) → ℕ → T
 PrintsReports was is runs = (reports : List Report) × (length reports ≡ runs) × Appends was is (flat_map report_line reports)
 
 -- how many messages of the text have a home, where this tells which bases have one
-abbrev pub known_count : (List ℕ → Bool) → Text → ℕ
+abbrev pub known_count : (List ℕ → Bool) → Mailbox → ℕ
 known_count has text = count_by (λ m. has m.target.base) text.messages
 
 -- A report of a run over a text: its messages, those that had a home as the run began, and those that it placed.
-pub record IsReportOf (has : List ℕ → Bool) (text : Text) (report : Report) : Type 0 where
+pub record IsReportOf (has : List ℕ → Bool) (text : Mailbox) (report : Report) : Type 0 where
   pub messages : report.messages ≡ length text.messages
   pub there : report.there ≡ known_count has text
   pub placed : report.placed ≡ length text.messages - known_count has text
 
 -- which bases have a home once a text was delivered
-abbrev pub also : (List ℕ → Bool) → Text → List ℕ → Bool
+abbrev pub also : (List ℕ → Bool) → Mailbox → List ℕ → Bool
 also has text b = is_base_of text.messages b || has b
 
 -- the reports of runs over these texts, one after the other, each where the texts before it were delivered
-abbrev pub AreReportsOf : (List ℕ → Bool) → List Text → List Report → Type 0
+abbrev pub AreReportsOf : (List ℕ → Bool) → List Mailbox → List Report → Type 0
 AreReportsOf has [] [] = Unit {0}
 AreReportsOf has [] (report ∷ reports) = ⊥
 AreReportsOf has (text ∷ texts) [] = ⊥
 AreReportsOf has (text ∷ texts) (report ∷ reports) = IsReportOf has text report × AreReportsOf (also has text) texts reports
 
 -- The line of a true report was written for each of the texts, in order.
-pub record PrintsEach (old : Held) (texts : List Text) (was is : Option (List ℕ)) : Type 0 where
+pub record PrintsEach (old : HeldMaildir) (texts : List Mailbox) (was is : Option (List ℕ)) : Type 0 where
   pub reports : List Report
   pub true_of : AreReportsOf (has_home old.files) texts reports
   pub lines : Appends was is (flat_map report_line reports)
 
 -- A front was written of the lines of true reports of some first texts, and these texts are in the Maildir.
-pub record PrintsSome (old new : Held) (texts : List Text) (was is : Option (List ℕ)) : Type 0 where
+pub record PrintsSome (old new : HeldMaildir) (texts : List Mailbox) (was is : Option (List ℕ)) : Type 0 where
   pub n : ℕ
   pub reports : List Report
   pub true_of : AreReportsOf (has_home old.files) (take n texts) reports
@@ -60,7 +60,7 @@ pub record PrintsSome (old new : Held) (texts : List Text) (was is : Option (Lis
   pub lines : AppendsFront was is (flat_map report_line reports)
 
 -- The line of a true report of the text was written, or a front of it, and the text is in the Maildir.
-pub record PrintsOne (old new : Held) (text : Text) (was is : Option (List ℕ)) : Type 0 where
+pub record PrintsOne (old new : HeldMaildir) (text : Mailbox) (was is : Option (List ℕ)) : Type 0 where
   pub report : Report
   pub true_of : IsReportOf (has_home old.files) text report
   pub kept : AreKept text.messages new

@@ -1,6 +1,6 @@
 // What the program asks of the machine that it runs on.
 ghost use Rattle.std.specs.Prelude.{◌≡◌, ℕ, List, Some, IfOk, OnOk, OnErr};
-ghost use Rattle.maildir_commands.specs.Machines.{Held, Rests, held};
+ghost use Rattle.maildir_commands.specs.Machines.{HeldMaildir, Rests, held};
 
 use maildir_disk::{OpenFault, System};
 use std::io;
@@ -19,7 +19,7 @@ pub trait Machine {
     ghost text_of: { Self → List ℕ → List ℕ };
 
     /// The Maildir that a word names, while it is not open.
-    ghost maildir_at: { Self → List ℕ → Held };
+    ghost maildir_at: { Self → List ℕ → HeldMaildir };
 
     /// The Maildir that a word names is open, by this word.
     ghost is_open: { Self → List ℕ → Type 0 };

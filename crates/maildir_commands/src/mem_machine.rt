@@ -65,7 +65,7 @@ impl<'a> MemMachine<'a> {
 }
 
 impl<'a> Machine for MemMachine<'a> {
-    ghost use Rattle.maildir_commands.specs.MemMachines.{AreQuiet, held_under, text_under};
+    ghost use Rattle.maildir_commands.specs.MemMachines.{AreQuiet, held_under_word, text_under};
 
     type Source = &'a [u8];
 
@@ -73,7 +73,7 @@ impl<'a> Machine for MemMachine<'a> {
 
     ghost text_of = { λ machine word. text_under machine.texts.now word };
 
-    ghost maildir_at = { λ machine word. held_under machine.maildirs word };
+    ghost maildir_at = { λ machine word. held_under_word machine.maildirs word };
 
     ghost is_open = { λ machine word. IsSome (get_by_text machine.maildirs word) };
 

@@ -5,15 +5,15 @@ ghost use Rattle.std.specs.Io.KnownBytes.{Appends, Keeps};
 ghost use Rattle.std.specs.List.{flat_map};
 ghost use Rattle.mbox_text.specs.Spelling.{spelling};
 ghost use Rattle.mbox_text.specs.Writing.{AppendsFront, Writes};
-ghost use Rattle.maildir_run.specs.Listing.{listing as listing_of};
+ghost use Rattle.maildir_run.specs.Table.{table_of};
 ghost use Rattle.maildir_run.specs.Output.{GivesFront};
-ghost use Rattle.maildir_run.specs.Several.{Text};
+ghost use Rattle.maildir_run.specs.Several.{Mailbox};
 ghost use Rattle.maildir_commands.specs.Faults.{told};
 ghost use Rattle.maildir_commands.specs.Machines.{AreAllSafe, Converts, OthersStay, Rests};
 ghost use Rattle.maildir_commands.specs.Report.{PrintsEach, PrintsReports, PrintsSome};
 ghost use Rattle.maildir_commands.specs.Words.{AreOfAForm, AreRewrite, convert_words};
 ghost use Rattle.maildir_commands.specs.Private.Words.{IsOf};
-ghost use Rattle.maildir_commands.specs.Written.{WritesAll, WritesFront};
+ghost use Rattle.maildir_commands.specs.Output.{WritesAll, WritesFront};
 
 use crate::command::Command;
 use crate::fault::Fault;
@@ -50,15 +50,15 @@ pub fn run<M: Machine, I: Read, W: Write + Drop, E: Write>(
     ensures rewritten { M.honest machine.old → (file : List ℕ) → map string_bytes words.now ≡ codes "rewrite" ∷ file ∷ [] → result ≡ 0 →
         WritesAll (flat_map spelling) (Some (M.text_of machine.old file)) (writer_contents W.contents out.old) (W.contents (writer_inner out.new)) }
     ensures listed_input { map string_bytes words.now ≡ codes "list" ∷ [] → result ≡ 0 →
-        WritesAll listing_of (I.remaining input.old) (writer_contents W.contents out.old) (W.contents (writer_inner out.new)) }
+        WritesAll table_of (I.remaining input.old) (writer_contents W.contents out.old) (W.contents (writer_inner out.new)) }
     ensures listed { M.honest machine.old → (file : List ℕ) → map string_bytes words.now ≡ codes "list" ∷ file ∷ [] → result ≡ 0 →
-        WritesAll listing_of (Some (M.text_of machine.old file)) (writer_contents W.contents out.old) (W.contents (writer_inner out.new)) }
+        WritesAll table_of (Some (M.text_of machine.old file)) (writer_contents W.contents out.old) (W.contents (writer_inner out.new)) }
     ensures printed { (maildir : List ℕ) (files : List (List ℕ)) → map string_bytes words.now ≡ convert_words maildir files → result ≡ 0 →
         PrintsReports (writer_contents W.contents out.old) (W.contents (writer_inner out.new)) (max 1 (length files)) }
-    ensures safe { M.honest machine.old → (maildir : List ℕ) (texts : List Text) →
+    ensures safe { M.honest machine.old → (maildir : List ℕ) (texts : List Mailbox) →
         Converts (map string_bytes words.now) (M.text_of machine.old) (I.remaining input.old) (I.remaining input.new) maildir texts (M.maildir_at machine.old maildir) →
         result ≡ 0 → AreAllSafe texts (M.maildir_at machine.new maildir) }
-    ensures each { M.honest machine.old → (maildir : List ℕ) (texts : List Text) →
+    ensures each { M.honest machine.old → (maildir : List ℕ) (texts : List Mailbox) →
         Converts (map string_bytes words.now) (M.text_of machine.old) (I.remaining input.old) (I.remaining input.new) maildir texts (M.maildir_at machine.old maildir) →
         result ≡ 0 → PrintsEach (M.maildir_at machine.old maildir) texts (writer_contents W.contents out.old) (W.contents (writer_inner out.new)) }
 
@@ -66,8 +66,8 @@ pub fn run<M: Machine, I: Read, W: Write + Drop, E: Write>(
     ensures rewritten_front { M.honest machine.old → (file : List ℕ) → map string_bytes words.now ≡ codes "rewrite" ∷ file ∷ [] → result ≡ 1 →
         WritesFront (flat_map spelling) (M.text_of machine.old file) (writer_contents W.contents out.old) (writer_contents W.contents out.new) }
     ensures listed_front { M.honest machine.old → (file : List ℕ) → map string_bytes words.now ≡ codes "list" ∷ file ∷ [] → result ≡ 1 →
-        WritesFront listing_of (M.text_of machine.old file) (writer_contents W.contents out.old) (writer_contents W.contents out.new) }
-    ensures some { M.honest machine.old → (maildir : List ℕ) (texts : List Text) →
+        WritesFront table_of (M.text_of machine.old file) (writer_contents W.contents out.old) (writer_contents W.contents out.new) }
+    ensures some { M.honest machine.old → (maildir : List ℕ) (texts : List Mailbox) →
         Converts (map string_bytes words.now) (M.text_of machine.old) (I.remaining input.old) (I.remaining input.new) maildir texts (M.maildir_at machine.old maildir) →
         result ≡ 1 → PrintsSome (M.maildir_at machine.old maildir) (M.maildir_at machine.new maildir) texts (writer_contents W.contents out.old) (writer_contents W.contents out.new) }
 
@@ -79,7 +79,7 @@ pub fn run<M: Machine, I: Read, W: Write + Drop, E: Write>(
 
     // whatever the status: nothing else is touched
     ensures texts { M.honest machine.old → M.text_of machine.new ≡ M.text_of machine.old }
-    ensures stay { M.honest machine.old → (maildir : List ℕ) (texts : List Text) →
+    ensures stay { M.honest machine.old → (maildir : List ℕ) (texts : List Mailbox) →
         Converts (map string_bytes words.now) (M.text_of machine.old) (I.remaining input.old) (I.remaining input.new) maildir texts (M.maildir_at machine.old maildir) →
         OthersStay texts (M.maildir_at machine.old maildir) (M.maildir_at machine.new maildir) }
     ensures elsewhere { M.honest machine.old → (maildir word : List ℕ) (files : List (List ℕ)) → map string_bytes words.now ≡ convert_words maildir files → ¬ M.same maildir word →
@@ -122,25 +122,25 @@ fn perform<M: Machine, I: Read, W: Write + Drop>(
     ensures rewritten_input { (words : List (List ℕ)) → IsOf command.entry words → AreRewrite words → OnOk result (WritesAll (flat_map spelling) (I.remaining input.old) (writer_contents W.contents out.old) (W.contents (writer_inner out.new))) }
     ensures rewritten { M.honest machine.old → (file : List ℕ) → IsOf command.entry (codes "rewrite" ∷ file ∷ []) →
         OnOk result (WritesAll (flat_map spelling) (Some (M.text_of machine.old file)) (writer_contents W.contents out.old) (W.contents (writer_inner out.new))) }
-    ensures listed_input { IsOf command.entry (codes "list" ∷ []) → OnOk result (WritesAll listing_of (I.remaining input.old) (writer_contents W.contents out.old) (W.contents (writer_inner out.new))) }
+    ensures listed_input { IsOf command.entry (codes "list" ∷ []) → OnOk result (WritesAll table_of (I.remaining input.old) (writer_contents W.contents out.old) (W.contents (writer_inner out.new))) }
     ensures listed { M.honest machine.old → (file : List ℕ) → IsOf command.entry (codes "list" ∷ file ∷ []) →
-        OnOk result (WritesAll listing_of (Some (M.text_of machine.old file)) (writer_contents W.contents out.old) (W.contents (writer_inner out.new))) }
+        OnOk result (WritesAll table_of (Some (M.text_of machine.old file)) (writer_contents W.contents out.old) (W.contents (writer_inner out.new))) }
     ensures printed { (maildir : List ℕ) (files : List (List ℕ)) → IsOf command.entry (convert_words maildir files) →
         OnOk result (PrintsReports (writer_contents W.contents out.old) (W.contents (writer_inner out.new)) (max 1 (length files))) }
-    ensures safe { M.honest machine.old → (words : List (List ℕ)) (maildir : List ℕ) (texts : List Text) → IsOf command.entry words →
+    ensures safe { M.honest machine.old → (words : List (List ℕ)) (maildir : List ℕ) (texts : List Mailbox) → IsOf command.entry words →
         Converts words (M.text_of machine.old) (I.remaining input.old) (I.remaining input.new) maildir texts (M.maildir_at machine.old maildir) → OnOk result (AreAllSafe texts (M.maildir_at machine.new maildir)) }
-    ensures each { M.honest machine.old → (words : List (List ℕ)) (maildir : List ℕ) (texts : List Text) → IsOf command.entry words →
+    ensures each { M.honest machine.old → (words : List (List ℕ)) (maildir : List ℕ) (texts : List Mailbox) → IsOf command.entry words →
         Converts words (M.text_of machine.old) (I.remaining input.old) (I.remaining input.new) maildir texts (M.maildir_at machine.old maildir) →
         OnOk result (PrintsEach (M.maildir_at machine.old maildir) texts (writer_contents W.contents out.old) (W.contents (writer_inner out.new))) }
     ensures rewritten_front { M.honest machine.old → (file : List ℕ) → IsOf command.entry (codes "rewrite" ∷ file ∷ []) →
         OnErr result (WritesFront (flat_map spelling) (M.text_of machine.old file) (writer_contents W.contents out.old) (writer_contents W.contents out.new)) }
     ensures listed_front { M.honest machine.old → (file : List ℕ) → IsOf command.entry (codes "list" ∷ file ∷ []) →
-        OnErr result (WritesFront listing_of (M.text_of machine.old file) (writer_contents W.contents out.old) (writer_contents W.contents out.new)) }
-    ensures some { M.honest machine.old → (words : List (List ℕ)) (maildir : List ℕ) (texts : List Text) → IsOf command.entry words →
+        OnErr result (WritesFront table_of (M.text_of machine.old file) (writer_contents W.contents out.old) (writer_contents W.contents out.new)) }
+    ensures some { M.honest machine.old → (words : List (List ℕ)) (maildir : List ℕ) (texts : List Mailbox) → IsOf command.entry words →
         Converts words (M.text_of machine.old) (I.remaining input.old) (I.remaining input.new) maildir texts (M.maildir_at machine.old maildir) →
         OnErr result (PrintsSome (M.maildir_at machine.old maildir) (M.maildir_at machine.new maildir) texts (writer_contents W.contents out.old) (writer_contents W.contents out.new)) }
     ensures texts { M.honest machine.old → M.text_of machine.new ≡ M.text_of machine.old }
-    ensures stay { M.honest machine.old → (words : List (List ℕ)) (maildir : List ℕ) (texts : List Text) → IsOf command.entry words →
+    ensures stay { M.honest machine.old → (words : List (List ℕ)) (maildir : List ℕ) (texts : List Mailbox) → IsOf command.entry words →
         Converts words (M.text_of machine.old) (I.remaining input.old) (I.remaining input.new) maildir texts (M.maildir_at machine.old maildir) → OthersStay texts (M.maildir_at machine.old maildir) (M.maildir_at machine.new maildir) }
     ensures elsewhere { M.honest machine.old → (words : List (List ℕ)) (maildir word : List ℕ) (files : List (List ℕ)) → IsOf command.entry words → words ≡ convert_words maildir files → ¬ M.same maildir word →
         Rests (M.maildir_at machine.old word) (M.maildir_at machine.new word) }
@@ -164,25 +164,25 @@ fn work<M: Machine, I: Read, W: Write + Drop>(
     ensures rewritten_input { (words : List (List ℕ)) → IsOf command.entry words → AreRewrite words → OnOk result (WritesAll (flat_map spelling) (I.remaining input.old) (writer_contents W.contents out.old) (writer_contents W.contents out.new)) }
     ensures rewritten { M.honest machine.old → (file : List ℕ) → IsOf command.entry (codes "rewrite" ∷ file ∷ []) →
         OnOk result (WritesAll (flat_map spelling) (Some (M.text_of machine.old file)) (writer_contents W.contents out.old) (writer_contents W.contents out.new)) }
-    ensures listed_input { IsOf command.entry (codes "list" ∷ []) → OnOk result (WritesAll listing_of (I.remaining input.old) (writer_contents W.contents out.old) (writer_contents W.contents out.new)) }
+    ensures listed_input { IsOf command.entry (codes "list" ∷ []) → OnOk result (WritesAll table_of (I.remaining input.old) (writer_contents W.contents out.old) (writer_contents W.contents out.new)) }
     ensures listed { M.honest machine.old → (file : List ℕ) → IsOf command.entry (codes "list" ∷ file ∷ []) →
-        OnOk result (WritesAll listing_of (Some (M.text_of machine.old file)) (writer_contents W.contents out.old) (writer_contents W.contents out.new)) }
+        OnOk result (WritesAll table_of (Some (M.text_of machine.old file)) (writer_contents W.contents out.old) (writer_contents W.contents out.new)) }
     ensures printed { (maildir : List ℕ) (files : List (List ℕ)) → IsOf command.entry (convert_words maildir files) →
         OnOk result (PrintsReports (writer_contents W.contents out.old) (writer_contents W.contents out.new) (max 1 (length files))) }
-    ensures safe { M.honest machine.old → (words : List (List ℕ)) (maildir : List ℕ) (texts : List Text) → IsOf command.entry words →
+    ensures safe { M.honest machine.old → (words : List (List ℕ)) (maildir : List ℕ) (texts : List Mailbox) → IsOf command.entry words →
         Converts words (M.text_of machine.old) (I.remaining input.old) (I.remaining input.new) maildir texts (M.maildir_at machine.old maildir) → OnOk result (AreAllSafe texts (M.maildir_at machine.new maildir)) }
-    ensures each { M.honest machine.old → (words : List (List ℕ)) (maildir : List ℕ) (texts : List Text) → IsOf command.entry words →
+    ensures each { M.honest machine.old → (words : List (List ℕ)) (maildir : List ℕ) (texts : List Mailbox) → IsOf command.entry words →
         Converts words (M.text_of machine.old) (I.remaining input.old) (I.remaining input.new) maildir texts (M.maildir_at machine.old maildir) →
         OnOk result (PrintsEach (M.maildir_at machine.old maildir) texts (writer_contents W.contents out.old) (writer_contents W.contents out.new)) }
     ensures rewritten_front { M.honest machine.old → (file : List ℕ) → IsOf command.entry (codes "rewrite" ∷ file ∷ []) →
         OnErr result (WritesFront (flat_map spelling) (M.text_of machine.old file) (writer_contents W.contents out.old) (writer_contents W.contents out.new)) }
     ensures listed_front { M.honest machine.old → (file : List ℕ) → IsOf command.entry (codes "list" ∷ file ∷ []) →
-        OnErr result (WritesFront listing_of (M.text_of machine.old file) (writer_contents W.contents out.old) (writer_contents W.contents out.new)) }
-    ensures some { M.honest machine.old → (words : List (List ℕ)) (maildir : List ℕ) (texts : List Text) → IsOf command.entry words →
+        OnErr result (WritesFront table_of (M.text_of machine.old file) (writer_contents W.contents out.old) (writer_contents W.contents out.new)) }
+    ensures some { M.honest machine.old → (words : List (List ℕ)) (maildir : List ℕ) (texts : List Mailbox) → IsOf command.entry words →
         Converts words (M.text_of machine.old) (I.remaining input.old) (I.remaining input.new) maildir texts (M.maildir_at machine.old maildir) →
         OnErr result (PrintsSome (M.maildir_at machine.old maildir) (M.maildir_at machine.new maildir) texts (writer_contents W.contents out.old) (writer_contents W.contents out.new)) }
     ensures texts { M.honest machine.old → M.text_of machine.new ≡ M.text_of machine.old }
-    ensures stay { M.honest machine.old → (words : List (List ℕ)) (maildir : List ℕ) (texts : List Text) → IsOf command.entry words →
+    ensures stay { M.honest machine.old → (words : List (List ℕ)) (maildir : List ℕ) (texts : List Mailbox) → IsOf command.entry words →
         Converts words (M.text_of machine.old) (I.remaining input.old) (I.remaining input.new) maildir texts (M.maildir_at machine.old maildir) → OthersStay texts (M.maildir_at machine.old maildir) (M.maildir_at machine.new maildir) }
     ensures elsewhere { M.honest machine.old → (words : List (List ℕ)) (maildir word : List ℕ) (files : List (List ℕ)) → IsOf command.entry words → words ≡ convert_words maildir files → ¬ M.same maildir word →
         Rests (M.maildir_at machine.old word) (M.maildir_at machine.new word) }
@@ -229,11 +229,11 @@ fn write_list<M: Machine, I: Read, W: Write>(
     input: &mut I,
     out: &mut W,
 ) -> Result<(), Fault>
-    ensures all { IsNone file.entry → OnOk result (WritesAll listing_of (I.remaining input.old) (W.contents out.old) (W.contents out.new)) }
-    ensures front { IsNone file.entry → OnErr result (GivesFront listing_of (I.remaining input.old) (I.remaining input.new) (W.contents out.old) (W.contents out.new)) }
+    ensures all { IsNone file.entry → OnOk result (WritesAll table_of (I.remaining input.old) (W.contents out.old) (W.contents out.new)) }
+    ensures front { IsNone file.entry → OnErr result (GivesFront table_of (I.remaining input.old) (I.remaining input.new) (W.contents out.old) (W.contents out.new)) }
     ensures unread { IsSome file.entry → I.remaining input.new ≡ I.remaining input.old }
-    ensures named { M.honest machine.old → IfSome file.entry (λ path. OnOk result (WritesAll listing_of (Some (M.text_of machine.old path.now)) (W.contents out.old) (W.contents out.new))) }
-    ensures front_named { M.honest machine.old → IfSome file.entry (λ path. OnErr result (WritesFront listing_of (M.text_of machine.old path.now) (W.contents out.old) (W.contents out.new))) }
+    ensures named { M.honest machine.old → IfSome file.entry (λ path. OnOk result (WritesAll table_of (Some (M.text_of machine.old path.now)) (W.contents out.old) (W.contents out.new))) }
+    ensures front_named { M.honest machine.old → IfSome file.entry (λ path. OnErr result (WritesFront table_of (M.text_of machine.old path.now) (W.contents out.old) (W.contents out.new))) }
     ensures texts { M.honest machine.old → M.text_of machine.new ≡ M.text_of machine.old }
     ensures rests { M.honest machine.old → (word : List ℕ) → Rests (M.maildir_at machine.old word) (M.maildir_at machine.new word) }
 {

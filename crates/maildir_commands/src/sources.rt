@@ -6,15 +6,15 @@ ghost use Rattle.mbox_text.specs.Writing.{Writes};
 ghost use Rattle.maildir_name.specs.Names.{is_converter_base};
 ghost use Rattle.maildir_run.specs.Alone.{alone as alone_after};
 ghost use Rattle.maildir_run.specs.Delivery.{AreNamed, IsSoundAt, Message, has_home};
-ghost use Rattle.maildir_run.specs.Quietly.{LeavesOthers};
+ghost use Rattle.maildir_run.specs.Foreign.{KeepsForeign};
 ghost use Rattle.maildir_run.specs.Reading.{ReadsAtMost};
-ghost use Rattle.maildir_run.specs.Runs.{CountsRun, Possible, Reports};
-ghost use Rattle.maildir_run.specs.Several.{Text, IsText};
+ghost use Rattle.maildir_run.specs.Runs.{CountsRun, Possible, ReportsMessages};
+ghost use Rattle.maildir_run.specs.Several.{Mailbox, IsMailbox};
 ghost use Rattle.maildir_run.specs.Texts.{MessagesOf};
 ghost use Rattle.maildir_disk.specs.Others.{Stays};
 ghost use Rattle.maildir_disk.specs.Paths.{system_of};
 ghost use Rattle.maildir_disk.specs.PowerCuts.{AreAlike, AreIntact, AreSafe, Survive};
-ghost use Rattle.maildir_commands.specs.Machines.{AreAllSafe, AreFit, Gives, HasAlso, IsSoundFor, OthersStay, Rests, bytes_of, held};
+ghost use Rattle.maildir_commands.specs.Machines.{AreAllSafe, AreFit, GivesTexts, HasAlso, IsSoundFor, OthersStay, Rests, bytes_of, held};
 ghost use Rattle.maildir_commands.specs.Report.{IsReportOf, PrintsEach, PrintsOne, PrintsReport, PrintsReports, PrintsSome, also, report_line};
 
 use crate::fault::Fault;
@@ -67,15 +67,15 @@ pub(crate) fn deliver_sources<M: Machine, I: Read, W: Write + Drop>(
     ensures elsewhere { M.honest machine.old → (word : List ℕ) → ¬ M.same maildir.now word → Rests (M.maildir_at machine.old word) (M.maildir_at machine.new word) }
 
     // and where the texts can go into the Maildir
-    ensures safe { M.honest machine.old → (texts : List Text) → Gives (M.text_of machine.old) (I.remaining input.old) (I.remaining input.new) (map string_bytes files.now) texts →
+    ensures safe { M.honest machine.old → (texts : List Mailbox) → GivesTexts (M.text_of machine.old) (I.remaining input.old) (I.remaining input.new) (map string_bytes files.now) texts →
         AreFit texts → IsSoundFor texts (M.maildir_at machine.old maildir.now) → OnOk result (AreAllSafe texts (M.maildir_at machine.new maildir.now)) }
-    ensures each { M.honest machine.old → (texts : List Text) → Gives (M.text_of machine.old) (I.remaining input.old) (I.remaining input.new) (map string_bytes files.now) texts →
+    ensures each { M.honest machine.old → (texts : List Mailbox) → GivesTexts (M.text_of machine.old) (I.remaining input.old) (I.remaining input.new) (map string_bytes files.now) texts →
         AreFit texts → IsSoundFor texts (M.maildir_at machine.old maildir.now) →
         OnOk result (PrintsEach (M.maildir_at machine.old maildir.now) texts (writer_contents W.contents out.old) (writer_contents W.contents out.new)) }
-    ensures some { M.honest machine.old → (texts : List Text) → Gives (M.text_of machine.old) (I.remaining input.old) (I.remaining input.new) (map string_bytes files.now) texts →
+    ensures some { M.honest machine.old → (texts : List Mailbox) → GivesTexts (M.text_of machine.old) (I.remaining input.old) (I.remaining input.new) (map string_bytes files.now) texts →
         AreFit texts → IsSoundFor texts (M.maildir_at machine.old maildir.now) →
         OnErr result (PrintsSome (M.maildir_at machine.old maildir.now) (M.maildir_at machine.new maildir.now) texts (writer_contents W.contents out.old) (writer_contents W.contents out.new)) }
-    ensures stay { M.honest machine.old → (texts : List Text) → Gives (M.text_of machine.old) (I.remaining input.old) (I.remaining input.new) (map string_bytes files.now) texts →
+    ensures stay { M.honest machine.old → (texts : List Mailbox) → GivesTexts (M.text_of machine.old) (I.remaining input.old) (I.remaining input.new) (map string_bytes files.now) texts →
         AreFit texts → IsSoundFor texts (M.maildir_at machine.old maildir.now) → OthersStay texts (M.maildir_at machine.old maildir.now) (M.maildir_at machine.new maildir.now) }
 {
     let Some((first, rest)) = files.split_first() else {
@@ -105,20 +105,20 @@ fn deliver_each<M: Machine, W: Write + Drop>(
     ensures elsewhere { M.honest machine.old → (word : List ℕ) → Rests (M.maildir_at machine.old word) (M.maildir_at machine.new word) }
     ensures still_open { M.honest machine.old → (word : List ℕ) → M.is_open machine.old word → M.is_open machine.new word }
     ensures printed { OnOk result (PrintsReports (writer_contents W.contents out.old) (writer_contents W.contents out.new) (1 + length rest.now)) }
-    ensures safe { M.honest machine.old → M.Maildir.honest (system_of folder.old) → (texts : List Text) (text : List ℕ) → M.Source.remaining first.old ≡ Some text →
+    ensures safe { M.honest machine.old → M.Maildir.honest (system_of folder.old) → (texts : List Mailbox) (text : List ℕ) → M.Source.remaining first.old ≡ Some text →
         bytes_of texts ≡ text ∷ map (λ file. M.text_of machine.old (string_bytes file)) rest.now → AreFit texts →
         IsSoundFor texts (held M.Maildir.world M.Maildir.may_leave M.Maildir.rooted (system_of folder.old)) →
         OnOk result (AreAllSafe texts (held M.Maildir.world M.Maildir.may_leave M.Maildir.rooted (system_of folder.new))) }
-    ensures each { M.honest machine.old → M.Maildir.honest (system_of folder.old) → (texts : List Text) (text : List ℕ) → M.Source.remaining first.old ≡ Some text →
+    ensures each { M.honest machine.old → M.Maildir.honest (system_of folder.old) → (texts : List Mailbox) (text : List ℕ) → M.Source.remaining first.old ≡ Some text →
         bytes_of texts ≡ text ∷ map (λ file. M.text_of machine.old (string_bytes file)) rest.now → AreFit texts →
         IsSoundFor texts (held M.Maildir.world M.Maildir.may_leave M.Maildir.rooted (system_of folder.old)) →
         OnOk result (PrintsEach (held M.Maildir.world M.Maildir.may_leave M.Maildir.rooted (system_of folder.old)) texts (writer_contents W.contents out.old) (writer_contents W.contents out.new)) }
-    ensures some { M.honest machine.old → M.Maildir.honest (system_of folder.old) → (texts : List Text) (text : List ℕ) → M.Source.remaining first.old ≡ Some text →
+    ensures some { M.honest machine.old → M.Maildir.honest (system_of folder.old) → (texts : List Mailbox) (text : List ℕ) → M.Source.remaining first.old ≡ Some text →
         bytes_of texts ≡ text ∷ map (λ file. M.text_of machine.old (string_bytes file)) rest.now → AreFit texts →
         IsSoundFor texts (held M.Maildir.world M.Maildir.may_leave M.Maildir.rooted (system_of folder.old)) →
         OnErr result (PrintsSome (held M.Maildir.world M.Maildir.may_leave M.Maildir.rooted (system_of folder.old)) (held M.Maildir.world M.Maildir.may_leave M.Maildir.rooted (system_of folder.new))
         texts (writer_contents W.contents out.old) (writer_contents W.contents out.new)) }
-    ensures stay { M.honest machine.old → M.Maildir.honest (system_of folder.old) → (texts : List Text) (text : List ℕ) → M.Source.remaining first.old ≡ Some text →
+    ensures stay { M.honest machine.old → M.Maildir.honest (system_of folder.old) → (texts : List Mailbox) (text : List ℕ) → M.Source.remaining first.old ≡ Some text →
         bytes_of texts ≡ text ∷ map (λ file. M.text_of machine.old (string_bytes file)) rest.now → AreFit texts →
         IsSoundFor texts (held M.Maildir.world M.Maildir.may_leave M.Maildir.rooted (system_of folder.old)) →
         OthersStay texts (held M.Maildir.world M.Maildir.may_leave M.Maildir.rooted (system_of folder.old)) (held M.Maildir.world M.Maildir.may_leave M.Maildir.rooted (system_of folder.new)) }
@@ -143,16 +143,16 @@ fn deliver_one<S: System, I: Read, W: Write + Drop>(
     ensures end { OnOk result (IsAtEnd (I.remaining source.new)) }
     ensures budget { ReadsAtMost (I.remaining source.old) (I.remaining source.new) (2 ^ 56) }
     ensures honest { S.honest (system_of folder.old) → OnOk result (S.honest (system_of folder.new)) }
-    ensures safe { S.honest (system_of folder.old) → (text : Text) → IsText text → Possible (I.remaining source.old) (I.remaining source.new) text.bytes →
+    ensures safe { S.honest (system_of folder.old) → (text : Mailbox) → IsMailbox text → Possible (I.remaining source.old) (I.remaining source.new) text.bytes →
         IsSoundFor (text ∷ []) (held S.world S.may_leave S.rooted (system_of folder.old)) → OnOk result (AreSafe text.messages (S.world (system_of folder.new)).files (S.may_leave (system_of folder.new)) (S.rooted (system_of folder.new))) }
-    ensures line { S.honest (system_of folder.old) → (text : Text) → IsText text → Possible (I.remaining source.old) (I.remaining source.new) text.bytes →
+    ensures line { S.honest (system_of folder.old) → (text : Mailbox) → IsMailbox text → Possible (I.remaining source.old) (I.remaining source.new) text.bytes →
         IsSoundFor (text ∷ []) (held S.world S.may_leave S.rooted (system_of folder.old)) → OnOk result (PrintsReport (writer_contents W.contents out.old) (writer_contents W.contents out.new) (IsReportOf (has_home (S.world (system_of folder.old)).files) text)) }
-    ensures known { S.honest (system_of folder.old) → (text : Text) → IsText text → Possible (I.remaining source.old) (I.remaining source.new) text.bytes →
+    ensures known { S.honest (system_of folder.old) → (text : Mailbox) → IsMailbox text → Possible (I.remaining source.old) (I.remaining source.new) text.bytes →
         IsSoundFor (text ∷ []) (held S.world S.may_leave S.rooted (system_of folder.old)) → OnOk result (HasAlso text.messages (S.world (system_of folder.old)).files (S.world (system_of folder.new)).files) }
-    ensures stopped { S.honest (system_of folder.old) → (text : Text) → IsText text → Possible (I.remaining source.old) (I.remaining source.new) text.bytes →
+    ensures stopped { S.honest (system_of folder.old) → (text : Mailbox) → IsMailbox text → Possible (I.remaining source.old) (I.remaining source.new) text.bytes →
         IsSoundFor (text ∷ []) (held S.world S.may_leave S.rooted (system_of folder.old)) → OnErr result (Keeps (writer_contents W.contents out.old) (writer_contents W.contents out.new)
         ⊎ PrintsOne (held S.world S.may_leave S.rooted (system_of folder.old)) (held S.world S.may_leave S.rooted (system_of folder.new)) text (writer_contents W.contents out.old) (writer_contents W.contents out.new)) }
-    ensures stays { S.honest (system_of folder.old) → (text : Text) → IsText text → Possible (I.remaining source.old) (I.remaining source.new) text.bytes →
+    ensures stays { S.honest (system_of folder.old) → (text : Mailbox) → IsMailbox text → Possible (I.remaining source.old) (I.remaining source.new) text.bytes →
         IsSoundFor (text ∷ []) (held S.world S.may_leave S.rooted (system_of folder.old)) → OthersStay (text ∷ []) (held S.world S.may_leave S.rooted (system_of folder.old)) (held S.world S.may_leave S.rooted (system_of folder.new)) }
 {
     deliver(alloc, folder, source, out)?;
@@ -176,7 +176,7 @@ pub fn deliver<S: System, I: Read, W: Write>(
     // assumed and the folder began sound for the text
     ensures printed { let f = ⟦<DiskFolder<S> as Folder>⟧ in OnOk result (PrintsReport (W.contents out.old) (W.contents out.new) (λ report.
         CountsRun report (f.calls folder.old) (f.calls folder.new) × (f.honest folder.old → (t : List ℕ) (ms : List Message) → length t < 2 ^ 63 →
-        Possible (I.remaining source.old) (I.remaining source.new) t → MessagesOf t ms → All (IsSoundAt (f.files folder.old)) ms → Reports ms (f.files folder.old) report))) }
+        Possible (I.remaining source.old) (I.remaining source.new) t → MessagesOf t ms → All (IsSoundAt (f.files folder.old)) ms → ReportsMessages ms (f.files folder.old) report))) }
 
     // where the system does as assumed, and the folder began sound for the text
     ensures honest { ⟦<DiskFolder<S> as Folder>⟧.honest folder.old → OnOk result (⟦<DiskFolder<S> as Folder>⟧.honest folder.new) }
@@ -206,11 +206,11 @@ pub fn deliver<S: System, I: Read, W: Write>(
         Possible (I.remaining source.old) (I.remaining source.new) t → MessagesOf t ms → All (IsSoundAt (f.files folder.old)) ms →
         OnOk result (HasAlso ms (f.files folder.old) (f.files folder.new)) }
 
-    // where nobody disturbs it
+    // where the folder is quiet
     ensures quiet { ⟦<DiskFolder<S> as Folder>⟧.quiet folder.old → OnOk result (⟦<DiskFolder<S> as Folder>⟧.quiet folder.new) }
     ensures alone { let f = ⟦<DiskFolder<S> as Folder>⟧ in f.quiet folder.old → (t : List ℕ) (ms : List Message) →
         Possible (I.remaining source.old) (I.remaining source.new) t → MessagesOf t ms → OnOk result (f.files folder.new ≡ alone_after ms (f.files folder.old)) }
-    ensures others { let f = ⟦<DiskFolder<S> as Folder>⟧ in f.quiet folder.old → LeavesOthers (f.files folder.old) (f.files folder.new) }
+    ensures others { let f = ⟦<DiskFolder<S> as Folder>⟧ in f.quiet folder.old → KeepsForeign (f.files folder.old) (f.files folder.new) }
 {
     let report = convert(alloc, folder, source, READS)?;
     folder

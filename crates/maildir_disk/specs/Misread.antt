@@ -3,7 +3,7 @@ use Rattle.std.specs.Prelude.{◌≡◌, ℕ, [], IsPermutation}
 use Rattle.std.specs.FinMap.{keys}
 use Rattle.maildir_run.specs.declared.folder.Sub.TheVariants.{New}
 use Rattle.maildir_run.specs.Calls.{folder_of}
-use Rattle.maildir_disk.specs.World.{World, Passes, Reads}
+use Rattle.maildir_disk.specs.World.{World, Passes, ReadsNames}
 
 -- A reading from one time to another, of a folder that has this stamp before and after it, finds no name, though a file is there: all as is assumed of a system.
 pub record Misread (now later stamp : ℕ) : Type 0 where
@@ -14,5 +14,5 @@ pub record Misread (now later stamp : ℕ) : Type 0 where
   pub stamped : old.stamp_of New ≡ stamp
   pub same : new.stamp_of New ≡ stamp
   pub passes : Passes New old new
-  pub reads : Reads New old [] new
+  pub reads : ReadsNames New old [] new
   pub missed : ¬ IsPermutation [] (keys (folder_of New old.files))

@@ -9,9 +9,9 @@ use Rattle.maildir_run.specs.declared.report.Report.{Report}
 use Rattle.maildir_run.specs.Calls.{Listing, folder_of}
 use Rattle.maildir_run.specs.Cuts.{Leaves}
 use Rattle.maildir_run.specs.Delivery.{Message, IsHome}
-use Rattle.maildir_run.specs.Files.{Files, Action, acted, all_acted, homes, LeavesHomes}
-use Rattle.maildir_run.specs.Runs.{Chain, Run}
-use Rattle.maildir_run.specs.Tasks.{Names, Performs, leaving, planned_tasks}
+use Rattle.maildir_run.specs.Files.{Files, Action, acted, all_acted, homes, KeepsHomes}
+use Rattle.maildir_run.specs.Runs.{Chain, IsRun}
+use Rattle.maildir_run.specs.Tasks.{Listings, Performs, leaving, planned_tasks}
 use Rattle.maildir_run.specs.Texts.{MessagesOf}
 
 -- whatever is found of the message in `new` or `cur` holds its body
@@ -45,8 +45,8 @@ abbrev pub IsSingle : Files → Files → Type 0
 IsSingle s left = (b : List ℕ) → IsTrue (is_converter_base b) → length (homes left b) ≤ length (homes s b)
 
 -- what a cut leaves while other programs act, and nothing else happens
-abbrev pub LeavesOthers : Files → Files → Type 0
-LeavesOthers = Leaves (Listing Tmp)
+abbrev pub LeftByOthers : Files → Files → Type 0
+LeftByOthers = Leaves (Listing Tmp)
 
 -- a converter's file of this name in `tmp` is found with what it holds, wherever it is found
 abbrev pub KeepsHeld : List ℕ → Files → (Files → Type 0) → Type 0
@@ -61,18 +61,18 @@ pub record KeepsNames (sub : Sub) (old before new left : Files) : Type 0 where
   pub new_is : new ≡ all_acted rest moment
   -- what a cut left at that moment
   pub there : Files
-  pub earlier : LeavesOthers before there
-  pub later : LeavesOthers there left
+  pub earlier : LeftByOthers before there
+  pub later : LeftByOthers there left
   pub names_are : (name : List ℕ) → IsTrue (is_converter_name name) → contains_key (folder_of sub there) name ≡ contains_key (folder_of sub moment) name
 
 -- a folder at one moment: its files, and what a cut would leave
-pub record Moment : Type 0 where
+pub record FilesAndLeft : Type 0 where
   pub files : Files
   pub left : Files
 
 -- A sync of the Maildir that answered Ok: the names in `new` were kept, and then those in `cur`, of what a cut left before it and of what one leaves after it.
 pub record Syncs (old before new left : Files) : Type 0 where
-  pub mid : Moment
+  pub mid : FilesAndLeft
   pub first : KeepsNames New old before mid.files mid.left
   pub then : KeepsNames Cur mid.files mid.left new left
 
@@ -83,19 +83,19 @@ pub data Event : Type 0 where
   Cut : Event
 
 -- A cut left what it would have left, each file under one name, and a later one would leave the same.
-pub record IsCut (old new : Moment) : Type 0 where
-  pub found : LeavesHomes old.left new.files
-  pub stays : LeavesHomes new.files new.left
+pub record IsCut (old new : FilesAndLeft) : Type 0 where
+  pub found : KeepsHomes old.left new.files
+  pub stays : KeepsHomes new.files new.left
   pub single : IsSingle old.files old.left
 
 -- an event leads from one moment to another
-abbrev pub Happens : List ℕ → Event → Moment → Moment → Type 0
+abbrev pub Happens : List ℕ → Event → FilesAndLeft → FilesAndLeft → Type 0
 Happens t (Ran answer) old new =
-    Run t old.files answer new.files
-    × ((ms : List Message) → MessagesOf t ms → (names : Names) × Performs leaving (planned_tasks names ms) old.left answer new.left)
-Happens t (Acted action) old new = (new.files ≡ acted action old.files) × LeavesOthers old.left new.left
+    IsRun t old.files answer new.files
+    × ((ms : List Message) → MessagesOf t ms → (names : Listings) × Performs leaving (planned_tasks names ms) old.left answer new.left)
+Happens t (Acted action) old new = (new.files ≡ acted action old.files) × LeftByOthers old.left new.left
 Happens t Cut old new = IsCut old new
 
 -- a finite chain of runs over a text, with any answers, of other programs' actions and of power cuts
-abbrev pub Happen : List ℕ → List Event → Moment → Moment → Type 0
+abbrev pub Happen : List ℕ → List Event → FilesAndLeft → FilesAndLeft → Type 0
 Happen t = Chain (Happens t)

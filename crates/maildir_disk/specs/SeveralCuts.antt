@@ -5,13 +5,13 @@ use Rattle.maildir_run.specs.declared.report.Report.{Report}
 use Rattle.maildir_run.specs.Delivery.{IsMissing}
 use Rattle.maildir_run.specs.Files.{Action}
 use Rattle.maildir_run.specs.Runs.{Chain}
-use Rattle.maildir_run.specs.Several.{Text, IsText, OfEach}
-use Rattle.maildir_disk.specs.PowerCuts.{Moment, Syncs, Ran, Acted, Cut, Happens}
+use Rattle.maildir_run.specs.Several.{Mailbox, IsMailbox, OfEach}
+use Rattle.maildir_disk.specs.PowerCuts.{FilesAndLeft, Syncs, Ran, Acted, Cut, Happens}
 
 -- what comes to a folder into which several texts go
 pub data EventOver : Type 0 where
   -- a run over one of them, with this answer
-  RanOver : (text : Text) → (answer : Result Report RunFault) → EventOver
+  RanOver : (text : Mailbox) → (answer : Result Report RunFault) → EventOver
   -- an action of another program
   ActedOver : (action : Action) → EventOver
   -- a sync that answered Ok; one that did not is what other programs did meanwhile
@@ -20,19 +20,19 @@ pub data EventOver : Type 0 where
   CutOver : EventOver
 
 -- an event leads from one moment to another
-abbrev pub HappensOver : List Text → EventOver → Moment → Moment → Type 0
+abbrev pub HappensOver : List Mailbox → EventOver → FilesAndLeft → FilesAndLeft → Type 0
 HappensOver texts (RanOver text answer) old new = Contains texts text × Happens text.bytes (Ran answer) old new
 HappensOver texts (ActedOver action) old new = Happens [] (Acted action) old new
 HappensOver texts SyncedOver old new = Syncs old.files old.left new.files new.left
 HappensOver texts CutOver old new = Happens [] Cut old new
 
 -- a finite chain of runs over any of the texts, with any answers, of other programs' actions, of syncs and of power cuts
-abbrev pub HappenOver : List Text → List EventOver → Moment → Moment → Type 0
+abbrev pub HappenOver : List Mailbox → List EventOver → FilesAndLeft → FilesAndLeft → Type 0
 HappenOver texts = Chain (HappensOver texts)
 
 -- What is wanted of several texts, and of the folder before any run over them.
-pub record AreNew (texts : List Text) (moment : Moment) : Type 0 where
-  pub are : All IsText texts
+pub record AreNew (texts : List Mailbox) (moment : FilesAndLeft) : Type 0 where
+  pub are : All IsMailbox texts
   -- where two messages have the same base, they have the same body
   pub alike : OfEach (λ m. OfEach (λ n. n.target.base ≡ m.target.base → n.body ≡ m.body) texts) texts
   pub missing : OfEach (IsMissing moment.files) texts

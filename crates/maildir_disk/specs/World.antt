@@ -43,7 +43,7 @@ pub record Passes (sub : Sub) (old new : World) : Type 0 where
   pub stamp_is : (new.stamp_of sub ≡ old.stamp_of sub) ⊎ IsOfChange old.time new.time (new.stamp_of sub)
 
 -- The stamp of the folder at some moment of a call.
-pub record Tells (sub : Sub) (old : World) (stamp : ℕ) (new : World) : Type 0 where
+pub record IsStampWithin (sub : Sub) (old : World) (stamp : ℕ) (new : World) : Type 0 where
   pub moment : World
   pub before : Passes sub old moment
   pub rest : Passes sub moment new
@@ -60,5 +60,5 @@ AreUnless sub old names end stamp = IsPermutation names (keys (folder_of sub old
 
 -- The names that were read of a folder, in several steps: each of its names once if nothing in it changed meanwhile. They may be
 -- any names if something did, and then the folder has a stamp of a change meanwhile.
-abbrev pub Reads : Sub → World → List (List ℕ) → World → Type 0
-Reads sub old names new = AreUnless sub old names new.time (new.stamp_of sub)
+abbrev pub ReadsNames : Sub → World → List (List ℕ) → World → Type 0
+ReadsNames sub old names new = AreUnless sub old names new.time (new.stamp_of sub)

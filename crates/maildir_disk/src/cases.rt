@@ -3,13 +3,13 @@ ghost use Rattle.std.specs.Prelude.{◌≡◌, ◌<◌, ◌≤◌, ◌↔◌, Li
 ghost use Rattle.std.specs.FinMap.{get, keys};
 ghost use Rattle.maildir_run.specs.Calls.{folder_of};
 ghost use Rattle.maildir_run.specs.Calls.Call.{Writing};
-ghost use Rattle.maildir_run.specs.Cuts.{Leaves, Left};
+ghost use Rattle.maildir_run.specs.Cuts.{Leaves, Follows};
 ghost use Rattle.maildir_run.specs.Files.{Action, Files, all_acted};
-ghost use Rattle.maildir_run.specs.MemFolder.{IsQuiet, IsUndisturbed, SameScript, files_of};
+ghost use Rattle.maildir_run.specs.MemFolder.{IsQuiet, HasNoScript, SameScript, files_of};
 ghost use Rattle.maildir_run.specs.Script.{all_performed, performed};
 ghost use Rattle.maildir_disk.specs.Private.Cases.{Adds, IsAdded, KeepsCases, Loses, LosesBytes, made, nth_left};
 ghost use Rattle.maildir_disk.specs.Cases.{HasRoom, lefts_of, may_find};
-ghost use Rattle.maildir_disk.specs.PowerCuts.{LeavesOthers};
+ghost use Rattle.maildir_disk.specs.PowerCuts.{LeftByOthers};
 
 use maildir_name::Place;
 use maildir_run::{Act, Folder, FolderFault, MemFolder, Sub};
@@ -83,7 +83,7 @@ impl Cases {
         requires { held ≤ length holds.now }
         ensures room { self.new.room ≡ self.old.room }
         ensures no_fewer { length (lefts_of self.old) ≤ length (lefts_of self.new) }
-        ensures left { Left (Leaves (Writing name.now [])) (may_find folder.now self.old) (Contains (lefts_of self.new)) }
+        ensures left { Follows (Leaves (Writing name.now [])) (may_find folder.now self.old) (Contains (lefts_of self.new)) }
         ensures loses { OnOk result (HasRoom self.new → LosesBytes name.now holds.now held folder.now self.old self.new) }
         ensures refused { IfErr result (λ fault. fault ≡ FolderFault.OutOfMemory) }
     {
@@ -128,7 +128,7 @@ impl Cases {
     pub(crate) fn act(&mut self, folder: &mut MemFolder, acts: &[Act]) -> Result<(), FolderFault>
         ensures script { SameScript folder.old folder.new }
         ensures acts { (actions : List Action) × (files_of folder.new ≡ all_acted actions (files_of folder.old)) }
-        ensures left { Left LeavesOthers (may_find folder.old self.old) (may_find folder.new self.new) }
+        ensures left { Follows LeftByOthers (may_find folder.old self.old) (may_find folder.new self.new) }
         ensures keeps { OnOk result (KeepsCases (may_find folder.old self.old) (may_find folder.new self.new) self.old self.new) }
         ensures done { OnOk result (files_of folder.new ≡ all_performed acts.now (files_of folder.old)) }
         ensures refused { IfErr result (λ fault. fault ≡ FolderFault.OutOfMemory) }
@@ -142,7 +142,7 @@ impl Cases {
     fn act_once(&mut self, folder: &mut MemFolder, act: &Act) -> Result<(), FolderFault>
         ensures script { SameScript folder.old folder.new }
         ensures acts { (actions : List Action) × (files_of folder.new ≡ all_acted actions (files_of folder.old)) }
-        ensures left { Left LeavesOthers (may_find folder.old self.old) (may_find folder.new self.new) }
+        ensures left { Follows LeftByOthers (may_find folder.old self.old) (may_find folder.new self.new) }
         ensures keeps { OnOk result (KeepsCases (may_find folder.old self.old) (may_find folder.new self.new) self.old self.new) }
         ensures done { OnOk result (files_of folder.new ≡ performed act.now (files_of folder.old)) }
         ensures refused { IfErr result (λ fault. fault ≡ FolderFault.OutOfMemory) }
@@ -175,7 +175,7 @@ impl Cases {
 // Makes a change in a folder without a script.
 fn make(change: &Change<'_>, folder: &mut MemFolder) -> Result<(), FolderFault>
     ensures done { IsQuiet folder.old → OnOk result (files_of folder.new ≡ made change.now (files_of folder.old)) }
-    ensures refused { IsUndisturbed folder.old → IfErr result (λ fault. fault ≡ FolderFault.OutOfMemory) }
+    ensures refused { HasNoScript folder.old → IfErr result (λ fault. fault ≡ FolderFault.OutOfMemory) }
 {
     match *change {
         Change::Make(name) => folder.write(name, &[]),

@@ -4,31 +4,31 @@ ghost use Rattle.maildir_run.specs.declared.fault.RunFault.{RunFault};
 ghost use Rattle.maildir_run.specs.declared.report.Report.{Report};
 ghost use Rattle.maildir_run.specs.Delivery.{Message, AreNamed, Delivered, IsHome, IsMissing, IsSoundAt};
 ghost use Rattle.maildir_run.specs.Files.{Files};
-ghost use Rattle.maildir_run.specs.Runs.{Run};
-ghost use Rattle.maildir_run.specs.Tasks.{Names, Performs, leaving, planned_tasks};
+ghost use Rattle.maildir_run.specs.Runs.{IsRun};
+ghost use Rattle.maildir_run.specs.Tasks.{Listings, Performs, leaving, planned_tasks};
 ghost use Rattle.maildir_run.specs.Texts.{MessagesOf};
-ghost use Rattle.maildir_run.specs.Several.{OfEach, Text};
+ghost use Rattle.maildir_run.specs.Several.{OfEach, Mailbox};
 ghost use Rattle.maildir_disk.specs.SeveralCuts.{AreNew, EventOver, HappenOver};
 ghost use Rattle.maildir_disk.specs.SeveralCuts.EventOver.{RanOver, SyncedOver, CutOver};
-ghost use Rattle.maildir_disk.specs.PowerCuts.{AreAlike, Event, Happen, HasBody, IsIntact, IsSingle, LeavesOthers, Moment, Syncs};
+ghost use Rattle.maildir_disk.specs.PowerCuts.{AreAlike, Event, Happen, HasBody, IsIntact, IsSingle, LeftByOthers, FilesAndLeft, Syncs};
 
 /// What a cut leaves of a run that did its planned calls, whatever it answered: where what it would have left of the run's
 /// messages before held their bodies, it does after it. And a message that a cut would have left before it is left after
 /// it, of this text or of any other that gives no other body to one of its bases.
 pub fn left_of_a_run()
-    ensures intact { (t : List ℕ) (ms : List Message) (names : Names) (before now : Files) (answer : Result Report RunFault) →
+    ensures intact { (t : List ℕ) (ms : List Message) (names : Listings) (before now : Files) (answer : Result Report RunFault) →
         MessagesOf t ms → length t < 2 ^ 63 → Performs leaving (planned_tasks names ms) before answer now →
         All (IsIntact before) ms → All (IsIntact now) ms }
-    ensures bodies { (t : List ℕ) (ms others : List Message) (names : Names) (before now : Files) (answer : Result Report RunFault) →
+    ensures bodies { (t : List ℕ) (ms others : List Message) (names : Listings) (before now : Files) (answer : Result Report RunFault) →
         MessagesOf t ms → length t < 2 ^ 63 → Performs leaving (planned_tasks names ms) before answer now → AreNamed others →
         AreAlike others ms → All (HasBody before) others → All (HasBody now) others }
 {}
 
 /// What other programs do takes nothing away from what a cut leaves, and changes no bytes of it.
 pub fn left_by_others()
-    ensures intact { (ms : List Message) (before now : Files) → AreNamed ms → LeavesOthers before now →
+    ensures intact { (ms : List Message) (before now : Files) → AreNamed ms → LeftByOthers before now →
         All (IsIntact before) ms → All (IsIntact now) ms }
-    ensures bodies { (ms : List Message) (before now : Files) → AreNamed ms → LeavesOthers before now →
+    ensures bodies { (ms : List Message) (before now : Files) → AreNamed ms → LeftByOthers before now →
         All (HasBody before) ms → All (HasBody now) ms }
 {}
 
@@ -51,12 +51,12 @@ pub fn one_name_each()
 /// had none of the text's messages, and of which a cut would have left none, is sound for them. One more run that answers
 /// Ok delivers them.
 pub fn after_any_cuts()
-    ensures sound { (t : List ℕ) (ms : List Message) (events : List Event) (old new : Moment) →
+    ensures sound { (t : List ℕ) (ms : List Message) (events : List Event) (old new : FilesAndLeft) →
         MessagesOf t ms → length t < 2 ^ 63 → All (IsMissing old.files) ms → All (IsMissing old.left) ms →
         Happen t events old new → All (IsSoundAt new.files) ms × All (IsIntact new.left) ms }
-    ensures delivered { (t : List ℕ) (ms : List Message) (events : List Event) (old mid : Moment) (new : Files) (report : Report) →
+    ensures delivered { (t : List ℕ) (ms : List Message) (events : List Event) (old mid : FilesAndLeft) (new : Files) (report : Report) →
         MessagesOf t ms → length t < 2 ^ 63 → All (IsMissing old.files) ms → All (IsMissing old.left) ms →
-        Happen t events old mid → Run t mid.files (Ok report) new → Delivered ms new }
+        Happen t events old mid → IsRun t mid.files (Ok report) new → Delivered ms new }
 {}
 
 /// Whatever runs over any of several texts, with any answers, other programs' actions, syncs and power cuts follow one
@@ -65,13 +65,13 @@ pub fn after_any_cuts()
 /// every later cut too. One more run that answers Ok delivers its text. Where two messages of the texts have the same
 /// base, they are to have the same body.
 pub fn after_cuts_of_several()
-    ensures sound { (texts : List Text) (events : List EventOver) (old new : Moment) →
+    ensures sound { (texts : List Mailbox) (events : List EventOver) (old new : FilesAndLeft) →
         AreNew texts old → HappenOver texts events old new →
         OfEach (IsSoundAt new.files) texts × OfEach (IsIntact new.left) texts }
-    ensures kept { (texts : List Text) (text : Text) (report : Report) (before between rest : List EventOver) (old new : Moment) →
+    ensures kept { (texts : List Mailbox) (text : Mailbox) (report : Report) (before between rest : List EventOver) (old new : FilesAndLeft) →
         AreNew texts old → HappenOver texts (before ++ (RanOver text (Ok report) ∷ (between ++ (SyncedOver ∷ rest)))) old new → ¬ Contains between CutOver →
         All (IsHome new.files) text.messages × All (HasBody new.left) text.messages }
-    ensures delivered { (texts : List Text) (text : Text) (events : List EventOver) (old mid : Moment) (new : Files) (report : Report) →
-        AreNew texts old → HappenOver texts events old mid → Contains texts text → Run text.bytes mid.files (Ok report) new →
+    ensures delivered { (texts : List Mailbox) (text : Mailbox) (events : List EventOver) (old mid : FilesAndLeft) (new : Files) (report : Report) →
+        AreNew texts old → HappenOver texts events old mid → Contains texts text → IsRun text.bytes mid.files (Ok report) new →
         Delivered text.messages new }
 {}

@@ -2,10 +2,10 @@
 ghost use Rattle.std.specs.Prelude.{◌≡◌, IsErrOf, OnOk};
 ghost use Rattle.maildir_run.specs.Calls.{Called, CalledQuietly, CountsFailure, GoesUp, IsNotAbsent};
 ghost use Rattle.maildir_run.specs.Calls.Call.{Placing, Writing};
-ghost use Rattle.maildir_run.specs.Cuts.{Left, LeavesOf};
+ghost use Rattle.maildir_run.specs.Cuts.{Follows, LeavesOf};
 ghost use Rattle.maildir_disk.specs.Quiet.{SameFiles};
 ghost use Rattle.maildir_disk.specs.Placing.{WasGone};
-ghost use Rattle.maildir_disk.specs.PowerCuts.{LeavesOthers, Syncs};
+ghost use Rattle.maildir_disk.specs.PowerCuts.{LeftByOthers, Syncs};
 ghost use Rattle.maildir_disk.specs.World.{Acts};
 
 use crate::faults::answer_of;
@@ -56,12 +56,12 @@ impl<S: System> DiskFolder<S> {
     pub fn sync(&mut self) -> Result<(), FolderFault>
         ensures honest { S.honest self.old.system → OnOk result (S.honest self.new.system) }
         ensures acts { S.honest self.old.system → Acts (S.world self.old.system) (S.world self.new.system) }
-        ensures left { S.honest self.old.system → Left LeavesOthers (S.may_leave self.old.system) (S.may_leave self.new.system) }
+        ensures left { S.honest self.old.system → Follows LeftByOthers (S.may_leave self.old.system) (S.may_leave self.new.system) }
         ensures rooted { S.honest self.old.system → OnOk result (S.rooted self.new.system) }
-        ensures synced { S.honest self.old.system → OnOk result (Left (λ before left. Syncs (S.world self.old.system).files before (S.world self.new.system).files left)
+        ensures synced { S.honest self.old.system → OnOk result (Follows (λ before left. Syncs (S.world self.old.system).files before (S.world self.new.system).files left)
             (S.may_leave self.old.system) (S.may_leave self.new.system)) }
         ensures quiet { S.quiet self.old.system → OnOk result (S.quiet self.new.system) }
-        ensures alone { S.quiet self.old.system → SameFiles (S.world self.old.system) (S.world self.new.system) }
+        ensures quietly { S.quiet self.old.system → SameFiles (S.world self.old.system) (S.world self.new.system) }
         ensures calls { self.new.calls ≡ self.old.calls }
         ensures failures { self.new.failures ≡ self.old.failures }
         ensures not_absent { IsNotAbsent result }
@@ -72,12 +72,12 @@ impl<S: System> DiskFolder<S> {
     fn sync_all(&mut self) -> io::Result<()>
         ensures honest { S.honest self.old.system → OnOk result (S.honest self.new.system) }
         ensures acts { S.honest self.old.system → Acts (S.world self.old.system) (S.world self.new.system) }
-        ensures left { S.honest self.old.system → Left LeavesOthers (S.may_leave self.old.system) (S.may_leave self.new.system) }
+        ensures left { S.honest self.old.system → Follows LeftByOthers (S.may_leave self.old.system) (S.may_leave self.new.system) }
         ensures rooted { S.honest self.old.system → OnOk result (S.rooted self.new.system) }
-        ensures synced { S.honest self.old.system → OnOk result (Left (λ before left. Syncs (S.world self.old.system).files before (S.world self.new.system).files left)
+        ensures synced { S.honest self.old.system → OnOk result (Follows (λ before left. Syncs (S.world self.old.system).files before (S.world self.new.system).files left)
             (S.may_leave self.old.system) (S.may_leave self.new.system)) }
         ensures quiet { S.quiet self.old.system → OnOk result (S.quiet self.new.system) }
-        ensures alone { S.quiet self.old.system → SameFiles (S.world self.old.system) (S.world self.new.system) }
+        ensures quietly { S.quiet self.old.system → SameFiles (S.world self.old.system) (S.world self.new.system) }
         ensures calls { self.new.calls ≡ self.old.calls }
         ensures failures { self.new.failures ≡ self.old.failures }
     {
@@ -123,10 +123,10 @@ impl<S: System> Folder for DiskFolder<S> {
         ensures honest { S.honest self.old.system → S.honest self.new.system }
         ensures called { S.honest self.old.system → Called (Writing name.now bytes.now)
             (S.world self.old.system).files result (S.world self.new.system).files }
-        ensures left { S.honest self.old.system → Left (λ before now. LeavesOf (Writing name.now bytes.now) before result now)
+        ensures left { S.honest self.old.system → Follows (λ before now. LeavesOf (Writing name.now bytes.now) before result now)
             (S.may_leave self.old.system) (S.may_leave self.new.system) }
         ensures quiet { S.quiet self.old.system → S.quiet self.new.system }
-        ensures alone { S.quiet self.old.system → CalledQuietly (Writing name.now bytes.now)
+        ensures quietly { S.quiet self.old.system → CalledQuietly (Writing name.now bytes.now)
             (S.world self.old.system).files result (S.world self.new.system).files }
         ensures counted { GoesUp self.old.calls self.new.calls }
         ensures cause { CountsFailure result self.old.failures self.new.failures }
@@ -142,10 +142,10 @@ impl<S: System> Folder for DiskFolder<S> {
             (S.world self.old.system).files result (S.world self.new.system).files }
         ensures gone { S.honest self.old.system → IsErrOf result FolderFault.Absent →
             WasGone name.now (Placing name.now place target.now) (S.world self.old.system).files (S.world self.new.system).files }
-        ensures left { S.honest self.old.system → Left (λ before now. LeavesOf (Placing name.now place target.now) before result now)
+        ensures left { S.honest self.old.system → Follows (λ before now. LeavesOf (Placing name.now place target.now) before result now)
             (S.may_leave self.old.system) (S.may_leave self.new.system) }
         ensures quiet { S.quiet self.old.system → S.quiet self.new.system }
-        ensures alone { S.quiet self.old.system → CalledQuietly (Placing name.now place target.now)
+        ensures quietly { S.quiet self.old.system → CalledQuietly (Placing name.now place target.now)
             (S.world self.old.system).files result (S.world self.new.system).files }
         ensures counted { GoesUp self.old.calls self.new.calls }
         ensures cause { CountsFailure result self.old.failures self.new.failures }

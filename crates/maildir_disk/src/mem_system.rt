@@ -5,7 +5,7 @@ ghost use Rattle.std.specs.IoError.{error_kind};
 ghost use Rattle.std.specs.declared.io.ErrorKind.TheVariants.{NotFound};
 ghost use Rattle.maildir_run.specs.Calls.{Called, CalledQuietly, effect};
 ghost use Rattle.maildir_run.specs.Calls.Call.{Writing, Placing, Removing};
-ghost use Rattle.maildir_run.specs.Cuts.{Leaves, Left};
+ghost use Rattle.maildir_run.specs.Cuts.{Leaves, Follows};
 ghost use Rattle.maildir_run.specs.MemFiles.{no_files};
 ghost use Rattle.maildir_run.specs.MemFolder.{IsQuiet, files_of};
 ghost use Rattle.maildir_run.specs.Script.{all_performed};
@@ -17,7 +17,7 @@ ghost use Rattle.maildir_disk.specs.Placing.{WasGone};
 ghost use Rattle.maildir_disk.specs.Quiet.{AppendedQuietly, SameFiles};
 ghost use Rattle.maildir_disk.specs.Writing.{Appended, Created};
 ghost use Rattle.maildir_disk.specs.MemSystem.{HasNoTurns, MayLose, MayLoseFronts, cases_of, may_be_left, opened_as, world_of};
-ghost use Rattle.maildir_disk.specs.PowerCuts.{LeavesOthers};
+ghost use Rattle.maildir_disk.specs.PowerCuts.{LeftByOthers};
 
 use crate::cases::{Cases, Change};
 use crate::faults::error_of;
@@ -158,9 +158,9 @@ impl MemSystem {
         ensures acts { Acts (world_of self.old) (world_of self.new) }
         ensures passes { (sub : Sub) → Passes sub (world_of self.old) (world_of self.new) }
         ensures quiet { HasNoTurns self.old → HasNoTurns self.new }
-        ensures alone { HasNoTurns self.old → SameFiles (world_of self.old) (world_of self.new) }
+        ensures quietly { HasNoTurns self.old → SameFiles (world_of self.old) (world_of self.new) }
         ensures same { HasNoTurns self.old → self.new.stamp ≡ self.old.stamp }
-        ensures left { Left LeavesOthers (may_be_left self.old) (may_be_left self.new) }
+        ensures left { Follows LeftByOthers (may_be_left self.old) (may_be_left self.new) }
         ensures keeps { OnOk result (KeepsCases (may_be_left self.old) (may_be_left self.new) self.old.cases self.new.cases) }
         ensures root { self.new.is_rooted ≡ self.old.is_rooted }
         ensures calls { self.new.calls_left ≡ self.old.calls_left }
@@ -178,9 +178,9 @@ impl MemSystem {
         ensures honest { IsQuiet self.old.folder → IsQuiet self.new.folder }
         ensures acts { Acts (world_of self.old) (world_of self.new) }
         ensures passes { (sub : Sub) → Passes sub (world_of self.old) (world_of self.new) }
-        ensures left { Left LeavesOthers (may_be_left self.old) (may_be_left self.new) }
+        ensures left { Follows LeftByOthers (may_be_left self.old) (may_be_left self.new) }
         ensures quiet { HasNoTurns self.old → HasNoTurns self.new }
-        ensures alone { HasNoTurns self.old → SameFiles (world_of self.old) (world_of self.new) }
+        ensures quietly { HasNoTurns self.old → SameFiles (world_of self.old) (world_of self.new) }
         ensures same { HasNoTurns self.old → self.new.stamp ≡ self.old.stamp }
         ensures keeps { OnOk result (KeepsCases (may_be_left self.old) (may_be_left self.new) self.old.cases self.new.cases) }
         ensures root { self.new.is_rooted ≡ self.old.is_rooted }
@@ -196,7 +196,7 @@ impl MemSystem {
         ensures honest { IsQuiet self.old.folder → IsQuiet self.new.folder }
         ensures acts { Acts (world_of self.old) (world_of self.new) }
         ensures passes { (sub : Sub) → Passes sub (world_of self.old) (world_of self.new) }
-        ensures left { Left LeavesOthers (may_be_left self.old) (may_be_left self.new) }
+        ensures left { Follows LeftByOthers (may_be_left self.old) (may_be_left self.new) }
         ensures keeps { OnOk result (KeepsCases (may_be_left self.old) (may_be_left self.new) self.old.cases self.new.cases) }
         ensures done { OnOk result (files_of self.new.folder ≡ all_performed acts.now (files_of self.old.folder)) }
         ensures root { self.new.is_rooted ≡ self.old.is_rooted }
@@ -268,9 +268,9 @@ impl System for MemSystem {
         ensures name { IsQuiet self.old.folder → IfOk result (λ file. opened_as file ≡ name.now) }
         ensures current { IsQuiet self.old.folder → IfOk result (λ file. Unit {0}) }
         ensures created { IsQuiet self.old.folder → Created name.now (world_of self.old) result (world_of self.new) }
-        ensures left { IsQuiet self.old.folder → Left (Leaves (Writing name.now [])) (may_be_left self.old) (may_be_left self.new) }
+        ensures left { IsQuiet self.old.folder → Follows (Leaves (Writing name.now [])) (may_be_left self.old) (may_be_left self.new) }
         ensures quiet { HasNoTurns self.old → HasNoTurns self.new }
-        ensures alone { HasNoTurns self.old →
+        ensures quietly { HasNoTurns self.old →
             CalledQuietly (Writing name.now []) (files_of self.old.folder) result (files_of self.new.folder) }
         ensures loses { IsQuiet self.old.folder →
             OnOk result (HasRoom self.new.cases → MayLose (effect (Writing name.now [])) self.old self.new) }
@@ -296,9 +296,9 @@ impl System for MemSystem {
         ensures current { IsQuiet self.old.folder → Unit {0} → Unit {0} }
         ensures appended { IsQuiet self.old.folder → Unit {0} →
             Appended (opened_as file.old) bytes.now (world_of self.old) result (world_of self.new) }
-        ensures left { IsQuiet self.old.folder → Left (Leaves (Writing (opened_as file.old) [])) (may_be_left self.old) (may_be_left self.new) }
+        ensures left { IsQuiet self.old.folder → Follows (Leaves (Writing (opened_as file.old) [])) (may_be_left self.old) (may_be_left self.new) }
         ensures quiet { HasNoTurns self.old → HasNoTurns self.new }
-        ensures alone { HasNoTurns self.old → Unit {0} →
+        ensures quietly { HasNoTurns self.old → Unit {0} →
             AppendedQuietly (opened_as file.old) bytes.now (files_of self.old.folder) result (files_of self.new.folder) }
         ensures loses { IsQuiet self.old.folder → IfOk result (λ n. HasRoom self.new.cases →
             IsTrue (contains_key (files_of self.new.folder).tmp (opened_as file.old)) → MayLoseFronts (opened_as file.old) bytes.now n self.old self.new) }
@@ -331,9 +331,9 @@ impl System for MemSystem {
             Called (Placing name.now place target.now) (files_of self.old.folder) result (files_of self.new.folder) }
         ensures gone { IsQuiet self.old.folder → IfErr result (λ error. error_kind error ≡ NotFound →
             WasGone name.now (Placing name.now place target.now) (files_of self.old.folder) (files_of self.new.folder)) }
-        ensures left { IsQuiet self.old.folder → Left (Leaves (Placing name.now place target.now)) (may_be_left self.old) (may_be_left self.new) }
+        ensures left { IsQuiet self.old.folder → Follows (Leaves (Placing name.now place target.now)) (may_be_left self.old) (may_be_left self.new) }
         ensures quiet { HasNoTurns self.old → HasNoTurns self.new }
-        ensures alone { HasNoTurns self.old →
+        ensures quietly { HasNoTurns self.old →
             CalledQuietly (Placing name.now place target.now) (files_of self.old.folder) result (files_of self.new.folder) }
         ensures loses { IsQuiet self.old.folder →
             OnOk result (HasRoom self.new.cases → MayLose (effect (Placing name.now place target.now)) self.old self.new) }
@@ -353,9 +353,9 @@ impl System for MemSystem {
         ensures honest { IsQuiet self.old.folder → IsQuiet self.new.folder }
         ensures called { IsQuiet self.old.folder →
             Called (Removing name.now) (files_of self.old.folder) result (files_of self.new.folder) }
-        ensures left { IsQuiet self.old.folder → Left (Leaves (Removing name.now)) (may_be_left self.old) (may_be_left self.new) }
+        ensures left { IsQuiet self.old.folder → Follows (Leaves (Removing name.now)) (may_be_left self.old) (may_be_left self.new) }
         ensures quiet { HasNoTurns self.old → HasNoTurns self.new }
-        ensures alone { HasNoTurns self.old →
+        ensures quietly { HasNoTurns self.old →
             CalledQuietly (Removing name.now) (files_of self.old.folder) result (files_of self.new.folder) }
         ensures loses { IsQuiet self.old.folder →
             OnOk result (HasRoom self.new.cases → MayLose (effect (Removing name.now)) self.old self.new) }

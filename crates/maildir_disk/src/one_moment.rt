@@ -3,11 +3,11 @@ ghost use Rattle.std.specs.Prelude.{◌≡◌, IfOk};
 ghost use Rattle.std.specs.Duration.{as_nanos};
 ghost use Rattle.std.specs.Time.{system_time_nanos};
 ghost use Rattle.maildir_run.specs.Calls.{Listed};
-ghost use Rattle.maildir_run.specs.Cuts.{Left};
+ghost use Rattle.maildir_run.specs.Cuts.{Follows};
 ghost use Rattle.maildir_disk.specs.Quiet.{AreNames, SameFiles};
-ghost use Rattle.maildir_disk.specs.Private.Look.{FoundNames, LookedAt, IsAged, Looked, WatchedOr};
+ghost use Rattle.maildir_disk.specs.Private.Look.{FoundNames, LookGivesQuietly, IsAged, LookGives, WatchedOr};
 ghost use Rattle.maildir_disk.specs.World.{margin_of};
-ghost use Rattle.maildir_disk.specs.PowerCuts.{LeavesOthers};
+ghost use Rattle.maildir_disk.specs.PowerCuts.{LeftByOthers};
 
 use crate::system::System;
 use maildir_run::Sub;
@@ -36,17 +36,17 @@ pub(crate) fn names_of_one_moment<S: System>(system: &mut S, sub: Sub) -> io::Re
     ensures honest { S.honest system.old → S.honest system.new }
     ensures listed { S.honest system.old →
         Listed sub (S.world system.old).files result (S.world system.new).files }
-    ensures left { S.honest system.old → Left LeavesOthers (S.may_leave system.old) (S.may_leave system.new) }
+    ensures left { S.honest system.old → Follows LeftByOthers (S.may_leave system.old) (S.may_leave system.new) }
     ensures quiet { S.quiet system.old → S.quiet system.new }
-    ensures alone { S.quiet system.old → SameFiles (S.world system.old) (S.world system.new) }
+    ensures quietly { S.quiet system.old → SameFiles (S.world system.old) (S.world system.new) }
     ensures exact { S.quiet system.old → IfOk result (AreNames sub (S.world system.old).files) }
 {
     let patience = Duration::from_secs(PATIENCE_SECS);
     let start = system.instant()?;
     for _ in 0..u64::MAX {
         let pause = match take_names(system, sub)? {
-            Look::Names(names) => return Ok(names),
-            Look::Again(pause) => pause,
+            Look::Taken(names) => return Ok(names),
+            Look::Wait(pause) => pause,
         };
         if system.instant()?.duration_since(start) >= patience {
             break;
@@ -60,36 +60,36 @@ pub(crate) fn names_of_one_moment<S: System>(system: &mut S, sub: Sub) -> io::Re
 #[derive(Drop)]
 enum Look {
     // The names as of one moment.
-    Names(Vec<String>),
+    Taken(Vec<String>),
     // The folder is changing: look again after this pause.
-    Again(Duration),
+    Wait(Duration),
 }
 
 fn take_names<S: System>(system: &mut S, sub: Sub) -> io::Result<Look>
     ensures honest { S.honest system.old → S.honest system.new }
-    ensures looked { S.honest system.old → Looked sub (S.world system.old) result (S.world system.new) }
-    ensures left { S.honest system.old → Left LeavesOthers (S.may_leave system.old) (S.may_leave system.new) }
+    ensures looked { S.honest system.old → LookGives sub (S.world system.old) result (S.world system.new) }
+    ensures left { S.honest system.old → Follows LeftByOthers (S.may_leave system.old) (S.may_leave system.new) }
     ensures quiet { S.quiet system.old → S.quiet system.new }
-    ensures alone { S.quiet system.old → SameFiles (S.world system.old) (S.world system.new) }
-    ensures exact { S.quiet system.old → IfOk result (LookedAt sub (S.world system.old).files) }
+    ensures quietly { S.quiet system.old → SameFiles (S.world system.old) (S.world system.new) }
+    ensures exact { S.quiet system.old → IfOk result (LookGivesQuietly sub (S.world system.old).files) }
 {
     let stamp = system.stamp(sub)?;
     let now = system.now()?;
     let age = Age::of(stamp, now);
     if let Age::Young(pause) = age {
-        return Ok(Look::Again(pause));
+        return Ok(Look::Wait(pause));
     }
     let Some(names) = watched_names(system, sub, stamp)? else {
-        return Ok(Look::Again(Duration::from_millis(PAUSE_MILLIS)));
+        return Ok(Look::Wait(Duration::from_millis(PAUSE_MILLIS)));
     };
     if let Age::Settled = age {
-        return Ok(Look::Names(names));
+        return Ok(Look::Taken(names));
     }
     let later = system.now()?;
     if let Age::Ahead = Age::of(stamp, later) {
-        Ok(Look::Names(names))
+        Ok(Look::Taken(names))
     } else {
-        Ok(Look::Again(Duration::from_millis(PAUSE_MILLIS)))
+        Ok(Look::Wait(Duration::from_millis(PAUSE_MILLIS)))
     }
 }
 
@@ -102,9 +102,9 @@ fn watched_names<S: System>(
     ensures honest { S.honest system.old → S.honest system.new }
     ensures watched { S.honest system.old →
         WatchedOr sub (system_time_nanos stamp) (S.world system.old) result (S.world system.new) }
-    ensures left { S.honest system.old → Left LeavesOthers (S.may_leave system.old) (S.may_leave system.new) }
+    ensures left { S.honest system.old → Follows LeftByOthers (S.may_leave system.old) (S.may_leave system.new) }
     ensures quiet { S.quiet system.old → S.quiet system.new }
-    ensures alone { S.quiet system.old → SameFiles (S.world system.old) (S.world system.new) }
+    ensures quietly { S.quiet system.old → SameFiles (S.world system.old) (S.world system.new) }
     ensures exact { S.quiet system.old → IfOk result (FoundNames sub (S.world system.old).files) }
 {
     let names = system.names(sub)?;

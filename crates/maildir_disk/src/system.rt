@@ -5,14 +5,14 @@ ghost use Rattle.std.specs.Time.{system_time_nanos};
 ghost use Rattle.std.specs.declared.io.ErrorKind.TheVariants.{NotFound};
 ghost use Rattle.maildir_run.specs.Calls.{Called, CalledQuietly, names_of};
 ghost use Rattle.maildir_run.specs.Calls.Call.{Writing, Placing, Removing};
-ghost use Rattle.maildir_run.specs.Cuts.{Leaves, Left};
+ghost use Rattle.maildir_run.specs.Cuts.{Leaves, Follows};
 ghost use Rattle.maildir_run.specs.Files.{Files};
 ghost use Rattle.maildir_disk.specs.Quiet.{AppendedQuietly, AreNames, SameFiles};
 ghost use Rattle.maildir_disk.specs.Paths.{folder_of_place};
 ghost use Rattle.maildir_disk.specs.Placing.{WasGone};
-ghost use Rattle.maildir_disk.specs.PowerCuts.{LeavesOthers, KeepsHeld, KeepsNames};
+ghost use Rattle.maildir_disk.specs.PowerCuts.{LeftByOthers, KeepsHeld, KeepsNames};
 ghost use Rattle.maildir_disk.specs.Writing.{Created, Appended};
-ghost use Rattle.maildir_disk.specs.World.{World, Acts, Passes, Tells, IsTimeOf, Reads};
+ghost use Rattle.maildir_disk.specs.World.{World, Acts, Passes, IsStampWithin, IsTimeOf, ReadsNames};
 
 use maildir_name::Place;
 use maildir_run::Sub;
@@ -53,10 +53,10 @@ pub trait System {
         ensures honest { honest self.old → honest self.new }
         ensures passes { honest self.old → Passes sub (world self.old) (world self.new) }
         ensures names { honest self.old →
-            IfOk result (λ names. Reads sub (world self.old) (names_of names) (world self.new)) }
-        ensures left { honest self.old → Left LeavesOthers (may_leave self.old) (may_leave self.new) }
+            IfOk result (λ names. ReadsNames sub (world self.old) (names_of names) (world self.new)) }
+        ensures left { honest self.old → Follows LeftByOthers (may_leave self.old) (may_leave self.new) }
         ensures quiet { quiet self.old → quiet self.new }
-        ensures alone { quiet self.old → SameFiles (world self.old) (world self.new) }
+        ensures quietly { quiet self.old → SameFiles (world self.old) (world self.new) }
         ensures exact { quiet self.old → IfOk result (AreNames sub (world self.old).files) };
 
     /// When a folder was last changed.
@@ -64,10 +64,10 @@ pub trait System {
         ensures honest { honest self.old → honest self.new }
         ensures passes { honest self.old → Passes sub (world self.old) (world self.new) }
         ensures stamp { honest self.old →
-            IfOk result (λ stamp. Tells sub (world self.old) (system_time_nanos stamp) (world self.new)) }
-        ensures left { honest self.old → Left LeavesOthers (may_leave self.old) (may_leave self.new) }
+            IfOk result (λ stamp. IsStampWithin sub (world self.old) (system_time_nanos stamp) (world self.new)) }
+        ensures left { honest self.old → Follows LeftByOthers (may_leave self.old) (may_leave self.new) }
         ensures quiet { quiet self.old → quiet self.new }
-        ensures alone { quiet self.old → SameFiles (world self.old) (world self.new) };
+        ensures quietly { quiet self.old → SameFiles (world self.old) (world self.new) };
 
     /// The wall clock.
     fn now(&mut self) -> io::Result<SystemTime>
@@ -75,25 +75,25 @@ pub trait System {
         ensures acts { honest self.old → Acts (world self.old) (world self.new) }
         ensures now { honest self.old →
             IfOk result (λ now. IsTimeOf (world self.old) (system_time_nanos now) (world self.new)) }
-        ensures left { honest self.old → Left LeavesOthers (may_leave self.old) (may_leave self.new) }
+        ensures left { honest self.old → Follows LeftByOthers (may_leave self.old) (may_leave self.new) }
         ensures quiet { quiet self.old → quiet self.new }
-        ensures alone { quiet self.old → SameFiles (world self.old) (world self.new) };
+        ensures quietly { quiet self.old → SameFiles (world self.old) (world self.new) };
 
     /// The clock by which patience is measured, and which nobody sets.
     fn instant(&mut self) -> io::Result<Instant>
         ensures honest { honest self.old → honest self.new }
         ensures acts { honest self.old → Acts (world self.old) (world self.new) }
-        ensures left { honest self.old → Left LeavesOthers (may_leave self.old) (may_leave self.new) }
+        ensures left { honest self.old → Follows LeftByOthers (may_leave self.old) (may_leave self.new) }
         ensures quiet { quiet self.old → quiet self.new }
-        ensures alone { quiet self.old → SameFiles (world self.old) (world self.new) };
+        ensures quietly { quiet self.old → SameFiles (world self.old) (world self.new) };
 
     /// Waits.
     fn sleep(&mut self, pause: Duration)
         ensures honest { honest self.old → honest self.new }
         ensures acts { honest self.old → Acts (world self.old) (world self.new) }
-        ensures left { honest self.old → Left LeavesOthers (may_leave self.old) (may_leave self.new) }
+        ensures left { honest self.old → Follows LeftByOthers (may_leave self.old) (may_leave self.new) }
         ensures quiet { quiet self.old → quiet self.new }
-        ensures alone { quiet self.old → SameFiles (world self.old) (world self.new) };
+        ensures quietly { quiet self.old → SameFiles (world self.old) (world self.new) };
 
     /// Makes a file of `tmp`, or empties it where it is there, and opens it for writing.
     fn create(&mut self, name: &str) -> io::Result<Self::File>
@@ -101,9 +101,9 @@ pub trait System {
         ensures name { honest self.old → IfOk result (λ file. name_of file ≡ name.now) }
         ensures current { honest self.old → IfOk result (λ file. is_current self.new file) }
         ensures created { honest self.old → Created name.now (world self.old) result (world self.new) }
-        ensures left { honest self.old → Left (Leaves (Writing name.now [])) (may_leave self.old) (may_leave self.new) }
+        ensures left { honest self.old → Follows (Leaves (Writing name.now [])) (may_leave self.old) (may_leave self.new) }
         ensures quiet { quiet self.old → quiet self.new }
-        ensures alone { quiet self.old →
+        ensures quietly { quiet self.old →
             CalledQuietly (Writing name.now []) (world self.old).files result (world self.new).files };
 
     /// Appends a front of the bytes, and answers how many.
@@ -114,9 +114,9 @@ pub trait System {
         ensures current { honest self.old → is_current self.old file.old → is_current self.new file.new }
         ensures appended { honest self.old → is_current self.old file.old →
             Appended (name_of file.old) bytes.now (world self.old) result (world self.new) }
-        ensures left { honest self.old → Left (Leaves (Writing (name_of file.old) [])) (may_leave self.old) (may_leave self.new) }
+        ensures left { honest self.old → Follows (Leaves (Writing (name_of file.old) [])) (may_leave self.old) (may_leave self.new) }
         ensures quiet { quiet self.old → quiet self.new }
-        ensures alone { quiet self.old → is_current self.old file.old →
+        ensures quietly { quiet self.old → is_current self.old file.old →
             AppendedQuietly (name_of file.old) bytes.now (world self.old).files result (world self.new).files };
 
     /// Asks the system to keep what the file holds.
@@ -125,9 +125,9 @@ pub trait System {
         ensures acts { honest self.old → Acts (world self.old) (world self.new) }
         ensures kept { honest self.old → is_current self.old file.now →
             OnOk result (KeepsHeld (name_of file.now) (world self.new).files (may_leave self.new)) }
-        ensures left { honest self.old → Left LeavesOthers (may_leave self.old) (may_leave self.new) }
+        ensures left { honest self.old → Follows LeftByOthers (may_leave self.old) (may_leave self.new) }
         ensures quiet { quiet self.old → quiet self.new }
-        ensures alone { quiet self.old → SameFiles (world self.old) (world self.new) };
+        ensures quietly { quiet self.old → SameFiles (world self.old) (world self.new) };
 
     /// Moves a file out of `tmp`, by one rename.
     fn rename(&mut self, name: &str, place: Place, target: &str) -> io::Result<()>
@@ -136,9 +136,9 @@ pub trait System {
             Called (Placing name.now place target.now) (world self.old).files result (world self.new).files }
         ensures gone { honest self.old → IfErr result (λ error. error_kind error ≡ NotFound →
             WasGone name.now (Placing name.now place target.now) (world self.old).files (world self.new).files) }
-        ensures left { honest self.old → Left (Leaves (Placing name.now place target.now)) (may_leave self.old) (may_leave self.new) }
+        ensures left { honest self.old → Follows (Leaves (Placing name.now place target.now)) (may_leave self.old) (may_leave self.new) }
         ensures quiet { quiet self.old → quiet self.new }
-        ensures alone { quiet self.old →
+        ensures quietly { quiet self.old →
             CalledQuietly (Placing name.now place target.now) (world self.old).files result (world self.new).files };
 
     /// Removes a file of `tmp`. Ok also where there was none.
@@ -146,9 +146,9 @@ pub trait System {
         ensures honest { honest self.old → honest self.new }
         ensures called { honest self.old →
             Called (Removing name.now) (world self.old).files result (world self.new).files }
-        ensures left { honest self.old → Left (Leaves (Removing name.now)) (may_leave self.old) (may_leave self.new) }
+        ensures left { honest self.old → Follows (Leaves (Removing name.now)) (may_leave self.old) (may_leave self.new) }
         ensures quiet { quiet self.old → quiet self.new }
-        ensures alone { quiet self.old →
+        ensures quietly { quiet self.old →
             CalledQuietly (Removing name.now) (world self.old).files result (world self.new).files };
 
     /// Asks the system to keep the names in `new` or `cur` as they are. After an error nothing is assumed of the calls that
@@ -156,20 +156,20 @@ pub trait System {
     fn sync_folder(&mut self, place: Place) -> io::Result<()>
         ensures honest { honest self.old → OnOk result (honest self.new) }
         ensures acts { honest self.old → Acts (world self.old) (world self.new) }
-        ensures left { honest self.old → Left LeavesOthers (may_leave self.old) (may_leave self.new) }
-        ensures names { honest self.old → OnOk result (Left (λ before left. KeepsNames (folder_of_place place) (world self.old).files before (world self.new).files left)
+        ensures left { honest self.old → Follows LeftByOthers (may_leave self.old) (may_leave self.new) }
+        ensures names { honest self.old → OnOk result (Follows (λ before left. KeepsNames (folder_of_place place) (world self.old).files before (world self.new).files left)
             (may_leave self.old) (may_leave self.new)) }
         ensures quiet { quiet self.old → OnOk result (quiet self.new) }
-        ensures alone { quiet self.old → SameFiles (world self.old) (world self.new) };
+        ensures quietly { quiet self.old → SameFiles (world self.old) (world self.new) };
 
     /// Asks the system to keep the Maildir and its three folders. After an error nothing is assumed, as behind `sync_folder`.
     fn sync_root(&mut self) -> io::Result<()>
         ensures honest { honest self.old → OnOk result (honest self.new) }
         ensures acts { honest self.old → Acts (world self.old) (world self.new) }
-        ensures left { honest self.old → Left LeavesOthers (may_leave self.old) (may_leave self.new) }
+        ensures left { honest self.old → Follows LeftByOthers (may_leave self.old) (may_leave self.new) }
         ensures rooted { honest self.old → OnOk result (rooted self.new) }
         ensures quiet { quiet self.old → OnOk result (quiet self.new) }
-        ensures alone { quiet self.old → SameFiles (world self.old) (world self.new) };
+        ensures quietly { quiet self.old → SameFiles (world self.old) (world self.new) };
 
     ghost quiet_is_honest: { (system : Self) → quiet system → honest system };
 }

@@ -1,7 +1,7 @@
 // A file of `tmp`, written and kept.
 ghost use Rattle.maildir_run.specs.Calls.{Called, CalledQuietly};
 ghost use Rattle.maildir_run.specs.Calls.Call.{Writing};
-ghost use Rattle.maildir_run.specs.Cuts.{Left, LeavesOf};
+ghost use Rattle.maildir_run.specs.Cuts.{Follows, LeavesOf};
 
 use crate::system::System;
 use std::io;
@@ -13,10 +13,10 @@ pub(crate) fn write_synced<S: System>(system: &mut S, name: &str, bytes: &[u8]) 
     ensures honest { S.honest system.old → S.honest system.new }
     ensures called { S.honest system.old →
         Called (Writing name.now bytes.now) (S.world system.old).files result (S.world system.new).files }
-    ensures left { S.honest system.old → Left (λ before now. LeavesOf (Writing name.now bytes.now) before result now)
+    ensures left { S.honest system.old → Follows (λ before now. LeavesOf (Writing name.now bytes.now) before result now)
         (S.may_leave system.old) (S.may_leave system.new) }
     ensures quiet { S.quiet system.old → S.quiet system.new }
-    ensures alone { S.quiet system.old →
+    ensures quietly { S.quiet system.old →
         CalledQuietly (Writing name.now bytes.now) (S.world system.old).files result (S.world system.new).files }
 {
     let mut file = system.create(name)?;

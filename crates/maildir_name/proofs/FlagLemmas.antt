@@ -66,13 +66,13 @@ unfolding field
 field-passed name line more b = rw b refl
 
 -- the first line of what is left of a header, as the search for a field reads it
-pub record Reads (name body rest line behind : List ℕ) (n : ℕ) : Type 0 where
+pub record FieldRead (name body rest line behind : List ℕ) (n : ℕ) : Type 0 where
   pub same : field name (header rest) ≡ field name (header body)
   pub first : lines rest ≡ take n rest ∷ lines (drop n rest)
   pub front : line ≡ take n rest
   pub back : behind ≡ drop n rest
 
-module _ {name body rest line behind : List ℕ} {n : ℕ} (r : Reads name body rest line behind n) where
+module _ {name body rest line behind : List ℕ} {n : ℕ} (r : FieldRead name body rest line behind n) where
   reads_line : lines rest ≡ line ∷ lines behind
   reads_line = rw (r.front, r.back) r.first
 

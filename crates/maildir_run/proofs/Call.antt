@@ -15,4 +15,4 @@ pub mod ListedNowhere
 -- What one call of a run gives, in the words of a run.
 pub mod Steps
 -- What the three listings tell together.
-pub mod Surveys
+pub mod FolderListings

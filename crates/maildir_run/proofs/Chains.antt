@@ -3,7 +3,7 @@
 -- The messages of a text: their bases are a converter's, and no two are the same.
 pub mod MessageLemmas
 -- Which number the base of each message of a text has.
-pub mod Numbers
+pub mod BaseNumbers
 -- What any list of runs and actions leaves.
 pub mod Chains
 -- How often a body is there, before a run over one of several texts and after it.

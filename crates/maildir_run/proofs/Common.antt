@@ -34,35 +34,35 @@ pub use Rattle.mbox_text.specs.declared.entry.Entry.{Entry}
 pub use Rattle.mbox_text.specs.declared.splitter.Splitter.{Splitter}
 pub use Rattle.maildir_run.specs.Alone.{added, alone, filled, swept}
 pub use Rattle.maildir_run.specs.Private.Bases.{BaseSet, set_of, with_bases}
-pub use Rattle.maildir_run.specs.Calls.{after, Again, Call, Called, CalledQuietly, CountsFailure, effect, Failed, folder_of, GoesUp, IsOthers, IsOwn, IsReady, IsWhole, Listed, Listing, Lists, Move, moved, names_of, NoneOrOne, Other, placed, PlacesElsewhere, Placing, Removing, StaysOrGoes, Succeeded, Torn, torn, WritesElsewhere, Writing}
-pub use Rattle.maildir_run.specs.Counting.{capped, CountsFault, fault_of, GoesUpWith, IsNumbered, IsOfFolder, Numbers, raised}
+pub use Rattle.maildir_run.specs.Calls.{after, Again, Call, Called, CalledQuietly, CountsFailure, effect, AnyMoves, folder_of, GoesUp, IsOthers, IsOwn, IsReady, IsWhole, Listed, Listing, Lists, Move, moved, names_of, NoneOrOne, Other, placed, PlacesElsewhere, Placing, Removing, StaysOrGoes, Succeeded, Torn, torn, WritesElsewhere, Writing}
+pub use Rattle.maildir_run.specs.Counting.{capped, CountsFault, fault_of, GoesUpWith, HasCallNumber, IsOfFolder, CallNumber, raised}
 pub use Rattle.maildir_run.specs.Private.Counting.{Makes, run_answer}
-pub use Rattle.maildir_run.specs.Cuts.{Came, IsFoundWhole, Leaves, LeavesOf, Left, left_after, linked}
+pub use Rattle.maildir_run.specs.Cuts.{Came, IsFoundWhole, Leaves, LeavesOf, Follows, left_after, linked}
 pub use Rattle.maildir_run.specs.Delivery.{AreDistinct, AreNamed, Delivered, has_home, HasHome, is_any, is_base_of, IsHome, IsMissing, IsSoundAt, IsSwept, leftover_count, Message, Sound, there_count}
-pub use Rattle.maildir_run.specs.Files.{acted, Action, AgreeOnConverters, all_acted, DropTmp, FileMap, Files, has_base, held_under, homes, is_name, LeavesConverters, may_take, name_cmp, Outside, outsiders_of, Reflag, reflag, to_cur, ToCur, LeavesHomes}
-pub use Rattle.maildir_run.specs.Private.Given.{Front, Gave, GaveAll, IsGiven, Refused}
-pub use Rattle.maildir_run.specs.Private.ListedSoFar.{HasListed}
-pub use Rattle.maildir_run.specs.Listing.{info, listing, message_line, place_word, shown_byte, shown_sender}
+pub use Rattle.maildir_run.specs.Files.{acted, Action, AgreeOnConverters, all_acted, DropTmp, FileMap, Files, has_base, held_under, homes, is_name, KeepsConverters, may_take, name_cmp, Outside, outsiders_of, Reflag, reflag, to_cur, ToCur, KeepsHomes}
+pub use Rattle.maildir_run.specs.Private.Given.{IsFrontOf, Gave, GaveAll, IsGiven, SourceStopped}
+pub use Rattle.maildir_run.specs.Private.TableSoFar.{HasListed}
+pub use Rattle.maildir_run.specs.Table.{info, table_of, message_row, place_word, shown_byte, shown_sender}
 pub use Rattle.maildir_run.specs.MemFiles.{files_in, with_file, without_file}
-pub use Rattle.maildir_run.specs.Private.Parts.{Brought, Conversion, messages_after, names_in, Ran, run_tasks, Seen, seen, Tells}
+pub use Rattle.maildir_run.specs.Private.Parts.{DeliversMessages, Conversion, messages_after, names_in, Performed, run_tasks, Seen, seen, ReportsTasks}
 pub use Rattle.maildir_run.specs.Parts.{deliveries_of, delivery_if, delivery_of, sweep_of}
-pub use Rattle.maildir_run.specs.Plan.{deliveries_from, delivery, each_alone, is_listed, planned, removals}
-pub use Rattle.maildir_run.specs.Private.Progress.{Brings, IsTarget, Knows, message_at, Progress, TmpWithin}
-pub use Rattle.maildir_run.specs.Quietly.{LeavesOthers}
-pub use Rattle.maildir_run.specs.Private.Reading.{Breaks, NeverReads, Taken, Went}
+pub use Rattle.maildir_run.specs.Plan.{deliveries_from, steps_for, each_alone, is_listed, planned, removals}
+pub use Rattle.maildir_run.specs.Private.Progress.{DeliversMessage, IsTarget, Knows, message_at, Progress, TmpWithin}
+pub use Rattle.maildir_run.specs.Foreign.{KeepsForeign}
+pub use Rattle.maildir_run.specs.Private.Reading.{Breaks, NeverReads, Went}
 pub use Rattle.maildir_run.specs.Reading.{IsReading, ReadsAtLeast, ReadsAtMost}
-pub use Rattle.maildir_run.specs.Runs.{Acted, Chain, CountsRun, Keeps, Link, Linked, Possible, Run, Runs}
+pub use Rattle.maildir_run.specs.Runs.{Acted, Chain, CountsRun, Keeps, Link, Linked, Possible, IsRun, Runs}
 pub use Rattle.maildir_run.specs.Script.{acts_at, all_performed, Answers, done, fails, halved, IsCutShort, IsPart, mode_at, performed}
 pub use Rattle.maildir_run.specs.Private.Script.{may_link}
-pub use Rattle.maildir_run.specs.Tasks.{AllDone, Ask, call_of, Do, Done, DoneUntil, leaving, listings, Names, Performs, planned_tasks, reported, Stopped, Task, task_of, tasks_of, Way}
-pub use Rattle.maildir_run.specs.Private.Tasks.{undisturbed}
+pub use Rattle.maildir_run.specs.Tasks.{AllDone, Ask, call_of, Do, Done, DoneUntil, leaving, listing_tasks, Listings, Performs, planned_tasks, honestly, Stopped, Task, task_of, tasks_of, Way}
+pub use Rattle.maildir_run.specs.Private.Tasks.{quietly}
 pub use Rattle.maildir_run.specs.Texts.{bodies_of, messages_of, MessagesOf, with_bodies}
 pub use Rattle.maildir_run.specs.declared.fault.RunFault.{RunFault}
 pub use Rattle.maildir_run.specs.declared.fault.RunFault.TheVariants.{NoFromLine, OutOfMemory, ReadFault, TooManyReads}
 pub use Rattle.maildir_run.specs.declared.folder.FolderFault.{FolderFault}
 pub use Rattle.maildir_run.specs.declared.folder.Sub.{Sub}
 pub use Rattle.maildir_run.specs.declared.folder.Sub.TheVariants.{Cur, New, Tmp}
-pub use Rattle.maildir_run.specs.declared.messages.Messages.{Messages}
+pub use Rattle.maildir_run.specs.declared.reader.Reader.{Reader}
 pub use Rattle.maildir_run.specs.declared.planner.Step.{Step}
 pub use Rattle.maildir_run.specs.declared.planner.Step.TheVariants.{Place, Remove, Write}
 pub use Rattle.maildir_run.specs.declared.report.Report.{Report}

@@ -4,5 +4,5 @@
 pub mod Poured
 -- Messages that are written one after the other.
 pub mod Each
--- The listing of messages that are listed one after the other.
-pub mod ListLines
+-- The table of messages that are listed one after the other.
+pub mod TableRows

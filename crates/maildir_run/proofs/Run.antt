@@ -2,8 +2,8 @@
 
 -- One more entry of a batch.
 pub mod Batches
--- Messages that are brought one after the other.
-pub mod Bringing
+-- Messages that are delivered one after the other.
+pub mod Delivering
 -- A run at its exits, from its parts.
 pub mod Conversions
 -- What a run owes where it ends, from the tasks that it performed.

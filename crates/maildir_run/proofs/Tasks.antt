@@ -12,7 +12,7 @@ pub mod Progress
 pub mod TaskEffects
 -- What a run's calls leave in a quiet folder.
 pub mod QuietRuns
--- Where the messages are delivered, an undisturbed run has nothing to do.
+-- Where the messages are delivered, a quiet run has nothing to do.
 pub mod AloneLemmas
 -- The plan of a list of targets, from those of each target alone.
 pub mod PlanLemmas

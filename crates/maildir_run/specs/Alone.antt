@@ -1,4 +1,4 @@
--- What a run leaves that nobody disturbs.
+-- What a quiet run leaves.
 use Rattle.std.specs.Prelude.{ℕ, List, [], ◌∷◌, not, if◌then◌else◌}
 use Rattle.std.specs.FinMap.{insert, retain_keys}
 use Rattle.maildir_name.specs.declared.target.Place.{Place}
@@ -21,6 +21,6 @@ abbrev pub filled : Files → List Message → Files → Files
 filled start [] s = s
 filled start (m ∷ ms) s = filled start ms (if has_home start m.target.base then s else added s m.target.place m.target.name m.body)
 
--- what an undisturbed run over the messages leaves: `tmp` is swept, and each message that had no home is at its target
+-- what a quiet run over the messages leaves: `tmp` is swept, and each message that had no home is at its target
 abbrev pub alone : List Message → Files → Files
 alone ms s = filled s ms (swept s)

@@ -99,7 +99,7 @@ pub record Succeeded (call : Call) (old new : Files) : Type 0 where
   pub left : new ≡ after old call (before ++ Again ∷ rest)
 
 -- The call answered a fault: any moves were made, or none.
-pub record Failed (call : Call) (old new : Files) : Type 0 where
+pub record AnyMoves (call : Call) (old new : Files) : Type 0 where
   pub moves : List Move
   pub left : new ≡ after old call moves
 
@@ -115,7 +115,7 @@ pub record Lists (sub : Sub) (old : Files) (names : List (List ℕ)) (new : File
 -- a call took effect as reported
 abbrev pub Called : {A E : Type 0} → Call → Files → Result A E → Files → Type 0
 Called call old (Ok _) new = Succeeded call old new
-Called call old (Err _) new = Failed call old new
+Called call old (Err _) new = AnyMoves call old new
 
 -- the names of a list of texts, as lists of bytes
 abbrev pub names_of : Vec (String Global) Global → List (List ℕ)
@@ -124,7 +124,7 @@ names_of names = map string_bytes names.items
 -- a listing took effect as reported
 abbrev pub Listed : {E : Type 0} → Sub → Files → Result (Vec (String Global) Global) E → Files → Type 0
 Listed sub old (Ok names) new = Lists sub old (names_of names) new
-Listed sub old (Err _) new = Failed (Listing sub) old new
+Listed sub old (Err _) new = AnyMoves (Listing sub) old new
 
 -- in a quiet folder no other program acts, and what answered Ok had its effect once
 abbrev pub CalledQuietly : {A E : Type 0} → Call → Files → Result A E → Files → Type 0
@@ -135,7 +135,7 @@ CalledQuietly call old (Err _) new = (moves : List Move) × IsOwn moves × (new 
 abbrev pub GoesUp : ℕ → ℕ → Type 0
 GoesUp old new = new ≡ (old + 1) % 2 ^ 128
 
--- the count of failures goes up with `Absent` and `Failed`, and with no other answer
+-- the count of failures goes up with `Absent` and `AnyMoves`, and with no other answer
 abbrev pub CountsFailure : {A : Type 0} → Result A FolderFault → ℕ → ℕ → Type 0
 CountsFailure (Err Absent) old new = GoesUp old new
 CountsFailure (Err fault.Failed) old new = GoesUp old new

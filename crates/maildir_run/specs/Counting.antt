@@ -29,9 +29,9 @@ abbrev pub CountsFault : {A : Type 0} → Result A RunFault → ℕ → ℕ → 
 CountsFault result old new = GoesUpWith (fault_of result) old new
 
 -- the number in `FolderFailed` is this
-abbrev pub IsNumbered : Option RunFault → ℕ → Type 0
-IsNumbered (Some (FolderFailed n)) number = n ≡ number
-IsNumbered other number = Unit {0}
+abbrev pub HasCallNumber : Option RunFault → ℕ → Type 0
+HasCallNumber (Some (FolderFailed n)) number = n ≡ number
+HasCallNumber other number = Unit {0}
 
 -- what a folder call of a run may be refused for, or a growth
 abbrev pub IsOfFolder : RunFault → Type 0
@@ -41,8 +41,8 @@ IsOfFolder OutOfMemory = Unit {0}
 IsOfFolder other = ⊥
 
 -- A run made so many folder calls, fewer than 2^66, and a `FolderFailed` has their number, or 2^64 - 1 if that is smaller.
-pub record Numbers {A : Type 0} (answer : Result A RunFault) (old new : ℕ) : Type 0 where
+pub record CallNumber {A : Type 0} (answer : Result A RunFault) (old new : ℕ) : Type 0 where
   pub n : ℕ
   pub few : n < 2 ^ 66
   pub count_is : new ≡ raised n old
-  pub numbered : IsNumbered (fault_of answer) (capped n)
+  pub call_number : HasCallNumber (fault_of answer) (capped n)

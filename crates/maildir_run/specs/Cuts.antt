@@ -7,11 +7,11 @@ use Rattle.maildir_run.specs.Calls.{Call, Writing, Move, moved}
 use Rattle.maildir_run.specs.Files.{Files, Action, ToCur, Reflag, may_take}
 
 -- one thing that is kept of a call
-pub data Kept : Type 0 where
+pub data CutMove : Type 0 where
   -- a move of the call
-  Came : (move : Move) → Kept
+  Came : (move : Move) → CutMove
   -- a rename of another program in half: its file is under both names
-  Doubled : (action : Action) → Kept
+  Doubled : (action : Action) → CutMove
 
 -- a file, which holds this if it is there, is under a free name of the same base in `cur` too
 abbrev pub linked : Files → List ℕ → List ℕ → Option (List ℕ) → Files
@@ -25,14 +25,14 @@ doubled (Reflag name target) s = linked s name target (get s.cur name)
 doubled other s = s
 
 -- the files after what was kept of a call, one after the other
-abbrev pub left_after : Files → Call → List Kept → Files
+abbrev pub left_after : Files → Call → List CutMove → Files
 left_after s call [] = s
 left_after s call (Came move ∷ kept) = left_after (moved call move s) call kept
 left_after s call (Doubled action ∷ kept) = left_after (doubled action s) call kept
 
 -- Of a call a cut leaves any of its moves, each by itself, or none.
 pub record Leaves (call : Call) (old new : Files) : Type 0 where
-  pub kept : List Kept
+  pub kept : List CutMove
   pub are : new ≡ left_after old call kept
 
 -- a file that was written is found with its bytes, wherever it is found
@@ -46,5 +46,5 @@ LeavesOf call old (Ok _) new = Leaves call old new × IsFoundWhole call new
 LeavesOf call old (Err _) new = Leaves call old new
 
 -- whatever a cut may leave now is this of something that a cut might have left before
-abbrev pub Left : (Files → Files → Type 0) → (Files → Type 0) → (Files → Type 0) → Type 0
-Left of before now = (new : Files) → now new → (old : Files) × before old × of old new
+abbrev pub Follows : (Files → Files → Type 0) → (Files → Type 0) → (Files → Type 0) → Type 0
+Follows of before now = (new : Files) → now new → (old : Files) × before old × of old new

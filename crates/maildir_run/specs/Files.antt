@@ -84,11 +84,11 @@ abbrev pub AgreeOnConverters : FileMap → FileMap → Type 0
 AgreeOnConverters old new = (name : List ℕ) → IsTrue (is_converter_name name) → get new name ≡ get old name
 
 -- All converter's names of the three folders and their bytes are as they were.
-pub record LeavesConverters (old new : Files) : Type 0 where
+pub record KeepsConverters (old new : Files) : Type 0 where
   pub tmp_alike : AgreeOnConverters old.tmp new.tmp
   pub new_alike : AgreeOnConverters old.new new.new
   pub cur_alike : AgreeOnConverters old.cur new.cur
 
 -- each converter's base keeps its homes
-pub record LeavesHomes (old new : Files) : Type 0 where
+pub record KeepsHomes (old new : Files) : Type 0 where
   pub kept : (b : List ℕ) → IsTrue (is_converter_base b) → IsPermutation (homes old b) (homes new b)

@@ -18,18 +18,18 @@ pub mod Parts
 pub mod Tasks
 -- How a run counts its folder calls, and what its faults say of them.
 pub mod Counting
--- What a run leaves that nobody disturbs.
+-- What a quiet run leaves.
 pub mod Alone
--- What the parts of a run leave that nobody disturbs.
-pub mod Quietly
+-- What a quiet run keeps of other programs' files.
+pub mod Foreign
 -- How much a call reads of its source, and what it may be refused for.
 pub mod Reading
 -- Several texts that go into one Maildir: what is sound for all of them, and what runs over any of them leave.
 pub mod Several
 -- What a call that writes owes of its output, for the texts that its source may have had.
 pub mod Output
--- What a listing shows of a text: one line a message (this project's own rule).
-pub mod Listing
+-- The table that is written of a text: one row a message (this project's own rule).
+pub mod Table
 -- The files of one folder in memory, as a finite map.
 pub mod FileTree
 -- The files of a folder in memory.

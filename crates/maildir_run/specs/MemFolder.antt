@@ -56,7 +56,7 @@ abbrev pub IsQuiet : MemFolder → Type 0
 IsQuiet m = lines_of m ≡ []
 
 -- Nothing is scripted for the next call: there is no line, and it comes before the calls that are to fail.
-pub record IsUndisturbed (m : MemFolder) : Type 0 where
+pub record HasNoScript (m : MemFolder) : Type 0 where
   pub quiet : IsQuiet m
   pub early : IsFalse (is_from (fail_from_of m) (next_call m))
 

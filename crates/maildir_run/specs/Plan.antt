@@ -16,25 +16,25 @@ abbrev pub removals : List (List ℕ) → List Step
 removals tmp = map Remove (filter is_converter_name tmp)
 
 -- the steps for the target of this number: it is written and placed, unless its base is there
-abbrev pub delivery : (List ℕ → Bool) → ℕ → Target → List Step
-delivery is_there i target = if is_there target.base then [] else Write i ∷ Place i ∷ []
+abbrev pub steps_for : (List ℕ → Bool) → ℕ → Target → List Step
+steps_for is_there i target = if is_there target.base then [] else Write i ∷ Place i ∷ []
 
 -- the steps for the targets, in order; the first has this number
 abbrev pub deliveries_from : (List ℕ → Bool) → ℕ → List Target → List Step
 deliveries_from is_there i [] = []
-deliveries_from is_there i (target ∷ targets) = delivery is_there i target ++ deliveries_from is_there (i + 1) targets
+deliveries_from is_there i (target ∷ targets) = steps_for is_there i target ++ deliveries_from is_there (i + 1) targets
 
 -- the steps of a run: what is left over in `tmp` is removed, and then each target that is not listed is written and placed (this project's own rule)
 abbrev pub planned : List (List ℕ) → List (List ℕ) → List (List ℕ) → List Target → List Step
 planned tmp new cur targets = removals tmp ++ deliveries_from (is_listed new cur) 0 targets
 
 -- a step of a target that is alone, as the step of the target of this number
-abbrev pub numbered : ℕ → Step → Step
-numbered i (Remove name) = Remove name
-numbered i (Write k) = Write (i + k)
-numbered i (Place k) = Place (i + k)
+abbrev pub shifted : ℕ → Step → Step
+shifted i (Remove name) = Remove name
+shifted i (Write k) = Write (i + k)
+shifted i (Place k) = Place (i + k)
 
 -- the steps of each target alone, over an empty `tmp`, in order; the first target has this number
 abbrev pub each_alone : ℕ → List (List ℕ) → List (List ℕ) → List Target → List Step
 each_alone i new cur [] = []
-each_alone i new cur (target ∷ targets) = map (numbered i) (planned [] new cur (target ∷ [])) ++ each_alone (i + 1) new cur targets
+each_alone i new cur (target ∷ targets) = map (shifted i) (planned [] new cur (target ∷ [])) ++ each_alone (i + 1) new cur targets

@@ -8,13 +8,13 @@ pub mod Reading
 pub mod Given
 -- The calls that a part of a run makes, and the fault that it answers for one.
 pub mod Counting
--- A run's tasks where nobody disturbs it.
+-- A run's tasks where the folder is quiet.
 pub mod Tasks
 -- What the parts of a run say of what they did.
 pub mod Parts
 -- What the parts of a run leave.
 pub mod Progress
 -- What a lister has listed.
-pub mod ListedSoFar
+pub mod TableSoFar
 -- Whether half of a rename comes.
 pub mod Script

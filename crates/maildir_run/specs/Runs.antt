@@ -19,16 +19,16 @@ pub record Possible (before after : Option (List ℕ)) (t : List ℕ) : Type 0 w
   pub whole : left ≡ [] → more ≡ []
 
 -- A report is true of a run over these messages from these files.
-pub record Reports (ms : List Message) (old : Files) (report : Report) : Type 0 where
+pub record ReportsMessages (ms : List Message) (old : Files) (report : Report) : Type 0 where
   pub messages : report.messages ≡ length ms
   pub there : report.there ≡ there_count old ms
   pub placed : report.placed ≡ length ms - there_count old ms
   pub swept : report.swept ≤ leftover_count old
 
 -- A run over these messages ended with Ok: they are delivered, and the report is true.
-pub record Ends (ms : List Message) (old : Files) (report : Report) (new : Files) : Type 0 where
+pub record EndedWell (ms : List Message) (old : Files) (report : Report) (new : Files) : Type 0 where
   pub delivered : Delivered ms new
-  pub reports : Reports ms old report
+  pub reports : ReportsMessages ms old report
 
 -- What a run over these messages owes, whatever it answered.
 pub record Keeps (ms : List Message) (old : Files) (answer : Result Report RunFault) (new : Files) : Type 0 where
@@ -38,10 +38,10 @@ pub record Keeps (ms : List Message) (old : Files) (answer : Result Report RunFa
   pub still : All (λ m. HasHome old m → HasHome new m) ms
   -- a message has come only after all before it
   pub in_order : AllPairs (λ m n. IsMissing old n → HasHome new n → HasHome new m) ms
-  pub ends : IfOk answer (λ report. Ends ms old report new)
+  pub ends : IfOk answer (λ report. EndedWell ms old report new)
 
 -- One run over a text, in a folder that is sound for the text's messages as it begins: it keeps what it owes to them, and with Ok the text is in `Mbox`.
-pub record Run (t : List ℕ) (old : Files) (answer : Result Report RunFault) (new : Files) : Type 0 where
+pub record IsRun (t : List ℕ) (old : Files) (answer : Result Report RunFault) (new : Files) : Type 0 where
   pub keeps : (ms : List Message) → MessagesOf t ms → Sound ms old old → Keeps ms old answer new
   pub is_read : OnOk answer ((entries : List Entry) × Mbox t entries)
 
@@ -61,7 +61,7 @@ pub data Link : Type 0 where
 
 -- a link leads from one moment to another
 abbrev pub Linked : List ℕ → Link → Files → Files → Type 0
-Linked t (Ran answer) old new = Run t old answer new
+Linked t (Ran answer) old new = IsRun t old answer new
 Linked t (Acted action) old new = new ≡ acted action old
 
 -- a finite chain of runs over a text, with any answers, and of other programs' actions

@@ -9,48 +9,48 @@ use Rattle.maildir_run.specs.declared.report.Report.{Report}
 use Rattle.maildir_run.specs.Files.{Files, Action, acted, homes, is_name}
 use Rattle.maildir_run.specs.Delivery.{Message, IsMissing, is_base_of}
 use Rattle.maildir_run.specs.Texts.{MessagesOf}
-use Rattle.maildir_run.specs.Runs.{Chain, Run, Link, Ran, Acted}
+use Rattle.maildir_run.specs.Runs.{Chain, IsRun, Link, Ran, Acted}
 
 -- a text, with its messages as a folder is to have them
-pub record Text : Type 0 where
+pub record Mailbox : Type 0 where
   pub bytes : List ℕ
   pub messages : List Message
 
 -- the messages are those of the text, which has fewer than 2^63 bytes
-pub record IsText (text : Text) : Type 0 where
+pub record IsMailbox (text : Mailbox) : Type 0 where
   pub are : MessagesOf text.bytes text.messages
   pub small : length text.bytes < 2 ^ 63
 
 -- this holds of each message of each of the texts
-abbrev pub OfEach : (Message → Type 0) → List Text → Type 0
+abbrev pub OfEach : (Message → Type 0) → List Mailbox → Type 0
 OfEach P texts = All (λ text. All P text.messages) texts
 
 -- whether a base is that of a message of one of the texts
-abbrev pub is_base_of_any : List Text → List ℕ → Bool
+abbrev pub is_base_of_any : List Mailbox → List ℕ → Bool
 is_base_of_any texts b = list_any (λ text. is_base_of text.messages b) texts
 
 -- whether one of the texts gives this body to this base
-abbrev pub gives : List Text → List ℕ → List ℕ → Bool
+abbrev pub gives : List Mailbox → List ℕ → List ℕ → Bool
 gives texts b body = list_any (λ text. list_any (λ m. is_name m.target.base b && bytes_eq m.body body) text.messages) texts
 
 -- The message's base has exactly one home, which holds a body that one of the texts gives to this base.
-pub record HoldsGiven (texts : List Text) (s : Files) (m : Message) : Type 0 where
+pub record HoldsGiven (texts : List Mailbox) (s : Files) (m : Message) : Type 0 where
   pub body : List ℕ
   pub given : IsTrue (gives texts m.target.base body)
   pub homes_are : homes s m.target.base ≡ body ∷ []
 
 -- A folder is sound for several texts, as against an earlier moment: each base of their messages has at most one home, which holds a body that one of the texts gives to this base, and the homes of each other converter's base hold what they held.
-pub record SoundForAll (texts : List Text) (old new : Files) : Type 0 where
+pub record SoundForAll (texts : List Mailbox) (old new : Files) : Type 0 where
   pub own : OfEach (λ m. IsMissing new m ⊎ HoldsGiven texts new m) texts
   pub others : (b : List ℕ) → IsTrue (is_converter_base b) → IsFalse (is_base_of_any texts b) → IsPermutation (homes old b) (homes new b)
 
 -- a link of a chain over several texts: a run over one of them with this answer, or an action of another program
 pub data LinkOver : Type 0 where
-  RanOver : (text : Text) → (answer : Result Report RunFault) → LinkOver
+  RanOver : (text : Mailbox) → (answer : Result Report RunFault) → LinkOver
   ActedOver : (action : Action) → LinkOver
 
 -- a link of a chain over one text, as one over several
-abbrev pub link_over : Text → Link → LinkOver
+abbrev pub link_over : Mailbox → Link → LinkOver
 link_over text (Ran answer) = RanOver text answer
 link_over text (Acted action) = ActedOver action
 
@@ -60,16 +60,16 @@ link_of (RanOver _ answer) = Ran answer
 link_of (ActedOver action) = Acted action
 
 -- a link leads from one moment to another
-abbrev pub LinkedOver : List Text → LinkOver → Files → Files → Type 0
-LinkedOver texts (RanOver text answer) old new = Contains texts text × Run text.bytes old answer new
+abbrev pub LinkedOver : List Mailbox → LinkOver → Files → Files → Type 0
+LinkedOver texts (RanOver text answer) old new = Contains texts text × IsRun text.bytes old answer new
 LinkedOver texts (ActedOver action) old new = new ≡ acted action old
 
 -- a finite chain of runs over any of the texts, with any answers, and of other programs' actions
-abbrev pub RunsOver : List Text → List LinkOver → Files → Files → Type 0
+abbrev pub RunsOver : List Mailbox → List LinkOver → Files → Files → Type 0
 RunsOver texts = Chain (LinkedOver texts)
 
 -- distinct bodies of the texts have distinct digests
-abbrev pub HaveOwnDigests : List Text → Type 0
+abbrev pub HaveOwnDigests : List Mailbox → Type 0
 HaveOwnDigests texts = OfEach (λ m. OfEach (λ n. digest_text m.body ≡ digest_text n.body → m.body ≡ n.body) texts) texts
 
 -- no converter's base with the digest of this body has a home
@@ -77,8 +77,8 @@ abbrev pub IsUnknown : Files → List ℕ → Type 0
 IsUnknown s body = (b : List ℕ) → IsTrue (is_converter_base b) → take 64 b ≡ digest_text body → homes s b ≡ []
 
 -- What is wanted of several texts and of the folder before any run over them.
-pub record AreFresh (texts : List Text) (s : Files) : Type 0 where
-  pub are : All IsText texts
+pub record AreFresh (texts : List Mailbox) (s : Files) : Type 0 where
+  pub are : All IsMailbox texts
   pub own : HaveOwnDigests texts
   pub unknown : OfEach (λ m. IsUnknown s m.body) texts
 
@@ -88,7 +88,7 @@ pub record IsThere (n : ℕ) (body : List ℕ) (s : Files) : Type 0 where
   pub no_other : (b : List ℕ) → IsTrue (is_converter_base b) → take 64 b ≡ digest_text body → ((k : ℕ) → k < n → numbered body (k + 1) ≢ b) → homes s b ≡ []
 
 -- how often a body stands in a text
-abbrev pub count_in : List ℕ → Text → ℕ
+abbrev pub count_in : List ℕ → Mailbox → ℕ
 count_in body text = count_by (λ m. bytes_eq body m.body) text.messages
 
 -- the greatest count of a body in a text of which a run of the chain answered Ok, or 0 where none did

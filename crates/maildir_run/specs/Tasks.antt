@@ -5,7 +5,7 @@ use Rattle.maildir_run.specs.declared.folder.Sub.{Sub}
 use Rattle.maildir_run.specs.declared.folder.Sub.TheVariants.{Tmp, New, Cur}
 use Rattle.maildir_run.specs.declared.planner.Step.{Step}
 use Rattle.maildir_run.specs.declared.planner.Step.TheVariants.{Remove, Write, Place}
-use Rattle.maildir_run.specs.Calls.{Call, Listing, Writing, Placing, Removing, Succeeded, Failed, Lists}
+use Rattle.maildir_run.specs.Calls.{Call, Listing, Writing, Placing, Removing, Succeeded, AnyMoves, Lists}
 use Rattle.maildir_run.specs.Cuts.{Leaves, IsFoundWhole}
 use Rattle.maildir_run.specs.Counting.{fault_of}
 use Rattle.maildir_run.specs.Delivery.{Message}
@@ -28,8 +28,8 @@ Done (Ask sub names) old new = Lists sub old names new
 Done (Do call) old new = Succeeded call old new
 
 -- it was refused, or not made
-abbrev pub Refused : Task → Files → Files → Type 0
-Refused task old new = Failed (call_of task) old new
+abbrev pub TaskRefused : Task → Files → Files → Type 0
+TaskRefused task old new = AnyMoves (call_of task) old new
 
 -- a way in which tasks are done and refused
 pub record Way : Type 1 where
@@ -37,8 +37,8 @@ pub record Way : Type 1 where
   pub refused : Task → Files → Files → Type 0
 
 -- as reported
-abbrev pub reported : Way
-reported = record { done = Done; refused = Refused }
+abbrev pub honestly : Way
+honestly = record { done = Done; refused = TaskRefused }
 
 -- what a cut leaves of a task that was done
 abbrev pub LeavesDone : Task → Files → Files → Type 0
@@ -69,14 +69,14 @@ Performs w tasks old result new = DoneUntil w tasks old (fault_of result) new
 
 -- ---- the tasks of a run
 -- three lists of names
-pub record Names : Type 0 where
+pub record Listings : Type 0 where
   pub tmp : List (List ℕ)
   pub new : List (List ℕ)
   pub cur : List (List ℕ)
 
 -- `new` before `cur`, since a mail reader moves files from the one to the other
-abbrev pub listings : Names → List Task
-listings names = Ask Tmp names.tmp ∷ Ask New names.new ∷ Ask Cur names.cur ∷ []
+abbrev pub listing_tasks : Listings → List Task
+listing_tasks names = Ask Tmp names.tmp ∷ Ask New names.new ∷ Ask Cur names.cur ∷ []
 
 -- the calls of a step of a plan, where a step's number is that of one of these messages
 abbrev pub task_of : List Message → Step → List Task
@@ -89,5 +89,5 @@ abbrev pub tasks_of : List Message → List Step → List Task
 tasks_of ms steps = flat_map (task_of ms) steps
 
 -- what is planned for these messages: the three listings, and the steps for what they answered
-abbrev pub planned_tasks : Names → List Message → List Task
-planned_tasks names ms = listings names ++ tasks_of ms (planned names.tmp names.new names.cur (map (λ m. m.target) ms))
+abbrev pub planned_tasks : Listings → List Message → List Task
+planned_tasks names ms = listing_tasks names ++ tasks_of ms (planned names.tmp names.new names.cur (map (λ m. m.target) ms))

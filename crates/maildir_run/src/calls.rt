@@ -3,7 +3,7 @@ ghost use Rattle.std.specs.Prelude.{◌≡◌, ◌+◌, [], ◌∷◌, IfErr};
 ghost use Rattle.maildir_run.specs.Counting.{capped, fault_of, IsOfFolder};
 ghost use Rattle.maildir_run.specs.Private.Counting.{run_answer};
 ghost use Rattle.maildir_run.specs.Calls.Call.{Writing, Placing, Removing};
-ghost use Rattle.maildir_run.specs.Private.Parts.{Ran, seen, names_in};
+ghost use Rattle.maildir_run.specs.Private.Parts.{Performed, seen, names_in};
 ghost use Rattle.maildir_run.specs.Tasks.Task.{Ask, Do};
 
 use crate::fault::RunFault;
@@ -46,7 +46,7 @@ impl Calls {
         sub: Sub,
     ) -> Result<Vec<String>, RunFault>
         ensures ran { let at = seen F.Folder in
-            Ran (Ask sub (names_in result) ∷ []) (at folder.old) (at folder.new) self.old.made self.new.made (fault_of result) }
+            Performed (Ask sub (names_in result) ∷ []) (at folder.old) (at folder.new) self.old.made self.new.made (fault_of result) }
         ensures causes { IfErr result IsOfFolder }
     {
         let answer = folder.list(sub);
@@ -61,7 +61,7 @@ impl Calls {
         bytes: &[u8],
     ) -> Result<(), RunFault>
         ensures ran { let at = seen F.Folder in
-            Ran (Do (Writing name.now bytes.now) ∷ []) (at folder.old) (at folder.new) self.old.made self.new.made (fault_of result) }
+            Performed (Do (Writing name.now bytes.now) ∷ []) (at folder.old) (at folder.new) self.old.made self.new.made (fault_of result) }
         ensures causes { IfErr result IsOfFolder }
     {
         let answer = folder.write(name, bytes);
@@ -77,7 +77,7 @@ impl Calls {
         target: &str,
     ) -> Result<(), RunFault>
         ensures ran { let at = seen F.Folder in
-            Ran (Do (Placing name.now place target.now) ∷ []) (at folder.old) (at folder.new) self.old.made self.new.made (fault_of result) }
+            Performed (Do (Placing name.now place target.now) ∷ []) (at folder.old) (at folder.new) self.old.made self.new.made (fault_of result) }
         ensures causes { IfErr result IsOfFolder }
     {
         let answer = folder.place(name, place, target);
@@ -87,7 +87,7 @@ impl Calls {
     /// Removes a file of `tmp`.
     pub(crate) fn remove<F: Folder>(&mut self, folder: &mut F, name: &str) -> Result<(), RunFault>
         ensures ran { let at = seen F.Folder in
-            Ran (Do (Removing name.now) ∷ []) (at folder.old) (at folder.new) self.old.made self.new.made (fault_of result) }
+            Performed (Do (Removing name.now) ∷ []) (at folder.old) (at folder.new) self.old.made self.new.made (fault_of result) }
         ensures causes { IfErr result IsOfFolder }
     {
         let answer = folder.remove(name);

@@ -1,29 +1,29 @@
 // One run: a source's messages into a folder.
 ghost use Rattle.std.specs.Prelude.{◌≡◌, ◌⊎◌, ◌*◌, ◌^◌, ◌<◌, ◌≤◌, ℕ, [], List, length, IfOk, OnOk, IfErr, IsErrOf, All};
 ghost use Rattle.std.specs.Io.KnownBytes.{IsAtEnd};
-ghost use Rattle.mbox_text.specs.declared.entry.Entry.{Entry as Message};
+ghost use Rattle.mbox_text.specs.Fed.{Fed};
 ghost use Rattle.mbox_text.specs.Mbox.{Mbox};
 ghost use Rattle.maildir_run.specs.Alone.{alone as alone_after};
 ghost use Rattle.maildir_run.specs.Private.Parts.{Conversion, seen};
-ghost use Rattle.maildir_run.specs.Counting.{CountsFault, IsOfFolder, Numbers};
-ghost use Rattle.maildir_run.specs.Cuts.{Left};
-ghost use Rattle.maildir_run.specs.Delivery.{Message as Due, Delivered, IsMissing, leftover_count};
+ghost use Rattle.maildir_run.specs.Counting.{CountsFault, IsOfFolder, CallNumber};
+ghost use Rattle.maildir_run.specs.Cuts.{Follows};
+ghost use Rattle.maildir_run.specs.Delivery.{Message, Delivered, IsMissing, leftover_count};
 ghost use Rattle.maildir_run.specs.Files.{Files};
-ghost use Rattle.maildir_run.specs.Private.Given.{Begins, Refused};
-ghost use Rattle.maildir_run.specs.Quietly.{LeavesOthers};
+ghost use Rattle.maildir_run.specs.Private.Given.{Begins, SourceStopped};
+ghost use Rattle.maildir_run.specs.Foreign.{KeepsForeign};
 ghost use Rattle.maildir_run.specs.Reading.{IsReading, ReadsAtLeast, ReadsAtMost};
 ghost use Rattle.maildir_run.specs.Private.Reading.{Taken};
-ghost use Rattle.maildir_run.specs.Runs.{CountsRun, Link, Possible, Run, Runs};
-ghost use Rattle.maildir_run.specs.Tasks.{Names, Performs, reported, leaving, planned_tasks};
+ghost use Rattle.maildir_run.specs.Runs.{CountsRun, Link, Possible, IsRun, Runs};
+ghost use Rattle.maildir_run.specs.Tasks.{Listings, Performs, honestly, leaving, planned_tasks};
 ghost use Rattle.maildir_run.specs.Texts.{MessagesOf};
 
 use crate::calls::Calls;
 use crate::engine::Engine;
 use crate::fault::RunFault;
 use crate::folder::Folder;
-use crate::messages::Messages;
+use crate::reader::Reader;
 use crate::report::Report;
-use crate::survey::look;
+use crate::listings::list_all;
 use mbox_text::Entry;
 use std::alloc::Global;
 use std::io::Read;
@@ -46,40 +46,40 @@ pub fn convert<F: Folder, R: Read>(
 ) -> Result<Report, RunFault>
     requires { reads ≤ 2 ^ 40 }
     ensures honest { F.honest folder.old → F.honest folder.new }
-    ensures as_planned { F.honest folder.old → (t : List ℕ) (ms : List Due) → Possible (R.remaining source.old) (R.remaining source.new) t → MessagesOf t ms →
-        (names : Names) × Performs reported (planned_tasks names ms) (F.files folder.old) result (F.files folder.new) }
-    ensures left { F.honest folder.old → (t : List ℕ) (ms : List Due) → Possible (R.remaining source.old) (R.remaining source.new) t → MessagesOf t ms →
-        Left (λ before now. (names : Names) × Performs leaving (planned_tasks names ms) before result now) (F.may_leave folder.old) (F.may_leave folder.new) }
-    ensures run { F.honest folder.old → (t : List ℕ) → length t < 2 ^ 63 → Possible (R.remaining source.old) (R.remaining source.new) t → Run t (F.files folder.old) result (F.files folder.new) }
-    ensures restartable { F.honest folder.old → (t : List ℕ) (ms : List Due) (links : List Link) (start : Files) → length t < 2 ^ 63 →
+    ensures as_planned { F.honest folder.old → (t : List ℕ) (ms : List Message) → Possible (R.remaining source.old) (R.remaining source.new) t → MessagesOf t ms →
+        (names : Listings) × Performs honestly (planned_tasks names ms) (F.files folder.old) result (F.files folder.new) }
+    ensures left { F.honest folder.old → (t : List ℕ) (ms : List Message) → Possible (R.remaining source.old) (R.remaining source.new) t → MessagesOf t ms →
+        Follows (λ before now. (names : Listings) × Performs leaving (planned_tasks names ms) before result now) (F.may_leave folder.old) (F.may_leave folder.new) }
+    ensures owes { F.honest folder.old → (t : List ℕ) → length t < 2 ^ 63 → Possible (R.remaining source.old) (R.remaining source.new) t → IsRun t (F.files folder.old) result (F.files folder.new) }
+    ensures restartable { F.honest folder.old → (t : List ℕ) (ms : List Message) (links : List Link) (start : Files) → length t < 2 ^ 63 →
         Possible (R.remaining source.old) (R.remaining source.new) t → MessagesOf t ms → All (IsMissing start) ms →
         Runs t links start (F.files folder.old) → OnOk result (Delivered ms (F.files folder.new)) }
     ensures end { OnOk result (IsAtEnd (R.remaining source.new)) }
 
-    // where nobody disturbs it
+    // where the folder is quiet
     ensures quiet { F.quiet folder.old → F.quiet folder.new }
-    ensures alone { F.quiet folder.old → (t : List ℕ) (ms : List Due) → Possible (R.remaining source.old) (R.remaining source.new) t → MessagesOf t ms →
+    ensures alone { F.quiet folder.old → (t : List ℕ) (ms : List Message) → Possible (R.remaining source.old) (R.remaining source.new) t → MessagesOf t ms →
         IfOk result (λ report. (F.files folder.new ≡ alone_after ms (F.files folder.old)) × (report.swept ≡ leftover_count (F.files folder.old))) }
-    ensures others { F.quiet folder.old → LeavesOthers (F.files folder.old) (F.files folder.new) }
+    ensures others { F.quiet folder.old → KeepsForeign (F.files folder.old) (F.files folder.new) }
 
     // what it counts
     ensures calls { IfOk result (λ report. CountsRun report (F.calls folder.old) (F.calls folder.new)) }
     ensures cause { CountsFault result (F.failures folder.old) (F.failures folder.new) }
-    ensures numbered { Numbers result (F.calls folder.old) (F.calls folder.new) }
+    ensures call_number { CallNumber result (F.calls folder.old) (F.calls folder.new) }
 
     // its refusals
     ensures untouched { IsErrOf result RunFault.NoFromLine → F.calls folder.new ≡ F.calls folder.old }
-    ensures no_from_line { IsErrOf result RunFault.NoFromLine → (t : List ℕ) (entries : List Message) → Possible (R.remaining source.old) (R.remaining source.new) t → ¬ Mbox t entries }
+    ensures no_from_line { IsErrOf result RunFault.NoFromLine → (t : List ℕ) (entries : List Entry) → Possible (R.remaining source.old) (R.remaining source.new) t → ¬ Mbox t entries }
     ensures spent { IsErrOf result RunFault.TooManyReads → ReadsAtLeast (R.remaining source.old) (R.remaining source.new) reads }
     ensures causes { IfErr result (λ fault. IsReading fault ⊎ IsOfFolder fault) }
 
     ensures budget { ReadsAtMost (R.remaining source.old) (R.remaining source.new) (65536 * reads) }
 {
-    run(alloc, folder, source, reads)
+    convert_seen(alloc, folder, source, reads)
 }
 
 /// The run itself. All that `convert` says follows from what it was given and which tasks it performed.
-fn run<F: Folder, R: Read>(
+fn convert_seen<F: Folder, R: Read>(
     alloc: Global,
     folder: &mut F,
     source: &mut R,
@@ -89,37 +89,37 @@ fn run<F: Folder, R: Read>(
     ensures is { let at = seen F.Folder in Conversion (R.remaining source.old) (R.remaining source.new) reads (at folder.old) (at folder.new) result }
     ensures causes { IfErr result (λ fault. IsReading fault ⊎ IsOfFolder fault) }
 {
-    let mut messages = Messages::new(alloc, reads)?;
+    let mut reader = Reader::new(alloc, reads)?;
     let mut whole = Vec::new(alloc);
-    let mut ended = read_first(&mut messages, source, &mut whole)?;
+    let mut ended = read_first(&mut reader, source, &mut whole)?;
     let mut calls = Calls::new();
-    let found = look(folder, &mut calls)?;
-    let mut engine = Engine::begin(alloc, folder, calls, &found)?;
+    let listings = list_all(folder, &mut calls)?;
+    let mut engine = Engine::begin(alloc, folder, calls, &listings)?;
     'pieces: loop {
         engine.deliver_entries(folder, &whole)?;
         if ended {
             return Ok(engine.report());
         }
         whole.clear();
-        ended = messages.read(source, &mut whole)?;
+        ended = reader.read(source, &mut whole)?;
     }
 }
 
 /// Reads until a message is whole or the source is at its end, and tells whether it is. By then the first bytes have
 /// told whether the text is an mbox text.
 fn read_first<R: Read>(
-    messages: &mut Messages,
+    reader: &mut Reader,
     source: &mut R,
     whole: &mut Vec<Entry>,
 ) -> Result<bool, RunFault>
-    requires fresh { Taken [] [] messages.old }
+    requires fresh { Fed [] [] reader.old.splitter }
     requires empty { whole.old.items ≡ [] }
-    ensures begins { IfOk result (λ ended. Begins ended (R.remaining source.old) (R.remaining source.new) messages.new.splitter messages.new.reads messages.old.reads whole.new.items) }
-    ensures refused { IfErr result (Refused (R.remaining source.old) (R.remaining source.new) messages.old.reads) }
+    ensures begins { IfOk result (λ ended. Begins ended (R.remaining source.old) (R.remaining source.new) reader.new.splitter reader.new.reads_left reader.old.reads_left whole.new.items) }
+    ensures refused { IfErr result (SourceStopped (R.remaining source.old) (R.remaining source.new) reader.old.reads_left) }
     ensures causes { IfErr result IsReading }
 {
     'pieces: loop {
-        let ended = messages.read(source, whole)?;
+        let ended = reader.read(source, whole)?;
         if ended || !whole.is_empty() {
             return Ok(ended);
         }

@@ -5,17 +5,17 @@ ghost use Rattle.maildir_name.specs.Named.{Named};
 ghost use Rattle.maildir_run.specs.Calls.{names_of};
 ghost use Rattle.maildir_run.specs.Counting.{IsOfFolder, fault_of};
 ghost use Rattle.maildir_run.specs.Plan.{is_listed};
-ghost use Rattle.maildir_run.specs.Private.Parts.{Brought, Ran, seen};
+ghost use Rattle.maildir_run.specs.Private.Parts.{DeliversMessages, Performed, seen};
 ghost use Rattle.maildir_run.specs.Parts.{sweep_of};
 ghost use Rattle.maildir_run.specs.Texts.{bodies_of};
 
 use crate::bases::Bases;
 use crate::calls::Calls;
-use crate::delivery::bring;
+use crate::delivery::deliver_message;
 use crate::fault::RunFault;
 use crate::folder::Folder;
 use crate::report::Report;
-use crate::survey::Survey;
+use crate::listings::Listings;
 use crate::sweep::sweep;
 use maildir_name::Namer;
 use mbox_text::Entry;
@@ -34,24 +34,24 @@ pub(crate) struct Engine<'a> {
 }
 
 impl<'a> Engine<'a> {
-    /// A run that found these names, and removes what broken runs left in `tmp`.
+    /// A run that was answered these names, and removes what broken runs left in `tmp`.
     pub(crate) fn begin<F: Folder>(
         alloc: Global,
         folder: &mut F,
         calls: Calls,
-        found: &'a Survey,
+        listings: &'a Listings,
     ) -> Result<Engine<'a>, RunFault>
         ensures ran { let at = seen F.Folder in (made : ℕ)
-            × Ran (sweep_of (names_of found.now.tmp)) (at folder.old) (at folder.new) calls.made made (fault_of result)
+            × Performed (sweep_of (names_of listings.now.tmp)) (at folder.old) (at folder.new) calls.made made (fault_of result)
             × IfOk result (λ engine. engine.calls.made ≡ made) }
-        ensures there { IfOk result (λ engine. (b : List ℕ) → contains_key engine.there b ≡ is_listed (names_of found.now.new) (names_of found.now.cur) b) }
+        ensures there { IfOk result (λ engine. (b : List ℕ) → contains_key engine.there b ≡ is_listed (names_of listings.now.new) (names_of listings.now.cur) b) }
         ensures namer { IfOk result (λ engine. Named [] engine.namer) }
-        ensures counts { IfOk result (λ engine. (engine.messages ≡ 0) × (engine.placed ≡ 0) × (engine.swept ≡ length (sweep_of (names_of found.now.tmp)))) }
+        ensures counts { IfOk result (λ engine. (engine.messages ≡ 0) × (engine.placed ≡ 0) × (engine.swept ≡ length (sweep_of (names_of listings.now.tmp)))) }
         ensures causes { IfErr result IsOfFolder }
     {
         let mut calls = calls;
-        let swept = sweep(alloc, folder, &mut calls, &found.tmp)?;
-        let there = Bases::of_listings(alloc, &found.new, &found.cur)?;
+        let swept = sweep(alloc, folder, &mut calls, &listings.tmp)?;
+        let there = Bases::of_listings(alloc, &listings.new, &listings.cur)?;
         Ok(Engine {
             there,
             namer: Namer::new(alloc),
@@ -77,11 +77,11 @@ impl<'a> Engine<'a> {
         }
     }
 
-    /// Brings the next message, if it was not there. The set of bases is asked once.
+    /// Delivers the next message, if it was not there. The set of bases is asked once.
     fn deliver<F: Folder>(&mut self, folder: &mut F, body: &[u8]) -> Result<(), RunFault>
         requires { self.old.messages < 2 ^ 63 }
-        ensures brought { let at = seen F.Folder in (bodies : List (List ℕ)) → Named bodies self.old.namer → length bodies < 2 ^ 63 →
-            Brought (contains_key self.old.there) bodies (body.now ∷ []) (at folder.old) (at folder.new) self.old.calls.made self.new.calls.made self.old.placed self.new.placed self.new.namer (fault_of result) }
+        ensures delivers { let at = seen F.Folder in (bodies : List (List ℕ)) → Named bodies self.old.namer → length bodies < 2 ^ 63 →
+            DeliversMessages (contains_key self.old.there) bodies (body.now ∷ []) (at folder.old) (at folder.new) self.old.calls.made self.new.calls.made self.old.placed self.new.placed self.new.namer (fault_of result) }
         ensures there { self.new.there ≡ self.old.there }
         ensures swept { self.new.swept ≡ self.old.swept }
         ensures one { OnOk result (self.new.messages ≡ self.old.messages + 1) }
@@ -90,21 +90,21 @@ impl<'a> Engine<'a> {
         let target = self.namer.target(body)?;
         self.messages += 1;
         if !self.there.contains(target.base.as_str()) {
-            bring(folder, &mut self.calls, &target, body)?;
+            deliver_message(folder, &mut self.calls, &target, body)?;
             self.placed += 1;
         }
         Ok(())
     }
 
-    /// Brings the messages of some entries, in their order.
+    /// Delivers the messages of some entries, in their order.
     pub(crate) fn deliver_entries<F: Folder>(
         &mut self,
         folder: &mut F,
         entries: &[Entry],
     ) -> Result<(), RunFault>
         requires { self.old.messages + length entries.now < 2 ^ 63 }
-        ensures brought { let at = seen F.Folder in (bodies : List (List ℕ)) → Named bodies self.old.namer → length bodies + length entries.now ≤ 2 ^ 63 →
-            Brought (contains_key self.old.there) bodies (bodies_of entries.now) (at folder.old) (at folder.new) self.old.calls.made self.new.calls.made self.old.placed self.new.placed self.new.namer (fault_of result) }
+        ensures delivers { let at = seen F.Folder in (bodies : List (List ℕ)) → Named bodies self.old.namer → length bodies + length entries.now ≤ 2 ^ 63 →
+            DeliversMessages (contains_key self.old.there) bodies (bodies_of entries.now) (at folder.old) (at folder.new) self.old.calls.made self.new.calls.made self.old.placed self.new.placed self.new.namer (fault_of result) }
         ensures there { self.new.there ≡ self.old.there }
         ensures swept { self.new.swept ≡ self.old.swept }
         ensures all { OnOk result (self.new.messages ≡ self.old.messages + length entries.now) }

@@ -4,7 +4,7 @@ ghost use Rattle.std.specs.FinMap.{keys};
 ghost use Rattle.maildir_run.specs.Files.{Files};
 ghost use Rattle.maildir_run.specs.Calls.{Called, Listed, CalledQuietly, GoesUp, CountsFailure, IsNotAbsent, folder_of, names_of};
 ghost use Rattle.maildir_run.specs.Calls.Call.{Listing, Writing, Placing, Removing};
-ghost use Rattle.maildir_run.specs.Cuts.{Left, LeavesOf};
+ghost use Rattle.maildir_run.specs.Cuts.{Follows, LeavesOf};
 ghost use Rattle.maildir_run.specs.declared.folder.FolderFault.TheVariants.{OutOfMemory};
 
 use maildir_name::Place;
@@ -81,11 +81,11 @@ pub trait Folder {
     fn list(&mut self, sub: Sub) -> Result<Vec<String>, FolderFault>
         ensures honest { honest self.old → honest self.new }
         ensures called { honest self.old → Listed sub (files self.old) result (files self.new) }
-        ensures left { honest self.old → Left (λ before now. LeavesOf (Listing sub) before result now)
+        ensures left { honest self.old → Follows (λ before now. LeavesOf (Listing sub) before result now)
             (may_leave self.old) (may_leave self.new) }
 
         ensures quiet { quiet self.old → quiet self.new }
-        ensures alone { quiet self.old →
+        ensures quietly { quiet self.old →
             CalledQuietly (Listing sub) (files self.old) result (files self.new) }
         ensures names { quiet self.old → IfOk result (λ v. IsPermutation (names_of v)
             (keys (folder_of sub (files self.old)))) }
@@ -103,11 +103,11 @@ pub trait Folder {
         ensures honest { honest self.old → honest self.new }
         ensures called { honest self.old →
             Called (Writing name.now bytes.now) (files self.old) result (files self.new) }
-        ensures left { honest self.old → Left (λ before now. LeavesOf (Writing name.now bytes.now) before result now)
+        ensures left { honest self.old → Follows (λ before now. LeavesOf (Writing name.now bytes.now) before result now)
             (may_leave self.old) (may_leave self.new) }
 
         ensures quiet { quiet self.old → quiet self.new }
-        ensures alone { quiet self.old →
+        ensures quietly { quiet self.old →
             CalledQuietly (Writing name.now bytes.now) (files self.old) result (files self.new) }
 
         ensures counted { GoesUp (calls self.old) (calls self.new) }
@@ -123,11 +123,11 @@ pub trait Folder {
         ensures honest { honest self.old → honest self.new }
         ensures called { honest self.old →
             Called (Placing name.now place target.now) (files self.old) result (files self.new) }
-        ensures left { honest self.old → Left (λ before now. LeavesOf (Placing name.now place target.now) before result now)
+        ensures left { honest self.old → Follows (λ before now. LeavesOf (Placing name.now place target.now) before result now)
             (may_leave self.old) (may_leave self.new) }
 
         ensures quiet { quiet self.old → quiet self.new }
-        ensures alone { quiet self.old →
+        ensures quietly { quiet self.old →
             CalledQuietly (Placing name.now place target.now) (files self.old) result (files self.new) }
 
         ensures counted { GoesUp (calls self.old) (calls self.new) }
@@ -142,11 +142,11 @@ pub trait Folder {
         ensures honest { honest self.old → honest self.new }
         ensures called { honest self.old →
             Called (Removing name.now) (files self.old) result (files self.new) }
-        ensures left { honest self.old → Left (λ before now. LeavesOf (Removing name.now) before result now)
+        ensures left { honest self.old → Follows (λ before now. LeavesOf (Removing name.now) before result now)
             (may_leave self.old) (may_leave self.new) }
 
         ensures quiet { quiet self.old → quiet self.new }
-        ensures alone { quiet self.old →
+        ensures quietly { quiet self.old →
             CalledQuietly (Removing name.now) (files self.old) result (files self.new) }
 
         ensures counted { GoesUp (calls self.old) (calls self.new) }

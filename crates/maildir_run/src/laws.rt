@@ -7,18 +7,18 @@ ghost use Rattle.maildir_name.specs.declared.target.Target.{Target};
 ghost use Rattle.maildir_name.specs.Names.{is_converter_base, is_converter_name};
 ghost use Rattle.maildir_run.specs.declared.folder.Sub.TheVariants as sub;
 ghost use Rattle.maildir_run.specs.declared.report.Report.{Report};
-ghost use Rattle.maildir_run.specs.Files.{Files, Action, LeavesConverters, acted, all_acted, homes, has_base};
+ghost use Rattle.maildir_run.specs.Files.{Files, Action, KeepsConverters, acted, all_acted, homes, has_base};
 ghost use Rattle.maildir_run.specs.Files.Action.{Outside};
 ghost use Rattle.maildir_run.specs.Calls.{Call, Move, after, Lists, Succeeded, PlacesElsewhere, WritesElsewhere, StaysOrGoes, NoneOrOne};
 ghost use Rattle.maildir_run.specs.Calls.Call.{Placing};
 ghost use Rattle.maildir_run.specs.Delivery.{Message, leftover_count, IsMissing, IsHome, AreNamed, AreDistinct, Sound, Delivered};
 ghost use Rattle.maildir_run.specs.Texts.{MessagesOf};
-ghost use Rattle.maildir_run.specs.Runs.{CountsRun, Link, Run, Runs};
-ghost use Rattle.maildir_run.specs.Several.{Text, IsText, OfEach, SoundForAll, LinkOver, RunsOver, link_over, link_of, AreFresh, StandsAfter};
+ghost use Rattle.maildir_run.specs.Runs.{CountsRun, Link, IsRun, Runs};
+ghost use Rattle.maildir_run.specs.Several.{Mailbox, IsMailbox, OfEach, SoundForAll, LinkOver, RunsOver, link_over, link_of, AreFresh, StandsAfter};
 ghost use Rattle.maildir_run.specs.Several.LinkOver.{RanOver};
 ghost use Rattle.maildir_run.specs.Alone.{alone};
 ghost use Rattle.maildir_run.specs.Plan.{is_listed, planned, each_alone};
-ghost use Rattle.maildir_run.specs.Tasks.{Names, planned_tasks, listings};
+ghost use Rattle.maildir_run.specs.Tasks.{Listings, planned_tasks, listing_tasks};
 ghost use Rattle.maildir_run.specs.Parts.{sweep_of, deliveries_of};
 
 /// The plan for some targets is the plan for none, followed by the steps of each target alone over an empty `tmp`.
@@ -30,8 +30,8 @@ pub fn plan_is_each_alone()
 /// What a run asks of its folder for some messages, one after the other, are the calls of the plan for all of them: the
 /// listings, and then the steps that `plan` answers for what they listed and the messages' targets.
 pub fn runs_are_planned()
-    ensures { (names : Names) (ms : List Message) → planned_tasks names ms
-        ≡ listings names ++ (sweep_of names.tmp ++ deliveries_of (is_listed names.new names.cur) ms) }
+    ensures { (names : Listings) (ms : List Message) → planned_tasks names ms
+        ≡ listing_tasks names ++ (sweep_of names.tmp ++ deliveries_of (is_listed names.new names.cur) ms) }
 {}
 
 /// A converter's base keeps what its homes hold, whatever another program does, and within each call that
@@ -47,13 +47,13 @@ pub fn homes_are_kept()
 /// An action outside leaves all converter's names and their bytes as they are, and each state that leaves them
 /// so is reached by one.
 pub fn outside_actions()
-    ensures leaves { (files s : Files) → LeavesConverters s (acted (Outside files) s) }
-    ensures reaches { (s t : Files) → LeavesConverters s t → acted (Outside t) s ≡ t }
+    ensures leaves { (files s : Files) → KeepsConverters s (acted (Outside files) s) }
+    ensures reaches { (s t : Files) → KeepsConverters s t → acted (Outside t) s ≡ t }
 {}
 
 /// A placement of a converter's name under a base that has no home leaves none, or one that holds what `tmp`
 /// had under the name; with Ok it leaves one.
-pub fn place_brings_one()
+pub fn place_delivers_one()
     ensures any { (b name target : List ℕ) (place : Place) (moves : List Move) (s : Files) →
         IsTrue (is_converter_base b) → IsTrue (is_converter_name name) →
         IsTrue (has_base b target) → homes s b ≡ [] →
@@ -102,7 +102,7 @@ pub fn after_any_runs()
         Sound ms old new }
     ensures delivered { (t : List ℕ) (ms : List Message) (links : List Link) (old mid new : Files) (report : Report) →
         MessagesOf t ms → length t < 2 ^ 63 → All (IsMissing old) ms → Runs t links old mid →
-        Run t mid (Ok report) new → Delivered ms new }
+        IsRun t mid (Ok report) new → Delivered ms new }
     ensures kept { (t : List ℕ) (ms : List Message) (action : Action) (s : Files) →
         MessagesOf t ms → length t < 2 ^ 63 → Delivered ms s → Delivered ms (acted action s) }
 {}
@@ -113,12 +113,12 @@ pub fn after_any_runs()
 /// as often as in one of which a run was made; and each message of a text of which a run answered Ok is at home. Distinct
 /// bodies are to have distinct digests.
 pub fn several_texts()
-    ensures sound { (texts : List Text) (links : List LinkOver) (old new : Files) →
+    ensures sound { (texts : List Mailbox) (links : List LinkOver) (old new : Files) →
         AreFresh texts old → RunsOver texts links old new → SoundForAll texts old new }
-    ensures counted { (texts : List Text) (links : List LinkOver) (old new : Files) →
+    ensures counted { (texts : List Mailbox) (links : List LinkOver) (old new : Files) →
         AreFresh texts old → RunsOver texts links old new →
         OfEach (λ m. StandsAfter links m.body new) texts }
-    ensures whole { (texts : List Text) (links : List LinkOver) (old new : Files) (text : Text) (report : Report) →
+    ensures whole { (texts : List Mailbox) (links : List LinkOver) (old new : Files) (text : Mailbox) (report : Report) →
         AreFresh texts old → RunsOver texts links old new → Contains links (RanOver text (Ok report)) →
         All (IsHome new) text.messages }
 {}
@@ -126,19 +126,19 @@ pub fn several_texts()
 /// For a list of one text these are the words for one text: the same folders are sound, and the same chains lead from
 /// one moment to another.
 pub fn one_text()
-    ensures sound { (text : Text) (old new : Files) → IsText text →
+    ensures sound { (text : Mailbox) (old new : Files) → IsMailbox text →
         SoundForAll (text ∷ []) old new ↔ Sound text.messages old new }
-    ensures runs { (text : Text) (links : List LinkOver) (old new : Files) →
+    ensures runs { (text : Mailbox) (links : List LinkOver) (old new : Files) →
         RunsOver (text ∷ []) links old new → Runs text.bytes (map link_of links) old new }
-    ensures runs_over { (text : Text) (links : List Link) (old new : Files) →
+    ensures runs_over { (text : Mailbox) (links : List Link) (old new : Files) →
         Runs text.bytes links old new → RunsOver (text ∷ []) (map (link_over text) links) old new }
 {}
 
-/// Where the messages are delivered, an undisturbed run leaves all files as they are, and a run that ends with Ok places
+/// Where the messages are delivered, a quiet run leaves all files as they are, and a run that ends with Ok places
 /// nothing, sweeps nothing and makes three calls, the listings.
 pub fn nothing_left_to_do()
     ensures same { (ms : List Message) (s : Files) → Delivered ms s → alone ms s ≡ s }
     ensures three_calls { (t : List ℕ) (ms : List Message) (s new : Files) (report : Report) → MessagesOf t ms → Delivered ms s →
-        Run t s (Ok report) new → (before after : ℕ) → CountsRun report before after →
+        IsRun t s (Ok report) new → (before after : ℕ) → CountsRun report before after →
         (report.placed ≡ 0) × (report.swept ≡ 0) × (after % 2 ^ 128 ≡ (before + 3) % 2 ^ 128) }
 {}

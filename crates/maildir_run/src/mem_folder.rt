@@ -4,10 +4,10 @@ ghost use Rattle.std.specs.FinMap.{get, keys, len};
 ghost use Rattle.std.specs.Option.{option_copied};
 ghost use Rattle.maildir_run.specs.Calls.{folder_of, names_of, Called, Listed, CalledQuietly, GoesUp, CountsFailure, IsNotAbsent};
 ghost use Rattle.maildir_run.specs.Calls.Call.{Listing, Writing, Placing, Removing};
-ghost use Rattle.maildir_run.specs.Cuts.{Left, LeavesOf};
+ghost use Rattle.maildir_run.specs.Cuts.{Follows, LeavesOf};
 ghost use Rattle.maildir_run.specs.MemFiles.{no_files, with_file};
 ghost use Rattle.maildir_run.specs.Script.{IsCutShort, half_performed, performed};
-ghost use Rattle.maildir_run.specs.MemFolder.{files_of, call_count, all_call_count, failure_count, lines_of, fail_from_of, IsQuiet, IsUndisturbed, next_mode, next_acts, next_files, FollowsScript, SameCounts, SameScript, IsUnchanged, CountsCall};
+ghost use Rattle.maildir_run.specs.MemFolder.{files_of, call_count, all_call_count, failure_count, lines_of, fail_from_of, IsQuiet, HasNoScript, next_mode, next_acts, next_files, FollowsScript, SameCounts, SameScript, IsUnchanged, CountsCall};
 
 use crate::folder::{Folder, FolderFault, Sub};
 use crate::mem_files::MemFiles;
@@ -32,7 +32,7 @@ impl MemFolder {
         ensures files { files_of result ≡ no_files }
         ensures calls { call_count result ≡ 0 }
         ensures quiet { IsQuiet result }
-        ensures undisturbed { fail_from_of result ≡ None }
+        ensures never_fails { fail_from_of result ≡ None }
     {
         MemFolder {
             files: MemFiles::new(alloc),
@@ -135,7 +135,7 @@ impl MemFolder {
         ensures files { IfOk result (λ copy. files_of copy ≡ files_of self.now) }
         ensures calls { IfOk result (λ copy. call_count copy ≡ 0) }
         ensures quiet { IfOk result IsQuiet }
-        ensures undisturbed { IfOk result (λ copy. fail_from_of copy ≡ None) }
+        ensures never_fails { IfOk result (λ copy. fail_from_of copy ≡ None) }
         ensures refused { IfErr result (λ fault. fault ≡ FolderFault.OutOfMemory) }
     {
         let mut copy = MemFolder::new(self.files.alloc);
@@ -218,17 +218,17 @@ impl Folder for MemFolder {
 
     fn list(&mut self, sub: Sub) -> Result<Vec<String>, FolderFault>
         ensures called { Listed sub (files_of self.old) result (files_of self.new) }
-        ensures left { Left (λ before now. LeavesOf (Listing sub) before result now) (λ left. left ≡ files_of self.old) (λ left. left ≡ files_of self.new) }
+        ensures left { Follows (λ before now. LeavesOf (Listing sub) before result now) (λ left. left ≡ files_of self.old) (λ left. left ≡ files_of self.new) }
         ensures scripted { FollowsScript (Listing sub) self.old result self.new }
         ensures in_order { IfOk result (λ names. names_of names ≡ keys (folder_of sub (files_of self.new))) }
         ensures script { SameScript self.old self.new }
 
         // while the script has no line
-        ensures alone { IsQuiet self.old → CalledQuietly (Listing sub) (files_of self.old) result (files_of self.new) }
+        ensures quietly { IsQuiet self.old → CalledQuietly (Listing sub) (files_of self.old) result (files_of self.new) }
         ensures names { IsQuiet self.old → IfOk result (λ names. IsPermutation (names_of names)
             (keys (folder_of sub (files_of self.old)))) }
         ensures err { IsQuiet self.old → OnErr result (files_of self.new ≡ files_of self.old) }
-        ensures refused { IsUndisturbed self.old → IfErr result (λ fault. fault ≡ FolderFault.OutOfMemory) }
+        ensures refused { HasNoScript self.old → IfErr result (λ fault. fault ≡ FolderFault.OutOfMemory) }
 
         ensures counted { GoesUp (all_call_count self.old) (all_call_count self.new) }
         ensures cause { CountsFailure result (failure_count self.old) (failure_count self.new) }
@@ -242,15 +242,15 @@ impl Folder for MemFolder {
 
     fn write(&mut self, name: &str, bytes: &[u8]) -> Result<(), FolderFault>
         ensures called { Called (Writing name.now bytes.now) (files_of self.old) result (files_of self.new) }
-        ensures left { Left (λ before now. LeavesOf (Writing name.now bytes.now) before result now) (λ left. left ≡ files_of self.old) (λ left. left ≡ files_of self.new) }
+        ensures left { Follows (λ before now. LeavesOf (Writing name.now bytes.now) before result now) (λ left. left ≡ files_of self.old) (λ left. left ≡ files_of self.new) }
         ensures scripted { FollowsScript (Writing name.now bytes.now) self.old result self.new }
         ensures script { SameScript self.old self.new }
 
         // while the script has no line
-        ensures alone { IsQuiet self.old → CalledQuietly (Writing name.now bytes.now)
+        ensures quietly { IsQuiet self.old → CalledQuietly (Writing name.now bytes.now)
             (files_of self.old) result (files_of self.new) }
         ensures err { IsQuiet self.old → OnErr result (files_of self.new ≡ files_of self.old) }
-        ensures refused { IsUndisturbed self.old → IfErr result (λ fault. fault ≡ FolderFault.OutOfMemory) }
+        ensures refused { HasNoScript self.old → IfErr result (λ fault. fault ≡ FolderFault.OutOfMemory) }
 
         ensures counted { GoesUp (all_call_count self.old) (all_call_count self.new) }
         ensures cause { CountsFailure result (failure_count self.old) (failure_count self.new) }
@@ -265,17 +265,17 @@ impl Folder for MemFolder {
     fn place(&mut self, name: &str, place: Place, target: &str) -> Result<(), FolderFault>
         ensures called { Called (Placing name.now place target.now)
             (files_of self.old) result (files_of self.new) }
-        ensures left { Left (λ before now. LeavesOf (Placing name.now place target.now) before result now) (λ left. left ≡ files_of self.old) (λ left. left ≡ files_of self.new) }
+        ensures left { Follows (λ before now. LeavesOf (Placing name.now place target.now) before result now) (λ left. left ≡ files_of self.old) (λ left. left ≡ files_of self.new) }
         ensures scripted { FollowsScript (Placing name.now place target.now) self.old result self.new }
         ensures script { SameScript self.old self.new }
 
         // while the script has no line
-        ensures alone { IsQuiet self.old → CalledQuietly (Placing name.now place target.now)
+        ensures quietly { IsQuiet self.old → CalledQuietly (Placing name.now place target.now)
             (files_of self.old) result (files_of self.new) }
         ensures err { IsQuiet self.old → OnErr result (files_of self.new ≡ files_of self.old) }
-        ensures absent { IsUndisturbed self.old →
+        ensures absent { HasNoScript self.old →
             (IsErrOf result FolderFault.Absent ↔ (get (files_of self.old).tmp name.now ≡ None)) }
-        ensures not_failed { IsUndisturbed self.old → IsErrOf result FolderFault.Failed → ⊥ }
+        ensures not_failed { HasNoScript self.old → IsErrOf result FolderFault.Failed → ⊥ }
 
         ensures counted { GoesUp (all_call_count self.old) (all_call_count self.new) }
         ensures cause { CountsFailure result (failure_count self.old) (failure_count self.new) }
@@ -288,14 +288,14 @@ impl Folder for MemFolder {
 
     fn remove(&mut self, name: &str) -> Result<(), FolderFault>
         ensures called { Called (Removing name.now) (files_of self.old) result (files_of self.new) }
-        ensures left { Left (λ before now. LeavesOf (Removing name.now) before result now) (λ left. left ≡ files_of self.old) (λ left. left ≡ files_of self.new) }
+        ensures left { Follows (λ before now. LeavesOf (Removing name.now) before result now) (λ left. left ≡ files_of self.old) (λ left. left ≡ files_of self.new) }
         ensures scripted { FollowsScript (Removing name.now) self.old result self.new }
         ensures script { SameScript self.old self.new }
 
         // while the script has no line
-        ensures alone { IsQuiet self.old → CalledQuietly (Removing name.now) (files_of self.old) result (files_of self.new) }
+        ensures quietly { IsQuiet self.old → CalledQuietly (Removing name.now) (files_of self.old) result (files_of self.new) }
         ensures err { IsQuiet self.old → OnErr result (files_of self.new ≡ files_of self.old) }
-        ensures ok { IsUndisturbed self.old → IsOk result }
+        ensures ok { HasNoScript self.old → IsOk result }
 
         ensures counted { GoesUp (all_call_count self.old) (all_call_count self.new) }
         ensures cause { CountsFailure result (failure_count self.old) (failure_count self.new) }

@@ -8,7 +8,7 @@ ghost use Rattle.maildir_run.specs.Output.{GivesAll, GivesFront, GivesNothing};
 ghost use Rattle.maildir_run.specs.Reading.{IsReading, ReadsAtLeast, ReadsAtMost};
 
 use crate::fault::RunFault;
-use crate::messages::Messages;
+use crate::reader::Reader;
 use mbox_text::{Entry, write_entry};
 use std::alloc::Global;
 use std::io::{Read, Write};
@@ -37,11 +37,11 @@ pub fn rewrite<R: Read, W: Write>(
 
     ensures budget { ReadsAtMost (R.remaining source.old) (R.remaining source.new) (65536 * reads) }
 {
-    let mut messages = Messages::new(alloc, reads)?;
+    let mut reader = Reader::new(alloc, reads)?;
     let mut whole = Vec::new(alloc);
     let mut count = 0u64;
     'pieces: loop {
-        let ended = messages.read(source, &mut whole)?;
+        let ended = reader.read(source, &mut whole)?;
         write_entries(&whole, out)?;
         count += whole.len() as u64;
         if ended {

@@ -2,7 +2,7 @@
 ghost use Rattle.std.specs.Prelude.{◌≡◌, [], length, map, string_bytes, IfOk, IfErr};
 ghost use Rattle.maildir_run.specs.Counting.{IsOfFolder, fault_of};
 ghost use Rattle.maildir_run.specs.Tasks.{tasks_of};
-ghost use Rattle.maildir_run.specs.Private.Parts.{Ran, seen};
+ghost use Rattle.maildir_run.specs.Private.Parts.{Performed, seen};
 ghost use Rattle.maildir_run.specs.Parts.{sweep_of};
 
 use crate::calls::Calls;
@@ -20,7 +20,7 @@ pub(crate) fn sweep<F: Folder>(
     listed: &[String],
 ) -> Result<u64, RunFault>
     ensures ran { let at = seen F.Folder in
-        Ran (sweep_of (map string_bytes listed.now)) (at folder.old) (at folder.new) calls.old.made calls.new.made (fault_of result) }
+        Performed (sweep_of (map string_bytes listed.now)) (at folder.old) (at folder.new) calls.old.made calls.new.made (fault_of result) }
     ensures count { IfOk result (λ n. n ≡ length (sweep_of (map string_bytes listed.now))) }
     ensures causes { IfErr result IsOfFolder }
 {
@@ -35,7 +35,7 @@ fn remove_planned<F: Folder>(
     steps: &[Step],
 ) -> Result<u64, RunFault>
     ensures ran { let at = seen F.Folder in
-        Ran (tasks_of [] steps.now) (at folder.old) (at folder.new) calls.old.made calls.new.made (fault_of result) }
+        Performed (tasks_of [] steps.now) (at folder.old) (at folder.new) calls.old.made calls.new.made (fault_of result) }
     ensures count { IfOk result (λ n. n ≡ length (tasks_of [] steps.now)) }
     ensures causes { IfErr result IsOfFolder }
 {

@@ -6,14 +6,14 @@ use Rattle.mbox_text.specs.declared.fault.TextFault.TheVariants.{NoFromLine, Fai
 use Rattle.mbox_text.specs.declared.splitter.Splitter.{Splitter}
 use Rattle.mbox_text.specs.Mbox.{Mbox}
 use Rattle.mbox_text.specs.Fronts.{AllButLast, NeverFrom}
-use Rattle.mbox_text.specs.Held.{HasFailed, Holds}
+use Rattle.mbox_text.specs.Held.{HasFailed, HeldIn}
 
 -- The splitter was fed this text, no feed was refused, and these are the messages that it has given.
 -- What a caller reads of it are the first two; the last is what the splitter's own functions go on with.
 pub record Fed (text : List ℕ) (given : List Entry) (splitter : Splitter) : Type 0 where
   pub works : ¬ HasFailed splitter
   pub given_are : AllButLast text given
-  pub held : Holds text given splitter
+  pub held : HeldIn text given splitter
 
 -- the messages that were added to these are given of the piece, whatever the splitter was fed before
 abbrev pub Takes : Splitter → List ℕ → List Entry → List Entry → Splitter → Type 0
@@ -35,8 +35,8 @@ TakesPart old piece out out' =
     × (NeverFrom (text ++ piece) → added ≡ []))
 
 -- With this message those that were given are all of the text, whatever that is; none is left exactly where the text is empty.
-abbrev pub Ends : Splitter → Option Entry → Type 0
-Ends splitter last =
+abbrev pub GivesLast : Splitter → Option Entry → Type 0
+GivesLast splitter last =
     (text : List ℕ) (given : List Entry) → Fed text given splitter
     → Mbox text (given ++ option_to_list last) × (IsNone last ↔ (text ≡ []))
 

@@ -51,5 +51,5 @@ abbrev pub HasFailed : Splitter → Type 0
 HasFailed splitter = IsTrue splitter.failed
 
 -- the text is the given messages and what the splitter holds
-abbrev pub Holds : List ℕ → List Entry → Splitter → Type 0
-Holds text given splitter = Held text given splitter.message splitter.line.items
+abbrev pub HeldIn : List ℕ → List Entry → Splitter → Type 0
+HeldIn text given splitter = Held text given splitter.message splitter.line.items

@@ -1,6 +1,6 @@
 // The splitter: messages out of a text that comes in pieces.
 ghost use Rattle.std.specs.Prelude.{◌≡◌, ◌<◌, ◌≤◌, ◌↔◌, [], ◌∷◌, length, take, IfErr, IfOk, IsErr, IsErrOf, OnErr, OnOk};
-ghost use Rattle.mbox_text.specs.Fed.{Ends, Fed, IsSplitterFault, NeverBegins, RefusesShort, Takes, TakesPart};
+ghost use Rattle.mbox_text.specs.Fed.{GivesLast, Fed, IsSplitterFault, NeverBegins, RefusesShort, Takes, TakesPart};
 ghost use Rattle.mbox_text.specs.Private.Moved.{Gives, Moves, Refuses, Stops};
 ghost use Rattle.mbox_text.specs.Held.{HasFailed};
 ghost use Rattle.mbox_text.specs.Lines.{NoEnd};
@@ -71,7 +71,7 @@ impl Splitter {
     ///
     /// Errors: `Failed` after a refused `feed`, `NoFromLine` where one to four bytes were fed, `OutOfMemory`.
     pub fn finish(self) -> Result<Option<Entry>, TextFault>
-        ensures last { IfOk result (Ends self) }
+        ensures last { IfOk result (GivesLast self) }
         ensures failed { IsErrOf result TextFault.Failed ↔ HasFailed self }
         ensures no_from_line { RefusesShort self result }
         ensures causes { IfErr result IsSplitterFault }

@@ -1,4 +1,4 @@
-// Runs that are broken off and disturbed at random, and one undisturbed run after them. The bases are another program's.
+// Runs that are broken off and disturbed at random, and one quiet run after them. The bases are another program's.
 ghost use Rattle.std.specs.Prelude.{◌<◌};
 
 use crate::runs::{ABC, Answer, EMPTY_ONE, EMPTY_TWO, THREE, run_over};

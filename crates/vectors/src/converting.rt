@@ -30,7 +30,7 @@ fn delivers(alloc: Global, text: &[u8], messages: u64, calls: u64, files: &[File
 
 // In each row also second_run_changes_nothing.
 #[test]
-fn undisturbed_runs(rt: HostRuntime) {
+fn quiet_runs(rt: HostRuntime) {
     const ROWS: &[(&str, &[u8], u64, u64, &[File<'_>])] = &[
         ("empty_text", b"", 0, 3, &[]),
         ("unended_line", UNENDED, 1, 5, &[(Sub::New, ABC, "abc")]),

@@ -190,7 +190,7 @@ fn each_call_and_each_case(rt: HostRuntime) -> Result<(), Fail> {
     Ok(())
 }
 
-// The steps that bring a message, and what is asked to be kept between them.
+// The steps that deliver a message, and what is asked to be kept between them.
 #[derive(Clone, Copy)]
 enum Step {
     Write,
@@ -427,7 +427,7 @@ fn equal_ones(folder: &MemFolder) -> (bool, bool) {
     )
 }
 
-// A cut may leave the second of two equal messages and lose the first. The next run brings the first again.
+// A cut may leave the second of two equal messages and lose the first. The next run delivers the first again.
 #[test]
 fn second_of_two_equal_messages(rt: HostRuntime) -> Result<(), Fail> {
     let alloc = rt.alloc();

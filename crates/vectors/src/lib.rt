@@ -1,5 +1,5 @@
 //! The worked rows on the calls of the libraries but the commands', as tests: texts that are split, written, listed and
-//! rewritten, From_ lines, flags, names and plans; runs over the folder in memory, undisturbed, broken off at each call,
+//! rewritten, From_ lines, flags, names and plans; runs over the folder in memory, quiet, broken off at each call,
 //! with a mail reader at work, and at random; runs over a system in memory, and what a power cut leaves of them; and each
 //! call again after a growth that was refused.
 //!

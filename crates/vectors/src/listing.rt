@@ -90,7 +90,7 @@ fn refusals(rt: HostRuntime) {
     }
 }
 
-// Whether a listing ends where its source breaks off behind so many bytes, and has these lines.
+// Whether a table ends where its source breaks off behind so many bytes, and has these rows.
 fn breaks_off(alloc: Global, text: &[u8], bytes: usize, piece: usize, lines: &[u8]) -> bool {
     let mut out = Vec::new(alloc);
     let mut source = Cut::broken(text, bytes, piece);
@@ -111,7 +111,7 @@ fn source_fails(rt: HostRuntime) {
     }
 }
 
-// Whether a listing ends at an output that takes four bytes and then fails or takes none.
+// Whether a table ends at an output that takes four bytes and then fails or takes none.
 fn is_cut_short(alloc: Global, fails: bool) -> bool {
     let mut out = Narrow::new(alloc, 4, 4, fails);
     let mut source = Cut::new(b"From x\nabc", 65_536, Then::Ends);

@@ -1,7 +1,7 @@
 // Worked texts in their regular spelling, and refusals.
 ghost use Rattle.std.specs.Prelude.{List, OnErr, Some};
 ghost use Rattle.std.specs.List.{flat_map};
-ghost use Rattle.mbox_text.specs.declared.entry.Entry.{Entry as Message};
+ghost use Rattle.mbox_text.specs.declared.entry.Entry.{Entry};
 ghost use Rattle.mbox_text.specs.Mbox.{Mbox};
 ghost use Rattle.mbox_text.specs.Spelling.{spelling};
 ghost use Rattle.mbox_text.specs.Writing.{AppendsFront};
@@ -132,7 +132,7 @@ fn rewrite_broken(
     piece: usize,
     out: &mut Vec<u8>,
 ) -> Result<u64, RunFault>
-    ensures { OnErr result ((entries : List Message) → Mbox text.now entries → AppendsFront (Some out.old.items) (Some out.new.items) (flat_map spelling entries)) }
+    ensures { OnErr result ((entries : List Entry) → Mbox text.now entries → AppendsFront (Some out.old.items) (Some out.new.items) (flat_map spelling entries)) }
 {
     let mut source = Cut::broken(text, bytes, piece);
     rewrite(alloc, &mut source, out, LIMIT)

@@ -24,7 +24,7 @@ const ALL_THREE: &[File<'_>] = &[
     (Sub::New, ABC, "abc"),
 ];
 
-// An undisturbed run that finds and sweeps so many, and leaves the three messages and nothing else.
+// A quiet run that finds and sweeps so many, and leaves the three messages and nothing else.
 fn repairs(there: u64, swept: u64) -> Run<'static> {
     let placed = 3u64.saturating_sub(there);
     let calls = placed

@@ -7,11 +7,11 @@ use Rattle.std.specs.declared.alloc.Global.{Global}
 use Rattle.std.specs.FinMap.{keys}
 use Rattle.maildir_run.specs.declared.folder.Sub.{Sub}
 use Rattle.maildir_run.specs.Files.{Files, Action, acted, all_acted}
-use Rattle.maildir_run.specs.Calls.{Call, Listing, Move, Other, Again, moved, after, folder_of, IsWhole, Lists, Listed, Failed}
+use Rattle.maildir_run.specs.Calls.{Call, Listing, Move, Other, Again, moved, after, folder_of, IsWhole, Lists, Listed, AnyMoves}
 use Rattle.maildir_disk.specs.declared.one_moment.Look.{Look}
 use Rattle.maildir_disk.specs.Look.{IsSettled, IsFarAhead}
-use Rattle.maildir_disk.specs.Private.Look.{Looked, Watched, WatchedOr}
-use Rattle.maildir_disk.specs.World.{World, margin_of, IsOfChange, Acts, Passes, Tells, Reads}
+use Rattle.maildir_disk.specs.Private.Look.{LookGives, Watched, WatchedOr}
+use Rattle.maildir_disk.specs.World.{World, margin_of, IsOfChange, Acts, Passes, IsStampWithin, ReadsNames}
 
 pub all_acted-append : (xs ys : List Action) (s : Files) → all_acted (xs ++ ys) s ≡ all_acted ys (all_acted xs s)
 all_acted-append [] ys s = refl
@@ -71,7 +71,7 @@ passes_on {a} {c} p q =
     }
 
 -- a look that failed
-pub looked_fault : {E : Type 0} (sub : Sub) {a b : World} (outcome : Result Look E) → IsErr outcome → Acts a b → Looked sub a outcome b
+pub looked_fault : {E : Type 0} (sub : Sub) {a b : World} (outcome : Result Look E) → IsErr outcome → Acts a b → LookGives sub a outcome b
 looked_fault sub (Ok _) is_err p = cc
 looked_fault sub (Err _) is_err p = p
 
@@ -80,7 +80,7 @@ watched_fault sub stamp (Ok _) is_err p = cc
 watched_fault sub stamp (Err _) is_err p = p
 
 -- a listing that failed
-pub failed_listing : {sub : Sub} {a b : World} → Acts a b → Failed (Listing sub) a.files b.files
+pub failed_listing : {sub : Sub} {a b : World} → Acts a b → AnyMoves (Listing sub) a.files b.files
 failed_listing {sub} {a} p =
     record { moves = map Other p.actions; left = p.files_are ∙ sym (after-others p.actions (Listing sub) a.files) }
 
@@ -108,9 +108,9 @@ lists_at {sub} {a} {b} {names} p q are =
 others_first : (xs : List Action) (call : Call) (ns : List Move) (a : Files) {b : Files} → b ≡ all_acted xs a → after a call (map Other xs ++ ns) ≡ after b call ns
 others_first xs call ns a e = after-append call (map Other xs) ns a ∙ ap (λ s. after s call ns) (after-others xs call a ∙ sym e)
 
-others_then : (xs : List Action) (ns : List Move) → IsWhole ns → IsWhole (map Other xs ++ ns)
-others_then [] ns whole = whole
-others_then (a ∷ xs) ns whole = others_then xs ns whole
+others_then_whole : (xs : List Action) (ns : List Move) → IsWhole ns → IsWhole (map Other xs ++ ns)
+others_then_whole [] ns whole = whole
+others_then_whole (a ∷ xs) ns whole = others_then_whole xs ns whole
 
 pub lists_later : {sub : Sub} {a b : World} {end : Files} {names : List (List ℕ)} → Acts a b → Lists sub b.files names end → Lists sub a.files names end
 lists_later {sub} {a} {names} p lists =
@@ -119,14 +119,14 @@ lists_later {sub} {a} {names} p lists =
     record {
       before = others ++ lists.before;
       rest = lists.rest;
-      whole_before = others_then p.actions lists.before lists.whole_before;
+      whole_before = others_then_whole p.actions lists.before lists.whole_before;
       whole = lists.whole;
       names_are = subst (λ s. IsPermutation names (keys (folder_of sub s))) (sym (others_first p.actions call lists.before a.files p.files_are)) lists.names_are;
       left = lists.left ∙ (sym (others_first p.actions call (lists.before ++ Again ∷ lists.rest) a.files p.files_are) ∙ ap (after a.files call) (sym (append_assoc others lists.before (Again ∷ lists.rest))));
     }
 
 -- names that were read, and the folder's stamp after them
-pub watched : {sub : Sub} {b c d : World} {names : List (List ℕ)} {stamp : ℕ} → Passes sub b c → Passes sub c d → Reads sub b names c → Tells sub c stamp d → Watched sub stamp b names d
+pub watched : {sub : Sub} {b c d : World} {names : List (List ℕ)} {stamp : ℕ} → Passes sub b c → Passes sub c d → ReadsNames sub b names c → IsStampWithin sub c stamp d → Watched sub stamp b names d
 watched p q (inl exact) tells = record { acts = acts_on p.acts q.acts; are = inl exact }
 watched {sub} {b} {c} {d} {stamp} p q (inr change) tells =
     let same : (tells.moment.stamp_of sub ≡ c.stamp_of sub) ⊎ IsOfChange c.time tells.moment.time (tells.moment.stamp_of sub) = tells.before.stamp_is in

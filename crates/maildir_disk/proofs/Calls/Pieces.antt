@@ -5,8 +5,8 @@ use Rattle.std.specs.declared.io.Error.{Error}
 use Rattle.std.specs.FinMap.{get, insert, remove, get-insert, get-remove, same_map}
 use Rattle.std.proofs.lemmas.Bool.{cases_Bool}
 use Rattle.maildir_name.specs.Names.{is_converter_name}
-use Rattle.maildir_run.specs.Files.{Files, FileMap, is_name, LeavesConverters, Action, ToCur, Reflag, DropTmp, Outside, outsiders_of, may_take, to_cur, reflag, acted, all_acted}
-use Rattle.maildir_run.specs.Calls.{Call, Writing, Other, Again, Torn, after, effect, IsOthers, Succeeded, Failed, Called}
+use Rattle.maildir_run.specs.Files.{Files, FileMap, is_name, KeepsConverters, Action, ToCur, Reflag, DropTmp, Outside, outsiders_of, may_take, to_cur, reflag, acted, all_acted}
+use Rattle.maildir_run.specs.Calls.{Call, Writing, Other, Again, Torn, after, effect, IsOthers, Succeeded, AnyMoves, Called}
 use Rattle.maildir_run.proofs.Names.Maps.{total, same, apart, is_name-true, get-insert_same}
 use Rattle.maildir_run.proofs.Call.Outsiders.{outside_reaches, get-outsiders_other}
 use Rattle.maildir_run.proofs.Call.Homes.{get-outsiders_of}
@@ -130,17 +130,17 @@ changed_again name held change s =
     ∙ ap (λ m. record s { tmp = m }) (insert_again s.tmp name held (change held))
 
 -- ---- under a name that is no converter's each step of a write is an action of another program
-as_action : {s t : Files} → LeavesConverters s t → t ≡ acted (Outside t) s
+as_action : {s t : Files} → KeepsConverters s t → t ≡ acted (Outside t) s
 as_action {s} {t} leaves = sym (outside_reaches s t leaves)
 
-writing_leaves : (name bytes : List ℕ) {s : Files} → is_converter_name name ≡ false → LeavesConverters s (effect (Writing name bytes) s)
+writing_leaves : (name bytes : List ℕ) {s : Files} → is_converter_name name ≡ false → KeepsConverters s (effect (Writing name bytes) s)
 writing_leaves name bytes {s} theirs = record {
   tmp_alike = λ q ours. get-insert total s.tmp name bytes q ∙ ap (λ b. cond b (Some bytes) (get s.tmp q)) (apart is_converter_name name q theirs ours);
   new_alike = λ q ours. refl;
   cur_alike = λ q ours. refl;
 }
 
-changed_leaves : (name : List ℕ) (change : List ℕ → List ℕ) {s : Files} → is_converter_name name ≡ false → LeavesConverters s (changed name change s)
+changed_leaves : (name : List ℕ) (change : List ℕ → List ℕ) {s : Files} → is_converter_name name ≡ false → KeepsConverters s (changed name change s)
 changed_leaves name change {s} theirs = record {
   tmp_alike = λ q ours. get-rewritten s.tmp name change q ∙ ap (λ b. mapped b change (get s.tmp q)) (apart is_converter_name name q theirs ours);
   new_alike = λ q ours. refl;
@@ -148,7 +148,7 @@ changed_leaves name change {s} theirs = record {
 }
 
 -- and a write to it is undone by one
-undone : (name bytes : List ℕ) {s : Files} → is_converter_name name ≡ false → LeavesConverters (effect (Writing name bytes) s) s
+undone : (name bytes : List ℕ) {s : Files} → is_converter_name name ≡ false → KeepsConverters (effect (Writing name bytes) s) s
 undone name bytes {s} theirs =
     let leaves = writing_leaves name bytes {s = s} theirs in
     record {
@@ -157,7 +157,7 @@ undone name bytes {s} theirs =
       cur_alike = λ q ours. refl;
     }
 
-comes_acts : {step : Files → Files} {a b : World} → ((s : Files) → LeavesConverters s (step s)) → Comes step a b → Acts a b
+comes_acts : {step : Files → Files} {a b : World} → ((s : Files) → KeepsConverters s (step s)) → Comes step a b → Acts a b
 comes_acts {step} {a} leaves comes =
     let s = all_acted comes.before a.files in
     record {
@@ -239,10 +239,10 @@ with_torn name whole bytes xs ys s =
     after-append call (map Other xs) (Torn bytes ∷ map Other ys) s
     ∙ (ap (λ t. after (effect (Writing name bytes) t) call (map Other ys)) (after-others xs call s) ∙ after-others ys call _)
 
-pub acts_failed : {call : Call} {a b : World} → Acts a b → Failed call a.files b.files
+pub acts_failed : {call : Call} {a b : World} → Acts a b → AnyMoves call a.files b.files
 acts_failed {call} {a} acts = record { moves = map Other acts.actions; left = acts.files_are ∙ sym (after-others acts.actions call a.files) }
 
-pub write_failed : {name : List ℕ} (held : List ℕ) {bytes : List ℕ} {a b : World} → Written name held a b → Failed (Writing name bytes) a.files b.files
+pub write_failed : {name : List ℕ} (held : List ℕ) {bytes : List ℕ} {a b : World} → Written name held a b → AnyMoves (Writing name bytes) a.files b.files
 write_failed {name} held {bytes} {a} (inl comes) = record {
   moves = map Other comes.before ++ Torn held ∷ map Other comes.rest;
   left = comes.left ∙ sym (with_torn name bytes held comes.before comes.rest a.files);
@@ -265,7 +265,7 @@ written_appended name held piece (Ok n) written comes = (held ++ take n piece, w
 written_appended name held piece (Err error) written (inl acts) = (held, written_on name held written acts)
 written_appended name held piece (Err error) written (inr other) = (other.1, written_changed name held (λ _. other.1) written other.2)
 
-pub append_failed : {name : List ℕ} (held piece : List ℕ) {bytes : List ℕ} {a b : World} (c : World) (outcome : Result ℕ Error) → Written name held a b → Appended name piece b outcome c → Failed (Writing name bytes) a.files c.files
+pub append_failed : {name : List ℕ} (held piece : List ℕ) {bytes : List ℕ} {a b : World} (c : World) (outcome : Result ℕ Error) → Written name held a b → Appended name piece b outcome c → AnyMoves (Writing name bytes) a.files c.files
 append_failed {name} held piece c outcome written appended =
     let left = written_appended name held piece outcome written appended in
     write_failed left.0 left.1

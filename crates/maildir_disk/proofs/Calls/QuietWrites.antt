@@ -28,13 +28,13 @@ after_torn name whole bytes (Again ∷ ms) s own = after_torn name whole bytes m
 after_torn name whole bytes (Torn held ∷ ms) s own = after_torn name whole bytes ms (effect (Writing name held) s) own
 
 -- what a write left that ended early
-abbrev pub Ended : List ℕ → List ℕ → Files → Files → Type 0
-Ended name bytes old new = (moves : List Move) × IsOwn moves × (new ≡ after old (Writing name bytes) moves)
+abbrev pub WriteEndedEarly : List ℕ → List ℕ → Files → Files → Type 0
+WriteEndedEarly name bytes old new = (moves : List Move) × IsOwn moves × (new ≡ after old (Writing name bytes) moves)
 
-pub torn_quietly : (name held bytes : List ℕ) (old : Files) {new : Files} → new ≡ effect (Writing name held) old → Ended name bytes old new
+pub torn_quietly : (name held bytes : List ℕ) (old : Files) {new : Files} → new ≡ effect (Writing name held) old → WriteEndedEarly name bytes old new
 torn_quietly name held bytes old left = (Torn held ∷ [], tt, left)
 
-pub not_created_quietly : {A E : Type 0} (name bytes : List ℕ) (old new : Files) (outcome : Result A E) → IsErr outcome → Ended name [] old new → CalledQuietly (Writing name bytes) old outcome new
+pub not_created_quietly : {A E : Type 0} (name bytes : List ℕ) (old new : Files) (outcome : Result A E) → IsErr outcome → WriteEndedEarly name [] old new → CalledQuietly (Writing name bytes) old outcome new
 not_created_quietly name bytes old new (Ok _) is_err made = cc
 not_created_quietly name bytes old new (Err _) is_err made = (as_torn [] made.0, as_torn_own [] made.0 made.1, made.2 ∙ after_torn name bytes [] made.0 old made.1)
 
@@ -45,7 +45,7 @@ written_quietly name bytes old (Err _) left = torn_quietly name bytes bytes old 
 pub grown_quietly : (name held : List ℕ) (change : List ℕ → List ℕ) (old : Files) {mid new : Files} → mid ≡ effect (Writing name held) old → new ≡ changed name change mid → new ≡ effect (Writing name (change held)) old
 grown_quietly name held change old had made = made ∙ (ap (changed name change) had ∙ changed_again name held change old)
 
-pub appended_quietly : (name held piece bytes : List ℕ) (old : Files) {mid : Files} (new : Files) (outcome : Result ℕ Error) → mid ≡ effect (Writing name held) old → AppendedQuietly name piece mid outcome new → Ended name bytes old new
+pub appended_quietly : (name held piece bytes : List ℕ) (old : Files) {mid : Files} (new : Files) (outcome : Result ℕ Error) → mid ≡ effect (Writing name held) old → AppendedQuietly name piece mid outcome new → WriteEndedEarly name bytes old new
 appended_quietly name held piece bytes old new (Ok n) had made = torn_quietly name _ bytes old (grown_quietly name held (λ h. h ++ take n piece) old had made)
 appended_quietly name held piece bytes old new (Err error) had (inl same) = torn_quietly name held bytes old (same ∙ had)
 appended_quietly name held piece bytes old new (Err error) had (inr other) = torn_quietly name other.1 bytes old (grown_quietly name held (λ _. other.1) old had other.2)

@@ -10,33 +10,33 @@ use Rattle.maildir_run.specs.declared.report.Report.{Report}
 use Rattle.maildir_run.specs.Delivery.{Message, HasHome, IsMissing, IsHome, IsSoundAt, Delivered, is_any, is_base_of}
 use Rattle.maildir_run.specs.declared.folder.Sub.{Sub}
 use Rattle.maildir_run.specs.Files.{Files, Action, acted, all_acted, homes, is_name}
-use Rattle.maildir_run.specs.Runs.{Keeps, Run}
-use Rattle.maildir_run.specs.Several.{Text, IsText, OfEach}
+use Rattle.maildir_run.specs.Runs.{Keeps, IsRun}
+use Rattle.maildir_run.specs.Several.{Mailbox, IsMailbox, OfEach}
 use Rattle.maildir_run.proofs.Chains.Chains.{chain_fold, chain_keeps, chain_map, chain_parts, sound_now}
 use Rattle.maildir_run.proofs.Call.Homes.{acted_kept}
 use Rattle.maildir_run.proofs.Names.Maps.{is_name-true}
 use Rattle.maildir_run.proofs.Chains.MessageLemmas.{text_named, text_distinct}
 use Rattle.maildir_run.proofs.Call.Moves.{homes_none, homes_one}
-use Rattle.maildir_disk.specs.PowerCuts.{IsCut, IsIntact, HasBody, KeepsNames, Moment, Event, Ran, Acted, Cut, Happens, Happen, Syncs}
+use Rattle.maildir_disk.specs.PowerCuts.{IsCut, IsIntact, HasBody, KeepsNames, FilesAndLeft, Event, Ran, Acted, Cut, Happens, Happen, Syncs}
 use Rattle.maildir_disk.specs.Private.SeveralCuts.{event_over}
 use Rattle.maildir_disk.specs.SeveralCuts.{EventOver, RanOver, ActedOver, SyncedOver, CutOver, HappensOver, HappenOver, AreNew}
 use Rattle.maildir_disk.proofs.Left.SingleHomes.{single_sound, single_home}
-use Rattle.maildir_disk.proofs.Left.LeftHomes.{first_in, Holds, none_in, intact_on, others_hold, steady_kept, steady_then}
+use Rattle.maildir_disk.proofs.Left.LeftHomes.{first_in, SteadyAt, none_in, intact_on, others_hold, steady_kept, steady_then}
 use Rattle.maildir_disk.proofs.Left.LeftTasks.{own_bodies, text_holds}
 use Rattle.maildir_disk.proofs.Kept.Syncs.{still_home, kept_names}
 
 -- a message whose base has one body in the texts
-pub record Known (texts : List Text) (m : Message) : Type 0 where
+pub record Known (texts : List Mailbox) (m : Message) : Type 0 where
   pub named : IsTrue (is_converter_base m.target.base)
   pub alike : OfEach (λ n. n.target.base ≡ m.target.base → n.body ≡ m.body) texts
 
 -- a message is sound, and so is what a cut would leave of it
-pub record StandsAt (moment : Moment) (m : Message) : Type 0 where
+pub record StandsAt (moment : FilesAndLeft) (m : Message) : Type 0 where
   pub sound : IsSoundAt moment.files m
   pub intact : IsIntact moment.left m
 
 -- a message is at home, and what a cut would leave of it has its body
-pub record IsSafeAt (moment : Moment) (m : Message) : Type 0 where
+pub record IsSafeAt (moment : FilesAndLeft) (m : Message) : Type 0 where
   pub home : IsHome moment.files m
   pub body : HasBody moment.left m
 
@@ -84,36 +84,36 @@ pub still_sound : (m : Message) → IsTrue (is_converter_base m.target.base) →
 still_sound m named [] s at = at
 still_sound m named (action ∷ actions) s at = still_sound m named actions (acted action s) (moved_sound m s (acted action s) (acted_kept m.target.base named action s) at)
 
-module _ (texts : List Text) where
-  abbrev pub Stand : Moment → Type 0
+module _ (texts : List Mailbox) where
+  abbrev pub Stand : FilesAndLeft → Type 0
   Stand moment = OfEach (StandsAt moment) texts
 
-  of_text : {text : Text} → Contains texts text → (moment : Moment) → Stand moment → All (StandsAt moment) text.messages
-  of_text {text} among moment stand = All-contains (λ (t : Text). All (StandsAt moment) t.messages) texts text stand among
+  of_text : {text : Mailbox} → Contains texts text → (moment : FilesAndLeft) → Stand moment → All (StandsAt moment) text.messages
+  of_text {text} among moment stand = All-contains (λ (t : Mailbox). All (StandsAt moment) t.messages) texts text stand among
 
   -- ---- one event, and one message
   module _ (m : Message) (known : Known texts m) where
-    alike_in : {text : Text} → Contains texts text → All (λ n. n.target.base ≡ m.target.base → n.body ≡ m.body) text.messages
-    alike_in {text} among = All-contains (λ (t : Text). All (λ (n : Message). n.target.base ≡ m.target.base → n.body ≡ m.body) t.messages) texts text known.alike among
+    alike_in : {text : Mailbox} → Contains texts text → All (λ n. n.target.base ≡ m.target.base → n.body ≡ m.body) text.messages
+    alike_in {text} among = All-contains (λ (t : Mailbox). All (λ (n : Message). n.target.base ≡ m.target.base → n.body ≡ m.body) t.messages) texts text known.alike among
 
     -- a sync of one folder
     kept_on : (P : Files → Type 0) → ((actions : List Action) (s : Files) → P s → P (all_acted actions s)) → {sub : Sub} {s before t left : Files} → KeepsNames sub s before t left → P s → P t
     kept_on P on {s} keeps at = subst P (sym keeps.new_is) (on keeps.rest keeps.moment (subst P (sym keeps.moment_is) (on keeps.actions s at)))
 
-    kept_holds : {sub : Sub} {s before t left : Files} → KeepsNames sub s before t left → Holds m.target.base m.body before left
+    kept_holds : {sub : Sub} {s before t left : Files} → KeepsNames sub s before t left → SteadyAt m.target.base m.body before left
     kept_holds {before} {left} keeps =
         steady_then m.target.base m.body before keeps.there left (others_hold m known.named keeps.earlier) (others_hold m known.named keeps.later)
 
-    synced_on : (P : Files → Type 0) → ((actions : List Action) (s : Files) → P s → P (all_acted actions s)) → (old new : Moment) → Syncs old.files old.left new.files new.left → P old.files → P new.files
+    synced_on : (P : Files → Type 0) → ((actions : List Action) (s : Files) → P s → P (all_acted actions s)) → (old new : FilesAndLeft) → Syncs old.files old.left new.files new.left → P old.files → P new.files
     synced_on P on old new synced at = kept_on P on synced.then (kept_on P on synced.first at)
 
-    cut_holds : {old new : Moment} → IsCut old new → Holds m.target.base m.body old.left new.left
+    cut_holds : {old new : FilesAndLeft} → IsCut old new → SteadyAt m.target.base m.body old.left new.left
     cut_holds {old} {new} cut = steady_kept m.target.base m.body old.left new.left (IsPermutation-trans _ _ _ (cut.found.kept m.target.base known.named) (cut.stays.kept m.target.base known.named))
 
     -- what a cut would leave of it, after each event
-    holds_at : (event : EventOver) (old new : Moment) → All IsText texts → HappensOver texts event old new → Holds m.target.base m.body old.left new.left
+    holds_at : (event : EventOver) (old new : FilesAndLeft) → All IsMailbox texts → HappensOver texts event old new → SteadyAt m.target.base m.body old.left new.left
     holds_at (RanOver text answer) old new are (among, happens) =
-        let is = All-contains IsText texts text are among in
+        let is = All-contains IsMailbox texts text are among in
         let planned = happens.1 text.messages is.are in
         text_holds text.bytes text.messages is.are is.small planned.0 old.left answer new.left planned.1 m.target.base m.body known.named (alike_in among)
     holds_at (ActedOver action) old new are (e, leaves) = others_hold m known.named leaves
@@ -121,9 +121,9 @@ module _ (texts : List Text) where
     holds_at CutOver old new are cut = cut_holds cut
 
     -- and what there is of it, until a cut
-    kept_at : (event : EventOver) (old new : Moment) → All IsText texts → Stand old → (event ≡ CutOver → ⊥) → HappensOver texts event old new → (IsSoundAt old.files m → IsSoundAt new.files m) × (IsHome old.files m → IsHome new.files m)
+    kept_at : (event : EventOver) (old new : FilesAndLeft) → All IsMailbox texts → Stand old → (event ≡ CutOver → ⊥) → HappensOver texts event old new → (IsSoundAt old.files m → IsSoundAt new.files m) × (IsHome old.files m → IsHome new.files m)
     kept_at (RanOver text answer) old new are stand uncut (among, happens) =
-        let is = All-contains IsText texts text are among in
+        let is = All-contains IsMailbox texts text are among in
         kept_by_run (happens.0.keeps text.messages is.are (sound_now text.messages old.files (λ k d below. (of_text among old stand k d below).sound))) m known.named (alike_in among)
     kept_at (ActedOver action) old new are stand uncut (e, leaves) = (
       λ sound. subst (λ s. IsSoundAt s m) (sym e) (still_sound m known.named (action ∷ []) old.files sound),
@@ -132,7 +132,7 @@ module _ (texts : List Text) where
     kept_at SyncedOver old new are stand uncut synced = (synced_on (λ s. IsSoundAt s m) (still_sound m known.named) old new synced, synced_on (λ s. IsHome s m) (still_home m known.named) old new synced)
     kept_at CutOver old new are stand uncut cut = absurd (uncut refl)
 
-    stands_at : (event : EventOver) {old new : Moment} → All IsText texts → Stand old → HappensOver texts event old new → StandsAt old m → StandsAt new m
+    stands_at : (event : EventOver) {old new : FilesAndLeft} → All IsMailbox texts → Stand old → HappensOver texts event old new → StandsAt old m → StandsAt new m
     stands_at CutOver {old} {new} are stand cut at = record {
       sound = moved_sound m old.left new.files (cut.found.kept m.target.base known.named) (single_sound m known.named old.files old.left at.sound at.intact cut.single);
       intact = intact_on m old.left new.left (cut_holds cut) at.intact;
@@ -143,47 +143,47 @@ module _ (texts : List Text) where
     }
 
     -- once it is at home and would survive a cut it stays there
-    safe_at : (event : EventOver) {old new : Moment} → All IsText texts → Stand old → HappensOver texts event old new → IsSafeAt old m → IsSafeAt new m
+    safe_at : (event : EventOver) {old new : FilesAndLeft} → All IsMailbox texts → Stand old → HappensOver texts event old new → IsSafeAt old m → IsSafeAt new m
     safe_at CutOver {old} {new} are stand cut safe = record {
       home = homes_one m.target.base m.body old.left new.files (cut.found.kept m.target.base known.named) (single_home m known.named old.files old.left safe.home safe.body cut.single);
       body = (cut_holds cut).still safe.body;
     }
     safe_at event {old} {new} are stand happens safe = record { home = (kept_at event old new are stand (λ e. cc) happens).1 safe.home; body = (holds_at event old new are happens).still safe.body }
 
-    synced_safe : {old new : Moment} → StandsAt old m → IsHome old.files m → Syncs old.files old.left new.files new.left → IsSafeAt new m
+    synced_safe : {old new : FilesAndLeft} → StandsAt old m → IsHome old.files m → Syncs old.files old.left new.files new.left → IsSafeAt new m
     synced_safe {old} {new} at home synced = record {
       home = synced_on (λ s. IsHome s m) (still_home m known.named) old new synced home;
       body = kept_names m known.named home at.intact synced.first synced.then;
     }
 
   -- ---- chains
-  module _ (are : All IsText texts) (alike : OfEach (λ m. OfEach (λ n. n.target.base ≡ m.target.base → n.body ≡ m.body) texts) texts) where
+  module _ (are : All IsMailbox texts) (alike : OfEach (λ m. OfEach (λ n. n.target.base ≡ m.target.base → n.body ≡ m.body) texts) texts) where
     known : OfEach (Known texts) texts
     known k d below j e inside = record {
       named = text_named (get_or texts k d).bytes (get_or texts k d).messages (are k d below).are (are k d below).small j e inside;
       alike = alike k d below j e inside;
     }
 
-    stand_after : (event : EventOver) (old new : Moment) → Stand old → HappensOver texts event old new → Stand new
+    stand_after : (event : EventOver) (old new : FilesAndLeft) → Stand old → HappensOver texts event old new → Stand new
     stand_after event old new stand happens k d below j e inside =
         stands_at (get_or (get_or texts k d).messages j e) (known k d below j e inside) event are stand happens (stand k d below j e inside)
 
-    pub stand_then : (events : List EventOver) (old new : Moment) → Stand old → HappenOver texts events old new → Stand new
+    pub stand_then : (events : List EventOver) (old new : FilesAndLeft) → Stand old → HappenOver texts events old new → Stand new
     stand_then = chain_keeps (HappensOver texts) Stand stand_after
 
     module _ (ms : List Message) (knows : All (Known texts) ms) where
-      home_then : (events : List EventOver) (old new : Moment) → Stand old → ¬ Contains events CutOver → HappenOver texts events old new → All (IsHome old.files) ms → All (IsHome new.files) ms
+      home_then : (events : List EventOver) (old new : FilesAndLeft) → Stand old → ¬ Contains events CutOver → HappenOver texts events old new → All (IsHome old.files) ms → All (IsHome new.files) ms
       home_then events old new stand uncut happen home =
           chain_fold (HappensOver texts) (λ es a. Stand a → ¬ Contains es CutOver → All (IsHome a.files) ms → All (IsHome new.files) ms) new (λ _ _ at. at)
           (λ e es a b happens rest on none at. rest (stand_after e a b on happens) (λ has. none (Contains-append_right (e ∷ []) es CutOver has)) (λ k d below. (kept_at (get_or ms k d) (knows k d below) e a b are on (λ is. none (subst (Contains (e ∷ es)) is (first_in es))) happens).1 (at k d below)))
           events old happen stand uncut home
 
-      safe_then : (events : List EventOver) (old new : Moment) → Stand old → HappenOver texts events old new → All (IsSafeAt old) ms → All (IsSafeAt new) ms
+      safe_then : (events : List EventOver) (old new : FilesAndLeft) → Stand old → HappenOver texts events old new → All (IsSafeAt old) ms → All (IsSafeAt new) ms
       safe_then events old new stand happen safe =
           (chain_keeps (HappensOver texts) (λ moment. Stand moment × All (IsSafeAt moment) ms) (λ e a b at happens. (stand_after e a b at.0 happens, λ k d below. safe_at (get_or ms k d) (knows k d below) e are at.0 happens (at.1 k d below))) events old new (stand, safe) happen).1
 
       -- from messages at home on
-      home_synced : (between rest : List EventOver) (old new : Moment) → ((m : Message) (moment : Moment) → Stand moment → Contains ms m → StandsAt moment m) → Stand old → ¬ Contains between CutOver → HappenOver texts (between ++ (SyncedOver ∷ rest)) old new → All (IsHome old.files) ms → All (IsSafeAt new) ms
+      home_synced : (between rest : List EventOver) (old new : FilesAndLeft) → ((m : Message) (moment : FilesAndLeft) → Stand moment → Contains ms m → StandsAt moment m) → Stand old → ¬ Contains between CutOver → HappenOver texts (between ++ (SyncedOver ∷ rest)) old new → All (IsHome old.files) ms → All (IsSafeAt new) ms
       home_synced between rest old new inside stand uncut happen home =
           let parts = chain_parts (HappensOver texts) between (SyncedOver ∷ rest) old new happen in
           let mid = parts.0 in
@@ -193,49 +193,49 @@ module _ (texts : List Text) where
           safe_then rest then.0 new (stand_after SyncedOver mid then.0 stand_mid then.1) then.2
           (λ k d below. synced_safe (get_or ms k d) (knows k d below) (inside (get_or ms k d) mid stand_mid (Contains-get_or ms k d below)) (home_mid k d below) then.1)
 
-    pub delivers : {text : Text} → Contains texts text → (mid : Moment) {new : Files} {report : Report} → Stand mid → Run text.bytes mid.files (Ok report) new → Delivered text.messages new
+    pub delivers : {text : Mailbox} → Contains texts text → (mid : FilesAndLeft) {new : Files} {report : Report} → Stand mid → IsRun text.bytes mid.files (Ok report) new → Delivered text.messages new
     delivers {text} among mid stand run =
-        let is = All-contains IsText texts text are among in
+        let is = All-contains IsMailbox texts text are among in
         (run.keeps text.messages is.are (sound_now text.messages mid.files (λ k d below. (of_text among mid stand k d below).sound))).ends.delivered
 
-    pub kept_then : (text : Text) (report : Report) (before between rest : List EventOver) (old new : Moment) → Stand old → HappenOver texts (before ++ (RanOver text (Ok report) ∷ (between ++ (SyncedOver ∷ rest)))) old new → ¬ Contains between CutOver → All (IsSafeAt new) text.messages
+    pub kept_then : (text : Mailbox) (report : Report) (before between rest : List EventOver) (old new : FilesAndLeft) → Stand old → HappenOver texts (before ++ (RanOver text (Ok report) ∷ (between ++ (SyncedOver ∷ rest)))) old new → ¬ Contains between CutOver → All (IsSafeAt new) text.messages
     kept_then text report before between rest old new stand happen uncut =
         let parts = chain_parts (HappensOver texts) before (RanOver text (Ok report) ∷ (between ++ (SyncedOver ∷ rest))) old new happen in
         let mid = parts.0 in
         let stand_mid = stand_then before old mid stand parts.1 in
         let ran = parts.2 in
         let among = ran.1.0 in
-        home_synced text.messages (All-contains (λ (t : Text). All (Known texts) t.messages) texts text known among) between rest ran.0 new
+        home_synced text.messages (All-contains (λ (t : Mailbox). All (Known texts) t.messages) texts text known among) between rest ran.0 new
         (λ m moment on has. All-contains (StandsAt moment) text.messages m (of_text among moment on) has)
         (stand_after (RanOver text (Ok report)) mid ran.0 stand_mid ran.1) uncut ran.2 (delivers among mid stand_mid ran.1.1.0).homes_are
 
-pub stand_new : {texts : List Text} {moment : Moment} → AreNew texts moment → Stand texts moment
+pub stand_new : {texts : List Mailbox} {moment : FilesAndLeft} → AreNew texts moment → Stand texts moment
 stand_new {texts} {moment} fresh k d below j e inside = record {
   sound = inl (fresh.missing k d below j e inside);
   intact = missing_intact (get_or (get_or texts k d).messages j e) moment.left (fresh.none_left k d below j e inside);
 }
 
 -- ---- one text
-happens_over : (text : Text) (event : Event) (old new : Moment) → Happens text.bytes event old new → HappensOver (text ∷ []) (event_over text event) old new
+happens_over : (text : Mailbox) (event : Event) (old new : FilesAndLeft) → Happens text.bytes event old new → HappensOver (text ∷ []) (event_over text event) old new
 happens_over text (Ran answer) old new happens = (first_in [], happens)
 happens_over text (Acted action) old new happens = happens
 happens_over text Cut old new happens = happens
 
-happen_over : (text : Text) (events : List Event) (old new : Moment) → Happen text.bytes events old new → HappenOver (text ∷ []) (map (event_over text) events) old new
+happen_over : (text : Mailbox) (events : List Event) (old new : FilesAndLeft) → Happen text.bytes events old new → HappenOver (text ∷ []) (map (event_over text) events) old new
 happen_over text = chain_map (Happens text.bytes) (HappensOver (text ∷ [])) (event_over text) (happens_over text)
 
-only_text : (text : Text) (P : Text → Type 0) → P text → All P (text ∷ [])
+only_text : (text : Mailbox) (P : Mailbox → Type 0) → P text → All P (text ∷ [])
 only_text text P h = All-cons P text [] h (All-nil P)
 
-one_new : {text : Text} {old : Moment} → IsText text → All (IsMissing old.files) text.messages → All (IsMissing old.left) text.messages → AreNew (text ∷ []) old
+one_new : {text : Mailbox} {old : FilesAndLeft} → IsMailbox text → All (IsMissing old.files) text.messages → All (IsMissing old.left) text.messages → AreNew (text ∷ []) old
 one_new {text} {old} is none none_left = record {
-  are = only_text text IsText is;
+  are = only_text text IsMailbox is;
   alike = only_text text (λ t. All (λ m. OfEach (λ n. n.target.base ≡ m.target.base → n.body ≡ m.body) (text ∷ [])) t.messages) (λ k d below. only_text text (λ t. All (λ n. n.target.base ≡ (get_or text.messages k d).target.base → n.body ≡ (get_or text.messages k d).body) t.messages) (own_bodies text.messages (text_distinct text.bytes text.messages is.are is.small) k d below));
   missing = only_text text (λ t. All (IsMissing old.files) t.messages) none;
   none_left = only_text text (λ t. All (IsMissing old.left) t.messages) none_left;
 }
 
-pub cuts_stand : {text : Text} (events : List Event) (old new : Moment) → IsText text → All (IsMissing old.files) text.messages → All (IsMissing old.left) text.messages → Happen text.bytes events old new → All (StandsAt new) text.messages
+pub cuts_stand : {text : Mailbox} (events : List Event) (old new : FilesAndLeft) → IsMailbox text → All (IsMissing old.files) text.messages → All (IsMissing old.left) text.messages → Happen text.bytes events old new → All (StandsAt new) text.messages
 cuts_stand {text} events old new is none none_left happen =
     let fresh = one_new is none none_left in
-    All-head (λ (t : Text). All (StandsAt new) t.messages) text [] (stand_then (text ∷ []) fresh.are fresh.alike (map (event_over text) events) old new (stand_new fresh) (happen_over text events old new happen))
+    All-head (λ (t : Mailbox). All (StandsAt new) t.messages) text [] (stand_then (text ∷ []) fresh.are fresh.alike (map (event_over text) events) old new (stand_new fresh) (happen_over text events old new happen))

@@ -16,7 +16,7 @@ use Rattle.maildir_run.proofs.Call.Homes.{acted_kept}
 use Rattle.maildir_run.proofs.Call.ListedNowhere.{all_acted_new}
 use Rattle.maildir_run.proofs.Names.Maps.{is_name-true}
 use Rattle.maildir_run.proofs.Call.Moves.{homes_one, none_held, held_none}
-use Rattle.maildir_disk.specs.PowerCuts.{IsIntact, HasBody, KeepsNames, LeavesOthers, Syncs}
+use Rattle.maildir_disk.specs.PowerCuts.{IsIntact, HasBody, KeepsNames, LeftByOthers, Syncs}
 use Rattle.maildir_disk.proofs.Left.LeftHomes.{first_in, intact_on, others_hold}
 
 -- what is there, where one thing alone may be
@@ -24,9 +24,9 @@ only : {x : List ℕ} (found : List (List ℕ)) → ((y : List ℕ) → Contains
 only [] is some = absurd (some refl)
 only (y ∷ found) is some = subst (Contains (y ∷ found)) (is y (first_in found)) (first_in found)
 
-nothing : (o : Option (List ℕ)) → is_some o ≡ false → o ≡ None
-nothing None e = refl
-nothing (Some x) e = cc
+none_if_not_some : (o : Option (List ℕ)) → is_some o ≡ false → o ≡ None
+none_if_not_some None e = refl
+none_if_not_some (Some x) e = cc
 
 module _ (m : Message) (named : IsTrue (is_converter_base m.target.base)) where
   -- two folders with the same converter's names
@@ -37,7 +37,7 @@ module _ (m : Message) (named : IsTrue (is_converter_base m.target.base)) where
   none_alike there moment alike none =
       held_none m.target.base moment (λ q on.
       let ours : IsTrue (is_converter_name q) = ap is_converter_base (sym (is_name-true m.target.base (base q) on)) ∙ named in
-      nothing (get moment q) (sym (alike q ours) ∙ ap is_some (none_held m.target.base there none q on)))
+      none_if_not_some (get moment q) (sym (alike q ours) ∙ ap is_some (none_held m.target.base there none q on)))
 
   found_new : (moment there : Files) → Alike there.new moment.new → IsIntact there m → (held_under m.target.base moment.new ≡ [] → ⊥) → HasBody there m
   found_new moment there alike intact some =
@@ -78,7 +78,7 @@ synced_bodies ms named home intact syncs k d below =
     kept_names (get_or ms k d) (named k d below) (home k d below) (intact k d below) syncs.first syncs.then
 
 -- names that were kept, and then what others did
-pub kept_later : {sub : Sub} {s before : Files} {t u : World} {mid left : Files} → KeepsNames sub s before t.files mid → Acts t u → LeavesOthers mid left → KeepsNames sub s before u.files left
+pub kept_later : {sub : Sub} {s before : Files} {t u : World} {mid left : Files} → KeepsNames sub s before t.files mid → Acts t u → LeftByOthers mid left → KeepsNames sub s before u.files left
 kept_later keeps acts leaves = record {
   moment = keeps.moment;
   actions = keeps.actions;

@@ -16,7 +16,7 @@ use Rattle.maildir_run.specs.Delivery.{Message, AreNamed}
 use Rattle.maildir_run.proofs.Names.Maps.{total, same, is_name-true, get-insert_same}
 use Rattle.maildir_run.proofs.Call.Homes.{absent, acted_kept, equally, held-insert_other, held-insert_new, held-remove_old}
 use Rattle.maildir_run.proofs.Call.Moves.{after_kept, after_tmp}
-use Rattle.maildir_disk.specs.PowerCuts.{IsIntact, HasBody, LeavesOthers}
+use Rattle.maildir_disk.specs.PowerCuts.{IsIntact, HasBody, LeftByOthers}
 use Rattle.maildir_disk.proofs.Calls.Pieces.{again}
 
 -- ---- one more element
@@ -88,8 +88,8 @@ steady_right {x} {old} {new} first steady = record {
 }
 
 -- ---- the homes of a base, as against some bytes
-abbrev pub Holds : (b x : List ℕ) (old new : Files) → Type 0
-Holds b x old new = Steady x (homes old b) (homes new b)
+abbrev pub SteadyAt : (b x : List ℕ) (old new : Files) → Type 0
+SteadyAt b x old new = Steady x (homes old b) (homes new b)
 
 -- a file that was written is found whole as long as nothing writes it
 whole_on : (name x : List ℕ) (s t : Files) → StaysOrGoes name s t → IsFoundWhole (Writing name x) s → IsFoundWhole (Writing name x) t
@@ -108,23 +108,23 @@ doubled_tmp (DropTmp name) s = refl
 doubled_tmp (Outside files) s = refl
 
 module _ (b x : List ℕ) where
-  pub steady_same : (s : Files) → Holds b x s s
+  pub steady_same : (s : Files) → SteadyAt b x s s
   steady_same s = record { within = λ y h. inr h; still = λ h. h }
 
-  pub steady_then : (r s t : Files) → Holds b x r s → Holds b x s t → Holds b x r t
+  pub steady_then : (r s t : Files) → SteadyAt b x r s → SteadyAt b x s t → SteadyAt b x r t
   steady_then r s t first then = record {
     within = λ y h. elim (then.within y h) [ inl is ↦ inl is | inr there ↦ first.within y there ];
     still = λ h. then.still (first.still h);
   }
 
-  pub steady_kept : (s t : Files) → IsPermutation (homes s b) (homes t b) → Holds b x s t
+  pub steady_kept : (s t : Files) → IsPermutation (homes s b) (homes t b) → SteadyAt b x s t
   steady_kept s t kept = record {
     within = λ y h. inr (Contains-permutation _ _ y (IsPermutation-sym _ _ kept) h);
     still = Contains-permutation _ _ x kept;
   }
 
   -- a file of the base is under one more of its names
-  linked_in : (s : Files) (target : List ℕ) {bytes : List ℕ} → has_base b target ≡ true → get s.cur target ≡ None → Contains (homes s b) bytes → Holds b x s (record s { cur = insert s.cur target bytes })
+  linked_in : (s : Files) (target : List ℕ) {bytes : List ℕ} → has_base b target ≡ true → get s.cur target ≡ None → Contains (homes s b) bytes → SteadyAt b x s (record s { cur = insert s.cur target bytes })
   linked_in s target {bytes} on free has = record {
     within = λ y h. inr (elim (Contains-append_cases (held_under b s.new) _ y h) [
       | inl there ↦ Contains-append_left _ _ y there
@@ -139,10 +139,10 @@ module _ (b x : List ℕ) where
     ];
   }
 
-  linked_steady : (s : Files) (name target : List ℕ) (o : Option (List ℕ)) → ((bytes : List ℕ) → has_base b name ≡ true → o ≡ Some bytes → Contains (homes s b) bytes) → Holds b x s (linked s name target o)
+  linked_steady : (s : Files) (name target : List ℕ) (o : Option (List ℕ)) → ((bytes : List ℕ) → has_base b name ≡ true → o ≡ Some bytes → Contains (homes s b) bytes) → SteadyAt b x s (linked s name target o)
   linked_steady s name target None has = steady_same s
   linked_steady s name target (Some bytes) has =
-      elim (may_take s.cur name target) as (λ t. may_take s.cur name target ≡ t → Holds b x s (cond t (record s { cur = insert s.cur target bytes }) s)) [
+      elim (may_take s.cur name target) as (λ t. may_take s.cur name target ≡ t → SteadyAt b x s (cond t (record s { cur = insert s.cur target bytes }) s)) [
         | false ↦ λ may. steady_same s
         | true ↦ λ may.
             let parts = and_parts _ _ may in
@@ -153,7 +153,7 @@ module _ (b x : List ℕ) where
             ]
       ] refl
 
-  doubled_steady : (action : Action) (s : Files) → Holds b x s (doubled action s)
+  doubled_steady : (action : Action) (s : Files) → SteadyAt b x s (doubled action s)
   doubled_steady (ToCur name target) s = linked_steady s name target (get s.new name) (λ bytes on has. Contains-append_left _ _ bytes (held_in b s.new name bytes on has))
   doubled_steady (Reflag name target) s = linked_steady s name target (get s.cur name) (λ bytes on has. Contains-append_right _ _ bytes (held_in b s.cur name bytes on has))
   doubled_steady (DropTmp name) s = steady_same s
@@ -163,33 +163,33 @@ module _ (b x : List ℕ) where
   inserted_steady : (m : FileMap) (target : List ℕ) → has_base b target ≡ true → Steady x (held_under b m) (held_under b (insert m target x))
   inserted_steady m target on = record { within = inserted_or b m target x on; still = λ h. inserted_in b m target x on }
 
-  placed_steady : (s : Files) (name : List ℕ) (p : Place) (target : List ℕ) (o : Option (List ℕ)) → has_base b target ≡ true → ((held : List ℕ) → o ≡ Some held → held ≡ x) → Holds b x s (placed s name p target o)
+  placed_steady : (s : Files) (name : List ℕ) (p : Place) (target : List ℕ) (o : Option (List ℕ)) → has_base b target ≡ true → ((held : List ℕ) → o ≡ Some held → held ≡ x) → SteadyAt b x s (placed s name p target o)
   placed_steady s name p target None on whole = steady_same s
   placed_steady s name New target (Some held) on whole =
-      subst (λ bytes. Holds b x s (placed s name New target (Some bytes))) (sym (whole held refl)) (steady_left (held_under b s.cur) (inserted_steady s.new target on))
+      subst (λ bytes. SteadyAt b x s (placed s name New target (Some bytes))) (sym (whole held refl)) (steady_left (held_under b s.cur) (inserted_steady s.new target on))
   placed_steady s name Cur target (Some held) on whole =
-      subst (λ bytes. Holds b x s (placed s name Cur target (Some bytes))) (sym (whole held refl)) (steady_right (held_under b s.new) (inserted_steady s.cur target on))
+      subst (λ bytes. SteadyAt b x s (placed s name Cur target (Some bytes))) (sym (whole held refl)) (steady_right (held_under b s.new) (inserted_steady s.cur target on))
 
   module _ (named : IsTrue (is_converter_base b)) where
     -- a call that places nothing at the base
-    left_elsewhere : (call : Call) → PlacesElsewhere b call → (kept : List cuts.Kept) (s : Files) → Holds b x s (left_after s call kept)
+    left_elsewhere : (call : Call) → PlacesElsewhere b call → (kept : List cuts.CutMove) (s : Files) → SteadyAt b x s (left_after s call kept)
     left_elsewhere call off [] s = steady_same s
     left_elsewhere call off (Came move ∷ kept) s =
         steady_then s (moved call move s) (left_after s call (Came move ∷ kept)) (steady_kept s (moved call move s) (after_kept b named call off (move ∷ []) s)) (left_elsewhere call off kept (moved call move s))
     left_elsewhere call off (Doubled action ∷ kept) s =
         steady_then s (doubled action s) (left_after s call (Doubled action ∷ kept)) (doubled_steady action s) (left_elsewhere call off kept (doubled action s))
 
-    pub leaves_elsewhere : {call : Call} → PlacesElsewhere b call → {s t : Files} → Leaves call s t → Holds b x s t
-    leaves_elsewhere {call} off {s} leaves = subst (Holds b x s) (sym leaves.are) (left_elsewhere call off leaves.kept s)
+    pub leaves_elsewhere : {call : Call} → PlacesElsewhere b call → {s t : Files} → Leaves call s t → SteadyAt b x s t
+    leaves_elsewhere {call} off {s} leaves = subst (SteadyAt b x s) (sym leaves.are) (left_elsewhere call off leaves.kept s)
 
     -- a call that places there what `tmp` has under a name, where these bytes were written
     module _ (name : List ℕ) (p : Place) (target : List ℕ) (ours : IsTrue (is_converter_name name)) (on : has_base b target ≡ true) where
-      placing_moved : (move : Move) (s : Files) → IsFoundWhole (Writing name x) s → Holds b x s (moved (Placing name p target) move s)
+      placing_moved : (move : Move) (s : Files) → IsFoundWhole (Writing name x) s → SteadyAt b x s (moved (Placing name p target) move s)
       placing_moved (Other action) s whole = steady_kept s (acted action s) (acted_kept b named action s)
       placing_moved Again s whole = placed_steady s name p target (get s.tmp name) on (whole ours)
       placing_moved (Torn bytes) s whole = steady_same s
 
-      left_placing : (kept : List cuts.Kept) (s : Files) → IsFoundWhole (Writing name x) s → Holds b x s (left_after s (Placing name p target) kept)
+      left_placing : (kept : List cuts.CutMove) (s : Files) → IsFoundWhole (Writing name x) s → SteadyAt b x s (left_after s (Placing name p target) kept)
       left_placing [] s whole = steady_same s
       left_placing (Came move ∷ kept) s whole =
           let t = moved (Placing name p target) move s in
@@ -198,19 +198,19 @@ module _ (b x : List ℕ) where
           let t = doubled action s in
           steady_then s t (left_after s (Placing name p target) (Doubled action ∷ kept)) (doubled_steady action s) (left_placing kept t (whole_on name x s t (inl (ap (λ m. get m name) (doubled_tmp action s))) whole))
 
-      pub leaves_placing : {s t : Files} → IsFoundWhole (Writing name x) s → Leaves (Placing name p target) s t → Holds b x s t
-      leaves_placing {s} whole leaves = subst (Holds b x s) (sym leaves.are) (left_placing leaves.kept s whole)
+      pub leaves_placing : {s t : Files} → IsFoundWhole (Writing name x) s → Leaves (Placing name p target) s t → SteadyAt b x s t
+      leaves_placing {s} whole leaves = subst (SteadyAt b x s) (sym leaves.are) (left_placing leaves.kept s whole)
 
 -- ---- a message, of whose base this holds
-pub intact_on : (m : Message) (s t : Files) → Holds m.target.base m.body s t → IsIntact s m → IsIntact t m
+pub intact_on : (m : Message) (s t : Files) → SteadyAt m.target.base m.body s t → IsIntact s m → IsIntact t m
 intact_on m s t holds intact bytes h = elim (holds.within bytes h) [ inl is ↦ is | inr there ↦ intact bytes there ]
 
-pub others_hold : (m : Message) → IsTrue (is_converter_base m.target.base) → {s t : Files} → LeavesOthers s t → Holds m.target.base m.body s t
+pub others_hold : (m : Message) → IsTrue (is_converter_base m.target.base) → {s t : Files} → LeftByOthers s t → SteadyAt m.target.base m.body s t
 others_hold m named leaves = leaves_elsewhere m.target.base m.body named tt leaves
 
 -- ---- messages, of each of which this holds
 abbrev pub AllHold : List Message → Files → Files → Type 0
-AllHold ms s t = All (λ m. Holds m.target.base m.body s t) ms
+AllHold ms s t = All (λ m. SteadyAt m.target.base m.body s t) ms
 
 pub all_intact : (ms : List Message) (s t : Files) → AllHold ms s t → All (IsIntact s) ms → All (IsIntact t) ms
 all_intact ms s t hold intact k d below = intact_on (get_or ms k d) s t (hold k d below) (intact k d below)
@@ -218,5 +218,5 @@ all_intact ms s t hold intact k d below = intact_on (get_or ms k d) s t (hold k 
 pub all_bodies : (ms : List Message) (s t : Files) → AllHold ms s t → All (HasBody s) ms → All (HasBody t) ms
 all_bodies ms s t hold bodies k d below = (hold k d below).still (bodies k d below)
 
-pub all_beside : (ms : List Message) {s t : Files} → AreNamed ms → LeavesOthers s t → AllHold ms s t
+pub all_beside : (ms : List Message) {s t : Files} → AreNamed ms → LeftByOthers s t → AllHold ms s t
 all_beside ms named leaves k d below = others_hold (get_or ms k d) (named k d below) leaves

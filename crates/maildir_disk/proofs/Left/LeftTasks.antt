@@ -12,7 +12,7 @@ use Rattle.maildir_run.specs.Files.{Files, is_name, has_base}
 use Rattle.maildir_run.specs.Parts.{sweep_of, delivery_of, delivery_if, deliveries_of}
 use Rattle.maildir_run.specs.Plan.{is_listed}
 use Rattle.maildir_run.specs.Private.Progress.{IsTarget}
-use Rattle.maildir_run.specs.Tasks.{Task, Do, call_of, AllDone, Stopped, Performs, leaving, Names, LeavesDone, listings, planned_tasks}
+use Rattle.maildir_run.specs.Tasks.{Task, Do, call_of, AllDone, Stopped, Performs, leaving, Listings, LeavesDone, listing_tasks, planned_tasks}
 use Rattle.maildir_run.specs.Texts.{MessagesOf}
 use Rattle.maildir_run.proofs.Call.Homes.{converters}
 use Rattle.maildir_run.proofs.Names.Maps.{is_name-true, is_name-refl}
@@ -20,7 +20,7 @@ use Rattle.maildir_run.proofs.Chains.MessageLemmas.{text_named, text_targets, te
 use Rattle.maildir_run.proofs.Tasks.PlanLemmas.{planned_are}
 use Rattle.maildir_run.proofs.Tasks.TaskEffects.{EachTask, PlacesNone, all_parts, stopped_parts, listings_place_none, sweep_places_none}
 use Rattle.maildir_disk.specs.PowerCuts.{AreAlike}
-use Rattle.maildir_disk.proofs.Left.LeftHomes.{Holds, steady_same, steady_then, leaves_elsewhere, leaves_placing, AllHold}
+use Rattle.maildir_disk.proofs.Left.LeftHomes.{SteadyAt, steady_same, steady_then, leaves_elsewhere, leaves_placing, AllHold}
 
 -- ---- the parts of a list of tasks
 -- what a cut leaves of tasks that were all done, or of which one was refused
@@ -28,9 +28,9 @@ abbrev pub LeavesTasks : (ended : Bool) → List Task → Files → Files → Ty
 LeavesTasks true tasks old new = AllDone leaving tasks old new
 LeavesTasks false tasks old new = Stopped leaving tasks old new
 
-none_left : (ended : Bool) {old new : Files} → LeavesTasks ended [] old new → new ≡ old
-none_left true e = e
-none_left false e = e
+left_of_no_tasks : (ended : Bool) {old new : Files} → LeavesTasks ended [] old new → new ≡ old
+left_of_no_tasks true e = e
+left_of_no_tasks false e = e
 
 one_done : (task : Task) (old new : Files) → LeavesTasks true (task ∷ []) old new → LeavesDone task old new
 one_done task old new (mid, done, e) = subst (LeavesDone task old) (sym e) done
@@ -56,10 +56,10 @@ performs_left tasks old new (Err _) h = (false, h)
 module _ (b x : List ℕ) (named : IsTrue (is_converter_base b)) where
   -- whatever a cut leaves of these tasks, of the base it leaves what was there, or these bytes
   abbrev pub AreSteady : List Task → Type 0
-  AreSteady tasks = (ended : Bool) (old new : Files) → LeavesTasks ended tasks old new → Holds b x old new
+  AreSteady tasks = (ended : Bool) (old new : Files) → LeavesTasks ended tasks old new → SteadyAt b x old new
 
   none_steady : AreSteady []
-  none_steady ended old new h = subst (Holds b x old) (sym (none_left ended h)) (steady_same b x old)
+  none_steady ended old new h = subst (SteadyAt b x old) (sym (left_of_no_tasks ended h)) (steady_same b x old)
 
   both_steady : (xs ys : List Task) → AreSteady xs → AreSteady ys → AreSteady (xs ++ ys)
   both_steady xs ys first then ended old new h =
@@ -114,15 +114,15 @@ module _ (b x : List ℕ) (named : IsTrue (is_converter_base b)) where
       (delivery_if_steady (is_there m.target.base) m (delivery_steady m (All-head (λ (n : Message). IsTarget n.target) m ms are) (All-head (λ (n : Message). n.target.base ≡ b → n.body ≡ x) m ms bodies)))
       (deliveries_steady is_there ms (All-tail (λ (n : Message). IsTarget n.target) m ms are) (All-tail (λ (n : Message). n.target.base ≡ b → n.body ≡ x) m ms bodies))
 
-  planned_steady : (names : Names) (ms : List Message) → All (λ m. IsTarget m.target) ms → All (λ m. m.target.base ≡ b → m.body ≡ x) ms → AreSteady (planned_tasks names ms)
+  planned_steady : (names : Listings) (ms : List Message) → All (λ m. IsTarget m.target) ms → All (λ m. m.target.base ≡ b → m.body ≡ x) ms → AreSteady (planned_tasks names ms)
   planned_steady names ms are bodies =
       let sweep = sweep_of names.tmp in
       let deliveries = deliveries_of (is_listed names.new names.cur) ms in
       subst AreSteady (sym (planned_are names ms))
-      (both_steady (listings names) (sweep ++ deliveries) (all_elsewhere (listings names) (listings_place_none names))
+      (both_steady (listing_tasks names) (sweep ++ deliveries) (all_elsewhere (listing_tasks names) (listings_place_none names))
       (both_steady sweep deliveries (all_elsewhere sweep (sweep_places_none names.tmp)) (deliveries_steady (is_listed names.new names.cur) ms are bodies)))
 
-  run_holds : {A E : Type 0} (names : Names) (ms : List Message) → All (λ m. IsTarget m.target) ms → All (λ m. m.target.base ≡ b → m.body ≡ x) ms → (old : Files) (r : Result A E) (new : Files) → Performs leaving (planned_tasks names ms) old r new → Holds b x old new
+  run_holds : {A E : Type 0} (names : Listings) (ms : List Message) → All (λ m. IsTarget m.target) ms → All (λ m. m.target.base ≡ b → m.body ≡ x) ms → (old : Files) (r : Result A E) (new : Files) → Performs leaving (planned_tasks names ms) old r new → SteadyAt b x old new
   run_holds names ms are bodies old r new h =
       let left = performs_left (planned_tasks names ms) old new r h in
       planned_steady names ms are bodies left.0 old new left.1
@@ -143,8 +143,8 @@ own_bodies ms distinct k d below j e there =
     ])
 
 -- ---- the messages of a text
-module _ (t : List ℕ) (ms : List Message) (are : MessagesOf t ms) (small : length t < 2 ^ 63) (names : Names) {A E : Type 0} (before : Files) (r : Result A E) (now : Files) (ran : Performs leaving (planned_tasks names ms) before r now) where
-  pub text_holds : (b x : List ℕ) → IsTrue (is_converter_base b) → All (λ m. m.target.base ≡ b → m.body ≡ x) ms → Holds b x before now
+module _ (t : List ℕ) (ms : List Message) (are : MessagesOf t ms) (small : length t < 2 ^ 63) (names : Listings) {A E : Type 0} (before : Files) (r : Result A E) (now : Files) (ran : Performs leaving (planned_tasks names ms) before r now) where
+  pub text_holds : (b x : List ℕ) → IsTrue (is_converter_base b) → All (λ m. m.target.base ≡ b → m.body ≡ x) ms → SteadyAt b x before now
   text_holds b x named bodies = run_holds b x named names ms (text_targets t ms are small) bodies before r now ran
 
   pub texts_hold : (others : List Message) → AreNamed others → AreAlike others ms → AllHold others before now

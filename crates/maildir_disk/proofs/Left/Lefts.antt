@@ -3,14 +3,14 @@ use Rattle.std.proofs.Common.{◌≡◌, inl, inr, ℕ, List, [], ◌∷◌, ◌
 use Rattle.std.specs.Prelude.{IsErr, IsOk, OnErr, OnOk, Result, Ok, Err}
 use Rattle.maildir_run.specs.declared.folder.Sub.TheVariants.{Tmp}
 use Rattle.maildir_run.specs.Calls.{Call, Listing, Writing, Other, Again, Torn, Succeeded, moved}
-use Rattle.maildir_run.specs.Cuts.{Kept, Came, Doubled, Leaves, LeavesOf, IsFoundWhole, Left, left_after, doubled}
+use Rattle.maildir_run.specs.Cuts.{CutMove, Came, Doubled, Leaves, LeavesOf, IsFoundWhole, Follows, left_after, doubled}
 use Rattle.maildir_run.specs.Files.{Files}
 use Rattle.maildir_run.proofs.Call.Cuts.{left_as}
 use Rattle.maildir_run.proofs.Call.Moves.{writing_ok}
-use Rattle.maildir_disk.specs.PowerCuts.{LeavesOthers, KeepsHeld}
+use Rattle.maildir_disk.specs.PowerCuts.{LeftByOthers, KeepsHeld}
 
 -- ---- one after the other
-left_after-append : (call : Call) (xs ys : List Kept) (s : Files) → left_after s call (xs ++ ys) ≡ left_after (left_after s call xs) call ys
+left_after-append : (call : Call) (xs ys : List CutMove) (s : Files) → left_after s call (xs ++ ys) ≡ left_after (left_after s call xs) call ys
 left_after-append call [] ys s = refl
 left_after-append call (Came move ∷ xs) ys s = left_after-append call xs ys (moved call move s)
 left_after-append call (Doubled action ∷ xs) ys s = left_after-append call xs ys (doubled action s)
@@ -25,14 +25,14 @@ leaves_then {call} {a} first then = record {
 }
 
 -- ---- what others do within any call
-of_others : List Kept → List Kept
+of_others : List CutMove → List CutMove
 of_others [] = []
 of_others (Came (Other action) ∷ kept) = Came (Other action) ∷ of_others kept
 of_others (Came Again ∷ kept) = of_others kept
 of_others (Came (Torn bytes) ∷ kept) = of_others kept
 of_others (Doubled action ∷ kept) = Doubled action ∷ of_others kept
 
-others_after : (call : Call) (kept : List Kept) (s : Files) → left_after s (Listing Tmp) kept ≡ left_after s call (of_others kept)
+others_after : (call : Call) (kept : List CutMove) (s : Files) → left_after s (Listing Tmp) kept ≡ left_after s call (of_others kept)
 unfolding of_others
 others_after call [] s = refl
 others_after call (Came (Other action) ∷ kept) s = others_after call kept _
@@ -40,19 +40,19 @@ others_after call (Came Again ∷ kept) s = others_after call kept s
 others_after call (Came (Torn bytes) ∷ kept) s = others_after call kept s
 others_after call (Doubled action ∷ kept) s = others_after call kept _
 
-pub others_leave : {call : Call} {a b : Files} → LeavesOthers a b → Leaves call a b
+pub others_leave : {call : Call} {a b : Files} → LeftByOthers a b → Leaves call a b
 others_leave {call} {a} h = record { kept = of_others h.kept; are = h.are ∙ others_after call h.kept a }
 
 -- ---- a write of other bytes, torn
-as_torn : List ℕ → List Kept → List Kept
-as_torn held [] = []
-as_torn held (Came (Other action) ∷ kept) = Came (Other action) ∷ as_torn held kept
-as_torn held (Came Again ∷ kept) = Came (Torn held) ∷ as_torn held kept
-as_torn held (Came (Torn bytes) ∷ kept) = Came (Torn bytes) ∷ as_torn held kept
-as_torn held (Doubled action ∷ kept) = Doubled action ∷ as_torn held kept
+cut_moves_torn : List ℕ → List CutMove → List CutMove
+cut_moves_torn held [] = []
+cut_moves_torn held (Came (Other action) ∷ kept) = Came (Other action) ∷ cut_moves_torn held kept
+cut_moves_torn held (Came Again ∷ kept) = Came (Torn held) ∷ cut_moves_torn held kept
+cut_moves_torn held (Came (Torn bytes) ∷ kept) = Came (Torn bytes) ∷ cut_moves_torn held kept
+cut_moves_torn held (Doubled action ∷ kept) = Doubled action ∷ cut_moves_torn held kept
 
-torn_after : (name held bytes : List ℕ) (kept : List Kept) (s : Files) → left_after s (Writing name held) kept ≡ left_after s (Writing name bytes) (as_torn held kept)
-unfolding as_torn
+torn_after : (name held bytes : List ℕ) (kept : List CutMove) (s : Files) → left_after s (Writing name held) kept ≡ left_after s (Writing name bytes) (cut_moves_torn held kept)
+unfolding cut_moves_torn
 torn_after name held bytes [] s = refl
 torn_after name held bytes (Came (Other action) ∷ kept) s = torn_after name held bytes kept _
 torn_after name held bytes (Came Again ∷ kept) s = torn_after name held bytes kept _
@@ -60,26 +60,26 @@ torn_after name held bytes (Came (Torn _) ∷ kept) s = torn_after name held byt
 torn_after name held bytes (Doubled action ∷ kept) s = torn_after name held bytes kept _
 
 pub leaves_torn : {name held bytes : List ℕ} {a b : Files} → Leaves (Writing name held) a b → Leaves (Writing name bytes) a b
-leaves_torn {name} {held} {bytes} {a} h = record { kept = as_torn held h.kept; are = h.are ∙ torn_after name held bytes h.kept a }
+leaves_torn {name} {held} {bytes} {a} h = record { kept = cut_moves_torn held h.kept; are = h.are ∙ torn_after name held bytes h.kept a }
 
 -- ---- from one call to the next
-pub left_both : {call : Call} {a b c : Files → Type 0} → Left (Leaves call) a b → Left (Leaves call) b c → Left (Leaves call) a c
+pub left_both : {call : Call} {a b c : Files → Type 0} → Follows (Leaves call) a b → Follows (Leaves call) b c → Follows (Leaves call) a c
 left_both first then new may = let r = then new may in let q = first r.0 r.1 in (q.0, q.1, leaves_then q.2 r.2)
 
-pub left_early : {call : Call} {a b : Files → Type 0} → Left LeavesOthers a b → Left (Leaves call) a b
+pub left_early : {call : Call} {a b : Files → Type 0} → Follows LeftByOthers a b → Follows (Leaves call) a b
 left_early others new may = let r = others new may in (r.0, r.1, others_leave r.2)
 
-pub left_torn : {name held bytes : List ℕ} {a b : Files → Type 0} → Left (Leaves (Writing name held)) a b → Left (Leaves (Writing name bytes)) a b
+pub left_torn : {name held bytes : List ℕ} {a b : Files → Type 0} → Follows (Leaves (Writing name held)) a b → Follows (Leaves (Writing name bytes)) a b
 left_torn torn new may = let r = torn new may in (r.0, r.1, leaves_torn r.2)
 
-pub left_more : {call : Call} {a b c : Files → Type 0} → Left (Leaves call) a b → Left LeavesOthers b c → Left (Leaves call) a c
+pub left_more : {call : Call} {a b c : Files → Type 0} → Follows (Leaves call) a b → Follows LeftByOthers b c → Follows (Leaves call) a c
 left_more first then = left_both first (left_early then)
 
-pub left_none : {call : Call} {a : Files → Type 0} → Left (Leaves call) a a
+pub left_none : {call : Call} {a : Files → Type 0} → Follows (Leaves call) a a
 left_none new may = (new, may, leaves_none)
 
-pub others_then : {a b c : Files → Type 0} → Left LeavesOthers a b → Left LeavesOthers b c → Left LeavesOthers a c
-others_then = left_both
+pub left_by_others_then : {a b c : Files → Type 0} → Follows LeftByOthers a b → Follows LeftByOthers b c → Follows LeftByOthers a c
+left_by_others_then = left_both
 
 -- ---- where a call answered Ok
 pub on_ok : {A E : Type 0} (P : Type 0) (outcome : Result A E) → P → OnOk outcome P
@@ -94,24 +94,24 @@ pub if_ok : {A E : Type 0} (outcome : Result A E) (P : Type 0) → IsOk outcome 
 if_ok (Ok x) P is h = h
 if_ok (Err e) P is h = cc
 
-pub left_fault : {A E : Type 0} {call : Call} (outcome : Result A E) {a b : Files → Type 0} → IsErr outcome → Left (Leaves call) a b → Left (λ before now. LeavesOf call before outcome now) a b
+pub left_fault : {A E : Type 0} {call : Call} (outcome : Result A E) {a b : Files → Type 0} → IsErr outcome → Follows (Leaves call) a b → Follows (λ before now. LeavesOf call before outcome now) a b
 left_fault (Ok x) is_err h = cc
 left_fault (Err e) is_err h = h
 
 -- nothing is to be found whole
-pub left_always : {A E : Type 0} {call : Call} (outcome : Result A E) {a b : Files → Type 0} → ((s : Files) → IsFoundWhole call s) → Left (Leaves call) a b → Left (λ before now. LeavesOf call before outcome now) a b
+pub left_always : {A E : Type 0} {call : Call} (outcome : Result A E) {a b : Files → Type 0} → ((s : Files) → IsFoundWhole call s) → Follows (Leaves call) a b → Follows (λ before now. LeavesOf call before outcome now) a b
 left_always {call} (Ok x) {a} {b} whole h = left_as (Leaves call) _ a b (λ old new leaves. (leaves, whole new)) h
 left_always (Err e) whole h = h
 
 -- the answer of a folder for that of the system
-pub left_answered : {A E F : Type 0} (call : Call) (outcome : Result A E) (answer : Result A F) {a b : Files → Type 0} → OnErr outcome (IsErr answer) → Left (λ before now. LeavesOf call before outcome now) a b → Left (λ before now. LeavesOf call before answer now) a b
+pub left_answered : {A E F : Type 0} (call : Call) (outcome : Result A E) (answer : Result A F) {a b : Files → Type 0} → OnErr outcome (IsErr answer) → Follows (λ before now. LeavesOf call before outcome now) a b → Follows (λ before now. LeavesOf call before answer now) a b
 left_answered call (Ok x) (Ok y) is h = h
 left_answered call (Ok x) (Err f) {a} {b} is h = left_as _ (Leaves call) a b (λ old new leaves. leaves.0) h
 left_answered call (Err e) (Ok y) is h = cc
 left_answered call (Err e) (Err f) is h = h
 
 -- a file that was written and kept
-pub left_written : {A E : Type 0} {name bytes : List ℕ} (outcome : Result A E) {a b : Files → Type 0} {old new : Files} → Succeeded (Writing name bytes) old new → OnOk outcome (KeepsHeld name new b) → Left (Leaves (Writing name bytes)) a b → Left (λ before now. LeavesOf (Writing name bytes) before outcome now) a b
+pub left_written : {A E : Type 0} {name bytes : List ℕ} (outcome : Result A E) {a b : Files → Type 0} {old new : Files} → Succeeded (Writing name bytes) old new → OnOk outcome (KeepsHeld name new b) → Follows (Leaves (Writing name bytes)) a b → Follows (λ before now. LeavesOf (Writing name bytes) before outcome now) a b
 left_written (Err e) done kept h = h
 left_written {name} {bytes} (Ok x) {old} {new} done kept h = λ left may.
     let r = h left may in (

@@ -8,7 +8,7 @@ use Rattle.maildir_run.specs.declared.folder.Sub.{Sub}
 use Rattle.maildir_run.specs.declared.folder.Sub.TheVariants.{Tmp}
 use Rattle.maildir_run.specs.declared.mem_folder.MemFolder.{MemFolder}
 use Rattle.maildir_run.specs.Calls.{Call, Listing, Writing, Placing, Removing, Again, Torn, Other, Called, CalledQuietly, effect, folder_of}
-use Rattle.maildir_run.specs.Cuts.{Leaves, Left, Came, Doubled}
+use Rattle.maildir_run.specs.Cuts.{Leaves, Follows, Came, Doubled}
 use Rattle.maildir_run.specs.MemFolder.{files_of}
 use Rattle.maildir_run.specs.Files.{Files, Action, ToCur, Reflag, all_acted, is_name}
 use Rattle.maildir_run.specs.Script.{performed, half_performed}
@@ -22,7 +22,7 @@ use Rattle.maildir_disk.specs.declared.cases.Change.TheVariants.{Make, Hold, Pla
 use Rattle.maildir_disk.specs.declared.cases.Change.TheVariants as change
 use Rattle.maildir_disk.specs.Private.Cases.{Adds, IsAdded, KeepsCases, Loses, LosesBytes, made}
 use Rattle.maildir_disk.specs.Cases.{HasRoom, lefts_of, may_find}
-use Rattle.maildir_disk.specs.PowerCuts.{KeepsNames, LeavesOthers}
+use Rattle.maildir_disk.specs.PowerCuts.{KeepsNames, LeftByOthers}
 use Rattle.maildir_disk.specs.World.{World}
 use Rattle.maildir_disk.specs.Writing.{changed, rewritten}
 use Rattle.maildir_disk.proofs.Memory.CaseLists.{no_fewer, there_or_added}
@@ -30,13 +30,13 @@ use Rattle.maildir_disk.proofs.Left.Lefts.{leaves_none, leaves_then, left_both, 
 use Rattle.maildir_disk.proofs.Calls.Passing.{all_acted-append}
 
 -- the call that a change is of; what other programs do comes in a listing
-abbrev pub call_of : Change → Call
-call_of (Make name) = Writing name.now []
-call_of (Hold name bytes) = Writing name.now []
-call_of (Place name place target) = Placing name.now place target.now
-call_of (Remove name) = Removing name.now
-call_of (change.Other act) = Listing Tmp
-call_of (Half act) = Listing Tmp
+abbrev pub call_of_change : Change → Call
+call_of_change (Make name) = Writing name.now []
+call_of_change (Hold name bytes) = Writing name.now []
+call_of_change (Place name place target) = Placing name.now place target.now
+call_of_change (Remove name) = Removing name.now
+call_of_change (change.Other act) = Listing Tmp
+call_of_change (Half act) = Listing Tmp
 
 held_leaves : {name : List ℕ} (bytes : List ℕ) {s : Files} (o : Option (List ℕ)) → Leaves (Writing name []) s (record s { tmp = rewritten s.tmp name (λ _. bytes) o })
 held_leaves bytes None = record { kept = []; are = refl }
@@ -47,7 +47,7 @@ half_leaves (act.ToCur name target) = record { kept = Doubled (ToCur (string_byt
 half_leaves (act.Reflag name target) = record { kept = Doubled (Reflag (string_bytes name) (string_bytes target)) ∷ []; are = refl }
 half_leaves other = record { kept = []; are = refl }
 
-pub made_leaves : (change : Change) {s : Files} → Leaves (call_of change) s (made change s)
+pub made_leaves : (change : Change) {s : Files} → Leaves (call_of_change change) s (made change s)
 made_leaves (Make name) = record { kept = Came Again ∷ []; are = refl }
 made_leaves (Hold name bytes) {s} = held_leaves bytes.now (get s.tmp name.now)
 made_leaves (Place name place target) = record { kept = Came Again ∷ []; are = refl }
@@ -58,13 +58,13 @@ made_leaves (Half act) = half_leaves act.now
 -- ---- what a cut may leave
 module _ (change : Change) (folder then : MemFolder) (old new : Cases) (more : Adds (IsAdded change (files_of folder) old) (lefts_of old) (lefts_of new)) where
   -- a call whose change may be lost, as it leaves the folder
-  pub left_by_change : Leaves (call_of change) (files_of folder) (files_of then) → Left (Leaves (call_of change)) (may_find folder old) (may_find then new)
-  left_by_change own left (inl e) = (files_of folder, inl refl, subst (Leaves (call_of change) (files_of folder)) (sym e) own)
+  pub left_by_change : Leaves (call_of_change change) (files_of folder) (files_of then) → Follows (Leaves (call_of_change change)) (may_find folder old) (may_find then new)
+  left_by_change own left (inl e) = (files_of folder, inl refl, subst (Leaves (call_of_change change) (files_of folder)) (sym e) own)
   left_by_change own left (inr has) =
       elim (there_or_added more has) [
         | inl before ↦ (left, inr before, leaves_none)
         | inr (inl now) ↦ (left, inl now, leaves_none)
-        | inr (inr (was, had, is)) ↦ (was, inr had, subst (Leaves (call_of change) was) (sym is) (made_leaves change))
+        | inr (inr (was, had, is)) ↦ (was, inr had, subst (Leaves (call_of_change change) was) (sym is) (made_leaves change))
       ]
 
   pub lost_there : Loses change (files_of folder) old new → (left : Files) → may_find folder old left → may_find then new left
@@ -84,17 +84,17 @@ called_leaves {call} {a} (Err e) {b} h = leaves_moves call a b h.moves h.left
 
 -- ---- calls
 -- a change after others acted, with what came of its call
-pub left_made : {A E : Type 0} (change : Change) {before : Files → Type 0} (folder then : MemFolder) (old new : Cases) (outcome : Result A E) → Left LeavesOthers before (may_find folder old) → Adds (IsAdded change (files_of folder) old) (lefts_of old) (lefts_of new) → Called (call_of change) (files_of folder) outcome (files_of then) → Left (Leaves (call_of change)) before (may_find then new)
+pub left_made : {A E : Type 0} (change : Change) {before : Files → Type 0} (folder then : MemFolder) (old new : Cases) (outcome : Result A E) → Follows LeftByOthers before (may_find folder old) → Adds (IsAdded change (files_of folder) old) (lefts_of old) (lefts_of new) → Called (call_of_change change) (files_of folder) outcome (files_of then) → Follows (Leaves (call_of_change change)) before (may_find then new)
 left_made change folder then old new outcome first more called =
     left_both (left_early first) (left_by_change change folder then old new more (called_leaves outcome called))
 
 -- and where it was not made
-pub left_unmade : (change : Change) {before : Files → Type 0} (folder : MemFolder) (old new : Cases) → Left LeavesOthers before (may_find folder old) → Adds (IsAdded change (files_of folder) old) (lefts_of old) (lefts_of new) → Left (Leaves (call_of change)) before (may_find folder new)
+pub left_unmade : (change : Change) {before : Files → Type 0} (folder : MemFolder) (old new : Cases) → Follows LeftByOthers before (may_find folder old) → Adds (IsAdded change (files_of folder) old) (lefts_of old) (lefts_of new) → Follows (Leaves (call_of_change change)) before (may_find folder new)
 left_unmade change folder old new first more =
     left_both (left_early first) (left_by_change change folder folder old new more leaves_none)
 
 -- where nothing but the script of the folder changed
-pub same_found : {of : Files → Files → Type 0} (folder same : MemFolder) (cases : Cases) {now : Files → Type 0} → files_of same ≡ files_of folder → Left of (may_find same cases) now → Left of (may_find folder cases) now
+pub same_found : {of : Files → Files → Type 0} (folder same : MemFolder) (cases : Cases) {now : Files → Type 0} → files_of same ≡ files_of folder → Follows of (may_find same cases) now → Follows of (may_find folder cases) now
 same_found folder same cases e h left may =
     let r = h left may in
     (r.0, elim r.1 [ inl is ↦ inl (is ∙ e) | inr has ↦ inr has ], r.2)
@@ -111,7 +111,7 @@ lost_after {change} folder then {mid} {new} keeps more room loses is has left ma
 abbrev pub IsOfBytes : (name bytes : List ℕ) → Files → Cases → Files → Type 0
 IsOfBytes name bytes now old left = (left ≡ now) ⊎ ((was : Files) × Contains (lefts_of old) was × (left ≡ changed name (λ _. bytes) was))
 
-pub left_by_bytes : {name : List ℕ} (bytes : List ℕ) (folder : MemFolder) (first old new : Cases) → Left (Leaves (Writing name [])) (may_find folder first) (Contains (lefts_of old)) → Adds (IsOfBytes name bytes (files_of folder) old) (lefts_of old) (lefts_of new) → Left (Leaves (Writing name [])) (may_find folder first) (Contains (lefts_of new))
+pub left_by_bytes : {name : List ℕ} (bytes : List ℕ) (folder : MemFolder) (first old new : Cases) → Follows (Leaves (Writing name [])) (may_find folder first) (Contains (lefts_of old)) → Adds (IsOfBytes name bytes (files_of folder) old) (lefts_of old) (lefts_of new) → Follows (Leaves (Writing name [])) (may_find folder first) (Contains (lefts_of new))
 left_by_bytes {name} bytes folder first old new before more left has =
     elim (there_or_added more has) [
       | inl was ↦ before left was
@@ -122,14 +122,14 @@ left_by_bytes {name} bytes folder first old new before more left has =
           (earlier.0, earlier.1, leaves_then earlier.2 written)
     ]
 
-pub left_of_bytes : {name : List ℕ} {before : Files → Type 0} (folder then : MemFolder) (old new : Cases) → Left LeavesOthers before (may_find folder old) → Left (Leaves (Writing name [])) (may_find folder old) (Contains (lefts_of new)) → Leaves (Writing name []) (files_of folder) (files_of then) → Left (Leaves (Writing name [])) before (may_find then new)
+pub left_of_bytes : {name : List ℕ} {before : Files → Type 0} (folder then : MemFolder) (old new : Cases) → Follows LeftByOthers before (may_find folder old) → Follows (Leaves (Writing name [])) (may_find folder old) (Contains (lefts_of new)) → Leaves (Writing name []) (files_of folder) (files_of then) → Follows (Leaves (Writing name [])) before (may_find then new)
 left_of_bytes {name} folder then old new first bytes own = left_both (left_early first) each where
-  each : Left (Leaves (Writing name [])) (may_find folder old) (may_find then new)
+  each : Follows (Leaves (Writing name [])) (may_find folder old) (may_find then new)
   each left (inl e) = (files_of folder, inl refl, subst (Leaves (Writing name []) (files_of folder)) (sym e) own)
   each left (inr has) = bytes left has
 
-pub front_of : (held bytes : List ℕ) {n k : ℕ} → k ≤ n → take (length held + k) (held ++ take n bytes) ≡ held ++ take k bytes
-front_of held bytes {n} {k} le = take-append-add held (take n bytes) k ∙ ap (λ l. held ++ l) (take-take k n bytes le)
+pub front_of_appended : (held bytes : List ℕ) {n k : ℕ} → k ≤ n → take (length held + k) (held ++ take n bytes) ≡ held ++ take k bytes
+front_of_appended held bytes {n} {k} le = take-append-add held (take n bytes) k ∙ ap (λ l. held ++ l) (take-take k n bytes le)
 
 pub bytes_after : {name holds : List ℕ} {held : ℕ} {before : Files → Type 0} {folder : MemFolder} (then : MemFolder) {old mid new : Cases} → KeepsCases before (may_find folder mid) old mid → length (lefts_of mid) ≤ length (lefts_of new) → new.room ≡ mid.room → (HasRoom new → LosesBytes name holds held folder mid new) → HasRoom new → {n : ℕ} → held < n → n ≤ length holds → (left : Files) → before left → may_find then new left × may_find then new (changed name (λ _. take n holds) left)
 bytes_after then {mid} keeps longer room loses has {n} above below left may =
@@ -138,16 +138,16 @@ bytes_after then {mid} keeps longer room loses has {n} above below left may =
     (inr ((loses has).without left there), inr ((loses has).fronts n above below left there))
 
 -- another program's act, or what is left of it where it found no memory
-pub acted : {E : Type 0} (a : Act) (old : Files) (outcome : Result (Unit {0}) E) {new : Files} → OnOk outcome (new ≡ performed a old) → OnErr outcome (new ≡ old) → (actions : List Action) × (new ≡ all_acted actions old)
-acted a old (Ok x) ok err = let action = an_action a old in (action.0 ∷ [], ok ∙ action.1)
-acted a old (Err e) ok err = ([], err)
+pub acts_of_act : {E : Type 0} (a : Act) (old : Files) (outcome : Result (Unit {0}) E) {new : Files} → OnOk outcome (new ≡ performed a old) → OnErr outcome (new ≡ old) → (actions : List Action) × (new ≡ all_acted actions old)
+acts_of_act a old (Ok x) ok err = let action = an_action a old in (action.0 ∷ [], ok ∙ action.1)
+acts_of_act a old (Err e) ok err = ([], err)
 
 pub acted_leaves : {E : Type 0} (a : Act) {old : Files} (outcome : Result (Unit {0}) E) {new : Files} → OnOk outcome (new ≡ performed a old) → OnErr outcome (new ≡ old) → Leaves (Listing Tmp) old new
 acted_leaves a {old} (Ok x) ok err = let action = an_action a old in record { kept = Came (Other action.0) ∷ []; are = ok ∙ action.1 }
 acted_leaves a (Err e) ok err = record { kept = []; are = err }
 
-pub acted_on : (a : Files) {b c : Files} → (actions : List Action) × (b ≡ all_acted actions a) → (actions : List Action) × (c ≡ all_acted actions b) → (actions : List Action) × (c ≡ all_acted actions a)
-acted_on a first then = (first.0 ++ then.0, then.1 ∙ (ap (all_acted then.0) first.1 ∙ sym (all_acted-append first.0 then.0 a)))
+pub actions_then : (a : Files) {b c : Files} → (actions : List Action) × (b ≡ all_acted actions a) → (actions : List Action) × (c ≡ all_acted actions b) → (actions : List Action) × (c ≡ all_acted actions a)
+actions_then a first then = (first.0 ++ then.0, then.1 ∙ (ap (all_acted then.0) first.1 ∙ sym (all_acted-append first.0 then.0 a)))
 
 pub keeps_none : (folder : MemFolder) {cases : Cases} → KeepsCases (may_find folder cases) (may_find folder cases) cases cases
 keeps_none folder = record { room = refl; no_fewer = omega arith; there = λ room left may. may }
@@ -167,7 +167,7 @@ module _ (P : Files → Type 0) (folder : MemFolder) (old new : Cases) (stays : 
   stayed left (inl e) = inl e
   stayed left (inr has) = inr ((stays left).0 has).0
 
-  pub left_stayed : Left LeavesOthers (may_find folder old) (may_find folder new)
+  pub left_stayed : Follows LeftByOthers (may_find folder old) (may_find folder new)
   left_stayed left may = (left, stayed left may, leaves_none)
 
   pub all_stayed : P (files_of folder) → (left : Files) → may_find folder new left → P left
@@ -177,7 +177,7 @@ module _ (P : Files → Type 0) (folder : MemFolder) (old new : Cases) (stays : 
 same_names : (sub : Sub) (s t : Files) (name : List ℕ) → keys (folder_of sub s) ≡ keys (folder_of sub t) → contains_key (folder_of sub s) name ≡ contains_key (folder_of sub t) name
 same_names sub s t name e = contains_key-keys (folder_of sub s) name ∙ (ap (list_any (is_name name)) e ∙ sym (contains_key-keys (folder_of sub t) name))
 
-pub names_stayed : {sub is : Sub} → sub ≡ is → (a : World) {before : Files → Type 0} (folder : MemFolder) (old new : Cases) → (actions : List Action) × (files_of folder ≡ all_acted actions a.files) → Left LeavesOthers before (may_find folder old) → ((left : Files) → Contains (lefts_of new) left ↔ (Contains (lefts_of old) left × (keys (folder_of sub left) ≡ keys (folder_of sub (files_of folder))))) → Left (λ was left. KeepsNames is a.files was (files_of folder) left) before (may_find folder new)
+pub names_stayed : {sub is : Sub} → sub ≡ is → (a : World) {before : Files → Type 0} (folder : MemFolder) (old new : Cases) → (actions : List Action) × (files_of folder ≡ all_acted actions a.files) → Follows LeftByOthers before (may_find folder old) → ((left : Files) → Contains (lefts_of new) left ↔ (Contains (lefts_of old) left × (keys (folder_of sub left) ≡ keys (folder_of sub (files_of folder))))) → Follows (λ was left. KeepsNames is a.files was (files_of folder) left) before (may_find folder new)
 names_stayed {sub} e a folder old new acts first stays left may =
     let alike = λ (s : Files). keys (folder_of sub s) ≡ keys (folder_of sub (files_of folder)) in
     let was = first left (stayed alike folder old new stays left may) in (
@@ -196,7 +196,7 @@ names_stayed {sub} e a folder old new acts first stays left may =
       },
     )
 
--- a call of a folder that nobody disturbs
+-- a call of a quiet folder
 pub effect_quietly : {A E : Type 0} (call : Call) (old : Files) (outcome : Result A E) (new : Files) → CalledQuietly call old outcome new → OnOk outcome (new ≡ effect call old)
 effect_quietly call old (Ok x) new called = called.1
 effect_quietly call old (Err e) new called = tt

@@ -10,7 +10,7 @@ use Rattle.maildir_run.specs.Files.{Files}
 use Rattle.maildir_disk.specs.declared.one_moment.Age.{Age}
 use Rattle.maildir_disk.specs.declared.one_moment.Age.TheVariants.{Settled, Young, Ahead}
 use Rattle.maildir_disk.specs.declared.one_moment.Look.{Look}
-use Rattle.maildir_disk.specs.declared.one_moment.Look.TheVariants.{Names, Again}
+use Rattle.maildir_disk.specs.declared.one_moment.Look.TheVariants.{Taken, Wait}
 use Rattle.maildir_disk.specs.World.{World, Acts, AreUnless, margin_of}
 use Rattle.maildir_disk.specs.Look.{IsFarAhead, IsSettled}
 use Rattle.maildir_disk.specs.Quiet.{AreNames}
@@ -33,10 +33,10 @@ WatchedOr sub stamp old (Ok None) new = Acts old new
 WatchedOr sub stamp old (Err _) new = Acts old new
 
 -- the names as of one moment, or nothing but what others did
-abbrev pub Looked : {E : Type 0} → Sub → World → Result Look E → World → Type 0
-Looked sub old (Ok (Names names)) new = Lists sub old.files (names_of names) new.files
-Looked sub old (Ok (Again _)) new = Acts old new
-Looked sub old (Err _) new = Acts old new
+abbrev pub LookGives : {E : Type 0} → Sub → World → Result Look E → World → Type 0
+LookGives sub old (Ok (Taken names)) new = Lists sub old.files (names_of names) new.files
+LookGives sub old (Ok (Wait _)) new = Acts old new
+LookGives sub old (Err _) new = Acts old new
 
 -- what was found of a folder: its names, or nothing
 abbrev pub FoundNames : Sub → Files → Option (Vec (String Global) Global) → Type 0
@@ -44,6 +44,6 @@ FoundNames sub s (Some names) = AreNames sub s names
 FoundNames sub s None = Unit {0}
 
 -- what a look at a folder gave: its names, or nothing
-abbrev pub LookedAt : Sub → Files → Look → Type 0
-LookedAt sub s (Names names) = AreNames sub s names
-LookedAt sub s (Again _) = Unit {0}
+abbrev pub LookGivesQuietly : Sub → Files → Look → Type 0
+LookGivesQuietly sub s (Taken names) = AreNames sub s names
+LookGivesQuietly sub s (Wait _) = Unit {0}

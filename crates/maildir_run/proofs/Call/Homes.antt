@@ -51,13 +51,13 @@ pub absent : (o : Option (List ℕ)) → not (is_some o) ≡ true → o ≡ None
 absent None h = refl
 absent (Some x) h = cc
 
-abbrev pub Kept : List ℕ → Files → Files → Type 0
-Kept b old new = IsPermutation (homes old b) (homes new b)
+abbrev pub KeepsHomesOf : List ℕ → Files → Files → Type 0
+KeepsHomesOf b old new = IsPermutation (homes old b) (homes new b)
 
-pub equally : (b : List ℕ) (old new : Files) → homes old b ≡ homes new b → Kept b old new
+pub equally : (b : List ℕ) (old new : Files) → homes old b ≡ homes new b → KeepsHomesOf b old new
 equally b old new e = subst (λ hs. IsPermutation (homes old b) hs) e (IsPermutation-refl _)
 
-to_cur_kept : (b : List ℕ) (s : Files) (name target bytes : List ℕ) → get s.new name ≡ Some bytes → may_take s.cur name target ≡ true → Kept b s (record s { new = remove s.new name; cur = insert s.cur target bytes })
+to_cur_kept : (b : List ℕ) (s : Files) (name target bytes : List ℕ) → get s.new name ≡ Some bytes → may_take s.cur name target ≡ true → KeepsHomesOf b s (record s { new = remove s.new name; cur = insert s.cur target bytes })
 to_cur_kept b s name target bytes has may =
     let parts = and_parts _ _ may in
     let free : get s.cur target ≡ None = absent _ parts.0 in
@@ -76,7 +76,7 @@ pub same_both : {X : Type 0} (b : Bool) (o : Option X) → o ≡ None → cond b
 same_both true o e = refl
 same_both false o e = e
 
-reflag_kept : (b : List ℕ) (s : Files) (name target bytes : List ℕ) → get s.cur name ≡ Some bytes → may_take s.cur name target ≡ true → Kept b s (record s { cur = insert (remove s.cur name) target bytes })
+reflag_kept : (b : List ℕ) (s : Files) (name target bytes : List ℕ) → get s.cur name ≡ Some bytes → may_take s.cur name target ≡ true → KeepsHomesOf b s (record s { cur = insert (remove s.cur name) target bytes })
 reflag_kept b s name target bytes has may =
     let parts = and_parts _ _ may in
     let free : get s.cur target ≡ None = absent _ parts.0 in
@@ -91,27 +91,27 @@ reflag_kept b s name target bytes has may =
       | inr off ↦ equally b s (record s { cur = insert (remove s.cur name) target bytes }) (rw (held-insert_other b (remove s.cur name) target bytes (alike ∙ off), held-remove_other b s.cur name off) refl)
     ]
 
-pub acted_kept : (b : List ℕ) → IsTrue (is_converter_base b) → (action : Action) (s : Files) → Kept b s (acted action s)
+pub acted_kept : (b : List ℕ) → IsTrue (is_converter_base b) → (action : Action) (s : Files) → KeepsHomesOf b s (acted action s)
 acted_kept b named (ToCur name target) s =
-    elim (get s.new name) as (λ o. get s.new name ≡ o → Kept b s (to_cur s name target o)) [
+    elim (get s.new name) as (λ o. get s.new name ≡ o → KeepsHomesOf b s (to_cur s name target o)) [
       | None ↦ λ has. IsPermutation-refl _
       | Some bytes ↦ λ has.
-          elim (may_take s.cur name target) as (λ t. may_take s.cur name target ≡ t → Kept b s (cond t (record s { new = remove s.new name; cur = insert s.cur target bytes }) s)) [
+          elim (may_take s.cur name target) as (λ t. may_take s.cur name target ≡ t → KeepsHomesOf b s (cond t (record s { new = remove s.new name; cur = insert s.cur target bytes }) s)) [
             | true ↦ λ may. to_cur_kept b s name target bytes has may
             | false ↦ λ may. IsPermutation-refl _
           ] refl
     ] refl
 acted_kept b named (Reflag name target) s =
-    elim (get s.cur name) as (λ o. get s.cur name ≡ o → Kept b s (reflag s name target o)) [
+    elim (get s.cur name) as (λ o. get s.cur name ≡ o → KeepsHomesOf b s (reflag s name target o)) [
       | None ↦ λ has. IsPermutation-refl _
       | Some bytes ↦ λ has.
-          elim (may_take s.cur name target) as (λ t. may_take s.cur name target ≡ t → Kept b s (cond t (record s { cur = insert (remove s.cur name) target bytes }) s)) [
+          elim (may_take s.cur name target) as (λ t. may_take s.cur name target ≡ t → KeepsHomesOf b s (cond t (record s { cur = insert (remove s.cur name) target bytes }) s)) [
             | true ↦ λ may. reflag_kept b s name target bytes has may
             | false ↦ λ may. IsPermutation-refl _
           ] refl
     ] refl
 acted_kept b named (DropTmp name) s =
-    elim (is_converter_name name) as (λ t. Kept b s (cond t (record s { tmp = remove s.tmp name }) s)) [
+    elim (is_converter_name name) as (λ t. KeepsHomesOf b s (cond t (record s { tmp = remove s.tmp name }) s)) [
       | true ↦ IsPermutation-refl _
       | false ↦ IsPermutation-refl _
     ]

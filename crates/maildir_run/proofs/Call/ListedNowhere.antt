@@ -1,7 +1,7 @@
 -- A base that two listings do not show has no home.
 use Rattle.std.proofs.Common.{◌≡◌, ℕ, true, false, cond, List, [], ◌∷◌, Option, Some, None, IsPermutation, IsTrue, IsFalse, refl, sym, ap, ◌∙◌, inl, inr}
 use Rattle.maildir_run.proofs.Common.{list_any, get, remove, insert, keys, contains_key-keys, get-remove, or_parts, cases_Bool, list_any-IsPermutation, Sub, New, Cur, is_converter_base, is_converter_name, is_name, FileMap, Files, has_base, held_under, homes, Action, ToCur, Reflag, DropTmp, Outside, may_take, to_cur, reflag, acted, all_acted, Listing, Move, Other, Again, moved, after, Lists}
-use Rattle.maildir_run.proofs.Names.Maps.{nothing, total, is_name-true}
+use Rattle.maildir_run.proofs.Names.Maps.{none_if_not_some, total, is_name-true}
 use Rattle.maildir_run.proofs.Call.Homes.{same_both, held-outsiders_of}
 use Rattle.maildir_run.proofs.Call.Moves.{after_kept, after-append, homes_none, none_held, held_none}
 
@@ -17,7 +17,7 @@ none_alike b q on (x ∷ names) off =
 
 pub unlisted : (b : List ℕ) (m : FileMap) (names : List (List ℕ)) → IsPermutation names (keys m) → IsFalse (list_any (has_base b) names) → held_under b m ≡ []
 unlisted b m names listed off =
-    held_none b m (λ q on. nothing (get m q) (contains_key-keys m q ∙ none_alike b q on (keys m) (sym (list_any-IsPermutation (has_base b) names (keys m) listed) ∙ off)))
+    held_none b m (λ q on. none_if_not_some (get m q) (contains_key-keys m q ∙ none_alike b q on (keys m) (sym (list_any-IsPermutation (has_base b) names (keys m) listed) ∙ off)))
 
 -- ---- nobody brings a file of this base into `new`
 none_removed : (b : List ℕ) (m : FileMap) (name : List ℕ) → held_under b m ≡ [] → held_under b (remove m name) ≡ []

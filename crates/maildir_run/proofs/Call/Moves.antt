@@ -4,29 +4,29 @@ use Rattle.maildir_run.proofs.Common.{get, insert, remove, values, contains_key,
 use Rattle.maildir_name.specs.declared.target.Place.{Place}
 use Rattle.maildir_name.specs.declared.target.Place.TheVariants.{New, Cur}
 use Rattle.maildir_run.proofs.Names.Maps.{total, same, get_under, get_removed, get-insert_same, get-remove_same}
-use Rattle.maildir_run.proofs.Call.Homes.{Kept, equally, acted_kept, held-insert_other, held-insert_new, get-outsiders_of}
+use Rattle.maildir_run.proofs.Call.Homes.{KeepsHomesOf, equally, acted_kept, held-insert_other, held-insert_new, get-outsiders_of}
 
 -- ---- a base at which nothing is placed
-placed_kept : (b : List ℕ) (name : List ℕ) (p : Place) (target : List ℕ) → has_base b target ≡ false → (o : Option (List ℕ)) (s : Files) → Kept b s (placed s name p target o)
+placed_kept : (b : List ℕ) (name : List ℕ) (p : Place) (target : List ℕ) → has_base b target ≡ false → (o : Option (List ℕ)) (s : Files) → KeepsHomesOf b s (placed s name p target o)
 placed_kept b name p target off None s = IsPermutation-refl _
 placed_kept b name New target off (Some bytes) s = equally b s (placed s name New target (Some bytes)) (rw (held-insert_other b s.new target bytes off) refl)
 placed_kept b name Cur target off (Some bytes) s = equally b s (placed s name Cur target (Some bytes)) (rw (held-insert_other b s.cur target bytes off) refl)
 
-effect_kept : (b : List ℕ) (call : Call) → PlacesElsewhere b call → (s : Files) → Kept b s (effect call s)
+effect_kept : (b : List ℕ) (call : Call) → PlacesElsewhere b call → (s : Files) → KeepsHomesOf b s (effect call s)
 effect_kept b (Placing name p target) h s = placed_kept b name p target h (get s.tmp name) s
 effect_kept b other h s = IsPermutation-refl _
 
-pub torn_kept : (b : List ℕ) (call : Call) (bytes : List ℕ) (s : Files) → Kept b s (torn call bytes s)
+pub torn_kept : (b : List ℕ) (call : Call) (bytes : List ℕ) (s : Files) → KeepsHomesOf b s (torn call bytes s)
 torn_kept b (Writing name _) bytes s = IsPermutation-refl _
 torn_kept b other bytes s = IsPermutation-refl _
 
 module _ (b : List ℕ) (named : IsTrue (is_converter_base b)) (call : Call) (h : PlacesElsewhere b call) where
-  moved_kept : (m : Move) (s : Files) → Kept b s (moved call m s)
+  moved_kept : (m : Move) (s : Files) → KeepsHomesOf b s (moved call m s)
   moved_kept (Other action) s = acted_kept b named action s
   moved_kept Again s = effect_kept b call h s
   moved_kept (Torn bytes) s = torn_kept b call bytes s
 
-  pub after_kept : (ms : List Move) (s : Files) → Kept b s (after s call ms)
+  pub after_kept : (ms : List Move) (s : Files) → KeepsHomesOf b s (after s call ms)
   after_kept [] s = IsPermutation-refl _
   after_kept (m ∷ ms) s = IsPermutation-trans _ _ _ (moved_kept m s) (after_kept ms (moved call m s))
 
@@ -90,19 +90,19 @@ module _ (q : List ℕ) (ours : IsTrue (is_converter_name q)) (call : Call) (h :
   after_tmp (m ∷ ms) s = stays_trans q s (moved call m s) (after s call (m ∷ ms)) (moved_tmp m s) (after_tmp ms (moved call m s))
 
 -- ---- small lists in any order
-pub none_kept : {X : Type 0} (ys : List X) → IsPermutation [] ys → ys ≡ []
-none_kept ys h = nil_from_length ys (length_permutation [] ys h)
+pub permutation_of_none : {X : Type 0} (ys : List X) → IsPermutation [] ys → ys ≡ []
+permutation_of_none ys h = nil_from_length ys (length_permutation [] ys h)
 
-pub one_kept : {X : Type 0} (x : X) (ys : List X) → IsPermutation (x ∷ []) ys → ys ≡ x ∷ []
-one_kept x [] h = absurd (omega (arith, length_permutation (x ∷ []) [] h))
-one_kept x (y ∷ []) h = ap (λ z. z ∷ []) (All-permutation (λ z. z ≡ x) (x ∷ []) (y ∷ []) h (All-cons (λ z. z ≡ x) x [] refl (All-nil _)) 0 y (omega arith))
-one_kept x (y ∷ z ∷ ys) h = absurd (omega (arith, length_permutation (x ∷ []) (y ∷ z ∷ ys) h))
+pub permutation_of_one : {X : Type 0} (x : X) (ys : List X) → IsPermutation (x ∷ []) ys → ys ≡ x ∷ []
+permutation_of_one x [] h = absurd (omega (arith, length_permutation (x ∷ []) [] h))
+permutation_of_one x (y ∷ []) h = ap (λ z. z ∷ []) (All-permutation (λ z. z ≡ x) (x ∷ []) (y ∷ []) h (All-cons (λ z. z ≡ x) x [] refl (All-nil _)) 0 y (omega arith))
+permutation_of_one x (y ∷ z ∷ ys) h = absurd (omega (arith, length_permutation (x ∷ []) (y ∷ z ∷ ys) h))
 
-pub homes_none : (b : List ℕ) (old new : Files) → Kept b old new → homes old b ≡ [] → homes new b ≡ []
-homes_none b old new h e = none_kept (homes new b) (rw e at h)
+pub homes_none : (b : List ℕ) (old new : Files) → KeepsHomesOf b old new → homes old b ≡ [] → homes new b ≡ []
+homes_none b old new h e = permutation_of_none (homes new b) (rw e at h)
 
-pub homes_one : (b x : List ℕ) (old new : Files) → Kept b old new → homes old b ≡ x ∷ [] → homes new b ≡ x ∷ []
-homes_one b x old new h e = one_kept x (homes new b) (rw e at h)
+pub homes_one : (b x : List ℕ) (old new : Files) → KeepsHomesOf b old new → homes old b ≡ x ∷ [] → homes new b ≡ x ∷ []
+homes_one b x old new h e = permutation_of_one x (homes new b) (rw e at h)
 
 -- ---- no file under a base
 no_entries : (es : List (List ℕ × List ℕ)) → map (λ e. e.1) es ≡ [] → es ≡ []
@@ -141,7 +141,7 @@ pub record Arrived (b name : List ℕ) (had : Option (List ℕ)) (s : Files) : T
   pub gone : get s.tmp name ≡ None
 
 homes_first : (xs ys : List (List ℕ)) (v : List ℕ) (zs : List (List ℕ)) → xs ++ ys ≡ [] → IsPermutation (v ∷ (xs ++ ys)) zs → zs ≡ v ∷ []
-homes_first xs ys v zs e h = one_kept v zs (rw e at h)
+homes_first xs ys v zs e h = permutation_of_one v zs (rw e at h)
 
 -- a base that has no home, and then the file of tmp
 placed_first : (b name : List ℕ) (p : Place) (target bytes : List ℕ) (s : Files) → has_base b target ≡ true → homes s b ≡ [] → homes (placed s name p target (Some bytes)) b ≡ bytes ∷ []
@@ -156,7 +156,7 @@ placed_first b name Cur target bytes s on e =
     (IsPermutation-sym _ _ (IsPermutation-middle (held_under b s.new) bytes (held_under b s.cur)))
     (IsPermutation-append_right (held_under b s.new) _ _ (held-insert_new b s.cur target bytes on (none_held b s.cur parts.1 target on))))
 
-module _ (b name : List ℕ) (had : Option (List ℕ)) (s t : Files) (kept : Kept b s t) where
+module _ (b name : List ℕ) (had : Option (List ℕ)) (s t : Files) (kept : KeepsHomesOf b s t) where
   waits_on : StaysOrGoes name s t → Waits b name had s → Waits b name had t
   waits_on (inr gone) w = record { homes_are = homes_none b s t kept w.homes_are; waiting = inr gone }
   waits_on (inl stays) w =

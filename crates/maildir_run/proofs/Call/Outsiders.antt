@@ -1,6 +1,6 @@
 -- An action outside reaches just the states that leave the converter's names as they are.
 use Rattle.std.proofs.Common.{◌≡◌, ℕ, true, false, cond, not, List, [], ◌∷◌, ◌++◌, Some, None, refl, sym, ◌∙◌, inl, inr}
-use Rattle.maildir_run.proofs.Common.{get, entries, retain_keys, find, get-entries, get-from_entries, same_map, cases_Bool, is_converter_name, name_cmp, is_name, FileMap, Files, LeavesConverters, outsiders_of, Outside, acted}
+use Rattle.maildir_run.proofs.Common.{get, entries, retain_keys, find, get-entries, get-from_entries, same_map, cases_Bool, is_converter_name, name_cmp, is_name, FileMap, Files, KeepsConverters, outsiders_of, Outside, acted}
 use Rattle.maildir_run.proofs.Names.Maps.{total, same, get_under}
 use Rattle.maildir_run.proofs.Call.Homes.{get-outsiders_of}
 
@@ -30,14 +30,14 @@ outsiders_alike ours theirs alike =
       | inr off ↦ get-outsiders_other ours theirs q off
     ])
 
-pub outside_leaves : (files s : Files) → LeavesConverters s (acted (Outside files) s)
+pub outside_leaves : (files s : Files) → KeepsConverters s (acted (Outside files) s)
 outside_leaves files s = record {
   tmp_alike = λ name ours. get-outsiders_of s.tmp files.tmp name ours;
   new_alike = λ name ours. get-outsiders_of s.new files.new name ours;
   cur_alike = λ name ours. get-outsiders_of s.cur files.cur name ours;
 }
 
-pub outside_reaches : (s t : Files) → LeavesConverters s t → acted (Outside t) s ≡ t
+pub outside_reaches : (s t : Files) → KeepsConverters s t → acted (Outside t) s ≡ t
 outside_reaches s t alike =
     rw (
       outsiders_alike s.tmp t.tmp (λ q on. sym (alike.tmp_alike q on)),

@@ -1,19 +1,19 @@
 -- What one call of a run gives, in the words of a run.
 use Rattle.std.proofs.Common.{◌≡◌, ℕ, true, false, ◌||◌, List, [], ◌∷◌, ◌++◌, Some, None, IsPermutation, IsTrue, IsFalse, refl, sym, ap, subst, ◌∙◌, inl, inr, is_some}
-use Rattle.maildir_run.proofs.Common.{list_any, get, keys, contains_key-keys, or-true, or_parts, cases_Bool, false_from_ne_true, list_any-IsPermutation, IsPermutation-refl, IsPermutation-trans, Sub, Tmp, is_converter_name, is_converter_base, Files, FileMap, is_name, has_base, held_under, homes, Call, Listing, Writing, Placing, Removing, Again, after, effect, Succeeded, Failed, Lists, PlacesElsewhere, WritesElsewhere, StaysOrGoes, Message, IsMissing, IsHome, LeavesHomes, TmpWithin, Brings, IsTarget}
+use Rattle.maildir_run.proofs.Common.{list_any, get, keys, contains_key-keys, or-true, or_parts, cases_Bool, false_from_ne_true, list_any-IsPermutation, IsPermutation-refl, IsPermutation-trans, Sub, Tmp, is_converter_name, is_converter_base, Files, FileMap, is_name, has_base, held_under, homes, Call, Listing, Writing, Placing, Removing, Again, after, effect, Succeeded, AnyMoves, Lists, PlacesElsewhere, WritesElsewhere, StaysOrGoes, Message, IsMissing, IsHome, KeepsHomes, TmpWithin, DeliversMessage, IsTarget}
 use Rattle.maildir_name.specs.declared.target.Place.{Place}
-use Rattle.maildir_run.proofs.Names.Maps.{nothing, is_name-true, is_name-refl, get-remove_same}
+use Rattle.maildir_run.proofs.Names.Maps.{none_if_not_some, is_name-true, is_name-refl, get-remove_same}
 use Rattle.maildir_run.proofs.Call.Moves.{after_kept, after_tmp, after-append, homes_none, none_held, placing, placing_ok, WrittenOrGone, writing_ok}
 
--- ---- any answer is some list of moves, which is what `Failed` says
-pub ok_moves : (call : Call) (old new : Files) → Succeeded call old new → Failed call old new
+-- ---- any answer is some list of moves, which is what `AnyMoves` says
+pub ok_moves : (call : Call) (old new : Files) → Succeeded call old new → AnyMoves call old new
 ok_moves call old new h = record { moves = h.before ++ Again ∷ h.rest; left = h.left }
 
-pub called_kept : (b : List ℕ) → IsTrue (is_converter_base b) → (call : Call) → PlacesElsewhere b call → (old new : Files) → Failed call old new → IsPermutation (homes old b) (homes new b)
+pub called_kept : (b : List ℕ) → IsTrue (is_converter_base b) → (call : Call) → PlacesElsewhere b call → (old new : Files) → AnyMoves call old new → IsPermutation (homes old b) (homes new b)
 called_kept b named call h old new c =
     rw c.left (after_kept b named call h c.moves old)
 
-pub called_tmp : (q : List ℕ) → IsTrue (is_converter_name q) → (call : Call) → WritesElsewhere q call → (old new : Files) → Failed call old new → StaysOrGoes q old new
+pub called_tmp : (q : List ℕ) → IsTrue (is_converter_name q) → (call : Call) → WritesElsewhere q call → (old new : Files) → AnyMoves call old new → StaysOrGoes q old new
 called_tmp q ours call h old new c = rw c.left (after_tmp q ours call h c.moves old)
 
 -- ---- tmp
@@ -29,7 +29,7 @@ none_within names s within = record { gone = λ q ours off. within.gone q ours r
 one_off : (q name : List ℕ) → IsFalse (list_any (is_name q) (name ∷ [])) → IsFalse (is_name q name)
 one_off q name off = (or_parts (is_name q name) false off).0
 
-pub writing_within : (name bytes : List ℕ) (old new : Files) → Failed (Writing name bytes) old new → TmpWithin [] old → TmpWithin (name ∷ []) new
+pub writing_within : (name bytes : List ℕ) (old new : Files) → AnyMoves (Writing name bytes) old new → TmpWithin [] old → TmpWithin (name ∷ []) new
 writing_within name bytes old new c within =
     within_on (name ∷ []) old new (λ q ours off. called_tmp q ours (Writing name bytes) (one_off q name off) old new c) (none_within (name ∷ []) old within)
 
@@ -65,13 +65,13 @@ pub listing_within : (old : Files) (names : List (List ℕ)) (new : Files) → L
 listing_within old names new listed =
     let call = Listing Tmp in
     let mid = after old call listed.before in
-    let here : TmpWithin names mid = record { gone = λ q ours off. nothing _ (contains_key-keys mid.tmp q ∙ sym (list_any-IsPermutation (is_name q) names (keys mid.tmp) listed.names_are) ∙ off) } in
+    let here : TmpWithin names mid = record { gone = λ q ours off. none_if_not_some _ (contains_key-keys mid.tmp q ∙ sym (list_any-IsPermutation (is_name q) names (keys mid.tmp) listed.names_are) ∙ off) } in
     subst (TmpWithin names) (sym (listed.left ∙ after-append old call listed.before (Again ∷ listed.rest)))
     (within_on names mid (after mid call listed.rest) (λ q ours off. after_tmp q ours call tt listed.rest mid) here)
 
 -- ---- the homes
-pub listing_leaves : (sub : Sub) (old : Files) (names : List (List ℕ)) (new : Files) → Lists sub old names new → LeavesHomes old new
-listing_leaves sub old names new listed = record {
+pub listing_keeps_homes : (sub : Sub) (old : Files) (names : List (List ℕ)) (new : Files) → Lists sub old names new → KeepsHomes old new
+listing_keeps_homes sub old names new listed = record {
   kept = λ base named.
       rw listed.left (after_kept base named (Listing sub) tt (listed.before ++ Again ∷ listed.rest) old);
 }
@@ -102,11 +102,11 @@ not_shown b m names listed e on =
     cc
 
 -- ---- a message is written and placed
-written_leaves : (name bytes : List ℕ) (old new : Files) → Failed (Writing name bytes) old new → LeavesHomes old new
+written_leaves : (name bytes : List ℕ) (old new : Files) → AnyMoves (Writing name bytes) old new → KeepsHomes old new
 written_leaves name bytes old new c = record { kept = λ base named. called_kept base named (Writing name bytes) tt old new c }
 
-pub write_brings : (m : Message) → IsTarget m.target → (old new : Files) → Failed (Writing m.target.base m.body) old new → IsMissing old m → Brings m old new
-write_brings m is old new c missing =
+pub write_delivers : (m : Message) → IsTarget m.target → (old new : Files) → AnyMoves (Writing m.target.base m.body) old new → IsMissing old m → DeliversMessage m old new
+write_delivers m is old new c missing =
     let leaves = written_leaves m.target.base m.body old new c in
     record { own = inl (homes_none m.target.base old new (leaves.kept m.target.base is.named) missing); others = λ base named off. leaves.kept base named }
 
@@ -114,13 +114,13 @@ write_brings m is old new c missing =
 pub base_name : (m : Message) → IsTarget m.target → IsTrue (is_converter_name m.target.base)
 base_name m is = ap is_converter_base (sym (is_name-true m.target.base _ is.whole)) ∙ is.named
 
-pub record Written (m : Message) (old mid : Files) : Type 0 where
+pub record WrittenFirst (m : Message) (old mid : Files) : Type 0 where
   pub written : WrittenOrGone m.target.base m.body mid
   pub missing : IsMissing mid m
-  pub leaves : LeavesHomes old mid
+  pub leaves : KeepsHomes old mid
   pub within : TmpWithin [] old → TmpWithin (m.target.base ∷ []) mid
 
-pub write_ok : (m : Message) → IsTarget m.target → (old mid : Files) → Succeeded (Writing m.target.base m.body) old mid → IsMissing old m → Written m old mid
+pub write_ok : (m : Message) → IsTarget m.target → (old mid : Files) → Succeeded (Writing m.target.base m.body) old mid → IsMissing old m → WrittenFirst m old mid
 write_ok m is old mid done missing =
     let moves = ok_moves (Writing m.target.base m.body) old mid done in
     let leaves = written_leaves m.target.base m.body old mid moves in
@@ -131,12 +131,12 @@ write_ok m is old mid done missing =
       within = writing_within m.target.base m.body old mid moves;
     }
 
-module _ (m : Message) (is : IsTarget m.target) (old mid new : Files) (w : Written m old mid) where
+module _ (m : Message) (is : IsTarget m.target) (old mid new : Files) (w : WrittenFirst m old mid) where
   abbrev put : Call
   put = Placing m.target.base m.target.place m.target.name
 
-  pub place_brings : Failed put mid new → Brings m old new
-  place_brings c =
+  pub place_delivers : AnyMoves put mid new → DeliversMessage m old new
+  place_delivers c =
       record {
         own = rw c.left (elim (placing m.target.base m.target.base m.target.place m.target.name is.named (base_name m is) is.under c.moves mid w.missing) [
           | inl waits ↦ inl waits.homes_are
@@ -153,8 +153,8 @@ module _ (m : Message) (is : IsTarget m.target) (old mid new : Files) (w : Writt
       )
 
 -- ---- from one moment to another
-pub leaves_none : (s : Files) → LeavesHomes s s
+pub leaves_none : (s : Files) → KeepsHomes s s
 leaves_none s = record { kept = λ base named. IsPermutation-refl _ }
 
-pub leaves_trans : (a b c : Files) → LeavesHomes a b → LeavesHomes b c → LeavesHomes a c
+pub leaves_trans : (a b c : Files) → KeepsHomes a b → KeepsHomes b c → KeepsHomes a c
 leaves_trans a b c first then = record { kept = λ base named. IsPermutation-trans _ _ _ (first.kept base named) (then.kept base named) }

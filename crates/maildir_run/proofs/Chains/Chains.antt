@@ -1,6 +1,6 @@
 -- What any list of runs and actions leaves.
 use Rattle.std.proofs.Common.{◌≡◌, ℕ, zero, suc, List, [], ◌∷◌, ◌++◌, map, All, Contains, None, refl, IsTrue, Ok, get_or, sym, subst, ◌∙◌, inl, inr, arith}
-use Rattle.maildir_run.proofs.Common.{get, IsPermutation-refl, IsPermutation-trans, is_converter_name, is_converter_base, Files, Action, acted, Message, IsMissing, IsSoundAt, AreNamed, Sound, Delivered, Report, MessagesOf, Chain, Run, Link, Acted, Linked, Runs}
+use Rattle.maildir_run.proofs.Common.{get, IsPermutation-refl, IsPermutation-trans, is_converter_name, is_converter_base, Files, Action, acted, Message, IsMissing, IsSoundAt, AreNamed, Sound, Delivered, Report, MessagesOf, Chain, IsRun, Link, Acted, Linked, Runs}
 use Rattle.maildir_run.specs.Runs.{Ran}
 use Rattle.maildir_run.proofs.Call.Homes.{acted_kept}
 use Rattle.maildir_run.proofs.Call.Moves.{homes_none, homes_one, acted_tmp}
@@ -62,7 +62,7 @@ module _ (t : List ℕ) (ms : List Message) (are : MessagesOf t ms) (named : Are
   pub chain_sound : (links : List Link) (old new : Files) → All (IsMissing old) ms → Runs t links old new → Sound ms old new
   chain_sound links old new missing runs = chain_keeps (Linked t) (Sound ms old) (λ link a b sound linked. linked_sound link old a b sound linked) links old new (sound_at_start ms old missing) runs
 
-  pub chain_delivered : (links : List Link) (old mid new : Files) (report : Report) → All (IsMissing old) ms → Runs t links old mid → Run t mid (Ok report) new → Delivered ms new
+  pub chain_delivered : (links : List Link) (old mid new : Files) (report : Report) → All (IsMissing old) ms → Runs t links old mid → IsRun t mid (Ok report) new → Delivered ms new
   chain_delivered links old mid new report missing runs last =
       (last.keeps ms are (sound_now ms mid (chain_sound links old mid missing runs).own)).ends.delivered
 

@@ -68,21 +68,21 @@ messages_distinct bodies few i j d lt below =
     (λ e. distinct-targets bodies few i j d.target lt (omega (arith, below, as_many bodies)) (base_i ∙ (e ∙ sym base_j)))
 
 -- ---- a text has no more messages than bytes
-pub few_bodies : (t : List ℕ) (entries : List Entry) → Mbox t entries → length t < 2 ^ 63 → length (bodies_of entries) ≤ 2 ^ 63
-few_bodies t entries is small =
+pub few_bodies_of_text : (t : List ℕ) (entries : List Entry) → Mbox t entries → length t < 2 ^ 63 → length (bodies_of entries) ≤ 2 ^ 63
+few_bodies_of_text t entries is small =
     let few = mbox-length t entries is in
     let len = length-map entries (λ (entry : Entry). entry.body) in
     omega (arith, few, len)
 
 module _ (t : List ℕ) (ms : List Message) where
   pub text_named : MessagesOf t ms → length t < 2 ^ 63 → AreNamed ms
-  text_named (inl (entries, is, e)) small = subst AreNamed (sym e) (messages_named (bodies_of entries) (few_bodies t entries is small))
+  text_named (inl (entries, is, e)) small = subst AreNamed (sym e) (messages_named (bodies_of entries) (few_bodies_of_text t entries is small))
   text_named (inr (none, e)) small = subst AreNamed (sym e) (All-nil (λ (m : Message). IsTrue (is_converter_base m.target.base)))
 
   pub text_distinct : MessagesOf t ms → length t < 2 ^ 63 → AreDistinct ms
-  text_distinct (inl (entries, is, e)) small = subst AreDistinct (sym e) (messages_distinct (bodies_of entries) (few_bodies t entries is small))
+  text_distinct (inl (entries, is, e)) small = subst AreDistinct (sym e) (messages_distinct (bodies_of entries) (few_bodies_of_text t entries is small))
   text_distinct (inr (none, e)) small = subst AreDistinct (sym e) (λ i j d lt below. absurd (omega arith))
 
   pub text_targets : MessagesOf t ms → length t < 2 ^ 63 → All (λ m. IsTarget m.target) ms
-  text_targets (inl (entries, is, e)) small = subst (All (λ m. IsTarget m.target)) (sym e) (messages_targets (bodies_of entries) (omega (arith, few_bodies t entries is small)))
+  text_targets (inl (entries, is, e)) small = subst (All (λ m. IsTarget m.target)) (sym e) (messages_targets (bodies_of entries) (omega (arith, few_bodies_of_text t entries is small)))
   text_targets (inr (none, e)) small = subst (All (λ m. IsTarget m.target)) (sym e) (All-nil (λ (m : Message). IsTarget m.target))

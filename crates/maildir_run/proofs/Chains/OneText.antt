@@ -2,11 +2,11 @@
 use Rattle.std.proofs.Common.{◌≡◌, ℕ, zero, suc, ◌<◌, ◌&&◌, ◌||◌, ◌⊎◌, true, false, List, [], ◌∷◌, length, get_or, map, bytes_eq, All, Contains, refl, sym, ap, ◌∙◌, inl, inr, arith}
 use Rattle.maildir_run.proofs.Common.{bytes_decides, or-false, cases_lt, and_parts, or_parts, eq_by_cmp_equiv, All-head, All-from_get_or, Files, is_name, Message, IsMissing, IsSoundAt, AreDistinct, Sound, is_base_of, Link, Acted, Linked, Runs}
 use Rattle.maildir_run.specs.Runs.{Ran}
-use Rattle.maildir_run.specs.Several.{Text, IsText, HoldsGiven, SoundForAll, LinkOver, RanOver, ActedOver, LinkedOver, RunsOver, link_over, link_of}
+use Rattle.maildir_run.specs.Several.{Mailbox, IsMailbox, HoldsGiven, SoundForAll, LinkOver, RanOver, ActedOver, LinkedOver, RunsOver, link_over, link_of}
 use Rattle.maildir_run.proofs.Chains.Chains.{chain_map}
 use Rattle.maildir_run.proofs.Names.Maps.{total}
 use Rattle.maildir_run.proofs.Chains.MessageLemmas.{text_distinct}
-use Rattle.maildir_run.proofs.Chains.Numbers.{any_at}
+use Rattle.maildir_run.proofs.Chains.BaseNumbers.{any_at}
 use Rattle.maildir_run.proofs.Chains.SeveralTexts.{home_given}
 
 -- messages with one base are one message
@@ -21,7 +21,7 @@ same_place ms distinct i j d in_i in_j same =
     ]
 
 -- the text gives to each base the body of its message alone
-own_body : (text : Text) → AreDistinct text.messages → (i : ℕ) (d : Message) → i < length text.messages → (s : Files) → IsMissing s (get_or text.messages i d) ⊎ HoldsGiven (text ∷ []) s (get_or text.messages i d) → IsSoundAt s (get_or text.messages i d)
+own_body : (text : Mailbox) → AreDistinct text.messages → (i : ℕ) (d : Message) → i < length text.messages → (s : Files) → IsMissing s (get_or text.messages i d) ⊎ HoldsGiven (text ∷ []) s (get_or text.messages i d) → IsSoundAt s (get_or text.messages i d)
 own_body text distinct i d below s (inl none) = inl none
 own_body text distinct i d below s (inr holds) =
     let ms = text.messages in
@@ -32,39 +32,39 @@ own_body text distinct i d below s (inr holds) =
     let body : holds.body ≡ m.body = sym ((bytes_decides (get_or ms a.0 d).body holds.body).0 parts.1) ∙ ap (λ k. (get_or ms k d).body) (sym same) in
     inr (holds.homes_are ∙ ap (λ b. b ∷ []) body)
 
-pub one_sound : (text : Text) (old new : Files) → IsText text → SoundForAll (text ∷ []) old new → Sound text.messages old new
+pub one_sound : (text : Mailbox) (old new : Files) → IsMailbox text → SoundForAll (text ∷ []) old new → Sound text.messages old new
 one_sound text old new is sound =
-    let all = All-head (λ (x : Text). All (λ (m : Message). IsMissing new m ⊎ HoldsGiven (text ∷ []) new m) x.messages) text [] sound.own in
+    let all = All-head (λ (x : Mailbox). All (λ (m : Message). IsMissing new m ⊎ HoldsGiven (text ∷ []) new m) x.messages) text [] sound.own in
     record {
       own = λ i d below. own_body text (text_distinct text.bytes text.messages is.are is.small) i d below new (all i d below);
       others = λ b named off. sound.others b named (ap (λ t. t || false) off);
     }
 
-one_place : (text : Text) (old new : Files) → Sound text.messages old new → (k : ℕ) → k < length (text ∷ []) → All (λ (m : Message). IsMissing new m ⊎ HoldsGiven (text ∷ []) new m) (get_or (text ∷ []) k text).messages
+one_place : (text : Mailbox) (old new : Files) → Sound text.messages old new → (k : ℕ) → k < length (text ∷ []) → All (λ (m : Message). IsMissing new m ⊎ HoldsGiven (text ∷ []) new m) (get_or (text ∷ []) k text).messages
 one_place text old new sound zero below = λ i e inside. home_given (text ∷ []) 0 text below i e inside new (sound.own i e inside)
 one_place text old new sound (suc k) below = absurd (omega (arith, below))
 
-pub sound_one : (text : Text) (old new : Files) → Sound text.messages old new → SoundForAll (text ∷ []) old new
+pub sound_one : (text : Mailbox) (old new : Files) → Sound text.messages old new → SoundForAll (text ∷ []) old new
 sound_one text old new sound = record {
-  own = All-from_get_or (λ (x : Text). All (λ (m : Message). IsMissing new m ⊎ HoldsGiven (text ∷ []) new m) x.messages) (text ∷ []) text (one_place text old new sound);
+  own = All-from_get_or (λ (x : Mailbox). All (λ (m : Message). IsMissing new m ⊎ HoldsGiven (text ∷ []) new m) x.messages) (text ∷ []) text (one_place text old new sound);
   others = λ b named off. sound.others b named (or_parts (is_base_of text.messages b) false off).0;
 }
 
 -- ---- chains
-only_one : (text other : Text) → Contains (text ∷ []) other → other ≡ text
+only_one : (text other : Mailbox) → Contains (text ∷ []) other → other ≡ text
 only_one text other (zero, below, is) = sym is
 only_one text other (suc k, below, is) = absurd (omega (arith, below))
 
-one_link : (text : Text) (link : LinkOver) (a b : Files) → LinkedOver (text ∷ []) link a b → Linked text.bytes (link_of link) a b
+one_link : (text : Mailbox) (link : LinkOver) (a b : Files) → LinkedOver (text ∷ []) link a b → Linked text.bytes (link_of link) a b
 one_link text (RanOver other answer) a b (among, run) = rw (only_one text other among) at run
 one_link text (ActedOver action) a b e = e
 
-link_one : (text : Text) (link : Link) (a b : Files) → Linked text.bytes link a b → LinkedOver (text ∷ []) (link_over text link) a b
+link_one : (text : Mailbox) (link : Link) (a b : Files) → Linked text.bytes link a b → LinkedOver (text ∷ []) (link_over text link) a b
 link_one text (Ran answer) a b run = ((0, omega arith, refl), run)
 link_one text (Acted action) a b e = e
 
-pub one_runs : (text : Text) (links : List LinkOver) (old new : Files) → RunsOver (text ∷ []) links old new → Runs text.bytes (map link_of links) old new
+pub one_runs : (text : Mailbox) (links : List LinkOver) (old new : Files) → RunsOver (text ∷ []) links old new → Runs text.bytes (map link_of links) old new
 one_runs text = chain_map (LinkedOver (text ∷ [])) (Linked text.bytes) link_of (one_link text)
 
-pub runs_one : (text : Text) (links : List Link) (old new : Files) → Runs text.bytes links old new → RunsOver (text ∷ []) (map (link_over text) links) old new
+pub runs_one : (text : Mailbox) (links : List Link) (old new : Files) → Runs text.bytes links old new → RunsOver (text ∷ []) (map (link_over text) links) old new
 runs_one text = chain_map (Linked text.bytes) (LinkedOver (text ∷ [])) (link_over text) (link_one text)

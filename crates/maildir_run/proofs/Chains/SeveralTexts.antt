@@ -1,16 +1,16 @@
 -- What runs over any of several texts, and actions of other programs, leave.
 use Rattle.std.proofs.Common.{◌≡◌, ℕ, zero, suc, ◌+◌, ◌<◌, ◌≤◌, ◌^◌, ◌&&◌, ◌⊎◌, max, Bool, true, false, cond, List, [], ◌∷◌, length, get_or, count_by, bytes_eq, All, Contains, IsTrue, IsPermutation, Result, Ok, Err, refl, sym, ap, subst, ◌∙◌, inl, inr, arith}
-use Rattle.maildir_run.proofs.Common.{list_any, nat_list_eq_equiv, bytes_decides, cases_Bool, false_from_ne_true, All-head, All-tail, All-contains, All-from_get_or, Contains-get_or, list_any_at, count_by-le-length, IsPermutation-refl, IsPermutation-trans, is_converter_base, digest_text, numbered, same_digest, RunFault, Report, Files, Action, acted, homes, is_name, Message, IsMissing, IsHome, IsSoundAt, Sound, is_base_of, Run}
+use Rattle.maildir_run.proofs.Common.{list_any, nat_list_eq_equiv, bytes_decides, cases_Bool, false_from_ne_true, All-head, All-tail, All-contains, All-from_get_or, Contains-get_or, list_any_at, count_by-le-length, IsPermutation-refl, IsPermutation-trans, is_converter_base, digest_text, numbered, same_digest, RunFault, Report, Files, Action, acted, homes, is_name, Message, IsMissing, IsHome, IsSoundAt, Sound, is_base_of, IsRun}
 use Rattle.maildir_name.specs.declared.target.Place.TheVariants.{New}
 use Rattle.maildir_name.proofs.Digests.{same_digest-refl, same_digest-text}
 use Rattle.maildir_name.proofs.BaseLemmas.{numbered-converter}
-use Rattle.maildir_run.specs.Several.{Text, IsText, OfEach, is_base_of_any, HoldsGiven, SoundForAll, LinkOver, RanOver, ActedOver, LinkedOver, RunsOver, HaveOwnDigests, IsUnknown, count_in, most_delivered, most_tried, StandsAfter}
+use Rattle.maildir_run.specs.Several.{Mailbox, IsMailbox, OfEach, is_base_of_any, HoldsGiven, SoundForAll, LinkOver, RanOver, ActedOver, LinkedOver, RunsOver, HaveOwnDigests, IsUnknown, count_in, most_delivered, most_tried, StandsAfter}
 use Rattle.maildir_run.proofs.Names.Maps.{is_name-refl}
 use Rattle.maildir_run.proofs.Chains.Chains.{chain_fold, chain_keeps, chain_at, sound_now}
 use Rattle.maildir_run.proofs.Call.Homes.{acted_kept}
 use Rattle.maildir_run.proofs.Call.Moves.{homes_none, homes_one}
 use Rattle.maildir_run.proofs.Chains.MessageLemmas.{text_named}
-use Rattle.maildir_run.proofs.Chains.Numbers.{has_digest_of, with_digest, count-cons, count-front, text_numbered, text_few}
+use Rattle.maildir_run.proofs.Chains.BaseNumbers.{has_digest_of, with_digest, count-cons, count-front, text_numbered, text_few}
 use Rattle.maildir_run.proofs.Chains.Levels.{Level, Rise, home_level, sound_level, rise}
 
 -- ---- a count of bodies is one of digests
@@ -40,8 +40,8 @@ nobody : Message
 nobody = record { target = record { base = []; place = New; name = [] }; body = [] }
 
 -- one of the texts has this body
-pub record IsBodyOf (texts : List Text) (b : List ℕ) : Type 0 where
-  pub text : Text
+pub record IsBodyOf (texts : List Mailbox) (b : List ℕ) : Type 0 where
+  pub text : Mailbox
   pub among : Contains texts text
   pub m : Message
   pub inside : Contains text.messages m
@@ -54,7 +54,7 @@ pub record Grown (links : List LinkOver) (b : List ℕ) (n : ℕ) (s : Files) : 
   pub at_least : most_delivered b links ≤ level.n
   pub at_most : level.n ≤ max n (most_tried b links)
 
-grown_ran : (text : Text) (answer : Result Report RunFault) (links : List LinkOver) (b : List ℕ) (n : ℕ) (mid new : Files) (r : Rise b (count_in b text) n answer mid) → Grown links b r.now new → Grown (RanOver text answer ∷ links) b n new
+grown_ran : (text : Mailbox) (answer : Result Report RunFault) (links : List LinkOver) (b : List ℕ) (n : ℕ) (mid new : Files) (r : Rise b (count_in b text) n answer mid) → Grown links b r.now new → Grown (RanOver text answer ∷ links) b n new
 grown_ran text (Ok report) links b n mid new r g = record {
   level = g.level;
   from = omega (arith, r.from, g.from);
@@ -69,7 +69,7 @@ grown_ran text (Err fault) links b n mid new r g = record {
 }
 
 -- the home of a message holds what a text gives to its base
-pub home_given : (texts : List Text) (k : ℕ) (d : Text) → k < length texts → (i : ℕ) (e : Message) → i < length (get_or texts k d).messages → (s : Files) → IsSoundAt s (get_or (get_or texts k d).messages i e) → IsMissing s (get_or (get_or texts k d).messages i e) ⊎ HoldsGiven texts s (get_or (get_or texts k d).messages i e)
+pub home_given : (texts : List Mailbox) (k : ℕ) (d : Mailbox) → k < length texts → (i : ℕ) (e : Message) → i < length (get_or texts k d).messages → (s : Files) → IsSoundAt s (get_or (get_or texts k d).messages i e) → IsMissing s (get_or (get_or texts k d).messages i e) ⊎ HoldsGiven texts s (get_or (get_or texts k d).messages i e)
 home_given texts k d below i e inside s (inl none) = inl none
 home_given texts k d below i e inside s (inr home) =
     let m = get_or (get_or texts k d).messages i e in
@@ -77,13 +77,13 @@ home_given texts k d below i e inside s (inr home) =
     let inner = list_any_at (λ (n : Message). is_name n.target.base m.target.base && bytes_eq n.body m.body) (get_or texts k d).messages i e inside hit in
     inr (record {
       body = m.body;
-      given = list_any_at (λ (x : Text). list_any (λ (n : Message). is_name n.target.base m.target.base && bytes_eq n.body m.body) x.messages) texts k d below inner;
+      given = list_any_at (λ (x : Mailbox). list_any (λ (n : Message). is_name n.target.base m.target.base && bytes_eq n.body m.body) x.messages) texts k d below inner;
       homes_are = home;
     })
 
 -- ---- texts whose distinct bodies have distinct digests
 -- a text of which a run answered Ok is among those whose counts are taken
-delivered_count : (b : List ℕ) (links : List LinkOver) (text : Text) (report : Report) → Contains links (RanOver text (Ok report)) → count_in b text ≤ most_delivered b links
+delivered_count : (b : List ℕ) (links : List LinkOver) (text : Mailbox) (report : Report) → Contains links (RanOver text (Ok report)) → count_in b text ≤ most_delivered b links
 delivered_count b [] text report (k, below, is) = absurd (omega (arith, below))
 delivered_count b (link ∷ links) text report (zero, below, is) = rw is (omega arith)
 delivered_count b (RanOver other (Ok _) ∷ links) text report (suc k, below, is) =
@@ -91,22 +91,22 @@ delivered_count b (RanOver other (Ok _) ∷ links) text report (suc k, below, is
 delivered_count b (RanOver other (Err _) ∷ links) text report (suc k, below, is) = delivered_count b links text report (k, omega (arith, below), is)
 delivered_count b (ActedOver action ∷ links) text report (suc k, below, is) = delivered_count b links text report (k, omega (arith, below), is)
 
-module _ (texts : List Text) (are : All IsText texts) (own : HaveOwnDigests texts) where
+module _ (texts : List Mailbox) (are : All IsMailbox texts) (own : HaveOwnDigests texts) where
   -- each body of the texts is there so often
   abbrev pub AreLevel : Files → Type 0
   AreLevel s = (b : List ℕ) → IsBodyOf texts b → Level b s
 
-  module _ (text : Text) (among : Contains texts text) where
+  module _ (text : Mailbox) (among : Contains texts text) where
     own_in : (b : List ℕ) → IsBodyOf texts b → All (λ m. digest_text m.body ≡ digest_text b → m.body ≡ b) text.messages
     own_in b is =
         All-from_get_or (λ (m : Message). digest_text m.body ≡ digest_text b → m.body ≡ b) text.messages nobody (λ i below e.
         let m = get_or text.messages i nobody in
-        let of_m = All-contains (λ (x : Text). All (λ (n : Message). OfEach (λ n'. digest_text n.body ≡ digest_text n'.body → n.body ≡ n'.body) texts) x.messages) texts text own among i nobody below in
-        let of_text = All-contains (λ (x : Text). All (λ (n : Message). digest_text m.body ≡ digest_text n.body → m.body ≡ n.body) x.messages) texts is.text of_m is.among in
+        let of_m = All-contains (λ (x : Mailbox). All (λ (n : Message). OfEach (λ n'. digest_text n.body ≡ digest_text n'.body → n.body ≡ n'.body) texts) x.messages) texts text own among i nobody below in
+        let of_text = All-contains (λ (x : Mailbox). All (λ (n : Message). digest_text m.body ≡ digest_text n.body → m.body ≡ n.body) x.messages) texts is.text of_m is.among in
         All-contains (λ (n : Message). digest_text m.body ≡ digest_text n.body → m.body ≡ n.body) is.text.messages is.m of_text is.inside (e ∙ ap digest_text (sym is.is)) ∙ is.is)
 
-    text_at : IsText text
-    text_at = All-contains IsText texts text are among
+    text_at : IsMailbox text
+    text_at = All-contains IsMailbox texts text are among
 
     level_sound_at : (s : Files) → AreLevel s → All (IsSoundAt s) text.messages
     level_sound_at s levels i d below =
@@ -117,7 +117,7 @@ module _ (texts : List Text) (are : All IsText texts) (own : HaveOwnDigests text
     level_sound : (s : Files) → AreLevel s → Sound text.messages s s
     level_sound s levels = sound_now text.messages s (level_sound_at s levels)
 
-    ran_rise : (answer : Result Report RunFault) (old new : Files) → AreLevel old → Run text.bytes old answer new → (b : List ℕ) → IsBodyOf texts b → (l : Level b old) → Rise b (count_in b text) l.n answer new
+    ran_rise : (answer : Result Report RunFault) (old new : Files) → AreLevel old → IsRun text.bytes old answer new → (b : List ℕ) → IsBodyOf texts b → (l : Level b old) → Rise b (count_in b text) l.n answer new
     ran_rise answer old new levels run b is l =
         let t = text_at in
         let keeps = run.keeps text.messages t.are (level_sound old levels) in
@@ -144,7 +144,7 @@ module _ (texts : List Text) (are : All IsText texts) (own : HaveOwnDigests text
     small = l.small;
   }
 
-  ran_levels : (text : Text) → Contains texts text → (answer : Result Report RunFault) (old new : Files) → AreLevel old → Run text.bytes old answer new → AreLevel new
+  ran_levels : (text : Mailbox) → Contains texts text → (answer : Result Report RunFault) (old new : Files) → AreLevel old → IsRun text.bytes old answer new → AreLevel new
   ran_levels text among answer old new levels run b is =
       rise_level text among answer new b (levels b is).n (levels b is).small (ran_rise text among answer old new levels run b is (levels b is))
 
@@ -172,7 +172,7 @@ module _ (texts : List Text) (are : All IsText texts) (own : HaveOwnDigests text
   linked_others : (x : List ℕ) → IsTrue (is_converter_base x) → is_base_of_any texts x ≡ false → (link : LinkOver) (old new : Files) → AreLevel old → LinkedOver texts link old new → IsPermutation (homes old x) (homes new x)
   linked_others x named off (RanOver text answer) old new levels (among, run) =
       let keeps = run.keeps text.messages (text_at text among).are (level_sound text among old levels) in
-      keeps.sound.others x named (none_at (λ (y : Text). is_base_of y.messages x) texts text off among)
+      keeps.sound.others x named (none_at (λ (y : Mailbox). is_base_of y.messages x) texts text off among)
   linked_others x named off (ActedOver action) old new levels e = rw e (acted_kept x named action old)
 
   chain_others : (links : List LinkOver) (old new : Files) → AreLevel old → RunsOver texts links old new → (x : List ℕ) → IsTrue (is_converter_base x) → is_base_of_any texts x ≡ false → IsPermutation (homes old x) (homes new x)
@@ -181,7 +181,7 @@ module _ (texts : List Text) (are : All IsText texts) (own : HaveOwnDigests text
 
   abbrev levels_at_start : (s : Files) → OfEach (λ m. IsUnknown s m.body) texts → AreLevel s
   levels_at_start s unknown b is =
-      let of_text = All-contains (λ (x : Text). All (λ (m : Message). IsUnknown s m.body) x.messages) texts is.text unknown is.among in
+      let of_text = All-contains (λ (x : Mailbox). All (λ (m : Message). IsUnknown s m.body) x.messages) texts is.text unknown is.among in
       let of_m = All-contains (λ (m : Message). IsUnknown s m.body) is.text.messages is.m of_text is.inside in
       record {
         n = 0;
@@ -192,7 +192,7 @@ module _ (texts : List Text) (are : All IsText texts) (own : HaveOwnDigests text
         small = omega arith;
       }
 
-  body_at : (k : ℕ) (d : Text) → k < length texts → (i : ℕ) (e : Message) → i < length (get_or texts k d).messages → IsBodyOf texts (get_or (get_or texts k d).messages i e).body
+  body_at : (k : ℕ) (d : Mailbox) → k < length texts → (i : ℕ) (e : Message) → i < length (get_or texts k d).messages → IsBodyOf texts (get_or (get_or texts k d).messages i e).body
   body_at k d below i e inside = record {
     text = get_or texts k d;
     among = Contains-get_or texts k d below;
@@ -209,7 +209,7 @@ module _ (texts : List Text) (are : All IsText texts) (own : HaveOwnDigests text
       let g = chain_grown links old new runs start b is (levels_at_start old unknown b is) in
       record { n = g.level.n; there = g.level.there; at_least = g.at_least; at_most = omega (arith, g.at_most) }
 
-  pub chain_whole : (links : List LinkOver) (old new : Files) (text : Text) (report : Report) → OfEach (λ m. IsUnknown old m.body) texts → RunsOver texts links old new → Contains links (RanOver text (Ok report)) → All (IsHome new) text.messages
+  pub chain_whole : (links : List LinkOver) (old new : Files) (text : Mailbox) (report : Report) → OfEach (λ m. IsUnknown old m.body) texts → RunsOver texts links old new → Contains links (RanOver text (Ok report)) → All (IsHome new) text.messages
   chain_whole links old new text report unknown runs ran i d below =
       let ms = text.messages in
       let b = (get_or ms i d).body in

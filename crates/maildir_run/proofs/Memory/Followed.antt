@@ -11,13 +11,13 @@ follows_called call old new (Ok x) (inr w) = cc w.0
 follows_called call old new (Err f) (inr w) = cut_fails call (next_acts old) (files_of old) (files_of new) w.1
 
 -- a listing that answered Ok has left the files as the acts left them
-listing_leaves : {A : Type 0} (mode : Mode) (sub : Sub) (s t : Files) (x : A) → Answers mode (Listing sub) s (Ok x) t → t ≡ s
-listing_leaves Plain sub s t x a = a.2
-listing_leaves Twice sub s t x a = a.2
-listing_leaves other sub s t x a = cc a.0
+listing_changes_none : {A : Type 0} (mode : Mode) (sub : Sub) (s t : Files) (x : A) → Answers mode (Listing sub) s (Ok x) t → t ≡ s
+listing_changes_none Plain sub s t x a = a.2
+listing_changes_none Twice sub s t x a = a.2
+listing_changes_none other sub s t x a = cc a.0
 
 pub follows_listed : (sub : Sub) (old new : MemFolder) (result : Result (Vec (String Global) Global) FolderFault) → FollowsScript (Listing sub) old result new → IfOk result (λ names. names_of names ≡ keys (folder_of sub (files_of new))) → Listed sub (files_of old) result (files_of new)
-follows_listed sub old new (Ok names) (inl a) is = listed_then sub (next_acts old) (files_of old) (files_of new) (names_of names) (listing_leaves (next_mode old) sub (next_files old) (files_of new) names a) is
+follows_listed sub old new (Ok names) (inl a) is = listed_then sub (next_acts old) (files_of old) (files_of new) (names_of names) (listing_changes_none (next_mode old) sub (next_files old) (files_of new) names a) is
 follows_listed sub old new (Ok names) (inr w) is = cc w.0
 follows_listed sub old new (Err f) follows is = follows_called {A = Vec (String Global) Global} (Listing sub) old new (Err f) follows
 

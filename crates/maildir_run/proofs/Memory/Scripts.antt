@@ -1,6 +1,6 @@
 -- What a script makes of a folder in memory is what other programs and a call may do.
 use Rattle.std.proofs.Common.{◌≡◌, ℕ, Bool, true, false, cond, not, List, [], ◌∷◌, ◌++◌, length, take, drop, get_or, ◌<◌, ◌+◌, ◌==◌, map, Option, Some, None, Result, Ok, Err, IsTrue, IsFalse, IsOk, IsErrOf, OnErr, string_bytes, IsPermutation, ◌&&◌, ◌/◌, append-nil, refl, sym, ap, subst, ◌∙◌, inl, inr, append_assoc, suc, arith, take-append-drop, is_some, bytes_eq}
-use Rattle.maildir_run.proofs.Common.{drop-cons, false_from_ne_true, take_more, IsPermutation-refl, insert, remove, get, keys, contains_key, base, is_converter_name, Sub, Tmp, New, Cur, FolderFault, Mode, Plain, FailBefore, FailAfter, Half, Twice, Files, FileMap, Action, ToCur, Reflag, DropTmp, Outside, acted, all_acted, is_name, may_take, AgreeOnConverters, LeavesConverters, Call, Listing, Writing, Placing, Move, Other, Again, Torn, placed, effect, after, IsOthers, IsWhole, IsReady, folder_of, Failed, Lists, Called, linked, with_file, without_file, performed, all_performed, acts_at, may_link, IsCutShort, IsPart, Answers, halved, fails, done}
+use Rattle.maildir_run.proofs.Common.{drop-cons, false_from_ne_true, take_more, IsPermutation-refl, insert, remove, get, keys, contains_key, base, is_converter_name, Sub, Tmp, New, Cur, FolderFault, Mode, Plain, FailBefore, FailAfter, Half, Twice, Files, FileMap, Action, ToCur, Reflag, DropTmp, Outside, acted, all_acted, is_name, may_take, AgreeOnConverters, KeepsConverters, Call, Listing, Writing, Placing, Move, Other, Again, Torn, placed, effect, after, IsOthers, IsWhole, IsReady, folder_of, AnyMoves, Lists, Called, linked, with_file, without_file, performed, all_performed, acts_at, may_link, IsCutShort, IsPart, Answers, halved, fails, done}
 use Rattle.std.proofs.lemmas.Map.Text.{is_eq-slice_cmp}
 use Rattle.maildir_name.specs.declared.target.Place.{Place}
 use Rattle.maildir_run.specs.declared.script.Act.{Act}
@@ -21,18 +21,18 @@ removed_agrees m k off = λ q ours. grind (arith, get_removed, alike is_converte
 agrees : (m : FileMap) → AgreeOnConverters m m
 agrees m = λ q ours. refl
 
-with_leaves : (sub : Sub) (k v : List ℕ) (s : Files) → is_converter_name k ≡ false → LeavesConverters s (with_file sub k v s)
+with_leaves : (sub : Sub) (k v : List ℕ) (s : Files) → is_converter_name k ≡ false → KeepsConverters s (with_file sub k v s)
 with_leaves Tmp k v s off = record { tmp_alike = set_agrees s.tmp k v off; new_alike = agrees s.new; cur_alike = agrees s.cur }
 with_leaves New k v s off = record { tmp_alike = agrees s.tmp; new_alike = set_agrees s.new k v off; cur_alike = agrees s.cur }
 with_leaves Cur k v s off = record { tmp_alike = agrees s.tmp; new_alike = agrees s.new; cur_alike = set_agrees s.cur k v off }
 
-without_leaves : (sub : Sub) (k : List ℕ) (s : Files) → is_converter_name k ≡ false → LeavesConverters s (without_file sub k s)
+without_leaves : (sub : Sub) (k : List ℕ) (s : Files) → is_converter_name k ≡ false → KeepsConverters s (without_file sub k s)
 without_leaves Tmp k s off = record { tmp_alike = removed_agrees s.tmp k off; new_alike = agrees s.new; cur_alike = agrees s.cur }
 without_leaves New k s off = record { tmp_alike = agrees s.tmp; new_alike = removed_agrees s.new k off; cur_alike = agrees s.cur }
 without_leaves Cur k s off = record { tmp_alike = agrees s.tmp; new_alike = agrees s.new; cur_alike = removed_agrees s.cur k off }
 
 -- a file is changed where its name is not a converter's
-guarded_action : (ours : Bool) (s t : Files) → (ours ≡ false → LeavesConverters s t) → (action : Action) × (cond ours s t ≡ acted action s)
+guarded_action : (ours : Bool) (s t : Files) → (ours ≡ false → KeepsConverters s t) → (action : Action) × (cond ours s t ≡ acted action s)
 guarded_action true s t leaves = (Outside s, sym (outside_reaches s s (record { tmp_alike = agrees s.tmp; new_alike = agrees s.new; cur_alike = agrees s.cur })))
 guarded_action false s t leaves = (Outside t, sym (outside_reaches s t (leaves refl)))
 
@@ -164,7 +164,7 @@ called_then call acts old mid new (Ok x) is done =
     }
 called_then call acts old mid new (Err f) is done = record { moves = map Other (actions acts old).0 ++ done.moves; left = done.left ∙ acts_then acts old mid is call done.moves }
 
-pub cut_fails : (call : Call) (acts : List Act) (old new : Files) → IsCutShort acts old new → Failed call old new
+pub cut_fails : (call : Call) (acts : List Act) (old new : Files) → IsCutShort acts old new → AnyMoves call old new
 cut_fails call acts old new cut =
     let done = actions cut.made old in
     record { moves = map Other done.0; left = cut.left ∙ done.1 ∙ sym (after_others done.0 old call) }
@@ -187,12 +187,12 @@ halved_moves : (call : Call) (s : Files) → (ms : List Move) × (halved call s 
 halved_moves (Writing name bytes) s = (Torn (take (length bytes / 2) bytes) ∷ [], refl)
 halved_moves other s = ([], refl)
 
-done_moves : (mode : Mode) (call : Call) (s : Files) → (ms : List Move) × (done mode call s ≡ after s call ms)
-done_moves Plain call s = (Again ∷ [], refl)
-done_moves FailBefore call s = ([], refl)
-done_moves FailAfter call s = (Again ∷ [], refl)
-done_moves Half call s = halved_moves call s
-done_moves Twice call s = (Again ∷ Again ∷ [], refl)
+mode_moves : (mode : Mode) (call : Call) (s : Files) → (ms : List Move) × (done mode call s ≡ after s call ms)
+mode_moves Plain call s = (Again ∷ [], refl)
+mode_moves FailBefore call s = ([], refl)
+mode_moves FailAfter call s = (Again ∷ [], refl)
+mode_moves Half call s = halved_moves call s
+mode_moves Twice call s = (Again ∷ Again ∷ [], refl)
 
 part_moves : (mode : Mode) (call : Call) (old new : Files) → IsPart mode call old new → (ms : List Move) × (new ≡ after old call ms)
 part_moves mode call old new (inl same) = ([], same)
@@ -203,7 +203,7 @@ answered Plain call old new (Ok x) a = record { before = []; rest = []; others =
 answered Twice call old new (Ok x) a = record { before = []; rest = Again ∷ []; others = tt; ready = a.1; whole = tt; left = a.2 }
 answered other call old new (Ok x) a = cc (a.0)
 answered mode call old new (Err fault.Absent) a = record { moves = []; left = a.2 }
-answered mode call old new (Err fault.Failed) a = let ms = done_moves mode call old in record { moves = ms.0; left = a.1 ∙ ms.1 }
+answered mode call old new (Err fault.Failed) a = let ms = mode_moves mode call old in record { moves = ms.0; left = a.1 ∙ ms.1 }
 answered mode call old new (Err fault.OutOfMemory) a = let ms = part_moves mode call old new a.1 in record { moves = ms.0; left = ms.1 }
 
 -- ---- placements

@@ -149,10 +149,10 @@ Step s r t = MatchOption r ((s ≡ []) × (t ≡ [])) (λ name. s ≡ name.now �
 abbrev Last : Option (Bor (String Global)) → Option (Bor (String Global)) → Bool → Type 0
 Last o p r = MatchOption o (MatchOption p (r ≡ true) (λ _. r ≡ false)) (λ x. (r ≡ false) × IfSome p (λ y. string_eq x.now y.now ≡ false))
 
-abbrev Tells : Bool → List (String Global) → List (String Global) → Type 0
-Tells r s t = (r ≡ true → map string_bytes s ≡ map string_bytes t) × (map string_bytes s ≡ map string_bytes t → r ≡ true)
+abbrev TellsSame : Bool → List (String Global) → List (String Global) → Type 0
+TellsSame r s t = (r ≡ true → map string_bytes s ≡ map string_bytes t) × (map string_bytes s ≡ map string_bytes t → r ≡ true)
 
-last_names : (s t u v : List (String Global)) (o p : Option (Bor (String Global))) (r : Bool) → Step s o u → Step t p v → Last o p r → Tells r s t
+last_names : (s t u v : List (String Global)) (o p : Option (Bor (String Global))) (r : Bool) → Step s o u → Step t p v → Last o p r → TellsSame r s t
 last_names s t u v None None r first then last = (λ _. ap (map string_bytes) (first.0 ∙ sym then.0), λ _. last)
 last_names s t u v None (Some y) r first then last = (λ on. cc, λ names. let a = ap (map string_bytes) first.0 in let b = ap (map string_bytes) then in cc)
 last_names s t u v (Some x) None r first then last = (λ on. let off = last.0 in cc, λ names. let a = ap (map string_bytes) first in let b = ap (map string_bytes) then.0 in cc)
@@ -167,7 +167,7 @@ last_names s t u v (Some x) (Some y) r first then last = (
       cc,
 )
 
-pub names_compared : (s t s' t' u v : List (String Global)) (xs ys : List (Bor (String Global))) (o p : Option (Bor (String Global))) (r : Bool) → Yields Step s xs s' → Step s' o u → Yields Step t ys t' → Step t' p v → AllZip (λ (x y : Bor (String Global)). string_eq x.now y.now ≡ true) xs ys → Last o p r → Tells r s t
+pub names_compared : (s t s' t' u v : List (String Global)) (xs ys : List (Bor (String Global))) (o p : Option (Bor (String Global))) (r : Bool) → Yields Step s xs s' → Step s' o u → Yields Step t ys t' → Step t' p v → AllZip (λ (x y : Bor (String Global)). string_eq x.now y.now ≡ true) xs ys → Last o p r → TellsSame r s t
 names_compared s t s' t' u v [] [] o p r from_s ends_s from_t ends_t same last =
     last_names s t u v o p r (rw from_s ends_s) (rw from_t ends_t) last
 names_compared s t s' t' u v [] (y ∷ ys) o p r from_s ends_s from_t ends_t same last = absurd same

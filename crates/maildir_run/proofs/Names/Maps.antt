@@ -33,9 +33,9 @@ get_removed m k q = get-remove total m k q
 pub alike : (p : List ℕ → Bool) (q k : List ℕ) → is_name q k ≡ true → p q ≡ p k
 alike p q k e = ap p (is_name-true q k e)
 
-pub nothing : {X : Type 0} (o : Option X) → is_some o ≡ false → o ≡ None
-nothing None e = refl
-nothing (Some x) e = cc
+pub none_if_not_some : {X : Type 0} (o : Option X) → is_some o ≡ false → o ≡ None
+none_if_not_some None e = refl
+none_if_not_some (Some x) e = cc
 
 -- two folders that answer alike under the test hold the same there
 pub under_same : (p : List ℕ → Bool) (m n : FileMap) → ((q : List ℕ) → p q ≡ true → get m q ≡ get n q) → retain_keys m p ≡ retain_keys n p

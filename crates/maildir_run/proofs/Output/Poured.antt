@@ -1,6 +1,6 @@
 -- A source that is read piece by piece while what belongs to its messages is written.
 use Rattle.std.proofs.Common.{◌≡◌, ℕ, ◌+◌, ◌^◌, ◌<◌, ◌≤◌, Bool, true, false, Option, Some, None, Ok, List, [], ◌++◌, length, refl, sym, ◌∙◌, ap, arith, flat_map, append-nil, length-append}
-use Rattle.maildir_run.proofs.Common.{flat_map-append, spelling, FromLines, Appends, Consumes-nil, Appends-trans, Appends-nil, Entry, Splitter, Fed, AppendsFront, front_more, front_then, RunFault, NoFromLine, Messages, Front, Gave, GaveAll, Refused, Breaks, Went}
+use Rattle.maildir_run.proofs.Common.{flat_map-append, spelling, FromLines, Appends, Consumes-nil, Appends-trans, Appends-nil, Entry, Splitter, Fed, AppendsFront, front_more, front_then, RunFault, NoFromLine, Reader, IsFrontOf, Gave, GaveAll, SourceStopped, Breaks, Went}
 use Rattle.std.specs.Io.KnownBytes.{Keeps}
 use Rattle.maildir_run.proofs.Source.Givens.{given-from_lines, read_is, gave_more, gave_refused, given_front, broken_front}
 use Rattle.maildir_run.specs.Output.{GivesAll, GivesFront, GivesNothing}
@@ -10,17 +10,17 @@ pub record IsOutput (output : List Entry → List ℕ) : Type 0 where
   pub none : output [] ≡ []
   pub front : (a b : List Entry) → (rest : List ℕ) × (output (a ++ b) ≡ output a ++ rest)
 
-gives_front : {output : List Entry → List ℕ} {before now : Option (List ℕ)} (was is : Option (List ℕ)) {reads : ℕ} {given : List Entry} → IsOutput output → Front before now reads given → AppendsFront was is (output given) → GivesFront output before now was is
+gives_front : {output : List Entry → List ℕ} {before now : Option (List ℕ)} (was is : Option (List ℕ)) {reads : ℕ} {given : List Entry} → IsOutput output → IsFrontOf before now reads given → AppendsFront was is (output given) → GivesFront output before now was is
 gives_front {output} {before} {now} was is {given = given} o f h t entries p m =
     let e : t ≡ f.text ++ p.more = rw (← read_is before now f.text t f.read p) p.front in
     let r = f.tells p.more p.left entries p.has p.whole (rw e at m) in
     let z = o.front given r.0 in
     front_more was is (output given) z.0 (output entries) h (ap output r.1 ∙ z.1)
 
-nothing : (was is : Option (List ℕ)) → Appends was is [] → Keeps was is
-nothing None is h = tt
-nothing (Some x) None h = h
-nothing (Some x) (Some y) h = h ∙ append-nil x
+appends_nothing : (was is : Option (List ℕ)) → Appends was is [] → Keeps was is
+appends_nothing None is h = tt
+appends_nothing (Some x) None h = h
+appends_nothing (Some x) (Some y) h = h ∙ append-nil x
 
 -- all that was given is written, and nothing is whole that was not
 pub record Poured (output : List Entry → List ℕ) (given : List Entry) (before now was is : Option (List ℕ)) (splitter : Splitter) (left : ℕ) (whole : List Entry) (reads count : ℕ) : Type 0 where
@@ -33,29 +33,29 @@ pub record Poured (output : List Entry → List ℕ) (given : List Entry) (befor
 pub record Broken (output : List Entry → List ℕ) (before now was is : Option (List ℕ)) (reads : ℕ) (fault : RunFault) : Type 0 where
   pub front : GivesFront output before now was is
   pub nothing : fault ≡ NoFromLine → GivesNothing before now was is
-  pub refused : Refused before now reads fault
+  pub refused : SourceStopped before now reads fault
 
-pub read_broken : {output : List Entry → List ℕ} {given : List Entry} {before mid : Option (List ℕ)} (now : Option (List ℕ)) {was is : Option (List ℕ)} (messages : Messages) {whole : List Entry} {reads count : ℕ} (fault : RunFault)
-    → IsOutput output → Poured output given before mid was is messages.splitter messages.reads whole reads count → Breaks messages mid now fault → Broken output before now was is reads fault
+pub read_broken : {output : List Entry → List ℕ} {given : List Entry} {before mid : Option (List ℕ)} (now : Option (List ℕ)) {was is : Option (List ℕ)} (messages : Reader) {whole : List Entry} {reads count : ℕ} (fault : RunFault)
+    → IsOutput output → Poured output given before mid was is messages.splitter messages.reads_left whole reads count → Breaks messages mid now fault → Broken output before now was is reads fault
 read_broken {output} {given} now {was} {is} messages fault o p b =
     let refused = gave_refused now messages fault p.gave b in
     record {
       front = gives_front was is o (broken_front now messages fault p.gave b) (output given, [], sym (append-nil (output given)), p.written);
       nothing = λ e.
           let out : output given ≡ [] = ap output (b.3 e p.gave.text given p.gave.fed).0 ∙ o.none in
-          (nothing was is (rw out at p.written), refused.unreadable e);
+          (appends_nothing was is (rw out at p.written), refused.unreadable e);
       refused = refused;
     }
 
 -- a read, and what became whole by it
 pub record Batch (output : List Entry → List ℕ) (given : List Entry) (before now was is : Option (List ℕ)) (whole : List Entry) (reads count : ℕ) : Type 0 where
-  pub front : Front before now reads (given ++ whole)
+  pub front : IsFrontOf before now reads (given ++ whole)
   pub written : Appends was is (output given)
   pub count_is : count ≡ length given
   pub from_lines : FromLines whole
 
-pub batch : {output : List Entry → List ℕ} {given : List Entry} {before mid : Option (List ℕ)} (now : Option (List ℕ)) {was is : Option (List ℕ)} (messages : Messages) (splitter : Splitter) (left : ℕ) {old : List Entry} (whole : List Entry) {reads count : ℕ} (ended : Bool)
-    → Poured output given before mid was is messages.splitter messages.reads old reads count → Went messages mid now old whole splitter left (Ok ended) → Batch output given before now was is whole reads count
+pub batch : {output : List Entry → List ℕ} {given : List Entry} {before mid : Option (List ℕ)} (now : Option (List ℕ)) {was is : Option (List ℕ)} (messages : Reader) (splitter : Splitter) (left : ℕ) {old : List Entry} (whole : List Entry) {reads count : ℕ} (ended : Bool)
+    → Poured output given before mid was is messages.splitter messages.reads_left old reads count → Went messages mid now old whole splitter left (Ok ended) → Batch output given before now was is whole reads count
 batch {given = given} {before} now messages splitter left {old} whole {reads} ended p w =
     let more = gave_more ended now messages splitter left old whole p.empty p.gave w in
     record {
@@ -89,8 +89,8 @@ all_given output (Some x) (Some y) was is all gave c h =
     (all, rw e gave.all, c, h)
 
 -- the batch is written
-module _ {output : List Entry → List ℕ} {given : List Entry} {before mid : Option (List ℕ)} (now : Option (List ℕ)) {was is : Option (List ℕ)} (is' : Option (List ℕ)) (messages : Messages) (splitter : Splitter) (left : ℕ) {old : List Entry} (whole : List Entry) {reads count : ℕ} (bytes : List ℕ)
-    (p : Poured output given before mid was is messages.splitter messages.reads old reads count) (e : output (given ++ whole) ≡ output given ++ bytes) (h : Appends is is' bytes) where
+module _ {output : List Entry → List ℕ} {given : List Entry} {before mid : Option (List ℕ)} (now : Option (List ℕ)) {was is : Option (List ℕ)} (is' : Option (List ℕ)) (messages : Reader) (splitter : Splitter) (left : ℕ) {old : List Entry} (whole : List Entry) {reads count : ℕ} (bytes : List ℕ)
+    (p : Poured output given before mid was is messages.splitter messages.reads_left old reads count) (e : output (given ++ whole) ≡ output given ++ bytes) (h : Appends is is' bytes) where
   written : Appends was is' (output (given ++ whole))
   written = rw e (Appends-trans was is is' (output given) bytes p.written h)
 

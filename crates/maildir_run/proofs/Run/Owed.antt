@@ -1,6 +1,6 @@
 -- What a run owes where it ends, from the tasks that it performed.
 use Rattle.std.proofs.Common.{◌≡◌, ℕ, ◌+◌, ◌*◌, ◌<◌, ◌≤◌, ◌^◌, Bool, true, false, cond, Option, Some, None, List, [], ◌∷◌, ◌++◌, length, All, Result, Ok, Err, IfOk, OnOk, IsTrue, refl, sym, ap, subst, ◌∙◌, inl, inr, arith, append_assoc, length-append, IsErrOf, filter, append-nil}
-use Rattle.maildir_run.proofs.Common.{get, keys, length-map, All-head, All-tail, length-filter, count_by-le-length, IsAtEnd, Entry, Target, base, is_converter_name, is_converter_base, RunFault, NoFromLine, TooManyReads, Report, swept, filled, alone, Conversion, Tells, run_tasks, Seen, Ran, sweep_of, delivery_of, delivery_if, deliveries_of, fault_of, capped, IsNumbered, Numbers, Left, Message, IsSoundAt, IsMissing, Delivered, AreDistinct, Sound, has_home, there_count, leftover_count, Files, GaveAll, Refused, is_listed, TmpWithin, Knows, Progress, IsTarget, LeavesOthers, ReadsAtLeast, Possible, Keeps, Run, CountsRun, Link, Runs, Mbox, Task, Do, Performs, AllDone, Stopped, reported, undisturbed, Names, listings, planned_tasks, Way, leaving, Removing, messages_of, bodies_of, MessagesOf, flat_map-append}
+use Rattle.maildir_run.proofs.Common.{get, keys, length-map, All-head, All-tail, length-filter, count_by-le-length, IsAtEnd, Entry, Target, base, is_converter_name, is_converter_base, RunFault, NoFromLine, TooManyReads, Report, swept, filled, alone, Conversion, ReportsTasks, run_tasks, Seen, Performed, sweep_of, delivery_of, delivery_if, deliveries_of, fault_of, capped, HasCallNumber, CallNumber, Follows, Message, IsSoundAt, IsMissing, Delivered, AreDistinct, Sound, has_home, there_count, leftover_count, Files, GaveAll, SourceStopped, is_listed, TmpWithin, Knows, Progress, IsTarget, KeepsForeign, ReadsAtLeast, Possible, Keeps, IsRun, CountsRun, Link, Runs, Mbox, Task, Do, Performs, AllDone, Stopped, honestly, quietly, Listings, listing_tasks, planned_tasks, Way, leaving, Removing, messages_of, bodies_of, MessagesOf, flat_map-append}
 use Rattle.std.proofs.lemmas.Result.{on_ok_weaker, IfErr-at_err}
 use Rattle.maildir_run.proofs.Tasks.CallCounts.{run_counts}
 use Rattle.maildir_run.proofs.Names.Maps.{is_name-true}
@@ -10,11 +10,11 @@ use Rattle.maildir_run.proofs.Chains.Chains.{chain_delivered}
 use Rattle.maildir_run.proofs.Source.PossibleMessages.{stands_keeps, front_stands, whole_text, given_of, none_done}
 use Rattle.maildir_run.proofs.Tasks.QuietRuns.{swept_exact, swept_free}
 use Rattle.maildir_run.proofs.Call.Steps.{leaves_trans}
-use Rattle.maildir_run.proofs.Call.Surveys.{filter-length}
-use Rattle.maildir_run.proofs.Chains.Numbers.{count-cons}
+use Rattle.maildir_run.proofs.Call.FolderListings.{filter-length}
+use Rattle.maildir_run.proofs.Chains.BaseNumbers.{count-cons}
 use Rattle.maildir_run.proofs.Tasks.PlanLemmas.{planned_are}
-use Rattle.maildir_run.proofs.Tasks.Tasks.{stopped_before, reported_stops, MayStop, leaving_stops}
-use Rattle.maildir_run.proofs.Tasks.TaskEffects.{EachTask, each_of_both, PlacesNone, IsOurs, done_leaves, all_parts, stopped_parts, looked, looked_quietly, all_swept, sweep_ours, listings_place_none, sweep_places_none, all_progress, stopped_came, CameTo, all_filled, done_others}
+use Rattle.maildir_run.proofs.Tasks.Tasks.{stopped_before, honestly_stops, MayStop, leaving_stops}
+use Rattle.maildir_run.proofs.Tasks.TaskEffects.{EachTask, each_of_both, PlacesNone, IsOurs, done_leaves, all_parts, stopped_parts, known_by_listings, listed_quietly, all_swept, sweep_ours, listings_place_none, sweep_places_none, all_progress, stopped_came, CameTo, all_filled, done_others}
 
 -- ---- tasks that name converter's names alone
 delivery_ours : (t : Target) (body : List ℕ) → IsTarget t → EachTask IsOurs (delivery_of t body)
@@ -47,52 +47,52 @@ pub sweep_count : (names : List (List ℕ)) → length (sweep_of names) ≡ leng
 sweep_count names = length-map (filter is_converter_name names) (λ name. Do (Removing name))
 
 -- ---- the answers' numbers
-pub ran_numbers : {A : Type 0} (tasks : List Task) (start now : Seen) (made made' : ℕ) (r : Result A RunFault) → Ran tasks start now made made' (fault_of r) → made ≡ 0 → length tasks < 2 ^ 66 → Numbers r start.calls now.calls
+pub ran_numbers : {A : Type 0} (tasks : List Task) (start now : Seen) (made made' : ℕ) (r : Result A RunFault) → Performed tasks start now made made' (fault_of r) → made ≡ 0 → length tasks < 2 ^ 66 → CallNumber r start.calls now.calls
 ran_numbers tasks start now made made' r ran e few =
     let most = ran.most in
     record {
       n = ran.n;
       few = omega arith;
       count_is = ran.makes.count_is;
-      numbered = subst (IsNumbered (fault_of r)) (ran.makes.numbered 0 e ∙ ap capped (omega arith)) ran.numbered;
+      call_number = subst (HasCallNumber (fault_of r)) (ran.makes.made_is 0 e ∙ ap capped (omega arith)) ran.call_number;
     }
 
 -- ---- what the tasks of a run leave
-early_none : (names : Names) → EachTask PlacesNone (listings names ++ sweep_of names.tmp)
-early_none names = each_of_both PlacesNone (listings names) (sweep_of names.tmp) (listings_place_none names) (sweep_places_none names.tmp)
+early_none : (names : Listings) → EachTask PlacesNone (listing_tasks names ++ sweep_of names.tmp)
+early_none names = each_of_both PlacesNone (listing_tasks names) (sweep_of names.tmp) (listings_place_none names) (sweep_places_none names.tmp)
 
-run_ours : (names : Names) (ms : List Message) → All (λ m. IsTarget m.target) ms → EachTask IsOurs (run_tasks names ms)
+run_ours : (names : Listings) (ms : List Message) → All (λ m. IsTarget m.target) ms → EachTask IsOurs (run_tasks names ms)
 run_ours names ms are = (tt, (tt, (tt, each_of_both IsOurs (sweep_of names.tmp) (deliveries_of (is_listed names.new names.cur) ms) (sweep_ours names.tmp) (deliveries_ours (is_listed names.new names.cur) ms are))))
 
-module _ (names : Names) (ms : List Message) (distinct : AreDistinct ms) (are : All (λ m. IsTarget m.target) ms) (start : Files) where
-  began : (mid now : Files) → AllDone reported (listings names) start mid → AllDone reported (sweep_of names.tmp) mid now → Progress [] start now × TmpWithin [] now
+module _ (names : Listings) (ms : List Message) (distinct : AreDistinct ms) (are : All (λ m. IsTarget m.target) ms) (start : Files) where
+  began : (mid now : Files) → AllDone honestly (listing_tasks names) start mid → AllDone honestly (sweep_of names.tmp) mid now → Progress [] start now × TmpWithin [] now
   began mid now first then = (
-    none_done start now (leaves_trans start mid now (done_leaves None (listings names) (listings_place_none names) start mid first) (done_leaves None (sweep_of names.tmp) (sweep_places_none names.tmp) mid now then)),
-    all_swept names.tmp mid now (looked names start mid first).within then,
+    none_done start now (leaves_trans start mid now (done_leaves None (listing_tasks names) (listings_place_none names) start mid first) (done_leaves None (sweep_of names.tmp) (sweep_places_none names.tmp) mid now then)),
+    all_swept names.tmp mid now (known_by_listings names start mid first).within then,
   )
 
-  come_to : (fault : RunFault) (now : Files) → Stopped reported (run_tasks names ms) start now → All (IsSoundAt start) ms → CameTo ms start now
+  come_to : (fault : RunFault) (now : Files) → Stopped honestly (run_tasks names ms) start now → All (IsSoundAt start) ms → CameTo ms start now
   come_to fault now h sound =
-      let early = listings names ++ sweep_of names.tmp in
+      let early = listing_tasks names ++ sweep_of names.tmp in
       let last = deliveries_of (is_listed names.new names.cur) ms in
-      elim (stopped_parts reported early last start now (subst (λ ts. Stopped reported ts start now) (sym (append_assoc (listings names) (sweep_of names.tmp) last)) h)) as (λ _. CameTo ms start now) [
+      elim (stopped_parts honestly early last start now (subst (λ ts. Stopped honestly ts start now) (sym (append_assoc (listing_tasks names) (sweep_of names.tmp) last)) h)) as (λ _. CameTo ms start now) [
         | inl s ↦ record { done = []; rest = ms; is = refl; progress = none_done start now (done_leaves (Some fault) early (early_none names) start now s) }
         | inr (mid, first, more) ↦
-            let parts = all_parts reported (listings names) (sweep_of names.tmp) start mid first in
+            let parts = all_parts honestly (listing_tasks names) (sweep_of names.tmp) start mid first in
             let b = began parts.0 mid parts.1 parts.2 in
-            stopped_came start (is_listed names.new names.cur) (looked names start parts.0 parts.1).knows ms distinct are sound [] ms mid now refl b.0 b.1 more
+            stopped_came start (is_listed names.new names.cur) (known_by_listings names start parts.0 parts.1).knows ms distinct are sound [] ms mid now refl b.0 b.1 more
       ]
 
-  stands : (now : Files) → Stopped reported (run_tasks names ms) start now → Sound ms start start → (fault : RunFault) → Keeps ms start (Err fault) now
+  stands : (now : Files) → Stopped honestly (run_tasks names ms) start now → Sound ms start start → (fault : RunFault) → Keeps ms start (Err fault) now
   stands now h sound fault = let came = come_to fault now h sound.own in stands_keeps ms start now fault (front_stands ms came.done came.rest start now (λ k d lt. (are k d lt).named) distinct sound came.is came.progress)
 
-  pub keeps : (now : Files) (r : Result Report RunFault) → Performs reported (run_tasks names ms) start r now → IfOk r (Tells names ms) → Sound ms start start → Keeps ms start r now
+  pub keeps : (now : Files) (r : Result Report RunFault) → Performs honestly (run_tasks names ms) start r now → IfOk r (ReportsTasks names ms) → Sound ms start start → Keeps ms start r now
   keeps now (Err fault) h tells sound = stands now h sound fault
   keeps now (Ok report) h tells sound =
-      let one = all_parts reported (listings names) (sweep_of names.tmp ++ deliveries_of (is_listed names.new names.cur) ms) start now h in
-      let two = all_parts reported (sweep_of names.tmp) (deliveries_of (is_listed names.new names.cur) ms) one.0 now one.2 in
+      let one = all_parts honestly (listing_tasks names) (sweep_of names.tmp ++ deliveries_of (is_listed names.new names.cur) ms) start now h in
+      let two = all_parts honestly (sweep_of names.tmp) (deliveries_of (is_listed names.new names.cur) ms) one.0 now one.2 in
       let b = began one.0 two.0 one.1 two.1 in
-      let look = looked names start one.0 one.1 in
+      let look = known_by_listings names start one.0 one.1 in
       let end = all_progress start (is_listed names.new names.cur) look.knows ms distinct are sound.own [] ms two.0 now refl b.0 b.1 two.2 in
       let s = front_stands ms ms [] start now (λ k d lt. (are k d lt).named) distinct sound (sym (append-nil ms)) end.0 in
       let count = deliveries_count start (is_listed names.new names.cur) look.knows ms are in
@@ -113,20 +113,20 @@ module _ (names : Names) (ms : List Message) (distinct : AreDistinct ms) (are : 
         };
       }
 
-  filled_all : (now : Files) (r : Result Report RunFault) → Performs reported (run_tasks names ms) start r now → Performs undisturbed (run_tasks names ms) start r now → IfOk r (Tells names ms) → IfOk r (λ report. (now ≡ alone ms start) × (report.swept ≡ leftover_count start))
-  filled_all now (Err fault) honestly h tells = tt
-  filled_all now (Ok report) honestly h tells =
-      let look = looked names start _ (all_parts reported (listings names) (sweep_of names.tmp ++ deliveries_of (is_listed names.new names.cur) ms) start now honestly).1 in
-      let one = all_parts undisturbed (listings names) (sweep_of names.tmp ++ deliveries_of (is_listed names.new names.cur) ms) start now h in
-      let two = all_parts undisturbed (sweep_of names.tmp) (deliveries_of (is_listed names.new names.cur) ms) one.0 now one.2 in
-      let l = looked_quietly names start one.0 one.1 in
+  filled_all : (now : Files) (r : Result Report RunFault) → Performs honestly (run_tasks names ms) start r now → Performs quietly (run_tasks names ms) start r now → IfOk r (ReportsTasks names ms) → IfOk r (λ report. (now ≡ alone ms start) × (report.swept ≡ leftover_count start))
+  filled_all now (Err fault) performed h tells = tt
+  filled_all now (Ok report) performed h tells =
+      let look = known_by_listings names start _ (all_parts honestly (listing_tasks names) (sweep_of names.tmp ++ deliveries_of (is_listed names.new names.cur) ms) start now performed).1 in
+      let one = all_parts quietly (listing_tasks names) (sweep_of names.tmp ++ deliveries_of (is_listed names.new names.cur) ms) start now h in
+      let two = all_parts quietly (sweep_of names.tmp) (deliveries_of (is_listed names.new names.cur) ms) one.0 now one.2 in
+      let l = listed_quietly names start one.0 one.1 in
       let clean : two.0 ≡ swept start = swept_exact names.tmp one.0 two.0 (rw l.0 l.1) two.1 ∙ ap swept l.0 in (
         all_filled start (is_listed names.new names.cur) look.knows ms are two.0 now (λ name ours. ap (λ s. get s.tmp name) clean ∙ swept_free start name ours) two.2 ∙ ap (filled start ms) clean,
         tells.swept ∙ sweep_count names.tmp ∙ filter-length is_converter_name names.tmp (keys start.tmp) l.1,
       )
 
 -- a run after other runs
-restarted : (r : Result Report RunFault) (t : List ℕ) (ms : List Message) (links : List Link) (first start now : Files) → length t < 2 ^ 63 → MessagesOf t ms → All (IsMissing first) ms → Runs t links first start → Run t start r now → OnOk r (Delivered ms now)
+restarted : (r : Result Report RunFault) (t : List ℕ) (ms : List Message) (links : List Link) (first start now : Files) → length t < 2 ^ 63 → MessagesOf t ms → All (IsMissing first) ms → Runs t links first start → IsRun t start r now → OnOk r (Delivered ms now)
 restarted (Ok report) t ms links first start now small of missing before run = chain_delivered t ms of (text_named t ms of small) links first start now report missing before run
 restarted (Err fault) t ms links first start now small of missing before run = tt
 
@@ -135,12 +135,12 @@ both_ok (Ok x) f p q = f p x q
 both_ok (Err e) f p q = tt
 
 -- ---- with these messages of those that a text has, which are all with Ok
-module _ (names : Names) (these more ms : List Message) (e : ms ≡ these ++ more) where
+module _ (names : Listings) (these more ms : List Message) (e : ms ≡ these ++ more) where
   planned_front : planned_tasks names ms ≡ run_tasks names these ++ deliveries_of (is_listed names.new names.cur) more
   planned_front =
       let is_there = is_listed names.new names.cur in
-      planned_are names ms ∙ ap (run_tasks names) e ∙ ap (λ ts. listings names ++ (sweep_of names.tmp ++ ts)) (flat_map-append (delivery_if is_there) these more)
-      ∙ ap (λ ts. listings names ++ ts) (sym (append_assoc (sweep_of names.tmp) (deliveries_of is_there these) (deliveries_of is_there more)))
+      planned_are names ms ∙ ap (run_tasks names) e ∙ ap (λ ts. listing_tasks names ++ (sweep_of names.tmp ++ ts)) (flat_map-append (delivery_if is_there) these more)
+      ∙ ap (λ ts. listing_tasks names ++ ts) (sym (append_assoc (sweep_of names.tmp) (deliveries_of is_there these) (deliveries_of is_there more)))
 
   planned_performs : (w : Way) → MayStop w → (r : Result Report RunFault) → OnOk r (ms ≡ these) → (start now : Files) → Performs w (run_tasks names these) start r now → Performs w (planned_tasks names ms) start r now
   planned_performs w still (Ok x) same start now h = subst (λ ts. AllDone w ts start now) (sym (planned_are names ms ∙ ap (run_tasks names) same)) h
@@ -148,7 +148,7 @@ module _ (names : Names) (these more ms : List Message) (e : ms ≡ these ++ mor
       subst (λ ts. Stopped w ts start now) (sym planned_front) (stopped_before w still (run_tasks names these) (deliveries_of (is_listed names.new names.cur) more) start now h)
 
 -- the calls are those of the report
-calls_made : (names : Names) (ms : List Message) (start now : Seen) (made made' : ℕ) (r : Result Report RunFault) → Ran (run_tasks names ms) start now made made' (fault_of r) → IfOk r (Tells names ms) → IfOk r (λ report. CountsRun report start.calls now.calls)
+calls_made : (names : Listings) (ms : List Message) (start now : Seen) (made made' : ℕ) (r : Result Report RunFault) → Performed (run_tasks names ms) start now made made' (fault_of r) → IfOk r (ReportsTasks names ms) → IfOk r (λ report. CountsRun report start.calls now.calls)
 calls_made names ms start now made made' (Err fault) ran tells = tt
 calls_made names ms start now made made' (Ok report) ran tells =
     let placed = tells.placed in
@@ -164,7 +164,7 @@ deliveries_most is_there (m ∷ ms) =
     let one : length (delivery_if is_there m) ≤ 2 = elim (is_there m.target.base) as (λ t. length (cond t [] (delivery_of m.target m.body)) ≤ 2) [ true ↦ omega arith | false ↦ omega arith ] in
     omega arith
 
-few_tasks : (names : Names) (bodies : List (List ℕ)) → length names.tmp < 2 ^ 64 → length bodies ≤ 2 ^ 63 → length (run_tasks names (messages_of bodies)) < 2 ^ 66
+few_tasks : (names : Listings) (bodies : List (List ℕ)) → length names.tmp < 2 ^ 64 → length bodies ≤ 2 ^ 63 → length (run_tasks names (messages_of bodies)) < 2 ^ 66
 few_tasks names bodies small few =
     let most = deliveries_most (is_listed names.new names.cur) (messages_of bodies) in
     omega (arith, length-messages_of bodies, length-append (sweep_of names.tmp) (deliveries_of (is_listed names.new names.cur) (messages_of bodies)), sweep_count names.tmp, length-filter is_converter_name names.tmp, count_by-le-length is_converter_name names.tmp)
@@ -181,20 +181,20 @@ module _ {before after : Option (List ℕ)} {reads : ℕ} {start now : Seen} {r 
   given_here = given_of r before after reads run.given run.front run.whole
 
   module _ (h : start.honest) (t : List ℕ) (ms : List Message) (p : Possible before after t) (of : MessagesOf t ms) where
-    performs_here : Performs reported (planned_tasks run.names ms) start.files r now.files
+    performs_here : Performs honestly (planned_tasks run.names ms) start.files r now.files
     performs_here =
         let g = given_here t ms p of in
-        planned_performs run.names (messages_of (bodies_of run.given)) g.0 ms g.1 reported reported_stops r g.2 start.files now.files (run.ran.reported_of h)
+        planned_performs run.names (messages_of (bodies_of run.given)) g.0 ms g.1 honestly honestly_stops r g.2 start.files now.files (run.ran.done_honestly h)
 
-    pub owes_planned : (names : Names) × Performs reported (planned_tasks names ms) start.files r now.files
+    pub owes_planned : (names : Listings) × Performs honestly (planned_tasks names ms) start.files r now.files
     owes_planned = (run.names, performs_here)
 
-    pub owes_left : Left (λ old new. (names : Names) × Performs leaving (planned_tasks names ms) old r new) start.may_leave now.may_leave
+    pub owes_left : Follows (λ old new. (names : Listings) × Performs leaving (planned_tasks names ms) old r new) start.may_leave now.may_leave
     owes_left =
         let g = given_here t ms p of in
         left_as _ _ start.may_leave now.may_leave (λ old new q. (run.names, planned_performs run.names (messages_of (bodies_of run.given)) g.0 ms g.1 leaving leaving_stops r g.2 old new q)) (run.ran.left h)
 
-  pub owes_run : start.honest → (t : List ℕ) → length t < 2 ^ 63 → Possible before after t → Run t start.files r now.files
+  pub owes_run : start.honest → (t : List ℕ) → length t < 2 ^ 63 → Possible before after t → IsRun t start.files r now.files
   owes_run h t small p = record {
     keeps = λ ms of sound.
         keeps run.names ms (text_distinct t ms of small) (text_targets t ms of small) start.files now.files r (rw (planned_are run.names ms) at (performs_here h t ms p of))
@@ -209,24 +209,24 @@ module _ {before after : Option (List ℕ)} {reads : ℕ} {start now : Seen} {r 
   owes_alone honest_of q t ms p of =
       both_ok r (λ (same : ms ≡ messages_of (bodies_of run.given)) report (alone_is : (now.files ≡ alone (messages_of (bodies_of run.given)) start.files) × (report.swept ≡ leftover_count start.files)).
       (alone_is.0 ∙ ap (λ x. alone x start.files) (sym same), alone_is.1)) (given_here t ms p of).2
-      (filled_all run.names (messages_of (bodies_of run.given)) (messages_distinct (bodies_of run.given) few_bodies) (messages_targets (bodies_of run.given) few_bodies) start.files now.files r (run.ran.reported_of (honest_of q)) (run.ran.undisturbed_of q) run.tells)
+      (filled_all run.names (messages_of (bodies_of run.given)) (messages_distinct (bodies_of run.given) few_bodies) (messages_targets (bodies_of run.given) few_bodies) start.files now.files r (run.ran.done_honestly (honest_of q)) (run.ran.done_quietly q) run.tells)
 
-  pub owes_others : start.quiet → LeavesOthers start.files now.files
+  pub owes_others : start.quiet → KeepsForeign start.files now.files
   owes_others q =
-      done_others (fault_of r) (run_tasks run.names (messages_of (bodies_of run.given))) (run_ours run.names (messages_of (bodies_of run.given)) (messages_targets (bodies_of run.given) few_bodies)) start.files now.files (run.ran.undisturbed_of q)
+      done_others (fault_of r) (run_tasks run.names (messages_of (bodies_of run.given))) (run_ours run.names (messages_of (bodies_of run.given)) (messages_targets (bodies_of run.given) few_bodies)) start.files now.files (run.ran.done_quietly q)
 
   pub owes_calls : IfOk r (λ report. CountsRun report start.calls now.calls)
   owes_calls = calls_made run.names (messages_of (bodies_of run.given)) start now 0 run.made r run.ran run.tells
 
-  pub owes_numbers : Numbers r start.calls now.calls
+  pub owes_numbers : CallNumber r start.calls now.calls
   owes_numbers = ran_numbers _ start now 0 run.made r run.ran refl (few_tasks run.names (bodies_of run.given) run.few few_bodies)
 
   -- ---- and of its source
   pub owes_end : OnOk r (IsAtEnd after)
   owes_end = on_ok_weaker r (λ (w : GaveAll before after reads run.given). w.end) run.whole
 
-  refused_as : (fault : RunFault) → IsErrOf r fault → Refused before after reads fault
-  refused_as fault e = IfErr-at_err (Refused before after reads) e run.refused
+  refused_as : (fault : RunFault) → IsErrOf r fault → SourceStopped before after reads fault
+  refused_as fault e = IfErr-at_err (SourceStopped before after reads) e run.refused
 
   pub owes_unread : IsErrOf r NoFromLine → (t : List ℕ) (entries : List Entry) → Possible before after t → ¬ Mbox t entries
   owes_unread e = (refused_as NoFromLine e).unreadable refl

@@ -1,18 +1,18 @@
 -- What a run has kept at its exits, for each text that its source may have had.
 use Rattle.std.proofs.Common.{◌≡◌, ℕ, ◌+◌, ◌*◌, ◌≤◌, ◌^◌, Option, Result, Ok, Err, OnOk, List, [], ◌++◌, length, sym, ap, subst, ◌∙◌, inl, inr, arith, append-nil, length-append}
-use Rattle.maildir_run.proofs.Common.{map-append, length-map, All-nil, Entry, Mbox, mbox-one, RunFault, Files, Message, IsHome, AreNamed, AreDistinct, Sound, messages_of, bodies_of, MessagesOf, messages_after, Possible, Keeps, LeavesHomes, Progress, Front, GaveAll}
-use Rattle.maildir_run.proofs.Tasks.Progress.{Stands, progress_stands}
+use Rattle.maildir_run.proofs.Common.{map-append, length-map, All-nil, Entry, Mbox, mbox-one, RunFault, Files, Message, IsHome, AreNamed, AreDistinct, Sound, messages_of, bodies_of, MessagesOf, messages_after, Possible, Keeps, KeepsHomes, Progress, IsFrontOf, GaveAll}
+use Rattle.maildir_run.proofs.Tasks.Progress.{KeptSoFar, progress_stands}
 use Rattle.maildir_run.proofs.Run.Batches.{after_these, no_messages}
 use Rattle.maildir_run.proofs.Source.Givens.{read_is}
 
-pub none_done : (start now : Files) → LeavesHomes start now → Progress [] start now
+pub none_done : (start now : Files) → KeepsHomes start now → Progress [] start now
 none_done start now leaves = record { homes_are = All-nil (IsHome now); kept = λ b named off. leaves.kept b named }
 
-pub stands_keeps : (ms : List Message) (start now : Files) (fault : RunFault) → Stands ms start now → Keeps ms start (Err fault) now
+pub stands_keeps : (ms : List Message) (start now : Files) (fault : RunFault) → KeptSoFar ms start now → Keeps ms start (Err fault) now
 stands_keeps ms start now fault s = record { sound = s.sound; still = s.still; in_order = s.in_order; ends = tt }
 
 -- messages of which the first are done
-pub front_stands : (ms done more : List Message) (start now : Files) → AreNamed ms → AreDistinct ms → Sound ms start start → ms ≡ done ++ more → Progress done start now → Stands ms start now
+pub front_stands : (ms done more : List Message) (start now : Files) → AreNamed ms → AreDistinct ms → Sound ms start start → ms ≡ done ++ more → Progress done start now → KeptSoFar ms start now
 front_stands ms done more start now named distinct sound e p =
     rw e (progress_stands done more start now (subst AreNamed e named) (subst AreDistinct e distinct) (rw e at sound) p)
 
@@ -21,8 +21,8 @@ bodies_parts all rest = map-append (λ (e : Entry). e.body) all rest
 
 -- ---- the messages of each text that a source may have had
 -- those that were given are the first of them
-front_of : (before after : Option (List ℕ)) (reads : ℕ) (given : List Entry) → Front before after reads given → (t : List ℕ) (ms : List Message) → Possible before after t → MessagesOf t ms → (more : List Message) × (ms ≡ messages_of (bodies_of given) ++ more)
-front_of before after reads given f t ms p of =
+front_of_text : (before after : Option (List ℕ)) (reads : ℕ) (given : List Entry) → IsFrontOf before after reads given → (t : List ℕ) (ms : List Message) → Possible before after t → MessagesOf t ms → (more : List Message) × (ms ≡ messages_of (bodies_of given) ++ more)
+front_of_text before after reads given f t ms p of =
     let is : t ≡ f.text ++ p.more = rw (← read_is before after f.text t f.read p) p.front in
     elim of [
       | inl (entries, m, e) ↦
@@ -43,11 +43,11 @@ whole_messages t all whole ms (inl (entries, m, e)) = e ∙ ap (λ es. messages_
 whole_messages t all whole ms (inr (none, e)) = absurd (none all whole)
 
 -- the messages that were given, and those that were not; with Ok there are no others
-pub given_of : {A E : Type 0} (r : Result A E) (before after : Option (List ℕ)) (reads : ℕ) (given : List Entry) → Front before after reads given → OnOk r (GaveAll before after reads given) → (t : List ℕ) (ms : List Message) → Possible before after t → MessagesOf t ms → (more : List Message) × (ms ≡ messages_of (bodies_of given) ++ more) × OnOk r (ms ≡ messages_of (bodies_of given))
+pub given_of : {A E : Type 0} (r : Result A E) (before after : Option (List ℕ)) (reads : ℕ) (given : List Entry) → IsFrontOf before after reads given → OnOk r (GaveAll before after reads given) → (t : List ℕ) (ms : List Message) → Possible before after t → MessagesOf t ms → (more : List Message) × (ms ≡ messages_of (bodies_of given) ++ more) × OnOk r (ms ≡ messages_of (bodies_of given))
 given_of (Ok x) before after reads given front whole t ms p of =
     let same = whole_messages t given (whole_text whole t p) ms of in
     ([], same ∙ sym (append-nil (messages_of (bodies_of given))), same)
-given_of (Err e) before after reads given front whole t ms p of = let f = front_of before after reads given front t ms p of in (f.0, f.1, tt)
+given_of (Err e) before after reads given front whole t ms p of = let f = front_of_text before after reads given front t ms p of in (f.0, f.1, tt)
 
 -- ---- a batch
 pub batch_bodies : (given whole entries : List Entry) → entries ≡ whole → bodies_of given ++ bodies_of entries ≡ bodies_of (given ++ whole)

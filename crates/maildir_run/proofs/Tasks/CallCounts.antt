@@ -7,10 +7,10 @@ capped_once : (k : ℕ) → capped (capped k + 1) ≡ capped (k + 1)
 capped_once k = grind arith
 
 pub one_call : (made made' calls calls' : ℕ) → made' ≡ capped (made + 1) → GoesUp calls calls' → Makes 1 made made' calls calls'
-one_call made made' calls calls' e up = record { count_is = up; numbered = λ k is. e ∙ ap (λ m. capped (m + 1)) is ∙ capped_once k }
+one_call made made' calls calls' e up = record { count_is = up; made_is = λ k is. e ∙ ap (λ m. capped (m + 1)) is ∙ capped_once k }
 
 pub no_call : (made calls : ℕ) → Makes 0 made made calls calls
-no_call made calls = record { count_is = refl; numbered = λ k is. is ∙ ap capped (omega arith) }
+no_call made calls = record { count_is = refl; made_is = λ k is. is ∙ ap capped (omega arith) }
 
 raised-add : (m n count : ℕ) → raised (m + n) count ≡ raised n (raised m count)
 raised-add m zero count = ap (λ k. raised k count) (omega arith)
@@ -19,7 +19,7 @@ raised-add m (suc n) count = rw add-suc (ap (λ c. (c + 1) % 2 ^ 128) (raised-ad
 pub more_calls : (m n a b c x y z : ℕ) → Makes m a b x y → Makes n b c y z → Makes (m + n) a c x z
 more_calls m n a b c x y z first then = record {
   count_is = then.count_is ∙ ap (raised n) first.count_is ∙ sym (raised-add m n x);
-  numbered = λ k is. then.numbered (k + m) (first.numbered k is) ∙ ap capped (add_assoc k m n);
+  made_is = λ k is. then.made_is (k + m) (first.made_is k is) ∙ ap capped (add_assoc k m n);
 }
 
 raised-mod : (n count : ℕ) → raised n count % 2 ^ 128 ≡ (count + n) % 2 ^ 128

@@ -1,11 +1,11 @@
 -- How far a run has come, and what that says at its exits.
 use Rattle.std.proofs.Common.{◌≡◌, ℕ, ◌<◌, ◌≤◌, false, List, [], ◌∷◌, ◌++◌, All, IsPermutation, IsFalse, length, get_or, refl, sym, subst, ◌∙◌, inl, inr, ◌⊎◌, arith, AllPairs, IsTrue, ap, length-append}
-use Rattle.maildir_run.proofs.Common.{or_parts, cases_Bool, cases_lt, All-push, All-from_get_or, get_or_append_left, list_any-append, list_any_none, IsPermutation-refl, IsPermutation-sym, IsPermutation-trans, Files, is_name, homes, Message, IsMissing, IsHome, IsSoundAt, HasHome, is_any, AreNamed, AreDistinct, is_base_of, Sound, LeavesHomes, Brings, Progress, get_or-append_seam, eq_by_cmp_equiv, All-weaker, is_converter_base}
+use Rattle.maildir_run.proofs.Common.{or_parts, cases_Bool, cases_lt, All-push, All-from_get_or, get_or_append_left, list_any-append, list_any_none, IsPermutation-refl, IsPermutation-sym, IsPermutation-trans, Files, is_name, homes, Message, IsMissing, IsHome, IsSoundAt, HasHome, is_any, AreNamed, AreDistinct, is_base_of, Sound, KeepsHomes, DeliversMessage, Progress, get_or-append_seam, eq_by_cmp_equiv, All-weaker, is_converter_base}
 use Rattle.maildir_run.proofs.Names.Maps.{is_name-true, total}
-use Rattle.maildir_run.proofs.Call.Moves.{homes_none, homes_one, none_kept}
+use Rattle.maildir_run.proofs.Call.Moves.{homes_none, homes_one, permutation_of_none}
 
 -- a call that leaves the homes
-pub progress_on : (done : List Message) (old mid now : Files) → AreNamed done → LeavesHomes mid now → Progress done old mid → Progress done old now
+pub progress_on : (done : List Message) (old mid now : Files) → AreNamed done → KeepsHomes mid now → Progress done old mid → Progress done old now
 progress_on done old mid now named leaves p = record {
   homes_are = λ k d h. homes_one _ _ mid now (leaves.kept _ (named k d h)) (p.homes_are k d h);
   kept = λ base is other. IsPermutation-trans _ _ _ (p.kept base is other) (leaves.kept base is);
@@ -23,23 +23,23 @@ progress_home done m old now home p = record {
   kept = λ base is other. p.kept base is (not_before done m base other).0;
 }
 
--- the messages so far keep their homes as another is brought
-brought_done : (done : List Message) (m : Message) (mid now : Files) → AreNamed done → All (λ n. IsFalse (is_name m.target.base n.target.base)) done → Brings m mid now → All (IsHome mid) done → All (IsHome now) done
-brought_done done m mid now named apart brings all =
-    λ k d h. homes_one _ _ mid now (brings.others _ (named k d h) (apart k d h)) (all k d h)
+-- the messages so far keep their homes as another is delivered
+delivers_done : (done : List Message) (m : Message) (mid now : Files) → AreNamed done → All (λ n. IsFalse (is_name m.target.base n.target.base)) done → DeliversMessage m mid now → All (IsHome mid) done → All (IsHome now) done
+delivers_done done m mid now named apart delivers all =
+    λ k d h. homes_one _ _ mid now (delivers.others _ (named k d h) (apart k d h)) (all k d h)
 
-pub progress_brought : (done : List Message) (m : Message) (old mid now : Files) → AreNamed done → All (λ n. IsFalse (is_name m.target.base n.target.base)) done → Brings m mid now → IsHome now m → Progress done old mid → Progress (done ++ m ∷ []) old now
-progress_brought done m old mid now named apart brings home p = record {
-  homes_are = All-push (IsHome now) done m (brought_done done m mid now named apart brings p.homes_are) home;
+pub progress_delivered : (done : List Message) (m : Message) (old mid now : Files) → AreNamed done → All (λ n. IsFalse (is_name m.target.base n.target.base)) done → DeliversMessage m mid now → IsHome now m → Progress done old mid → Progress (done ++ m ∷ []) old now
+progress_delivered done m old mid now named apart delivers home p = record {
+  homes_are = All-push (IsHome now) done m (delivers_done done m mid now named apart delivers p.homes_are) home;
   kept = λ base is other.
       let off = not_before done m base other in
-      IsPermutation-trans _ _ _ (p.kept base is off.0) (brings.others base is off.1);
+      IsPermutation-trans _ _ _ (p.kept base is off.0) (delivers.others base is off.1);
 }
 
 -- ---- whether there is a home
 pub any_kept : (xs ys : List (List ℕ)) → IsPermutation xs ys → is_any xs ≡ is_any ys
-any_kept [] ys h = rw (none_kept ys h) refl
-any_kept (x ∷ xs) [] h = let e = none_kept (x ∷ xs) (IsPermutation-sym _ _ h) in cc
+any_kept [] ys h = rw (permutation_of_none ys h) refl
+any_kept (x ∷ xs) [] h = let e = permutation_of_none (x ∷ xs) (IsPermutation-sym _ _ h) in cc
 any_kept (x ∷ xs) (y ∷ ys) h = refl
 
 pub home_there : (m : Message) (s : Files) → IsHome s m → HasHome s m
@@ -50,7 +50,7 @@ missing_there m s h there = let e : is_any (homes s m.target.base) ≡ false = r
 
 -- ---- at an exit
 -- what a run keeps, whatever it answers
-pub record Stands (ms : List Message) (old now : Files) : Type 0 where
+pub record KeptSoFar (ms : List Message) (old now : Files) : Type 0 where
   pub sound : Sound ms old now
   pub still : All (λ m. HasHome old m → HasHome now m) ms
   pub in_order : AllPairs (λ m n. IsMissing old n → HasHome now n → HasHome now m) ms
@@ -96,7 +96,7 @@ module _ (done rest : List Message) (old now : Files) (named : AreNamed (done ++
   other_now : (base : List ℕ) → IsFalse (is_base_of (done ++ rest) base) → IsFalse (is_base_of done base)
   other_now base off = (or_parts (is_base_of done base) (is_base_of rest base) (sym (list_any-append (λ n. is_name n.target.base base) done rest) ∙ off)).0
 
-  pub progress_stands : Stands (done ++ rest) old now
+  pub progress_stands : KeptSoFar (done ++ rest) old now
   progress_stands = record {
     sound = record { own = sound_now; others = λ base is other. p.kept base is (other_now base other) };
     still = still_now;
@@ -104,21 +104,21 @@ module _ (done rest : List Message) (old now : Files) (named : AreNamed (done ++
   }
 
 -- where a message that was missing is missing yet, nothing happened
-nothing_brought : (m : Message) (mid now : Files) → IsMissing mid m → IsMissing now m → Brings m mid now → LeavesHomes mid now
-nothing_brought m mid now was is brings = record {
+nothing_delivered : (m : Message) (mid now : Files) → IsMissing mid m → IsMissing now m → DeliversMessage m mid now → KeepsHomes mid now
+nothing_delivered m mid now was is delivers = record {
   kept = λ base named.
       elim (cases_Bool (is_name m.target.base base)) as (λ _. IsPermutation (homes mid base) (homes now base)) [
         | inl e ↦ subst (λ b. IsPermutation (homes mid b) (homes now b)) (is_name-true m.target.base base e) (rw (was, is) (IsPermutation-refl _))
-        | inr e ↦ brings.others base named e
+        | inr e ↦ delivers.others base named e
       ];
 }
 
--- a message that was missing was brought, or is missing yet
-pub progress_or_more : (done : List Message) (m : Message) (old mid now : Files) → AreNamed done → All (λ n. IsFalse (is_name m.target.base n.target.base)) done → IsMissing mid m → Brings m mid now → Progress done old mid → Progress done old now ⊎ Progress (done ++ m ∷ []) old now
-progress_or_more done m old mid now named apart was brings p =
-    elim brings.own [
-      | inl is ↦ inl (progress_on done old mid now named (nothing_brought m mid now was is brings) p)
-      | inr home ↦ inr (progress_brought done m old mid now named apart brings home p)
+-- a message that was missing was delivered, or is missing yet
+pub progress_or_more : (done : List Message) (m : Message) (old mid now : Files) → AreNamed done → All (λ n. IsFalse (is_name m.target.base n.target.base)) done → IsMissing mid m → DeliversMessage m mid now → Progress done old mid → Progress done old now ⊎ Progress (done ++ m ∷ []) old now
+progress_or_more done m old mid now named apart was delivers p =
+    elim delivers.own [
+      | inl is ↦ inl (progress_on done old mid now named (nothing_delivered m mid now was is delivers) p)
+      | inr home ↦ inr (progress_delivered done m old mid now named apart delivers home p)
     ]
 
 -- ---- messages that were done

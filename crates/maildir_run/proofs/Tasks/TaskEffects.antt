@@ -1,13 +1,13 @@
 -- What tasks that were performed leave.
 use Rattle.std.proofs.Common.{Option, Some, None, ◌≡◌, ℕ, ◌≤◌, Bool, true, false, cond, List, [], ◌∷◌, ◌++◌, ◌⊎◌, map, length, All, IsPermutation, IsFalse, refl, sym, ap, subst, ◌∙◌, inl, inr, arith, append_assoc, length-append, filter, append-nil}
-use Rattle.maildir_run.proofs.Common.{get, keys, cases_Bool, get_or-append_seam, get_or_append_left, All-head, All-tail, any-filter_same, Target, is_converter_name, RunFault, New, Cur, filled, added, Placing, Removing, Again, Failed, PlacesElsewhere, IsSwept, Message, IsMissing, IsHome, IsSoundAt, AreNamed, AreDistinct, has_home, leftover_count, Files, homes, is_name, is_listed, LeavesHomes, TmpWithin, Brings, Progress, Knows, IsTarget, LeavesOthers, Task, Ask, Do, call_of, Done, Way, reported, undisturbed, AllDone, Stopped, Names, listings, DoneUntil, sweep_of, delivery_of, delivery_if, deliveries_of}
-use Rattle.maildir_run.specs.Tasks.{Refused}
+use Rattle.maildir_run.proofs.Common.{get, keys, cases_Bool, get_or-append_seam, get_or_append_left, All-head, All-tail, any-filter_same, Target, is_converter_name, RunFault, New, Cur, filled, added, Placing, Removing, Again, AnyMoves, PlacesElsewhere, IsSwept, Message, IsMissing, IsHome, IsSoundAt, AreNamed, AreDistinct, has_home, leftover_count, Files, homes, is_name, is_listed, KeepsHomes, TmpWithin, DeliversMessage, Progress, Knows, IsTarget, KeepsForeign, Task, Ask, Do, call_of, Done, Way, honestly, quietly, AllDone, Stopped, Listings, listing_tasks, DoneUntil, sweep_of, delivery_of, delivery_if, deliveries_of}
+use Rattle.maildir_run.specs.Tasks.{TaskRefused}
 use Rattle.maildir_run.proofs.Names.Maps.{is_name-true}
-use Rattle.maildir_run.proofs.Tasks.Progress.{progress_home, progress_brought, progress_or_more, apart_front, still_missing, still_there}
-use Rattle.maildir_run.proofs.Tasks.QuietRuns.{OfConverter, others_same, others_then, effect_others, own_others, brought_exact, step_tmp}
+use Rattle.maildir_run.proofs.Tasks.Progress.{progress_home, progress_delivered, progress_or_more, apart_front, still_missing, still_there}
+use Rattle.maildir_run.proofs.Tasks.QuietRuns.{OfConverter, others_same, foreign_then, effect_others, own_others, delivers_exact, step_tmp}
 use Rattle.maildir_run.proofs.Call.Homes.{none_of, home_known}
-use Rattle.maildir_run.proofs.Call.Steps.{ok_moves, called_kept, write_brings, write_ok, place_brings, place_home, removing_within, listing_within, base_name, leaves_none, leaves_trans}
-use Rattle.maildir_run.proofs.Call.Surveys.{listed_within, three_listings, few_listed}
+use Rattle.maildir_run.proofs.Call.Steps.{ok_moves, called_kept, write_delivers, write_ok, place_delivers, place_home, removing_within, listing_within, base_name, leaves_none, leaves_trans}
+use Rattle.maildir_run.proofs.Call.FolderListings.{listed_within, three_listings, few_listed}
 
 -- ---- the parts of a list of tasks
 pub all_parts : (w : Way) (xs ys : List Task) (a c : Files) → AllDone w (xs ++ ys) a c → (b : Files) × AllDone w xs a b × AllDone w ys b c
@@ -24,7 +24,7 @@ stopped_parts w (x ∷ xs) ys a c (inr (mid, one, more)) =
     ]
 
 -- ---- a base at which nothing is placed
-done_moves : (task : Task) (old new : Files) → Done task old new → Failed (call_of task) old new
+done_moves : (task : Task) (old new : Files) → Done task old new → AnyMoves (call_of task) old new
 done_moves (Ask sub names) old new h = record { moves = h.before ++ Again ∷ h.rest; left = h.left }
 done_moves (Do call) old new h = ok_moves call old new h
 
@@ -50,15 +50,15 @@ module _ (w : Way) (R : Files → Files → Type 0) (same : (s : Files) → R s 
   across (Some f) (task ∷ tasks) each old new (inl refused) = one task each.0 old new (inr refused)
   across (Some f) (task ∷ tasks) each old new (inr (mid, done, more)) = then old mid new (one task each.0 old mid (inl done)) (across (Some f) tasks each.1 mid new more)
 
-one_leaves : (task : Task) → PlacesNone task → (old new : Files) → Done task old new ⊎ Refused task old new → LeavesHomes old new
+one_leaves : (task : Task) → PlacesNone task → (old new : Files) → Done task old new ⊎ TaskRefused task old new → KeepsHomes old new
 one_leaves task off old new h = record {
   kept = λ b named. called_kept b named (call_of task) (off b) old new (elim h [ inl done ↦ done_moves task old new done | inr refused ↦ refused ]);
 }
 
-pub done_leaves : (fault : Option RunFault) (tasks : List Task) → EachTask PlacesNone tasks → (old new : Files) → DoneUntil reported tasks old fault new → LeavesHomes old new
-done_leaves = across reported LeavesHomes leaves_none leaves_trans PlacesNone one_leaves
+pub done_leaves : (fault : Option RunFault) (tasks : List Task) → EachTask PlacesNone tasks → (old new : Files) → DoneUntil honestly tasks old fault new → KeepsHomes old new
+done_leaves = across honestly KeepsHomes leaves_none leaves_trans PlacesNone one_leaves
 
-pub listings_place_none : (names : Names) → EachTask PlacesNone (listings names)
+pub listings_place_none : (names : Listings) → EachTask PlacesNone (listing_tasks names)
 listings_place_none names = ((λ b. tt), ((λ b. tt), ((λ b. tt), tt)))
 
 removes_place_none : (names : List (List ℕ)) → EachTask PlacesNone (map (λ name. Do (Removing name)) names)
@@ -69,20 +69,20 @@ pub sweep_places_none : (names : List (List ℕ)) → EachTask PlacesNone (sweep
 sweep_places_none names = removes_place_none (filter is_converter_name names)
 
 -- ---- the listings
-pub record Looked (names : Names) (old new : Files) : Type 0 where
+pub record KnownByListings (names : Listings) (old new : Files) : Type 0 where
   pub within : TmpWithin names.tmp new
   pub few : length (filter is_converter_name names.tmp) ≤ leftover_count old
   pub knows : Knows (is_listed names.new names.cur) old
 
-pub looked : (names : Names) (old new : Files) → AllDone reported (listings names) old new → Looked names old new
-looked names old new (a, first, (b, second, (c, third, e))) = record {
+pub known_by_listings : (names : Listings) (old new : Files) → AllDone honestly (listing_tasks names) old new → KnownByListings names old new
+known_by_listings names old new (a, first, (b, second, (c, third, e))) = record {
   within = subst (TmpWithin names.tmp) (sym e) (listed_within Cur names.tmp b names.cur c third (listed_within New names.tmp a names.new b second (listing_within old names.tmp a first)));
   few = few_listed old names.tmp a first;
   knows = λ base named. three_listings base named old a b c names.tmp names.new names.cur first second third;
 }
 
-pub looked_quietly : (names : Names) (old new : Files) → AllDone undisturbed (listings names) old new → (new ≡ old) × IsPermutation names.tmp (keys old.tmp)
-looked_quietly names old new (a, first, (b, second, (c, third, e))) = (e ∙ third.0 ∙ second.0 ∙ first.0, first.1)
+pub listed_quietly : (names : Listings) (old new : Files) → AllDone quietly (listing_tasks names) old new → (new ≡ old) × IsPermutation names.tmp (keys old.tmp)
+listed_quietly names old new (a, first, (b, second, (c, third, e))) = (e ∙ third.0 ∙ second.0 ∙ first.0, first.1)
 
 -- ---- the sweep
 -- the task names converter's names alone
@@ -97,38 +97,38 @@ sweep_ours (name ∷ names) =
       | false ↦ λ e. sweep_ours names
     ] refl
 
-each_swept : (names : List (List ℕ)) → EachTask IsOurs (map (λ name. Do (Removing name)) names) → (old new : Files) → TmpWithin names old → AllDone reported (map (λ name. Do (Removing name)) names) old new → TmpWithin [] new
+each_swept : (names : List (List ℕ)) → EachTask IsOurs (map (λ name. Do (Removing name)) names) → (old new : Files) → TmpWithin names old → AllDone honestly (map (λ name. Do (Removing name)) names) old new → TmpWithin [] new
 each_swept [] ours old new within e = subst (TmpWithin []) (sym e) within
 each_swept (name ∷ names) ours old new within (mid, one, more) = each_swept names ours.1 mid new (removing_within name names ours.0 old mid one within) more
 
-pub all_swept : (names : List (List ℕ)) (old new : Files) → TmpWithin names old → AllDone reported (sweep_of names) old new → TmpWithin [] new
+pub all_swept : (names : List (List ℕ)) (old new : Files) → TmpWithin names old → AllDone honestly (sweep_of names) old new → TmpWithin [] new
 all_swept names old new within =
     each_swept (filter is_converter_name names) (sweep_ours names) old new (record {
       gone = λ q ours off. within.gone q ours (sym (any-filter_same (is_name q) is_converter_name true (λ k e. ap is_converter_name (sym (is_name-true q k e)) ∙ ours) names) ∙ off);
     })
 
 -- ---- one message
-pub record Delivered (m : Message) (old new : Files) : Type 0 where
-  pub brings : Brings m old new
+pub record DeliveredMessage (m : Message) (old new : Files) : Type 0 where
+  pub delivers : DeliversMessage m old new
   pub home : IsHome new m
   pub within : TmpWithin [] old → TmpWithin [] new
 
 module _ (m : Message) (is : IsTarget m.target) (old new : Files) (missing : IsMissing old m) where
-  pub delivered : AllDone reported (delivery_of m.target m.body) old new → Delivered m old new
+  pub delivered : AllDone honestly (delivery_of m.target m.body) old new → DeliveredMessage m old new
   delivered (mid, wrote, (end, put, e)) =
       let t = m.target in
       let w = write_ok m is old mid wrote missing in
       let home = place_home m is old mid end w put in
-      subst (Delivered m old) (sym e) (record {
-        brings = place_brings m is old mid end w (ok_moves (Placing t.base t.place t.name) mid end put);
+      subst (DeliveredMessage m old) (sym e) (record {
+        delivers = place_delivers m is old mid end w (ok_moves (Placing t.base t.place t.name) mid end put);
         home = home.0;
         within = home.1;
       })
 
-  pub stopped_brings : Stopped reported (delivery_of m.target m.body) old new → Brings m old new
-  stopped_brings (inl h) = write_brings m is old new h missing
-  stopped_brings (inr (mid, wrote, inl h)) = place_brings m is old mid new (write_ok m is old mid wrote missing) h
-  stopped_brings (inr (mid, wrote, inr (end, put, e))) = (delivered (mid, wrote, (end, put, e))).brings
+  pub stopped_delivers : Stopped honestly (delivery_of m.target m.body) old new → DeliversMessage m old new
+  stopped_delivers (inl h) = write_delivers m is old new h missing
+  stopped_delivers (inr (mid, wrote, inl h)) = place_delivers m is old mid new (write_ok m is old mid wrote missing) h
+  stopped_delivers (inr (mid, wrote, inr (end, put, e))) = (delivered (mid, wrote, (end, put, e))).delivers
 
 -- ---- messages, in order
 -- how far a run has come, of whose messages these are done
@@ -170,26 +170,26 @@ module _ (start : Files) (is_there : List ℕ → Bool) (knows : Knows is_there 
       next e = e ∙ sym (append_assoc done (m ∷ []) ms)
 
       -- one message was done
-      one_done : (old new : Files) → all ≡ done ++ m ∷ ms → Progress done start old → TmpWithin [] old → AllDone reported (delivery_if is_there m) old new → Progress (done ++ m ∷ []) start new × TmpWithin [] new
+      one_done : (old new : Files) → all ≡ done ++ m ∷ ms → Progress done start old → TmpWithin [] old → AllDone honestly (delivery_if is_there m) old new → Progress (done ++ m ∷ []) start new × TmpWithin [] new
       one_done old new e p within h =
           elim (cases_Bool (is_there m.target.base)) [
             | inl on ↦
-                let same : new ≡ old = as_shown reported m true old new on h in
+                let same : new ≡ old = as_shown honestly m true old new on h in
                 (subst (Progress (done ++ m ∷ []) start) (sym same) (progress_home done m start old (home_here old e on p) p), subst (TmpWithin []) (sym same) within)
             | inr off ↦
-                let d = delivered m (at (λ m. IsTarget m.target) are done ms m e) old new (missing_here old e off p) (as_shown reported m false old new off h) in
-                (progress_brought done m start old new (done_named done (m ∷ ms) e) (apart done ms m e) d.brings d.home p, d.within within)
+                let d = delivered m (at (λ m. IsTarget m.target) are done ms m e) old new (missing_here old e off p) (as_shown honestly m false old new off h) in
+                (progress_delivered done m start old new (done_named done (m ∷ ms) e) (apart done ms m e) d.delivers d.home p, d.within within)
           ]
 
-    pub all_progress : (done ms : List Message) (old new : Files) → all ≡ done ++ ms → Progress done start old → TmpWithin [] old → AllDone reported (deliveries_of is_there ms) old new → Progress all start new × TmpWithin [] new
+    pub all_progress : (done ms : List Message) (old new : Files) → all ≡ done ++ ms → Progress done start old → TmpWithin [] old → AllDone honestly (deliveries_of is_there ms) old new → Progress all start new × TmpWithin [] new
     all_progress done [] old new e p within h = (rw (e ∙ append-nil done) (subst (Progress done start) (sym h) p), subst (TmpWithin []) (sym h) within)
     all_progress done (m ∷ ms) old new e p within h =
-        let r = all_parts reported (delivery_if is_there m) (deliveries_of is_there ms) old new h in
+        let r = all_parts honestly (delivery_if is_there m) (deliveries_of is_there ms) old new h in
         let one = one_done done ms m old r.0 e p within r.1 in
         all_progress (done ++ m ∷ []) ms r.0 new (next done ms m e) one.0 one.1 r.2
 
     -- the run stopped at one message
-    one_stopped : (done ms : List Message) (m : Message) (old new : Files) → all ≡ done ++ m ∷ ms → Progress done start old → Stopped reported (delivery_if is_there m) old new → CameTo all start new
+    one_stopped : (done ms : List Message) (m : Message) (old new : Files) → all ≡ done ++ m ∷ ms → Progress done start old → Stopped honestly (delivery_if is_there m) old new → CameTo all start new
     one_stopped done ms m old new e p h =
         elim (cases_Bool (is_there m.target.base)) [
           | inl on ↦
@@ -197,48 +197,48 @@ module _ (start : Files) (is_there : List ℕ → Bool) (knows : Knows is_there 
               record { done = done; rest = m ∷ ms; is = e; progress = subst (Progress done start) (sym same) p }
           | inr off ↦
               let missing = missing_here done ms m old e off p in
-              let brings = stopped_brings m (at (λ m. IsTarget m.target) are done ms m e) old new missing (rw off at h) in
-              elim (progress_or_more done m start old new (done_named done (m ∷ ms) e) (apart done ms m e) missing brings p) [
+              let delivers = stopped_delivers m (at (λ m. IsTarget m.target) are done ms m e) old new missing (rw off at h) in
+              elim (progress_or_more done m start old new (done_named done (m ∷ ms) e) (apart done ms m e) missing delivers p) [
                 | inl q ↦ record { done = done; rest = m ∷ ms; is = e; progress = q }
                 | inr q ↦ record { done = done ++ m ∷ []; rest = ms; is = next done ms m e; progress = q }
               ]
         ]
 
-    pub stopped_came : (done ms : List Message) (old new : Files) → all ≡ done ++ ms → Progress done start old → TmpWithin [] old → Stopped reported (deliveries_of is_there ms) old new → CameTo all start new
+    pub stopped_came : (done ms : List Message) (old new : Files) → all ≡ done ++ ms → Progress done start old → TmpWithin [] old → Stopped honestly (deliveries_of is_there ms) old new → CameTo all start new
     stopped_came done [] old new e p within h = record { done = done; rest = []; is = e; progress = subst (Progress done start) (sym h) p }
     stopped_came done (m ∷ ms) old new e p within h =
-        elim (stopped_parts reported (delivery_if is_there m) (deliveries_of is_there ms) old new h) [
+        elim (stopped_parts honestly (delivery_if is_there m) (deliveries_of is_there ms) old new h) [
           | inl s ↦ one_stopped done ms m old new e p s
           | inr (mid, first, then) ↦
               let one = one_done done ms m old mid e p within first in
               stopped_came (done ++ m ∷ []) ms mid new (next done ms m e) one.0 one.1 then
         ]
 
-  -- ---- and where nobody disturbs it
-  pub all_filled : (ms : List Message) → All (λ m. IsTarget m.target) ms → (old new : Files) → IsSwept old → AllDone undisturbed (deliveries_of is_there ms) old new → new ≡ filled start ms old
+  -- ---- and where the folder is quiet
+  pub all_filled : (ms : List Message) → All (λ m. IsTarget m.target) ms → (old new : Files) → IsSwept old → AllDone quietly (deliveries_of is_there ms) old new → new ≡ filled start ms old
   all_filled [] are old new free e = e
   all_filled (m ∷ ms) are old new free h =
       let is = All-head (λ (x : Message). IsTarget x.target) m ms are in
       let more = All-tail (λ (x : Message). IsTarget x.target) m ms are in
       let t = m.target in
-      let r = all_parts undisturbed (delivery_if is_there m) (deliveries_of is_there ms) old new h in
+      let r = all_parts quietly (delivery_if is_there m) (deliveries_of is_there ms) old new h in
       let step : r.0 ≡ cond (has_home start t.base) old (added old t.place t.name m.body) =
       elim (cases_Bool (is_there t.base)) [
-        | inl on ↦ as_shown undisturbed m true old r.0 on r.1 ∙ ap (λ b. cond b old (added old t.place t.name m.body)) (sym (home_is t true is on))
+        | inl on ↦ as_shown quietly m true old r.0 on r.1 ∙ ap (λ b. cond b old (added old t.place t.name m.body)) (sym (home_is t true is on))
         | inr off ↦
-            let d = as_shown undisturbed m false old r.0 off r.1 in
+            let d = as_shown quietly m false old r.0 off r.1 in
             let end = d.2 in
-            (end.2 ∙ brought_exact old d.0 end.0 t.base m.body t.place t.name d.1.1 end.1.1 (free t.base (base_name m is)))
+            (end.2 ∙ delivers_exact old d.0 end.0 t.base m.body t.place t.name d.1.1 end.1.1 (free t.base (base_name m is)))
             ∙ ap (λ b. cond b old (added old t.place t.name m.body)) (sym (home_is t false is off))
       ] in
       all_filled ms more r.0 new (λ name ours. ap (λ s. get s.tmp name) step ∙ ap (λ x. get x name) (step_tmp (has_home start t.base) old m) ∙ free name ours) r.2
       ∙ ap (filled start ms) step
 
 -- ---- other files
-one_others : (task : Task) → IsOurs task → (old new : Files) → undisturbed.done task old new ⊎ undisturbed.refused task old new → LeavesOthers old new
-one_others (Ask sub names) ours old new (inl h) = subst (LeavesOthers old) (sym h.0) (others_same old)
-one_others (Do call) ours old new (inl h) = subst (LeavesOthers old) (sym h.1) (effect_others call ours old)
-one_others task ours old new (inr h) = subst (LeavesOthers old) (sym h.2) (own_others (call_of task) ours h.0 old h.1)
+one_others : (task : Task) → IsOurs task → (old new : Files) → quietly.done task old new ⊎ quietly.refused task old new → KeepsForeign old new
+one_others (Ask sub names) ours old new (inl h) = subst (KeepsForeign old) (sym h.0) (others_same old)
+one_others (Do call) ours old new (inl h) = subst (KeepsForeign old) (sym h.1) (effect_others call ours old)
+one_others task ours old new (inr h) = subst (KeepsForeign old) (sym h.2) (own_others (call_of task) ours h.0 old h.1)
 
-pub done_others : (fault : Option RunFault) (tasks : List Task) → EachTask IsOurs tasks → (old new : Files) → DoneUntil undisturbed tasks old fault new → LeavesOthers old new
-done_others = across undisturbed LeavesOthers others_same others_then IsOurs one_others
+pub done_others : (fault : Option RunFault) (tasks : List Task) → EachTask IsOurs tasks → (old new : Files) → DoneUntil quietly tasks old fault new → KeepsForeign old new
+done_others = across quietly KeepsForeign others_same foreign_then IsOurs one_others

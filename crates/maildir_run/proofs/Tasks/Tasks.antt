@@ -1,6 +1,6 @@
 -- Tasks after one another.
 use Rattle.std.proofs.Common.{◌≡◌, ℕ, ◌+◌, ◌<◌, List, [], ◌∷◌, ◌++◌, length, take, drop, get_or, Result, Ok, Err, IsPermutation, IfOk, refl, sym, ap, subst, ◌∙◌, inl, inr, arith, length-append, append_assoc, Option, Some, None, IsErrAnd, flat_map, take-append-drop, append-nil, Vec, String, Global}
-use Rattle.maildir_run.proofs.Common.{keys, take_more, flat_map-append, RunFault, FolderFault, Sub, Call, Called, CalledQuietly, Listed, Listing, GoesUp, CountsFailure, folder_of, names_of, fault_of, run_answer, capped, GoesUpWith, CountsFault, IsNumbered, Left, LeavesOf, Files, Task, Ask, Do, Way, reported, undisturbed, leaving, AllDone, Stopped, DoneUntil, Performs, Seen, Ran, names_in, IsReading}
+use Rattle.maildir_run.proofs.Common.{keys, take_more, flat_map-append, RunFault, FolderFault, Sub, Call, Called, CalledQuietly, Listed, Listing, GoesUp, CountsFailure, folder_of, names_of, fault_of, run_answer, capped, GoesUpWith, CountsFault, HasCallNumber, Follows, LeavesOf, Files, Task, Ask, Do, Way, honestly, quietly, leaving, AllDone, Stopped, DoneUntil, Performs, Seen, Performed, names_in, IsReading}
 use Rattle.maildir_run.specs.declared.folder.FolderFault.TheVariants.{Absent, Failed as Broken}
 use Rattle.maildir_run.proofs.Tasks.Faults.{at_reading}
 use Rattle.maildir_run.proofs.Call.Cuts.{left_as, left_then}
@@ -10,11 +10,11 @@ use Rattle.maildir_run.proofs.Tasks.CallCounts.{one_call, more_calls, no_call}
 abbrev pub MayStop : Way → Type 0
 MayStop w = (task : Task) (s : Files) → w.refused task s s
 
-pub reported_stops : MayStop reported
-reported_stops task s = record { moves = []; left = refl }
+pub honestly_stops : MayStop honestly
+honestly_stops task s = record { moves = []; left = refl }
 
-pub undisturbed_stops : MayStop undisturbed
-undisturbed_stops task s = ([], tt, refl)
+pub quietly_stops : MayStop quietly
+quietly_stops task s = ([], tt, refl)
 
 pub leaving_stops : MayStop leaving
 leaving_stops task s = record { kept = []; are = refl }
@@ -41,79 +41,79 @@ stopped_before w still (x ∷ xs) ys a b (inl h) = inl h
 stopped_before w still (x ∷ xs) ys a b (inr (mid, one, more)) = inr (mid, one, stopped_before w still xs ys mid b more)
 
 -- ---- runs after one another
-pub ran_none : (s : Seen) (made : ℕ) → Ran [] s s made made None
+pub ran_none : (s : Seen) (made : ℕ) → Performed [] s s made made None
 ran_none s made = record {
   honest = λ h. h;
-  reported_of = λ h. refl;
+  done_honestly = λ h. refl;
   left = λ h new may. (new, may, refl);
   quiet = λ q. q;
-  undisturbed_of = λ q. refl;
+  done_quietly = λ q. refl;
   n = 0;
   most = omega arith;
   all = λ e. refl;
   makes = no_call made s.calls;
   cause = refl;
-  numbered = tt;
+  call_number = tt;
 }
 
-pub ran_then : {xs ys : List Task} {a b c : Seen} {made mid made' : ℕ} {fault : Option RunFault} → Ran xs a b made mid None → Ran ys b c mid made' fault → Ran (xs ++ ys) a c made made' fault
+pub ran_then : {xs ys : List Task} {a b c : Seen} {made mid made' : ℕ} {fault : Option RunFault} → Performed xs a b made mid None → Performed ys b c mid made' fault → Performed (xs ++ ys) a c made made' fault
 ran_then {xs} {ys} {a} {b} {c} {made} {mid} {made'} {fault} first then =
     let one = first.most in
     let two = then.most in
     record {
       honest = λ h. then.honest (first.honest h);
-      reported_of = λ h. done_then reported xs ys a.files b.files c.files fault (first.reported_of h) (then.reported_of (first.honest h));
+      done_honestly = λ h. done_then honestly xs ys a.files b.files c.files fault (first.done_honestly h) (then.done_honestly (first.honest h));
       left = λ h. left_then _ _ _ a.may_leave b.may_leave c.may_leave (λ x y z. done_then leaving xs ys x y z fault) (first.left h) (then.left (first.honest h));
       quiet = λ q. then.quiet (first.quiet q);
-      undisturbed_of = λ q. done_then undisturbed xs ys a.files b.files c.files fault (first.undisturbed_of q) (then.undisturbed_of (first.quiet q));
+      done_quietly = λ q. done_then quietly xs ys a.files b.files c.files fault (first.done_quietly q) (then.done_quietly (first.quiet q));
       n = first.n + then.n;
       most = omega (arith, length-append xs ys);
       all = λ e. omega (arith, length-append xs ys, first.all refl, then.all e);
       makes = more_calls first.n then.n _ _ _ _ _ _ first.makes then.makes;
       cause = rw first.cause at then.cause;
-      numbered = then.numbered;
+      call_number = then.call_number;
     }
 
 -- what follows is not begun
-pub ran_before : {xs : List Task} {a b : Seen} {made made' : ℕ} {fault : RunFault} (ys : List Task) → Ran xs a b made made' (Some fault) → Ran (xs ++ ys) a b made made' (Some fault)
+pub ran_before : {xs : List Task} {a b : Seen} {made made' : ℕ} {fault : RunFault} (ys : List Task) → Performed xs a b made made' (Some fault) → Performed (xs ++ ys) a b made made' (Some fault)
 ran_before {xs} {a} {b} ys h =
     let most = h.most in
     record {
       honest = h.honest;
-      reported_of = λ q. stopped_before reported reported_stops xs ys a.files b.files (h.reported_of q);
+      done_honestly = λ q. stopped_before honestly honestly_stops xs ys a.files b.files (h.done_honestly q);
       left = λ q. left_as _ _ a.may_leave b.may_leave (stopped_before leaving leaving_stops xs ys) (h.left q);
       quiet = h.quiet;
-      undisturbed_of = λ q. stopped_before undisturbed undisturbed_stops xs ys a.files b.files (h.undisturbed_of q);
+      done_quietly = λ q. stopped_before quietly quietly_stops xs ys a.files b.files (h.done_quietly q);
       n = h.n;
       most = omega (arith, length-append xs ys);
       all = λ e. cc;
       makes = h.makes;
       cause = h.cause;
-      numbered = h.numbered;
+      call_number = h.call_number;
     }
 
 -- all, and then the run stops for want of something else
-pub ran_stop : {xs : List Task} {a b : Seen} {made made' : ℕ} (fault : RunFault) → IsReading fault → Ran xs a b made made' None → Ran xs a b made made' (Some fault)
+pub ran_stop : {xs : List Task} {a b : Seen} {made made' : ℕ} (fault : RunFault) → IsReading fault → Performed xs a b made made' None → Performed xs a b made made' (Some fault)
 ran_stop {xs} {a} {b} {made} {made'} fault reading h = record {
   honest = h.honest;
-  reported_of = λ q. all_stopped reported xs a.files b.files (h.reported_of q);
+  done_honestly = λ q. all_stopped honestly xs a.files b.files (h.done_honestly q);
   left = λ q. left_as _ _ a.may_leave b.may_leave (all_stopped leaving xs) (h.left q);
   quiet = h.quiet;
-  undisturbed_of = λ q. all_stopped undisturbed xs a.files b.files (h.undisturbed_of q);
+  done_quietly = λ q. all_stopped quietly xs a.files b.files (h.done_quietly q);
   n = h.n;
   most = h.most;
   all = λ e. cc;
   makes = h.makes;
   cause = at_reading (λ f. GoesUpWith (Some f) a.failures b.failures) h.cause h.cause h.cause h.cause fault reading;
-  numbered = at_reading (λ f. IsNumbered (Some f) made') tt tt tt tt fault reading;
+  call_number = at_reading (λ f. HasCallNumber (Some f) made') tt tt tt tt fault reading;
 }
 
 -- nothing, for want of something else
-pub ran_nothing : (fault : RunFault) → IsReading fault → (tasks : List Task) (s : Seen) (made : ℕ) → Ran tasks s s made made (Some fault)
+pub ran_nothing : (fault : RunFault) → IsReading fault → (tasks : List Task) (s : Seen) (made : ℕ) → Performed tasks s s made made (Some fault)
 ran_nothing fault reading tasks s made = ran_before tasks (ran_stop fault reading (ran_none s made))
 
 -- the fault of a refused call, as that of the answer of the function that made it
-pub ran_err : {B : Type 0} {xs : List Task} {a b : Seen} {made made' : ℕ} {fault : RunFault} (r : Result B RunFault) → IsErrAnd r (λ e. e ≡ fault) → Ran xs a b made made' (Some fault) → Ran xs a b made made' (fault_of r)
+pub ran_err : {B : Type 0} {xs : List Task} {a b : Seen} {made made' : ℕ} {fault : RunFault} (r : Result B RunFault) → IsErrAnd r (λ e. e ≡ fault) → Performed xs a b made made' (Some fault) → Performed xs a b made made' (fault_of r)
 ran_err (Ok x) is h = absurd is
 ran_err {B} {xs} {a} {b} {made} {made'} (Err e) is h = rw is h
 
@@ -127,7 +127,7 @@ told_cause (Err Absent) number old new h = h
 told_cause (Err Broken) number old new h = h
 told_cause other number old new h = h
 
-told_number : {A : Type 0} (r : Result A FolderFault) (number : ℕ) → IsNumbered (fault_of (run_answer number r)) number
+told_number : {A : Type 0} (r : Result A FolderFault) (number : ℕ) → HasCallNumber (fault_of (run_answer number r)) number
 told_number (Err Broken) number = refl
 told_number other number = tt
 
@@ -135,56 +135,56 @@ told_names : (r : Result (Vec (String Global) Global) FolderFault) (number : ℕ
 told_names (Ok v) number = refl
 told_names (Err e) number = refl
 
-ran_one : {A : Type 0} (task : Task) (old new : Seen) (made made' : ℕ) (r : Result A FolderFault) (answer : Result A RunFault) → made' ≡ capped (made + 1) → answer ≡ run_answer made' r → (old.honest → new.honest) → (old.honest → Performs reported (task ∷ []) old.files r new.files) → (old.honest → Left (λ before now. Performs leaving (task ∷ []) before r now) old.may_leave new.may_leave) → (old.quiet → new.quiet) → (old.quiet → Performs undisturbed (task ∷ []) old.files r new.files) → GoesUp old.calls new.calls → CountsFailure r old.failures new.failures → Ran (task ∷ []) old new made made' (fault_of answer)
-ran_one task old new made made' r answer up is honest called left quiet alone counted cause = subst (λ x. Ran (task ∷ []) old new made made' (fault_of x)) (sym is) (record {
+ran_one : {A : Type 0} (task : Task) (old new : Seen) (made made' : ℕ) (r : Result A FolderFault) (answer : Result A RunFault) → made' ≡ capped (made + 1) → answer ≡ run_answer made' r → (old.honest → new.honest) → (old.honest → Performs honestly (task ∷ []) old.files r new.files) → (old.honest → Follows (λ before now. Performs leaving (task ∷ []) before r now) old.may_leave new.may_leave) → (old.quiet → new.quiet) → (old.quiet → Performs quietly (task ∷ []) old.files r new.files) → GoesUp old.calls new.calls → CountsFailure r old.failures new.failures → Performed (task ∷ []) old new made made' (fault_of answer)
+ran_one task old new made made' r answer up is honest called left quiet alone counted cause = subst (λ x. Performed (task ∷ []) old new made made' (fault_of x)) (sym is) (record {
   honest = honest;
-  reported_of = λ h. run_performs reported (task ∷ []) old.files r new.files made' (called h);
+  done_honestly = λ h. run_performs honestly (task ∷ []) old.files r new.files made' (called h);
   left = λ h. left_as _ _ old.may_leave new.may_leave (λ before now. run_performs leaving (task ∷ []) before r now made') (left h);
   quiet = quiet;
-  undisturbed_of = λ q. run_performs undisturbed (task ∷ []) old.files r new.files made' (alone q);
+  done_quietly = λ q. run_performs quietly (task ∷ []) old.files r new.files made' (alone q);
   n = 1;
   most = omega arith;
   all = λ e. refl;
   makes = one_call _ _ _ _ up counted;
   cause = told_cause r made' _ _ cause;
-  numbered = told_number r made';
+  call_number = told_number r made';
 })
 
-do_reported : {A : Type 0} (call : Call) (old : Files) (r : Result A FolderFault) (new : Files) → Called call old r new → Performs reported (Do call ∷ []) old r new
-do_reported call old (Ok v) new h = (new, h, refl)
-do_reported call old (Err e) new h = inl h
+do_honestly : {A : Type 0} (call : Call) (old : Files) (r : Result A FolderFault) (new : Files) → Called call old r new → Performs honestly (Do call ∷ []) old r new
+do_honestly call old (Ok v) new h = (new, h, refl)
+do_honestly call old (Err e) new h = inl h
 
 do_leaving : {A : Type 0} (call : Call) (r : Result A FolderFault) (old new : Files) → LeavesOf call old r new → Performs leaving (Do call ∷ []) old r new
 do_leaving call (Ok v) old new h = (new, h, refl)
 do_leaving call (Err e) old new h = inl h
 
-do_undisturbed : {A : Type 0} (call : Call) (old : Files) (r : Result A FolderFault) (new : Files) → CalledQuietly call old r new → Performs undisturbed (Do call ∷ []) old r new
-do_undisturbed call old (Ok v) new h = (new, h, refl)
-do_undisturbed call old (Err e) new h = inl h
+do_quietly : {A : Type 0} (call : Call) (old : Files) (r : Result A FolderFault) (new : Files) → CalledQuietly call old r new → Performs quietly (Do call ∷ []) old r new
+do_quietly call old (Ok v) new h = (new, h, refl)
+do_quietly call old (Err e) new h = inl h
 
-ask_reported : (sub : Sub) (old : Files) (r : Result (Vec (String Global) Global) FolderFault) (new : Files) → Listed sub old r new → Performs reported (Ask sub (names_in r) ∷ []) old r new
-ask_reported sub old (Ok v) new h = (new, h, refl)
-ask_reported sub old (Err e) new h = inl h
+ask_honestly : (sub : Sub) (old : Files) (r : Result (Vec (String Global) Global) FolderFault) (new : Files) → Listed sub old r new → Performs honestly (Ask sub (names_in r) ∷ []) old r new
+ask_honestly sub old (Ok v) new h = (new, h, refl)
+ask_honestly sub old (Err e) new h = inl h
 
 ask_leaving : (sub : Sub) (r : Result (Vec (String Global) Global) FolderFault) (old new : Files) → LeavesOf (Listing sub) old r new → Performs leaving (Ask sub (names_in r) ∷ []) old r new
 ask_leaving sub (Ok v) old new h = (new, h, refl)
 ask_leaving sub (Err e) old new h = inl h
 
-ask_undisturbed : (sub : Sub) (old : Files) (r : Result (Vec (String Global) Global) FolderFault) (new : Files) → CalledQuietly (Listing sub) old r new → IfOk r (λ v. IsPermutation (names_of v) (keys (folder_of sub old))) → Performs undisturbed (Ask sub (names_in r) ∷ []) old r new
-ask_undisturbed sub old (Ok v) new h names = (new, (h.1, names), refl)
-ask_undisturbed sub old (Err e) new h names = inl h
+ask_quietly : (sub : Sub) (old : Files) (r : Result (Vec (String Global) Global) FolderFault) (new : Files) → CalledQuietly (Listing sub) old r new → IfOk r (λ v. IsPermutation (names_of v) (keys (folder_of sub old))) → Performs quietly (Ask sub (names_in r) ∷ []) old r new
+ask_quietly sub old (Ok v) new h names = (new, (h.1, names), refl)
+ask_quietly sub old (Err e) new h names = inl h
 
 -- a write, a placement or a removal
-pub ran_do : {A : Type 0} (call : Call) (old new : Seen) (made made' : ℕ) (r : Result A FolderFault) (answer : Result A RunFault) → made' ≡ capped (made + 1) → answer ≡ run_answer made' r → (old.honest → new.honest) → (old.honest → Called call old.files r new.files) → (old.honest → Left (λ before now. LeavesOf call before r now) old.may_leave new.may_leave) → (old.quiet → new.quiet) → (old.quiet → CalledQuietly call old.files r new.files) → GoesUp old.calls new.calls → CountsFailure r old.failures new.failures → Ran (Do call ∷ []) old new made made' (fault_of answer)
+pub ran_do : {A : Type 0} (call : Call) (old new : Seen) (made made' : ℕ) (r : Result A FolderFault) (answer : Result A RunFault) → made' ≡ capped (made + 1) → answer ≡ run_answer made' r → (old.honest → new.honest) → (old.honest → Called call old.files r new.files) → (old.honest → Follows (λ before now. LeavesOf call before r now) old.may_leave new.may_leave) → (old.quiet → new.quiet) → (old.quiet → CalledQuietly call old.files r new.files) → GoesUp old.calls new.calls → CountsFailure r old.failures new.failures → Performed (Do call ∷ []) old new made made' (fault_of answer)
 ran_do call old new made made' r answer up is honest called left quiet alone =
-    ran_one (Do call) old new made made' r answer up is honest (λ h. do_reported call old.files r new.files (called h)) (λ h. left_as _ _ old.may_leave new.may_leave (do_leaving call r) (left h))
-    quiet (λ q. do_undisturbed call old.files r new.files (alone q))
+    ran_one (Do call) old new made made' r answer up is honest (λ h. do_honestly call old.files r new.files (called h)) (λ h. left_as _ _ old.may_leave new.may_leave (do_leaving call r) (left h))
+    quiet (λ q. do_quietly call old.files r new.files (alone q))
 
 -- a listing
-pub ran_ask : (sub : Sub) (old new : Seen) (made made' : ℕ) (r : Result (Vec (String Global) Global) FolderFault) (answer : Result (Vec (String Global) Global) RunFault) → made' ≡ capped (made + 1) → answer ≡ run_answer made' r → (old.honest → new.honest) → (old.honest → Listed sub old.files r new.files) → (old.honest → Left (λ before now. LeavesOf (Listing sub) before r now) old.may_leave new.may_leave) → (old.quiet → new.quiet) → (old.quiet → CalledQuietly (Listing sub) old.files r new.files) → (old.quiet → IfOk r (λ v. IsPermutation (names_of v) (keys (folder_of sub old.files)))) → GoesUp old.calls new.calls → CountsFailure r old.failures new.failures → Ran (Ask sub (names_in answer) ∷ []) old new made made' (fault_of answer)
+pub ran_ask : (sub : Sub) (old new : Seen) (made made' : ℕ) (r : Result (Vec (String Global) Global) FolderFault) (answer : Result (Vec (String Global) Global) RunFault) → made' ≡ capped (made + 1) → answer ≡ run_answer made' r → (old.honest → new.honest) → (old.honest → Listed sub old.files r new.files) → (old.honest → Follows (λ before now. LeavesOf (Listing sub) before r now) old.may_leave new.may_leave) → (old.quiet → new.quiet) → (old.quiet → CalledQuietly (Listing sub) old.files r new.files) → (old.quiet → IfOk r (λ v. IsPermutation (names_of v) (keys (folder_of sub old.files)))) → GoesUp old.calls new.calls → CountsFailure r old.failures new.failures → Performed (Ask sub (names_in answer) ∷ []) old new made made' (fault_of answer)
 ran_ask sub old new made made' r answer up is honest called left quiet alone names counted cause =
-    rw (ap names_in is ∙ told_names r made') (ran_one (Ask sub (names_in r)) old new made made' r answer up is honest (λ h. ask_reported sub old.files r new.files (called h)) (λ h. left_as _ _ old.may_leave new.may_leave (ask_leaving sub r) (left h))
-    quiet (λ q. ask_undisturbed sub old.files r new.files (alone q) (names q)) counted cause)
+    rw (ap names_in is ∙ told_names r made') (ran_one (Ask sub (names_in r)) old new made made' r answer up is honest (λ h. ask_honestly sub old.files r new.files (called h)) (λ h. left_as _ _ old.may_leave new.may_leave (ask_leaving sub r) (left h))
+    quiet (λ q. ask_quietly sub old.files r new.files (alone q) (names q)) counted cause)
 
 -- one more step of a plan, which has these tasks
 module _ {X : Type 0} (f : X → List Task) (xs : List X) (i : ℕ) (x : X) (h : i < length xs) (is : x ≡ get_or xs i x) (ys : List Task) (tasks_are : f x ≡ ys) where

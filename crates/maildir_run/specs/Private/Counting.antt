@@ -21,4 +21,4 @@ run_answer number (Err fault) = Err (run_fault number fault)
 -- so many calls were made: the folder counts them, and so does the run
 pub record Makes (n made made' calls calls' : ℕ) : Type 0 where
   pub count_is : calls' ≡ raised n calls
-  pub numbered : (k : ℕ) → made ≡ capped k → made' ≡ capped (k + n)
+  pub made_is : (k : ℕ) → made ≡ capped k → made' ≡ capped (k + n)

@@ -32,7 +32,7 @@ IsGiven false before now splitter left reads given = Gave before now splitter le
 IsGiven true before now splitter left reads given = GaveAll before now reads given
 
 -- this text was read, and these messages are the first of each text that may begin so; one that has none begins with none
-pub record Front (before now : Option (List ℕ)) (reads : ℕ) (given : List Entry) : Type 0 where
+pub record IsFrontOf (before now : Option (List ℕ)) (reads : ℕ) (given : List Entry) : Type 0 where
   pub text : List ℕ
   pub read : Consumes before now text
   pub budget : length text ≤ 65536 * reads
@@ -46,7 +46,7 @@ pub record Begins (ended : Bool) (before now : Option (List ℕ)) (splitter : Sp
   pub begun : ended ≡ false → 0 < length whole
 
 -- nothing more could be read; with `TooManyReads` each of the reads gave a byte, and with `NoFromLine` no text that the source may have had is an mbox text
-pub record Refused (before now : Option (List ℕ)) (reads : ℕ) (fault : RunFault) : Type 0 where
+pub record SourceStopped (before now : Option (List ℕ)) (reads : ℕ) (fault : RunFault) : Type 0 where
   pub budget : ReadsAtMost before now (65536 * reads)
   pub spent : fault ≡ TooManyReads → ReadsAtLeast before now reads
   pub unreadable : fault ≡ NoFromLine → (t : List ℕ) (entries : List Entry) → Possible before now t → ¬ Mbox t entries

@@ -12,15 +12,15 @@ use Rattle.maildir_run.specs.declared.report.Report.{Report}
 use Rattle.maildir_run.specs.declared.folder.Folder.{Ghosts}
 use Rattle.maildir_run.specs.Calls.{names_of}
 use Rattle.maildir_run.specs.Private.Counting.{Makes}
-use Rattle.maildir_run.specs.Counting.{GoesUpWith, IsNumbered, fault_of}
-use Rattle.maildir_run.specs.Cuts.{Left}
+use Rattle.maildir_run.specs.Counting.{GoesUpWith, HasCallNumber, fault_of}
+use Rattle.maildir_run.specs.Cuts.{Follows}
 use Rattle.maildir_run.specs.Delivery.{Message}
 use Rattle.maildir_run.specs.Files.{Files}
-use Rattle.maildir_run.specs.Private.Given.{Front, GaveAll, Refused}
+use Rattle.maildir_run.specs.Private.Given.{IsFrontOf, GaveAll, SourceStopped}
 use Rattle.maildir_run.specs.Plan.{is_listed}
 use Rattle.maildir_run.specs.Private.Progress.{message_at}
-use Rattle.maildir_run.specs.Tasks.{Task, DoneUntil, reported, leaving, Names, listings}
-use Rattle.maildir_run.specs.Private.Tasks.{undisturbed}
+use Rattle.maildir_run.specs.Tasks.{Task, DoneUntil, honestly, leaving, Listings, listing_tasks}
+use Rattle.maildir_run.specs.Private.Tasks.{quietly}
 use Rattle.maildir_run.specs.Texts.{messages_of, bodies_of}
 use Rattle.maildir_run.specs.Parts.{deliveries_of, sweep_of}
 
@@ -38,18 +38,18 @@ abbrev pub seen : {S : Type 0} → Ghosts S → S → Seen
 seen f s = record { honest = f.honest s; quiet = f.quiet s; files = f.files s; may_leave = f.may_leave s; calls = f.calls s; failures = f.failures s }
 
 -- A run that had made so many calls performed these tasks: all of them with no fault, and with one up to the one that was refused.
-pub record Ran (tasks : List Task) (old new : Seen) (made made' : ℕ) (fault : Option RunFault) : Type 0 where
+pub record Performed (tasks : List Task) (old new : Seen) (made made' : ℕ) (fault : Option RunFault) : Type 0 where
   pub honest : old.honest → new.honest
-  pub reported_of : old.honest → DoneUntil reported tasks old.files fault new.files
-  pub left : old.honest → Left (λ before now. DoneUntil leaving tasks before fault now) old.may_leave new.may_leave
+  pub done_honestly : old.honest → DoneUntil honestly tasks old.files fault new.files
+  pub left : old.honest → Follows (λ before now. DoneUntil leaving tasks before fault now) old.may_leave new.may_leave
   pub quiet : old.quiet → new.quiet
-  pub undisturbed_of : old.quiet → DoneUntil undisturbed tasks old.files fault new.files
+  pub done_quietly : old.quiet → DoneUntil quietly tasks old.files fault new.files
   pub n : ℕ
   pub most : n ≤ length tasks
   pub all : fault ≡ None → n ≡ length tasks
   pub makes : Makes n made made' old.calls new.calls
   pub cause : GoesUpWith fault old.failures new.failures
-  pub numbered : IsNumbered fault made'
+  pub call_number : HasCallNumber fault made'
 
 -- ---- the tasks of each part
 -- the names that a listing answered
@@ -62,19 +62,19 @@ abbrev pub messages_after : List (List ℕ) → List (List ℕ) → List Message
 messages_after before [] = []
 messages_after before (body ∷ more) = message_at (target before body) body ∷ messages_after (before ++ body ∷ []) more
 
--- Of the messages with the bodies `more`, which follow the bodies `before`, those that were missing were brought; each takes two calls.
-pub record Brought (is_there : List ℕ → Bool) (before more : List (List ℕ)) (old new : Seen) (made made' placed placed' : ℕ) (namer' : Counts) (fault : Option RunFault) : Type 0 where
-  pub ran : Ran (deliveries_of is_there (messages_after before more)) old new made made' fault
+-- Of the messages with the bodies `more`, which follow the bodies `before`, those that were missing were delivered; each takes two calls.
+pub record DeliversMessages (is_there : List ℕ → Bool) (before more : List (List ℕ)) (old new : Seen) (made made' placed placed' : ℕ) (namer' : Counts) (fault : Option RunFault) : Type 0 where
+  pub ran : Performed (deliveries_of is_there (messages_after before more)) old new made made' fault
   pub named : fault ≡ None → Named (before ++ more) namer'
   pub placed_are : fault ≡ None → 2 * placed' ≡ 2 * placed + length (deliveries_of is_there (messages_after before more))
 
 -- ---- a whole run
 -- the listings, the sweep and these messages
-abbrev pub run_tasks : Names → List Message → List Task
-run_tasks names ms = listings names ++ (sweep_of names.tmp ++ deliveries_of (is_listed names.new names.cur) ms)
+abbrev pub run_tasks : Listings → List Message → List Task
+run_tasks names ms = listing_tasks names ++ (sweep_of names.tmp ++ deliveries_of (is_listed names.new names.cur) ms)
 
 -- the report is true of these tasks
-pub record Tells (names : Names) (ms : List Message) (report : Report) : Type 0 where
+pub record ReportsTasks (names : Listings) (ms : List Message) (report : Report) : Type 0 where
   pub messages : report.messages ≡ length ms
   pub there : report.there ≡ report.messages - report.placed
   pub placed : 2 * report.placed ≡ length (deliveries_of (is_listed names.new names.cur) ms)
@@ -83,12 +83,12 @@ pub record Tells (names : Names) (ms : List Message) (report : Report) : Type 0 
 -- A run was given these first messages of its source, all of them with Ok, and performed the tasks of a run over them: all with Ok, and with a fault a front.
 pub record Conversion (before now : Option (List ℕ)) (reads : ℕ) (old new : Seen) (result : Result Report RunFault) : Type 0 where
   pub given : List Entry
-  pub front : Front before now reads given
+  pub front : IsFrontOf before now reads given
   pub whole : OnOk result (GaveAll before now reads given)
-  pub refused : IfErr result (Refused before now reads)
+  pub refused : IfErr result (SourceStopped before now reads)
   pub untouched : IsErrOf result NoFromLine → new.calls ≡ old.calls
-  pub names : Names
+  pub names : Listings
   pub few : length names.tmp < 2 ^ 64
   pub made : ℕ
-  pub ran : Ran (run_tasks names (messages_of (bodies_of given))) old new 0 made (fault_of result)
-  pub tells : IfOk result (Tells names (messages_of (bodies_of given)))
+  pub ran : Performed (run_tasks names (messages_of (bodies_of given))) old new 0 made (fault_of result)
+  pub tells : IfOk result (ReportsTasks names (messages_of (bodies_of given)))

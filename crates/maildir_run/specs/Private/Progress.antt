@@ -12,7 +12,7 @@ pub record TmpWithin (names : List (List ℕ)) (s : Files) : Type 0 where
   pub gone : (name : List ℕ) → IsTrue (is_converter_name name) → IsFalse (list_any (is_name name) names) → get s.tmp name ≡ None
 
 -- a message that was missing was written and placed, perhaps
-pub record Brings (m : Message) (old new : Files) : Type 0 where
+pub record DeliversMessage (m : Message) (old new : Files) : Type 0 where
   pub own : IsSoundAt new m
   pub others : (b : List ℕ) → IsTrue (is_converter_base b) → IsFalse (is_name m.target.base b) → IsPermutation (homes old b) (homes new b)
 

@@ -1,4 +1,4 @@
--- A run's tasks where nobody disturbs it.
+-- A run's tasks where the folder is quiet.
 use Rattle.std.specs.Prelude.{◌≡◌, List, IsPermutation}
 use Rattle.std.specs.FinMap.{keys}
 use Rattle.maildir_run.specs.Calls.{Move, IsReady, IsOwn, effect, after, folder_of}
@@ -15,5 +15,5 @@ abbrev pub RefusedQuietly : Task → Files → Files → Type 0
 RefusedQuietly task old new = (moves : List Move) × IsOwn moves × (new ≡ after old (call_of task) moves)
 
 -- so are tasks done and refused with nobody else at work
-abbrev pub undisturbed : Way
-undisturbed = record { done = DoneQuietly; refused = RefusedQuietly }
+abbrev pub quietly : Way
+quietly = record { done = DoneQuietly; refused = RefusedQuietly }

@@ -10,17 +10,17 @@ use Rattle.mbox_text.specs.Held.{AtHead, InBody, Closed}
 use Rattle.mbox_text.proofs.TextLines.LineLemmas.{begins_from-cut, begins_from-more}
 use Rattle.mbox_text.proofs.TextLines.Heads.{mbox-starts, mbox-begins-last}
 use Rattle.mbox_text.proofs.Splitting.HeldLemmas.{head-add, head-ends, body-add, body-closes, body-ends}
-use Rattle.mbox_text.proofs.Splitting.Fields.{held_none, never-more, at_start, begins_with-ended}
+use Rattle.mbox_text.proofs.Splitting.Fields.{head_of_none, never-more, at_start, begins_with-ended}
 use Rattle.mbox_text.proofs.Reading.Last.{head-last, body-last}
 
 -- a text that ends in a From_ line, or in a line behind one
-abbrev Stands : List ℕ → Type 0
-Stands text =
+abbrev IsInText : List ℕ → Type 0
+IsInText text =
     ((given : List Entry) × (line : List ℕ) × AtHead text given line)
     ⊎ ((given : List Entry) × (from_line : List ℕ) × (body : List ℕ) × (line : List ℕ) × InBody text given from_line body line)
 
 abbrev Goes : List ℕ → Type 0
-Goes text = Stands text ⊎ NeverFrom text
+Goes text = IsInText text ⊎ NeverFrom text
 
 -- one byte more
 head-byte : {text : List ℕ} {given : List Entry} {line : List ℕ} (c : ℕ) → AtHead text given line → Goes (text ++ c ∷ [])
@@ -74,7 +74,7 @@ goes-on [] text g = rw (append-nil text) g
 goes-on (c ∷ more) text g = rw (← append_assoc text (c ∷ []) more) (goes-on more (text ++ c ∷ []) (goes-byte text c g))
 
 goes : (text : List ℕ) → Goes text
-goes text = goes-on text [] (inl (inl ([], [], held_none refl)))
+goes text = goes-on text [] (inl (inl ([], [], head_of_none refl)))
 
 pub head-all : {text : List ℕ} {given : List Entry} {line : List ℕ} → AtHead text given line → AllButLast text given
 unfolding Closed

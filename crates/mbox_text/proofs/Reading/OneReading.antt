@@ -18,21 +18,21 @@ pub record Split (ls : List (List ℕ)) (entry : Entry) (rest : List (List ℕ))
   pub body : entry.body ≡ flat_map unquoted (without_blank others)
 
 -- these lines are those of these messages
-abbrev pub Reads : List (List ℕ) → List Entry → Type 0
-Reads ls [] = ls ≡ []
-Reads ls (entry ∷ entries) = (rest : List (List ℕ)) × Split ls entry rest × Reads rest entries
+abbrev pub LinesRead : List (List ℕ) → List Entry → Type 0
+LinesRead ls [] = ls ≡ []
+LinesRead ls (entry ∷ entries) = (rest : List (List ℕ)) × Split ls entry rest × LinesRead rest entries
 
 -- no line is there, or the first begins a message
-abbrev Headed : List (List ℕ) → Type 0
-Headed [] = Unit {0}
-Headed (l ∷ ls) = begins_from l ≡ true
+abbrev HeadWritten : List (List ℕ) → Type 0
+HeadWritten [] = Unit {0}
+HeadWritten (l ∷ ls) = begins_from l ≡ true
 
-reads-headed : (ls : List (List ℕ)) (entries : List Entry) → Reads ls entries → Headed ls
+reads-headed : (ls : List (List ℕ)) (entries : List Entry) → LinesRead ls entries → HeadWritten ls
 reads-headed ls [] h = rw h tt
 reads-headed ls (entry ∷ entries) h = let s = h.1 in rw s.is s.head
 
 -- lines that begin no message, up to one that does, are cut off in one way
-cut_one : (others others' rest rest' : List (List ℕ)) → NoFrom others → NoFrom others' → Headed rest → Headed rest'
+cut_one : (others others' rest rest' : List (List ℕ)) → NoFrom others → NoFrom others' → HeadWritten rest → HeadWritten rest'
     → others ++ rest ≡ others' ++ rest' → (others ≡ others') × (rest ≡ rest')
 cut_one [] [] rest rest' n n' h h' e = (refl, e)
 cut_one [] (o ∷ os) rest rest' n n' h h' e = let b = rw e at h in absurd (both_ways (begins_from o) n'.0 b)
@@ -48,13 +48,13 @@ entry-one : (e f : Entry) → e.from_line ≡ f.from_line → e.body ≡ f.body 
 entry-one e f a b = grind arith
 
 -- lines that are those of these messages stand before such
-headed-append : (ls tail : List (List ℕ)) (entries : List Entry) → Reads ls entries → Headed tail → Headed (ls ++ tail)
+headed-append : (ls tail : List (List ℕ)) (entries : List Entry) → LinesRead ls entries → HeadWritten tail → HeadWritten (ls ++ tail)
 headed-append [] tail entries h b = b
 headed-append (l ∷ ls) tail entries h b = reads-headed (l ∷ ls) entries h
 
 -- what the front of some lines reads as is the first of what they all read as
-pub reads-append : (ls tail : List (List ℕ)) (given entries : List Entry) → Reads ls given → Headed tail → Reads (ls ++ tail) entries
-    → (rest : List Entry) × (entries ≡ given ++ rest) × Reads tail rest
+pub reads-append : (ls tail : List (List ℕ)) (given entries : List Entry) → LinesRead ls given → HeadWritten tail → LinesRead (ls ++ tail) entries
+    → (rest : List Entry) × (entries ≡ given ++ rest) × LinesRead tail rest
 reads-append ls tail [] entries r b h = (entries, refl, rw r at h)
 reads-append ls tail (g ∷ gs) [] r b h = let e = rw (r.1.is) at h in absurd (cc)
 reads-append ls tail (g ∷ gs) (e ∷ es) r b h =
@@ -76,13 +76,13 @@ joined rest entries (inl e) h = lines-append rest e
 joined {block} rest [] (inr e) h = rw h (rw (append-nil block, append-nil (lines block)) refl)
 joined rest (f ∷ fs) (inr e) h = absurd (cc)
 
-pub mbox-reads : (text : List ℕ) (entries : List Entry) → Mbox text entries → Reads (lines text) entries
+pub mbox-reads : (text : List ℕ) (entries : List Entry) → Mbox text entries → LinesRead (lines text) entries
 unfolding Mbox lines
 mbox-reads text [] h = rw h refl
 mbox-reads text (entry ∷ entries) h = grind (arith, mbox-reads h.1 entries h.5, joined)
 
 -- no line, no message
-none-left : (rest : List Entry) → Reads [] rest → rest ≡ []
+none-left : (rest : List Entry) → LinesRead [] rest → rest ≡ []
 none-left [] h = refl
 none-left (e ∷ es) h = let is = h.1.is in absurd (cc)
 

@@ -8,7 +8,7 @@ use Rattle.mbox_text.specs.Mbox.{Block, Mbox}
 use Rattle.mbox_text.specs.Held.{Closed}
 use Rattle.mbox_text.proofs.TextLines.LineLemmas.{lines-append, begins_from-more}
 use Rattle.mbox_text.proofs.TextLines.Heads.{head-line, block-begins}
-use Rattle.mbox_text.proofs.Reading.OneReading.{reads-append, mbox-reads, Reads}
+use Rattle.mbox_text.proofs.Reading.OneReading.{reads-append, mbox-reads, LinesRead}
 use Rattle.mbox_text.proofs.Splitting.HeldLemmas.{Ended-append}
 use Rattle.mbox_text.proofs.Reading.Last.{closed-mbox}
 
@@ -18,7 +18,7 @@ closed-ended front [] h = inl h
 closed-ended front (g ∷ given) h = rw h.2 (Ended-append h.0 h.4 (closed-ended h.1 given h.5))
 
 -- a line that is left is a message's
-some-left : (l : List ℕ) (ls : List (List ℕ)) (given : List Entry) {entries : List Entry} (rest : List Entry) → entries ≡ given ++ rest → Reads (l ∷ ls) rest → IsProperFront given entries
+some-left : (l : List ℕ) (ls : List (List ℕ)) (given : List Entry) {entries : List Entry} (rest : List Entry) → entries ≡ given ++ rest → LinesRead (l ∷ ls) rest → IsProperFront given entries
 some-left l ls given [] e h = let no : l ∷ ls ≡ [] = h in absurd (cc)
 some-left l ls given (next ∷ rest) e h = (next, rest, e)
 
@@ -32,7 +32,7 @@ closed-front front tail given entries c b m =
     some-left f.0 f.1 given r.0 r.1 r.2
 
 -- the blocks of all messages but the last
-record Front (text : List ℕ) (given : List Entry) (last : Entry) : Type 0 where
+record AllButLastBlock (text : List ℕ) (given : List Entry) (last : Entry) : Type 0 where
   front : List ℕ
   block : List ℕ
   is : text ≡ front ++ block
@@ -43,7 +43,7 @@ not-nil : (given : List Entry) (last : Entry) → given ++ last ∷ [] ≡ [] �
 not-nil [] last e = absurd (cc)
 not-nil (g ∷ given) last e = absurd (cc)
 
-front-of : (text : List ℕ) (given : List Entry) (last : Entry) → Mbox text (given ++ last ∷ []) → Front text given last
+front-of : (text : List ℕ) (given : List Entry) (last : Entry) → Mbox text (given ++ last ∷ []) → AllButLastBlock text given last
 unfolding Mbox Closed
 front-of text [] last h = record { front = []; block = text; is = refl; closed = refl; behind = rw (h.2, h.5) (rw (append-nil h.0) h.3) }
 front-of text (g ∷ given) last h =

@@ -14,9 +14,9 @@ use Rattle.mbox_text.specs.Held.{AtHead, InBody, Held, Closed}
 use Rattle.mbox_text.proofs.Splitting.HeldLemmas.{head-add, body-add, body-closes, head-ends, body-ends, body-lines}
 use Rattle.mbox_text.proofs.TextLines.LineLemmas.{begins_from-more, begins_from-cut}
 
-pub held_none : {line : List ℕ} → line ≡ [] → AtHead [] [] line
+pub head_of_none : {line : List ℕ} → line ≡ [] → AtHead [] [] line
 unfolding Rattle.mbox_text.specs.Held.Closed
-held_none e = grind (arith)
+head_of_none e = grind (arith)
 
 pub some_ends : {message : Option PartialMessage} {m : PartialMessage} {line line1 body line' : List ℕ} → message ≡ Some m → line1 ≡ line
     → body ≡ (m.body.items ++ unquoted line1) ++ 10 ∷ [] → line' ≡ []

@@ -8,16 +8,16 @@ use Rattle.mbox_text.specs.declared.partial_message.PartialMessage.{PartialMessa
 use Rattle.mbox_text.specs.declared.splitter.Splitter.{Splitter}
 use Rattle.mbox_text.specs.Mbox.{Mbox}
 use Rattle.mbox_text.specs.Quoting.{begins_from, unquoted}
-use Rattle.mbox_text.specs.Held.{Holds}
+use Rattle.mbox_text.specs.Held.{HeldIn}
 use Rattle.mbox_text.specs.Private.Moved.{chopped}
-use Rattle.mbox_text.specs.Fed.{Ends, RefusesShort}
+use Rattle.mbox_text.specs.Fed.{GivesLast, RefusesShort}
 use Rattle.mbox_text.proofs.TextLines.Heads.{from-long, from-short, mbox-begins-last}
 use Rattle.mbox_text.proofs.Splitting.Fields.{at_start}
 use Rattle.mbox_text.proofs.Reading.Last.{head-last, body-last}
 
 -- this is the last message of each text that the splitter holds
 abbrev pub EndsWith : Splitter → Entry → Type 0
-EndsWith splitter e = (text : List ℕ) (given : List Entry) → Holds text given splitter → Mbox text (given ++ e ∷ [])
+EndsWith splitter e = (text : List ℕ) (given : List Entry) → HeldIn text given splitter → Mbox text (given ++ e ∷ [])
 
 pub ends_body : (splitter : Splitter) {m : PartialMessage} (e : Entry) (line : List ℕ) → splitter.message ≡ Some m → line ≡ splitter.line.items → e.from_line ≡ m.from_line.items
     → e.body ≡ chopped (m.body.items ++ unquoted line) → EndsWith splitter e
@@ -28,10 +28,10 @@ pub ends_head : (splitter : Splitter) (e : Entry) {line : List ℕ} → splitter
 ends_head splitter e is e1 b ef eb text given h = head-last e (rw is at h) (rw (← e1) b) ef eb
 
 -- its text is not short
-long : (splitter : Splitter) (e : Entry) → EndsWith splitter e → (text : List ℕ) (given : List Entry) → Holds text given splitter → 5 ≤ length text
+long : (splitter : Splitter) (e : Entry) → EndsWith splitter e → (text : List ℕ) (given : List Entry) → HeldIn text given splitter → 5 ≤ length text
 long splitter e ends text given h = grind (arith, from-long, mbox-begins-last)
 
-pub ends_some : (splitter : Splitter) (e : Entry) → EndsWith splitter e → Ends splitter (Some e)
+pub ends_some : (splitter : Splitter) (e : Entry) → EndsWith splitter e → GivesLast splitter (Some e)
 ends_some splitter e ends = λ text given h. (
   ends text given h.held,
   (λ t. absurd (true≢false t), λ n. absurd (omega (arith, long splitter e ends text given h.held, ap length n))),
@@ -52,11 +52,11 @@ pub not_short_head : (splitter : Splitter) {line : List ℕ} (r : Result (Option
 not_short_head splitter r is e1 b = not_short splitter _ r (ends_head splitter (record { from_line = splitter.line.items; body = [] }) is e1 b refl refl)
 
 -- a line that begins no message is all that has come, and then it is short
-first_line : (splitter : Splitter) {line : List ℕ} (text : List ℕ) (given : List Entry) → splitter.message ≡ None → line ≡ splitter.line.items → begins_from line ≡ false → Holds text given splitter
+first_line : (splitter : Splitter) {line : List ℕ} (text : List ℕ) (given : List Entry) → splitter.message ≡ None → line ≡ splitter.line.items → begins_from line ≡ false → HeldIn text given splitter
     → (given ≡ []) × ((text ≡ splitter.line.items) × (length text < 5))
 first_line splitter text given is e1 b h = grind (arith, at_start, false≢true, from-short)
 
-pub ends_none : (splitter : Splitter) → splitter.message ≡ None → splitter.line.items ≡ [] → Ends splitter None
+pub ends_none : (splitter : Splitter) → splitter.message ≡ None → splitter.line.items ≡ [] → GivesLast splitter None
 unfolding Mbox begins_from
 ends_none splitter is e = λ text given h.
     let f = first_line splitter text given is (sym e) refl h.held in

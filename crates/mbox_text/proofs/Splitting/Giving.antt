@@ -11,7 +11,7 @@ use Rattle.mbox_text.specs.Quoting.{begins_from, from_bytes}
 use Rattle.mbox_text.specs.Fronts.{AllButLast, NeverFrom}
 use Rattle.mbox_text.specs.Private.Fronts.{Stay}
 use Rattle.mbox_text.specs.Mbox.{Mbox, without_blank}
-use Rattle.mbox_text.specs.Held.{Held, Holds}
+use Rattle.mbox_text.specs.Held.{Held, HeldIn}
 use Rattle.mbox_text.specs.Private.Moved.{Moves, Gives, Refuses, Stops}
 use Rattle.mbox_text.specs.Fed.{Fed, Takes, NeverBegins, TakesPart}
 use Rattle.mbox_text.proofs.TextLines.LineLemmas.{begins_from-more}
@@ -25,7 +25,7 @@ held-all : (message : Option PartialMessage) (text : List ℕ) (given : List Ent
 held-all None text given line a = head-all a
 held-all (Some m) text given line a = body-all a
 
-pub fed_from : {splitter : Splitter} {text : List ℕ} {given : List Entry} → splitter.failed ≡ false → Holds text given splitter → Fed text given splitter
+pub fed_from : {splitter : Splitter} {text : List ℕ} {given : List Entry} → splitter.failed ≡ false → HeldIn text given splitter → Fed text given splitter
 fed_from {splitter} {text} {given} works h = grind (arith, held-all)
 
 -- all messages but the last stay the first ones, whatever comes behind the text

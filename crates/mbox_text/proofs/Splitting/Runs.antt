@@ -40,18 +40,18 @@ none-unquoted [] n = refl
 none-unquoted (l ∷ ls) n = rw (unquoted-other l n.0, none-unquoted ls n.1) refl
 
 -- the lines of the text up to a place have been added as they are read, and none is a From_ line
-pub record Taken (text before body : List ℕ) (at : ℕ) : Type 0 where
+pub record LinesTaken (text before body : List ℕ) (at : ℕ) : Type 0 where
   pub within : at ≤ length text
   pub added : body ≡ before ++ flat_map unquoted (lines (take at text))
   pub ended : Ended (take at text)
   pub none : NoFrom (lines (take at text))
 
-pub taken_none : {text before : List ℕ} → Taken text before before 0
+pub taken_none : {text before : List ℕ} → LinesTaken text before before 0
 unfolding lines
 taken_none {before} = grind (arith, append-nil before)
 
-taken_more : {text before body body' : List ℕ} {at : ℕ} (n : ℕ) → Taken text before body at → n ≤ length (drop at text) → Ended (take n (drop at text))
-    → NoFrom (lines (take n (drop at text))) → body' ≡ body ++ flat_map unquoted (lines (take n (drop at text))) → Taken text before body' (at + n)
+taken_more : {text before body body' : List ℕ} {at : ℕ} (n : ℕ) → LinesTaken text before body at → n ≤ length (drop at text) → Ended (take n (drop at text))
+    → NoFrom (lines (take n (drop at text))) → body' ≡ body ++ flat_map unquoted (lines (take n (drop at text))) → LinesTaken text before body' (at + n)
 taken_more {text} {before} {at} n t le ends none is =
     let x = take n (drop at text) in
     let front = ap lines (take-add at n text) ∙ lines-append x t.ended in
@@ -64,16 +64,16 @@ taken_more {text} {before} {at} n t le ends none is =
     }
 
 -- lines of which none is quotable
-taken_plain : {text before body body' : List ℕ} {at : ℕ} (n : ℕ) → Taken text before body at → n ≤ length (drop at text) → Ended (take n (drop at text))
-    → NoneQuotable (lines (take n (drop at text))) → body' ≡ body ++ take n (drop at text) → Taken text before body' (at + n)
+taken_plain : {text before body body' : List ℕ} {at : ℕ} (n : ℕ) → LinesTaken text before body at → n ≤ length (drop at text) → Ended (take n (drop at text))
+    → NoneQuotable (lines (take n (drop at text))) → body' ≡ body ++ take n (drop at text) → LinesTaken text before body' (at + n)
 taken_plain {text} {body} {at} n t le ends none is =
     let x = take n (drop at text) in
     let same = none-unquoted (lines x) none ∙ concat-lines x in
     taken_more n t le ends (none-from (lines x) none) (is ∙ ap (λ z. body ++ z) (sym same))
 
 -- the lines before the first quotable one, where a body got them as the code cuts them
-pub taken_found : {text before body body' : List ℕ} {at : ℕ} (n : ℕ) → Taken text before body at → FirstQuotable (take (length text - at) (drop at text)) n
-    → body' ≡ body ++ take ((at + n) - at) (drop at text) → Taken text before body' (at + n)
+pub taken_found : {text before body body' : List ℕ} {at : ℕ} (n : ℕ) → LinesTaken text before body at → FirstQuotable (take (length text - at) (drop at text)) n
+    → body' ≡ body ++ take ((at + n) - at) (drop at text) → LinesTaken text before body' (at + n)
 taken_found {text} {at} n t first is =
     let f = rw (take_rest text at) at first in
     let size : (at + n) - at ≡ n = omega arith in
@@ -81,8 +81,8 @@ taken_found {text} {at} n t first is =
 
 -- the whole lines of a rest of which no line is quotable
 pub taken_rest : {text before body body' : List ℕ} {at : ℕ} (n : ℕ) → let rest : List ℕ = take (length text - at) (drop at text) in
-    Taken text before body at → n ≤ length rest → Ended (take n rest) → NoneQuotable (lines rest)
-    → body' ≡ body ++ take ((at + n) - at) (drop at text) → Taken text before body' (at + n)
+    LinesTaken text before body at → n ≤ length rest → Ended (take n rest) → NoneQuotable (lines rest)
+    → body' ≡ body ++ take ((at + n) - at) (drop at text) → LinesTaken text before body' (at + n)
 taken_rest {text} {at} n t le ends none is =
     let D = drop at text in
     let size : (at + n) - at ≡ n = omega arith in
@@ -93,7 +93,7 @@ taken_rest {text} {at} n t le ends none is =
 
 -- one whole line that begins no message
 pub taken_line : {text before body body' : List ℕ} {at : ℕ} (n : ℕ) → let line : List ℕ = take (length text - at) (drop at text) in
-    Taken text before body at → IsFirstByte (is_byte 10) line (Some n) → begins_from line ≡ false → body' ≡ body ++ unquoted (take (n + 1) line) → Taken text before body' (at + (n + 1))
+    LinesTaken text before body at → IsFirstByte (is_byte 10) line (Some n) → begins_from line ≡ false → body' ≡ body ++ unquoted (take (n + 1) line) → LinesTaken text before body' (at + (n + 1))
 unfolding lines
 taken_line {text} {at} n t found none is =
     let D = drop at text in

@@ -51,8 +51,8 @@ NoEnd-at (c ∷ s) zero d h l = h.0
 NoEnd-at (c ∷ s) (suc n) d h l = NoEnd-at s n d h.1 (omega arith)
 
 -- a search that finds no `\n`
-pub found_none : (s : List ℕ) (r : Option ℕ) (b : Bool) → IsFirstByte (is_byte 10) s r → is_some r ≡ not b → IsTrue b ↔ NoEnd s
-found_none s None true h e = (λ _. none-there s h, λ _. refl)
-found_none s None false h e = absurd (cc)
-found_none s (Some n) true h e = absurd (cc)
-found_none s (Some n) false h e = (λ t. absurd (cc), λ none. absurd (both_ways (eqb (get_or s n 0) 10) (NoEnd-at s n 0 none h.0.high) h.1))
+pub no_end_found : (s : List ℕ) (r : Option ℕ) (b : Bool) → IsFirstByte (is_byte 10) s r → is_some r ≡ not b → IsTrue b ↔ NoEnd s
+no_end_found s None true h e = (λ _. none-there s h, λ _. refl)
+no_end_found s None false h e = absurd (cc)
+no_end_found s (Some n) true h e = absurd (cc)
+no_end_found s (Some n) false h e = (λ t. absurd (cc), λ none. absurd (both_ways (eqb (get_or s n 0) 10) (NoEnd-at s n 0 none h.0.high) h.1))

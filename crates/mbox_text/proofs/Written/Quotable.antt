@@ -31,8 +31,8 @@ occurs text i h = record {
   reads = λ j l. sym (get_or-drop i text j 0) ∙ begins-reads from_bytes (drop i text) h j l;
 }
 
-found_none : (text : List ℕ) → FindsNeedle text from_bytes 0 None → NoPlace text
-found_none text h = record { none = λ i b. let o = occurs text i b in let f = o.fits in h i (omega arith) (omega (arith, f)) o }
+no_place_found : (text : List ℕ) → FindsNeedle text from_bytes 0 None → NoPlace text
+no_place_found text h = record { none = λ i b. let o = occurs text i b in let f = o.fits in h i (omega arith) (omega (arith, f)) o }
 
 quotable-place : (line : List ℕ) → quotable line ≡ true → (i : ℕ) × (begins_from (drop i line) ≡ true)
 unfolding quotable
@@ -115,7 +115,7 @@ plain_rest text none = grind (arith, take_all)
 pub finds_none : {text : List ℕ} {at : ℕ} → Plain text at → FindsNeedle (take (length text - at) (drop at text)) from_bytes 0 None → NoneQuotable (lines text)
 finds_none {text} {at} p found =
     let D = drop at text in
-    let all = plain_more (length D) p (plain_rest D (no_lines (found_none D (rw (take_rest text at) at found)))) in
+    let all = plain_more (length D) p (plain_rest D (no_lines (no_place_found D (rw (take_rest text at) at found)))) in
     let whole : take (at + length D) text ≡ text = take_all (at + length D) text (omega (arith, p.within, length-drop at text)) in
     rw whole at all.none
 

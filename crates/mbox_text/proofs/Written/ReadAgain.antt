@@ -13,14 +13,14 @@ use Rattle.mbox_text.proofs.Reading.Chopped.{Whole, lines-whole}
 use Rattle.mbox_text.proofs.Splitting.HeldLemmas.{unended-push, NoFrom-append}
 
 -- whole lines, and a last line that lacks its `\n`
-record Cut (text : List ℕ) : Type 0 where
+record LastPart (text : List ℕ) : Type 0 where
   front : List ℕ
   last : List ℕ
   is : text ≡ front ++ last
   ended : Ended front
   part : NoEnd last
 
-cut : (text : List ℕ) → Cut text
+cut : (text : List ℕ) → LastPart text
 cut [] = record { front = []; last = []; is = refl; ended = inl refl; part = tt }
 cut (c ∷ text) =
     let r = cut text in

@@ -5,7 +5,7 @@ use Rattle.mbox_text.specs.declared.fault.TextFault.{TextFault}
 use Rattle.mbox_text.specs.declared.fault.TextFault.TheVariants.{NoFromLine, OutOfMemory}
 use Rattle.mbox_text.specs.declared.splitter.Splitter.{Splitter}
 use Rattle.mbox_text.specs.Fronts.{NeverFrom}
-use Rattle.mbox_text.specs.Held.{Holds}
+use Rattle.mbox_text.specs.Held.{HeldIn}
 
 -- the text without its last line if that is `\n` alone; whether the text stands at the front of a line
 unfoldable pub chopped_from : Bool → List ℕ → List ℕ
@@ -19,7 +19,7 @@ chopped text = chopped_from true text
 
 -- what a part of the text does to the splitter, whatever went before: it moves on, and these messages are given
 abbrev pub Moves : Splitter → List ℕ → List Entry → Splitter → Type 0
-Moves old part added new = (text : List ℕ) (given : List Entry) → Holds text given old → Holds (text ++ part) (given ++ added) new
+Moves old part added new = (text : List ℕ) (given : List Entry) → HeldIn text given old → HeldIn (text ++ part) (given ++ added) new
 
 -- so it moves on, and the messages are added to these
 abbrev pub Gives : Splitter → List ℕ → List Entry → List Entry → Splitter → Type 0
@@ -27,7 +27,7 @@ Gives old part out out' new = (added : List Entry) × (out' ≡ out ++ added) ×
 
 -- why the splitter does not take a part: with it no mbox text begins so, and no message was given; or a growth was refused
 abbrev pub Refuses : TextFault → Splitter → List ℕ → Type 0
-Refuses NoFromLine splitter part = (text : List ℕ) (given : List Entry) → Holds text given splitter → (given ≡ []) × NeverFrom (text ++ part)
+Refuses NoFromLine splitter part = (text : List ℕ) (given : List Entry) → HeldIn text given splitter → (given ≡ []) × NeverFrom (text ++ part)
 Refuses OutOfMemory splitter part = Unit {0}
 Refuses _ splitter part = ⊥
 

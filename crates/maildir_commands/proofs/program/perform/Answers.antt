@@ -2,10 +2,10 @@ use Rattle.std.proofs.Common.{Some, refl}
 use Rattle.std.specs.Io.Buffered.{writer_buffer, writer_contents}
 use Rattle.std.specs.List.{flat_map}
 use Rattle.mbox_text.specs.Spelling.{spelling}
-use Rattle.maildir_run.specs.Listing.{listing as listing_of}
+use Rattle.maildir_run.specs.Table.{table_of}
 use Rattle.maildir_disk.proofs.Left.Lefts.{on_ok}
 use Rattle.maildir_commands.proofs.Several.{on_err, on_ok_then}
-use Rattle.maildir_commands.proofs.Written.{all_front, each_some, handed_all, handed_each, handed_reports, some_kept}
+use Rattle.maildir_commands.proofs.Output.{all_front, each_some, handed_all, handed_each, handed_reports, some_kept}
 use Rattle.maildir_commands.proofs.program.perform.Goals as goal
 
 pub returns-in_err-answer-clause-some : goal.returns-in_err-answer-clause-some
@@ -21,11 +21,11 @@ returns-clause-rewritten g c = λ h file is_of.
 
 pub returns-clause-listed_input : goal.returns-clause-listed_input
 returns-clause-listed_input g c = λ is_of.
-    on_ok_then c.flush-handed.result _ _ (λ none. handed_all (writer_contents g.W.Write.contents c.args.out.now) (writer_contents g.W.Write.contents c.work-answer.new.out) (writer_contents g.W.Write.contents c.flush-handed.new.out) (g.W.Write.contents c.flush-handed.new.out.inner) (writer_buffer c.flush-handed.new.out) c.flush-handed.ensures.same refl none listing_of (g.I.Read.remaining c.args.input.now) (c.in_ok-answer.ensures.listed_input is_of)) c.flush-handed.ensures.handed
+    on_ok_then c.flush-handed.result _ _ (λ none. handed_all (writer_contents g.W.Write.contents c.args.out.now) (writer_contents g.W.Write.contents c.work-answer.new.out) (writer_contents g.W.Write.contents c.flush-handed.new.out) (g.W.Write.contents c.flush-handed.new.out.inner) (writer_buffer c.flush-handed.new.out) c.flush-handed.ensures.same refl none table_of (g.I.Read.remaining c.args.input.now) (c.in_ok-answer.ensures.listed_input is_of)) c.flush-handed.ensures.handed
 
 pub returns-clause-listed : goal.returns-clause-listed
 returns-clause-listed g c = λ h file is_of.
-    on_ok_then c.flush-handed.result _ _ (λ none. handed_all (writer_contents g.W.Write.contents c.args.out.now) (writer_contents g.W.Write.contents c.work-answer.new.out) (writer_contents g.W.Write.contents c.flush-handed.new.out) (g.W.Write.contents c.flush-handed.new.out.inner) (writer_buffer c.flush-handed.new.out) c.flush-handed.ensures.same refl none listing_of (Some (g.M.Machine.text_of c.args.machine.now file)) (c.in_ok-answer.ensures.listed h file is_of)) c.flush-handed.ensures.handed
+    on_ok_then c.flush-handed.result _ _ (λ none. handed_all (writer_contents g.W.Write.contents c.args.out.now) (writer_contents g.W.Write.contents c.work-answer.new.out) (writer_contents g.W.Write.contents c.flush-handed.new.out) (g.W.Write.contents c.flush-handed.new.out.inner) (writer_buffer c.flush-handed.new.out) c.flush-handed.ensures.same refl none table_of (Some (g.M.Machine.text_of c.args.machine.now file)) (c.in_ok-answer.ensures.listed h file is_of)) c.flush-handed.ensures.handed
 
 pub returns-clause-printed : goal.returns-clause-printed
 returns-clause-printed g c = λ maildir files is_of.
@@ -42,7 +42,7 @@ pub returns-clause-rewritten_front : goal.returns-clause-rewritten_front
 returns-clause-rewritten_front g c = λ h file is_of. on_err _ _ (all_front (flat_map spelling) (g.M.Machine.text_of c.args.machine.now file) (writer_contents g.W.Write.contents c.args.out.now) (writer_contents g.W.Write.contents c.work-answer.new.out) (writer_contents g.W.Write.contents c.flush-handed.new.out) c.flush-handed.ensures.same (c.in_ok-answer.ensures.rewritten h file is_of))
 
 pub returns-clause-listed_front : goal.returns-clause-listed_front
-returns-clause-listed_front g c = λ h file is_of. on_err _ _ (all_front listing_of (g.M.Machine.text_of c.args.machine.now file) (writer_contents g.W.Write.contents c.args.out.now) (writer_contents g.W.Write.contents c.work-answer.new.out) (writer_contents g.W.Write.contents c.flush-handed.new.out) c.flush-handed.ensures.same (c.in_ok-answer.ensures.listed h file is_of))
+returns-clause-listed_front g c = λ h file is_of. on_err _ _ (all_front table_of (g.M.Machine.text_of c.args.machine.now file) (writer_contents g.W.Write.contents c.args.out.now) (writer_contents g.W.Write.contents c.work-answer.new.out) (writer_contents g.W.Write.contents c.flush-handed.new.out) c.flush-handed.ensures.same (c.in_ok-answer.ensures.listed h file is_of))
 
 pub returns-clause-some : goal.returns-clause-some
 returns-clause-some g c = λ h words maildir texts is_of these.

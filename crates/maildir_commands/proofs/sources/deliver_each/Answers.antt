@@ -4,7 +4,7 @@ use Rattle.maildir_commands.specs.Machines.{held}
 use Rattle.maildir_commands.specs.Report.{PrintsReports}
 use Rattle.maildir_commands.proofs.Resting.{rest_same, rest_then}
 use Rattle.maildir_commands.proofs.Reports.{more_reports}
-use Rattle.maildir_commands.proofs.Several.{all_each, all_safe, behind_length, first_text, no_text, none_done, on_err, one_more, possible_whole, sound_of, stay_more, stay_none, stopped_between, text_behind, then_stopped}
+use Rattle.maildir_commands.proofs.Several.{all_each, all_safe, behind_length, first_text, no_text, none_printed, on_err, one_more, possible_whole, sound_of, stay_more, stay_none, stopped_between, text_behind, then_stopped}
 use Rattle.maildir_commands.proofs.sources.deliver_each.Goals as goal
 
 -- where the first text is not delivered
@@ -16,7 +16,7 @@ returns-in_err-deliver_one-clause-some g c = λ h s texts text is are fit sound.
     let inside : 0 < length texts = omega (arith, behind_length texts text _ _ are) in
     let possible = possible_whole _ _ _ _ (is ∙ first_text texts text _ _ are) c.deliver_one.ensures.budget in
     let one = sound_of texts _ 0 no_text inside sound in
-    on_err _ _ (then_stopped texts fit 0 no_text _ _ _ _ _ _ inside (none_done texts _ _ sound) (c.deliver_one.ensures.stays s (get_or texts 0 no_text) (fit.are 0 no_text inside) possible one)
+    on_err _ _ (then_stopped texts fit 0 no_text _ _ _ _ _ _ inside (none_printed texts _ _ sound) (c.deliver_one.ensures.stays s (get_or texts 0 no_text) (fit.are 0 no_text inside) possible one)
     (c.in_err-deliver_one.ensures.stopped s (get_or texts 0 no_text) (fit.are 0 no_text inside) possible one))
 
 pub returns-in_err-deliver_one-clause-stay : goal.returns-in_err-deliver_one-clause-stay
@@ -42,7 +42,7 @@ loop-path-init g c = (
       let possible = possible_whole _ _ _ _ (is ∙ first_text texts text _ _ are) c.deliver_one.ensures.budget in
       let one = sound_of texts _ 0 no_text inside sound in
       let is_text = fit.are 0 no_text inside in
-      one_more texts fit 0 no_text _ _ _ _ _ _ inside (none_done texts _ _ sound) (c.in_ok-deliver_one.ensures.safe s first is_text possible one) (c.in_ok-deliver_one.ensures.line s first is_text possible one)
+      one_more texts fit 0 no_text _ _ _ _ _ _ inside (none_printed texts _ _ sound) (c.in_ok-deliver_one.ensures.safe s first is_text possible one) (c.in_ok-deliver_one.ensures.line s first is_text possible one)
       (c.in_ok-deliver_one.ensures.known s first is_text possible one) (c.deliver_one.ensures.stays s first is_text possible one),
   λ h word is_open. is_open,
 )

@@ -1,7 +1,7 @@
 use Rattle.std.proofs.Common.{[], inr}
 use Rattle.std.proofs.KnownBytes.{Appends-kept}
 use Rattle.std.proofs.lemmas.List.Elements.{All-head}
-use Rattle.maildir_run.specs.Several.{Text}
+use Rattle.maildir_run.specs.Several.{Mailbox}
 use Rattle.maildir_disk.specs.PowerCuts.{AreAlike}
 use Rattle.maildir_disk.proofs.Left.Lefts.{on_ok}
 use Rattle.maildir_commands.specs.Report.{report_line}
@@ -16,11 +16,11 @@ returns-in_err-deliver-clause-stopped g c = λ honest text is p sound.
 
 pub returns-in_err-deliver-clause-stays : goal.returns-in_err-deliver-clause-stays
 returns-in_err-deliver-clause-stays g c = λ honest text is p sound others named alike.
-    c.deliver.ensures.stays honest text.bytes text.messages others is.small p is.are (sound_of_one text _ sound) named (All-head (λ (t : Text). AreAlike others t.messages) text [] alike)
+    c.deliver.ensures.stays honest text.bytes text.messages others is.small p is.are (sound_of_one text _ sound) named (All-head (λ (t : Mailbox). AreAlike others t.messages) text [] alike)
 
 pub returns-clause-stays : goal.returns-clause-stays
 returns-clause-stays g c = λ honest text is p sound others named alike.
-    c.deliver.ensures.stays honest text.bytes text.messages others is.small p is.are (sound_of_one text _ sound) named (All-head (λ (t : Text). AreAlike others t.messages) text [] alike)
+    c.deliver.ensures.stays honest text.bytes text.messages others is.small p is.are (sound_of_one text _ sound) named (All-head (λ (t : Mailbox). AreAlike others t.messages) text [] alike)
 
 pub returns-clause-printed : goal.returns-clause-printed
 returns-clause-printed g c =

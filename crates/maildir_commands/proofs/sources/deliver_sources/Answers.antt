@@ -4,7 +4,7 @@ use Rattle.std.specs.Io.Buffered.{writer_contents}
 use Rattle.maildir_run.specs.Runs.{Possible}
 use Rattle.maildir_commands.specs.Machines.{Rests, bytes_of, held}
 use Rattle.maildir_commands.proofs.Resting.{rest_then}
-use Rattle.maildir_commands.proofs.Several.{all_each, all_safe, first_up, no_text, none_done, none_given, none_some, on_err, on_err_then, on_ok_then, only_first, only_length, rest_all_safe, rest_each, rest_some, rest_sound, some_given, sound_of, stay_both, stay_more, stay_none, stay_rest, then_stopped}
+use Rattle.maildir_commands.proofs.Several.{all_each, all_safe, first_up, no_text, none_printed, none_given, none_some, on_err, on_err_then, on_ok_then, only_first, only_length, rest_all_safe, rest_each, rest_some, rest_sound, some_given, sound_of, stay_both, stay_more, stay_none, stay_rest, then_stopped}
 use Rattle.maildir_commands.proofs.sources.deliver_sources.Goals as goal
 
 -- ---- nothing was opened
@@ -85,7 +85,7 @@ returns-in_default-clause-some g c = λ h texts given fit sound.
     let closes = subst (λ s. Rests (system s) (g.M.Machine.maildir_at c.close_maildir.new.self c.args.maildir.now)) c.into_system.ensures
     (c.close_maildir.ensures.closes (c.open_folder.ensures.honest h) (c.in_ok-folder.ensures.open h)) in
     on_err_then c.deliver_one-answer.result _ _ (λ stopped. rest_some texts fit.are _ _ _ _ _ _ opens closes
-    (then_stopped texts fit 0 no_text _ _ _ _ _ _ inside (none_done texts _ _ ready) (c.deliver_one-answer.ensures.stays works first is_text possible this) stopped))
+    (then_stopped texts fit 0 no_text _ _ _ _ _ _ inside (none_printed texts _ _ ready) (c.deliver_one-answer.ensures.stays works first is_text possible this) stopped))
     (c.deliver_one-answer.ensures.stopped works first is_text possible this)
 
 pub returns-in_default-clause-stay : goal.returns-in_default-clause-stay

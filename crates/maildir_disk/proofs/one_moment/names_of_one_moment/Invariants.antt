@@ -1,6 +1,6 @@
-use Rattle.maildir_run.specs.Cuts.{Left}
+use Rattle.maildir_run.specs.Cuts.{Follows}
 use Rattle.maildir_disk.specs.Quiet.{SameFiles}
-use Rattle.maildir_disk.specs.PowerCuts.{LeavesOthers}
+use Rattle.maildir_disk.specs.PowerCuts.{LeftByOthers}
 use Rattle.maildir_disk.specs.World.{Acts}
 use Rattle.maildir_disk.proofs.one_moment.names_of_one_moment.Given as goal
 
@@ -10,7 +10,7 @@ invariant-loop g l = record {
   acted : g.S.System.honest l.fn.system → record {
     honest : g.S.System.honest l.system;
     acts : Acts (g.S.System.world l.fn.system) (g.S.System.world l.system);
-    left : Left LeavesOthers (g.S.System.may_leave l.fn.system) (g.S.System.may_leave l.system);
+    left : Follows LeftByOthers (g.S.System.may_leave l.fn.system) (g.S.System.may_leave l.system);
   };
-  alone : g.S.System.quiet l.fn.system → g.S.System.quiet l.system × SameFiles (g.S.System.world l.fn.system) (g.S.System.world l.system);
+  quietly : g.S.System.quiet l.fn.system → g.S.System.quiet l.system × SameFiles (g.S.System.world l.fn.system) (g.S.System.world l.system);
 }

@@ -2,7 +2,7 @@ use Rattle.std.proofs.Common.{◌∙◌}
 use Rattle.std.specs.Time.{system_time_nanos}
 use Rattle.maildir_disk.specs.Look.{IsSettled, IsFarAhead}
 use Rattle.maildir_disk.proofs.Calls.Passing.{acts_on, looked_fault, lists_at, exact_if_settled, exact_if_ahead}
-use Rattle.maildir_disk.proofs.Left.Lefts.{others_then}
+use Rattle.maildir_disk.proofs.Left.Lefts.{left_by_others_then}
 use Rattle.maildir_disk.proofs.one_moment.take_names.Goals as goal
 
 pub returns-in_err-now-clause-looked : goal.returns-in_err-now-clause-looked
@@ -32,11 +32,11 @@ returns-in_default-2 g c = record {
       acts_on (acts_on (c.stamp.ensures.passes honest).acts (c.now.ensures.acts told)) watched;
   left = λ honest.
       let told = c.stamp.ensures.honest honest in
-      others_then (others_then (c.stamp.ensures.left honest) (c.now.ensures.left told)) (c.watched_names.ensures.left (c.now.ensures.honest told));
+      left_by_others_then (left_by_others_then (c.stamp.ensures.left honest) (c.now.ensures.left told)) (c.watched_names.ensures.left (c.now.ensures.honest told));
   quiet = λ quiet. c.watched_names.ensures.quiet (c.now.ensures.quiet (c.stamp.ensures.quiet quiet));
-  alone = λ quiet.
+  quietly = λ quiet.
       let told = c.stamp.ensures.quiet quiet in
-      c.watched_names.ensures.alone (c.now.ensures.quiet told) ∙ (c.now.ensures.alone told ∙ c.stamp.ensures.alone quiet);
+      c.watched_names.ensures.quietly (c.now.ensures.quiet told) ∙ (c.now.ensures.quietly told ∙ c.stamp.ensures.quietly quiet);
   exact = λ quiet. tt;
 }
 
@@ -83,43 +83,43 @@ returns-in_default-of g c = record {
   left = λ honest.
       let told = c.stamp.ensures.honest honest in
       let timed = c.now.ensures.honest told in
-      let so_far = others_then (others_then (c.stamp.ensures.left honest) (c.now.ensures.left told)) (c.watched_names.ensures.left timed) in
-      others_then so_far (c.now-2.ensures.left (c.watched_names.ensures.honest timed));
+      let so_far = left_by_others_then (left_by_others_then (c.stamp.ensures.left honest) (c.now.ensures.left told)) (c.watched_names.ensures.left timed) in
+      left_by_others_then so_far (c.now-2.ensures.left (c.watched_names.ensures.honest timed));
   quiet = λ quiet. c.now-2.ensures.quiet (c.watched_names.ensures.quiet (c.now.ensures.quiet (c.stamp.ensures.quiet quiet)));
-  alone = λ quiet.
+  quietly = λ quiet.
       let told = c.stamp.ensures.quiet quiet in
       let timed = c.now.ensures.quiet told in
       let read = c.watched_names.ensures.quiet timed in
-      c.now-2.ensures.alone read ∙ (c.watched_names.ensures.alone timed ∙ (c.now.ensures.alone told ∙ c.stamp.ensures.alone quiet));
+      c.now-2.ensures.quietly read ∙ (c.watched_names.ensures.quietly timed ∙ (c.now.ensures.quietly told ∙ c.stamp.ensures.quietly quiet));
   exact = λ quiet. tt;
 }
 
 pub returns-in_err-now-clause-left : goal.returns-in_err-now-clause-left
-returns-in_err-now-clause-left g c = λ honest. others_then (c.stamp.ensures.left honest) (c.now.ensures.left (c.stamp.ensures.honest honest))
+returns-in_err-now-clause-left g c = λ honest. left_by_others_then (c.stamp.ensures.left honest) (c.now.ensures.left (c.stamp.ensures.honest honest))
 
 pub returns-in-Young-clause-left : goal.returns-in-Young-clause-left
-returns-in-Young-clause-left g c = λ honest. others_then (c.stamp.ensures.left honest) (c.now.ensures.left (c.stamp.ensures.honest honest))
+returns-in-Young-clause-left g c = λ honest. left_by_others_then (c.stamp.ensures.left honest) (c.now.ensures.left (c.stamp.ensures.honest honest))
 
 pub returns-in_err-names-clause-left : goal.returns-in_err-names-clause-left
 returns-in_err-names-clause-left g c = λ honest.
     let told = c.stamp.ensures.honest honest in
-    others_then (others_then (c.stamp.ensures.left honest) (c.now.ensures.left told)) (c.watched_names.ensures.left (c.now.ensures.honest told))
+    left_by_others_then (left_by_others_then (c.stamp.ensures.left honest) (c.now.ensures.left told)) (c.watched_names.ensures.left (c.now.ensures.honest told))
 
 pub returns-in-Settled-clause-left : goal.returns-in-Settled-clause-left
 returns-in-Settled-clause-left g c = λ honest.
     let told = c.stamp.ensures.honest honest in
-    others_then (others_then (c.stamp.ensures.left honest) (c.now.ensures.left told)) (c.watched_names.ensures.left (c.now.ensures.honest told))
+    left_by_others_then (left_by_others_then (c.stamp.ensures.left honest) (c.now.ensures.left told)) (c.watched_names.ensures.left (c.now.ensures.honest told))
 
 pub returns-in_err-later-clause-left : goal.returns-in_err-later-clause-left
 returns-in_err-later-clause-left g c = λ honest.
     let told = c.stamp.ensures.honest honest in
     let timed = c.now.ensures.honest told in
-    let so_far = others_then (others_then (c.stamp.ensures.left honest) (c.now.ensures.left told)) (c.watched_names.ensures.left timed) in
-    others_then so_far (c.now-2.ensures.left (c.watched_names.ensures.honest timed))
+    let so_far = left_by_others_then (left_by_others_then (c.stamp.ensures.left honest) (c.now.ensures.left told)) (c.watched_names.ensures.left timed) in
+    left_by_others_then so_far (c.now-2.ensures.left (c.watched_names.ensures.honest timed))
 
 pub returns-in-Ahead-clause-left : goal.returns-in-Ahead-clause-left
 returns-in-Ahead-clause-left g c = λ honest.
     let told = c.stamp.ensures.honest honest in
     let timed = c.now.ensures.honest told in
-    let so_far = others_then (others_then (c.stamp.ensures.left honest) (c.now.ensures.left told)) (c.watched_names.ensures.left timed) in
-    others_then so_far (c.now-2.ensures.left (c.watched_names.ensures.honest timed))
+    let so_far = left_by_others_then (left_by_others_then (c.stamp.ensures.left honest) (c.now.ensures.left told)) (c.watched_names.ensures.left timed) in
+    left_by_others_then so_far (c.now-2.ensures.left (c.watched_names.ensures.honest timed))

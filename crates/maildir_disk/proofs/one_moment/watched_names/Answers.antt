@@ -1,9 +1,9 @@
 use Rattle.std.proofs.Common.{◌≡◌, subst, arith}
 use Rattle.std.proofs.lemmas.Grind.{common_steps}
 use Rattle.std.specs.Time.{system_time_nanos}
-use Rattle.maildir_disk.specs.World.{Tells}
+use Rattle.maildir_disk.specs.World.{IsStampWithin}
 use Rattle.maildir_disk.proofs.Calls.Passing.{acts_on, watched_fault, watched}
-use Rattle.maildir_disk.proofs.Left.Lefts.{others_then}
+use Rattle.maildir_disk.proofs.Left.Lefts.{left_by_others_then}
 use Rattle.maildir_disk.proofs.one_moment.watched_names.Goals as goal
 
 pub returns-in_err-after-clause-watched : goal.returns-in_err-after-clause-watched
@@ -18,7 +18,7 @@ returns-then-eq-clause-watched g c = λ honest.
     let end = g.S.System.world c.stamp.new.self in
     let stamp = system_time_nanos c.args.stamp in
     let same : system_time_nanos c.in_ok-after.after ≡ stamp = grind (arith, common_steps, c.if-eq.ensures) in
-    let tells : Tells c.args.sub after stamp end = subst (λ s. Tells c.args.sub after s end) same (c.in_ok-after.ensures.stamp read) in
+    let tells : IsStampWithin c.args.sub after stamp end = subst (λ s. IsStampWithin c.args.sub after s end) same (c.in_ok-after.ensures.stamp read) in
     watched (c.names.ensures.passes honest) (c.stamp.ensures.passes read) (c.in_ok-names.ensures.names honest) tells
 
 pub returns-else-eq-clause-watched : goal.returns-else-eq-clause-watched
@@ -27,10 +27,10 @@ returns-else-eq-clause-watched g c = λ honest.
     acts_on (c.names.ensures.passes honest).acts (c.stamp.ensures.passes read).acts
 
 pub returns-in_err-after-clause-left : goal.returns-in_err-after-clause-left
-returns-in_err-after-clause-left g c = λ honest. others_then (c.names.ensures.left honest) (c.stamp.ensures.left (c.names.ensures.honest honest))
+returns-in_err-after-clause-left g c = λ honest. left_by_others_then (c.names.ensures.left honest) (c.stamp.ensures.left (c.names.ensures.honest honest))
 
 pub returns-then-eq-clause-left : goal.returns-then-eq-clause-left
-returns-then-eq-clause-left g c = λ honest. others_then (c.names.ensures.left honest) (c.stamp.ensures.left (c.names.ensures.honest honest))
+returns-then-eq-clause-left g c = λ honest. left_by_others_then (c.names.ensures.left honest) (c.stamp.ensures.left (c.names.ensures.honest honest))
 
 pub returns-else-eq-clause-left : goal.returns-else-eq-clause-left
-returns-else-eq-clause-left g c = λ honest. others_then (c.names.ensures.left honest) (c.stamp.ensures.left (c.names.ensures.honest honest))
+returns-else-eq-clause-left g c = λ honest. left_by_others_then (c.names.ensures.left honest) (c.stamp.ensures.left (c.names.ensures.honest honest))

@@ -21,7 +21,7 @@ loop-init g c = record {
     holds = inl (c.in_ok-file.ensures.created honest);
     left = c.create.ensures.left honest;
   };
-  alone = λ quiet. record { quiet = c.create.ensures.quiet quiet; holds = (c.in_ok-file.ensures.alone quiet).1 };
+  quietly = λ quiet. record { quiet = c.create.ensures.quiet quiet; holds = (c.in_ok-file.ensures.quietly quiet).1 };
 }
 
 pub loop-preserved : goal.loop-preserved
@@ -43,12 +43,12 @@ loop-preserved g c =
                   holds = rw (w.at-is, ← taken bytes at n) (written_changed c.args.name.now (take at bytes) more kept.holds (rw kept.named at (w.in-Ok.ensures.appended kept.honest kept.current)));
                   left = left_both kept.left (rw kept.named at (c.append.ensures.left kept.honest));
                 };
-            alone = λ quiet.
-                let kept = c.loop.invariant.alone quiet in
+            quietly = λ quiet.
+                let kept = c.loop.invariant.quietly quiet in
                 let was = c.loop.invariant.written (g.met.S.System.quiet_is_honest _ quiet) in
                 record {
                   quiet = c.append.ensures.quiet kept.quiet;
-                  holds = rw (w.at-is, ← taken bytes at n) (grown_quietly c.args.name.now (take at bytes) more _ kept.holds (rw was.named at (w.in-Ok.ensures.alone kept.quiet was.current)));
+                  holds = rw (w.at-is, ← taken bytes at n) (grown_quietly c.args.name.now (take at bytes) more _ kept.holds (rw was.named at (w.in-Ok.ensures.quietly kept.quiet was.current)));
                 };
           }
       | in-Err+else-ne w ↦ record {
@@ -65,12 +65,12 @@ loop-preserved g c =
               ];
               left = left_both kept.left (rw kept.named at (c.append.ensures.left kept.honest));
             };
-        alone = λ quiet.
-            let kept = c.loop.invariant.alone quiet in
+        quietly = λ quiet.
+            let kept = c.loop.invariant.quietly quiet in
             let was = c.loop.invariant.written (g.met.S.System.quiet_is_honest _ quiet) in
             record {
               quiet = c.append.ensures.quiet kept.quiet;
-              holds = elim (w.in-Err.ensures.alone kept.quiet was.current) [
+              holds = elim (w.in-Err.ensures.quietly kept.quiet was.current) [
                 | inl same ↦ rw w.at-is (same ∙ kept.holds)
                 | inr other ↦ absurd (other.0 (search rules))
               ];
@@ -128,26 +128,26 @@ pub returns-clause-left : goal.returns-clause-left
 returns-clause-left g c = λ honest. left_torn (c.loop.invariant.written honest).left
 
 -- ---- in a quiet system
-pub returns-in_err-file-clause-alone : goal.returns-in_err-file-clause-alone
-returns-in_err-file-clause-alone g c = λ quiet. not_created_quietly c.args.name.now c.args.bytes.now _ _ _ c.from_residual.ensures.0 (c.in_err-file.ensures.alone quiet)
+pub returns-in_err-file-clause-quietly : goal.returns-in_err-file-clause-quietly
+returns-in_err-file-clause-quietly g c = λ quiet. not_created_quietly c.args.name.now c.args.bytes.now _ _ _ c.from_residual.ensures.0 (c.in_err-file.ensures.quietly quiet)
 
-pub returns-then-at-bytes-clause-alone : goal.returns-then-at-bytes-clause-alone
-returns-then-at-bytes-clause-alone g c = λ quiet.
-    let kept = c.loop.invariant.alone quiet in
+pub returns-then-at-bytes-clause-quietly : goal.returns-then-at-bytes-clause-quietly
+returns-then-at-bytes-clause-quietly g c = λ quiet.
+    let kept = c.loop.invariant.quietly quiet in
     let all = rw (take_all c.loop.at c.args.bytes.now (search rules)) at kept.holds in
-    written_quietly c.args.name.now c.args.bytes.now _ c.sync_file.result (c.sync_file.ensures.alone kept.quiet ∙ all)
+    written_quietly c.args.name.now c.args.bytes.now _ c.sync_file.result (c.sync_file.ensures.quietly kept.quiet ∙ all)
 
-pub returns-in-Ok-eq0-clause-alone : goal.returns-in-Ok-eq0-clause-alone
-returns-in-Ok-eq0-clause-alone g c = λ quiet.
-    let kept = c.loop.invariant.alone quiet in
+pub returns-in-Ok-eq0-clause-quietly : goal.returns-in-Ok-eq0-clause-quietly
+returns-in-Ok-eq0-clause-quietly g c = λ quiet.
+    let kept = c.loop.invariant.quietly quiet in
     let was = c.loop.invariant.written (g.met.S.System.quiet_is_honest _ quiet) in
-    appended_quietly c.args.name.now _ _ c.args.bytes.now _ _ c.append.result kept.holds (rw was.named at (c.append.ensures.alone kept.quiet was.current))
+    appended_quietly c.args.name.now _ _ c.args.bytes.now _ _ c.append.result kept.holds (rw was.named at (c.append.ensures.quietly kept.quiet was.current))
 
-pub returns-then-ne-clause-alone : goal.returns-then-ne-clause-alone
-returns-then-ne-clause-alone g c = λ quiet.
-    let kept = c.loop.invariant.alone quiet in
+pub returns-then-ne-clause-quietly : goal.returns-then-ne-clause-quietly
+returns-then-ne-clause-quietly g c = λ quiet.
+    let kept = c.loop.invariant.quietly quiet in
     let was = c.loop.invariant.written (g.met.S.System.quiet_is_honest _ quiet) in
-    appended_quietly c.args.name.now _ _ c.args.bytes.now _ _ c.append.result kept.holds (rw was.named at (c.append.ensures.alone kept.quiet was.current))
+    appended_quietly c.args.name.now _ _ c.args.bytes.now _ _ c.append.result kept.holds (rw was.named at (c.append.ensures.quietly kept.quiet was.current))
 
-pub returns-clause-alone : goal.returns-clause-alone
-returns-clause-alone g c = λ quiet. torn_quietly c.args.name.now _ c.args.bytes.now _ (c.loop.invariant.alone quiet).holds
+pub returns-clause-quietly : goal.returns-clause-quietly
+returns-clause-quietly g c = λ quiet. torn_quietly c.args.name.now _ c.args.bytes.now _ (c.loop.invariant.quietly quiet).holds

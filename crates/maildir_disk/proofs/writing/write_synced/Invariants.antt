@@ -1,6 +1,6 @@
 use Rattle.std.proofs.Common.{◌≡◌, ◌≤◌, [], length, take}
 use Rattle.maildir_run.specs.Calls.{Writing, effect}
-use Rattle.maildir_run.specs.Cuts.{Leaves, Left}
+use Rattle.maildir_run.specs.Cuts.{Leaves, Follows}
 use Rattle.maildir_disk.specs.Private.Writing.{Written}
 use Rattle.maildir_disk.proofs.writing.write_synced.Given as goal
 
@@ -13,9 +13,9 @@ invariant-loop g l = record {
     named : g.S.System.name_of l.file ≡ l.name;
     current : g.S.System.is_current l.system l.file;
     holds : Written l.name (take l.at l.bytes) (g.S.System.world l.fn.system) (g.S.System.world l.system);
-    left : Left (Leaves (Writing l.name [])) (g.S.System.may_leave l.fn.system) (g.S.System.may_leave l.system);
+    left : Follows (Leaves (Writing l.name [])) (g.S.System.may_leave l.fn.system) (g.S.System.may_leave l.system);
   };
-  alone : g.S.System.quiet l.fn.system → record {
+  quietly : g.S.System.quiet l.fn.system → record {
     quiet : g.S.System.quiet l.system;
     holds : (g.S.System.world l.system).files ≡ effect (Writing l.name (take l.at l.bytes)) (g.S.System.world l.fn.system).files;
   };

@@ -3,13 +3,13 @@ use Rattle.maildir_run.proofs.converting.convert.Goals as goal
 
 pub returns : goal.returns
 returns g c =
-    let run = c.run.ensures.is in
+    let run = c.convert_seen.ensures.is in
     let front = run.front in
     record {
       honest = run.ran.honest;
       as_planned = owes_planned run c.requires;
       left = owes_left run c.requires;
-      run = owes_run run c.requires;
+      owes = owes_run run c.requires;
       restartable = owes_restart run c.requires;
       end = owes_end run c.requires;
       quiet = run.ran.quiet;
@@ -17,10 +17,10 @@ returns g c =
       others = owes_others run c.requires;
       calls = owes_calls run c.requires;
       cause = run.ran.cause;
-      numbered = owes_numbers run c.requires;
+      call_number = owes_numbers run c.requires;
       untouched = run.untouched;
       no_from_line = owes_unread run c.requires;
       spent = owes_spent run c.requires;
-      causes = c.run.ensures.causes;
+      causes = c.convert_seen.ensures.causes;
       budget = (front.text, front.read, front.budget);
     }

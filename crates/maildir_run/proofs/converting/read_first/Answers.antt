@@ -1,5 +1,5 @@
 use Rattle.std.proofs.Common.{◌≡◌, [], arith}
-use Rattle.maildir_run.proofs.Source.Givens.{gave_more, gave_refused, some_left, none_left}
+use Rattle.maildir_run.proofs.Source.Givens.{gave_more, gave_refused, some_left, none_whole}
 use Rattle.maildir_run.proofs.Tasks.Faults.{if_err}
 use Rattle.maildir_run.proofs.converting.read_first.Goals.{then-ended-via-then-ended, then-ended-via-else-ended+then-not-is_empty}
 use Rattle.maildir_run.proofs.converting.read_first.Goals as goal
@@ -8,13 +8,13 @@ pub returns-in_err-ended-clause-refused : goal.returns-in_err-ended-clause-refus
 returns-in_err-ended-clause-refused g c =
     let i = c.pieces.invariant in
     if_err _ c.from_residual.result c.in_err-ended.field-0.0 c.from_residual.ensures.1
-    (gave_refused _ c.pieces.messages c.in_err-ended.field-0.0 i.gave c.in_err-ended.ensures.went)
+    (gave_refused _ c.pieces.reader c.in_err-ended.field-0.0 i.gave c.in_err-ended.ensures.went)
 
 pub returns-then-ended-clause-begins : goal.returns-then-ended-clause-begins
 returns-then-ended-clause-begins g c =
     let i = c.pieces.invariant in
     record {
-      gave = gave_more c.in_ok-ended.ended _ c.pieces.messages _ _ c.pieces.whole.items c.read.new.out.items i.empty i.gave c.in_ok-ended.ensures.went;
+      gave = gave_more c.in_ok-ended.ended _ c.pieces.reader _ _ c.pieces.whole.items c.read.new.out.items i.empty i.gave c.in_ok-ended.ensures.went;
       begun = λ e.
           elim c.then-ended.branch [
             | then-ended-via-then-ended w ↦ let on = w.if-ended.true in cc
@@ -25,6 +25,6 @@ returns-then-ended-clause-begins g c =
 pub pieces-preserved : goal.pieces-preserved
 pieces-preserved g c =
     let i = c.pieces.invariant in
-    let more = gave_more c.in_ok-ended.ended _ c.pieces.messages _ _ c.pieces.whole.items c.read.new.out.items i.empty i.gave c.in_ok-ended.ensures.went in
-    let none : c.read.new.out.items ≡ [] = none_left c.read.new.out.items _ c.is_empty.result c.is_empty.ensures c.if-not-is_empty.false (omega (arith, c.read.new.out.ok.0)) in
+    let more = gave_more c.in_ok-ended.ended _ c.pieces.reader _ _ c.pieces.whole.items c.read.new.out.items i.empty i.gave c.in_ok-ended.ensures.went in
+    let none : c.read.new.out.items ≡ [] = none_whole c.read.new.out.items _ c.is_empty.result c.is_empty.ensures c.if-not-is_empty.false (omega (arith, c.read.new.out.ok.0)) in
     record { gave = rw (c.if-ended.false, none) at more; empty = none }

@@ -1,12 +1,12 @@
 use Rattle.std.proofs.Common.{◌≡◌, ◌≤◌, [], take, length, None}
-use Rattle.maildir_run.proofs.Common.{tasks_of, Ran, seen}
+use Rattle.maildir_run.proofs.Common.{tasks_of, Performed, seen}
 use Rattle.maildir_run.proofs.sweep.remove_planned.Given as goal
 
 abbrev pub invariant-loop-step : goal.invariant-loop-step
 invariant-loop-step g l =
     let at = seen g.F.Folder in
     record {
-      ran : Ran (tasks_of [] (take l.step-index l.steps)) (at l.fn.folder) (at l.folder) l.fn.calls.made l.calls.made None;
+      ran : Performed (tasks_of [] (take l.step-index l.steps)) (at l.fn.folder) (at l.folder) l.fn.calls.made l.calls.made None;
       count : l.swept ≡ length (tasks_of [] (take l.step-index l.steps));
       few : l.swept ≤ l.step-index;
     }

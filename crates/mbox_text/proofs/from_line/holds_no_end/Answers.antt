@@ -1,5 +1,5 @@
-use Rattle.mbox_text.proofs.TextLines.LineEnds.{found_none}
+use Rattle.mbox_text.proofs.TextLines.LineEnds.{no_end_found}
 use Rattle.mbox_text.proofs.from_line.holds_no_end.Goals as goal
 
 pub returns : goal.returns
-returns c = found_none c.args.line.now c.memchr.result c.is_none.result c.memchr.ensures c.is_none.ensures
+returns c = no_end_found c.args.line.now c.memchr.result c.is_none.result c.memchr.ensures c.is_none.ensures

@@ -2,8 +2,8 @@ use Rattle.std.proofs.Common.{[], refl, ap, ◌∙◌}
 use Rattle.maildir_run.specs.MemFolder.{files_of}
 use Rattle.maildir_run.specs.Script.{performed}
 use Rattle.maildir_run.proofs.Memory.Scripts.{one_more}
-use Rattle.maildir_disk.proofs.Memory.Changes.{acted_on, keeps_none, keeps_on}
-use Rattle.maildir_disk.proofs.Left.Lefts.{left_none, others_then}
+use Rattle.maildir_disk.proofs.Memory.Changes.{actions_then, keeps_none, keeps_on}
+use Rattle.maildir_disk.proofs.Left.Lefts.{left_none, left_by_others_then}
 use Rattle.maildir_disk.proofs.cases.Cases.act.Goals as goal
 
 pub loop-act-init : goal.loop-act-init
@@ -16,18 +16,18 @@ loop-act-init c = record {
 }
 
 pub returns-in_err-act_once-clause-acts : goal.returns-in_err-act_once-clause-acts
-returns-in_err-act_once-clause-acts c = acted_on (files_of c.args.folder.now) c.loop-act.invariant.acts c.act_once.ensures.acts
+returns-in_err-act_once-clause-acts c = actions_then (files_of c.args.folder.now) c.loop-act.invariant.acts c.act_once.ensures.acts
 
 pub returns-in_err-act_once-clause-left : goal.returns-in_err-act_once-clause-left
 returns-in_err-act_once-clause-left c =
-    others_then c.loop-act.invariant.left c.act_once.ensures.left
+    left_by_others_then c.loop-act.invariant.left c.act_once.ensures.left
 
 pub loop-act-preserved : goal.loop-act-preserved
 loop-act-preserved c = record {
   script = record { lines = c.act_once.ensures.script.lines ∙ c.loop-act.invariant.script.lines; fail_from = c.act_once.ensures.script.fail_from ∙ c.loop-act.invariant.script.fail_from };
-  acts = acted_on (files_of c.args.folder.now) c.loop-act.invariant.acts c.act_once.ensures.acts;
+  acts = actions_then (files_of c.args.folder.now) c.loop-act.invariant.acts c.act_once.ensures.acts;
   done = one_more c.args.acts.now c.loop-act.act-index c.act-item.result (files_of c.args.folder.now) (files_of c.loop-act.folder) (files_of c.act_once.new.folder) c.loop-act-test.true c.loop-act.invariant.done
       (c.in_ok-act_once.ensures.done ∙ ap (λ act. performed act (files_of c.loop-act.folder)) c.act-item.is);
-  left = others_then c.loop-act.invariant.left c.act_once.ensures.left;
+  left = left_by_others_then c.loop-act.invariant.left c.act_once.ensures.left;
   keeps = keeps_on c.loop-act.invariant.keeps c.in_ok-act_once.ensures.keeps;
 }

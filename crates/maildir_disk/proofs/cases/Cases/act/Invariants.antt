@@ -1,11 +1,11 @@
 use Rattle.std.proofs.Common.{◌≡◌, List, take}
-use Rattle.maildir_run.specs.Cuts.{Left}
+use Rattle.maildir_run.specs.Cuts.{Follows}
 use Rattle.maildir_run.specs.Files.{Action, all_acted}
 use Rattle.maildir_run.specs.MemFolder.{SameScript, files_of}
 use Rattle.maildir_run.specs.Script.{all_performed}
 use Rattle.maildir_disk.specs.Private.Cases.{KeepsCases}
 use Rattle.maildir_disk.specs.Cases.{may_find}
-use Rattle.maildir_disk.specs.PowerCuts.{LeavesOthers}
+use Rattle.maildir_disk.specs.PowerCuts.{LeftByOthers}
 use Rattle.maildir_disk.proofs.cases.Cases.act.Given as goal
 
 abbrev pub invariant-loop-act : goal.invariant-loop-act
@@ -13,6 +13,6 @@ invariant-loop-act l = record {
   script : SameScript l.fn.folder l.folder;
   acts : (actions : List Action) × (files_of l.folder ≡ all_acted actions (files_of l.fn.folder));
   done : files_of l.folder ≡ all_performed (take l.act-index l.acts) (files_of l.fn.folder);
-  left : Left LeavesOthers (may_find l.fn.folder l.fn.self) (may_find l.folder l.self);
+  left : Follows LeftByOthers (may_find l.fn.folder l.fn.self) (may_find l.folder l.self);
   keeps : KeepsCases (may_find l.fn.folder l.fn.self) (may_find l.folder l.self) l.fn.self l.self;
 }

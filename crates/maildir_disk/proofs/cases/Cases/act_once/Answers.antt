@@ -1,7 +1,7 @@
 use Rattle.maildir_run.specs.MemFolder.{files_of}
 use Rattle.maildir_disk.specs.declared.cases.Change.TheVariants.{Half, Other}
-use Rattle.maildir_disk.proofs.Memory.Changes.{acted, acted_leaves, keeps_lost, keeps_on, left_by_change}
-use Rattle.maildir_disk.proofs.Left.Lefts.{leaves_none, on_ok, others_then}
+use Rattle.maildir_disk.proofs.Memory.Changes.{acts_of_act, acted_leaves, keeps_lost, keeps_on, left_by_change}
+use Rattle.maildir_disk.proofs.Left.Lefts.{leaves_none, on_ok, left_by_others_then}
 use Rattle.maildir_disk.proofs.cases.Cases.act_once.Goals as goal
 
 pub returns-in_err-may_lose-clause-left : goal.returns-in_err-may_lose-clause-left
@@ -11,17 +11,17 @@ returns-in_err-may_lose-clause-left c =
 pub returns-in_err-may_lose-2-clause-left : goal.returns-in_err-may_lose-2-clause-left
 returns-in_err-may_lose-2-clause-left c =
     let folder = c.args.folder.now in
-    others_then
+    left_by_others_then
     (left_by_change (Half c.args.act) folder folder c.args.self.now c.may_lose.new.self c.may_lose.ensures.more leaves_none)
     (left_by_change (Other c.args.act) folder folder c.may_lose.new.self c.may_lose-2.new.self c.may_lose-2.ensures.more leaves_none)
 
 pub returns-clause-acts : goal.returns-clause-acts
-returns-clause-acts c = acted c.args.act.now (files_of c.args.folder.now) c.act.result c.act.ensures.ok c.act.ensures.err
+returns-clause-acts c = acts_of_act c.args.act.now (files_of c.args.folder.now) c.act.result c.act.ensures.ok c.act.ensures.err
 
 pub returns-clause-left : goal.returns-clause-left
 returns-clause-left c =
     let folder = c.args.folder.now in
-    others_then
+    left_by_others_then
     (left_by_change (Half c.args.act) folder folder c.args.self.now c.may_lose.new.self c.may_lose.ensures.more leaves_none)
     (left_by_change (Other c.args.act) folder c.act.new.self c.may_lose.new.self c.may_lose-2.new.self c.may_lose-2.ensures.more (acted_leaves c.args.act.now c.act.result c.act.ensures.ok c.act.ensures.err))
 

@@ -1,6 +1,6 @@
 use Rattle.std.proofs.Common.{◌≡◌, ◌≤◌, [], Contains, length}
 use Rattle.maildir_run.specs.Calls.{Writing}
-use Rattle.maildir_run.specs.Cuts.{Leaves, Left}
+use Rattle.maildir_run.specs.Cuts.{Leaves, Follows}
 use Rattle.maildir_run.specs.Files.{Files}
 use Rattle.maildir_disk.specs.Cases.{HasRoom, lefts_of, may_find}
 use Rattle.maildir_disk.proofs.Memory.CaseLists.{LosesUpTo}
@@ -11,6 +11,6 @@ invariant-loop-end l = record {
   room : l.self.room ≡ l.fn.self.room;
   no_fewer : length (lefts_of l.fn.self) ≤ length (lefts_of l.self);
   still : (left : Files) → Contains (lefts_of l.fn.self) left → Contains (lefts_of l.self) left;
-  left : Left (Leaves (Writing l.name [])) (may_find l.folder l.fn.self) (Contains (lefts_of l.self));
+  left : Follows (Leaves (Writing l.name [])) (may_find l.folder l.fn.self) (Contains (lefts_of l.self));
   loses : HasRoom l.self → LosesUpTo l.name l.holds l.held l.folder l.fn.self l.end l.self;
 }

@@ -1,5 +1,5 @@
 use Rattle.maildir_disk.proofs.Calls.Passing.{acts_on}
-use Rattle.maildir_disk.proofs.Left.Lefts.{on_ok, others_then}
+use Rattle.maildir_disk.proofs.Left.Lefts.{on_ok, left_by_others_then}
 use Rattle.maildir_disk.proofs.Kept.Syncs.{kept_later}
 use Rattle.maildir_disk.proofs.disk_folder.DiskFolder.sync_all.Goals as goal
 
@@ -16,13 +16,13 @@ returns-clause-acts g c = λ honest.
 
 pub returns-in_err-sync_folder-2-clause-left : goal.returns-in_err-sync_folder-2-clause-left
 returns-in_err-sync_folder-2-clause-left g c = λ honest.
-    others_then (c.sync_folder.ensures.left honest) (c.sync_folder-2.ensures.left (c.in_ok-sync_folder.ensures.honest honest))
+    left_by_others_then (c.sync_folder.ensures.left honest) (c.sync_folder-2.ensures.left (c.in_ok-sync_folder.ensures.honest honest))
 
 pub returns-clause-left : goal.returns-clause-left
 returns-clause-left g c = λ honest.
     let first = c.in_ok-sync_folder.ensures.honest honest in
     let second = c.in_ok-sync_folder-2.ensures.honest first in
-    others_then (others_then (c.sync_folder.ensures.left honest) (c.sync_folder-2.ensures.left first)) (c.sync_root.ensures.left second)
+    left_by_others_then (left_by_others_then (c.sync_folder.ensures.left honest) (c.sync_folder-2.ensures.left first)) (c.sync_root.ensures.left second)
 
 pub returns-clause-synced : goal.returns-clause-synced
 returns-clause-synced g c = λ honest.

@@ -5,7 +5,7 @@ use Rattle.maildir_run.specs.Calls.{Writing, effect}
 use Rattle.maildir_run.specs.MemFolder.{files_of}
 use Rattle.maildir_disk.proofs.Calls.Pieces.{appended_fault, comes_to_none, comes_by_write}
 use Rattle.maildir_disk.specs.MemSystem.{opened_as}
-use Rattle.maildir_disk.proofs.Memory.Changes.{bytes_after, front_of, called_leaves, left_of_bytes}
+use Rattle.maildir_disk.proofs.Memory.Changes.{bytes_after, front_of_appended, called_leaves, left_of_bytes}
 use Rattle.maildir_disk.proofs.Left.Lefts.{if_ok, left_early, leaves_none, leaves_torn}
 use Rattle.std.proofs.lemmas.List.{length-take}
 use Rattle.maildir_disk.specs.Cases.{HasRoom, may_find}
@@ -30,7 +30,7 @@ pub returns-in-Ok-clause-appended : goal.returns-in-Ok-clause-appended
 returns-in-Ok-clause-appended c = λ honest current.
     let acts = c.pass_shortly.ensures.acts in
     let mid = files_of c.pass_shortly.new.self.folder in
-    let written = (rw c.in-Ok.is at (c.write.ensures.alone (c.pass_shortly.ensures.honest honest))).1 in
+    let written = (rw c.in-Ok.is at (c.write.ensures.quietly (c.pass_shortly.ensures.honest honest))).1 in
     let has : get mid.tmp (opened_as c.args.file.now) ≡ Some c.in-Some.held.now = rw c.as_str.ensures.value at (sym c.bytes_of.ensures ∙ ap option_copied c.in-Some.is) in
     let name = ap (λ n. effect (Writing n c.deref-2.result.now) mid) c.as_str-3.ensures.value in
     let bytes = ap (λ b. effect (Writing (opened_as c.args.file.now) b) mid) (c.deref-2.ensures.value ∙ c.in_ok-holds.ensures) in
@@ -82,6 +82,6 @@ returns-in-Ok-clause-loses c = λ honest has there.
           let each = bytes_after c.write.new.self c.in_ok-pass_shortly.ensures.keeps c.may_lose_bytes.ensures.no_fewer c.may_lose_bytes.ensures.room loses has (omega (arith, above)) long in
           record {
             without = λ left may. (each left may).0;
-            also = λ left may. subst (λ front. may_find c.write.new.self new (changed name (λ _. front) left)) (front_of held bytes below) (each left may).1;
+            also = λ left may. subst (λ front. may_find c.write.new.self new (changed name (λ _. front) left)) (front_of_appended held bytes below) (each left may).1;
           };
     }

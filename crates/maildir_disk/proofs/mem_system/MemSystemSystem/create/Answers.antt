@@ -21,7 +21,7 @@ returns-in-Err-clause-created c = λ honest.
 pub returns-in-Ok-clause-created : goal.returns-in-Ok-clause-created
 returns-in-Ok-clause-created c = λ honest.
     let acts = c.pass_shortly.ensures.acts in
-    let written = (rw c.in-Ok.is at (c.write.ensures.alone (c.pass_shortly.ensures.honest honest))).1 in
+    let written = (rw c.in-Ok.is at (c.write.ensures.quietly (c.pass_shortly.ensures.honest honest))).1 in
     record { before = acts.actions; rest = []; left = written ∙ ap (effect (Writing c.args.name.now [])) acts.files_are }
 
 pub returns-in_err-from_str-clause-left : goal.returns-in_err-from_str-clause-left
@@ -48,7 +48,7 @@ returns-in-Err-clause-left c = λ honest.
 pub returns-in-Ok-clause-loses : goal.returns-in-Ok-clause-loses
 returns-in-Ok-clause-loses c = λ honest has.
     let mid = c.pass_shortly.new.self in
-    let written = (rw c.in-Ok.is at (c.write.ensures.alone (c.pass_shortly.ensures.honest honest))).1 in
+    let written = (rw c.in-Ok.is at (c.write.ensures.quietly (c.pass_shortly.ensures.honest honest))).1 in
     let loses = if_ok c.may_lose.result (HasRoom c.may_lose.new.self → Loses (Make c.args.name) (files_of mid.folder) mid.cases c.may_lose.new.self) (search rules) c.may_lose.ensures.loses in
     let there = lost_after mid.folder c.write.new.self c.in_ok-pass_shortly.ensures.keeps c.may_lose.ensures.more c.may_lose.ensures.room loses written has in
     record { without = λ left may. (there left may).0; also = λ left may. (there left may).1 }

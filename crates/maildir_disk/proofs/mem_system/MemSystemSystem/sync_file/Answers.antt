@@ -3,7 +3,7 @@ use Rattle.std.specs.FinMap.{get}
 use Rattle.maildir_run.specs.Files.{Files}
 use Rattle.maildir_run.specs.MemFolder.{files_of}
 use Rattle.maildir_disk.proofs.Memory.Changes.{left_stayed}
-use Rattle.maildir_disk.proofs.Left.Lefts.{others_then}
+use Rattle.maildir_disk.proofs.Left.Lefts.{left_by_others_then}
 use Rattle.maildir_disk.proofs.mem_system.MemSystemSystem.sync_file.Goals as goal
 
 pub returns-clause-left : goal.returns-clause-left
@@ -11,4 +11,4 @@ returns-clause-left c = λ honest.
     let mid = c.pass_shortly.new.self in
     let name = c.as_str.result.now in
     let alike = λ (s : Files). get s.tmp name ≡ get (files_of mid.folder).tmp name in
-    others_then c.pass_shortly.ensures.left (left_stayed alike mid.folder mid.cases c.keep_file.new.self c.keep_file.ensures.stays)
+    left_by_others_then c.pass_shortly.ensures.left (left_stayed alike mid.folder mid.cases c.keep_file.new.self c.keep_file.ensures.stays)

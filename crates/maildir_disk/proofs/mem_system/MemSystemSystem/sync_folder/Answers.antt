@@ -5,14 +5,14 @@ use Rattle.maildir_run.specs.Files.{Files}
 use Rattle.maildir_run.specs.MemFolder.{files_of}
 use Rattle.maildir_disk.specs.MemSystem.{world_of}
 use Rattle.maildir_disk.proofs.Memory.Changes.{left_stayed, names_stayed}
-use Rattle.maildir_disk.proofs.Left.Lefts.{others_then}
+use Rattle.maildir_disk.proofs.Left.Lefts.{left_by_others_then}
 use Rattle.maildir_disk.proofs.mem_system.MemSystemSystem.sync_folder.Goals as goal
 
 pub returns-clause-left : goal.returns-clause-left
 returns-clause-left c = λ honest.
     let mid = c.pass_shortly.new.self in
     let alike = λ (s : Files). keys (folder_of c.sub_of.result s) ≡ keys (folder_of c.sub_of.result (files_of mid.folder)) in
-    others_then c.pass_shortly.ensures.left (left_stayed alike mid.folder mid.cases c.keep_names.new.self c.keep_names.ensures.stays)
+    left_by_others_then c.pass_shortly.ensures.left (left_stayed alike mid.folder mid.cases c.keep_names.new.self c.keep_names.ensures.stays)
 
 pub returns-clause-names : goal.returns-clause-names
 returns-clause-names c = λ honest.

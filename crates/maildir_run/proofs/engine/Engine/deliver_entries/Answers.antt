@@ -1,28 +1,28 @@
 use Rattle.std.proofs.Common.{◌+◌, ◌<◌, [], ◌++◌, length, take, drop, ◌∙◌, arith, refl}
 use Rattle.maildir_run.proofs.Common.{bodies_of}
 use Rattle.maildir_run.proofs.Run.Batches.{bodies_next, bodies_split, few_next}
-use Rattle.maildir_run.proofs.Run.Bringing.{brought_none, brought_then, brought_before}
+use Rattle.maildir_run.proofs.Run.Delivering.{delivers_none, delivers_then, delivers_before}
 use Rattle.maildir_run.proofs.engine.Engine.deliver_entries.Goals as goal
 
 pub loop-entry-init : goal.loop-entry-init
 loop-entry-init g c = record {
-  brought = λ bodies named few. brought_none _ bodies _ _ _ _ named;
+  delivers = λ bodies named few. delivers_none _ bodies _ _ _ _ named;
   there = refl;
   swept = refl;
   count = omega arith;
 }
 
-pub returns-in_err-deliver-clause-brought : goal.returns-in_err-deliver-clause-brought
-returns-in_err-deliver-clause-brought g c = λ bodies named few.
+pub returns-in_err-deliver-clause-delivers : goal.returns-in_err-deliver-clause-delivers
+returns-in_err-deliver-clause-delivers g c = λ bodies named few.
     let i = c.loop-entry.entry-index in
     let entries = c.args.entries.now in
     let entry = c.entry-item.result in
     let lt : i < length entries = c.loop-entry-test.true in
     let before = c.loop-entry.invariant in
-    let first = before.brought bodies named few in
-    let then = rw (before.there, c.as_slice.ensures) at (c.in_err-deliver.ensures.brought (bodies ++ bodies_of (take i entries)) (first.named refl) (few_next entries i entry lt c.entry-item.is bodies few)) in
+    let first = before.delivers bodies named few in
+    let then = rw (before.there, c.as_slice.ensures) at (c.in_err-deliver.ensures.delivers (bodies ++ bodies_of (take i entries)) (first.named refl) (few_next entries i entry lt c.entry-item.is bodies few)) in
     rw (bodies_split entries i entry lt c.entry-item.is [])
-    (brought_before c.from_residual.result _ bodies _ (bodies_of (drop (i + 1) entries)) _ _ _ _ _ _ _ c.from_residual.ensures.1 (brought_then first then))
+    (delivers_before c.from_residual.result _ bodies _ (bodies_of (drop (i + 1) entries)) _ _ _ _ _ _ _ c.from_residual.ensures.1 (delivers_then first then))
 
 pub loop-entry-preserved : goal.loop-entry-preserved
 loop-entry-preserved g c =
@@ -34,10 +34,10 @@ loop-entry-preserved g c =
     let count = before.count in
     let one = c.in_ok-deliver.ensures.one in
     record {
-      brought = λ bodies named few.
-          let first = before.brought bodies named few in
-          let then = rw (before.there, c.as_slice.ensures) at (c.in_ok-deliver.ensures.brought (bodies ++ bodies_of (take i entries)) (first.named refl) (few_next entries i entry lt c.entry-item.is bodies few)) in
-          rw (bodies_next entries i entry lt c.entry-item.is []) (brought_then first then);
+      delivers = λ bodies named few.
+          let first = before.delivers bodies named few in
+          let then = rw (before.there, c.as_slice.ensures) at (c.in_ok-deliver.ensures.delivers (bodies ++ bodies_of (take i entries)) (first.named refl) (few_next entries i entry lt c.entry-item.is bodies few)) in
+          rw (bodies_next entries i entry lt c.entry-item.is []) (delivers_then first then);
       there = c.in_ok-deliver.ensures.there ∙ before.there;
       swept = c.in_ok-deliver.ensures.swept ∙ before.swept;
       count = omega arith;

@@ -18,8 +18,8 @@ returns-in_err-mode-clause-left c = called_left (Writing c.args.name.now c.args.
 pub returns-clause-left : goal.returns-clause-left
 returns-clause-left c = called_left (Writing c.args.name.now c.args.bytes.now) _ c.count_call.result _ (returns-clause-called c)
 
-pub returns-in_err-mode-clause-alone : goal.returns-in_err-mode-clause-alone
-returns-in_err-mode-clause-alone c = λ quiet. absurd (never_cut c.args.self.now _ _ quiet c.in_err-mode.ensures.err)
+pub returns-in_err-mode-clause-quietly : goal.returns-in_err-mode-clause-quietly
+returns-in_err-mode-clause-quietly c = λ quiet. absurd (never_cut c.args.self.now _ _ quiet c.in_err-mode.ensures.err)
 
 pub returns-in_err-mode-clause-err : goal.returns-in_err-mode-clause-err
 returns-in_err-mode-clause-err c = λ quiet. absurd (never_cut c.args.self.now _ _ quiet c.in_err-mode.ensures.err)

@@ -1,0 +1,121 @@
+// The messages of a source, read piece by piece under a budget of reads.
+ghost use Rattle.std.specs.Prelude.{◌≡◌, ◌⊎◌, ◌<◌, ◌≤◌, ◌+◌, ◌++◌, [], List, ℕ, Option, length, take, vec_len, IfOk, OnOk, IfErr, IsErrOf, MatchResult, option_to_list};
+ghost use Rattle.std.specs.Io.KnownBytes.{Consumes, IsAtEnd};
+ghost use Rattle.mbox_text.specs.Fed.{Fed, Takes, NeverBegins, GivesLast, IsTooShort};
+
+use crate::fault::RunFault;
+use mbox_text::{Entry, Splitter, TextFault};
+use std::alloc::{AllocError, Global};
+use std::io::Read;
+use std::mem;
+
+/// How many bytes one read asks for.
+const PIECE: usize = 65536;
+
+/// Reads a source and gives its messages as they become whole, under a budget of reads.
+#[derive(Drop)]
+pub(crate) struct Reader {
+    alloc: Global,
+    buffer: Vec<u8>,
+    splitter: Splitter,
+    reads_left: u64,
+    ghost roomy: { vec_len buffer ≡ 65536 },
+}
+
+impl Reader {
+    ghost use Rattle.maildir_run.specs.Reading.{IsReading};
+    ghost use Rattle.maildir_run.specs.Private.Reading.{Went};
+
+    /// Nothing was read. So many reads may be made.
+    pub(crate) fn new(alloc: Global, reads: u64) -> Result<Reader, AllocError>
+        ensures { IfOk result (λ reader. Fed [] [] reader.splitter × (reader.reads_left ≡ reads)) }
+    {
+        Ok(Reader {
+            alloc,
+            buffer: vec![in alloc; 0; PIECE]?,
+            splitter: Splitter::new(alloc),
+            reads_left: reads,
+        })
+    }
+
+    /// Makes one read, and appends each message that is whole now. True where the source is at its end: then the last
+    /// message was appended too, and no read is to follow.
+    ///
+    /// Errors: `TooManyReads` where no read is left, and then none is made; `ReadFault`; `NoFromLine` as soon as what was
+    /// read can't begin an mbox text; `OutOfMemory`.
+    pub(crate) fn read<R: Read>(
+        &mut self,
+        source: &mut R,
+        out: &mut Vec<Entry>,
+    ) -> Result<bool, RunFault>
+        ensures went { Went self.old (R.remaining source.old) (R.remaining source.new) out.old.items out.new.items self.new.splitter self.new.reads_left result }
+        ensures causes { IfErr result IsReading }
+    {
+        spend(&mut self.reads_left)?;
+        let n = read_piece(source, &mut self.buffer)?;
+        if n == 0 {
+            let splitter = mem::replace(&mut self.splitter, Splitter::new(self.alloc));
+            finish(splitter, out)?;
+            return Ok(true);
+        }
+        feed(&mut self.splitter, &self.buffer[..n], out)?;
+        Ok(false)
+    }
+}
+
+/// Takes one read from a budget.
+fn spend(reads: &mut u64) -> Result<(), RunFault>
+    ensures spent { OnOk result (reads.new + 1 ≡ reads.old) }
+    ensures refused { IfErr result (λ fault. (fault ≡ RunFault.TooManyReads) × (reads.old ≡ 0)) }
+{
+    match reads.checked_sub(1) {
+        Some(left) => {
+            *reads = left;
+            Ok(())
+        }
+        None => Err(RunFault::TooManyReads),
+    }
+}
+
+/// Makes one read into the buffer, and says how many bytes it gave: none only at the source's end.
+fn read_piece<R: Read>(source: &mut R, buffer: &mut [u8]) -> Result<usize, RunFault>
+    requires { 0 < length buffer.old }
+    ensures gave { MatchResult result
+        (λ n. (n ≤ length buffer.new) × Consumes (R.remaining source.old) (R.remaining source.new) (take n buffer.new) × (n ≡ 0 → IsAtEnd (R.remaining source.new)))
+        (λ fault. (fault ≡ RunFault.ReadFault) × Consumes (R.remaining source.old) (R.remaining source.new) []) }
+{
+    match source.read(buffer) {
+        Ok(n) => Ok(n),
+        Err(_) => Err(RunFault::ReadFault),
+    }
+}
+
+/// Feeds a splitter that no call refused.
+fn feed(splitter: &mut Splitter, piece: &[u8], out: &mut Vec<Entry>) -> Result<(), RunFault>
+    ensures fed { OnOk result (Takes splitter.old piece.now out.old.items out.new.items splitter.new) }
+    ensures no_from_line { IsErrOf result RunFault.NoFromLine → NeverBegins splitter.old piece.now out.old.items out.new.items }
+    ensures causes { IfErr result (λ fault. (fault ≡ RunFault.NoFromLine) ⊎ (fault ≡ RunFault.OutOfMemory)) }
+{
+    match splitter.feed(piece, out) {
+        Ok(()) => Ok(()),
+        Err(TextFault::NoFromLine) => Err(RunFault::NoFromLine),
+        Err(_) => Err(RunFault::OutOfMemory),
+    }
+}
+
+/// Appends the last message of a splitter that no call refused.
+fn finish(splitter: Splitter, out: &mut Vec<Entry>) -> Result<(), RunFault>
+    ensures last { OnOk result ((last : Option Entry) × (out.new.items ≡ out.old.items ++ option_to_list last) × GivesLast splitter last) }
+    ensures no_from_line { IsErrOf result RunFault.NoFromLine → (text : List ℕ) (given : List Entry) → Fed text given splitter → IsTooShort text }
+    ensures causes { IfErr result (λ fault. (fault ≡ RunFault.NoFromLine) ⊎ (fault ≡ RunFault.OutOfMemory)) }
+{
+    match splitter.finish() {
+        Ok(None) => Ok(()),
+        Ok(Some(last)) => {
+            out.push(last)?;
+            Ok(())
+        }
+        Err(TextFault::NoFromLine) => Err(RunFault::NoFromLine),
+        Err(_) => Err(RunFault::OutOfMemory),
+    }
+}

@@ -1,0 +1,106 @@
+// A table of the messages of a text, with the targets that a conversion would give them.
+ghost use Rattle.std.specs.Prelude.{◌≡◌, ◌⊎◌, ◌*◌, ◌^◌, ◌≤◌, ◌∷◌, [], IfOk, OnOk, OnErr, IfErr, IsErrOf};
+ghost use Rattle.std.specs.Io.KnownBytes.{IsAtEnd};
+ghost use Rattle.mbox_text.specs.FromLine.{IsFromLine};
+ghost use Rattle.mbox_text.specs.Spelling.{FromLines};
+ghost use Rattle.maildir_run.specs.Private.TableSoFar.{HasListed, ListsMore};
+ghost use Rattle.maildir_run.specs.Table.{table_of};
+ghost use Rattle.maildir_run.specs.Output.{GivesAll, GivesFront, GivesNothing};
+ghost use Rattle.maildir_run.specs.Reading.{IsReading, ReadsAtLeast, ReadsAtMost};
+
+use crate::fault::RunFault;
+use crate::row::row_of;
+use crate::reader::Reader;
+use maildir_name::Namer;
+use mbox_text::{Entry, write_bytes};
+use std::alloc::Global;
+use std::io::{Read, Write};
+
+/// Writes one row for each message of the source's text, in their order, and answers how many there are: the message's
+/// number from 1, its base, its place (`new` or `cur`), its info or `-`, the size of its body in bytes, and its sender with
+/// `?` for each byte outside 0x21 to 0x7E, or `-`. At most `reads` reads are made, each for at most 65,536 bytes. One
+/// message is held at a time, beside what one read gave and the digests that were given.
+///
+/// Errors: `NoFromLine` where the text is not empty and doesn't begin with `From `, told as soon as the bytes decide, and
+/// then nothing was written; `ReadFault`; `TooManyReads` where `reads` reads didn't meet the end; `OutputFault`;
+/// `OutOfMemory`. What was written then is a front of what belongs to the text.
+pub fn list_text<R: Read, W: Write>(
+    alloc: Global,
+    source: &mut R,
+    out: &mut W,
+    reads: u64,
+) -> Result<u64, RunFault>
+    requires { reads ≤ 2 ^ 40 }
+    ensures all { IfOk result (GivesAll table_of (R.remaining source.old) (W.contents out.old) (W.contents out.new)) }
+    ensures end { OnOk result (IsAtEnd (R.remaining source.new)) }
+
+    // after a refusal
+    ensures front { OnErr result (GivesFront table_of (R.remaining source.old) (R.remaining source.new) (W.contents out.old) (W.contents out.new)) }
+    ensures no_from_line { IsErrOf result RunFault.NoFromLine → GivesNothing (R.remaining source.old) (R.remaining source.new) (W.contents out.old) (W.contents out.new) }
+    ensures spent { IsErrOf result RunFault.TooManyReads → ReadsAtLeast (R.remaining source.old) (R.remaining source.new) reads }
+    ensures causes { IfErr result (λ fault. IsReading fault ⊎ (fault ≡ RunFault.OutputFault)) }
+
+    ensures budget { ReadsAtMost (R.remaining source.old) (R.remaining source.new) (65536 * reads) }
+{
+    let mut reader = Reader::new(alloc, reads)?;
+    let mut lister = Lister::new(alloc);
+    let mut whole = Vec::new(alloc);
+    'pieces: loop {
+        let ended = reader.read(source, &mut whole)?;
+        lister.list(&whole, out)?;
+        if ended {
+            return Ok(lister.count);
+        }
+        whole.clear();
+    }
+}
+
+/// Lists messages one after the other.
+#[derive(Drop)]
+struct Lister {
+    alloc: Global,
+    namer: Namer,
+    count: u64,
+}
+
+impl Lister {
+    // Nothing was listed.
+    fn new(alloc: Global) -> Lister
+        ensures { HasListed [] result.namer result.count }
+    {
+        Lister {
+            alloc,
+            namer: Namer::new(alloc),
+            count: 0,
+        }
+    }
+
+    // Writes the rows of some messages.
+    fn list<W: Write>(&mut self, entries: &[Entry], out: &mut W) -> Result<(), RunFault>
+        requires { FromLines entries.now }
+        ensures lists { ListsMore self.old.namer self.old.count entries.now (W.contents out.old) (W.contents out.new) result self.new.namer self.new.count }
+        ensures causes { IfErr result (λ fault. (fault ≡ RunFault.OutputFault) ⊎ (fault ≡ RunFault.OutOfMemory)) }
+    {
+        for entry in entries {
+            self.list_one(entry, out)?;
+        }
+        Ok(())
+    }
+
+    // Writes the row of a message.
+    fn list_one<W: Write>(&mut self, entry: &Entry, out: &mut W) -> Result<(), RunFault>
+        requires { IsFromLine entry.now.from_line }
+        ensures lists { ListsMore self.old.namer self.old.count (entry.now ∷ []) (W.contents out.old) (W.contents out.new) result self.new.namer self.new.count }
+        ensures causes { IfErr result (λ fault. (fault ≡ RunFault.OutputFault) ⊎ (fault ≡ RunFault.OutOfMemory)) }
+    {
+        let Ok(target) = self.namer.target(entry.body.as_slice()) else {
+            return Err(RunFault::OutOfMemory);
+        };
+        self.count = self.count.saturating_add(1);
+        let row = row_of(self.alloc, self.count, entry, &target)?;
+        match write_bytes(&row, out) {
+            Ok(()) => Ok(()),
+            Err(_) => Err(RunFault::OutputFault),
+        }
+    }
+}
