@@ -40,7 +40,8 @@ run_has ms old new report keeps b named =
           ap (has_home new) (sym (is_name-true found.1.target.base b found.4)) ∙ (ap is_any home ∙ ap (λ x. x || has_home old b) (sym on))
     ]
 
-pub both_have : (ms : List Message) (old : Files) (mid new : World) (report : Report) → Keeps ms old (Ok report) mid.files → Acts mid new → HasAlso ms old new.files
+pub both_have : (ms : List Message) (old : Files) (mid new : World) (report : Report)
+    → Keeps ms old (Ok report) mid.files → Acts mid new → HasAlso ms old new.files
 both_have ms old mid new report keeps acts b named =
     (ap (λ s. has_home s b) acts.files_are ∙ acted_has b named acts.actions mid.files) ∙ run_has ms old mid.files report keeps b named
 
@@ -48,7 +49,8 @@ both_have ms old mid new report keeps acts b named =
 pub of_reports : (text : Mailbox) (old : Files) (report : Report) → ReportsMessages text.messages old report → IsReportOf (has_home old) text report
 of_reports text old report true_of = record { messages = true_of.messages; there = true_of.there; placed = true_of.placed }
 
-count_agree : (has had : List ℕ → Bool) → Agree has had → (ms : List Message) → AreNamed ms → count_by (λ (m : Message). has m.target.base) ms ≡ count_by (λ (m : Message). had m.target.base) ms
+count_agree : (has had : List ℕ → Bool) → Agree has had → (ms : List Message) → AreNamed ms
+    → count_by (λ (m : Message). has m.target.base) ms ≡ count_by (λ (m : Message). had m.target.base) ms
 count_agree has had agree [] named = refl
 count_agree has had agree (m ∷ ms) named =
     let first : IsTrue (is_converter_base m.target.base) = All-head (λ (n : Message). IsTrue (is_converter_base n.target.base)) m ms named in
@@ -57,21 +59,28 @@ count_agree has had agree (m ∷ ms) named =
     ∙ (ap (λ k. cond (had m.target.base) 1 0 + k) (count_agree has had agree ms rest)
     ∙ sym (count-cons (λ (n : Message). had n.target.base) m ms (had m.target.base) refl))
 
-pub report_agree : (has had : List ℕ → Bool) → Agree has had → (text : Mailbox) → AreNamed text.messages → (report : Report) → IsReportOf had text report → IsReportOf has text report
+pub report_agree : (has had : List ℕ → Bool) → Agree has had → (text : Mailbox) → AreNamed text.messages
+    → (report : Report) → IsReportOf had text report → IsReportOf has text report
 report_agree has had agree text named report is =
     let same = count_agree has had agree text.messages named in
-    record { messages = is.messages; there = subst (λ k. report.there ≡ k) (sym same) is.there; placed = subst (λ k. report.placed ≡ length text.messages - k) (sym same) is.placed }
+    record {
+      messages = is.messages;
+      there = subst (λ k. report.there ≡ k) (sym same) is.there;
+      placed = subst (λ k. report.placed ≡ length text.messages - k) (sym same) is.placed;
+    }
 
 pub also_agree : (has had : List ℕ → Bool) → Agree has had → (text : Mailbox) → Agree (also has text) (also had text)
 also_agree has had agree text b named = ap (λ x. is_base_of text.messages b || x) (agree b named)
 
-pub reports_agree : (has had : List ℕ → Bool) → Agree has had → (texts : List Mailbox) → All (λ text. AreNamed text.messages) texts → (reports : List Report) → AreReportsOf had texts reports → AreReportsOf has texts reports
+pub reports_agree : (has had : List ℕ → Bool) → Agree has had → (texts : List Mailbox) → All (λ text. AreNamed text.messages) texts
+    → (reports : List Report) → AreReportsOf had texts reports → AreReportsOf has texts reports
 reports_agree has had agree [] named [] is = tt
 reports_agree has had agree [] named (report ∷ reports) is = absurd is
 reports_agree has had agree (text ∷ texts) named [] is = absurd is
 reports_agree has had agree (text ∷ texts) named (report ∷ reports) (first, rest) = (
   report_agree has had agree text (All-head (λ (t : Mailbox). AreNamed t.messages) text texts named) report first,
-  reports_agree (also has text) (also had text) (also_agree has had agree text) texts (All-tail (λ (t : Mailbox). AreNamed t.messages) text texts named) reports rest,
+  reports_agree (also has text) (also had text) (also_agree has had agree text) texts
+      (All-tail (λ (t : Mailbox). AreNamed t.messages) text texts named) reports rest,
 )
 
 -- which bases have a home once texts were delivered
@@ -83,7 +92,8 @@ pub also_all-last : (has : List ℕ → Bool) (texts : List Mailbox) (text : Mai
 also_all-last has [] text = refl
 also_all-last has (first ∷ texts) text = also_all-last (also has first) texts text
 
-pub reports_more : (has : List ℕ → Bool) (texts : List Mailbox) (reports : List Report) (text : Mailbox) (report : Report) → AreReportsOf has texts reports → IsReportOf (also_all has texts) text report → AreReportsOf has (texts ++ text ∷ []) (reports ++ report ∷ [])
+pub reports_more : (has : List ℕ → Bool) (texts : List Mailbox) (reports : List Report) (text : Mailbox) (report : Report)
+    → AreReportsOf has texts reports → IsReportOf (also_all has texts) text report → AreReportsOf has (texts ++ text ∷ []) (reports ++ report ∷ [])
 reports_more has [] [] text report before is = (is, tt)
 reports_more has [] (other ∷ reports) text report before is = absurd before
 reports_more has (first ∷ texts) [] text report before is = absurd before

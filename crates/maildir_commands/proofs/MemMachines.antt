@@ -11,7 +11,8 @@ use Rattle.maildir_commands.specs.Machines.{Rests}
 use Rattle.maildir_commands.specs.MemMachines.{AreQuiet, held_at, held_under_word}
 use Rattle.maildir_commands.proofs.Resting.{rest_same}
 
-module _ {X : Type 0} (old new : BTreeMap (String X) (Option MemSystem)) (path : List ℕ) (slot : Option MemSystem) (looked : (word : List ℕ) → get_by_text new word ≡ update bytes_eq (get_by_text old) path (Some slot) word) where
+module _ {X : Type 0} (old new : BTreeMap (String X) (Option MemSystem)) (path : List ℕ) (slot : Option MemSystem)
+    (looked : (word : List ℕ) → get_by_text new word ≡ update bytes_eq (get_by_text old) path (Some slot) word) where
   off_path : (word : List ℕ) → ¬ IsTrue (bytes_eq path word) → get_by_text new word ≡ get_by_text old word
   off_path word other = elim (cases_Bool (bytes_eq path word)) as (λ _. get_by_text new word ≡ get_by_text old word) [
     | inl on ↦ absurd (other on)
@@ -36,8 +37,11 @@ module _ {X : Type 0} (old new : BTreeMap (String X) (Option MemSystem)) (path :
     | inr off ↦ quiet word system (sym (looked word ∙ ap (λ t. cond t (Some slot) (get_by_text old word)) off) ∙ is)
   ]
 
-pub same_rests : {X : Type 0} (old new : BTreeMap (String X) (Option MemSystem)) → new ≡ old → (word : List ℕ) → Rests (held_under_word old word) (held_under_word new word)
-same_rests old new same word = subst (λ maildirs. Rests (held_under_word old word) (held_under_word maildirs word)) (sym same) (rest_same (held_under_word old word))
+pub same_rests : {X : Type 0} (old new : BTreeMap (String X) (Option MemSystem)) → new ≡ old
+    → (word : List ℕ) → Rests (held_under_word old word) (held_under_word new word)
+same_rests old new same word =
+    subst (λ maildirs. Rests (held_under_word old word) (held_under_word maildirs word)) (sym same) (rest_same (held_under_word old word))
 
-pub found_rests : {X : Type 0} (old : BTreeMap (String X) (Option MemSystem)) (path : List ℕ) (system : MemSystem) → get_by_text old path ≡ Some (Some system) → Rests (held_under_word old path) (held_at (Some (Some system)))
+pub found_rests : {X : Type 0} (old : BTreeMap (String X) (Option MemSystem)) (path : List ℕ) (system : MemSystem)
+    → get_by_text old path ≡ Some (Some system) → Rests (held_under_word old path) (held_at (Some (Some system)))
 found_rests old path system is = subst (λ found. Rests (held_at found) (held_at (Some (Some system)))) (sym is) (rest_same (held_at (Some (Some system))))

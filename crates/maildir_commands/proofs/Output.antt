@@ -14,7 +14,8 @@ use Rattle.maildir_run.specs.Several.{Mailbox}
 use Rattle.maildir_commands.proofs.Several.{front_of_all}
 
 -- what was given to a buffer that was handed on whole
-pub handed : (was given kept inner : Option (List ℕ)) (pending bytes : List ℕ) → Appends was given bytes → Keeps given kept → kept ≡ append_known inner pending → pending ≡ [] → Appends was inner bytes
+pub handed : (was given kept inner : Option (List ℕ)) (pending bytes : List ℕ) → Appends was given bytes
+    → Keeps given kept → kept ≡ append_known inner pending → pending ≡ [] → Appends was inner bytes
 handed None given kept inner pending bytes grown keeps is none = tt
 handed (Some x) None kept inner pending bytes grown keeps is none = absurd grown
 handed (Some x) (Some y) None inner pending bytes grown keeps is none = absurd keeps
@@ -24,10 +25,12 @@ handed (Some x) (Some y) (Some z) (Some i) pending bytes grown keeps is none =
     let inner_is : z ≡ i = cc in
     sym inner_is ∙ (keeps ∙ grown)
 
-module _ (was given kept inner : Option (List ℕ)) (pending : List ℕ) (keeps : Keeps given kept) (is : kept ≡ append_known inner pending) (none : pending ≡ []) where
+module _ (was given kept inner : Option (List ℕ)) (pending : List ℕ) (keeps : Keeps given kept)
+    (is : kept ≡ append_known inner pending) (none : pending ≡ []) where
   pub handed_all : (output : List Entry → List ℕ) (source : Option (List ℕ)) → WritesAll output source was given → WritesAll output source was inner
   handed_all output None (count, all) = (count, all)
-  handed_all output (Some t) (count, (entries, mbox, many, grown)) = (count, (entries, mbox, many, handed was given kept inner pending (output entries) grown keeps is none))
+  handed_all output (Some t) (count, (entries, mbox, many, grown)) =
+      (count, (entries, mbox, many, handed was given kept inner pending (output entries) grown keeps is none))
 
   pub handed_reports : (runs : ℕ) → PrintsReports was given runs → PrintsReports was inner runs
   handed_reports runs (reports, many, grown) = (reports, many, handed was given kept inner pending _ grown keeps is none)
@@ -36,11 +39,14 @@ module _ (was given kept inner : Option (List ℕ)) (pending : List ℕ) (keeps 
   handed_each old texts each = record { reports = each.reports; true_of = each.true_of; lines = handed was given kept inner pending _ each.lines keeps is none }
 
 -- what was written whole, and then not handed on
-pub all_front : (output : List Entry → List ℕ) (t : List ℕ) (was given kept : Option (List ℕ)) → Keeps given kept → WritesAll output (Some t) was given → WritesFront output t was kept
+pub all_front : (output : List Entry → List ℕ) (t : List ℕ) (was given kept : Option (List ℕ))
+    → Keeps given kept → WritesAll output (Some t) was given → WritesFront output t was kept
 all_front output t was given kept keeps (count, (these, mbox, many, grown)) entries is =
-    front_of_all was kept (output entries) (Appends-kept was given kept (output entries) (subst (λ es. Appends was given (output es)) (mbox-one t these entries mbox is) grown) keeps)
+    front_of_all was kept (output entries)
+    (Appends-kept was given kept (output entries) (subst (λ es. Appends was given (output es)) (mbox-one t these entries mbox is) grown) keeps)
 
-pub some_kept : (old new : HeldMaildir) (texts : List Mailbox) (was given kept : Option (List ℕ)) → Keeps given kept → PrintsSome old new texts was given → PrintsSome old new texts was kept
+pub some_kept : (old new : HeldMaildir) (texts : List Mailbox) (was given kept : Option (List ℕ))
+    → Keeps given kept → PrintsSome old new texts was given → PrintsSome old new texts was kept
 some_kept old new texts was given kept keeps some =
     let lines = some.lines in
     record {
@@ -51,7 +57,8 @@ some_kept old new texts was given kept keeps some =
       lines = (lines.0, lines.1, lines.2, Appends-kept was given kept lines.0 lines.3 keeps);
     }
 
-pub each_some : (old new : HeldMaildir) (texts : List Mailbox) (was given kept : Option (List ℕ)) → Keeps given kept → PrintsEach old texts was given → AreAllSafe texts new → PrintsSome old new texts was kept
+pub each_some : (old new : HeldMaildir) (texts : List Mailbox) (was given kept : Option (List ℕ))
+    → Keeps given kept → PrintsEach old texts was given → AreAllSafe texts new → PrintsSome old new texts was kept
 each_some old new texts was given kept keeps each safe =
     let whole : take (length texts) texts ≡ texts = take-length texts in
     record {

@@ -13,7 +13,8 @@ pub one_report : (was is : Option (List ℕ)) (as_said : Report → Type 0) → 
 one_report was is as_said printed =
     (printed.report ∷ [], refl, subst (Appends was is) (sym (append-nil (report_line printed.report))) printed.line)
 
-pub one_answered : {A E : Type 0} (was is : Option (List ℕ)) (as_said : Report → Type 0) (runs : ℕ) (outcome : Result A E) → runs ≡ 1 → OnOk outcome (PrintsReport was is as_said) → OnOk outcome (PrintsReports was is runs)
+pub one_answered : {A E : Type 0} (was is : Option (List ℕ)) (as_said : Report → Type 0) (runs : ℕ) (outcome : Result A E)
+    → runs ≡ 1 → OnOk outcome (PrintsReport was is as_said) → OnOk outcome (PrintsReports was is runs)
 one_answered was is as_said runs (Ok _) one printed = subst (PrintsReports was is) (sym one) (one_report was is as_said printed)
 one_answered was is as_said runs (Err _) one printed = tt
 

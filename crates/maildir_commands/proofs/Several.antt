@@ -1,5 +1,6 @@
 -- Several texts that are delivered one after the other.
-use Rattle.std.proofs.Common.{◌≡◌, ℕ, suc, ◌+◌, ◌<◌, ◌≤◌, ◌⊎◌, List, [], ◌∷◌, ◌++◌, length, get_or, map, take, All, Option, Some, None, Result, OnOk, OnErr, Ok, Err, refl, sym, ap, subst, ◌∙◌, inl, inr, arith, add-one, append-nil, append_assoc}
+use Rattle.std.proofs.Common.{◌≡◌, ℕ, suc, ◌+◌, ◌<◌, ◌≤◌, ◌⊎◌, List, [], ◌∷◌, ◌++◌, length, get_or, map, take, All, Option, Some, None}
+use Rattle.std.proofs.Common.{Result, OnOk, OnErr, Ok, Err, refl, sym, ap, subst, ◌∙◌, inl, inr, arith, add-one, append-nil, append_assoc}
 use Rattle.std.proofs.KnownBytes.{Appends-nil, Appends-trans, Appends-kept}
 use Rattle.std.proofs.lemmas.Bool.{cases_order}
 use Rattle.std.proofs.lemmas.List.Elements.{All-cons, All-head, All-nil, All-take}
@@ -48,10 +49,12 @@ pub stay_none : (texts : List Mailbox) (maildir : HeldMaildir) → OthersStay te
 stay_none texts maildir = λ others named alike. no_stay others maildir.files maildir.may_leave
 
 pub stay_rest : (texts : List Mailbox) (old new : HeldMaildir) → Rests old new → OthersStay texts old new
-stay_rest texts old new rests = λ others named alike. stays_acted others named rests.actions old.files new.files old.may_leave new.may_leave rests.files_are rests.left
+stay_rest texts old new rests = λ others named alike.
+    stays_acted others named rests.actions old.files new.files old.may_leave new.may_leave rests.files_are rests.left
 
 pub stay_both : (texts : List Mailbox) (a b c : HeldMaildir) → OthersStay texts a b → OthersStay texts b c → OthersStay texts a c
-stay_both texts a b c first then = λ others named alike. stays_then others a.files a.may_leave b.files b.may_leave c.files c.may_leave (first others named alike) (then others named alike)
+stay_both texts a b c first then = λ others named alike.
+    stays_then others a.files a.may_leave b.files b.may_leave c.files c.may_leave (first others named alike) (then others named alike)
 
 kept_stay : (ms : List Message) (old new : HeldMaildir) → Stays ms old.files old.may_leave new.files new.may_leave → AreKept ms old → AreKept ms new
 kept_stay ms old new stays kept = record { home = stays.home kept.home; survive = stays.survive kept.survive }
@@ -64,9 +67,11 @@ named_all texts are k d below = named_of (get_or texts k d) (are k d below)
 
 -- ---- while nothing is done
 module _ (texts : List Mailbox) (are : All IsMailbox texts) where
-  rest_stays : (old new : HeldMaildir) → Rests old new → (k : ℕ) (d : Mailbox) → k < length texts → Stays (get_or texts k d).messages old.files old.may_leave new.files new.may_leave
+  rest_stays : (old new : HeldMaildir) → Rests old new → (k : ℕ) (d : Mailbox) → k < length texts
+      → Stays (get_or texts k d).messages old.files old.may_leave new.files new.may_leave
   rest_stays old new rests k d below =
-      stays_acted (get_or texts k d).messages (named_all texts are k d below) rests.actions old.files new.files old.may_leave new.may_leave rests.files_are rests.left
+      stays_acted (get_or texts k d).messages (named_all texts are k d below)
+      rests.actions old.files new.files old.may_leave new.may_leave rests.files_are rests.left
 
   pub rest_sound : (old new : HeldMaildir) → Rests old new → IsSoundFor texts old → IsSoundFor texts new
   rest_sound old new rests is = record {
@@ -84,20 +89,26 @@ module _ (texts : List Mailbox) (are : All IsMailbox texts) where
   rest_all_kept old new rests kept k d below = kept_stay (get_or texts k d).messages old new (rest_stays old new rests k d below) (kept k d below)
 
 -- a Maildir that rests before the texts are delivered, and behind it
-pub rest_each : (texts : List Mailbox) → All IsMailbox texts → (old new : HeldMaildir) (was is : Option (List ℕ)) → Rests old new → PrintsEach new texts was is → PrintsEach old texts was is
+pub rest_each : (texts : List Mailbox) → All IsMailbox texts → (old new : HeldMaildir) (was is : Option (List ℕ))
+    → Rests old new → PrintsEach new texts was is → PrintsEach old texts was is
 rest_each texts are old new was is rests prints = record {
   reports = prints.reports;
-  true_of = reports_agree (has_home old.files) (has_home new.files) (λ b named. sym (rests_has old new rests b named)) texts (named_all texts are) prints.reports prints.true_of;
+  true_of =
+      reports_agree (has_home old.files) (has_home new.files) (λ b named. sym (rests_has old new rests b named))
+      texts (named_all texts are) prints.reports prints.true_of;
   lines = prints.lines;
 }
 
-pub rest_some : (texts : List Mailbox) → All IsMailbox texts → (old ready work new : HeldMaildir) (was is : Option (List ℕ)) → Rests old ready → Rests work new → PrintsSome ready work texts was is → PrintsSome old new texts was is
+pub rest_some : (texts : List Mailbox) → All IsMailbox texts → (old ready work new : HeldMaildir) (was is : Option (List ℕ))
+    → Rests old ready → Rests work new → PrintsSome ready work texts was is → PrintsSome old new texts was is
 rest_some texts are old ready work new was is rests closes prints =
     let first = All-take IsMailbox prints.n texts are in
     record {
       n = prints.n;
       reports = prints.reports;
-      true_of = reports_agree (has_home old.files) (has_home ready.files) (λ b named. sym (rests_has old ready rests b named)) (take prints.n texts) (named_all (take prints.n texts) first) prints.reports prints.true_of;
+      true_of =
+          reports_agree (has_home old.files) (has_home ready.files) (λ b named. sym (rests_has old ready rests b named))
+          (take prints.n texts) (named_all (take prints.n texts) first) prints.reports prints.true_of;
       kept = rest_all_kept (take prints.n texts) first work new closes prints.kept;
       lines = prints.lines;
     }
@@ -142,19 +153,23 @@ last_or k n lt = elim (cases_order k n) as (λ _. (k < n) ⊎ (k ≡ n)) [
 ]
 
 -- a line more
-more_lines : (was mid is : Option (List ℕ)) (reports : List Report) (report : Report) → Appends was mid (flat_map report_line reports) → Appends mid is (report_line report) → Appends was is (flat_map report_line (reports ++ report ∷ []))
+more_lines : (was mid is : Option (List ℕ)) (reports : List Report) (report : Report) → Appends was mid (flat_map report_line reports)
+    → Appends mid is (report_line report) → Appends was is (flat_map report_line (reports ++ report ∷ []))
 more_lines was mid is reports report before line =
     subst (Appends was is) (sym (flat_map-append report_line reports (report ∷ [])))
-    (Appends-trans was mid is (flat_map report_line reports) (flat_map report_line (report ∷ [])) before (subst (Appends mid is) (sym (append-nil (report_line report))) line))
+    (Appends-trans was mid is (flat_map report_line reports) (flat_map report_line (report ∷ []))
+    before (subst (Appends mid is) (sym (append-nil (report_line report))) line))
 
 pub front_of_all : (was is : Option (List ℕ)) (bytes : List ℕ) → Appends was is bytes → AppendsFront was is bytes
 front_of_all was is bytes all = (bytes, [], sym (append-nil bytes), all)
 
-more_front : (was mid is : Option (List ℕ)) (reports : List Report) (report : Report) → Appends was mid (flat_map report_line reports) → AppendsFront mid is (report_line report) → AppendsFront was is (flat_map report_line (reports ++ report ∷ []))
+more_front : (was mid is : Option (List ℕ)) (reports : List Report) (report : Report) → Appends was mid (flat_map report_line reports)
+    → AppendsFront mid is (report_line report) → AppendsFront was is (flat_map report_line (reports ++ report ∷ []))
 more_front was mid is reports report before (taken, rest, are, line) = (
   flat_map report_line reports ++ taken,
   rest,
-  flat_map-append report_line reports (report ∷ []) ∙ (ap (λ bytes. flat_map report_line reports ++ bytes) (append-nil (report_line report) ∙ are) ∙ sym (append_assoc (flat_map report_line reports) taken rest)),
+  flat_map-append report_line reports (report ∷ []) ∙ (ap (λ bytes. flat_map report_line reports ++ bytes) (append-nil (report_line report) ∙ are)
+      ∙ sym (append_assoc (flat_map report_line reports) taken rest)),
   Appends-trans was mid is (flat_map report_line reports) taken before line,
 )
 
@@ -163,19 +178,26 @@ module _ (texts : List Mailbox) (fit : AreFit texts) where
   at_same k n d e same below = ap (λ i. get_or texts i e) (sym same) ∙ get_or_default texts k e d below
 
   -- what the delivery of one of them leaves of each
-  others_at : (n : ℕ) (e : Mailbox) (old new : HeldMaildir) → n < length texts → OthersStay (get_or texts n e ∷ []) old new → (k : ℕ) (d : Mailbox) → k < length texts → Stays (get_or texts k d).messages old.files old.may_leave new.files new.may_leave
+  others_at : (n : ℕ) (e : Mailbox) (old new : HeldMaildir) → n < length texts → OthersStay (get_or texts n e ∷ []) old new
+      → (k : ℕ) (d : Mailbox) → k < length texts → Stays (get_or texts k d).messages old.files old.may_leave new.files new.may_leave
   others_at n e old new inside stay k d below =
       let text = get_or texts n e in
       stay (get_or texts k d).messages (named_all texts fit.are k d below)
-      (All-cons (λ (t : Mailbox). AreAlike (get_or texts k d).messages t.messages) text [] (fit.alike k d below n e inside) (All-nil (λ (t : Mailbox). AreAlike (get_or texts k d).messages t.messages)))
+      (All-cons (λ (t : Mailbox). AreAlike (get_or texts k d).messages t.messages) text []
+      (fit.alike k d below n e inside) (All-nil (λ (t : Mailbox). AreAlike (get_or texts k d).messages t.messages)))
 
-  pub stay_more : (n : ℕ) (e : Mailbox) (a b c : HeldMaildir) → n < length texts → OthersStay texts a b → OthersStay (get_or texts n e ∷ []) b c → OthersStay texts a c
+  pub stay_more : (n : ℕ) (e : Mailbox) (a b c : HeldMaildir) → n < length texts
+      → OthersStay texts a b → OthersStay (get_or texts n e ∷ []) b c → OthersStay texts a c
   stay_more n e a b c inside first then = λ others named alike.
       stays_then others a.files a.may_leave b.files b.may_leave c.files c.may_leave (first others named alike)
-      (then others named (All-cons (λ (t : Mailbox). AreAlike others t.messages) (get_or texts n e) [] (alike n e inside) (All-nil (λ (t : Mailbox). AreAlike others t.messages))))
+      (then others named
+      (All-cons (λ (t : Mailbox). AreAlike others t.messages) (get_or texts n e) [] (alike n e inside) (All-nil (λ (t : Mailbox). AreAlike others t.messages))))
 
   -- those that were safe are kept, whatever comes of the next
-  kept_some : (n : ℕ) (old new : HeldMaildir) → ((k : ℕ) (d : Mailbox) → k < n → k < length texts → AreSafe (get_or texts k d).messages old.files old.may_leave old.rooted) → ((k : ℕ) (d : Mailbox) → k < length texts → Stays (get_or texts k d).messages old.files old.may_leave new.files new.may_leave) → AreAllKept (take n texts) new
+  kept_some : (n : ℕ) (old new : HeldMaildir)
+      → ((k : ℕ) (d : Mailbox) → k < n → k < length texts → AreSafe (get_or texts k d).messages old.files old.may_leave old.rooted)
+      → ((k : ℕ) (d : Mailbox) → k < length texts → Stays (get_or texts k d).messages old.files old.may_leave new.files new.may_leave)
+      → AreAllKept (take n texts) new
   kept_some n old new safe stays k d below =
       let most = length-take n texts in
       let lt : k < n = omega (arith, below, most) in
@@ -184,7 +206,8 @@ module _ (texts : List Mailbox) (fit : AreFit texts) where
       subst (λ (text : Mailbox). AreKept text.messages new) (sym (get_or-take n texts k d lt))
       (record { home = (stays k d inside).home was.home; survive = (stays k d inside).survive was.survive })
 
-  kept_more : (n : ℕ) (e : Mailbox) (maildir : HeldMaildir) → n < length texts → AreAllKept (take n texts) maildir → AreKept (get_or texts n e).messages maildir → AreAllKept (take (n + 1) texts) maildir
+  kept_more : (n : ℕ) (e : Mailbox) (maildir : HeldMaildir) → n < length texts → AreAllKept (take n texts) maildir
+      → AreKept (get_or texts n e).messages maildir → AreAllKept (take (n + 1) texts) maildir
   kept_more n e maildir inside before last k d below =
       let most = length-take (n + 1) texts in
       let most_before = length-take n texts in
@@ -192,12 +215,15 @@ module _ (texts : List Mailbox) (fit : AreFit texts) where
       let here : k < length texts = omega (arith, below, most) in
       subst (λ (text : Mailbox). AreKept text.messages maildir) (sym (get_or-take (n + 1) texts k d lt))
       (elim (last_or k n lt) as (λ _. AreKept (get_or texts k d).messages maildir) [
-        | inl less ↦ subst (λ (text : Mailbox). AreKept text.messages maildir) (get_or-take n texts k d less) (before k d (omega (arith, less, here, most_before)))
+        | inl less ↦
+            subst (λ (text : Mailbox). AreKept text.messages maildir) (get_or-take n texts k d less) (before k d (omega (arith, less, here, most_before)))
         | inr same ↦ subst (λ (text : Mailbox). AreKept text.messages maildir) (at_same k n d e same here) last
       ])
 
   -- one text more
-  pub one_more : (n : ℕ) (e : Mailbox) (start old new : HeldMaildir) (was mid is : Option (List ℕ)) → n < length texts → UpTo n texts start old was mid → AreSafe (get_or texts n e).messages new.files new.may_leave new.rooted → PrintsReport mid is (IsReportOf (has_home old.files) (get_or texts n e)) → HasAlso (get_or texts n e).messages old.files new.files → OthersStay (get_or texts n e ∷ []) old new → UpTo (n + 1) texts start new was is
+  pub one_more : (n : ℕ) (e : Mailbox) (start old new : HeldMaildir) (was mid is : Option (List ℕ)) → n < length texts → UpTo n texts start old was mid
+      → AreSafe (get_or texts n e).messages new.files new.may_leave new.rooted → PrintsReport mid is (IsReportOf (has_home old.files) (get_or texts n e))
+      → HasAlso (get_or texts n e).messages old.files new.files → OthersStay (get_or texts n e ∷ []) old new → UpTo (n + 1) texts start new was is
   one_more n e start old new was mid is inside up safe line known stay =
       let text = get_or texts n e in
       let stays = others_at n e old new inside stay in
@@ -220,13 +246,15 @@ module _ (texts : List Mailbox) (fit : AreFit texts) where
         reports = up.reports ++ line.report ∷ [];
         true_of = subst (λ ts. AreReportsOf first ts (up.reports ++ line.report ∷ [])) (sym more)
             (reports_more first (take n texts) up.reports text line.report up.true_of
-            (report_agree (also_all first (take n texts)) (has_home old.files) (λ b named. sym (up.has b named)) text (named_all texts fit.are n e inside) line.report line.said));
+            (report_agree (also_all first (take n texts)) (has_home old.files)
+            (λ b named. sym (up.has b named)) text (named_all texts fit.are n e inside) line.report line.said));
         lines = more_lines was mid is up.reports line.report up.lines line.line;
         stay = stay_more n e start old new inside up.stay stay;
       }
 
   -- and then a text that is not delivered, or whose line was not written whole
-  pub then_stopped : (n : ℕ) (e : Mailbox) (start old new : HeldMaildir) (was mid is : Option (List ℕ)) → n < length texts → UpTo n texts start old was mid → OthersStay (get_or texts n e ∷ []) old new → Keeps mid is ⊎ PrintsOne old new (get_or texts n e) mid is → PrintsSome start new texts was is
+  pub then_stopped : (n : ℕ) (e : Mailbox) (start old new : HeldMaildir) (was mid is : Option (List ℕ)) → n < length texts → UpTo n texts start old was mid
+      → OthersStay (get_or texts n e ∷ []) old new → Keeps mid is ⊎ PrintsOne old new (get_or texts n e) mid is → PrintsSome start new texts was is
   then_stopped n e start old new was mid is inside up stay (inl keeps) = record {
     n = n;
     reports = up.reports;
@@ -243,7 +271,8 @@ module _ (texts : List Mailbox) (fit : AreFit texts) where
         reports = up.reports ++ one.report ∷ [];
         true_of = subst (λ ts. AreReportsOf first ts (up.reports ++ one.report ∷ [])) (sym more)
             (reports_more first (take n texts) up.reports text one.report up.true_of
-            (report_agree (also_all first (take n texts)) (has_home old.files) (λ b named. sym (up.has b named)) text (named_all texts fit.are n e inside) one.report one.true_of));
+            (report_agree (also_all first (take n texts)) (has_home old.files) (λ b named. sym (up.has b named))
+            text (named_all texts fit.are n e inside) one.report one.true_of));
         kept = kept_more n e new inside (kept_some n old new up.safe (others_at n e old new inside stay)) one.kept;
         lines = more_front was mid is up.reports one.report up.lines one.line;
       }
@@ -259,10 +288,12 @@ module _ (texts : List Mailbox) (fit : AreFit texts) where
   }
 
 -- ---- at the end
-pub all_safe : (n : ℕ) (texts : List Mailbox) (start now : HeldMaildir) (was is : Option (List ℕ)) → length texts ≤ n → UpTo n texts start now was is → AreAllSafe texts now
+pub all_safe : (n : ℕ) (texts : List Mailbox) (start now : HeldMaildir) (was is : Option (List ℕ))
+    → length texts ≤ n → UpTo n texts start now was is → AreAllSafe texts now
 all_safe n texts start now was is most up k d below = up.safe k d (omega (arith, below, most)) below
 
-pub all_each : (n : ℕ) (texts : List Mailbox) (start now : HeldMaildir) (was is : Option (List ℕ)) → length texts ≤ n → UpTo n texts start now was is → PrintsEach start texts was is
+pub all_each : (n : ℕ) (texts : List Mailbox) (start now : HeldMaildir) (was is : Option (List ℕ))
+    → length texts ≤ n → UpTo n texts start now was is → PrintsEach start texts was is
 all_each n texts start now was is most up = record {
   reports = up.reports;
   true_of = subst (λ ts. AreReportsOf (has_home start.files) ts up.reports) (take_all n texts most) up.true_of;
@@ -273,7 +304,8 @@ all_each n texts start now was is most up = record {
 pub bytes_length : (texts : List Mailbox) (all : List (List ℕ)) → bytes_of texts ≡ all → length texts ≡ length all
 bytes_length texts all e = sym (length-map texts (λ (text : Mailbox). text.bytes)) ∙ ap length e
 
-pub bytes_at : (texts : List Mailbox) (all : List (List ℕ)) → bytes_of texts ≡ all → (n : ℕ) (d : Mailbox) (x : List ℕ) → n < length texts → (get_or texts n d).bytes ≡ get_or all n x
+pub bytes_at : (texts : List Mailbox) (all : List (List ℕ)) → bytes_of texts ≡ all
+    → (n : ℕ) (d : Mailbox) (x : List ℕ) → n < length texts → (get_or texts n d).bytes ≡ get_or all n x
 bytes_at texts all e n d x inside = sym (get_or-map (λ (text : Mailbox). text.bytes) texts n d x inside) ∙ ap (λ xs. get_or xs n x) e
 
 -- a text for places past a list's end
@@ -307,10 +339,15 @@ on_err P (Ok x) h = tt
 on_err P (Err e) h = h
 
 -- ---- one text of them
-pub sound_of : (texts : List Mailbox) (maildir : HeldMaildir) (n : ℕ) (e : Mailbox) → n < length texts → IsSoundFor texts maildir → IsSoundFor (get_or texts n e ∷ []) maildir
+pub sound_of : (texts : List Mailbox) (maildir : HeldMaildir) (n : ℕ) (e : Mailbox)
+    → n < length texts → IsSoundFor texts maildir → IsSoundFor (get_or texts n e ∷ []) maildir
 sound_of texts maildir n e inside is = record {
-  sound = All-cons (λ (t : Mailbox). All (IsSoundAt maildir.files) t.messages) (get_or texts n e) [] (is.sound n e inside) (All-nil (λ (t : Mailbox). All (IsSoundAt maildir.files) t.messages));
-  intact = All-cons (λ (t : Mailbox). AreIntact t.messages maildir.may_leave) (get_or texts n e) [] (is.intact n e inside) (All-nil (λ (t : Mailbox). AreIntact t.messages maildir.may_leave));
+  sound =
+      All-cons (λ (t : Mailbox). All (IsSoundAt maildir.files) t.messages) (get_or texts n e) []
+      (is.sound n e inside) (All-nil (λ (t : Mailbox). All (IsSoundAt maildir.files) t.messages));
+  intact =
+      All-cons (λ (t : Mailbox). AreIntact t.messages maildir.may_leave) (get_or texts n e) []
+      (is.intact n e inside) (All-nil (λ (t : Mailbox). AreIntact t.messages maildir.may_leave));
 }
 
 pub sound_of_one : (text : Mailbox) (maildir : HeldMaildir) → IsSoundFor (text ∷ []) maildir → All (IsSoundAt maildir.files) text.messages
@@ -326,18 +363,24 @@ only_first texts text is = sym (ap (λ ts. get_or ts 0 no_text) is)
 pub only_length : (texts : List Mailbox) (text : Mailbox) → texts ≡ text ∷ [] → length texts ≡ 1
 only_length texts text is = ap length is
 
-pub first_up : {A E : Type 0} (answer : Result A E) (texts : List Mailbox) → AreFit texts → (start now : HeldMaildir) (was is : Option (List ℕ)) → IsSoundFor texts start → 0 < length texts → OthersStay (get_or texts 0 no_text ∷ []) start now
-    → OnOk answer (AreSafe (get_or texts 0 no_text).messages now.files now.may_leave now.rooted) → OnOk answer (PrintsReport was is (IsReportOf (has_home start.files) (get_or texts 0 no_text))) → OnOk answer (HasAlso (get_or texts 0 no_text).messages start.files now.files)
+pub first_up : {A E : Type 0} (answer : Result A E) (texts : List Mailbox) → AreFit texts → (start now : HeldMaildir) (was is : Option (List ℕ))
+    → IsSoundFor texts start → 0 < length texts → OthersStay (get_or texts 0 no_text ∷ []) start now
+    → OnOk answer (AreSafe (get_or texts 0 no_text).messages now.files now.may_leave now.rooted)
+    → OnOk answer (PrintsReport was is (IsReportOf (has_home start.files) (get_or texts 0 no_text)))
+    → OnOk answer (HasAlso (get_or texts 0 no_text).messages start.files now.files)
     → OnOk answer (UpTo 1 texts start now was is)
-first_up (Ok x) texts fit start now was is sound inside stay safe line known = one_more texts fit 0 no_text start start now was was is inside (none_printed texts start was sound) safe line known stay
+first_up (Ok x) texts fit start now was is sound inside stay safe line known =
+    one_more texts fit 0 no_text start start now was was is inside (none_printed texts start was sound) safe line known stay
 first_up (Err e) texts fit start now was is sound inside stay safe line known = tt
 
 -- ---- the texts of files
-module _ {X : Type 0} (texts : List Mailbox) (text_of : List ℕ → List ℕ) (name_of : X → List ℕ) (before after : Option (List ℕ)) (files : List X) (given : GivesTexts text_of before after (map name_of files) texts) where
+module _ {X : Type 0} (texts : List Mailbox) (text_of : List ℕ → List ℕ) (name_of : X → List ℕ)
+    (before after : Option (List ℕ)) (files : List X) (given : GivesTexts text_of before after (map name_of files) texts) where
   pub none_given : length files ≡ 0 → GivesTexts text_of before after [] texts
   none_given none = subst (λ names. GivesTexts text_of before after names texts) (none_named name_of files none) given
 
   pub some_given : (first : X) (rest : List X) → files ≡ first ∷ rest → bytes_of texts ≡ text_of (name_of first) ∷ map (λ file. text_of (name_of file)) rest
   some_given first rest are =
-      let bytes : bytes_of texts ≡ text_of (name_of first) ∷ map text_of (map name_of rest) = subst (λ fs. GivesTexts text_of before after (map name_of fs) texts) are given in
+      let bytes : bytes_of texts ≡ text_of (name_of first) ∷ map text_of (map name_of rest) =
+      subst (λ fs. GivesTexts text_of before after (map name_of fs) texts) are given in
       bytes ∙ ap (λ xs. text_of (name_of first) ∷ xs) (map_both text_of name_of rest)

@@ -58,7 +58,8 @@ AreAllKept texts maildir = All (λ text. AreKept text.messages maildir) texts
 
 -- messages of other texts stay, where those that have the base of a message of these texts have its body
 abbrev pub OthersStay : List Mailbox → HeldMaildir → HeldMaildir → Type 0
-OthersStay texts old new = (others : List Message) → AreNamed others → All (λ text. AreAlike others text.messages) texts → Stays others old.files old.may_leave new.files new.may_leave
+OthersStay texts old new =
+    (others : List Message) → AreNamed others → All (λ text. AreAlike others text.messages) texts → Stays others old.files old.may_leave new.files new.may_leave
 
 -- behind it, a base has a home where it had one, or is one of the messages'
 abbrev pub HasAlso : List Message → Files → Files → Type 0
@@ -74,7 +75,8 @@ GivesTexts text_of before after [] texts = (text : Mailbox) × (texts ≡ text �
 GivesTexts text_of before after (file ∷ files) texts = bytes_of texts ≡ map text_of (file ∷ files)
 
 -- The words are `convert MAILDIR [FILE]..`, these are the texts, which can go into one Maildir, and it is sound for them.
-pub record Converts (words : List (List ℕ)) (text_of : List ℕ → List ℕ) (before after : Option (List ℕ)) (maildir : List ℕ) (texts : List Mailbox) (held : HeldMaildir) : Type 0 where
+pub record Converts (words : List (List ℕ)) (text_of : List ℕ → List ℕ) (before after : Option (List ℕ))
+    (maildir : List ℕ) (texts : List Mailbox) (held : HeldMaildir) : Type 0 where
   pub files : List (List ℕ)
   pub words_are : words ≡ convert_words maildir files
   pub given : GivesTexts text_of before after files texts

@@ -47,7 +47,8 @@ pub trait Machine {
         ensures opens { honest self.old → IfOk result (λ maildir. Rests (maildir_at self.old path.now)
             (held Self.Maildir.world Self.Maildir.may_leave Self.Maildir.rooted maildir)) }
         ensures rests { honest self.old → OnErr result (Rests (maildir_at self.old path.now) (maildir_at self.new path.now)) }
-        ensures others { honest self.old → (word : List ℕ) → ¬ same path.now word → Rests (maildir_at self.old word) (maildir_at self.new word) };
+        ensures others { honest self.old → (word : List ℕ) → ¬ same path.now word →
+            Rests (maildir_at self.old word) (maildir_at self.new word) };
 
     /// Closes a Maildir, which was opened by this word.
     fn close_maildir(&mut self, path: &str, maildir: Self::Maildir)
@@ -55,5 +56,6 @@ pub trait Machine {
         ensures closes { honest self.old → is_open self.old path.now → Rests
             (held Self.Maildir.world Self.Maildir.may_leave Self.Maildir.rooted maildir)
             (maildir_at self.new path.now) }
-        ensures others { honest self.old → (word : List ℕ) → ¬ same path.now word → Rests (maildir_at self.old word) (maildir_at self.new word) };
+        ensures others { honest self.old → (word : List ℕ) → ¬ same path.now word →
+            Rests (maildir_at self.old word) (maildir_at self.new word) };
 }

@@ -1,5 +1,6 @@
 // What the program does with its words, its streams and its status.
-ghost use Rattle.std.specs.Prelude.{◌≡◌, ◌≤◌, ◌↔◌, ℕ, List, [], ◌∷◌, ◌++◌, map, codes, length, max, string_bytes, Some, IfSome, IsNone, IsSome, OnErr, OnOk};
+ghost use Rattle.std.specs.Prelude.{◌≡◌, ◌≤◌, ◌↔◌, ℕ, List, [], ◌∷◌, ◌++◌, map, codes, length};
+ghost use Rattle.std.specs.Prelude.{max, string_bytes, Some, IfSome, IsNone, IsSome, OnErr, OnOk};
 ghost use Rattle.std.specs.Io.Buffered.{writer_buffer, writer_contents, writer_inner};
 ghost use Rattle.std.specs.Io.KnownBytes.{Appends, Keeps};
 ghost use Rattle.std.specs.List.{flat_map};
@@ -48,7 +49,8 @@ pub fn run<M: Machine, I: Read, W: Write + Drop, E: Write>(
     ensures rewritten_input { AreRewrite (map string_bytes words.now) → result ≡ 0 →
         WritesAll (flat_map spelling) (I.remaining input.old) (writer_contents W.contents out.old) (W.contents (writer_inner out.new)) }
     ensures rewritten { M.honest machine.old → (file : List ℕ) → map string_bytes words.now ≡ codes "rewrite" ∷ file ∷ [] → result ≡ 0 →
-        WritesAll (flat_map spelling) (Some (M.text_of machine.old file)) (writer_contents W.contents out.old) (W.contents (writer_inner out.new)) }
+        WritesAll (flat_map spelling) (Some (M.text_of machine.old file))
+        (writer_contents W.contents out.old) (W.contents (writer_inner out.new)) }
     ensures listed_input { map string_bytes words.now ≡ codes "list" ∷ [] → result ≡ 0 →
         WritesAll table_of (I.remaining input.old) (writer_contents W.contents out.old) (W.contents (writer_inner out.new)) }
     ensures listed { M.honest machine.old → (file : List ℕ) → map string_bytes words.now ≡ codes "list" ∷ file ∷ [] → result ≡ 0 →
@@ -56,20 +58,27 @@ pub fn run<M: Machine, I: Read, W: Write + Drop, E: Write>(
     ensures printed { (maildir : List ℕ) (files : List (List ℕ)) → map string_bytes words.now ≡ convert_words maildir files → result ≡ 0 →
         PrintsReports (writer_contents W.contents out.old) (W.contents (writer_inner out.new)) (max 1 (length files)) }
     ensures safe { M.honest machine.old → (maildir : List ℕ) (texts : List Mailbox) →
-        Converts (map string_bytes words.now) (M.text_of machine.old) (I.remaining input.old) (I.remaining input.new) maildir texts (M.maildir_at machine.old maildir) →
+        Converts (map string_bytes words.now) (M.text_of machine.old)
+        (I.remaining input.old) (I.remaining input.new) maildir texts (M.maildir_at machine.old maildir) →
         result ≡ 0 → AreAllSafe texts (M.maildir_at machine.new maildir) }
     ensures each { M.honest machine.old → (maildir : List ℕ) (texts : List Mailbox) →
-        Converts (map string_bytes words.now) (M.text_of machine.old) (I.remaining input.old) (I.remaining input.new) maildir texts (M.maildir_at machine.old maildir) →
-        result ≡ 0 → PrintsEach (M.maildir_at machine.old maildir) texts (writer_contents W.contents out.old) (W.contents (writer_inner out.new)) }
+        Converts (map string_bytes words.now) (M.text_of machine.old)
+        (I.remaining input.old) (I.remaining input.new) maildir texts (M.maildir_at machine.old maildir) →
+        result ≡ 0 →
+        PrintsEach (M.maildir_at machine.old maildir) texts (writer_contents W.contents out.old) (W.contents (writer_inner out.new)) }
 
     // status 1
-    ensures rewritten_front { M.honest machine.old → (file : List ℕ) → map string_bytes words.now ≡ codes "rewrite" ∷ file ∷ [] → result ≡ 1 →
-        WritesFront (flat_map spelling) (M.text_of machine.old file) (writer_contents W.contents out.old) (writer_contents W.contents out.new) }
+    ensures rewritten_front { M.honest machine.old → (file : List ℕ) →
+        map string_bytes words.now ≡ codes "rewrite" ∷ file ∷ [] → result ≡ 1 →
+        WritesFront (flat_map spelling) (M.text_of machine.old file)
+        (writer_contents W.contents out.old) (writer_contents W.contents out.new) }
     ensures listed_front { M.honest machine.old → (file : List ℕ) → map string_bytes words.now ≡ codes "list" ∷ file ∷ [] → result ≡ 1 →
         WritesFront table_of (M.text_of machine.old file) (writer_contents W.contents out.old) (writer_contents W.contents out.new) }
     ensures some { M.honest machine.old → (maildir : List ℕ) (texts : List Mailbox) →
-        Converts (map string_bytes words.now) (M.text_of machine.old) (I.remaining input.old) (I.remaining input.new) maildir texts (M.maildir_at machine.old maildir) →
-        result ≡ 1 → PrintsSome (M.maildir_at machine.old maildir) (M.maildir_at machine.new maildir) texts (writer_contents W.contents out.old) (writer_contents W.contents out.new) }
+        Converts (map string_bytes words.now) (M.text_of machine.old)
+        (I.remaining input.old) (I.remaining input.new) maildir texts (M.maildir_at machine.old maildir) →
+        result ≡ 1 → PrintsSome (M.maildir_at machine.old maildir) (M.maildir_at machine.new maildir)
+        texts (writer_contents W.contents out.old) (writer_contents W.contents out.new) }
 
     // status 2
     ensures wrong { (result ≡ 2) ↔ ¬ AreOfAForm (map string_bytes words.now) }
@@ -80,11 +89,14 @@ pub fn run<M: Machine, I: Read, W: Write + Drop, E: Write>(
     // whatever the status: nothing else is touched
     ensures texts { M.honest machine.old → M.text_of machine.new ≡ M.text_of machine.old }
     ensures stay { M.honest machine.old → (maildir : List ℕ) (texts : List Mailbox) →
-        Converts (map string_bytes words.now) (M.text_of machine.old) (I.remaining input.old) (I.remaining input.new) maildir texts (M.maildir_at machine.old maildir) →
+        Converts (map string_bytes words.now) (M.text_of machine.old)
+        (I.remaining input.old) (I.remaining input.new) maildir texts (M.maildir_at machine.old maildir) →
         OthersStay texts (M.maildir_at machine.old maildir) (M.maildir_at machine.new maildir) }
-    ensures elsewhere { M.honest machine.old → (maildir word : List ℕ) (files : List (List ℕ)) → map string_bytes words.now ≡ convert_words maildir files → ¬ M.same maildir word →
+    ensures elsewhere { M.honest machine.old → (maildir word : List ℕ) (files : List (List ℕ)) →
+        map string_bytes words.now ≡ convert_words maildir files → ¬ M.same maildir word →
         Rests (M.maildir_at machine.old word) (M.maildir_at machine.new word) }
-    ensures nowhere { M.honest machine.old → ((maildir : List ℕ) (files : List (List ℕ)) → ¬ (map string_bytes words.now ≡ convert_words maildir files)) → (word : List ℕ) →
+    ensures nowhere { M.honest machine.old →
+        ((maildir : List ℕ) (files : List (List ℕ)) → ¬ (map string_bytes words.now ≡ convert_words maildir files)) → (word : List ℕ) →
         Rests (M.maildir_at machine.old word) (M.maildir_at machine.new word) }
 {
     let Some(command) = Command::of(words) else {
@@ -119,32 +131,46 @@ fn perform<M: Machine, I: Read, W: Write + Drop>(
     input: &mut I,
     out: &mut BufWriter<W>,
 ) -> Result<(), Fault>
-    ensures rewritten_input { (words : List (List ℕ)) → IsOf command.entry words → AreRewrite words → OnOk result (WritesAll (flat_map spelling) (I.remaining input.old) (writer_contents W.contents out.old) (W.contents (writer_inner out.new))) }
+    ensures rewritten_input { (words : List (List ℕ)) → IsOf command.entry words → AreRewrite words → OnOk result
+        (WritesAll (flat_map spelling) (I.remaining input.old) (writer_contents W.contents out.old) (W.contents (writer_inner out.new))) }
     ensures rewritten { M.honest machine.old → (file : List ℕ) → IsOf command.entry (codes "rewrite" ∷ file ∷ []) →
-        OnOk result (WritesAll (flat_map spelling) (Some (M.text_of machine.old file)) (writer_contents W.contents out.old) (W.contents (writer_inner out.new))) }
-    ensures listed_input { IsOf command.entry (codes "list" ∷ []) → OnOk result (WritesAll table_of (I.remaining input.old) (writer_contents W.contents out.old) (W.contents (writer_inner out.new))) }
+        OnOk result (WritesAll (flat_map spelling) (Some (M.text_of machine.old file))
+        (writer_contents W.contents out.old) (W.contents (writer_inner out.new))) }
+    ensures listed_input { IsOf command.entry (codes "list" ∷ []) →
+        OnOk result (WritesAll table_of (I.remaining input.old) (writer_contents W.contents out.old) (W.contents (writer_inner out.new))) }
     ensures listed { M.honest machine.old → (file : List ℕ) → IsOf command.entry (codes "list" ∷ file ∷ []) →
-        OnOk result (WritesAll table_of (Some (M.text_of machine.old file)) (writer_contents W.contents out.old) (W.contents (writer_inner out.new))) }
+        OnOk result
+        (WritesAll table_of (Some (M.text_of machine.old file)) (writer_contents W.contents out.old) (W.contents (writer_inner out.new))) }
     ensures printed { (maildir : List ℕ) (files : List (List ℕ)) → IsOf command.entry (convert_words maildir files) →
         OnOk result (PrintsReports (writer_contents W.contents out.old) (W.contents (writer_inner out.new)) (max 1 (length files))) }
     ensures safe { M.honest machine.old → (words : List (List ℕ)) (maildir : List ℕ) (texts : List Mailbox) → IsOf command.entry words →
-        Converts words (M.text_of machine.old) (I.remaining input.old) (I.remaining input.new) maildir texts (M.maildir_at machine.old maildir) → OnOk result (AreAllSafe texts (M.maildir_at machine.new maildir)) }
+        Converts words (M.text_of machine.old) (I.remaining input.old) (I.remaining input.new) maildir texts
+        (M.maildir_at machine.old maildir) → OnOk result (AreAllSafe texts (M.maildir_at machine.new maildir)) }
     ensures each { M.honest machine.old → (words : List (List ℕ)) (maildir : List ℕ) (texts : List Mailbox) → IsOf command.entry words →
-        Converts words (M.text_of machine.old) (I.remaining input.old) (I.remaining input.new) maildir texts (M.maildir_at machine.old maildir) →
-        OnOk result (PrintsEach (M.maildir_at machine.old maildir) texts (writer_contents W.contents out.old) (W.contents (writer_inner out.new))) }
+        Converts words (M.text_of machine.old) (I.remaining input.old) (I.remaining input.new)
+        maildir texts (M.maildir_at machine.old maildir) →
+        OnOk result
+        (PrintsEach (M.maildir_at machine.old maildir) texts (writer_contents W.contents out.old) (W.contents (writer_inner out.new))) }
     ensures rewritten_front { M.honest machine.old → (file : List ℕ) → IsOf command.entry (codes "rewrite" ∷ file ∷ []) →
-        OnErr result (WritesFront (flat_map spelling) (M.text_of machine.old file) (writer_contents W.contents out.old) (writer_contents W.contents out.new)) }
+        OnErr result (WritesFront (flat_map spelling) (M.text_of machine.old file)
+        (writer_contents W.contents out.old) (writer_contents W.contents out.new)) }
     ensures listed_front { M.honest machine.old → (file : List ℕ) → IsOf command.entry (codes "list" ∷ file ∷ []) →
-        OnErr result (WritesFront table_of (M.text_of machine.old file) (writer_contents W.contents out.old) (writer_contents W.contents out.new)) }
+        OnErr result
+        (WritesFront table_of (M.text_of machine.old file) (writer_contents W.contents out.old) (writer_contents W.contents out.new)) }
     ensures some { M.honest machine.old → (words : List (List ℕ)) (maildir : List ℕ) (texts : List Mailbox) → IsOf command.entry words →
-        Converts words (M.text_of machine.old) (I.remaining input.old) (I.remaining input.new) maildir texts (M.maildir_at machine.old maildir) →
-        OnErr result (PrintsSome (M.maildir_at machine.old maildir) (M.maildir_at machine.new maildir) texts (writer_contents W.contents out.old) (writer_contents W.contents out.new)) }
+        Converts words (M.text_of machine.old) (I.remaining input.old) (I.remaining input.new)
+        maildir texts (M.maildir_at machine.old maildir) →
+        OnErr result (PrintsSome (M.maildir_at machine.old maildir) (M.maildir_at machine.new maildir)
+        texts (writer_contents W.contents out.old) (writer_contents W.contents out.new)) }
     ensures texts { M.honest machine.old → M.text_of machine.new ≡ M.text_of machine.old }
     ensures stay { M.honest machine.old → (words : List (List ℕ)) (maildir : List ℕ) (texts : List Mailbox) → IsOf command.entry words →
-        Converts words (M.text_of machine.old) (I.remaining input.old) (I.remaining input.new) maildir texts (M.maildir_at machine.old maildir) → OthersStay texts (M.maildir_at machine.old maildir) (M.maildir_at machine.new maildir) }
-    ensures elsewhere { M.honest machine.old → (words : List (List ℕ)) (maildir word : List ℕ) (files : List (List ℕ)) → IsOf command.entry words → words ≡ convert_words maildir files → ¬ M.same maildir word →
+        Converts words (M.text_of machine.old) (I.remaining input.old) (I.remaining input.new) maildir texts
+        (M.maildir_at machine.old maildir) → OthersStay texts (M.maildir_at machine.old maildir) (M.maildir_at machine.new maildir) }
+    ensures elsewhere { M.honest machine.old → (words : List (List ℕ)) (maildir word : List ℕ) (files : List (List ℕ)) →
+        IsOf command.entry words → words ≡ convert_words maildir files → ¬ M.same maildir word →
         Rests (M.maildir_at machine.old word) (M.maildir_at machine.new word) }
-    ensures nowhere { M.honest machine.old → (words : List (List ℕ)) (word : List ℕ) → IsOf command.entry words → ((maildir : List ℕ) (files : List (List ℕ)) → ¬ (words ≡ convert_words maildir files)) →
+    ensures nowhere { M.honest machine.old → (words : List (List ℕ)) (word : List ℕ) → IsOf command.entry words →
+        ((maildir : List ℕ) (files : List (List ℕ)) → ¬ (words ≡ convert_words maildir files)) →
         Rests (M.maildir_at machine.old word) (M.maildir_at machine.new word) }
 {
     let answer = work(machine, alloc, command, input, out);
@@ -161,32 +187,46 @@ fn work<M: Machine, I: Read, W: Write + Drop>(
     input: &mut I,
     out: &mut BufWriter<W>,
 ) -> Result<(), Fault>
-    ensures rewritten_input { (words : List (List ℕ)) → IsOf command.entry words → AreRewrite words → OnOk result (WritesAll (flat_map spelling) (I.remaining input.old) (writer_contents W.contents out.old) (writer_contents W.contents out.new)) }
+    ensures rewritten_input { (words : List (List ℕ)) → IsOf command.entry words → AreRewrite words → OnOk result
+        (WritesAll (flat_map spelling) (I.remaining input.old) (writer_contents W.contents out.old) (writer_contents W.contents out.new)) }
     ensures rewritten { M.honest machine.old → (file : List ℕ) → IsOf command.entry (codes "rewrite" ∷ file ∷ []) →
-        OnOk result (WritesAll (flat_map spelling) (Some (M.text_of machine.old file)) (writer_contents W.contents out.old) (writer_contents W.contents out.new)) }
-    ensures listed_input { IsOf command.entry (codes "list" ∷ []) → OnOk result (WritesAll table_of (I.remaining input.old) (writer_contents W.contents out.old) (writer_contents W.contents out.new)) }
+        OnOk result (WritesAll (flat_map spelling) (Some (M.text_of machine.old file))
+        (writer_contents W.contents out.old) (writer_contents W.contents out.new)) }
+    ensures listed_input { IsOf command.entry (codes "list" ∷ []) →
+        OnOk result (WritesAll table_of (I.remaining input.old) (writer_contents W.contents out.old) (writer_contents W.contents out.new)) }
     ensures listed { M.honest machine.old → (file : List ℕ) → IsOf command.entry (codes "list" ∷ file ∷ []) →
-        OnOk result (WritesAll table_of (Some (M.text_of machine.old file)) (writer_contents W.contents out.old) (writer_contents W.contents out.new)) }
+        OnOk result
+        (WritesAll table_of (Some (M.text_of machine.old file)) (writer_contents W.contents out.old) (writer_contents W.contents out.new)) }
     ensures printed { (maildir : List ℕ) (files : List (List ℕ)) → IsOf command.entry (convert_words maildir files) →
         OnOk result (PrintsReports (writer_contents W.contents out.old) (writer_contents W.contents out.new) (max 1 (length files))) }
     ensures safe { M.honest machine.old → (words : List (List ℕ)) (maildir : List ℕ) (texts : List Mailbox) → IsOf command.entry words →
-        Converts words (M.text_of machine.old) (I.remaining input.old) (I.remaining input.new) maildir texts (M.maildir_at machine.old maildir) → OnOk result (AreAllSafe texts (M.maildir_at machine.new maildir)) }
+        Converts words (M.text_of machine.old) (I.remaining input.old) (I.remaining input.new) maildir texts
+        (M.maildir_at machine.old maildir) → OnOk result (AreAllSafe texts (M.maildir_at machine.new maildir)) }
     ensures each { M.honest machine.old → (words : List (List ℕ)) (maildir : List ℕ) (texts : List Mailbox) → IsOf command.entry words →
-        Converts words (M.text_of machine.old) (I.remaining input.old) (I.remaining input.new) maildir texts (M.maildir_at machine.old maildir) →
-        OnOk result (PrintsEach (M.maildir_at machine.old maildir) texts (writer_contents W.contents out.old) (writer_contents W.contents out.new)) }
+        Converts words (M.text_of machine.old) (I.remaining input.old) (I.remaining input.new)
+        maildir texts (M.maildir_at machine.old maildir) →
+        OnOk result
+        (PrintsEach (M.maildir_at machine.old maildir) texts (writer_contents W.contents out.old) (writer_contents W.contents out.new)) }
     ensures rewritten_front { M.honest machine.old → (file : List ℕ) → IsOf command.entry (codes "rewrite" ∷ file ∷ []) →
-        OnErr result (WritesFront (flat_map spelling) (M.text_of machine.old file) (writer_contents W.contents out.old) (writer_contents W.contents out.new)) }
+        OnErr result (WritesFront (flat_map spelling) (M.text_of machine.old file)
+        (writer_contents W.contents out.old) (writer_contents W.contents out.new)) }
     ensures listed_front { M.honest machine.old → (file : List ℕ) → IsOf command.entry (codes "list" ∷ file ∷ []) →
-        OnErr result (WritesFront table_of (M.text_of machine.old file) (writer_contents W.contents out.old) (writer_contents W.contents out.new)) }
+        OnErr result
+        (WritesFront table_of (M.text_of machine.old file) (writer_contents W.contents out.old) (writer_contents W.contents out.new)) }
     ensures some { M.honest machine.old → (words : List (List ℕ)) (maildir : List ℕ) (texts : List Mailbox) → IsOf command.entry words →
-        Converts words (M.text_of machine.old) (I.remaining input.old) (I.remaining input.new) maildir texts (M.maildir_at machine.old maildir) →
-        OnErr result (PrintsSome (M.maildir_at machine.old maildir) (M.maildir_at machine.new maildir) texts (writer_contents W.contents out.old) (writer_contents W.contents out.new)) }
+        Converts words (M.text_of machine.old) (I.remaining input.old) (I.remaining input.new)
+        maildir texts (M.maildir_at machine.old maildir) →
+        OnErr result (PrintsSome (M.maildir_at machine.old maildir) (M.maildir_at machine.new maildir)
+        texts (writer_contents W.contents out.old) (writer_contents W.contents out.new)) }
     ensures texts { M.honest machine.old → M.text_of machine.new ≡ M.text_of machine.old }
     ensures stay { M.honest machine.old → (words : List (List ℕ)) (maildir : List ℕ) (texts : List Mailbox) → IsOf command.entry words →
-        Converts words (M.text_of machine.old) (I.remaining input.old) (I.remaining input.new) maildir texts (M.maildir_at machine.old maildir) → OthersStay texts (M.maildir_at machine.old maildir) (M.maildir_at machine.new maildir) }
-    ensures elsewhere { M.honest machine.old → (words : List (List ℕ)) (maildir word : List ℕ) (files : List (List ℕ)) → IsOf command.entry words → words ≡ convert_words maildir files → ¬ M.same maildir word →
+        Converts words (M.text_of machine.old) (I.remaining input.old) (I.remaining input.new) maildir texts
+        (M.maildir_at machine.old maildir) → OthersStay texts (M.maildir_at machine.old maildir) (M.maildir_at machine.new maildir) }
+    ensures elsewhere { M.honest machine.old → (words : List (List ℕ)) (maildir word : List ℕ) (files : List (List ℕ)) →
+        IsOf command.entry words → words ≡ convert_words maildir files → ¬ M.same maildir word →
         Rests (M.maildir_at machine.old word) (M.maildir_at machine.new word) }
-    ensures nowhere { M.honest machine.old → (words : List (List ℕ)) (word : List ℕ) → IsOf command.entry words → ((maildir : List ℕ) (files : List (List ℕ)) → ¬ (words ≡ convert_words maildir files)) →
+    ensures nowhere { M.honest machine.old → (words : List (List ℕ)) (word : List ℕ) → IsOf command.entry words →
+        ((maildir : List ℕ) (files : List (List ℕ)) → ¬ (words ≡ convert_words maildir files)) →
         Rests (M.maildir_at machine.old word) (M.maildir_at machine.new word) }
 {
     match command {
@@ -206,11 +246,15 @@ fn write_regular<M: Machine, I: Read, W: Write>(
     input: &mut I,
     out: &mut W,
 ) -> Result<(), Fault>
-    ensures all { IsNone file.entry → OnOk result (WritesAll (flat_map spelling) (I.remaining input.old) (W.contents out.old) (W.contents out.new)) }
-    ensures front { IsNone file.entry → OnErr result (GivesFront (flat_map spelling) (I.remaining input.old) (I.remaining input.new) (W.contents out.old) (W.contents out.new)) }
+    ensures all { IsNone file.entry →
+        OnOk result (WritesAll (flat_map spelling) (I.remaining input.old) (W.contents out.old) (W.contents out.new)) }
+    ensures front { IsNone file.entry → OnErr result
+        (GivesFront (flat_map spelling) (I.remaining input.old) (I.remaining input.new) (W.contents out.old) (W.contents out.new)) }
     ensures unread { IsSome file.entry → I.remaining input.new ≡ I.remaining input.old }
-    ensures named { M.honest machine.old → IfSome file.entry (λ path. OnOk result (WritesAll (flat_map spelling) (Some (M.text_of machine.old path.now)) (W.contents out.old) (W.contents out.new))) }
-    ensures front_named { M.honest machine.old → IfSome file.entry (λ path. OnErr result (WritesFront (flat_map spelling) (M.text_of machine.old path.now) (W.contents out.old) (W.contents out.new))) }
+    ensures named { M.honest machine.old → IfSome file.entry (λ path. OnOk result
+        (WritesAll (flat_map spelling) (Some (M.text_of machine.old path.now)) (W.contents out.old) (W.contents out.new))) }
+    ensures front_named { M.honest machine.old → IfSome file.entry (λ path. OnErr result
+        (WritesFront (flat_map spelling) (M.text_of machine.old path.now) (W.contents out.old) (W.contents out.new))) }
     ensures texts { M.honest machine.old → M.text_of machine.new ≡ M.text_of machine.old }
     ensures rests { M.honest machine.old → (word : List ℕ) → Rests (M.maildir_at machine.old word) (M.maildir_at machine.new word) }
 {
@@ -230,10 +274,13 @@ fn write_list<M: Machine, I: Read, W: Write>(
     out: &mut W,
 ) -> Result<(), Fault>
     ensures all { IsNone file.entry → OnOk result (WritesAll table_of (I.remaining input.old) (W.contents out.old) (W.contents out.new)) }
-    ensures front { IsNone file.entry → OnErr result (GivesFront table_of (I.remaining input.old) (I.remaining input.new) (W.contents out.old) (W.contents out.new)) }
+    ensures front { IsNone file.entry →
+        OnErr result (GivesFront table_of (I.remaining input.old) (I.remaining input.new) (W.contents out.old) (W.contents out.new)) }
     ensures unread { IsSome file.entry → I.remaining input.new ≡ I.remaining input.old }
-    ensures named { M.honest machine.old → IfSome file.entry (λ path. OnOk result (WritesAll table_of (Some (M.text_of machine.old path.now)) (W.contents out.old) (W.contents out.new))) }
-    ensures front_named { M.honest machine.old → IfSome file.entry (λ path. OnErr result (WritesFront table_of (M.text_of machine.old path.now) (W.contents out.old) (W.contents out.new))) }
+    ensures named { M.honest machine.old → IfSome file.entry
+        (λ path. OnOk result (WritesAll table_of (Some (M.text_of machine.old path.now)) (W.contents out.old) (W.contents out.new))) }
+    ensures front_named { M.honest machine.old → IfSome file.entry
+        (λ path. OnErr result (WritesFront table_of (M.text_of machine.old path.now) (W.contents out.old) (W.contents out.new))) }
     ensures texts { M.honest machine.old → M.text_of machine.new ≡ M.text_of machine.old }
     ensures rests { M.honest machine.old → (word : List ℕ) → Rests (M.maildir_at machine.old word) (M.maildir_at machine.new word) }
 {

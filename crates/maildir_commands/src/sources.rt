@@ -1,5 +1,6 @@
 // The sources of a conversion, each with a run of its own and its line.
-ghost use Rattle.std.specs.Prelude.{◌≡◌, ◌⊎◌, ℕ, List, [], ◌∷◌, All, Some, map, string_bytes, ◌<◌, ◌+◌, ◌*◌, ◌-◌, ◌^◌, min, max, length, IsTrue, IfOk, IfErr, OnOk, OnErr};
+ghost use Rattle.std.specs.Prelude.{◌≡◌, ◌⊎◌, ℕ, List, [], ◌∷◌, All, Some, map, string_bytes, ◌<◌, ◌+◌};
+ghost use Rattle.std.specs.Prelude.{◌*◌, ◌-◌, ◌^◌, min, max, length, IsTrue, IfOk, IfErr, OnOk, OnErr};
 ghost use Rattle.std.specs.Io.Buffered.{writer_buffer, writer_contents};
 ghost use Rattle.std.specs.Io.KnownBytes.{Appends, IsAtEnd, Keeps};
 ghost use Rattle.mbox_text.specs.Writing.{Writes};
@@ -15,7 +16,8 @@ ghost use Rattle.maildir_disk.specs.Others.{Stays};
 ghost use Rattle.maildir_disk.specs.Paths.{system_of};
 ghost use Rattle.maildir_disk.specs.PowerCuts.{AreAlike, AreIntact, AreSafe, Survive};
 ghost use Rattle.maildir_commands.specs.Machines.{AreAllSafe, AreFit, GivesTexts, HasAlso, IsSoundFor, OthersStay, Rests, bytes_of, held};
-ghost use Rattle.maildir_commands.specs.Report.{IsReportOf, PrintsEach, PrintsOne, PrintsReport, PrintsReports, PrintsSome, also, report_line};
+ghost use Rattle.maildir_commands.specs.Report.{IsReportOf, PrintsEach, PrintsOne, PrintsReport};
+ghost use Rattle.maildir_commands.specs.Report.{PrintsReports, PrintsSome, also, report_line};
 
 use crate::fault::Fault;
 use crate::machine::Machine;
@@ -38,8 +40,10 @@ fn open_folder<M: Machine>(machine: &mut M, maildir: &str) -> Result<DiskFolder<
     ensures works { M.honest machine.old → IfOk result (λ folder. M.Maildir.honest (system_of folder)) }
     ensures opens { M.honest machine.old → IfOk result (λ folder. Rests (M.maildir_at machine.old maildir.now)
         (held M.Maildir.world M.Maildir.may_leave M.Maildir.rooted (system_of folder))) }
-    ensures rests { M.honest machine.old → OnErr result (Rests (M.maildir_at machine.old maildir.now) (M.maildir_at machine.new maildir.now)) }
-    ensures others { M.honest machine.old → (word : List ℕ) → ¬ M.same maildir.now word → Rests (M.maildir_at machine.old word) (M.maildir_at machine.new word) }
+    ensures rests { M.honest machine.old →
+        OnErr result (Rests (M.maildir_at machine.old maildir.now) (M.maildir_at machine.new maildir.now)) }
+    ensures others { M.honest machine.old → (word : List ℕ) → ¬ M.same maildir.now word →
+        Rests (M.maildir_at machine.old word) (M.maildir_at machine.new word) }
     ensures causes { IfErr result (λ fault. (fault ≡ Fault.Folder) ⊎ (fault ≡ Fault.Locked) ⊎ (fault ≡ Fault.Run RunFault.OutOfMemory)) }
 {
     match machine.open_maildir(maildir) {
@@ -58,25 +62,35 @@ pub(crate) fn deliver_sources<M: Machine, I: Read, W: Write + Drop>(
     input: &mut I,
     out: &mut BufWriter<W>,
 ) -> Result<(), Fault>
-    ensures printed { OnOk result (PrintsReports (writer_contents W.contents out.old) (writer_contents W.contents out.new) (max 1 (length files.now))) }
+    ensures printed { OnOk result
+        (PrintsReports (writer_contents W.contents out.old) (writer_contents W.contents out.new) (max 1 (length files.now))) }
     ensures end { length files.now ≡ 0 → OnOk result (IsAtEnd (I.remaining input.new)) }
     ensures unread { ¬ (length files.now ≡ 0) → I.remaining input.new ≡ I.remaining input.old }
 
     // over a machine that does as assumed
     ensures texts { M.honest machine.old → M.text_of machine.new ≡ M.text_of machine.old }
-    ensures elsewhere { M.honest machine.old → (word : List ℕ) → ¬ M.same maildir.now word → Rests (M.maildir_at machine.old word) (M.maildir_at machine.new word) }
+    ensures elsewhere { M.honest machine.old → (word : List ℕ) → ¬ M.same maildir.now word →
+        Rests (M.maildir_at machine.old word) (M.maildir_at machine.new word) }
 
     // and where the texts can go into the Maildir
-    ensures safe { M.honest machine.old → (texts : List Mailbox) → GivesTexts (M.text_of machine.old) (I.remaining input.old) (I.remaining input.new) (map string_bytes files.now) texts →
-        AreFit texts → IsSoundFor texts (M.maildir_at machine.old maildir.now) → OnOk result (AreAllSafe texts (M.maildir_at machine.new maildir.now)) }
-    ensures each { M.honest machine.old → (texts : List Mailbox) → GivesTexts (M.text_of machine.old) (I.remaining input.old) (I.remaining input.new) (map string_bytes files.now) texts →
+    ensures safe { M.honest machine.old → (texts : List Mailbox) →
+        GivesTexts (M.text_of machine.old) (I.remaining input.old) (I.remaining input.new) (map string_bytes files.now) texts →
         AreFit texts → IsSoundFor texts (M.maildir_at machine.old maildir.now) →
-        OnOk result (PrintsEach (M.maildir_at machine.old maildir.now) texts (writer_contents W.contents out.old) (writer_contents W.contents out.new)) }
-    ensures some { M.honest machine.old → (texts : List Mailbox) → GivesTexts (M.text_of machine.old) (I.remaining input.old) (I.remaining input.new) (map string_bytes files.now) texts →
+        OnOk result (AreAllSafe texts (M.maildir_at machine.new maildir.now)) }
+    ensures each { M.honest machine.old → (texts : List Mailbox) →
+        GivesTexts (M.text_of machine.old) (I.remaining input.old) (I.remaining input.new) (map string_bytes files.now) texts →
         AreFit texts → IsSoundFor texts (M.maildir_at machine.old maildir.now) →
-        OnErr result (PrintsSome (M.maildir_at machine.old maildir.now) (M.maildir_at machine.new maildir.now) texts (writer_contents W.contents out.old) (writer_contents W.contents out.new)) }
-    ensures stay { M.honest machine.old → (texts : List Mailbox) → GivesTexts (M.text_of machine.old) (I.remaining input.old) (I.remaining input.new) (map string_bytes files.now) texts →
-        AreFit texts → IsSoundFor texts (M.maildir_at machine.old maildir.now) → OthersStay texts (M.maildir_at machine.old maildir.now) (M.maildir_at machine.new maildir.now) }
+        OnOk result (PrintsEach (M.maildir_at machine.old maildir.now) texts
+        (writer_contents W.contents out.old) (writer_contents W.contents out.new)) }
+    ensures some { M.honest machine.old → (texts : List Mailbox) →
+        GivesTexts (M.text_of machine.old) (I.remaining input.old) (I.remaining input.new) (map string_bytes files.now) texts →
+        AreFit texts → IsSoundFor texts (M.maildir_at machine.old maildir.now) →
+        OnErr result (PrintsSome (M.maildir_at machine.old maildir.now) (M.maildir_at machine.new maildir.now)
+        texts (writer_contents W.contents out.old) (writer_contents W.contents out.new)) }
+    ensures stay { M.honest machine.old → (texts : List Mailbox) →
+        GivesTexts (M.text_of machine.old) (I.remaining input.old) (I.remaining input.new) (map string_bytes files.now) texts →
+        AreFit texts → IsSoundFor texts (M.maildir_at machine.old maildir.now) →
+        OthersStay texts (M.maildir_at machine.old maildir.now) (M.maildir_at machine.new maildir.now) }
 {
     let Some((first, rest)) = files.split_first() else {
         let mut folder = open_folder(machine, maildir)?;
@@ -104,24 +118,32 @@ fn deliver_each<M: Machine, W: Write + Drop>(
     ensures texts { M.honest machine.old → M.text_of machine.new ≡ M.text_of machine.old }
     ensures elsewhere { M.honest machine.old → (word : List ℕ) → Rests (M.maildir_at machine.old word) (M.maildir_at machine.new word) }
     ensures still_open { M.honest machine.old → (word : List ℕ) → M.is_open machine.old word → M.is_open machine.new word }
-    ensures printed { OnOk result (PrintsReports (writer_contents W.contents out.old) (writer_contents W.contents out.new) (1 + length rest.now)) }
-    ensures safe { M.honest machine.old → M.Maildir.honest (system_of folder.old) → (texts : List Mailbox) (text : List ℕ) → M.Source.remaining first.old ≡ Some text →
+    ensures printed { OnOk result
+        (PrintsReports (writer_contents W.contents out.old) (writer_contents W.contents out.new) (1 + length rest.now)) }
+    ensures safe { M.honest machine.old → M.Maildir.honest (system_of folder.old) →
+        (texts : List Mailbox) (text : List ℕ) → M.Source.remaining first.old ≡ Some text →
         bytes_of texts ≡ text ∷ map (λ file. M.text_of machine.old (string_bytes file)) rest.now → AreFit texts →
         IsSoundFor texts (held M.Maildir.world M.Maildir.may_leave M.Maildir.rooted (system_of folder.old)) →
         OnOk result (AreAllSafe texts (held M.Maildir.world M.Maildir.may_leave M.Maildir.rooted (system_of folder.new))) }
-    ensures each { M.honest machine.old → M.Maildir.honest (system_of folder.old) → (texts : List Mailbox) (text : List ℕ) → M.Source.remaining first.old ≡ Some text →
+    ensures each { M.honest machine.old → M.Maildir.honest (system_of folder.old) →
+        (texts : List Mailbox) (text : List ℕ) → M.Source.remaining first.old ≡ Some text →
         bytes_of texts ≡ text ∷ map (λ file. M.text_of machine.old (string_bytes file)) rest.now → AreFit texts →
         IsSoundFor texts (held M.Maildir.world M.Maildir.may_leave M.Maildir.rooted (system_of folder.old)) →
-        OnOk result (PrintsEach (held M.Maildir.world M.Maildir.may_leave M.Maildir.rooted (system_of folder.old)) texts (writer_contents W.contents out.old) (writer_contents W.contents out.new)) }
-    ensures some { M.honest machine.old → M.Maildir.honest (system_of folder.old) → (texts : List Mailbox) (text : List ℕ) → M.Source.remaining first.old ≡ Some text →
-        bytes_of texts ≡ text ∷ map (λ file. M.text_of machine.old (string_bytes file)) rest.now → AreFit texts →
-        IsSoundFor texts (held M.Maildir.world M.Maildir.may_leave M.Maildir.rooted (system_of folder.old)) →
-        OnErr result (PrintsSome (held M.Maildir.world M.Maildir.may_leave M.Maildir.rooted (system_of folder.old)) (held M.Maildir.world M.Maildir.may_leave M.Maildir.rooted (system_of folder.new))
+        OnOk result (PrintsEach (held M.Maildir.world M.Maildir.may_leave M.Maildir.rooted (system_of folder.old))
         texts (writer_contents W.contents out.old) (writer_contents W.contents out.new)) }
-    ensures stay { M.honest machine.old → M.Maildir.honest (system_of folder.old) → (texts : List Mailbox) (text : List ℕ) → M.Source.remaining first.old ≡ Some text →
+    ensures some { M.honest machine.old → M.Maildir.honest (system_of folder.old) →
+        (texts : List Mailbox) (text : List ℕ) → M.Source.remaining first.old ≡ Some text →
         bytes_of texts ≡ text ∷ map (λ file. M.text_of machine.old (string_bytes file)) rest.now → AreFit texts →
         IsSoundFor texts (held M.Maildir.world M.Maildir.may_leave M.Maildir.rooted (system_of folder.old)) →
-        OthersStay texts (held M.Maildir.world M.Maildir.may_leave M.Maildir.rooted (system_of folder.old)) (held M.Maildir.world M.Maildir.may_leave M.Maildir.rooted (system_of folder.new)) }
+        OnErr result (PrintsSome (held M.Maildir.world M.Maildir.may_leave M.Maildir.rooted (system_of folder.old))
+        (held M.Maildir.world M.Maildir.may_leave M.Maildir.rooted (system_of folder.new))
+        texts (writer_contents W.contents out.old) (writer_contents W.contents out.new)) }
+    ensures stay { M.honest machine.old → M.Maildir.honest (system_of folder.old) →
+        (texts : List Mailbox) (text : List ℕ) → M.Source.remaining first.old ≡ Some text →
+        bytes_of texts ≡ text ∷ map (λ file. M.text_of machine.old (string_bytes file)) rest.now → AreFit texts →
+        IsSoundFor texts (held M.Maildir.world M.Maildir.may_leave M.Maildir.rooted (system_of folder.old)) →
+        OthersStay texts (held M.Maildir.world M.Maildir.may_leave M.Maildir.rooted (system_of folder.old))
+        (held M.Maildir.world M.Maildir.may_leave M.Maildir.rooted (system_of folder.new)) }
 {
     deliver_one(alloc, folder, first, out)?;
     for path in rest {
@@ -143,17 +165,29 @@ fn deliver_one<S: System, I: Read, W: Write + Drop>(
     ensures end { OnOk result (IsAtEnd (I.remaining source.new)) }
     ensures budget { ReadsAtMost (I.remaining source.old) (I.remaining source.new) (2 ^ 56) }
     ensures honest { S.honest (system_of folder.old) → OnOk result (S.honest (system_of folder.new)) }
-    ensures safe { S.honest (system_of folder.old) → (text : Mailbox) → IsMailbox text → Possible (I.remaining source.old) (I.remaining source.new) text.bytes →
-        IsSoundFor (text ∷ []) (held S.world S.may_leave S.rooted (system_of folder.old)) → OnOk result (AreSafe text.messages (S.world (system_of folder.new)).files (S.may_leave (system_of folder.new)) (S.rooted (system_of folder.new))) }
-    ensures line { S.honest (system_of folder.old) → (text : Mailbox) → IsMailbox text → Possible (I.remaining source.old) (I.remaining source.new) text.bytes →
-        IsSoundFor (text ∷ []) (held S.world S.may_leave S.rooted (system_of folder.old)) → OnOk result (PrintsReport (writer_contents W.contents out.old) (writer_contents W.contents out.new) (IsReportOf (has_home (S.world (system_of folder.old)).files) text)) }
-    ensures known { S.honest (system_of folder.old) → (text : Mailbox) → IsMailbox text → Possible (I.remaining source.old) (I.remaining source.new) text.bytes →
-        IsSoundFor (text ∷ []) (held S.world S.may_leave S.rooted (system_of folder.old)) → OnOk result (HasAlso text.messages (S.world (system_of folder.old)).files (S.world (system_of folder.new)).files) }
-    ensures stopped { S.honest (system_of folder.old) → (text : Mailbox) → IsMailbox text → Possible (I.remaining source.old) (I.remaining source.new) text.bytes →
-        IsSoundFor (text ∷ []) (held S.world S.may_leave S.rooted (system_of folder.old)) → OnErr result (Keeps (writer_contents W.contents out.old) (writer_contents W.contents out.new)
-        ⊎ PrintsOne (held S.world S.may_leave S.rooted (system_of folder.old)) (held S.world S.may_leave S.rooted (system_of folder.new)) text (writer_contents W.contents out.old) (writer_contents W.contents out.new)) }
-    ensures stays { S.honest (system_of folder.old) → (text : Mailbox) → IsMailbox text → Possible (I.remaining source.old) (I.remaining source.new) text.bytes →
-        IsSoundFor (text ∷ []) (held S.world S.may_leave S.rooted (system_of folder.old)) → OthersStay (text ∷ []) (held S.world S.may_leave S.rooted (system_of folder.old)) (held S.world S.may_leave S.rooted (system_of folder.new)) }
+    ensures safe { S.honest (system_of folder.old) → (text : Mailbox) → IsMailbox text →
+        Possible (I.remaining source.old) (I.remaining source.new) text.bytes →
+        IsSoundFor (text ∷ []) (held S.world S.may_leave S.rooted (system_of folder.old)) → OnOk result (AreSafe text.messages
+        (S.world (system_of folder.new)).files (S.may_leave (system_of folder.new)) (S.rooted (system_of folder.new))) }
+    ensures line { S.honest (system_of folder.old) → (text : Mailbox) → IsMailbox text →
+        Possible (I.remaining source.old) (I.remaining source.new) text.bytes →
+        IsSoundFor (text ∷ []) (held S.world S.may_leave S.rooted (system_of folder.old)) →
+        OnOk result (PrintsReport (writer_contents W.contents out.old) (writer_contents W.contents out.new)
+        (IsReportOf (has_home (S.world (system_of folder.old)).files) text)) }
+    ensures known { S.honest (system_of folder.old) → (text : Mailbox) → IsMailbox text →
+        Possible (I.remaining source.old) (I.remaining source.new) text.bytes →
+        IsSoundFor (text ∷ []) (held S.world S.may_leave S.rooted (system_of folder.old)) →
+        OnOk result (HasAlso text.messages (S.world (system_of folder.old)).files (S.world (system_of folder.new)).files) }
+    ensures stopped { S.honest (system_of folder.old) → (text : Mailbox) → IsMailbox text →
+        Possible (I.remaining source.old) (I.remaining source.new) text.bytes →
+        IsSoundFor (text ∷ []) (held S.world S.may_leave S.rooted (system_of folder.old)) →
+        OnErr result (Keeps (writer_contents W.contents out.old) (writer_contents W.contents out.new)
+        ⊎ PrintsOne (held S.world S.may_leave S.rooted (system_of folder.old)) (held S.world S.may_leave S.rooted (system_of folder.new))
+        text (writer_contents W.contents out.old) (writer_contents W.contents out.new)) }
+    ensures stays { S.honest (system_of folder.old) → (text : Mailbox) → IsMailbox text →
+        Possible (I.remaining source.old) (I.remaining source.new) text.bytes →
+        IsSoundFor (text ∷ []) (held S.world S.may_leave S.rooted (system_of folder.old)) → OthersStay (text ∷ [])
+        (held S.world S.may_leave S.rooted (system_of folder.old)) (held S.world S.may_leave S.rooted (system_of folder.new)) }
 {
     deliver(alloc, folder, source, out)?;
     flush(out)
@@ -175,32 +209,42 @@ pub fn deliver<S: System, I: Read, W: Write>(
     // its line is of a report that counts the calls that were made, and that is true of the run, where the system does as
     // assumed and the folder began sound for the text
     ensures printed { let f = ⟦<DiskFolder<S> as Folder>⟧ in OnOk result (PrintsReport (W.contents out.old) (W.contents out.new) (λ report.
-        CountsRun report (f.calls folder.old) (f.calls folder.new) × (f.honest folder.old → (t : List ℕ) (ms : List Message) → length t < 2 ^ 63 →
-        Possible (I.remaining source.old) (I.remaining source.new) t → MessagesOf t ms → All (IsSoundAt (f.files folder.old)) ms → ReportsMessages ms (f.files folder.old) report))) }
+        CountsRun report (f.calls folder.old) (f.calls folder.new)
+        × (f.honest folder.old → (t : List ℕ) (ms : List Message) → length t < 2 ^ 63 →
+        Possible (I.remaining source.old) (I.remaining source.new) t → MessagesOf t ms →
+        All (IsSoundAt (f.files folder.old)) ms → ReportsMessages ms (f.files folder.old) report))) }
 
     // where the system does as assumed, and the folder began sound for the text
     ensures honest { ⟦<DiskFolder<S> as Folder>⟧.honest folder.old → OnOk result (⟦<DiskFolder<S> as Folder>⟧.honest folder.new) }
     ensures intact { let f = ⟦<DiskFolder<S> as Folder>⟧ in f.honest folder.old → (t : List ℕ) (ms : List Message) → length t < 2 ^ 63 →
-        Possible (I.remaining source.old) (I.remaining source.new) t → MessagesOf t ms → AreIntact ms (f.may_leave folder.old) → AreIntact ms (f.may_leave folder.new) }
-    ensures still { let f = ⟦<DiskFolder<S> as Folder>⟧ in f.honest folder.old → (t : List ℕ) (ms others : List Message) → length t < 2 ^ 63 →
+        Possible (I.remaining source.old) (I.remaining source.new) t → MessagesOf t ms →
+        AreIntact ms (f.may_leave folder.old) → AreIntact ms (f.may_leave folder.new) }
+    ensures still { let f = ⟦<DiskFolder<S> as Folder>⟧ in
+        f.honest folder.old → (t : List ℕ) (ms others : List Message) → length t < 2 ^ 63 →
         Possible (I.remaining source.old) (I.remaining source.new) t → MessagesOf t ms → AreNamed others → AreAlike others ms →
         Survive others (f.may_leave folder.old) → Survive others (f.may_leave folder.new) }
     ensures safe { let f = ⟦<DiskFolder<S> as Folder>⟧ in f.honest folder.old → (t : List ℕ) (ms : List Message) → length t < 2 ^ 63 →
-        Possible (I.remaining source.old) (I.remaining source.new) t → MessagesOf t ms → All (IsSoundAt (f.files folder.old)) ms → AreIntact ms (f.may_leave folder.old) →
+        Possible (I.remaining source.old) (I.remaining source.new) t → MessagesOf t ms →
+        All (IsSoundAt (f.files folder.old)) ms → AreIntact ms (f.may_leave folder.old) →
         OnOk result (AreSafe ms (f.files folder.new) (f.may_leave folder.new) (S.rooted (system_of folder.new))) }
     ensures line { let f = ⟦<DiskFolder<S> as Folder>⟧ in f.honest folder.old → (t : List ℕ) (ms : List Message) → length t < 2 ^ 63 →
-        Possible (I.remaining source.old) (I.remaining source.new) t → MessagesOf t ms → All (IsSoundAt (f.files folder.old)) ms → AreIntact ms (f.may_leave folder.old) →
-        Keeps (W.contents out.old) (W.contents out.new) ⊎ AreSafe ms (f.files folder.new) (f.may_leave folder.new) (S.rooted (system_of folder.new)) }
+        Possible (I.remaining source.old) (I.remaining source.new) t → MessagesOf t ms →
+        All (IsSoundAt (f.files folder.old)) ms → AreIntact ms (f.may_leave folder.old) →
+        Keeps (W.contents out.old) (W.contents out.new)
+        ⊎ AreSafe ms (f.files folder.new) (f.may_leave folder.new) (S.rooted (system_of folder.new)) }
 
     ensures stopped { let f = ⟦<DiskFolder<S> as Folder>⟧ in f.honest folder.old → (t : List ℕ) (ms : List Message) → length t < 2 ^ 63 →
-        Possible (I.remaining source.old) (I.remaining source.new) t → MessagesOf t ms → All (IsSoundAt (f.files folder.old)) ms → AreIntact ms (f.may_leave folder.old) →
+        Possible (I.remaining source.old) (I.remaining source.new) t → MessagesOf t ms →
+        All (IsSoundAt (f.files folder.old)) ms → AreIntact ms (f.may_leave folder.old) →
         OnErr result (Keeps (W.contents out.old) (W.contents out.new)
         ⊎ PrintsOne (held S.world S.may_leave S.rooted (system_of folder.old)) (held S.world S.may_leave S.rooted (system_of folder.new))
         (record { bytes = t; messages = ms }) (W.contents out.old) (W.contents out.new)) }
 
     // what it leaves of other messages, and which bases have a home behind it
-    ensures stays { let f = ⟦<DiskFolder<S> as Folder>⟧ in f.honest folder.old → (t : List ℕ) (ms others : List Message) → length t < 2 ^ 63 →
-        Possible (I.remaining source.old) (I.remaining source.new) t → MessagesOf t ms → All (IsSoundAt (f.files folder.old)) ms → AreNamed others → AreAlike others ms →
+    ensures stays { let f = ⟦<DiskFolder<S> as Folder>⟧ in
+        f.honest folder.old → (t : List ℕ) (ms others : List Message) → length t < 2 ^ 63 →
+        Possible (I.remaining source.old) (I.remaining source.new) t → MessagesOf t ms →
+        All (IsSoundAt (f.files folder.old)) ms → AreNamed others → AreAlike others ms →
         Stays others (f.files folder.old) (f.may_leave folder.old) (f.files folder.new) (f.may_leave folder.new) }
     ensures known { let f = ⟦<DiskFolder<S> as Folder>⟧ in f.honest folder.old → (t : List ℕ) (ms : List Message) → length t < 2 ^ 63 →
         Possible (I.remaining source.old) (I.remaining source.new) t → MessagesOf t ms → All (IsSoundAt (f.files folder.old)) ms →
@@ -209,7 +253,8 @@ pub fn deliver<S: System, I: Read, W: Write>(
     // where the folder is quiet
     ensures quiet { ⟦<DiskFolder<S> as Folder>⟧.quiet folder.old → OnOk result (⟦<DiskFolder<S> as Folder>⟧.quiet folder.new) }
     ensures alone { let f = ⟦<DiskFolder<S> as Folder>⟧ in f.quiet folder.old → (t : List ℕ) (ms : List Message) →
-        Possible (I.remaining source.old) (I.remaining source.new) t → MessagesOf t ms → OnOk result (f.files folder.new ≡ alone_after ms (f.files folder.old)) }
+        Possible (I.remaining source.old) (I.remaining source.new) t → MessagesOf t ms →
+        OnOk result (f.files folder.new ≡ alone_after ms (f.files folder.old)) }
     ensures others { let f = ⟦<DiskFolder<S> as Folder>⟧ in f.quiet folder.old → KeepsForeign (f.files folder.old) (f.files folder.new) }
 {
     let report = convert(alloc, folder, source, READS)?;

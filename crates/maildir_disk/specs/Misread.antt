@@ -5,7 +5,8 @@ use Rattle.maildir_run.specs.declared.folder.Sub.TheVariants.{New}
 use Rattle.maildir_run.specs.Calls.{folder_of}
 use Rattle.maildir_disk.specs.World.{World, Passes, ReadsNames}
 
--- A reading from one time to another, of a folder that has this stamp before and after it, finds no name, though a file is there: all as is assumed of a system.
+-- A reading from one time to another, of a folder that has this stamp before and
+-- after it, finds no name, though a file is there: all as is assumed of a system.
 pub record Misread (now later stamp : ℕ) : Type 0 where
   pub old : World
   pub new : World

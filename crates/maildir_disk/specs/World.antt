@@ -36,7 +36,8 @@ pub record Acts (old new : World) : Type 0 where
   pub actions : List Action
   pub files_are : new.files ≡ all_acted actions old.files
 
--- Other programs acted, or none did, while the folder was watched: the clock did not go back, and the folder has the stamp that it had, or one of a change meanwhile.
+-- Other programs acted, or none did, while the folder was watched: the clock did not
+-- go back, and the folder has the stamp that it had, or one of a change meanwhile.
 pub record Passes (sub : Sub) (old new : World) : Type 0 where
   pub acts : Acts old new
   pub later : old.time ≤ new.time

@@ -68,10 +68,13 @@ pub fn after_cuts_of_several()
     ensures sound { (texts : List Mailbox) (events : List EventOver) (old new : FilesAndLeft) →
         AreNew texts old → HappenOver texts events old new →
         OfEach (IsSoundAt new.files) texts × OfEach (IsIntact new.left) texts }
-    ensures kept { (texts : List Mailbox) (text : Mailbox) (report : Report) (before between rest : List EventOver) (old new : FilesAndLeft) →
-        AreNew texts old → HappenOver texts (before ++ (RanOver text (Ok report) ∷ (between ++ (SyncedOver ∷ rest)))) old new → ¬ Contains between CutOver →
+    ensures kept { (texts : List Mailbox) (text : Mailbox) (report : Report)
+        (before between rest : List EventOver) (old new : FilesAndLeft) →
+        AreNew texts old → HappenOver texts (before ++ (RanOver text (Ok report) ∷ (between ++ (SyncedOver ∷ rest)))) old new →
+        ¬ Contains between CutOver →
         All (IsHome new.files) text.messages × All (HasBody new.left) text.messages }
-    ensures delivered { (texts : List Mailbox) (text : Mailbox) (events : List EventOver) (old mid : FilesAndLeft) (new : Files) (report : Report) →
+    ensures delivered { (texts : List Mailbox) (text : Mailbox) (events : List EventOver)
+        (old mid : FilesAndLeft) (new : Files) (report : Report) →
         AreNew texts old → HappenOver texts events old mid → Contains texts text → IsRun text.bytes mid.files (Ok report) new →
         Delivered text.messages new }
 {}

@@ -58,7 +58,8 @@ impl<S: System> DiskFolder<S> {
         ensures acts { S.honest self.old.system → Acts (S.world self.old.system) (S.world self.new.system) }
         ensures left { S.honest self.old.system → Follows LeftByOthers (S.may_leave self.old.system) (S.may_leave self.new.system) }
         ensures rooted { S.honest self.old.system → OnOk result (S.rooted self.new.system) }
-        ensures synced { S.honest self.old.system → OnOk result (Follows (λ before left. Syncs (S.world self.old.system).files before (S.world self.new.system).files left)
+        ensures synced { S.honest self.old.system →
+            OnOk result (Follows (λ before left. Syncs (S.world self.old.system).files before (S.world self.new.system).files left)
             (S.may_leave self.old.system) (S.may_leave self.new.system)) }
         ensures quiet { S.quiet self.old.system → OnOk result (S.quiet self.new.system) }
         ensures quietly { S.quiet self.old.system → SameFiles (S.world self.old.system) (S.world self.new.system) }
@@ -74,7 +75,8 @@ impl<S: System> DiskFolder<S> {
         ensures acts { S.honest self.old.system → Acts (S.world self.old.system) (S.world self.new.system) }
         ensures left { S.honest self.old.system → Follows LeftByOthers (S.may_leave self.old.system) (S.may_leave self.new.system) }
         ensures rooted { S.honest self.old.system → OnOk result (S.rooted self.new.system) }
-        ensures synced { S.honest self.old.system → OnOk result (Follows (λ before left. Syncs (S.world self.old.system).files before (S.world self.new.system).files left)
+        ensures synced { S.honest self.old.system →
+            OnOk result (Follows (λ before left. Syncs (S.world self.old.system).files before (S.world self.new.system).files left)
             (S.may_leave self.old.system) (S.may_leave self.new.system)) }
         ensures quiet { S.quiet self.old.system → OnOk result (S.quiet self.new.system) }
         ensures quietly { S.quiet self.old.system → SameFiles (S.world self.old.system) (S.world self.new.system) }

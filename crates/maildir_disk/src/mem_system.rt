@@ -296,12 +296,14 @@ impl System for MemSystem {
         ensures current { IsQuiet self.old.folder → Unit {0} → Unit {0} }
         ensures appended { IsQuiet self.old.folder → Unit {0} →
             Appended (opened_as file.old) bytes.now (world_of self.old) result (world_of self.new) }
-        ensures left { IsQuiet self.old.folder → Follows (Leaves (Writing (opened_as file.old) [])) (may_be_left self.old) (may_be_left self.new) }
+        ensures left { IsQuiet self.old.folder →
+            Follows (Leaves (Writing (opened_as file.old) [])) (may_be_left self.old) (may_be_left self.new) }
         ensures quiet { HasNoTurns self.old → HasNoTurns self.new }
         ensures quietly { HasNoTurns self.old → Unit {0} →
             AppendedQuietly (opened_as file.old) bytes.now (files_of self.old.folder) result (files_of self.new.folder) }
         ensures loses { IsQuiet self.old.folder → IfOk result (λ n. HasRoom self.new.cases →
-            IsTrue (contains_key (files_of self.new.folder).tmp (opened_as file.old)) → MayLoseFronts (opened_as file.old) bytes.now n self.old self.new) }
+            IsTrue (contains_key (files_of self.new.folder).tmp (opened_as file.old)) →
+            MayLoseFronts (opened_as file.old) bytes.now n self.old self.new) }
     {
         self.pass_shortly()?;
         let taken = bytes.len() - bytes.len() / 2;
@@ -331,7 +333,8 @@ impl System for MemSystem {
             Called (Placing name.now place target.now) (files_of self.old.folder) result (files_of self.new.folder) }
         ensures gone { IsQuiet self.old.folder → IfErr result (λ error. error_kind error ≡ NotFound →
             WasGone name.now (Placing name.now place target.now) (files_of self.old.folder) (files_of self.new.folder)) }
-        ensures left { IsQuiet self.old.folder → Follows (Leaves (Placing name.now place target.now)) (may_be_left self.old) (may_be_left self.new) }
+        ensures left { IsQuiet self.old.folder →
+            Follows (Leaves (Placing name.now place target.now)) (may_be_left self.old) (may_be_left self.new) }
         ensures quiet { HasNoTurns self.old → HasNoTurns self.new }
         ensures quietly { HasNoTurns self.old →
             CalledQuietly (Placing name.now place target.now) (files_of self.old.folder) result (files_of self.new.folder) }

@@ -157,7 +157,8 @@ pub trait System {
         ensures honest { honest self.old → OnOk result (honest self.new) }
         ensures acts { honest self.old → Acts (world self.old) (world self.new) }
         ensures left { honest self.old → Follows LeftByOthers (may_leave self.old) (may_leave self.new) }
-        ensures names { honest self.old → OnOk result (Follows (λ before left. KeepsNames (folder_of_place place) (world self.old).files before (world self.new).files left)
+        ensures names { honest self.old → OnOk result
+            (Follows (λ before left. KeepsNames (folder_of_place place) (world self.old).files before (world self.new).files left)
             (may_leave self.old) (may_leave self.new)) }
         ensures quiet { quiet self.old → OnOk result (quiet self.new) }
         ensures quietly { quiet self.old → SameFiles (world self.old) (world self.new) };

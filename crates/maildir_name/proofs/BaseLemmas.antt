@@ -1,5 +1,6 @@
 -- The bases of targets: their parts, and that they are this converter's.
-use Rattle.std.proofs.Common.{◌≡◌, ℕ, zero, suc, ◌+◌, ◌^◌, ◌<◌, true, List, [], ◌∷◌, ◌++◌, length, take, drop, slice_index, refl, sym, ◌∙◌, ap, arith, decimal, append_assoc, lit<}
+use Rattle.std.proofs.Common.{◌≡◌, ℕ, zero, suc, ◌+◌, ◌^◌, ◌<◌, true, List, [], ◌∷◌, ◌++◌, length, take}
+use Rattle.std.proofs.Common.{drop, slice_index, refl, sym, ◌∙◌, ap, arith, decimal, append_assoc, lit<}
 use Rattle.std.specs.List.{list_all}
 use Rattle.std.specs.Int.{byte_at, bytes_high_first, to_be_bytes, w32}
 use Rattle.std.proofs.lemmas.Bool.{and_from, le-leb, cases_Bool}
@@ -35,7 +36,8 @@ bytes-high_first (suc k) n = (byte_at-lt k n, bytes-high_first k n)
 bytes-digest_bytes : (h : List ℕ) (n : ℕ) → AllBytes (digest_bytes h n)
 unfolding digest_bytes
 bytes-digest_bytes h zero = tt
-bytes-digest_bytes h (suc n) = bytes-append (digest_bytes h n) (to_be_bytes w32 (slice_index h n)) (bytes-digest_bytes h n) (bytes-high_first 4 (slice_index h n))
+bytes-digest_bytes h (suc n) =
+    bytes-append (digest_bytes h n) (to_be_bytes w32 (slice_index h n)) (bytes-digest_bytes h n) (bytes-high_first 4 (slice_index h n))
 
 -- a digest is bytes
 pub bytes-sha256 : (body : List ℕ) → AllBytes (sha256 body)
@@ -77,11 +79,18 @@ occurrence-decimal n some small = grind (arith, digits_value-decimal, own, decim
 -- a base with a number of 64 bits is this converter's
 pub numbered-converter : (body : List ℕ) (n : ℕ) → 0 < n → n < 2 ^ 64 → IsConverterBase (numbered body n)
 unfolding is_converter_base
-numbered-converter body n some small = grind (arith, get_or_at, decimal, length-digest_text, numbered-digits, digits-encode, bytes-sha256, numbered-number, occurrence-decimal)
+numbered-converter body n some small =
+    grind (arith, get_or_at, decimal, length-digest_text, numbered-digits, digits-encode, bytes-sha256, numbered-number, occurrence-decimal)
 
 -- equal bases have equal digests and numbers
 pub same-digest : (a b : List ℕ) (m n : ℕ) → numbered a m ≡ numbered b n → sha256 a ≡ sha256 b
-same-digest a b m n e = grind (arith, numbered-digits a m, numbered-digits b n, decode_of-encode_lower (sha256 a) (IsBytes-AllBytes (sha256 a) (bytes-sha256 a)), decode_of-encode_lower (sha256 b) (IsBytes-AllBytes (sha256 b) (bytes-sha256 b)))
+same-digest a b m n e = grind (
+  arith,
+  numbered-digits a m,
+  numbered-digits b n,
+  decode_of-encode_lower (sha256 a) (IsBytes-AllBytes (sha256 a) (bytes-sha256 a)),
+  decode_of-encode_lower (sha256 b) (IsBytes-AllBytes (sha256 b) (bytes-sha256 b)),
+)
 
 pub same-number : (a b : List ℕ) (m n : ℕ) → m < 2 ^ 64 → n < 2 ^ 64 → numbered a m ≡ numbered b n → m ≡ n
 same-number a b m n small small' e = grind (arith, decimal_injective, numbered-number)

@@ -1,5 +1,6 @@
 -- The bases of the targets of one text: this converter's, and distinct.
-use Rattle.std.proofs.Common.{◌≡◌, ℕ, ◌+◌, ◌^◌, ◌<◌, ◌≤◌, List, [], ◌∷◌, ◌++◌, length, get_or, take, count_by, refl, sym, ◌∙◌, ap, arith, All, AllPairs, bytes_eq, cond, length-take-le}
+use Rattle.std.proofs.Common.{◌≡◌, ℕ, ◌+◌, ◌^◌, ◌<◌, ◌≤◌, List, [], ◌∷◌, ◌++◌, length, get_or, take, count_by}
+use Rattle.std.proofs.Common.{refl, sym, ◌∙◌, ap, arith, All, AllPairs, bytes_eq, cond, length-take-le}
 use Rattle.std.specs.Cmp.Lexicographic.{nat_list_eq_equiv}
 use Rattle.std.proofs.lemmas.List.{take_more, take-take}
 use Rattle.std.proofs.lemmas.List.Sums.{count_by-le-length, sum_by-take-le}

@@ -1,5 +1,6 @@
 -- The bases of equal bodies.
-use Rattle.std.proofs.Common.{◌≡◌, ℕ, ◌+◌, cond, List, [], ◌∷◌, ◌++◌, length, zip, count_by, refl, sym, ◌∙◌, ap, arith, All, bytes_eq, inl, inr, add-zero, append-nil, append_assoc}
+use Rattle.std.proofs.Common.{◌≡◌, ℕ, ◌+◌, cond, List, [], ◌∷◌, ◌++◌, length, zip, count_by, refl, sym}
+use Rattle.std.proofs.Common.{◌∙◌, ap, arith, All, bytes_eq, inl, inr, add-zero, append-nil, append_assoc}
 use Rattle.std.specs.Cmp.Lexicographic.{nat_list_eq_equiv, bytes_decides}
 use Rattle.std.proofs.lemmas.Bool.{cases_Bool, false_from_ne_true, both_ways}
 use Rattle.std.proofs.lemmas.List.{map-append, get_or_append_left, get_or_push, length_push}
@@ -12,7 +13,8 @@ use Rattle.maildir_name.proofs.NamerLemmas.{count-push}
 use Rattle.maildir_name.proofs.TargetLemmas.{length-targets, targets-push}
 
 -- what holds of no body, and of one more, holds of all
-by_one_more : (P : List (List ℕ) → Type 0) → P [] → ((bodies : List (List ℕ)) (body : List ℕ) → P bodies → P (bodies ++ body ∷ [])) → (front back : List (List ℕ)) → P front → P (front ++ back)
+by_one_more : (P : List (List ℕ) → Type 0) → P [] → ((bodies : List (List ℕ)) (body : List ℕ) → P bodies → P (bodies ++ body ∷ []))
+    → (front back : List (List ℕ)) → P front → P (front ++ back)
 by_one_more P none more front [] h = rw (append-nil front) h
 by_one_more P none more front (body ∷ back) h = grind (arith, by_one_more P none more (front ++ body ∷ []) back (more front body h), append_assoc)
 
@@ -74,4 +76,5 @@ bases-more body bodies last before h =
 
 pub bases-equal : (bodies : List (List ℕ)) (body : List ℕ) → IsAlone body bodies → bases_of body bodies ≡ numbered_up_to body (count_by (bytes_eq body) bodies)
 bases-equal bodies body =
-    by_one_more (λ l. IsAlone body l → bases_of body l ≡ numbered_up_to body (count_by (bytes_eq body) l)) (λ _. refl) (λ l last before. bases-more body l last before) [] bodies (λ _. refl)
+    by_one_more (λ l. IsAlone body l → bases_of body l ≡ numbered_up_to body (count_by (bytes_eq body) l))
+    (λ _. refl) (λ l last before. bases-more body l last before) [] bodies (λ _. refl)

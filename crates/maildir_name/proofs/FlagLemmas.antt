@@ -1,5 +1,6 @@
 -- Lines, headers and fields.
-use Rattle.std.proofs.Common.{◌≡◌, ℕ, ◌+◌, ◌-◌, ◌<◌, ◌≤◌, zero, suc, Bool, true, false, eqb, List, [], ◌∷◌, length, get_or, take, drop, position, Some, None, refl, sym, ap, arith, le_refl, zero-le, add-one}
+use Rattle.std.proofs.Common.{◌≡◌, ℕ, ◌+◌, ◌-◌, ◌<◌, ◌≤◌, zero, suc, Bool, true, false, eqb, List, [], ◌∷◌, length}
+use Rattle.std.proofs.Common.{get_or, take, drop, position, Some, None, refl, sym, ap, arith, le_refl, zero-le, add-one}
 use Rattle.std.proofs.lemmas.Bool.{eqb-true, cases_Bool}
 use Rattle.std.proofs.lemmas.List.{drop_all, take_all, take_rest, nil_from_length}
 use Rattle.std.proofs.lemmas.List.Quantifiers.{position-Some}
@@ -89,5 +90,6 @@ module _ {name body rest line behind : List ℕ} {n : ℕ} (r : FieldRead name b
     pub field_else : begins ≡ false → field name (header behind) ≡ field name (header body)
     field_else t = grind (arith, field-passed, reads_more)
 
-pub field_end : (name body rest : List ℕ) {empty : Bool} → field name (header rest) ≡ field name (header body) → empty ≡ eqb (length rest) 0 → empty ≡ true → [] ≡ field name (header body)
+pub field_end : (name body rest : List ℕ) {empty : Bool} → field name (header rest) ≡ field name (header body)
+    → empty ≡ eqb (length rest) 0 → empty ≡ true → [] ≡ field name (header body)
 field_end name body rest same e t = grind (arith, field-nil, header-nil, nil_from_length, eqb-true)

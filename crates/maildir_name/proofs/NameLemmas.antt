@@ -1,10 +1,12 @@
 -- Bases and this converter's names.
-use Rattle.std.proofs.Common.{◌≡◌, ℕ, ◌+◌, ◌-◌, ◌<◌, ◌≤◌, ◌^◌, Bool, true, false, ◌&&◌, eqb, leb, List, [], ◌∷◌, ◌++◌, length, get_or, take, drop, refl, sym, ◌∙◌, arith, inl, inr, Result, Ok, Err, is_ok, OkIff, length-append, length-drop, length-take-le, get_or-take, get_or-drop}
+use Rattle.std.proofs.Common.{◌≡◌, ℕ, ◌+◌, ◌-◌, ◌<◌, ◌≤◌, ◌^◌, Bool, true, false, ◌&&◌, eqb, leb, List, [], ◌∷◌, ◌++◌, length, get_or, take, drop, refl, sym}
+use Rattle.std.proofs.Common.{◌∙◌, arith, inl, inr, Result, Ok, Err, is_ok, OkIff, length-append, length-drop, length-take-le, get_or-take, get_or-drop}
 use Rattle.std.specs.List.{before_first, after_first, position_or_len, list_all}
 use Rattle.std.specs.Int.{IsInRange}
 use Rattle.std.specs.Str.{all_ascii_digits}
 use Rattle.std.specs.Str.Parse.{digits_value, ParsesUnsigned}
-use Rattle.std.proofs.lemmas.Bool.{both_ways, and_parts, and_from, and_left, and_right, and_cases, cases_eq, cases_lt, cases_order, leb-true, leb-false, le-leb, lt-leb, eqb-true, eq-eqb, ne_eqb, false_from_ne_true}
+use Rattle.std.proofs.lemmas.Bool.{both_ways, and_parts, and_from, and_left, and_right, and_cases, cases_eq, cases_lt}
+use Rattle.std.proofs.lemmas.Bool.{cases_order, leb-true, leb-false, le-leb, lt-leb, eqb-true, eq-eqb, ne_eqb, false_from_ne_true}
 use Rattle.std.proofs.lemmas.List.{take_all, take_at, get_or_at, get_or_past, get_or_append_left}
 use Rattle.std.proofs.lemmas.List.Sums.{position_or_len_is, passes_at_first, AllPass-from_list_all}
 use Rattle.std.proofs.lemmas.Str.Parse.{IsNumeralModel, numerals_by_value, tells_all_ascii_digits, parse_plain, not_in_digits}
@@ -52,7 +54,8 @@ swap_true false z e = refl
 
 -- a base that is cut at its first dot
 pub converter_cut : (b : List ℕ) → position_or_len is_dot b < length b
-    → (eqb (length (before_first is_dot b)) 64 && list_all is_lower_hex_digit (before_first is_dot b) && is_occurrence (after_first is_dot b)) ≡ is_converter_base b
+    → (eqb (length (before_first is_dot b)) 64 && list_all is_lower_hex_digit (before_first is_dot b) && is_occurrence (after_first is_dot b))
+    ≡ is_converter_base b
 unfolding is_converter_base
 converter_cut b l = elim (cases_eq (position_or_len is_dot b) 64) [
   | inl e ↦
@@ -104,17 +107,20 @@ occurrence_high (c ∷ text) h = grind (arith, and_right, lt-leb)
 
 -- the text begins with a digit other than zero, and is then parsed
 pub occurrence_then : {E : Type 0} {text bytes : List ℕ} {begins answer : Bool} (r : Result ℕ E) → bytes ≡ text
-    → begins ≡ (leb 49 (get_or bytes 0 0) && leb (get_or bytes 0 0) 57) → begins ≡ true → ParsesUnsigned 64 10 text r → answer ≡ is_ok r → answer ≡ is_occurrence text
+    → begins ≡ (leb 49 (get_or bytes 0 0) && leb (get_or bytes 0 0) 57) → begins ≡ true
+    → ParsesUnsigned 64 10 text r → answer ≡ is_ok r → answer ≡ is_occurrence text
 occurrence_then {text} r is b t h a = grind (arith, and_parts, occurrence_parsed, leb-true)
 
-pub occurrence_else : {text bytes : List ℕ} {begins : Bool} → bytes ≡ text → begins ≡ (leb 49 (get_or bytes 0 0) && leb (get_or bytes 0 0) 57) → begins ≡ false → begins ≡ is_occurrence text
+pub occurrence_else : {text bytes : List ℕ} {begins : Bool} → bytes ≡ text
+    → begins ≡ (leb 49 (get_or bytes 0 0) && leb (get_or bytes 0 0) 57) → begins ≡ false → begins ≡ is_occurrence text
 occurrence_else {text} is b f = grind (arith, and_cases, occurrence_low, leb-false, occurrence_high)
 
 -- the parts of a base round its first dot
 abbrev pub AreRound : List ℕ → List ℕ → List ℕ → Type 0
 AreRound b digest number = (position_or_len is_dot b < length b) × (digest ≡ before_first is_dot b) × (number ≡ after_first is_dot b)
 
-pub converter_then : (name : List ℕ) {b digest bytes : List ℕ} (number : List ℕ) {first second : Bool} → b ≡ base name → AreRound b digest number → bytes ≡ digest
+pub converter_then : (name : List ℕ) {b digest bytes : List ℕ} (number : List ℕ) {first second : Bool}
+    → b ≡ base name → AreRound b digest number → bytes ≡ digest
     → first ≡ (eqb (length bytes) 64 && list_all is_lower_hex_digit bytes) → first ≡ true → second ≡ is_occurrence number → second ≡ is_converter_name name
 converter_then name {b} number eb cut es e1 t e2 = grind (arith, converter_cut b cut.0)
 

@@ -1,5 +1,6 @@
 -- What a namer's counts say of the bodies that it was given.
-use Rattle.std.proofs.Common.{◌≡◌, ℕ, ◌+◌, ◌-◌, ◌^◌, ◌<◌, min, Bool, false, cond, List, [], ◌∷◌, ◌++◌, length, count_by, sym, ◌∙◌, ap, add-zero, arith, inl, inr, decimal, bytes_eq}
+use Rattle.std.proofs.Common.{◌≡◌, ℕ, ◌+◌, ◌-◌, ◌^◌, ◌<◌, min, Bool, false, cond, List, [], ◌∷◌, ◌++◌}
+use Rattle.std.proofs.Common.{length, count_by, sym, ◌∙◌, ap, add-zero, arith, inl, inr, decimal, bytes_eq}
 use Rattle.std.specs.Cmp.Lexicographic.{nat_list_eq_equiv, bytes_decides}
 use Rattle.std.proofs.lemmas.Bool.{cases_Bool}
 use Rattle.std.proofs.lemmas.List.Sums.{count_by-le-length, sum_by_push}
@@ -56,7 +57,8 @@ module _ {bodies : List (List ℕ)} {body digest : List ℕ} {count number : ℕ
   next-counted {base} {t} eb ef et = grind (arith, number-counted, targets-push, named-counted)
 
 -- its base is this converter's
-pub named-counted-base : (body : List ℕ) {digest base : List ℕ} (count : ℕ) {number : ℕ} (f : Flags) {t : Target} → digest ≡ sha256 body → number ≡ min (count + 1) (2 ^ 64 - 1)
+pub named-counted-base : (body : List ℕ) {digest base : List ℕ} (count : ℕ) {number : ℕ} (f : Flags) {t : Target}
+    → digest ≡ sha256 body → number ≡ min (count + 1) (2 ^ 64 - 1)
     → base ≡ encode_lower digest ++ 46 ∷ decimal number → t ≡ under_flags base f → IsNamed t
 named-counted-base body {base} count {number} f {t} ed en eb et =
     let b : base ≡ numbered body number = rw (← ed) eb in

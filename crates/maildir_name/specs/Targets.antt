@@ -50,7 +50,8 @@ targets bodies = map (λ k. target (take k bodies) (slice_index_or bodies k []))
 
 -- the bases of the targets that belong to one body, in order
 abbrev pub bases_of : List ℕ → List (List ℕ) → List (List ℕ)
-bases_of body bodies = map (λ (entry : List ℕ × Target). entry.1.base) (filter (λ (entry : List ℕ × Target). bytes_eq body entry.0) (zip bodies (targets bodies)))
+bases_of body bodies =
+    map (λ (entry : List ℕ × Target). entry.1.base) (filter (λ (entry : List ℕ × Target). bytes_eq body entry.0) (zip bodies (targets bodies)))
 
 -- the bases of a body with the numbers from 1 up to n
 abbrev pub numbered_up_to : List ℕ → ℕ → List (List ℕ)

@@ -1,7 +1,8 @@
 // Names of files in a Maildir, and which of them are this converter's.
 ghost use Rattle.std.specs.Prelude.{◌≡◌, ◌==◌, ◌&&◌, nat_le, length, slice_index, string_bytes};
 ghost use Rattle.std.specs.List.{list_all};
-ghost use Rattle.maildir_name.specs.Names.{base, is_converter_name as converter_name, is_lower_hex_digit as digit, is_occurrence as occurrence};
+ghost use Rattle.maildir_name.specs.Names.{base, is_converter_name as converter_name};
+ghost use Rattle.maildir_name.specs.Names.{is_lower_hex_digit as digit, is_occurrence as occurrence};
 
 use std::marker::Model;
 

@@ -48,7 +48,8 @@ impl Namer {
     pub fn target(&mut self, body: &[u8]) -> Result<Target, NameFault>
         ensures next { IfOk result (λ target. (bodies : List (List ℕ)) → Named bodies self.old → length bodies < 2 ^ 63 →
             (targets (bodies ++ body.now ∷ []) ≡ targets bodies ++ target ∷ []) × Named (bodies ++ body.now ∷ []) self.new) }
-        ensures base { IfOk result (λ target. IsConverterBase target.base × (base_lem target.base ≡ target.base) × (base_lem target.name ≡ target.base)) }
+        ensures base { IfOk result
+            (λ target. IsConverterBase target.base × (base_lem target.base ≡ target.base) × (base_lem target.name ≡ target.base)) }
         ensures refused { OnErr result (self.new ≡ self.old) }
     {
         let digest = Sha256::digest(body);
@@ -68,7 +69,8 @@ impl Namer {
 
     // Keeps how often a digest came.
     fn set_count(&mut self, digest: [u8; 32], number: u64) -> Result<(), AllocError>
-        ensures set { OnOk result ((other : List ℕ) → count_of self.new other ≡ (if bytes_eq digest other then number else count_of self.old other)) }
+        ensures set { OnOk result
+            ((other : List ℕ) → count_of self.new other ≡ (if bytes_eq digest other then number else count_of self.old other)) }
         ensures refused { OnErr result (self.new ≡ self.old) }
     {
         self.counts.insert(digest, number)?;

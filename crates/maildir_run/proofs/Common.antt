@@ -4,15 +4,21 @@ pub use Rattle.std.proofs.Math.Bool.{or-false, or-true}
 pub use Rattle.std.proofs.Math.Seq.{drop-append_seam, drop-cons, drop-nil, get_or-append_seam, take-length}
 pub use Rattle.std.proofs.lemmas.Bool.{and_parts, both_ways, cases_Bool, cases_lt, false_from_ne_true, false≢true, or_cases, or_parts}
 pub use Rattle.std.proofs.lemmas.Cmp.{eq_by_cmp_equiv, nat_list_cmp_total}
-pub use Rattle.std.proofs.lemmas.List.{append_cancel_right, drop_more, get_or-map, get_or_append_left, length-map, map-append, nil_from_length, take-map, take_more, with_items_is}
+pub use Rattle.std.proofs.lemmas.List.{append_cancel_right, drop_more, get_or-map, get_or_append_left, length-map}
+pub use Rattle.std.proofs.lemmas.List.{map-append, nil_from_length, take-map, take_more, with_items_is}
 pub use Rattle.std.proofs.lemmas.List.Concat.{flat_map-append}
 pub use Rattle.std.proofs.lemmas.List.Elements.{All-cons, All-contains, All-from_get_or, All-head, All-nil, All-push, All-tail, All-weaker, Contains-get_or}
 pub use Rattle.std.proofs.lemmas.List.Folds.{list_any-append, list_any_at, list_any_none}
-pub use Rattle.std.proofs.lemmas.List.Sorted.{All-permutation, IsPermutation-append_left, IsPermutation-append_right, IsPermutation-cons, IsPermutation-middle, IsPermutation-refl, IsPermutation-sym, IsPermutation-trans, length_permutation, list_any-IsPermutation, sum_by-IsPermutation}
+pub use Rattle.std.proofs.lemmas.List.Sorted.{All-permutation, IsPermutation-append_left, IsPermutation-append_right}
+pub use Rattle.std.proofs.lemmas.List.Sorted.{IsPermutation-cons, IsPermutation-middle, IsPermutation-refl, IsPermutation-sym}
+pub use Rattle.std.proofs.lemmas.List.Sorted.{IsPermutation-trans, length_permutation, list_any-IsPermutation, sum_by-IsPermutation}
 pub use Rattle.std.proofs.lemmas.List.Sums.{count_by-le-length, count_by_more_yes, length-filter, sum_by-cons, sum_by-take-le}
 pub use Rattle.std.proofs.lemmas.Map.Views.{any-filter_same}
 pub use Rattle.std.specs.Cmp.Lexicographic.{bytes_decides, nat_list_eq_equiv, slice_cmp}
-pub use Rattle.std.specs.FinMap.{contains_key, contains_key-keys, empty, entries, entries-from_sorted, entries-insert, entries_sorted, find, from_entries, from_sorted, get, get-empty, get-entries, get-from_entries, get-from_sorted, get-insert, get-remove, get-retain_keys, insert, IsAntisymmetric, keys, len, len-empty, len-entries, len-remove, nat_cmp-IsAntisymmetric, put, remove, retain_keys, same_map, slice_cmp-IsAntisymmetric, values}
+pub use Rattle.std.specs.FinMap.{contains_key, contains_key-keys, empty, entries, entries-from_sorted, entries-insert, entries_sorted}
+pub use Rattle.std.specs.FinMap.{find, from_entries, from_sorted, get, get-empty, get-entries, get-from_entries, get-from_sorted}
+pub use Rattle.std.specs.FinMap.{get-insert, get-remove, get-retain_keys, insert, IsAntisymmetric, keys, len, len-empty, len-entries, len-remove}
+pub use Rattle.std.specs.FinMap.{nat_cmp-IsAntisymmetric, put, remove, retain_keys, same_map, slice_cmp-IsAntisymmetric, values}
 pub use Rattle.std.specs.Io.KnownBytes.{Appends, Consumes, IsAtEnd}
 pub use Rattle.std.specs.List.{AllZip, each_same, list_any, position_or_len}
 pub use Rattle.std.specs.declared.cmp.Ordering.TheVariants.{Equal, Greater, Less}
@@ -34,12 +40,16 @@ pub use Rattle.mbox_text.specs.declared.entry.Entry.{Entry}
 pub use Rattle.mbox_text.specs.declared.splitter.Splitter.{Splitter}
 pub use Rattle.maildir_run.specs.Alone.{added, alone, filled, swept}
 pub use Rattle.maildir_run.specs.Private.Bases.{BaseSet, set_of, with_bases}
-pub use Rattle.maildir_run.specs.Calls.{after, Again, Call, Called, CalledQuietly, CountsFailure, effect, AnyMoves, folder_of, GoesUp, IsOthers, IsOwn, IsReady, IsWhole, Listed, Listing, Lists, Move, moved, names_of, NoneOrOne, Other, placed, PlacesElsewhere, Placing, Removing, StaysOrGoes, Succeeded, Torn, torn, WritesElsewhere, Writing}
+pub use Rattle.maildir_run.specs.Calls.{after, Again, Call, Called, CalledQuietly, CountsFailure, effect, AnyMoves, folder_of, GoesUp, IsOthers}
+pub use Rattle.maildir_run.specs.Calls.{IsOwn, IsReady, IsWhole, Listed, Listing, Lists, Move, moved, names_of, NoneOrOne, Other, placed}
+pub use Rattle.maildir_run.specs.Calls.{PlacesElsewhere, Placing, Removing, StaysOrGoes, Succeeded, Torn, torn, WritesElsewhere, Writing}
 pub use Rattle.maildir_run.specs.Counting.{capped, CountsFault, fault_of, GoesUpWith, HasCallNumber, IsOfFolder, CallNumber, raised}
 pub use Rattle.maildir_run.specs.Private.Counting.{Makes, run_answer}
 pub use Rattle.maildir_run.specs.Cuts.{Came, IsFoundWhole, Leaves, LeavesOf, Follows, left_after, linked}
-pub use Rattle.maildir_run.specs.Delivery.{AreDistinct, AreNamed, Delivered, has_home, HasHome, is_any, is_base_of, IsHome, IsMissing, IsSoundAt, IsSwept, leftover_count, Message, Sound, there_count}
-pub use Rattle.maildir_run.specs.Files.{acted, Action, AgreeOnConverters, all_acted, DropTmp, FileMap, Files, has_base, held_under, homes, is_name, KeepsConverters, may_take, name_cmp, Outside, outsiders_of, Reflag, reflag, to_cur, ToCur, KeepsHomes}
+pub use Rattle.maildir_run.specs.Delivery.{AreDistinct, AreNamed, Delivered, has_home, HasHome, is_any, is_base_of, IsHome}
+pub use Rattle.maildir_run.specs.Delivery.{IsMissing, IsSoundAt, IsSwept, leftover_count, Message, Sound, there_count}
+pub use Rattle.maildir_run.specs.Files.{acted, Action, AgreeOnConverters, all_acted, DropTmp, FileMap, Files, has_base, held_under, homes, is_name}
+pub use Rattle.maildir_run.specs.Files.{KeepsConverters, may_take, name_cmp, Outside, outsiders_of, Reflag, reflag, to_cur, ToCur, KeepsHomes}
 pub use Rattle.maildir_run.specs.Private.Given.{IsFrontOf, Gave, GaveAll, IsGiven, SourceStopped}
 pub use Rattle.maildir_run.specs.Private.TableSoFar.{HasListed}
 pub use Rattle.maildir_run.specs.Table.{info, table_of, message_row, place_word, shown_byte, shown_sender}
@@ -54,7 +64,8 @@ pub use Rattle.maildir_run.specs.Reading.{IsReading, ReadsAtLeast, ReadsAtMost}
 pub use Rattle.maildir_run.specs.Runs.{Acted, Chain, CountsRun, Keeps, Link, Linked, Possible, IsRun, Runs}
 pub use Rattle.maildir_run.specs.Script.{acts_at, all_performed, Answers, done, fails, halved, IsCutShort, IsPart, mode_at, performed}
 pub use Rattle.maildir_run.specs.Private.Script.{may_link}
-pub use Rattle.maildir_run.specs.Tasks.{AllDone, Ask, call_of, Do, Done, DoneUntil, leaving, listing_tasks, Listings, Performs, planned_tasks, honestly, Stopped, Task, task_of, tasks_of, Way}
+pub use Rattle.maildir_run.specs.Tasks.{AllDone, Ask, call_of, Do, Done, DoneUntil, leaving, listing_tasks, Listings}
+pub use Rattle.maildir_run.specs.Tasks.{Performs, planned_tasks, honestly, Stopped, Task, task_of, tasks_of, Way}
 pub use Rattle.maildir_run.specs.Private.Tasks.{quietly}
 pub use Rattle.maildir_run.specs.Texts.{bodies_of, messages_of, MessagesOf, with_bodies}
 pub use Rattle.maildir_run.specs.declared.fault.RunFault.{RunFault}

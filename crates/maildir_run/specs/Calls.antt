@@ -33,7 +33,8 @@ placed s name p target None = s
 placed s name place.New target (Some bytes) = record s { tmp = remove s.tmp name; new = insert s.new target bytes }
 placed s name place.Cur target (Some bytes) = record s { tmp = remove s.tmp name; cur = insert s.cur target bytes }
 
--- the files after a call's effect: a listing has none, a write sets a file of `tmp`, a placement is one rename out of `tmp`, a removal leaves `tmp` without the name (this project's own rule, after maildir(5))
+-- the files after a call's effect: a listing has none, a write sets a file of `tmp`, a placement is one
+-- rename out of `tmp`, a removal leaves `tmp` without the name (this project's own rule, after maildir(5))
 abbrev pub effect : Call → Files → Files
 effect (Listing sub) s = s
 effect (Writing name bytes) s = record s { tmp = insert s.tmp name bytes }

@@ -48,7 +48,8 @@ AreDistinct ms = AllPairs (λ m n. IsFalse (is_name m.target.base n.target.base)
 abbrev pub is_base_of : List Message → List ℕ → Bool
 is_base_of ms b = list_any (λ m. is_name m.target.base b) ms
 
--- A folder is sound for the messages, as against an earlier moment: each has at most one home, which holds its body, and the homes of each other converter's base hold what they held.
+-- A folder is sound for the messages, as against an earlier moment: each has at most one home,
+-- which holds its body, and the homes of each other converter's base hold what they held.
 pub record Sound (ms : List Message) (old new : Files) : Type 0 where
   pub own : All (IsSoundAt new) ms
   pub others : (b : List ℕ) → IsTrue (is_converter_base b) → IsFalse (is_base_of ms b) → IsPermutation (homes old b) (homes new b)

@@ -83,4 +83,6 @@ CountsCall old new = call_count new ≡ next_call old
 
 -- the call did what the script says: all acts before it were made, and then it answered in its mode; or an act found no memory
 abbrev pub FollowsScript : {A : Type 0} → Call → MemFolder → Result A FolderFault → MemFolder → Type 0
-FollowsScript call old result new = Answers (next_mode old) call (next_files old) result (files_of new) ⊎ (IsErrOf result OutOfMemory × IsCutShort (next_acts old) (files_of old) (files_of new))
+FollowsScript call old result new =
+    Answers (next_mode old) call (next_files old) result (files_of new)
+    ⊎ (IsErrOf result OutOfMemory × IsCutShort (next_acts old) (files_of old) (files_of new))

@@ -8,7 +8,8 @@ use Rattle.maildir_run.specs.Files.{Files, Action, acted}
 use Rattle.maildir_run.specs.Delivery.{Message, HasHome, IsMissing, Sound, Delivered, there_count, leftover_count}
 use Rattle.maildir_run.specs.Texts.{MessagesOf}
 
--- A text is possible for a call that read from a source: what was read is its front, and all of it where the source has nothing left. The source tells what it has left before the call and after it, with what it failed to give.
+-- A text is possible for a call that read from a source: what was read is its front, and all of it where the source
+-- has nothing left. The source tells what it has left before the call and after it, with what it failed to give.
 pub record Possible (before after : Option (List ℕ)) (t : List ℕ) : Type 0 where
   pub read : List ℕ
   pub left : List ℕ
@@ -45,7 +46,8 @@ pub record IsRun (t : List ℕ) (old : Files) (answer : Result Report RunFault) 
   pub keeps : (ms : List Message) → MessagesOf t ms → Sound ms old old → Keeps ms old answer new
   pub is_read : OnOk answer ((entries : List Entry) × Mbox t entries)
 
--- the calls of a run that answered Ok: three listings, one removal for each name that was swept, and a write and a placement for each message that was placed; the count is one of 128 bits
+-- the calls of a run that answered Ok: three listings, one removal for each name that was swept,
+-- and a write and a placement for each message that was placed; the count is one of 128 bits
 abbrev pub CountsRun : Report → ℕ → ℕ → Type 0
 CountsRun report old new = new % 2 ^ 128 ≡ (old + (3 + report.swept + 2 * report.placed)) % 2 ^ 128
 

@@ -1,5 +1,6 @@
 -- What a script makes of a folder in memory: what other programs do before its calls, and which calls fail or come twice.
-use Rattle.std.specs.Prelude.{◌≡◌, ℕ, ◌==◌, ◌/◌, ◌⊎◌, Bool, true, false, if◌then◌else◌, nat_le, IsTrue, IsFalse, List, [], ◌∷◌, ◌++◌, length, take, Option, Some, None, Result, Ok, Err, string_bytes}
+use Rattle.std.specs.Prelude.{◌≡◌, ℕ, ◌==◌, ◌/◌, ◌⊎◌, Bool, true, false, if◌then◌else◌, nat_le, IsTrue, IsFalse}
+use Rattle.std.specs.Prelude.{List, [], ◌∷◌, ◌++◌, length, take, Option, Some, None, Result, Ok, Err, string_bytes}
 use Rattle.maildir_name.specs.Names.{is_converter_name}
 use Rattle.maildir_run.specs.declared.folder.FolderFault.{FolderFault}
 use Rattle.maildir_run.specs.declared.folder.FolderFault.TheVariants as fault

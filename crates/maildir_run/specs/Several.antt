@@ -1,5 +1,6 @@
 -- Several texts that go into one Maildir: what is sound for all of them, and what runs over any of them leave.
-use Rattle.std.specs.Prelude.{◌≡◌, ◌≢◌, ℕ, ◌+◌, ◌<◌, ◌≤◌, ◌^◌, ◌&&◌, ◌⊎◌, max, Bool, IsTrue, IsFalse, List, [], ◌∷◌, length, take, count_by, All, Contains, IsPermutation, Result, Ok, Err}
+use Rattle.std.specs.Prelude.{◌≡◌, ◌≢◌, ℕ, ◌+◌, ◌<◌, ◌≤◌, ◌^◌, ◌&&◌, ◌⊎◌, max, Bool, IsTrue, IsFalse, List}
+use Rattle.std.specs.Prelude.{[], ◌∷◌, length, take, count_by, All, Contains, IsPermutation, Result, Ok, Err}
 use Rattle.std.specs.List.{list_any}
 use Rattle.std.specs.Str.{bytes_eq}
 use Rattle.maildir_name.specs.Names.{is_converter_base}
@@ -39,7 +40,8 @@ pub record HoldsGiven (texts : List Mailbox) (s : Files) (m : Message) : Type 0 
   pub given : IsTrue (gives texts m.target.base body)
   pub homes_are : homes s m.target.base ≡ body ∷ []
 
--- A folder is sound for several texts, as against an earlier moment: each base of their messages has at most one home, which holds a body that one of the texts gives to this base, and the homes of each other converter's base hold what they held.
+-- A folder is sound for several texts, as against an earlier moment: each base of their messages has at most one home, which
+-- holds a body that one of the texts gives to this base, and the homes of each other converter's base hold what they held.
 pub record SoundForAll (texts : List Mailbox) (old new : Files) : Type 0 where
   pub own : OfEach (λ m. IsMissing new m ⊎ HoldsGiven texts new m) texts
   pub others : (b : List ℕ) → IsTrue (is_converter_base b) → IsFalse (is_base_of_any texts b) → IsPermutation (homes old b) (homes new b)
@@ -82,7 +84,8 @@ pub record AreFresh (texts : List Mailbox) (s : Files) : Type 0 where
   pub own : HaveOwnDigests texts
   pub unknown : OfEach (λ m. IsUnknown s m.body) texts
 
--- A body is there n times: its bases with the numbers 1 to n have exactly one home each, which holds the body, and no other converter's base with its digest has a home.
+-- A body is there n times: its bases with the numbers 1 to n have exactly one home
+-- each, which holds the body, and no other converter's base with its digest has a home.
 pub record IsThere (n : ℕ) (body : List ℕ) (s : Files) : Type 0 where
   pub up_to : (k : ℕ) → k < n → homes s (numbered body (k + 1)) ≡ body ∷ []
   pub no_other : (b : List ℕ) → IsTrue (is_converter_base b) → take 64 b ≡ digest_text body → ((k : ℕ) → k < n → numbered body (k + 1) ≢ b) → homes s b ≡ []

@@ -77,7 +77,8 @@ impl Calls {
         target: &str,
     ) -> Result<(), RunFault>
         ensures ran { let at = seen F.Folder in
-            Performed (Do (Placing name.now place target.now) ∷ []) (at folder.old) (at folder.new) self.old.made self.new.made (fault_of result) }
+            Performed (Do (Placing name.now place target.now) ∷ [])
+            (at folder.old) (at folder.new) self.old.made self.new.made (fault_of result) }
         ensures causes { IfErr result IsOfFolder }
     {
         let answer = folder.place(name, place, target);

@@ -21,9 +21,9 @@ use crate::calls::Calls;
 use crate::engine::Engine;
 use crate::fault::RunFault;
 use crate::folder::Folder;
+use crate::listings::list_all;
 use crate::reader::Reader;
 use crate::report::Report;
-use crate::listings::list_all;
 use mbox_text::Entry;
 use std::alloc::Global;
 use std::io::Read;
@@ -46,11 +46,15 @@ pub fn convert<F: Folder, R: Read>(
 ) -> Result<Report, RunFault>
     requires { reads ≤ 2 ^ 40 }
     ensures honest { F.honest folder.old → F.honest folder.new }
-    ensures as_planned { F.honest folder.old → (t : List ℕ) (ms : List Message) → Possible (R.remaining source.old) (R.remaining source.new) t → MessagesOf t ms →
+    ensures as_planned { F.honest folder.old → (t : List ℕ) (ms : List Message) →
+        Possible (R.remaining source.old) (R.remaining source.new) t → MessagesOf t ms →
         (names : Listings) × Performs honestly (planned_tasks names ms) (F.files folder.old) result (F.files folder.new) }
-    ensures left { F.honest folder.old → (t : List ℕ) (ms : List Message) → Possible (R.remaining source.old) (R.remaining source.new) t → MessagesOf t ms →
-        Follows (λ before now. (names : Listings) × Performs leaving (planned_tasks names ms) before result now) (F.may_leave folder.old) (F.may_leave folder.new) }
-    ensures owes { F.honest folder.old → (t : List ℕ) → length t < 2 ^ 63 → Possible (R.remaining source.old) (R.remaining source.new) t → IsRun t (F.files folder.old) result (F.files folder.new) }
+    ensures left { F.honest folder.old → (t : List ℕ) (ms : List Message) →
+        Possible (R.remaining source.old) (R.remaining source.new) t → MessagesOf t ms →
+        Follows (λ before now. (names : Listings) × Performs leaving (planned_tasks names ms) before result now)
+        (F.may_leave folder.old) (F.may_leave folder.new) }
+    ensures owes { F.honest folder.old → (t : List ℕ) → length t < 2 ^ 63 →
+        Possible (R.remaining source.old) (R.remaining source.new) t → IsRun t (F.files folder.old) result (F.files folder.new) }
     ensures restartable { F.honest folder.old → (t : List ℕ) (ms : List Message) (links : List Link) (start : Files) → length t < 2 ^ 63 →
         Possible (R.remaining source.old) (R.remaining source.new) t → MessagesOf t ms → All (IsMissing start) ms →
         Runs t links start (F.files folder.old) → OnOk result (Delivered ms (F.files folder.new)) }
@@ -58,8 +62,10 @@ pub fn convert<F: Folder, R: Read>(
 
     // where the folder is quiet
     ensures quiet { F.quiet folder.old → F.quiet folder.new }
-    ensures alone { F.quiet folder.old → (t : List ℕ) (ms : List Message) → Possible (R.remaining source.old) (R.remaining source.new) t → MessagesOf t ms →
-        IfOk result (λ report. (F.files folder.new ≡ alone_after ms (F.files folder.old)) × (report.swept ≡ leftover_count (F.files folder.old))) }
+    ensures alone { F.quiet folder.old → (t : List ℕ) (ms : List Message) →
+        Possible (R.remaining source.old) (R.remaining source.new) t → MessagesOf t ms →
+        IfOk result
+        (λ report. (F.files folder.new ≡ alone_after ms (F.files folder.old)) × (report.swept ≡ leftover_count (F.files folder.old))) }
     ensures others { F.quiet folder.old → KeepsForeign (F.files folder.old) (F.files folder.new) }
 
     // what it counts
@@ -69,7 +75,8 @@ pub fn convert<F: Folder, R: Read>(
 
     // its refusals
     ensures untouched { IsErrOf result RunFault.NoFromLine → F.calls folder.new ≡ F.calls folder.old }
-    ensures no_from_line { IsErrOf result RunFault.NoFromLine → (t : List ℕ) (entries : List Entry) → Possible (R.remaining source.old) (R.remaining source.new) t → ¬ Mbox t entries }
+    ensures no_from_line { IsErrOf result RunFault.NoFromLine → (t : List ℕ) (entries : List Entry) →
+        Possible (R.remaining source.old) (R.remaining source.new) t → ¬ Mbox t entries }
     ensures spent { IsErrOf result RunFault.TooManyReads → ReadsAtLeast (R.remaining source.old) (R.remaining source.new) reads }
     ensures causes { IfErr result (λ fault. IsReading fault ⊎ IsOfFolder fault) }
 
@@ -86,7 +93,8 @@ fn convert_seen<F: Folder, R: Read>(
     reads: u64,
 ) -> Result<Report, RunFault>
     requires { reads ≤ 2 ^ 40 }
-    ensures is { let at = seen F.Folder in Conversion (R.remaining source.old) (R.remaining source.new) reads (at folder.old) (at folder.new) result }
+    ensures is { let at = seen F.Folder in
+        Conversion (R.remaining source.old) (R.remaining source.new) reads (at folder.old) (at folder.new) result }
     ensures causes { IfErr result (λ fault. IsReading fault ⊎ IsOfFolder fault) }
 {
     let mut reader = Reader::new(alloc, reads)?;
@@ -114,7 +122,8 @@ fn read_first<R: Read>(
 ) -> Result<bool, RunFault>
     requires fresh { Fed [] [] reader.old.splitter }
     requires empty { whole.old.items ≡ [] }
-    ensures begins { IfOk result (λ ended. Begins ended (R.remaining source.old) (R.remaining source.new) reader.new.splitter reader.new.reads_left reader.old.reads_left whole.new.items) }
+    ensures begins { IfOk result (λ ended. Begins ended (R.remaining source.old) (R.remaining source.new)
+        reader.new.splitter reader.new.reads_left reader.old.reads_left whole.new.items) }
     ensures refused { IfErr result (SourceStopped (R.remaining source.old) (R.remaining source.new) reader.old.reads_left) }
     ensures causes { IfErr result IsReading }
 {

@@ -14,8 +14,8 @@ use crate::calls::Calls;
 use crate::delivery::deliver_message;
 use crate::fault::RunFault;
 use crate::folder::Folder;
-use crate::report::Report;
 use crate::listings::Listings;
+use crate::report::Report;
 use crate::sweep::sweep;
 use maildir_name::Namer;
 use mbox_text::Entry;
@@ -44,9 +44,11 @@ impl<'a> Engine<'a> {
         ensures ran { let at = seen F.Folder in (made : ℕ)
             × Performed (sweep_of (names_of listings.now.tmp)) (at folder.old) (at folder.new) calls.made made (fault_of result)
             × IfOk result (λ engine. engine.calls.made ≡ made) }
-        ensures there { IfOk result (λ engine. (b : List ℕ) → contains_key engine.there b ≡ is_listed (names_of listings.now.new) (names_of listings.now.cur) b) }
+        ensures there { IfOk result
+            (λ engine. (b : List ℕ) → contains_key engine.there b ≡ is_listed (names_of listings.now.new) (names_of listings.now.cur) b) }
         ensures namer { IfOk result (λ engine. Named [] engine.namer) }
-        ensures counts { IfOk result (λ engine. (engine.messages ≡ 0) × (engine.placed ≡ 0) × (engine.swept ≡ length (sweep_of (names_of listings.now.tmp)))) }
+        ensures counts { IfOk result
+            (λ engine. (engine.messages ≡ 0) × (engine.placed ≡ 0) × (engine.swept ≡ length (sweep_of (names_of listings.now.tmp)))) }
         ensures causes { IfErr result IsOfFolder }
     {
         let mut calls = calls;
@@ -81,7 +83,8 @@ impl<'a> Engine<'a> {
     fn deliver<F: Folder>(&mut self, folder: &mut F, body: &[u8]) -> Result<(), RunFault>
         requires { self.old.messages < 2 ^ 63 }
         ensures delivers { let at = seen F.Folder in (bodies : List (List ℕ)) → Named bodies self.old.namer → length bodies < 2 ^ 63 →
-            DeliversMessages (contains_key self.old.there) bodies (body.now ∷ []) (at folder.old) (at folder.new) self.old.calls.made self.new.calls.made self.old.placed self.new.placed self.new.namer (fault_of result) }
+            DeliversMessages (contains_key self.old.there) bodies (body.now ∷ []) (at folder.old) (at folder.new)
+            self.old.calls.made self.new.calls.made self.old.placed self.new.placed self.new.namer (fault_of result) }
         ensures there { self.new.there ≡ self.old.there }
         ensures swept { self.new.swept ≡ self.old.swept }
         ensures one { OnOk result (self.new.messages ≡ self.old.messages + 1) }
@@ -103,8 +106,10 @@ impl<'a> Engine<'a> {
         entries: &[Entry],
     ) -> Result<(), RunFault>
         requires { self.old.messages + length entries.now < 2 ^ 63 }
-        ensures delivers { let at = seen F.Folder in (bodies : List (List ℕ)) → Named bodies self.old.namer → length bodies + length entries.now ≤ 2 ^ 63 →
-            DeliversMessages (contains_key self.old.there) bodies (bodies_of entries.now) (at folder.old) (at folder.new) self.old.calls.made self.new.calls.made self.old.placed self.new.placed self.new.namer (fault_of result) }
+        ensures delivers { let at = seen F.Folder in
+            (bodies : List (List ℕ)) → Named bodies self.old.namer → length bodies + length entries.now ≤ 2 ^ 63 →
+            DeliversMessages (contains_key self.old.there) bodies (bodies_of entries.now) (at folder.old) (at folder.new)
+            self.old.calls.made self.new.calls.made self.old.placed self.new.placed self.new.namer (fault_of result) }
         ensures there { self.new.there ≡ self.old.there }
         ensures swept { self.new.swept ≡ self.old.swept }
         ensures all { OnOk result (self.new.messages ≡ self.old.messages + length entries.now) }

@@ -1,5 +1,6 @@
 //! Laws over the definitions alone. Each law is the contract of a function, and no function here does anything.
-ghost use Rattle.std.specs.Prelude.{◌≡◌, ◌↔◌, ℕ, map, ◌<◌, ◌≤◌, ◌+◌, ◌%◌, ◌^◌, length, List, [], ◌∷◌, ◌++◌, Some, Ok, All, Contains, IsTrue, IsFalse, IsPermutation};
+ghost use Rattle.std.specs.Prelude.{◌≡◌, ◌↔◌, ℕ, map, ◌<◌, ◌≤◌, ◌+◌, ◌%◌, ◌^◌, length, List, [], ◌∷◌};
+ghost use Rattle.std.specs.Prelude.{◌++◌, Some, Ok, All, Contains, IsTrue, IsFalse, IsPermutation};
 ghost use Rattle.std.specs.List.{list_any};
 ghost use Rattle.std.specs.FinMap.{get};
 ghost use Rattle.maildir_name.specs.declared.target.Place.{Place};
@@ -14,7 +15,8 @@ ghost use Rattle.maildir_run.specs.Calls.Call.{Placing};
 ghost use Rattle.maildir_run.specs.Delivery.{Message, leftover_count, IsMissing, IsHome, AreNamed, AreDistinct, Sound, Delivered};
 ghost use Rattle.maildir_run.specs.Texts.{MessagesOf};
 ghost use Rattle.maildir_run.specs.Runs.{CountsRun, Link, IsRun, Runs};
-ghost use Rattle.maildir_run.specs.Several.{Mailbox, IsMailbox, OfEach, SoundForAll, LinkOver, RunsOver, link_over, link_of, AreFresh, StandsAfter};
+ghost use Rattle.maildir_run.specs.Several.{Mailbox, IsMailbox, OfEach, SoundForAll, LinkOver};
+ghost use Rattle.maildir_run.specs.Several.{RunsOver, link_over, link_of, AreFresh, StandsAfter};
 ghost use Rattle.maildir_run.specs.Several.LinkOver.{RanOver};
 ghost use Rattle.maildir_run.specs.Alone.{alone};
 ghost use Rattle.maildir_run.specs.Plan.{is_listed, planned, each_alone};

@@ -1,5 +1,6 @@
 // The folder in memory.
-ghost use Rattle.std.specs.Prelude.{◌≡◌, ℕ, ◌+◌, ◌%◌, ◌^◌, [], IfOk, IfErr, OnOk, OnErr, IsOk, IsErrOf, IsPermutation, IsTrue, None, ◌↔◌, string_bytes};
+ghost use Rattle.std.specs.Prelude.{◌≡◌, ℕ, ◌+◌, ◌%◌, ◌^◌, [], IfOk, IfErr, OnOk, OnErr, IsOk};
+ghost use Rattle.std.specs.Prelude.{IsErrOf, IsPermutation, IsTrue, None, ◌↔◌, string_bytes};
 ghost use Rattle.std.specs.FinMap.{get, keys, len};
 ghost use Rattle.std.specs.Option.{option_copied};
 ghost use Rattle.maildir_run.specs.Calls.{folder_of, names_of, Called, Listed, CalledQuietly, GoesUp, CountsFailure, IsNotAbsent};
@@ -7,7 +8,9 @@ ghost use Rattle.maildir_run.specs.Calls.Call.{Listing, Writing, Placing, Removi
 ghost use Rattle.maildir_run.specs.Cuts.{Follows, LeavesOf};
 ghost use Rattle.maildir_run.specs.MemFiles.{no_files, with_file};
 ghost use Rattle.maildir_run.specs.Script.{IsCutShort, half_performed, performed};
-ghost use Rattle.maildir_run.specs.MemFolder.{files_of, call_count, all_call_count, failure_count, lines_of, fail_from_of, IsQuiet, HasNoScript, next_mode, next_acts, next_files, FollowsScript, SameCounts, SameScript, IsUnchanged, CountsCall};
+ghost use Rattle.maildir_run.specs.MemFolder.{files_of, call_count, all_call_count, failure_count, lines_of};
+ghost use Rattle.maildir_run.specs.MemFolder.{fail_from_of, IsQuiet, HasNoScript, next_mode, next_acts, next_files};
+ghost use Rattle.maildir_run.specs.MemFolder.{FollowsScript, SameCounts, SameScript, IsUnchanged, CountsCall};
 
 use crate::folder::{Folder, FolderFault, Sub};
 use crate::mem_files::MemFiles;
@@ -218,7 +221,8 @@ impl Folder for MemFolder {
 
     fn list(&mut self, sub: Sub) -> Result<Vec<String>, FolderFault>
         ensures called { Listed sub (files_of self.old) result (files_of self.new) }
-        ensures left { Follows (λ before now. LeavesOf (Listing sub) before result now) (λ left. left ≡ files_of self.old) (λ left. left ≡ files_of self.new) }
+        ensures left { Follows (λ before now. LeavesOf (Listing sub) before result now)
+            (λ left. left ≡ files_of self.old) (λ left. left ≡ files_of self.new) }
         ensures scripted { FollowsScript (Listing sub) self.old result self.new }
         ensures in_order { IfOk result (λ names. names_of names ≡ keys (folder_of sub (files_of self.new))) }
         ensures script { SameScript self.old self.new }
@@ -242,7 +246,8 @@ impl Folder for MemFolder {
 
     fn write(&mut self, name: &str, bytes: &[u8]) -> Result<(), FolderFault>
         ensures called { Called (Writing name.now bytes.now) (files_of self.old) result (files_of self.new) }
-        ensures left { Follows (λ before now. LeavesOf (Writing name.now bytes.now) before result now) (λ left. left ≡ files_of self.old) (λ left. left ≡ files_of self.new) }
+        ensures left { Follows (λ before now. LeavesOf (Writing name.now bytes.now) before result now)
+            (λ left. left ≡ files_of self.old) (λ left. left ≡ files_of self.new) }
         ensures scripted { FollowsScript (Writing name.now bytes.now) self.old result self.new }
         ensures script { SameScript self.old self.new }
 
@@ -265,7 +270,8 @@ impl Folder for MemFolder {
     fn place(&mut self, name: &str, place: Place, target: &str) -> Result<(), FolderFault>
         ensures called { Called (Placing name.now place target.now)
             (files_of self.old) result (files_of self.new) }
-        ensures left { Follows (λ before now. LeavesOf (Placing name.now place target.now) before result now) (λ left. left ≡ files_of self.old) (λ left. left ≡ files_of self.new) }
+        ensures left { Follows (λ before now. LeavesOf (Placing name.now place target.now) before result now)
+            (λ left. left ≡ files_of self.old) (λ left. left ≡ files_of self.new) }
         ensures scripted { FollowsScript (Placing name.now place target.now) self.old result self.new }
         ensures script { SameScript self.old self.new }
 
@@ -288,7 +294,8 @@ impl Folder for MemFolder {
 
     fn remove(&mut self, name: &str) -> Result<(), FolderFault>
         ensures called { Called (Removing name.now) (files_of self.old) result (files_of self.new) }
-        ensures left { Follows (λ before now. LeavesOf (Removing name.now) before result now) (λ left. left ≡ files_of self.old) (λ left. left ≡ files_of self.new) }
+        ensures left { Follows (λ before now. LeavesOf (Removing name.now) before result now)
+            (λ left. left ≡ files_of self.old) (λ left. left ≡ files_of self.new) }
         ensures scripted { FollowsScript (Removing name.now) self.old result self.new }
         ensures script { SameScript self.old self.new }
 

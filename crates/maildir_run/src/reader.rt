@@ -1,5 +1,6 @@
 // The messages of a source, read piece by piece under a budget of reads.
-ghost use Rattle.std.specs.Prelude.{◌≡◌, ◌⊎◌, ◌<◌, ◌≤◌, ◌+◌, ◌++◌, [], List, ℕ, Option, length, take, vec_len, IfOk, OnOk, IfErr, IsErrOf, MatchResult, option_to_list};
+ghost use Rattle.std.specs.Prelude.{◌≡◌, ◌⊎◌, ◌<◌, ◌≤◌, ◌+◌, ◌++◌, [], List, ℕ, Option, length, take};
+ghost use Rattle.std.specs.Prelude.{vec_len, IfOk, OnOk, IfErr, IsErrOf, MatchResult, option_to_list};
 ghost use Rattle.std.specs.Io.KnownBytes.{Consumes, IsAtEnd};
 ghost use Rattle.mbox_text.specs.Fed.{Fed, Takes, NeverBegins, GivesLast, IsTooShort};
 
@@ -48,7 +49,8 @@ impl Reader {
         source: &mut R,
         out: &mut Vec<Entry>,
     ) -> Result<bool, RunFault>
-        ensures went { Went self.old (R.remaining source.old) (R.remaining source.new) out.old.items out.new.items self.new.splitter self.new.reads_left result }
+        ensures went { Went self.old (R.remaining source.old) (R.remaining source.new)
+            out.old.items out.new.items self.new.splitter self.new.reads_left result }
         ensures causes { IfErr result IsReading }
     {
         spend(&mut self.reads_left)?;
@@ -81,7 +83,8 @@ fn spend(reads: &mut u64) -> Result<(), RunFault>
 fn read_piece<R: Read>(source: &mut R, buffer: &mut [u8]) -> Result<usize, RunFault>
     requires { 0 < length buffer.old }
     ensures gave { MatchResult result
-        (λ n. (n ≤ length buffer.new) × Consumes (R.remaining source.old) (R.remaining source.new) (take n buffer.new) × (n ≡ 0 → IsAtEnd (R.remaining source.new)))
+        (λ n. (n ≤ length buffer.new) × Consumes (R.remaining source.old) (R.remaining source.new) (take n buffer.new)
+        × (n ≡ 0 → IsAtEnd (R.remaining source.new)))
         (λ fault. (fault ≡ RunFault.ReadFault) × Consumes (R.remaining source.old) (R.remaining source.new) []) }
 {
     match source.read(buffer) {
@@ -106,7 +109,8 @@ fn feed(splitter: &mut Splitter, piece: &[u8], out: &mut Vec<Entry>) -> Result<(
 /// Appends the last message of a splitter that no call refused.
 fn finish(splitter: Splitter, out: &mut Vec<Entry>) -> Result<(), RunFault>
     ensures last { OnOk result ((last : Option Entry) × (out.new.items ≡ out.old.items ++ option_to_list last) × GivesLast splitter last) }
-    ensures no_from_line { IsErrOf result RunFault.NoFromLine → (text : List ℕ) (given : List Entry) → Fed text given splitter → IsTooShort text }
+    ensures no_from_line { IsErrOf result RunFault.NoFromLine →
+        (text : List ℕ) (given : List Entry) → Fed text given splitter → IsTooShort text }
     ensures causes { IfErr result (λ fault. (fault ≡ RunFault.NoFromLine) ⊎ (fault ≡ RunFault.OutOfMemory)) }
 {
     match splitter.finish() {

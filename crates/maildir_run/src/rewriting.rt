@@ -30,8 +30,10 @@ pub fn rewrite<R: Read, W: Write>(
     ensures end { OnOk result (IsAtEnd (R.remaining source.new)) }
 
     // after a refusal
-    ensures front { OnErr result (GivesFront (flat_map spelling) (R.remaining source.old) (R.remaining source.new) (W.contents out.old) (W.contents out.new)) }
-    ensures no_from_line { IsErrOf result RunFault.NoFromLine → GivesNothing (R.remaining source.old) (R.remaining source.new) (W.contents out.old) (W.contents out.new) }
+    ensures front { OnErr result
+        (GivesFront (flat_map spelling) (R.remaining source.old) (R.remaining source.new) (W.contents out.old) (W.contents out.new)) }
+    ensures no_from_line { IsErrOf result RunFault.NoFromLine →
+        GivesNothing (R.remaining source.old) (R.remaining source.new) (W.contents out.old) (W.contents out.new) }
     ensures spent { IsErrOf result RunFault.TooManyReads → ReadsAtLeast (R.remaining source.old) (R.remaining source.new) reads }
     ensures causes { IfErr result (λ fault. IsReading fault ⊎ (fault ≡ RunFault.OutputFault)) }
 

@@ -9,8 +9,8 @@ ghost use Rattle.maildir_run.specs.Output.{GivesAll, GivesFront, GivesNothing};
 ghost use Rattle.maildir_run.specs.Reading.{IsReading, ReadsAtLeast, ReadsAtMost};
 
 use crate::fault::RunFault;
-use crate::row::row_of;
 use crate::reader::Reader;
+use crate::row::row_of;
 use maildir_name::Namer;
 use mbox_text::{Entry, write_bytes};
 use std::alloc::Global;
@@ -35,8 +35,10 @@ pub fn list_text<R: Read, W: Write>(
     ensures end { OnOk result (IsAtEnd (R.remaining source.new)) }
 
     // after a refusal
-    ensures front { OnErr result (GivesFront table_of (R.remaining source.old) (R.remaining source.new) (W.contents out.old) (W.contents out.new)) }
-    ensures no_from_line { IsErrOf result RunFault.NoFromLine → GivesNothing (R.remaining source.old) (R.remaining source.new) (W.contents out.old) (W.contents out.new) }
+    ensures front { OnErr result
+        (GivesFront table_of (R.remaining source.old) (R.remaining source.new) (W.contents out.old) (W.contents out.new)) }
+    ensures no_from_line { IsErrOf result RunFault.NoFromLine →
+        GivesNothing (R.remaining source.old) (R.remaining source.new) (W.contents out.old) (W.contents out.new) }
     ensures spent { IsErrOf result RunFault.TooManyReads → ReadsAtLeast (R.remaining source.old) (R.remaining source.new) reads }
     ensures causes { IfErr result (λ fault. IsReading fault ⊎ (fault ≡ RunFault.OutputFault)) }
 
@@ -78,7 +80,8 @@ impl Lister {
     // Writes the rows of some messages.
     fn list<W: Write>(&mut self, entries: &[Entry], out: &mut W) -> Result<(), RunFault>
         requires { FromLines entries.now }
-        ensures lists { ListsMore self.old.namer self.old.count entries.now (W.contents out.old) (W.contents out.new) result self.new.namer self.new.count }
+        ensures lists { ListsMore self.old.namer self.old.count entries.now
+            (W.contents out.old) (W.contents out.new) result self.new.namer self.new.count }
         ensures causes { IfErr result (λ fault. (fault ≡ RunFault.OutputFault) ⊎ (fault ≡ RunFault.OutOfMemory)) }
     {
         for entry in entries {
@@ -90,7 +93,8 @@ impl Lister {
     // Writes the row of a message.
     fn list_one<W: Write>(&mut self, entry: &Entry, out: &mut W) -> Result<(), RunFault>
         requires { IsFromLine entry.now.from_line }
-        ensures lists { ListsMore self.old.namer self.old.count (entry.now ∷ []) (W.contents out.old) (W.contents out.new) result self.new.namer self.new.count }
+        ensures lists { ListsMore self.old.namer self.old.count (entry.now ∷ [])
+            (W.contents out.old) (W.contents out.new) result self.new.namer self.new.count }
         ensures causes { IfErr result (λ fault. (fault ≡ RunFault.OutputFault) ⊎ (fault ≡ RunFault.OutOfMemory)) }
     {
         let Ok(target) = self.namer.target(entry.body.as_slice()) else {

@@ -132,7 +132,8 @@ fn rewrite_broken(
     piece: usize,
     out: &mut Vec<u8>,
 ) -> Result<u64, RunFault>
-    ensures { OnErr result ((entries : List Entry) → Mbox text.now entries → AppendsFront (Some out.old.items) (Some out.new.items) (flat_map spelling entries)) }
+    ensures { OnErr result ((entries : List Entry) → Mbox text.now entries →
+        AppendsFront (Some out.old.items) (Some out.new.items) (flat_map spelling entries)) }
 {
     let mut source = Cut::broken(text, bytes, piece);
     rewrite(alloc, &mut source, out, LIMIT)

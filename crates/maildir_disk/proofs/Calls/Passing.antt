@@ -1,5 +1,6 @@
 -- What follows from what is assumed of a system.
-use Rattle.std.proofs.Common.{◌≡◌, ◌⊎◌, inl, inr, ℕ, ◌+◌, ◌%◌, ◌==◌, true, false, cond, ◌≤◌, ◌<◌, List, [], ◌∷◌, ◌++◌, map, append_assoc, refl, sym, ◌∙◌, ap, subst, arith, IsPermutation}
+use Rattle.std.proofs.Common.{◌≡◌, ◌⊎◌, inl, inr, ℕ, ◌+◌, ◌%◌, ◌==◌, true, false, cond, ◌≤◌, ◌<◌, List, []}
+use Rattle.std.proofs.Common.{◌∷◌, ◌++◌, map, append_assoc, refl, sym, ◌∙◌, ap, subst, arith, IsPermutation}
 use Rattle.std.specs.Prelude.{Result, Ok, Err, IsErr, Option}
 use Rattle.std.specs.declared.vec.Vec.{Vec}
 use Rattle.std.specs.declared.string.String.{String}
@@ -75,7 +76,8 @@ pub looked_fault : {E : Type 0} (sub : Sub) {a b : World} (outcome : Result Look
 looked_fault sub (Ok _) is_err p = cc
 looked_fault sub (Err _) is_err p = p
 
-pub watched_fault : {E : Type 0} (sub : Sub) (stamp : ℕ) {a b : World} (outcome : Result (Option (Vec (String Global) Global)) E) → IsErr outcome → Acts a b → WatchedOr sub stamp a outcome b
+pub watched_fault : {E : Type 0} (sub : Sub) (stamp : ℕ) {a b : World} (outcome : Result (Option (Vec (String Global) Global)) E)
+    → IsErr outcome → Acts a b → WatchedOr sub stamp a outcome b
 watched_fault sub stamp (Ok _) is_err p = cc
 watched_fault sub stamp (Err _) is_err p = p
 
@@ -84,12 +86,14 @@ pub failed_listing : {sub : Sub} {a b : World} → Acts a b → AnyMoves (Listin
 failed_listing {sub} {a} p =
     record { moves = map Other p.actions; left = p.files_are ∙ sym (after-others p.actions (Listing sub) a.files) }
 
-pub listed_fault : {E : Type 0} (sub : Sub) {a b : World} (outcome : Result (Vec (String Global) Global) E) → IsErr outcome → Acts a b → Listed sub a.files outcome b.files
+pub listed_fault : {E : Type 0} (sub : Sub) {a b : World} (outcome : Result (Vec (String Global) Global) E)
+    → IsErr outcome → Acts a b → Listed sub a.files outcome b.files
 listed_fault sub (Ok _) is_err p = cc
 listed_fault sub (Err _) is_err p = failed_listing p
 
 -- names as of a moment
-pub lists_at : {sub : Sub} {a b c : World} {names : List (List ℕ)} → Acts a b → Acts b c → IsPermutation names (keys (folder_of sub b.files)) → Lists sub a.files names c.files
+pub lists_at : {sub : Sub} {a b c : World} {names : List (List ℕ)} → Acts a b → Acts b c
+    → IsPermutation names (keys (folder_of sub b.files)) → Lists sub a.files names c.files
 lists_at {sub} {a} {b} {names} p q are =
     let before = map Other p.actions in
     let rest = map Other q.actions in
@@ -101,11 +105,13 @@ lists_at {sub} {a} {b} {names} p q are =
       whole_before = others_whole p.actions;
       whole = others_whole q.actions;
       names_are = subst (λ s. IsPermutation names (keys (folder_of sub s))) at are;
-      left = q.files_are ∙ (sym (after-others q.actions call b.files) ∙ (ap (λ s. after s call rest) at ∙ sym (after-append call before (Again ∷ rest) a.files)));
+      left =
+          q.files_are ∙ (sym (after-others q.actions call b.files) ∙ (ap (λ s. after s call rest) at ∙ sym (after-append call before (Again ∷ rest) a.files)));
     }
 
 -- names as of a moment of a later part of the call
-others_first : (xs : List Action) (call : Call) (ns : List Move) (a : Files) {b : Files} → b ≡ all_acted xs a → after a call (map Other xs ++ ns) ≡ after b call ns
+others_first : (xs : List Action) (call : Call) (ns : List Move) (a : Files) {b : Files}
+    → b ≡ all_acted xs a → after a call (map Other xs ++ ns) ≡ after b call ns
 others_first xs call ns a e = after-append call (map Other xs) ns a ∙ ap (λ s. after s call ns) (after-others xs call a ∙ sym e)
 
 others_then_whole : (xs : List Action) (ns : List Move) → IsWhole ns → IsWhole (map Other xs ++ ns)
@@ -121,12 +127,16 @@ lists_later {sub} {a} {names} p lists =
       rest = lists.rest;
       whole_before = others_then_whole p.actions lists.before lists.whole_before;
       whole = lists.whole;
-      names_are = subst (λ s. IsPermutation names (keys (folder_of sub s))) (sym (others_first p.actions call lists.before a.files p.files_are)) lists.names_are;
-      left = lists.left ∙ (sym (others_first p.actions call (lists.before ++ Again ∷ lists.rest) a.files p.files_are) ∙ ap (after a.files call) (sym (append_assoc others lists.before (Again ∷ lists.rest))));
+      names_are =
+          subst (λ s. IsPermutation names (keys (folder_of sub s))) (sym (others_first p.actions call lists.before a.files p.files_are)) lists.names_are;
+      left =
+          lists.left ∙ (sym (others_first p.actions call (lists.before ++ Again ∷ lists.rest) a.files p.files_are)
+          ∙ ap (after a.files call) (sym (append_assoc others lists.before (Again ∷ lists.rest))));
     }
 
 -- names that were read, and the folder's stamp after them
-pub watched : {sub : Sub} {b c d : World} {names : List (List ℕ)} {stamp : ℕ} → Passes sub b c → Passes sub c d → ReadsNames sub b names c → IsStampWithin sub c stamp d → Watched sub stamp b names d
+pub watched : {sub : Sub} {b c d : World} {names : List (List ℕ)} {stamp : ℕ} → Passes sub b c
+    → Passes sub c d → ReadsNames sub b names c → IsStampWithin sub c stamp d → Watched sub stamp b names d
 watched p q (inl exact) tells = record { acts = acts_on p.acts q.acts; are = inl exact }
 watched {sub} {b} {c} {d} {stamp} p q (inr change) tells =
     let same : (tells.moment.stamp_of sub ≡ c.stamp_of sub) ⊎ IsOfChange c.time tells.moment.time (tells.moment.stamp_of sub) = tells.before.stamp_is in
@@ -138,7 +148,8 @@ watched {sub} {b} {c} {d} {stamp} p q (inr change) tells =
     record { acts = acts_on p.acts q.acts; are = inr here }
 
 -- what was read is exact where the stamp was settled before the reading
-pub exact_if_settled : {sub : Sub} {b d : World} {names : List (List ℕ)} {now stamp : ℕ} → IsSettled stamp now → now ≤ b.time → Watched sub stamp b names d → IsPermutation names (keys (folder_of sub b.files))
+pub exact_if_settled : {sub : Sub} {b d : World} {names : List (List ℕ)} {now stamp : ℕ} → IsSettled stamp now
+    → now ≤ b.time → Watched sub stamp b names d → IsPermutation names (keys (folder_of sub b.files))
 exact_if_settled settled le w =
     elim w.are [
       | inl exact ↦ exact
@@ -146,7 +157,8 @@ exact_if_settled settled le w =
     ]
 
 -- and where it was far ahead of the clock after the reading
-pub exact_if_ahead : {sub : Sub} {b d : World} {names : List (List ℕ)} {later stamp : ℕ} → IsFarAhead stamp later → d.time ≤ later → Watched sub stamp b names d → IsPermutation names (keys (folder_of sub b.files))
+pub exact_if_ahead : {sub : Sub} {b d : World} {names : List (List ℕ)} {later stamp : ℕ} → IsFarAhead stamp later
+    → d.time ≤ later → Watched sub stamp b names d → IsPermutation names (keys (folder_of sub b.files))
 exact_if_ahead ahead le w =
     elim w.are [
       | inl exact ↦ exact

@@ -5,7 +5,8 @@ use Rattle.std.specs.declared.io.Error.{Error}
 use Rattle.std.specs.FinMap.{get, insert, remove, get-insert, get-remove, same_map}
 use Rattle.std.proofs.lemmas.Bool.{cases_Bool}
 use Rattle.maildir_name.specs.Names.{is_converter_name}
-use Rattle.maildir_run.specs.Files.{Files, FileMap, is_name, KeepsConverters, Action, ToCur, Reflag, DropTmp, Outside, outsiders_of, may_take, to_cur, reflag, acted, all_acted}
+use Rattle.maildir_run.specs.Files.{Files, FileMap, is_name, KeepsConverters, Action, ToCur, Reflag, DropTmp}
+use Rattle.maildir_run.specs.Files.{Outside, outsiders_of, may_take, to_cur, reflag, acted, all_acted}
 use Rattle.maildir_run.specs.Calls.{Call, Writing, Other, Again, Torn, after, effect, IsOthers, Succeeded, AnyMoves, Called}
 use Rattle.maildir_run.proofs.Names.Maps.{total, same, apart, is_name-true, get-insert_same}
 use Rattle.maildir_run.proofs.Call.Outsiders.{outside_reaches, get-outsiders_other}
@@ -25,11 +26,13 @@ not_there : {here : Bool} (change : List ℕ → List ℕ) {o : Option (List ℕ
 not_there {here = true} change none = none refl ∙ sym (ap (mapped true change) (none refl))
 not_there change none = refl
 
-there : {here : Bool} (change : List ℕ → List ℕ) {held : List ℕ} {o : Option (List ℕ)} → (here ≡ true → o ≡ Some held) → cond here (Some (change held)) o ≡ mapped here change o
+there : {here : Bool} (change : List ℕ → List ℕ) {held : List ℕ} {o : Option (List ℕ)}
+    → (here ≡ true → o ≡ Some held) → cond here (Some (change held)) o ≡ mapped here change o
 there {here = true} change some = sym (ap (mapped true change) (some refl))
 there change some = refl
 
-get-rewritten : (m : FileMap) (name : List ℕ) (change : List ℕ → List ℕ) (q : List ℕ) → get (rewritten m name change (get m name)) q ≡ mapped (is_name q name) change (get m q)
+get-rewritten : (m : FileMap) (name : List ℕ) (change : List ℕ → List ℕ) (q : List ℕ)
+    → get (rewritten m name change (get m name)) q ≡ mapped (is_name q name) change (get m q)
 get-rewritten m name change q =
     elim (get m name) as (λ o. get m name ≡ o → get (rewritten m name change o) q ≡ mapped (is_name q name) change (get m q)) [
       | None ↦ λ has. not_there change (λ e. ap (get m) (is_name-true q name e) ∙ has)
@@ -59,7 +62,8 @@ acted_apart (Reflag name target) s m =
       | Some bytes ↦ either_apart (may_take s.cur name target) (record s { cur = insert (remove s.cur name) target bytes }) s m
     ]
 acted_apart (DropTmp name) s m =
-    elim (is_converter_name name) as (λ t. cond t (record s { tmp = remove m name }) (record s { tmp = m }) ≡ record (cond t (record s { tmp = remove s.tmp name }) s) { tmp = cond t (remove m name) m }) [
+    elim (is_converter_name name) as (λ t. cond t (record s { tmp = remove m name }) (record s { tmp = m })
+    ≡ record (cond t (record s { tmp = remove s.tmp name }) s) { tmp = cond t (remove m name) m }) [
       | true ↦ refl
       | false ↦ refl
     ]
@@ -71,7 +75,8 @@ both true true change o = refl
 both false true change o = refl
 both here false change o = refl
 
-change_then_remove : (m : FileMap) (name other : List ℕ) (change : List ℕ → List ℕ) → rewritten (remove m other) name change (get (remove m other) name) ≡ remove (rewritten m name change (get m name)) other
+change_then_remove : (m : FileMap) (name other : List ℕ) (change : List ℕ → List ℕ)
+    → rewritten (remove m other) name change (get (remove m other) name) ≡ remove (rewritten m name change (get m name)) other
 change_then_remove m name other change =
     same_map total same _ _ (λ q.
     get-rewritten (remove m other) name change q
@@ -80,33 +85,40 @@ change_then_remove m name other change =
     ∙ ap (cond (is_name q other) None) (sym (get-rewritten m name change q))
     ∙ sym (get-remove total (rewritten m name change (get m name)) other q))
 
-change_then_outside : (m files : FileMap) (name : List ℕ) (change : List ℕ → List ℕ) → is_converter_name name ≡ true → rewritten (outsiders_of m files) name change (get (outsiders_of m files) name) ≡ outsiders_of (rewritten m name change (get m name)) files
+change_then_outside : (m files : FileMap) (name : List ℕ) (change : List ℕ → List ℕ) → is_converter_name name ≡ true
+    → rewritten (outsiders_of m files) name change (get (outsiders_of m files) name) ≡ outsiders_of (rewritten m name change (get m name)) files
 change_then_outside m files name change ours =
     let new = rewritten m name change (get m name) in
     same_map total same _ _ (λ q.
     get-rewritten (outsiders_of m files) name change q
     ∙ elim (cases_Bool (is_converter_name q)) [
-      | inl on ↦ ap (mapped (is_name q name) change) (get-outsiders_of m files q on) ∙ sym (get-rewritten m name change q) ∙ sym (get-outsiders_of new files q on)
-      | inr off ↦ ap (λ b. mapped b change (get (outsiders_of m files) q)) (apart (λ n. not (is_converter_name n)) name q (ap not ours) (ap not off)) ∙ get-outsiders_other m files q off ∙ sym (get-outsiders_other new files q off)
+      | inl on ↦
+          ap (mapped (is_name q name) change) (get-outsiders_of m files q on) ∙ sym (get-rewritten m name change q) ∙ sym (get-outsiders_of new files q on)
+      | inr off ↦ ap (λ b. mapped b change (get (outsiders_of m files) q)) (apart (λ n. not (is_converter_name n)) name q (ap not ours) (ap not off))
+          ∙ get-outsiders_other m files q off ∙ sym (get-outsiders_other new files q off)
     ])
 
-change_then_act : (a : Action) (m : FileMap) (name : List ℕ) (change : List ℕ → List ℕ) → is_converter_name name ≡ true → rewritten (acted_on a m) name change (get (acted_on a m) name) ≡ acted_on a (rewritten m name change (get m name))
+change_then_act : (a : Action) (m : FileMap) (name : List ℕ) (change : List ℕ → List ℕ) → is_converter_name name ≡ true
+    → rewritten (acted_on a m) name change (get (acted_on a m) name) ≡ acted_on a (rewritten m name change (get m name))
 change_then_act (ToCur from to) m name change ours = refl
 change_then_act (Reflag from to) m name change ours = refl
 change_then_act (DropTmp other) m name change ours =
-    elim (is_converter_name other) as (λ t. rewritten (cond t (remove m other) m) name change (get (cond t (remove m other) m) name) ≡ cond t (remove (rewritten m name change (get m name)) other) (rewritten m name change (get m name))) [
+    elim (is_converter_name other) as (λ t. rewritten (cond t (remove m other) m) name change (get (cond t (remove m other) m) name)
+    ≡ cond t (remove (rewritten m name change (get m name)) other) (rewritten m name change (get m name))) [
       | true ↦ change_then_remove m name other change
       | false ↦ refl
     ]
 change_then_act (Outside files) m name change ours = change_then_outside m files.tmp name change ours
 
-acted_then_changed : (a : Action) (name : List ℕ) (change : List ℕ → List ℕ) (s : Files) → is_converter_name name ≡ true → changed name change (acted a s) ≡ acted a (changed name change s)
+acted_then_changed : (a : Action) (name : List ℕ) (change : List ℕ → List ℕ) (s : Files)
+    → is_converter_name name ≡ true → changed name change (acted a s) ≡ acted a (changed name change s)
 acted_then_changed a name change s ours =
     let tmp_is : (acted a s).tmp ≡ acted_on a s.tmp = ap (λ t. t.tmp) (acted_apart a s s.tmp) in
     ap (λ m. record (acted a s) { tmp = m }) (ap (λ m. rewritten m name change (get m name)) tmp_is ∙ change_then_act a s.tmp name change ours)
     ∙ sym (acted_apart a s (rewritten s.tmp name change (get s.tmp name)))
 
-all_acted_then_changed : (xs : List Action) (name : List ℕ) (change : List ℕ → List ℕ) (s : Files) → is_converter_name name ≡ true → changed name change (all_acted xs s) ≡ all_acted xs (changed name change s)
+all_acted_then_changed : (xs : List Action) (name : List ℕ) (change : List ℕ → List ℕ) (s : Files)
+    → is_converter_name name ≡ true → changed name change (all_acted xs s) ≡ all_acted xs (changed name change s)
 all_acted_then_changed [] name change s ours = refl
 all_acted_then_changed (a ∷ xs) name change s ours =
     all_acted_then_changed xs name change (acted a s) ours ∙ ap (all_acted xs) (acted_then_changed a name change s ours)
@@ -124,7 +136,8 @@ insert_again m name a b =
     ∙ again (is_name q name) (Some b) (Some a) (get m q)
     ∙ sym (get-insert total m name b q))
 
-pub changed_again : (name held : List ℕ) (change : List ℕ → List ℕ) (s : Files) → changed name change (effect (Writing name held) s) ≡ effect (Writing name (change held)) s
+pub changed_again : (name held : List ℕ) (change : List ℕ → List ℕ) (s : Files)
+    → changed name change (effect (Writing name held) s) ≡ effect (Writing name (change held)) s
 changed_again name held change s =
     ap (λ o. record s { tmp = rewritten (insert s.tmp name held) name change o }) (get-insert_same s.tmp name held)
     ∙ ap (λ m. record s { tmp = m }) (insert_again s.tmp name held (change held))
@@ -180,21 +193,25 @@ pub written_on : (name held : List ℕ) {a b c : World} → Written name held a 
 written_on name held (inl comes) acts = inl (comes_on comes acts)
 written_on name held (inr other) acts = inr (other.0, acts_on other.1 acts)
 
-grown : (name held : List ℕ) (change : List ℕ → List ℕ) {a b c : World} → is_converter_name name ≡ true → Comes (effect (Writing name held)) a b → Comes (changed name change) b c → Comes (effect (Writing name (change held))) a c
+grown : (name held : List ℕ) (change : List ℕ → List ℕ) {a b c : World} → is_converter_name name ≡ true
+    → Comes (effect (Writing name held)) a b → Comes (changed name change) b c → Comes (effect (Writing name (change held))) a c
 grown name held change {a} {b} ours first then =
     let s = all_acted first.before a.files in
     let between = first.rest ++ then.before in
-    let at : all_acted then.before b.files ≡ all_acted between (effect (Writing name held) s) = ap (all_acted then.before) first.left ∙ sym (all_acted-append first.rest then.before _) in
+    let at : all_acted then.before b.files ≡ all_acted between (effect (Writing name held) s) =
+    ap (all_acted then.before) first.left ∙ sym (all_acted-append first.rest then.before _) in
     record {
       before = first.before;
       rest = between ++ then.rest;
       left = then.left
           ∙ (ap (λ t. all_acted then.rest (changed name change t)) at
-          ∙ (ap (all_acted then.rest) (all_acted_then_changed between name change (effect (Writing name held) s) ours ∙ ap (all_acted between) (changed_again name held change s))
+          ∙ (ap (all_acted then.rest)
+          (all_acted_then_changed between name change (effect (Writing name held) s) ours ∙ ap (all_acted between) (changed_again name held change s))
           ∙ sym (all_acted-append between then.rest _)));
     }
 
-pub written_changed : (name held : List ℕ) (change : List ℕ → List ℕ) {a b c : World} → Written name held a b → Comes (changed name change) b c → Written name (change held) a c
+pub written_changed : (name held : List ℕ) (change : List ℕ → List ℕ) {a b c : World}
+    → Written name held a b → Comes (changed name change) b c → Written name (change held) a c
 written_changed name held change (inr other) then = inr (other.0, acts_on other.1 (comes_acts (λ s. changed_leaves name change other.0) then))
 written_changed name held change (inl first) then =
     elim (cases_Bool (is_converter_name name)) [
@@ -207,7 +224,8 @@ others_only : (xs : List Action) → IsOthers (map Other xs)
 others_only [] = tt
 others_only (a ∷ xs) = others_only xs
 
-with_effect : (call : Call) (xs ys : List Action) (s : Files) → after s call (map Other xs ++ Again ∷ map Other ys) ≡ all_acted ys (effect call (all_acted xs s))
+with_effect : (call : Call) (xs ys : List Action) (s : Files)
+    → after s call (map Other xs ++ Again ∷ map Other ys) ≡ all_acted ys (effect call (all_acted xs s))
 with_effect call xs ys s =
     after-append call (map Other xs) (Again ∷ map Other ys) s
     ∙ (ap (λ t. after (effect call t) call (map Other ys)) (after-others xs call s) ∙ after-others ys call _)
@@ -230,10 +248,12 @@ write_succeeded {name} {bytes} {a} {b} (inr other) =
       ready = tt;
       whole = tt;
       left = sym (with_effect (Writing name bytes) other.1.actions last a.files
-          ∙ (ap (λ t. acted (Outside b.files) (effect (Writing name bytes) t)) (sym other.1.files_are) ∙ outside_reaches _ b.files (undone name bytes other.0)));
+          ∙ (ap (λ t. acted (Outside b.files) (effect (Writing name bytes) t)) (sym other.1.files_are)
+          ∙ outside_reaches _ b.files (undone name bytes other.0)));
     }
 
-with_torn : (name whole bytes : List ℕ) (xs ys : List Action) (s : Files) → after s (Writing name whole) (map Other xs ++ Torn bytes ∷ map Other ys) ≡ all_acted ys (effect (Writing name bytes) (all_acted xs s))
+with_torn : (name whole bytes : List ℕ) (xs ys : List Action) (s : Files)
+    → after s (Writing name whole) (map Other xs ++ Torn bytes ∷ map Other ys) ≡ all_acted ys (effect (Writing name bytes) (all_acted xs s))
 with_torn name whole bytes xs ys s =
     let call = Writing name whole in
     after-append call (map Other xs) (Torn bytes ∷ map Other ys) s
@@ -249,23 +269,27 @@ write_failed {name} held {bytes} {a} (inl comes) = record {
 }
 write_failed held (inr other) = acts_failed other.1
 
-pub write_called : {A E : Type 0} (name bytes : List ℕ) {a b : World} (outcome : Result A E) → Written name bytes a b → Called (Writing name bytes) a.files outcome b.files
+pub write_called : {A E : Type 0} (name bytes : List ℕ) {a b : World} (outcome : Result A E)
+    → Written name bytes a b → Called (Writing name bytes) a.files outcome b.files
 write_called name bytes (Ok _) written = write_succeeded written
 write_called name bytes (Err _) written = write_failed bytes written
 
 -- a file that was not made, or only tried
-pub not_created : {A E : Type 0} (name bytes : List ℕ) {a b : World} (outcome : Result A E) → IsErr outcome → Acts a b ⊎ Comes (effect (Writing name [])) a b → Called (Writing name bytes) a.files outcome b.files
+pub not_created : {A E : Type 0} (name bytes : List ℕ) {a b : World} (outcome : Result A E) → IsErr outcome
+    → Acts a b ⊎ Comes (effect (Writing name [])) a b → Called (Writing name bytes) a.files outcome b.files
 not_created name bytes (Ok _) is_err created = cc
 not_created name bytes (Err _) is_err (inl acts) = acts_failed acts
 not_created name bytes (Err _) is_err (inr comes) = write_failed [] (inl comes)
 
 -- what an append leaves, however it ended
-pub written_appended : (name held piece : List ℕ) {a b c : World} (outcome : Result ℕ Error) → Written name held a b → Appended name piece b outcome c → (left : List ℕ) × Written name left a c
+pub written_appended : (name held piece : List ℕ) {a b c : World} (outcome : Result ℕ Error)
+    → Written name held a b → Appended name piece b outcome c → (left : List ℕ) × Written name left a c
 written_appended name held piece (Ok n) written comes = (held ++ take n piece, written_changed name held (λ had. had ++ take n piece) written comes)
 written_appended name held piece (Err error) written (inl acts) = (held, written_on name held written acts)
 written_appended name held piece (Err error) written (inr other) = (other.1, written_changed name held (λ _. other.1) written other.2)
 
-pub append_failed : {name : List ℕ} (held piece : List ℕ) {bytes : List ℕ} {a b : World} (c : World) (outcome : Result ℕ Error) → Written name held a b → Appended name piece b outcome c → AnyMoves (Writing name bytes) a.files c.files
+pub append_failed : {name : List ℕ} (held piece : List ℕ) {bytes : List ℕ} {a b : World} (c : World) (outcome : Result ℕ Error)
+    → Written name held a b → Appended name piece b outcome c → AnyMoves (Writing name bytes) a.files c.files
 append_failed {name} held piece c outcome written appended =
     let left = written_appended name held piece outcome written appended in
     write_failed left.0 left.1
@@ -282,11 +306,14 @@ appended_fault name bytes (Err _) is_err acts = inl acts
 pub not_changed : (name : List ℕ) (change : List ℕ → List ℕ) {s : Files} → get s.tmp name ≡ None → s ≡ changed name change s
 not_changed name change {s} none = ap (λ o. record s { tmp = rewritten s.tmp name change o }) (sym none)
 
-pub changed_by_write : (name : List ℕ) {held : List ℕ} (change : List ℕ → List ℕ) (s : Files) → get s.tmp name ≡ Some held → effect (Writing name (change held)) s ≡ changed name change s
+pub changed_by_write : (name : List ℕ) {held : List ℕ} (change : List ℕ → List ℕ) (s : Files)
+    → get s.tmp name ≡ Some held → effect (Writing name (change held)) s ≡ changed name change s
 changed_by_write name change s has = ap (λ o. record s { tmp = rewritten s.tmp name change o }) (sym has)
 
 pub comes_to_none : (name : List ℕ) (change : List ℕ → List ℕ) {a b : World} → Acts a b → get b.files.tmp name ≡ None → Comes (changed name change) a b
 comes_to_none name change acts none = record { before = acts.actions; rest = []; left = not_changed name change none ∙ ap (changed name change) acts.files_are }
 
-pub comes_by_write : (name : List ℕ) {held : List ℕ} (change : List ℕ → List ℕ) {a b c : World} → Acts a b → get b.files.tmp name ≡ Some held → c.files ≡ effect (Writing name (change held)) b.files → Comes (changed name change) a c
-comes_by_write name change {b} acts has written = record { before = acts.actions; rest = []; left = written ∙ (changed_by_write name change b.files has ∙ ap (changed name change) acts.files_are) }
+pub comes_by_write : (name : List ℕ) {held : List ℕ} (change : List ℕ → List ℕ) {a b c : World} → Acts a b
+    → get b.files.tmp name ≡ Some held → c.files ≡ effect (Writing name (change held)) b.files → Comes (changed name change) a c
+comes_by_write name change {b} acts has written =
+    record { before = acts.actions; rest = []; left = written ∙ (changed_by_write name change b.files has ∙ ap (changed name change) acts.files_are) }

@@ -21,7 +21,8 @@ as_torn_own bytes (Other action ∷ ms) own = absurd own
 as_torn_own bytes (Again ∷ ms) own = as_torn_own bytes ms own
 as_torn_own bytes (Torn held ∷ ms) own = as_torn_own bytes ms own
 
-after_torn : (name whole bytes : List ℕ) (ms : List Move) (s : Files) → IsOwn ms → after s (Writing name bytes) ms ≡ after s (Writing name whole) (as_torn bytes ms)
+after_torn : (name whole bytes : List ℕ) (ms : List Move) (s : Files) → IsOwn ms
+    → after s (Writing name bytes) ms ≡ after s (Writing name whole) (as_torn bytes ms)
 after_torn name whole bytes [] s own = refl
 after_torn name whole bytes (Other action ∷ ms) s own = absurd own
 after_torn name whole bytes (Again ∷ ms) s own = after_torn name whole bytes ms (effect (Writing name bytes) s) own
@@ -34,18 +35,24 @@ WriteEndedEarly name bytes old new = (moves : List Move) × IsOwn moves × (new 
 pub torn_quietly : (name held bytes : List ℕ) (old : Files) {new : Files} → new ≡ effect (Writing name held) old → WriteEndedEarly name bytes old new
 torn_quietly name held bytes old left = (Torn held ∷ [], tt, left)
 
-pub not_created_quietly : {A E : Type 0} (name bytes : List ℕ) (old new : Files) (outcome : Result A E) → IsErr outcome → WriteEndedEarly name [] old new → CalledQuietly (Writing name bytes) old outcome new
+pub not_created_quietly : {A E : Type 0} (name bytes : List ℕ) (old new : Files) (outcome : Result A E)
+    → IsErr outcome → WriteEndedEarly name [] old new → CalledQuietly (Writing name bytes) old outcome new
 not_created_quietly name bytes old new (Ok _) is_err made = cc
-not_created_quietly name bytes old new (Err _) is_err made = (as_torn [] made.0, as_torn_own [] made.0 made.1, made.2 ∙ after_torn name bytes [] made.0 old made.1)
+not_created_quietly name bytes old new (Err _) is_err made =
+    (as_torn [] made.0, as_torn_own [] made.0 made.1, made.2 ∙ after_torn name bytes [] made.0 old made.1)
 
-pub written_quietly : {A E : Type 0} (name bytes : List ℕ) (old : Files) {new : Files} (outcome : Result A E) → new ≡ effect (Writing name bytes) old → CalledQuietly (Writing name bytes) old outcome new
+pub written_quietly : {A E : Type 0} (name bytes : List ℕ) (old : Files) {new : Files} (outcome : Result A E)
+    → new ≡ effect (Writing name bytes) old → CalledQuietly (Writing name bytes) old outcome new
 written_quietly name bytes old (Ok _) left = (tt, left)
 written_quietly name bytes old (Err _) left = torn_quietly name bytes bytes old left
 
-pub grown_quietly : (name held : List ℕ) (change : List ℕ → List ℕ) (old : Files) {mid new : Files} → mid ≡ effect (Writing name held) old → new ≡ changed name change mid → new ≡ effect (Writing name (change held)) old
+pub grown_quietly : (name held : List ℕ) (change : List ℕ → List ℕ) (old : Files) {mid new : Files}
+    → mid ≡ effect (Writing name held) old → new ≡ changed name change mid → new ≡ effect (Writing name (change held)) old
 grown_quietly name held change old had made = made ∙ (ap (changed name change) had ∙ changed_again name held change old)
 
-pub appended_quietly : (name held piece bytes : List ℕ) (old : Files) {mid : Files} (new : Files) (outcome : Result ℕ Error) → mid ≡ effect (Writing name held) old → AppendedQuietly name piece mid outcome new → WriteEndedEarly name bytes old new
+pub appended_quietly : (name held piece bytes : List ℕ) (old : Files) {mid : Files} (new : Files) (outcome : Result ℕ Error)
+    → mid ≡ effect (Writing name held) old → AppendedQuietly name piece mid outcome new → WriteEndedEarly name bytes old new
 appended_quietly name held piece bytes old new (Ok n) had made = torn_quietly name _ bytes old (grown_quietly name held (λ h. h ++ take n piece) old had made)
 appended_quietly name held piece bytes old new (Err error) had (inl same) = torn_quietly name held bytes old (same ∙ had)
-appended_quietly name held piece bytes old new (Err error) had (inr other) = torn_quietly name other.1 bytes old (grown_quietly name held (λ _. other.1) old had other.2)
+appended_quietly name held piece bytes old new (Err error) had (inr other) =
+    torn_quietly name other.1 bytes old (grown_quietly name held (λ _. other.1) old had other.2)

@@ -1,5 +1,6 @@
 -- What runs over any of several texts, actions, syncs and power cuts leave that follow one another.
-use Rattle.std.proofs.Common.{◌≡◌, ℕ, true, List, [], ◌∷◌, ◌++◌, map, get_or, All, Any, Contains, IsTrue, IsPermutation, Result, Ok, refl, sym, ◌∙◌, ap, subst, inl, inr}
+use Rattle.std.proofs.Common.{◌≡◌, ℕ, true, List, [], ◌∷◌, ◌++◌, map, get_or, All, Any, Contains}
+use Rattle.std.proofs.Common.{IsTrue, IsPermutation, Result, Ok, refl, sym, ◌∙◌, ap, subst, inl, inr}
 use Rattle.std.proofs.lemmas.Bool.{cases_Bool}
 use Rattle.std.proofs.lemmas.List.Elements.{All-contains, All-cons, All-head, All-nil, Contains-append_right, Contains-get_or}
 use Rattle.std.proofs.lemmas.List.Folds.{Any-from_list_any}
@@ -61,7 +62,9 @@ found_any : (ms : List Message) {b : List ℕ} → Any (λ n. is_name n.target.b
 found_any ms {b} (k, x, below, at, holds) = (x, (k, below, at), is_name-true x.target.base b holds)
 
 -- a message, of whose base no message of a run has another body
-pub kept_by_run : {ms : List Message} {old new : Files} {answer : Result Report RunFault} → Keeps ms old answer new → (m : Message) → IsTrue (is_converter_base m.target.base) → All (λ n. n.target.base ≡ m.target.base → n.body ≡ m.body) ms → (IsSoundAt old m → IsSoundAt new m) × (IsHome old m → IsHome new m)
+pub kept_by_run : {ms : List Message} {old new : Files} {answer : Result Report RunFault} → Keeps ms old answer new
+    → (m : Message) → IsTrue (is_converter_base m.target.base) → All (λ n. n.target.base ≡ m.target.base → n.body ≡ m.body) ms
+    → (IsSoundAt old m → IsSoundAt new m) × (IsHome old m → IsHome new m)
 kept_by_run {ms} {old} {new} keeps m named alike =
     let b = m.target.base in
     elim (cases_Bool (is_base_of ms b)) [
@@ -75,14 +78,17 @@ kept_by_run {ms} {old} {new} keeps m named alike =
           let sound : IsSoundAt new m = on_same n m new found.2 body (All-contains (IsSoundAt new) ms n keeps.sound.own found.1) in
           let still = All-contains (λ (o : Message). HasHome old o → HasHome new o) ms n keeps.still found.1 in (
             λ before. sound,
-            λ home. at_home m new (subst (λ c. IsTrue (is_any (homes new c))) found.2 (still (subst (λ c. IsTrue (is_any (homes old c))) (sym found.2) (ap is_any home)))) sound,
+            λ home. at_home m new
+                (subst (λ c. IsTrue (is_any (homes new c))) found.2 (still (subst (λ c. IsTrue (is_any (homes old c))) (sym found.2) (ap is_any home)))) sound,
           )
     ]
 
 -- what other programs do
-pub still_sound : (m : Message) → IsTrue (is_converter_base m.target.base) → (actions : List Action) (s : Files) → IsSoundAt s m → IsSoundAt (all_acted actions s) m
+pub still_sound : (m : Message) → IsTrue (is_converter_base m.target.base)
+    → (actions : List Action) (s : Files) → IsSoundAt s m → IsSoundAt (all_acted actions s) m
 still_sound m named [] s at = at
-still_sound m named (action ∷ actions) s at = still_sound m named actions (acted action s) (moved_sound m s (acted action s) (acted_kept m.target.base named action s) at)
+still_sound m named (action ∷ actions) s at =
+    still_sound m named actions (acted action s) (moved_sound m s (acted action s) (acted_kept m.target.base named action s) at)
 
 module _ (texts : List Mailbox) where
   abbrev pub Stand : FilesAndLeft → Type 0
@@ -94,47 +100,60 @@ module _ (texts : List Mailbox) where
   -- ---- one event, and one message
   module _ (m : Message) (known : Known texts m) where
     alike_in : {text : Mailbox} → Contains texts text → All (λ n. n.target.base ≡ m.target.base → n.body ≡ m.body) text.messages
-    alike_in {text} among = All-contains (λ (t : Mailbox). All (λ (n : Message). n.target.base ≡ m.target.base → n.body ≡ m.body) t.messages) texts text known.alike among
+    alike_in {text} among =
+        All-contains (λ (t : Mailbox). All (λ (n : Message). n.target.base ≡ m.target.base → n.body ≡ m.body) t.messages) texts text known.alike among
 
     -- a sync of one folder
-    kept_on : (P : Files → Type 0) → ((actions : List Action) (s : Files) → P s → P (all_acted actions s)) → {sub : Sub} {s before t left : Files} → KeepsNames sub s before t left → P s → P t
+    kept_on : (P : Files → Type 0) → ((actions : List Action) (s : Files) → P s → P (all_acted actions s))
+        → {sub : Sub} {s before t left : Files} → KeepsNames sub s before t left → P s → P t
     kept_on P on {s} keeps at = subst P (sym keeps.new_is) (on keeps.rest keeps.moment (subst P (sym keeps.moment_is) (on keeps.actions s at)))
 
     kept_holds : {sub : Sub} {s before t left : Files} → KeepsNames sub s before t left → SteadyAt m.target.base m.body before left
     kept_holds {before} {left} keeps =
         steady_then m.target.base m.body before keeps.there left (others_hold m known.named keeps.earlier) (others_hold m known.named keeps.later)
 
-    synced_on : (P : Files → Type 0) → ((actions : List Action) (s : Files) → P s → P (all_acted actions s)) → (old new : FilesAndLeft) → Syncs old.files old.left new.files new.left → P old.files → P new.files
+    synced_on : (P : Files → Type 0) → ((actions : List Action) (s : Files) → P s → P (all_acted actions s))
+        → (old new : FilesAndLeft) → Syncs old.files old.left new.files new.left → P old.files → P new.files
     synced_on P on old new synced at = kept_on P on synced.then (kept_on P on synced.first at)
 
     cut_holds : {old new : FilesAndLeft} → IsCut old new → SteadyAt m.target.base m.body old.left new.left
-    cut_holds {old} {new} cut = steady_kept m.target.base m.body old.left new.left (IsPermutation-trans _ _ _ (cut.found.kept m.target.base known.named) (cut.stays.kept m.target.base known.named))
+    cut_holds {old} {new} cut =
+        steady_kept m.target.base m.body old.left new.left
+        (IsPermutation-trans _ _ _ (cut.found.kept m.target.base known.named) (cut.stays.kept m.target.base known.named))
 
     -- what a cut would leave of it, after each event
-    holds_at : (event : EventOver) (old new : FilesAndLeft) → All IsMailbox texts → HappensOver texts event old new → SteadyAt m.target.base m.body old.left new.left
+    holds_at : (event : EventOver) (old new : FilesAndLeft) → All IsMailbox texts
+        → HappensOver texts event old new → SteadyAt m.target.base m.body old.left new.left
     holds_at (RanOver text answer) old new are (among, happens) =
         let is = All-contains IsMailbox texts text are among in
         let planned = happens.1 text.messages is.are in
         text_holds text.bytes text.messages is.are is.small planned.0 old.left answer new.left planned.1 m.target.base m.body known.named (alike_in among)
     holds_at (ActedOver action) old new are (e, leaves) = others_hold m known.named leaves
-    holds_at SyncedOver old new are synced = steady_then m.target.base m.body old.left synced.mid.left new.left (kept_holds synced.first) (kept_holds synced.then)
+    holds_at SyncedOver old new are synced =
+        steady_then m.target.base m.body old.left synced.mid.left new.left (kept_holds synced.first) (kept_holds synced.then)
     holds_at CutOver old new are cut = cut_holds cut
 
     -- and what there is of it, until a cut
-    kept_at : (event : EventOver) (old new : FilesAndLeft) → All IsMailbox texts → Stand old → (event ≡ CutOver → ⊥) → HappensOver texts event old new → (IsSoundAt old.files m → IsSoundAt new.files m) × (IsHome old.files m → IsHome new.files m)
+    kept_at : (event : EventOver) (old new : FilesAndLeft) → All IsMailbox texts → Stand old → (event ≡ CutOver → ⊥)
+        → HappensOver texts event old new → (IsSoundAt old.files m → IsSoundAt new.files m) × (IsHome old.files m → IsHome new.files m)
     kept_at (RanOver text answer) old new are stand uncut (among, happens) =
         let is = All-contains IsMailbox texts text are among in
-        kept_by_run (happens.0.keeps text.messages is.are (sound_now text.messages old.files (λ k d below. (of_text among old stand k d below).sound))) m known.named (alike_in among)
+        kept_by_run (happens.0.keeps text.messages is.are (sound_now text.messages old.files (λ k d below. (of_text among old stand k d below).sound)))
+        m known.named (alike_in among)
     kept_at (ActedOver action) old new are stand uncut (e, leaves) = (
       λ sound. subst (λ s. IsSoundAt s m) (sym e) (still_sound m known.named (action ∷ []) old.files sound),
       λ home. subst (λ s. IsHome s m) (sym e) (still_home m known.named (action ∷ []) old.files home),
     )
-    kept_at SyncedOver old new are stand uncut synced = (synced_on (λ s. IsSoundAt s m) (still_sound m known.named) old new synced, synced_on (λ s. IsHome s m) (still_home m known.named) old new synced)
+    kept_at SyncedOver old new are stand uncut synced =
+        (synced_on (λ s. IsSoundAt s m) (still_sound m known.named) old new synced, synced_on (λ s. IsHome s m) (still_home m known.named) old new synced)
     kept_at CutOver old new are stand uncut cut = absurd (uncut refl)
 
-    stands_at : (event : EventOver) {old new : FilesAndLeft} → All IsMailbox texts → Stand old → HappensOver texts event old new → StandsAt old m → StandsAt new m
+    stands_at : (event : EventOver) {old new : FilesAndLeft} → All IsMailbox texts
+        → Stand old → HappensOver texts event old new → StandsAt old m → StandsAt new m
     stands_at CutOver {old} {new} are stand cut at = record {
-      sound = moved_sound m old.left new.files (cut.found.kept m.target.base known.named) (single_sound m known.named old.files old.left at.sound at.intact cut.single);
+      sound =
+          moved_sound m old.left new.files (cut.found.kept m.target.base known.named)
+          (single_sound m known.named old.files old.left at.sound at.intact cut.single);
       intact = intact_on m old.left new.left (cut_holds cut) at.intact;
     }
     stands_at event {old} {new} are stand happens at = record {
@@ -145,10 +164,13 @@ module _ (texts : List Mailbox) where
     -- once it is at home and would survive a cut it stays there
     safe_at : (event : EventOver) {old new : FilesAndLeft} → All IsMailbox texts → Stand old → HappensOver texts event old new → IsSafeAt old m → IsSafeAt new m
     safe_at CutOver {old} {new} are stand cut safe = record {
-      home = homes_one m.target.base m.body old.left new.files (cut.found.kept m.target.base known.named) (single_home m known.named old.files old.left safe.home safe.body cut.single);
+      home =
+          homes_one m.target.base m.body old.left new.files (cut.found.kept m.target.base known.named)
+          (single_home m known.named old.files old.left safe.home safe.body cut.single);
       body = (cut_holds cut).still safe.body;
     }
-    safe_at event {old} {new} are stand happens safe = record { home = (kept_at event old new are stand (λ e. cc) happens).1 safe.home; body = (holds_at event old new are happens).still safe.body }
+    safe_at event {old} {new} are stand happens safe =
+        record { home = (kept_at event old new are stand (λ e. cc) happens).1 safe.home; body = (holds_at event old new are happens).still safe.body }
 
     synced_safe : {old new : FilesAndLeft} → StandsAt old m → IsHome old.files m → Syncs old.files old.left new.files new.left → IsSafeAt new m
     synced_safe {old} {new} at home synced = record {
@@ -172,18 +194,26 @@ module _ (texts : List Mailbox) where
     stand_then = chain_keeps (HappensOver texts) Stand stand_after
 
     module _ (ms : List Message) (knows : All (Known texts) ms) where
-      home_then : (events : List EventOver) (old new : FilesAndLeft) → Stand old → ¬ Contains events CutOver → HappenOver texts events old new → All (IsHome old.files) ms → All (IsHome new.files) ms
+      home_then : (events : List EventOver) (old new : FilesAndLeft) → Stand old → ¬ Contains events CutOver
+          → HappenOver texts events old new → All (IsHome old.files) ms → All (IsHome new.files) ms
       home_then events old new stand uncut happen home =
           chain_fold (HappensOver texts) (λ es a. Stand a → ¬ Contains es CutOver → All (IsHome a.files) ms → All (IsHome new.files) ms) new (λ _ _ at. at)
-          (λ e es a b happens rest on none at. rest (stand_after e a b on happens) (λ has. none (Contains-append_right (e ∷ []) es CutOver has)) (λ k d below. (kept_at (get_or ms k d) (knows k d below) e a b are on (λ is. none (subst (Contains (e ∷ es)) is (first_in es))) happens).1 (at k d below)))
+          (λ e es a b happens rest on none at. rest (stand_after e a b on happens) (λ has. none (Contains-append_right (e ∷ []) es CutOver has)) (λ k d below.
+          (kept_at (get_or ms k d) (knows k d below) e a b are on (λ is. none (subst (Contains (e ∷ es)) is (first_in es))) happens).1 (at k d below)))
           events old happen stand uncut home
 
-      safe_then : (events : List EventOver) (old new : FilesAndLeft) → Stand old → HappenOver texts events old new → All (IsSafeAt old) ms → All (IsSafeAt new) ms
+      safe_then : (events : List EventOver) (old new : FilesAndLeft) → Stand old
+          → HappenOver texts events old new → All (IsSafeAt old) ms → All (IsSafeAt new) ms
       safe_then events old new stand happen safe =
-          (chain_keeps (HappensOver texts) (λ moment. Stand moment × All (IsSafeAt moment) ms) (λ e a b at happens. (stand_after e a b at.0 happens, λ k d below. safe_at (get_or ms k d) (knows k d below) e are at.0 happens (at.1 k d below))) events old new (stand, safe) happen).1
+          (chain_keeps (HappensOver texts) (λ moment. Stand moment × All (IsSafeAt moment) ms) (λ e a b at happens. (
+            stand_after e a b at.0 happens,
+            λ k d below. safe_at (get_or ms k d) (knows k d below) e are at.0 happens (at.1 k d below),
+          )) events old new (stand, safe) happen).1
 
       -- from messages at home on
-      home_synced : (between rest : List EventOver) (old new : FilesAndLeft) → ((m : Message) (moment : FilesAndLeft) → Stand moment → Contains ms m → StandsAt moment m) → Stand old → ¬ Contains between CutOver → HappenOver texts (between ++ (SyncedOver ∷ rest)) old new → All (IsHome old.files) ms → All (IsSafeAt new) ms
+      home_synced : (between rest : List EventOver) (old new : FilesAndLeft)
+          → ((m : Message) (moment : FilesAndLeft) → Stand moment → Contains ms m → StandsAt moment m) → Stand old → ¬ Contains between CutOver
+          → HappenOver texts (between ++ (SyncedOver ∷ rest)) old new → All (IsHome old.files) ms → All (IsSafeAt new) ms
       home_synced between rest old new inside stand uncut happen home =
           let parts = chain_parts (HappensOver texts) between (SyncedOver ∷ rest) old new happen in
           let mid = parts.0 in
@@ -191,14 +221,18 @@ module _ (texts : List Mailbox) where
           let home_mid = home_then between old mid stand uncut parts.1 home in
           let then = parts.2 in
           safe_then rest then.0 new (stand_after SyncedOver mid then.0 stand_mid then.1) then.2
-          (λ k d below. synced_safe (get_or ms k d) (knows k d below) (inside (get_or ms k d) mid stand_mid (Contains-get_or ms k d below)) (home_mid k d below) then.1)
+          (λ k d below. synced_safe (get_or ms k d) (knows k d below)
+          (inside (get_or ms k d) mid stand_mid (Contains-get_or ms k d below)) (home_mid k d below) then.1)
 
-    pub delivers : {text : Mailbox} → Contains texts text → (mid : FilesAndLeft) {new : Files} {report : Report} → Stand mid → IsRun text.bytes mid.files (Ok report) new → Delivered text.messages new
+    pub delivers : {text : Mailbox} → Contains texts text → (mid : FilesAndLeft) {new : Files} {report : Report}
+        → Stand mid → IsRun text.bytes mid.files (Ok report) new → Delivered text.messages new
     delivers {text} among mid stand run =
         let is = All-contains IsMailbox texts text are among in
         (run.keeps text.messages is.are (sound_now text.messages mid.files (λ k d below. (of_text among mid stand k d below).sound))).ends.delivered
 
-    pub kept_then : (text : Mailbox) (report : Report) (before between rest : List EventOver) (old new : FilesAndLeft) → Stand old → HappenOver texts (before ++ (RanOver text (Ok report) ∷ (between ++ (SyncedOver ∷ rest)))) old new → ¬ Contains between CutOver → All (IsSafeAt new) text.messages
+    pub kept_then : (text : Mailbox) (report : Report) (before between rest : List EventOver) (old new : FilesAndLeft)
+        → Stand old → HappenOver texts (before ++ (RanOver text (Ok report) ∷ (between ++ (SyncedOver ∷ rest)))) old new
+        → ¬ Contains between CutOver → All (IsSafeAt new) text.messages
     kept_then text report before between rest old new stand happen uncut =
         let parts = chain_parts (HappensOver texts) before (RanOver text (Ok report) ∷ (between ++ (SyncedOver ∷ rest))) old new happen in
         let mid = parts.0 in
@@ -216,26 +250,34 @@ stand_new {texts} {moment} fresh k d below j e inside = record {
 }
 
 -- ---- one text
-happens_over : (text : Mailbox) (event : Event) (old new : FilesAndLeft) → Happens text.bytes event old new → HappensOver (text ∷ []) (event_over text event) old new
+happens_over : (text : Mailbox) (event : Event) (old new : FilesAndLeft)
+    → Happens text.bytes event old new → HappensOver (text ∷ []) (event_over text event) old new
 happens_over text (Ran answer) old new happens = (first_in [], happens)
 happens_over text (Acted action) old new happens = happens
 happens_over text Cut old new happens = happens
 
-happen_over : (text : Mailbox) (events : List Event) (old new : FilesAndLeft) → Happen text.bytes events old new → HappenOver (text ∷ []) (map (event_over text) events) old new
+happen_over : (text : Mailbox) (events : List Event) (old new : FilesAndLeft)
+    → Happen text.bytes events old new → HappenOver (text ∷ []) (map (event_over text) events) old new
 happen_over text = chain_map (Happens text.bytes) (HappensOver (text ∷ [])) (event_over text) (happens_over text)
 
 only_text : (text : Mailbox) (P : Mailbox → Type 0) → P text → All P (text ∷ [])
 only_text text P h = All-cons P text [] h (All-nil P)
 
-one_new : {text : Mailbox} {old : FilesAndLeft} → IsMailbox text → All (IsMissing old.files) text.messages → All (IsMissing old.left) text.messages → AreNew (text ∷ []) old
+one_new : {text : Mailbox} {old : FilesAndLeft} → IsMailbox text → All (IsMissing old.files) text.messages
+    → All (IsMissing old.left) text.messages → AreNew (text ∷ []) old
 one_new {text} {old} is none none_left = record {
   are = only_text text IsMailbox is;
-  alike = only_text text (λ t. All (λ m. OfEach (λ n. n.target.base ≡ m.target.base → n.body ≡ m.body) (text ∷ [])) t.messages) (λ k d below. only_text text (λ t. All (λ n. n.target.base ≡ (get_or text.messages k d).target.base → n.body ≡ (get_or text.messages k d).body) t.messages) (own_bodies text.messages (text_distinct text.bytes text.messages is.are is.small) k d below));
+  alike =
+      only_text text (λ t. All (λ m. OfEach (λ n. n.target.base ≡ m.target.base → n.body ≡ m.body) (text ∷ [])) t.messages) (λ k d below. only_text text
+      (λ t. All (λ n. n.target.base ≡ (get_or text.messages k d).target.base → n.body ≡ (get_or text.messages k d).body) t.messages)
+      (own_bodies text.messages (text_distinct text.bytes text.messages is.are is.small) k d below));
   missing = only_text text (λ t. All (IsMissing old.files) t.messages) none;
   none_left = only_text text (λ t. All (IsMissing old.left) t.messages) none_left;
 }
 
-pub cuts_stand : {text : Mailbox} (events : List Event) (old new : FilesAndLeft) → IsMailbox text → All (IsMissing old.files) text.messages → All (IsMissing old.left) text.messages → Happen text.bytes events old new → All (StandsAt new) text.messages
+pub cuts_stand : {text : Mailbox} (events : List Event) (old new : FilesAndLeft) → IsMailbox text → All (IsMissing old.files) text.messages
+    → All (IsMissing old.left) text.messages → Happen text.bytes events old new → All (StandsAt new) text.messages
 cuts_stand {text} events old new is none none_left happen =
     let fresh = one_new is none none_left in
-    All-head (λ (t : Mailbox). All (StandsAt new) t.messages) text [] (stand_then (text ∷ []) fresh.are fresh.alike (map (event_over text) events) old new (stand_new fresh) (happen_over text events old new happen))
+    All-head (λ (t : Mailbox). All (StandsAt new) t.messages) text []
+    (stand_then (text ∷ []) fresh.are fresh.alike (map (event_over text) events) old new (stand_new fresh) (happen_over text events old new happen))

@@ -18,7 +18,8 @@ use Rattle.maildir_disk.proofs.Left.LeftTasks.{texts_hold}
 use Rattle.maildir_disk.proofs.Kept.Syncs.{still_home}
 
 -- ---- what other programs do
-pub stays_acted : (others : List Message) → AreNamed others → (actions : List Action) (old new : Files) (before now : Files → Type 0) → new ≡ all_acted actions old → Follows LeftByOthers before now → Stays others old before new now
+pub stays_acted : (others : List Message) → AreNamed others → (actions : List Action) (old new : Files) (before now : Files → Type 0)
+    → new ≡ all_acted actions old → Follows LeftByOthers before now → Stays others old before new now
 stays_acted others named actions old new before now are left = record {
   sound = λ sound k d below.
       let m = get_or others k d in
@@ -30,11 +31,13 @@ stays_acted others named actions old new before now are left = record {
   survive = λ survive after may. let was = left after may in all_bodies others was.0 after (all_beside others named was.2) (survive was.0 was.1);
 }
 
-stays_beside : {others : List Message} → AreNamed others → {old new : World} {before now : Files → Type 0} → Acts old new → Follows LeftByOthers before now → Stays others old.files before new.files now
+stays_beside : {others : List Message} → AreNamed others → {old new : World} {before now : Files → Type 0}
+    → Acts old new → Follows LeftByOthers before now → Stays others old.files before new.files now
 stays_beside {others} named {old} {new} {before} {now} acts left = stays_acted others named acts.actions old.files new.files before now acts.files_are left
 
 -- one after the other
-pub stays_then : (others : List Message) (r : Files) (a : Files → Type 0) (s : Files) (b : Files → Type 0) (t : Files) (c : Files → Type 0) → Stays others r a s b → Stays others s b t c → Stays others r a t c
+pub stays_then : (others : List Message) (r : Files) (a : Files → Type 0) (s : Files) (b : Files → Type 0) (t : Files) (c : Files → Type 0)
+    → Stays others r a s b → Stays others s b t c → Stays others r a t c
 stays_then others r a s b t c first then = record {
   sound = λ h. then.sound (first.sound h);
   intact = λ h. then.intact (first.intact h);
@@ -42,8 +45,10 @@ stays_then others r a s b t c first then = record {
   survive = λ h. then.survive (first.survive h);
 }
 
-module _ (t : List ℕ) (ms : List Message) (are : MessagesOf t ms) (small : length t < 2 ^ 63) (others : List Message) (named : AreNamed others) (alike : AreAlike others ms) where
-  pub stays_after_run : (old new : Files) (before now : Files → Type 0) (answer : Result Report RunFault) → IsRun t old answer new → All (IsSoundAt old) ms → Follows (λ old new. (names : Listings) × Performs leaving (planned_tasks names ms) old answer new) before now → Stays others old before new now
+module _ (t : List ℕ) (ms : List Message) (are : MessagesOf t ms) (small : length t < 2 ^ 63)
+    (others : List Message) (named : AreNamed others) (alike : AreAlike others ms) where
+  pub stays_after_run : (old new : Files) (before now : Files → Type 0) (answer : Result Report RunFault) → IsRun t old answer new → All (IsSoundAt old) ms
+      → Follows (λ old new. (names : Listings) × Performs leaving (planned_tasks names ms) old answer new) before now → Stays others old before new now
   stays_after_run old new before now answer run sound left =
       let keeps = run.keeps ms are (sound_now ms old sound) in
       record {
@@ -57,6 +62,9 @@ module _ (t : List ℕ) (ms : List Message) (are : MessagesOf t ms) (small : len
             all_bodies others was.0 after (texts_hold t ms are small was.2.0 was.0 answer after was.2.1 others named alike) (survive was.0 was.1);
       }
 
-  pub stays_after_both : (old : Files) (mid new : World) (before between now : Files → Type 0) (answer : Result Report RunFault) → IsRun t old answer mid.files → All (IsSoundAt old) ms → Follows (λ old new. (names : Listings) × Performs leaving (planned_tasks names ms) old answer new) before between → Acts mid new → Follows LeftByOthers between now → Stays others old before new.files now
+  pub stays_after_both : (old : Files) (mid new : World) (before between now : Files → Type 0) (answer : Result Report RunFault) → IsRun t old answer mid.files
+      → All (IsSoundAt old) ms → Follows (λ old new. (names : Listings) × Performs leaving (planned_tasks names ms) old answer new) before between
+      → Acts mid new → Follows LeftByOthers between now → Stays others old before new.files now
   stays_after_both old mid new before between now answer run sound left acts others_left =
-      stays_then others old before mid.files between new.files now (stays_after_run old mid.files before between answer run sound left) (stays_beside named acts others_left)
+      stays_then others old before mid.files between new.files now
+      (stays_after_run old mid.files before between answer run sound left) (stays_beside named acts others_left)

@@ -19,12 +19,15 @@ use Rattle.maildir_disk.proofs.Left.LeftTasks.{own_hold, texts_hold}
 use Rattle.maildir_disk.proofs.Kept.Syncs.{still_home, synced_bodies}
 
 module _ (t : List ℕ) (ms : List Message) (are : MessagesOf t ms) (small : length t < 2 ^ 63) where
-  pub intact_after_run : (before now : Files → Type 0) (answer : Result Report RunFault) → Follows (λ old new. (names : Listings) × Performs leaving (planned_tasks names ms) old answer new) before now → AreIntact ms before → AreIntact ms now
+  pub intact_after_run : (before now : Files → Type 0) (answer : Result Report RunFault)
+      → Follows (λ old new. (names : Listings) × Performs leaving (planned_tasks names ms) old answer new) before now → AreIntact ms before → AreIntact ms now
   intact_after_run before now answer run intact left may =
       let was = run left may in
       all_intact ms was.0 left (own_hold t ms are small was.2.0 was.0 answer left was.2.1) (intact was.0 was.1)
 
-  pub survive_after_run : (others : List Message) (before now : Files → Type 0) (answer : Result Report RunFault) → AreNamed others → AreAlike others ms → Follows (λ old new. (names : Listings) × Performs leaving (planned_tasks names ms) old answer new) before now → Survive others before → Survive others now
+  pub survive_after_run : (others : List Message) (before now : Files → Type 0) (answer : Result Report RunFault) → AreNamed others
+      → AreAlike others ms → Follows (λ old new. (names : Listings) × Performs leaving (planned_tasks names ms) old answer new) before now
+      → Survive others before → Survive others now
   survive_after_run others before now answer named alike run survive left may =
       let was = run left may in
       all_bodies others was.0 left (texts_hold t ms are small was.2.0 was.0 answer left was.2.1 others named alike) (survive was.0 was.1)
@@ -41,22 +44,31 @@ module _ (t : List ℕ) (ms : List Message) (are : MessagesOf t ms) (small : len
       subst (λ s. IsHome s m) (sym acts.files_are) (still_home m (text_named t ms are small k d below) acts.actions old.files (home k d below))
 
   -- a run and a sync
-  pub intact_after_both : (before between now : Files → Type 0) (answer : Result Report RunFault) → Follows (λ old new. (names : Listings) × Performs leaving (planned_tasks names ms) old answer new) before between → Follows LeftByOthers between now → AreIntact ms before → AreIntact ms now
+  pub intact_after_both : (before between now : Files → Type 0) (answer : Result Report RunFault)
+      → Follows (λ old new. (names : Listings) × Performs leaving (planned_tasks names ms) old answer new) before between
+      → Follows LeftByOthers between now → AreIntact ms before → AreIntact ms now
   intact_after_both before between now answer run others intact left may =
       let was = others left may in
       all_intact ms was.0 left (all_beside ms (text_named t ms are small) was.2) (intact_after_run before between answer run intact was.0 was.1)
 
-  pub survive_after_both : (others : List Message) (before between now : Files → Type 0) (answer : Result Report RunFault) → AreNamed others → AreAlike others ms → Follows (λ old new. (names : Listings) × Performs leaving (planned_tasks names ms) old answer new) before between → Follows LeftByOthers between now → Survive others before → Survive others now
+  pub survive_after_both : (others : List Message) (before between now : Files → Type 0) (answer : Result Report RunFault) → AreNamed others
+      → AreAlike others ms → Follows (λ old new. (names : Listings) × Performs leaving (planned_tasks names ms) old answer new) before between
+      → Follows LeftByOthers between now → Survive others before → Survive others now
   survive_after_both others before between now answer named alike run acts survive left may =
       let was = acts left may in
       all_bodies others was.0 left (all_beside others named was.2) (survive_after_run others before between answer named alike run survive was.0 was.1)
 
-  survive_synced : (old new : Files) {before now : Files → Type 0} → Follows (λ was left. Syncs old was new left) before now → All (IsHome old) ms → AreIntact ms before → Survive ms now
+  survive_synced : (old new : Files) {before now : Files → Type 0} → Follows (λ was left. Syncs old was new left) before now
+      → All (IsHome old) ms → AreIntact ms before → Survive ms now
   survive_synced old new syncs home intact left may =
       let was = syncs left may in
       synced_bodies ms (text_named t ms are small) home (intact was.0 was.1) was.2
 
-  pub safe_after_both : {A E : Type 0} (old : Files) (mid new : World) (before between now : Files → Type 0) (rooted : Type 0) (report : Report) (synced : Result A E) → IsRun t old (Ok report) mid.files → All (IsSoundAt old) ms → Follows (λ old new. (names : Listings) × Performs {E = RunFault} leaving (planned_tasks names ms) old (Ok report) new) before between → AreIntact ms before → Acts mid new → IsOk synced → OnOk synced (Follows (λ before left. Syncs mid.files before new.files left) between now) → OnOk synced rooted → AreSafe ms new.files now rooted
+  pub safe_after_both : {A E : Type 0} (old : Files) (mid new : World) (before between now : Files → Type 0)
+      (rooted : Type 0) (report : Report) (synced : Result A E) → IsRun t old (Ok report) mid.files → All (IsSoundAt old) ms
+      → Follows (λ old new. (names : Listings) × Performs {E = RunFault} leaving (planned_tasks names ms) old (Ok report) new) before between
+      → AreIntact ms before → Acts mid new → IsOk synced → OnOk synced (Follows (λ before left. Syncs mid.files before new.files left) between now)
+      → OnOk synced rooted → AreSafe ms new.files now rooted
   safe_after_both old mid new before between now rooted report synced run sound left intact acts ok syncs found =
       let home = home_after_run run sound in
       record {

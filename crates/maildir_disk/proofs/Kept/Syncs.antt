@@ -41,17 +41,21 @@ module _ (m : Message) (named : IsTrue (is_converter_base m.target.base)) where
 
   found_new : (moment there : Files) → Alike there.new moment.new → IsIntact there m → (held_under m.target.base moment.new ≡ [] → ⊥) → HasBody there m
   found_new moment there alike intact some =
-      Contains-append_left _ _ m.body (only (held_under m.target.base there.new) (λ y h. intact y (Contains-append_left _ _ y h)) (λ none. some (none_alike there.new moment.new alike none)))
+      Contains-append_left _ _ m.body
+      (only (held_under m.target.base there.new) (λ y h. intact y (Contains-append_left _ _ y h)) (λ none. some (none_alike there.new moment.new alike none)))
 
   found_cur : (moment there : Files) → Alike there.cur moment.cur → IsIntact there m → (held_under m.target.base moment.cur ≡ [] → ⊥) → HasBody there m
   found_cur moment there alike intact some =
-      Contains-append_right _ _ m.body (only (held_under m.target.base there.cur) (λ y h. intact y (Contains-append_right _ _ y h)) (λ none. some (none_alike there.cur moment.cur alike none)))
+      Contains-append_right _ _ m.body
+      (only (held_under m.target.base there.cur) (λ y h. intact y (Contains-append_right _ _ y h)) (λ none. some (none_alike there.cur moment.cur alike none)))
 
   pub still_home : (actions : List Action) (s : Files) → IsHome s m → IsHome (all_acted actions s) m
   still_home [] s home = home
-  still_home (action ∷ actions) s home = still_home actions (acted action s) (homes_one m.target.base m.body s (acted action s) (acted_kept m.target.base named action s) home)
+  still_home (action ∷ actions) s home =
+      still_home actions (acted action s) (homes_one m.target.base m.body s (acted action s) (acted_kept m.target.base named action s) home)
 
-  pub kept_names : {s t u before mid left : Files} → IsHome s m → IsIntact before m → KeepsNames New s before t mid → KeepsNames Cur t mid u left → HasBody left m
+  pub kept_names : {s t u before mid left : Files} → IsHome s m → IsIntact before m
+      → KeepsNames New s before t mid → KeepsNames Cur t mid u left → HasBody left m
   kept_names {s} {before} {mid} {left} home intact first then =
       let whole = intact_on m before first.there (others_hold m named first.earlier) intact in
       let whole_mid = intact_on m first.there mid (others_hold m named first.later) whole in
@@ -64,7 +68,8 @@ module _ (m : Message) (named : IsTrue (is_converter_base m.target.base)) where
         | [] ↦ λ none.
             let none_then : held_under m.target.base then.moment.new ≡ [] =
             subst (λ x. held_under m.target.base x.new ≡ []) (sym (then.moment_is ∙ ap (all_acted then.actions) first.new_is))
-            (all_acted_new m.target.base named then.actions (all_acted first.rest first.moment) (all_acted_new m.target.base named first.rest first.moment none)) in
+            (all_acted_new m.target.base named then.actions (all_acted first.rest first.moment)
+            (all_acted_new m.target.base named first.rest first.moment none)) in
             let home_then : IsHome then.moment m =
             subst (λ x. IsHome x m) (sym (then.moment_is ∙ (ap (all_acted then.actions) (first.new_is ∙ ap (all_acted first.rest) first.moment_is))))
             (still_home then.actions _ (still_home first.rest _ (still_home first.actions s home))) in
@@ -73,12 +78,14 @@ module _ (m : Message) (named : IsTrue (is_converter_base m.target.base)) where
             (others_hold m named then.later).still has
       ] refl
 
-pub synced_bodies : (ms : List Message) → AreNamed ms → {old before new left : Files} → All (IsHome old) ms → All (IsIntact before) ms → Syncs old before new left → All (HasBody left) ms
+pub synced_bodies : (ms : List Message) → AreNamed ms → {old before new left : Files}
+    → All (IsHome old) ms → All (IsIntact before) ms → Syncs old before new left → All (HasBody left) ms
 synced_bodies ms named home intact syncs k d below =
     kept_names (get_or ms k d) (named k d below) (home k d below) (intact k d below) syncs.first syncs.then
 
 -- names that were kept, and then what others did
-pub kept_later : {sub : Sub} {s before : Files} {t u : World} {mid left : Files} → KeepsNames sub s before t.files mid → Acts t u → LeftByOthers mid left → KeepsNames sub s before u.files left
+pub kept_later : {sub : Sub} {s before : Files} {t u : World} {mid left : Files}
+    → KeepsNames sub s before t.files mid → Acts t u → LeftByOthers mid left → KeepsNames sub s before u.files left
 kept_later keeps acts leaves = record {
   moment = keeps.moment;
   actions = keeps.actions;

@@ -1,5 +1,6 @@
 -- What a cut leaves of the files of one base, from one move to the next.
-use Rattle.std.proofs.Common.{◌≡◌, ℕ, true, false, cond, zero, suc, List, [], ◌∷◌, ◌++◌, ◌⊎◌, Option, Some, None, All, get_or, IsPermutation, IsTrue, refl, sym, ap, subst, ◌∙◌, inl, inr, arith}
+use Rattle.std.proofs.Common.{◌≡◌, ℕ, true, false, cond, zero, suc, List, [], ◌∷◌, ◌++◌, ◌⊎◌, Option, Some, None}
+use Rattle.std.proofs.Common.{All, get_or, IsPermutation, IsTrue, refl, sym, ap, subst, ◌∙◌, inl, inr, arith}
 use Rattle.std.specs.List.{Contains}
 use Rattle.std.specs.FinMap.{get, insert, remove, get-insert, get-remove, same_map}
 use Rattle.std.proofs.lemmas.Bool.{cases_Bool, and_parts}
@@ -41,7 +42,9 @@ remove_inserted m k v =
 
 module _ (b : List ℕ) (m : FileMap) (k v : List ℕ) (on : has_base b k ≡ true) where
   replaced : IsPermutation (v ∷ held_under b (remove m k)) (held_under b (insert m k v))
-  replaced = subst (λ n. IsPermutation (v ∷ held_under b n) (held_under b (insert m k v))) (remove_inserted m k v) (held-remove_old b (insert m k v) k v on (get-insert_same m k v))
+  replaced =
+      subst (λ n. IsPermutation (v ∷ held_under b n) (held_under b (insert m k v)))
+      (remove_inserted m k v) (held-remove_old b (insert m k v) k v on (get-insert_same m k v))
 
   inserted_in : Contains (held_under b (insert m k v)) v
   inserted_in = Contains-permutation _ _ v replaced (first_in _)
@@ -75,7 +78,9 @@ steady_left {x} {old} {new} more steady = record {
     | inr there ↦ inr (Contains-append_right old more y there)
     | inl there ↦ elim (steady.within y there) [ inl is ↦ inl is | inr before ↦ inr (Contains-append_left old more y before) ]
   ];
-  still = λ h. elim (Contains-append_cases old more x h) [ inl there ↦ Contains-append_left new more x (steady.still there) | inr there ↦ Contains-append_right new more x there ];
+  still = λ h.
+      elim (Contains-append_cases old more x
+      h) [ inl there ↦ Contains-append_left new more x (steady.still there) | inr there ↦ Contains-append_right new more x there ];
 }
 
 steady_right : {x : List ℕ} {old new : List (List ℕ)} (first : List (List ℕ)) → Steady x old new → Steady x (first ++ old) (first ++ new)
@@ -84,7 +89,9 @@ steady_right {x} {old} {new} first steady = record {
     | inl there ↦ inr (Contains-append_left first old y there)
     | inr there ↦ elim (steady.within y there) [ inl is ↦ inl is | inr before ↦ inr (Contains-append_right first old y before) ]
   ];
-  still = λ h. elim (Contains-append_cases first old x h) [ inl there ↦ Contains-append_left first new x there | inr there ↦ Contains-append_right first new x (steady.still there) ];
+  still = λ h.
+      elim (Contains-append_cases first old x
+      h) [ inl there ↦ Contains-append_left first new x there | inr there ↦ Contains-append_right first new x (steady.still there) ];
 }
 
 -- ---- the homes of a base, as against some bytes
@@ -124,7 +131,8 @@ module _ (b x : List ℕ) where
   }
 
   -- a file of the base is under one more of its names
-  linked_in : (s : Files) (target : List ℕ) {bytes : List ℕ} → has_base b target ≡ true → get s.cur target ≡ None → Contains (homes s b) bytes → SteadyAt b x s (record s { cur = insert s.cur target bytes })
+  linked_in : (s : Files) (target : List ℕ) {bytes : List ℕ} → has_base b target ≡ true → get s.cur target ≡ None
+      → Contains (homes s b) bytes → SteadyAt b x s (record s { cur = insert s.cur target bytes })
   linked_in s target {bytes} on free has = record {
     within = λ y h. inr (elim (Contains-append_cases (held_under b s.new) _ y h) [
       | inl there ↦ Contains-append_left _ _ y there
@@ -139,7 +147,8 @@ module _ (b x : List ℕ) where
     ];
   }
 
-  linked_steady : (s : Files) (name target : List ℕ) (o : Option (List ℕ)) → ((bytes : List ℕ) → has_base b name ≡ true → o ≡ Some bytes → Contains (homes s b) bytes) → SteadyAt b x s (linked s name target o)
+  linked_steady : (s : Files) (name target : List ℕ) (o : Option (List ℕ))
+      → ((bytes : List ℕ) → has_base b name ≡ true → o ≡ Some bytes → Contains (homes s b) bytes) → SteadyAt b x s (linked s name target o)
   linked_steady s name target None has = steady_same s
   linked_steady s name target (Some bytes) has =
       elim (may_take s.cur name target) as (λ t. may_take s.cur name target ≡ t → SteadyAt b x s (cond t (record s { cur = insert s.cur target bytes }) s)) [
@@ -149,13 +158,17 @@ module _ (b x : List ℕ) where
             let alike : has_base b target ≡ has_base b name = ap (is_name b) (sym (is_name-true _ _ parts.1)) in
             elim (cases_Bool (has_base b name)) [
               | inl on ↦ linked_in s target (alike ∙ on) (absent _ parts.0) (has bytes on refl)
-              | inr off ↦ let t : Files = record s { cur = insert s.cur target bytes } in steady_kept s t (equally b s t (rw (held-insert_other b s.cur target bytes (alike ∙ off)) refl))
+              | inr off ↦ let t : Files =
+                  record s { cur = insert s.cur target bytes } in
+                  steady_kept s t (equally b s t (rw (held-insert_other b s.cur target bytes (alike ∙ off)) refl))
             ]
       ] refl
 
   doubled_steady : (action : Action) (s : Files) → SteadyAt b x s (doubled action s)
-  doubled_steady (ToCur name target) s = linked_steady s name target (get s.new name) (λ bytes on has. Contains-append_left _ _ bytes (held_in b s.new name bytes on has))
-  doubled_steady (Reflag name target) s = linked_steady s name target (get s.cur name) (λ bytes on has. Contains-append_right _ _ bytes (held_in b s.cur name bytes on has))
+  doubled_steady (ToCur name target) s =
+      linked_steady s name target (get s.new name) (λ bytes on has. Contains-append_left _ _ bytes (held_in b s.new name bytes on has))
+  doubled_steady (Reflag name target) s =
+      linked_steady s name target (get s.cur name) (λ bytes on has. Contains-append_right _ _ bytes (held_in b s.cur name bytes on has))
   doubled_steady (DropTmp name) s = steady_same s
   doubled_steady (Outside files) s = steady_same s
 
@@ -163,19 +176,23 @@ module _ (b x : List ℕ) where
   inserted_steady : (m : FileMap) (target : List ℕ) → has_base b target ≡ true → Steady x (held_under b m) (held_under b (insert m target x))
   inserted_steady m target on = record { within = inserted_or b m target x on; still = λ h. inserted_in b m target x on }
 
-  placed_steady : (s : Files) (name : List ℕ) (p : Place) (target : List ℕ) (o : Option (List ℕ)) → has_base b target ≡ true → ((held : List ℕ) → o ≡ Some held → held ≡ x) → SteadyAt b x s (placed s name p target o)
+  placed_steady : (s : Files) (name : List ℕ) (p : Place) (target : List ℕ) (o : Option (List ℕ))
+      → has_base b target ≡ true → ((held : List ℕ) → o ≡ Some held → held ≡ x) → SteadyAt b x s (placed s name p target o)
   placed_steady s name p target None on whole = steady_same s
   placed_steady s name New target (Some held) on whole =
-      subst (λ bytes. SteadyAt b x s (placed s name New target (Some bytes))) (sym (whole held refl)) (steady_left (held_under b s.cur) (inserted_steady s.new target on))
+      subst (λ bytes. SteadyAt b x s (placed s name New target (Some bytes)))
+      (sym (whole held refl)) (steady_left (held_under b s.cur) (inserted_steady s.new target on))
   placed_steady s name Cur target (Some held) on whole =
-      subst (λ bytes. SteadyAt b x s (placed s name Cur target (Some bytes))) (sym (whole held refl)) (steady_right (held_under b s.new) (inserted_steady s.cur target on))
+      subst (λ bytes. SteadyAt b x s (placed s name Cur target (Some bytes)))
+      (sym (whole held refl)) (steady_right (held_under b s.new) (inserted_steady s.cur target on))
 
   module _ (named : IsTrue (is_converter_base b)) where
     -- a call that places nothing at the base
     left_elsewhere : (call : Call) → PlacesElsewhere b call → (kept : List cuts.CutMove) (s : Files) → SteadyAt b x s (left_after s call kept)
     left_elsewhere call off [] s = steady_same s
     left_elsewhere call off (Came move ∷ kept) s =
-        steady_then s (moved call move s) (left_after s call (Came move ∷ kept)) (steady_kept s (moved call move s) (after_kept b named call off (move ∷ []) s)) (left_elsewhere call off kept (moved call move s))
+        steady_then s (moved call move s) (left_after s call (Came move ∷ kept))
+        (steady_kept s (moved call move s) (after_kept b named call off (move ∷ []) s)) (left_elsewhere call off kept (moved call move s))
     left_elsewhere call off (Doubled action ∷ kept) s =
         steady_then s (doubled action s) (left_after s call (Doubled action ∷ kept)) (doubled_steady action s) (left_elsewhere call off kept (doubled action s))
 
@@ -193,10 +210,12 @@ module _ (b x : List ℕ) where
       left_placing [] s whole = steady_same s
       left_placing (Came move ∷ kept) s whole =
           let t = moved (Placing name p target) move s in
-          steady_then s t (left_after s (Placing name p target) (Came move ∷ kept)) (placing_moved move s whole) (left_placing kept t (whole_on name x s t (after_tmp name ours (Placing name p target) tt (move ∷ []) s) whole))
+          steady_then s t (left_after s (Placing name p target) (Came move ∷ kept)) (placing_moved move s whole)
+          (left_placing kept t (whole_on name x s t (after_tmp name ours (Placing name p target) tt (move ∷ []) s) whole))
       left_placing (Doubled action ∷ kept) s whole =
           let t = doubled action s in
-          steady_then s t (left_after s (Placing name p target) (Doubled action ∷ kept)) (doubled_steady action s) (left_placing kept t (whole_on name x s t (inl (ap (λ m. get m name) (doubled_tmp action s))) whole))
+          steady_then s t (left_after s (Placing name p target) (Doubled action ∷ kept)) (doubled_steady action s)
+          (left_placing kept t (whole_on name x s t (inl (ap (λ m. get m name) (doubled_tmp action s))) whole))
 
       pub leaves_placing : {s t : Files} → IsFoundWhole (Writing name x) s → Leaves (Placing name p target) s t → SteadyAt b x s t
       leaves_placing {s} whole leaves = subst (SteadyAt b x s) (sym leaves.are) (left_placing leaves.kept s whole)

@@ -1,5 +1,6 @@
 -- What a cut leaves of the tasks of a run.
-use Rattle.std.proofs.Common.{◌≡◌, ℕ, ◌<◌, ◌^◌, length, get_or, Bool, true, false, cond, List, [], ◌∷◌, ◌++◌, ◌⊎◌, All, IsTrue, IsFalse, Result, Ok, Err, sym, ap, subst, ◌∙◌, inl, inr}
+use Rattle.std.proofs.Common.{◌≡◌, ℕ, ◌<◌, ◌^◌, length, get_or, Bool, true, false, cond, List, [], ◌∷◌, ◌++◌}
+use Rattle.std.proofs.Common.{◌⊎◌, All, IsTrue, IsFalse, Result, Ok, Err, sym, ap, subst, ◌∙◌, inl, inr}
 use Rattle.std.proofs.lemmas.Bool.{cases_Bool, cases_order, false≢true}
 use Rattle.std.proofs.lemmas.List.{get_or_default}
 use Rattle.std.proofs.lemmas.List.Elements.{All-head, All-tail}
@@ -48,7 +49,8 @@ parts_left : (ended : Bool) (xs ys : List Task) (old new : Files) → LeavesTask
 parts_left true xs ys old new h = inr (all_parts leaving xs ys old new h)
 parts_left false xs ys old new h = stopped_parts leaving xs ys old new h
 
-performs_left : {A E : Type 0} (tasks : List Task) (old new : Files) (r : Result A E) → Performs leaving tasks old r new → (ended : Bool) × LeavesTasks ended tasks old new
+performs_left : {A E : Type 0} (tasks : List Task) (old new : Files) (r : Result A E)
+    → Performs leaving tasks old r new → (ended : Bool) × LeavesTasks ended tasks old new
 performs_left tasks old new (Ok _) h = (true, h)
 performs_left tasks old new (Err _) h = (false, h)
 
@@ -78,7 +80,8 @@ module _ (b x : List ℕ) (named : IsTrue (is_converter_base b)) where
   -- a message of another base
   other_steady : (t : Target) (body : List ℕ) → has_base b t.name ≡ false → AreSteady (delivery_of t body)
   other_steady t body off =
-      both_steady (Do (Writing t.base body) ∷ []) (Do (Placing t.base t.place t.name) ∷ []) (elsewhere_steady (Do (Writing t.base body)) tt) (elsewhere_steady (Do (Placing t.base t.place t.name)) off)
+      both_steady (Do (Writing t.base body) ∷ []) (Do (Placing t.base t.place t.name) ∷ [])
+      (elsewhere_steady (Do (Writing t.base body)) tt) (elsewhere_steady (Do (Placing t.base t.place t.name)) off)
 
   -- a message of the base, which is placed once it was written
   own_steady : (t : Target) → IsTrue (is_converter_name t.base) → has_base b t.name ≡ true → AreSteady (delivery_of t x)
@@ -107,14 +110,18 @@ module _ (b x : List ℕ) (named : IsTrue (is_converter_base b)) where
   delivery_if_steady true m steady = none_steady
   delivery_if_steady false m steady = steady
 
-  deliveries_steady : (is_there : List ℕ → Bool) (ms : List Message) → All (λ m. IsTarget m.target) ms → All (λ m. m.target.base ≡ b → m.body ≡ x) ms → AreSteady (deliveries_of is_there ms)
+  deliveries_steady : (is_there : List ℕ → Bool) (ms : List Message) → All (λ m. IsTarget m.target) ms
+      → All (λ m. m.target.base ≡ b → m.body ≡ x) ms → AreSteady (deliveries_of is_there ms)
   deliveries_steady is_there [] are bodies = none_steady
   deliveries_steady is_there (m ∷ ms) are bodies =
       both_steady (delivery_if is_there m) (deliveries_of is_there ms)
-      (delivery_if_steady (is_there m.target.base) m (delivery_steady m (All-head (λ (n : Message). IsTarget n.target) m ms are) (All-head (λ (n : Message). n.target.base ≡ b → n.body ≡ x) m ms bodies)))
-      (deliveries_steady is_there ms (All-tail (λ (n : Message). IsTarget n.target) m ms are) (All-tail (λ (n : Message). n.target.base ≡ b → n.body ≡ x) m ms bodies))
+      (delivery_if_steady (is_there m.target.base) m
+      (delivery_steady m (All-head (λ (n : Message). IsTarget n.target) m ms are) (All-head (λ (n : Message). n.target.base ≡ b → n.body ≡ x) m ms bodies)))
+      (deliveries_steady is_there ms (All-tail (λ (n : Message). IsTarget n.target) m ms are)
+      (All-tail (λ (n : Message). n.target.base ≡ b → n.body ≡ x) m ms bodies))
 
-  planned_steady : (names : Listings) (ms : List Message) → All (λ m. IsTarget m.target) ms → All (λ m. m.target.base ≡ b → m.body ≡ x) ms → AreSteady (planned_tasks names ms)
+  planned_steady : (names : Listings) (ms : List Message) → All (λ m. IsTarget m.target) ms
+      → All (λ m. m.target.base ≡ b → m.body ≡ x) ms → AreSteady (planned_tasks names ms)
   planned_steady names ms are bodies =
       let sweep = sweep_of names.tmp in
       let deliveries = deliveries_of (is_listed names.new names.cur) ms in
@@ -122,7 +129,8 @@ module _ (b x : List ℕ) (named : IsTrue (is_converter_base b)) where
       (both_steady (listing_tasks names) (sweep ++ deliveries) (all_elsewhere (listing_tasks names) (listings_place_none names))
       (both_steady sweep deliveries (all_elsewhere sweep (sweep_places_none names.tmp)) (deliveries_steady (is_listed names.new names.cur) ms are bodies)))
 
-  run_holds : {A E : Type 0} (names : Listings) (ms : List Message) → All (λ m. IsTarget m.target) ms → All (λ m. m.target.base ≡ b → m.body ≡ x) ms → (old : Files) (r : Result A E) (new : Files) → Performs leaving (planned_tasks names ms) old r new → SteadyAt b x old new
+  run_holds : {A E : Type 0} (names : Listings) (ms : List Message) → All (λ m. IsTarget m.target) ms → All (λ m. m.target.base ≡ b → m.body ≡ x) ms
+      → (old : Files) (r : Result A E) (new : Files) → Performs leaving (planned_tasks names ms) old r new → SteadyAt b x old new
   run_holds names ms are bodies old r new h =
       let left = performs_left (planned_tasks names ms) old new r h in
       planned_steady names ms are bodies left.0 old new left.1
@@ -143,7 +151,8 @@ own_bodies ms distinct k d below j e there =
     ])
 
 -- ---- the messages of a text
-module _ (t : List ℕ) (ms : List Message) (are : MessagesOf t ms) (small : length t < 2 ^ 63) (names : Listings) {A E : Type 0} (before : Files) (r : Result A E) (now : Files) (ran : Performs leaving (planned_tasks names ms) before r now) where
+module _ (t : List ℕ) (ms : List Message) (are : MessagesOf t ms) (small : length t < 2 ^ 63) (names : Listings) {A E : Type 0}
+    (before : Files) (r : Result A E) (now : Files) (ran : Performs leaving (planned_tasks names ms) before r now) where
   pub text_holds : (b x : List ℕ) → IsTrue (is_converter_base b) → All (λ m. m.target.base ≡ b → m.body ≡ x) ms → SteadyAt b x before now
   text_holds b x named bodies = run_holds b x named names ms (text_targets t ms are small) bodies before r now ran
 

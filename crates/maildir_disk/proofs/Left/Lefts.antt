@@ -51,7 +51,8 @@ cut_moves_torn held (Came Again ∷ kept) = Came (Torn held) ∷ cut_moves_torn 
 cut_moves_torn held (Came (Torn bytes) ∷ kept) = Came (Torn bytes) ∷ cut_moves_torn held kept
 cut_moves_torn held (Doubled action ∷ kept) = Doubled action ∷ cut_moves_torn held kept
 
-torn_after : (name held bytes : List ℕ) (kept : List CutMove) (s : Files) → left_after s (Writing name held) kept ≡ left_after s (Writing name bytes) (cut_moves_torn held kept)
+torn_after : (name held bytes : List ℕ) (kept : List CutMove) (s : Files)
+    → left_after s (Writing name held) kept ≡ left_after s (Writing name bytes) (cut_moves_torn held kept)
 unfolding cut_moves_torn
 torn_after name held bytes [] s = refl
 torn_after name held bytes (Came (Other action) ∷ kept) s = torn_after name held bytes kept _
@@ -94,24 +95,29 @@ pub if_ok : {A E : Type 0} (outcome : Result A E) (P : Type 0) → IsOk outcome 
 if_ok (Ok x) P is h = h
 if_ok (Err e) P is h = cc
 
-pub left_fault : {A E : Type 0} {call : Call} (outcome : Result A E) {a b : Files → Type 0} → IsErr outcome → Follows (Leaves call) a b → Follows (λ before now. LeavesOf call before outcome now) a b
+pub left_fault : {A E : Type 0} {call : Call} (outcome : Result A E) {a b : Files → Type 0} → IsErr outcome
+    → Follows (Leaves call) a b → Follows (λ before now. LeavesOf call before outcome now) a b
 left_fault (Ok x) is_err h = cc
 left_fault (Err e) is_err h = h
 
 -- nothing is to be found whole
-pub left_always : {A E : Type 0} {call : Call} (outcome : Result A E) {a b : Files → Type 0} → ((s : Files) → IsFoundWhole call s) → Follows (Leaves call) a b → Follows (λ before now. LeavesOf call before outcome now) a b
+pub left_always : {A E : Type 0} {call : Call} (outcome : Result A E) {a b : Files → Type 0} → ((s : Files) → IsFoundWhole call s)
+    → Follows (Leaves call) a b → Follows (λ before now. LeavesOf call before outcome now) a b
 left_always {call} (Ok x) {a} {b} whole h = left_as (Leaves call) _ a b (λ old new leaves. (leaves, whole new)) h
 left_always (Err e) whole h = h
 
 -- the answer of a folder for that of the system
-pub left_answered : {A E F : Type 0} (call : Call) (outcome : Result A E) (answer : Result A F) {a b : Files → Type 0} → OnErr outcome (IsErr answer) → Follows (λ before now. LeavesOf call before outcome now) a b → Follows (λ before now. LeavesOf call before answer now) a b
+pub left_answered : {A E F : Type 0} (call : Call) (outcome : Result A E) (answer : Result A F) {a b : Files → Type 0} → OnErr outcome (IsErr answer)
+    → Follows (λ before now. LeavesOf call before outcome now) a b → Follows (λ before now. LeavesOf call before answer now) a b
 left_answered call (Ok x) (Ok y) is h = h
 left_answered call (Ok x) (Err f) {a} {b} is h = left_as _ (Leaves call) a b (λ old new leaves. leaves.0) h
 left_answered call (Err e) (Ok y) is h = cc
 left_answered call (Err e) (Err f) is h = h
 
 -- a file that was written and kept
-pub left_written : {A E : Type 0} {name bytes : List ℕ} (outcome : Result A E) {a b : Files → Type 0} {old new : Files} → Succeeded (Writing name bytes) old new → OnOk outcome (KeepsHeld name new b) → Follows (Leaves (Writing name bytes)) a b → Follows (λ before now. LeavesOf (Writing name bytes) before outcome now) a b
+pub left_written : {A E : Type 0} {name bytes : List ℕ} (outcome : Result A E) {a b : Files → Type 0} {old new : Files}
+    → Succeeded (Writing name bytes) old new → OnOk outcome (KeepsHeld name new b)
+    → Follows (Leaves (Writing name bytes)) a b → Follows (λ before now. LeavesOf (Writing name bytes) before outcome now) a b
 left_written (Err e) done kept h = h
 left_written {name} {bytes} (Ok x) {old} {new} done kept h = λ left may.
     let r = h left may in (

@@ -21,7 +21,8 @@ at_most_one : (m : Message) (s : Files) → IsSoundAt s m → length (homes s m.
 at_most_one m s (inl none) = let e = ap length none in omega (arith, e)
 at_most_one m s (inr one) = let e = ap length one in omega (arith, e)
 
-pub single_sound : (m : Message) → IsTrue (is_converter_base m.target.base) → (s left : Files) → IsSoundAt s m → IsIntact left m → IsSingle s left → IsSoundAt left m
+pub single_sound : (m : Message) → IsTrue (is_converter_base m.target.base)
+    → (s left : Files) → IsSoundAt s m → IsIntact left m → IsSingle s left → IsSoundAt left m
 single_sound m named s left sound intact single =
     let few = at_most_one m s sound in
     let no_more = single m.target.base named in

@@ -1,8 +1,10 @@
 -- Lists of cases: what is added, and what stays.
-use Rattle.std.proofs.Common.{◌≡◌, ◌⊎◌, ◌↔◌, ℕ, ◌+◌, ◌<◌, ◌≤◌, Bool, true, false, List, [], ◌∷◌, ◌++◌, map, take, length, get_or, Contains, refl, sym, ◌∙◌, ap, subst, inl, inr, append_assoc, arith, length-append}
+use Rattle.std.proofs.Common.{◌≡◌, ◌⊎◌, ◌↔◌, ℕ, ◌+◌, ◌<◌, ◌≤◌, Bool, true, false, List, [], ◌∷◌, ◌++◌, map, take, length}
+use Rattle.std.proofs.Common.{get_or, Contains, refl, sym, ◌∙◌, ap, subst, inl, inr, append_assoc, arith, length-append}
 use Rattle.std.specs.List.{items_where_true}
 use Rattle.std.specs.List.Retain.{IsFiltered, ReturnsInTurn}
-use Rattle.std.proofs.lemmas.List.Elements.{All-append, All-cons, All-contains, All-nil, Contains-get_or, Contains-append_cases, Contains-append_left, Contains-append_right}
+use Rattle.std.proofs.lemmas.List.Elements.{All-append, All-cons, All-contains, All-nil, Contains-get_or}
+use Rattle.std.proofs.lemmas.List.Elements.{Contains-append_cases, Contains-append_left, Contains-append_right}
 use Rattle.std.proofs.lemmas.List.{get_or_append_left, get_or_default, get_or-map, length-map, map-append}
 use Rattle.std.proofs.lemmas.Bool.{cases_lt}
 use Rattle.maildir_run.specs.declared.mem_folder.MemFolder.{MemFolder}
@@ -46,10 +48,12 @@ there_or_added {P} {xs} adds {x} has =
 pub adds_one : {P : Files → Type 0} {xs ys : List Files} (x : Files) → ys ≡ xs ++ x ∷ [] → P x → Adds P xs ys
 adds_one {P} x e holds = record { more = x ∷ []; are = e; each = All-cons P x [] holds (All-nil P) }
 
-pub pushed : (folders : List MemFolder) {new : List MemFolder} (x : MemFolder) → new ≡ folders ++ x ∷ [] → map files_of new ≡ map files_of folders ++ files_of x ∷ []
+pub pushed : (folders : List MemFolder) {new : List MemFolder} (x : MemFolder)
+    → new ≡ folders ++ x ∷ [] → map files_of new ≡ map files_of folders ++ files_of x ∷ []
 pushed folders x e = ap (map files_of) e ∙ map-append files_of folders (x ∷ [])
 
-pub nth_files : (cases : Cases) {at : ℕ} {x : MemFolder} → at < length cases.folders.items → x ≡ get_or cases.folders.items at x → files_of x ≡ nth_left at cases
+pub nth_files : (cases : Cases) {at : ℕ} {x : MemFolder} → at < length cases.folders.items
+    → x ≡ get_or cases.folders.items at x → files_of x ≡ nth_left at cases
 nth_files cases {at} {x} below is = ap files_of is ∙ sym (get_or-map files_of cases.folders.items at x no_files below)
 
 pub as_many : (cases : Cases) → length (lefts_of cases) ≡ length cases.folders.items
@@ -64,35 +68,42 @@ module _ (change : Change) (old : Cases) where
   abbrev pub AreWith : ℕ → Cases → Type 0
   AreWith n cases = (k : ℕ) → k < n → Contains (lefts_of cases) (made change (nth_left k old))
 
-  pub one_more : (mid new : Cases) {at : ℕ} → at < length (lefts_of old) → Adds With (lefts_of old) (lefts_of mid) → Adds (λ left. left ≡ made change (nth_left at mid)) (lefts_of mid) (lefts_of new) → Adds With (lefts_of old) (lefts_of new)
+  pub one_more : (mid new : Cases) {at : ℕ} → at < length (lefts_of old) → Adds With (lefts_of old) (lefts_of mid)
+      → Adds (λ left. left ≡ made change (nth_left at mid)) (lefts_of mid) (lefts_of new) → Adds With (lefts_of old) (lefts_of new)
   one_more mid new {at} below more one =
       adds_on more
       (adds_as one (λ x e. (nth_left at old, Contains-get_or (lefts_of old) at no_files below, e ∙ ap (made change) (same_place more at no_files below))))
 
-  pub one_more_with : (mid new : Cases) {at : ℕ} → at < length (lefts_of old) → Adds With (lefts_of old) (lefts_of mid) → Adds (λ left. left ≡ made change (nth_left at mid)) (lefts_of mid) (lefts_of new) → AreWith at mid → Contains (lefts_of new) (made change (nth_left at mid)) → AreWith (at + 1) new
+  pub one_more_with : (mid new : Cases) {at : ℕ} → at < length (lefts_of old) → Adds With (lefts_of old) (lefts_of mid)
+      → Adds (λ left. left ≡ made change (nth_left at mid)) (lefts_of mid) (lefts_of new)
+      → AreWith at mid → Contains (lefts_of new) (made change (nth_left at mid)) → AreWith (at + 1) new
   one_more_with mid new {at} below more one before there k lt =
       elim (cases_lt k at) [
         | inl less ↦ still_there one (before k less)
         | inr ge ↦
             let is : at ≡ k = omega (arith, ge, lt) in
-            subst (λ n. Contains (lefts_of new) (made change (nth_left n old))) is (subst (λ left. Contains (lefts_of new) (made change left)) (same_place more at no_files below) there)
+            subst (λ n. Contains (lefts_of new) (made change (nth_left n old))) is
+            (subst (λ left. Contains (lefts_of new) (made change left)) (same_place more at no_files below) there)
       ]
 
   -- all of them, and then the files as they are
-  pub all_more : (mid new : Cases) {now x : Files} → x ≡ now → Adds With (lefts_of old) (lefts_of mid) → Adds (λ left. left ≡ x) (lefts_of mid) (lefts_of new) → Adds (IsAdded change now old) (lefts_of old) (lefts_of new)
+  pub all_more : (mid new : Cases) {now x : Files} → x ≡ now → Adds With (lefts_of old) (lefts_of mid)
+      → Adds (λ left. left ≡ x) (lefts_of mid) (lefts_of new) → Adds (IsAdded change now old) (lefts_of old) (lefts_of new)
   all_more mid new is more last =
       adds_on (adds_as more (λ left with. inr with)) (adds_as last (λ left e. inl (e ∙ is)))
 
   pub with_more : (mid : Cases) (now : Files) → Adds With (lefts_of old) (lefts_of mid) → Adds (IsAdded change now old) (lefts_of old) (lefts_of mid)
   with_more mid now more = adds_as more (λ left with. inr with)
 
-  pub all_lost : (mid : Cases) {new : Cases} {now x : Files} {n : ℕ} → x ≡ now → n ≡ length (lefts_of old) → Adds With (lefts_of old) (lefts_of mid) → Adds (λ left. left ≡ x) (lefts_of mid) (lefts_of new) → AreWith n mid → Contains (lefts_of new) x → Loses change now old new
+  pub all_lost : (mid : Cases) {new : Cases} {now x : Files} {n : ℕ} → x ≡ now → n ≡ length (lefts_of old) → Adds With (lefts_of old) (lefts_of mid)
+      → Adds (λ left. left ≡ x) (lefts_of mid) (lefts_of new) → AreWith n mid → Contains (lefts_of new) x → Loses change now old new
   all_lost mid {new} is count more last with there = record {
     as_they_are = subst (Contains (lefts_of new)) is there;
     without = λ left has. still_there last (still_there more has);
     also = λ left (k, below, at).
         still_there last
-        (subst (λ l. Contains (lefts_of mid) (made change l)) (get_or_default (lefts_of old) k no_files left below ∙ at) (with k (omega (arith, count, below))));
+        (subst (λ l. Contains (lefts_of mid) (made change l))
+        (get_or_default (lefts_of old) k no_files left below ∙ at) (with k (omega (arith, count, below))));
   }
 
 -- ---- appended bytes
@@ -102,7 +113,9 @@ module _ (name holds : List ℕ) (held : ℕ) (folder : MemFolder) (old : Cases)
     pub without : held < end → (left : Files) → may_find folder old left → Contains (lefts_of now) left
     pub fronts : (n : ℕ) → held < n → n < end → (left : Files) → may_find folder old left → Contains (lefts_of now) (changed name (λ _. take n holds) left)
 
-  pub one_front : {change : Change} {mid new : Cases} {end : ℕ} → held ≤ end → ((s : Files) → made change s ≡ changed name (λ _. take end holds) s) → ((left : Files) → Contains (lefts_of old) left → Contains (lefts_of mid) left) → LosesUpTo end mid → Loses change (files_of folder) mid new → LosesUpTo (end + 1) new
+  pub one_front : {change : Change} {mid new : Cases} {end : ℕ} → held ≤ end → ((s : Files) → made change s ≡ changed name (λ _. take end holds) s)
+      → ((left : Files) → Contains (lefts_of old) left → Contains (lefts_of mid) left)
+      → LosesUpTo end mid → Loses change (files_of folder) mid new → LosesUpTo (end + 1) new
   one_front {new} {end} from is still before loses = record { without = without; fronts = fronts } where
     without : held < end + 1 → (left : Files) → may_find folder old left → Contains (lefts_of new) left
     without lt left (inl e) = subst (Contains (lefts_of new)) (sym e) loses.as_they_are
@@ -119,7 +132,8 @@ module _ (name holds : List ℕ) (held : ℕ) (folder : MemFolder) (old : Cases)
         ]
 
 -- ---- what stays
-module _ {X F : Type 0} (R : F → X → Bool → F → Type 0) (f : F) (v : X → Files) (P : Files → Type 0) (says : (x : X) (b : Bool) (g : F) → R f x b g → ((b ≡ true) ↔ P (v x)) × (g ≡ f)) where
+module _ {X F : Type 0} (R : F → X → Bool → F → Type 0) (f : F) (v : X → Files) (P : Files → Type 0)
+    (says : (x : X) (b : Bool) (g : F) → R f x b g → ((b ≡ true) ↔ P (v x)) × (g ≡ f)) where
   abbrev Stays : List X → List X → Type 0
   Stays xs ys = (left : Files) → Contains (map v ys) left ↔ (Contains (map v xs) left × P left)
 

@@ -43,7 +43,8 @@ pub record Loses (change : Change) (now : Files) (old new : Cases) : Type 0 wher
 -- The bytes that are appended to a file may be lost: each case, and the files as they are, are there without them, and with any front of them.
 pub record LosesBytes (name holds : List ℕ) (held : ℕ) (folder : MemFolder) (old new : Cases) : Type 0 where
   pub without : (left : Files) → may_find folder old left → Contains (lefts_of new) left
-  pub fronts : (n : ℕ) → held < n → n ≤ length holds → (left : Files) → may_find folder old left → Contains (lefts_of new) (changed name (λ _. take n holds) left)
+  pub fronts : (n : ℕ) → held < n → n ≤ length holds → (left : Files) → may_find folder old left
+      → Contains (lefts_of new) (changed name (λ _. take n holds) left)
 
 -- What a cut might have left it may leave still, as far as there is room.
 pub record KeepsCases (before now : Files → Type 0) (old new : Cases) : Type 0 where

@@ -1,6 +1,7 @@
 -- What a power cut leaves, where it leaves all that is there; and from one moment to another.
 use Rattle.std.proofs.Common.{◌≡◌, List, [], ◌∷◌, ◌++◌, map, Result, Ok, Err, refl, sym, subst, ◌∙◌, inl, inr, Vec, String, Global}
-use Rattle.maildir_run.proofs.Common.{FolderFault, Sub, Call, Called, Listed, Listing, Writing, Move, Again, Succeeded, after, moved, Came, Leaves, LeavesOf, IsFoundWhole, Follows, left_after, Files}
+use Rattle.maildir_run.proofs.Common.{FolderFault, Sub, Call, Called, Listed, Listing, Writing, Move, Again, Succeeded}
+use Rattle.maildir_run.proofs.Common.{after, moved, Came, Leaves, LeavesOf, IsFoundWhole, Follows, left_after, Files}
 use Rattle.maildir_run.proofs.Call.Moves.{writing_ok}
 
 left_moves : (s : Files) (call : Call) (moves : List Move) → left_after s call (map Came moves) ≡ after s call moves
@@ -22,7 +23,8 @@ leaves_called : {A : Type 0} (call : Call) (old : Files) (r : Result A FolderFau
 leaves_called call old (Ok x) new h = (leaves_moves call old new (h.before ++ Again ∷ h.rest) h.left, found_whole call old new h)
 leaves_called call old (Err e) new h = leaves_moves call old new h.moves h.left
 
-leaves_listed : (sub : Sub) (old : Files) (r : Result (Vec (String Global) Global) FolderFault) (new : Files) → Listed sub old r new → LeavesOf (Listing sub) old r new
+leaves_listed : (sub : Sub) (old : Files) (r : Result (Vec (String Global) Global) FolderFault) (new : Files)
+    → Listed sub old r new → LeavesOf (Listing sub) old r new
 leaves_listed sub old (Ok x) new h = (leaves_moves (Listing sub) old new (h.before ++ Again ∷ h.rest) h.left, tt)
 leaves_listed sub old (Err e) new h = leaves_moves (Listing sub) old new h.moves h.left
 
@@ -30,15 +32,19 @@ leaves_listed sub old (Err e) new h = leaves_moves (Listing sub) old new h.moves
 pub all_left : (of : Files → Files → Type 0) (old new : Files) → of old new → Follows of (λ left. left ≡ old) (λ left. left ≡ new)
 all_left of old new h left e = (old, refl, subst (of old) (sym e) h)
 
-pub called_left : {A : Type 0} (call : Call) (old : Files) (r : Result A FolderFault) (new : Files) → Called call old r new → Follows (λ before now. LeavesOf call before r now) (λ left. left ≡ old) (λ left. left ≡ new)
+pub called_left : {A : Type 0} (call : Call) (old : Files) (r : Result A FolderFault) (new : Files)
+    → Called call old r new → Follows (λ before now. LeavesOf call before r now) (λ left. left ≡ old) (λ left. left ≡ new)
 called_left call old r new h = all_left (λ before now. LeavesOf call before r now) old new (leaves_called call old r new h)
 
-pub listed_left : (sub : Sub) (old : Files) (r : Result (Vec (String Global) Global) FolderFault) (new : Files) → Listed sub old r new → Follows (λ before now. LeavesOf (Listing sub) before r now) (λ left. left ≡ old) (λ left. left ≡ new)
+pub listed_left : (sub : Sub) (old : Files) (r : Result (Vec (String Global) Global) FolderFault) (new : Files)
+    → Listed sub old r new → Follows (λ before now. LeavesOf (Listing sub) before r now) (λ left. left ≡ old) (λ left. left ≡ new)
 listed_left sub old r new h = all_left (λ before now. LeavesOf (Listing sub) before r now) old new (leaves_listed sub old r new h)
 
 -- ---- from one moment to another
-pub left_as : (of other : Files → Files → Type 0) (before now : Files → Type 0) → ((old new : Files) → of old new → other old new) → Follows of before now → Follows other before now
+pub left_as : (of other : Files → Files → Type 0) (before now : Files → Type 0)
+    → ((old new : Files) → of old new → other old new) → Follows of before now → Follows other before now
 left_as of other before now f h new may = let r = h new may in (r.0, r.1, f r.0 new r.2)
 
-pub left_then : (first then both : Files → Files → Type 0) (a b c : Files → Type 0) → ((x y z : Files) → first x y → then y z → both x z) → Follows first a b → Follows then b c → Follows both a c
+pub left_then : (first then both : Files → Files → Type 0) (a b c : Files → Type 0)
+    → ((x y z : Files) → first x y → then y z → both x z) → Follows first a b → Follows then b c → Follows both a c
 left_then first then both a b c f h k new may = let r = k new may in let q = h r.0 r.1 in (q.0, q.1, f q.0 r.0 new q.2 r.2)

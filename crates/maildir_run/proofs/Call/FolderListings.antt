@@ -1,6 +1,9 @@
 -- What the three listings tell together.
 use Rattle.std.proofs.Common.{◌≡◌, ℕ, ◌≤◌, Bool, List, [], ◌∷◌, ◌++◌, IsPermutation, IsTrue, length, cond, sym, ap, ◌∙◌, inl, inr, arith, filter}
-use Rattle.maildir_run.proofs.Common.{list_any, keys, len, retain_keys, or_parts, or_cases, cases_Bool, length-filter, IsPermutation-trans, sum_by-IsPermutation, Sub, Tmp, New, Cur, is_converter_base, is_converter_name, Files, has_base, held_under, homes, Listing, Move, Other, Again, Torn, moved, after, folder_of, Lists, has_home, is_any, leftover_count, is_listed, TmpWithin}
+use Rattle.maildir_run.proofs.Common.{list_any, keys, len, retain_keys, or_parts, or_cases, cases_Bool, length-filter}
+use Rattle.maildir_run.proofs.Common.{IsPermutation-trans, sum_by-IsPermutation, Sub, Tmp, New, Cur, is_converter_base}
+use Rattle.maildir_run.proofs.Common.{is_converter_name, Files, has_base, held_under, homes, Listing, Move, Other, Again, Torn}
+use Rattle.maildir_run.proofs.Common.{moved, after, folder_of, Lists, has_home, is_any, leftover_count, is_listed, TmpWithin}
 use Rattle.maildir_run.proofs.Call.Moves.{homes_none, both_none, after_kept}
 use Rattle.maildir_run.proofs.Call.ListedNowhere.{listed_new, listed_cur}
 use Rattle.maildir_run.proofs.Call.Leftovers.{leftovers_are, acted_count}
@@ -9,17 +12,20 @@ use Rattle.maildir_run.proofs.Tasks.Progress.{any_kept}
 use Rattle.maildir_run.proofs.Call.Homes.{none_of}
 
 -- tmp gains no converter's name by a listing
-pub listed_within : (sub : Sub) (listed : List (List ℕ)) (old : Files) (names : List (List ℕ)) (new : Files) → Lists sub old names new → TmpWithin listed old → TmpWithin listed new
+pub listed_within : (sub : Sub) (listed : List (List ℕ)) (old : Files) (names : List (List ℕ)) (new : Files)
+    → Lists sub old names new → TmpWithin listed old → TmpWithin listed new
 listed_within sub listed old names new h =
     within_on listed old new (λ q ours off. called_tmp q ours (Listing sub) tt old new (record { moves = h.before ++ Again ∷ h.rest; left = h.left }))
 
 -- ---- which bases have a home
-shows_none : (b : List ℕ) → IsTrue (is_converter_base b) → (sub : Sub) → ((s : Files) → homes s b ≡ [] → held_under b (folder_of sub s) ≡ []) → (old : Files) (names : List (List ℕ)) (new : Files) → Lists sub old names new → IsTrue (list_any (has_base b) names) → homes old b ≡ [] → ⊥
+shows_none : (b : List ℕ) → IsTrue (is_converter_base b) → (sub : Sub) → ((s : Files) → homes s b ≡ [] → held_under b (folder_of sub s) ≡ [])
+    → (old : Files) (names : List (List ℕ)) (new : Files) → Lists sub old names new → IsTrue (list_any (has_base b) names) → homes old b ≡ [] → ⊥
 shows_none b named sub none_held old names new listed on e =
     let mid = after old (Listing sub) listed.before in
     not_shown b (folder_of sub mid) names listed.names_are (none_held mid (homes_none b old mid (after_kept b named (Listing sub) tt listed.before old) e)) on
 
-two_listings : (b : List ℕ) → IsTrue (is_converter_base b) → (s t u : Files) (in_new in_cur : List (List ℕ)) → Lists New s in_new t → Lists Cur t in_cur u → is_listed in_new in_cur b ≡ has_home s b
+two_listings : (b : List ℕ) → IsTrue (is_converter_base b) → (s t u : Files) (in_new in_cur : List (List ℕ))
+    → Lists New s in_new t → Lists Cur t in_cur u → is_listed in_new in_cur b ≡ has_home s b
 two_listings b named s t u in_new in_cur first second =
     let kept_first = (listing_keeps_homes New s in_new t first).kept b named in
     let kept_both = IsPermutation-trans _ _ _ kept_first ((listing_keeps_homes Cur t in_cur u second).kept b named) in
@@ -31,7 +37,8 @@ two_listings b named s t u in_new in_cur first second =
                 let none = none_of (homes s b) e in
                 absurd (elim (or_cases (list_any (has_base b) in_new) (list_any (has_base b) in_cur) on) [
                   | inl shown ↦ shows_none b named New (λ x e. (both_none (held_under b x.new) (held_under b x.cur) e).0) s in_new t first shown none
-                  | inr shown ↦ shows_none b named Cur (λ x e. (both_none (held_under b x.new) (held_under b x.cur) e).1) t in_cur u second shown (homes_none b s t kept_first none)
+                  | inr shown ↦ shows_none b named Cur (λ x e. (both_none (held_under b x.new) (held_under b x.cur) e).1)
+                      t in_cur u second shown (homes_none b s t kept_first none)
                 ])
           ]
       | inr off ↦
@@ -40,7 +47,8 @@ two_listings b named s t u in_new in_cur first second =
           off ∙ sym (any_kept (homes s b) (homes u b) kept_both ∙ ap is_any none)
     ]
 
-pub three_listings : (b : List ℕ) → IsTrue (is_converter_base b) → (r s t u : Files) (in_tmp in_new in_cur : List (List ℕ)) → Lists Tmp r in_tmp s → Lists New s in_new t → Lists Cur t in_cur u → is_listed in_new in_cur b ≡ has_home r b
+pub three_listings : (b : List ℕ) → IsTrue (is_converter_base b) → (r s t u : Files) (in_tmp in_new in_cur : List (List ℕ))
+    → Lists Tmp r in_tmp s → Lists New s in_new t → Lists Cur t in_cur u → is_listed in_new in_cur b ≡ has_home r b
 three_listings b named r s t u in_tmp in_new in_cur none first second =
     two_listings b named s t u in_new in_cur first second ∙ sym (any_kept (homes r b) (homes s b) ((listing_keeps_homes Tmp r in_tmp s none).kept b named))
 

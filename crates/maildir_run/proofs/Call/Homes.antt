@@ -1,7 +1,13 @@
 -- What the homes of a converter's base hold, after an action of another program.
-use Rattle.std.proofs.Common.{◌≡◌, ℕ, Bool, true, false, cond, not, List, [], ◌∷◌, ◌++◌, Option, Some, None, IsPermutation, IsTrue, refl, sym, ap, subst, ◌∙◌, inl, inr, is_some}
-use Rattle.maildir_run.proofs.Common.{get, insert, remove, values, entries, retain_keys, find, get-entries, get-from_entries, get-remove, cases_Bool, and_parts, IsPermutation-refl, IsPermutation-sym, IsPermutation-trans, IsPermutation-middle, IsPermutation-append_left, IsPermutation-append_right, base, is_converter_name, is_converter_base, name_cmp, is_name, FileMap, Files, has_base, held_under, homes, Action, ToCur, Reflag, DropTmp, Outside, outsiders_of, may_take, to_cur, reflag, acted, Message, IsHome, IsSoundAt, is_any, has_home}
-use Rattle.maildir_run.proofs.Names.Maps.{total, is_name-true, get_under, under_same, under_insert, under_insert_other, under_remove, under_remove_other, values-insert, values-remove}
+use Rattle.std.proofs.Common.{◌≡◌, ℕ, Bool, true, false, cond, not, List, [], ◌∷◌, ◌++◌, Option, Some}
+use Rattle.std.proofs.Common.{None, IsPermutation, IsTrue, refl, sym, ap, subst, ◌∙◌, inl, inr, is_some}
+use Rattle.maildir_run.proofs.Common.{get, insert, remove, values, entries, retain_keys, find, get-entries, get-from_entries, get-remove}
+use Rattle.maildir_run.proofs.Common.{cases_Bool, and_parts, IsPermutation-refl, IsPermutation-sym, IsPermutation-trans, IsPermutation-middle}
+use Rattle.maildir_run.proofs.Common.{IsPermutation-append_left, IsPermutation-append_right, base, is_converter_name, is_converter_base}
+use Rattle.maildir_run.proofs.Common.{name_cmp, is_name, FileMap, Files, has_base, held_under, homes, Action, ToCur, Reflag, DropTmp}
+use Rattle.maildir_run.proofs.Common.{Outside, outsiders_of, may_take, to_cur, reflag, acted, Message, IsHome, IsSoundAt, is_any, has_home}
+use Rattle.maildir_run.proofs.Names.Maps.{total, is_name-true, get_under, under_same, under_insert, under_insert_other}
+use Rattle.maildir_run.proofs.Names.Maps.{under_remove, under_remove_other, values-insert, values-remove}
 
 -- ---- one folder, under one base
 pub held_same : (b : List ℕ) (m n : FileMap) → ((q : List ℕ) → has_base b q ≡ true → get m q ≡ get n q) → held_under b m ≡ held_under b n
@@ -57,7 +63,8 @@ KeepsHomesOf b old new = IsPermutation (homes old b) (homes new b)
 pub equally : (b : List ℕ) (old new : Files) → homes old b ≡ homes new b → KeepsHomesOf b old new
 equally b old new e = subst (λ hs. IsPermutation (homes old b) hs) e (IsPermutation-refl _)
 
-to_cur_kept : (b : List ℕ) (s : Files) (name target bytes : List ℕ) → get s.new name ≡ Some bytes → may_take s.cur name target ≡ true → KeepsHomesOf b s (record s { new = remove s.new name; cur = insert s.cur target bytes })
+to_cur_kept : (b : List ℕ) (s : Files) (name target bytes : List ℕ) → get s.new name ≡ Some bytes
+    → may_take s.cur name target ≡ true → KeepsHomesOf b s (record s { new = remove s.new name; cur = insert s.cur target bytes })
 to_cur_kept b s name target bytes has may =
     let parts = and_parts _ _ may in
     let free : get s.cur target ≡ None = absent _ parts.0 in
@@ -69,14 +76,16 @@ to_cur_kept b s name target bytes has may =
           (IsPermutation-trans _ _ _
           (IsPermutation-sym _ _ (IsPermutation-middle (held_under b (remove s.new name)) bytes (held_under b s.cur)))
           (IsPermutation-append_right (held_under b (remove s.new name)) _ _ (held-insert_new b s.cur target bytes (alike ∙ on) free)))
-      | inr off ↦ equally b s (record s { new = remove s.new name; cur = insert s.cur target bytes }) (rw (held-remove_other b s.new name off, held-insert_other b s.cur target bytes (alike ∙ off)) refl)
+      | inr off ↦ equally b s (record s { new = remove s.new name; cur = insert s.cur target bytes })
+          (rw (held-remove_other b s.new name off, held-insert_other b s.cur target bytes (alike ∙ off)) refl)
     ]
 
 pub same_both : {X : Type 0} (b : Bool) (o : Option X) → o ≡ None → cond b None o ≡ None
 same_both true o e = refl
 same_both false o e = e
 
-reflag_kept : (b : List ℕ) (s : Files) (name target bytes : List ℕ) → get s.cur name ≡ Some bytes → may_take s.cur name target ≡ true → KeepsHomesOf b s (record s { cur = insert (remove s.cur name) target bytes })
+reflag_kept : (b : List ℕ) (s : Files) (name target bytes : List ℕ) → get s.cur name ≡ Some bytes
+    → may_take s.cur name target ≡ true → KeepsHomesOf b s (record s { cur = insert (remove s.cur name) target bytes })
 reflag_kept b s name target bytes has may =
     let parts = and_parts _ _ may in
     let free : get s.cur target ≡ None = absent _ parts.0 in
@@ -88,7 +97,8 @@ reflag_kept b s name target bytes has may =
           (IsPermutation-trans _ _ _
           (IsPermutation-sym _ _ (held-remove_old b s.cur name bytes on has))
           (held-insert_new b (remove s.cur name) target bytes (alike ∙ on) gone))
-      | inr off ↦ equally b s (record s { cur = insert (remove s.cur name) target bytes }) (rw (held-insert_other b (remove s.cur name) target bytes (alike ∙ off), held-remove_other b s.cur name off) refl)
+      | inr off ↦ equally b s (record s { cur = insert (remove s.cur name) target bytes })
+          (rw (held-insert_other b (remove s.cur name) target bytes (alike ∙ off), held-remove_other b s.cur name off) refl)
     ]
 
 pub acted_kept : (b : List ℕ) → IsTrue (is_converter_base b) → (action : Action) (s : Files) → KeepsHomesOf b s (acted action s)
@@ -96,7 +106,8 @@ acted_kept b named (ToCur name target) s =
     elim (get s.new name) as (λ o. get s.new name ≡ o → KeepsHomesOf b s (to_cur s name target o)) [
       | None ↦ λ has. IsPermutation-refl _
       | Some bytes ↦ λ has.
-          elim (may_take s.cur name target) as (λ t. may_take s.cur name target ≡ t → KeepsHomesOf b s (cond t (record s { new = remove s.new name; cur = insert s.cur target bytes }) s)) [
+          elim (may_take s.cur name target)
+          as (λ t. may_take s.cur name target ≡ t → KeepsHomesOf b s (cond t (record s { new = remove s.new name; cur = insert s.cur target bytes }) s)) [
             | true ↦ λ may. to_cur_kept b s name target bytes has may
             | false ↦ λ may. IsPermutation-refl _
           ] refl
@@ -105,7 +116,8 @@ acted_kept b named (Reflag name target) s =
     elim (get s.cur name) as (λ o. get s.cur name ≡ o → KeepsHomesOf b s (reflag s name target o)) [
       | None ↦ λ has. IsPermutation-refl _
       | Some bytes ↦ λ has.
-          elim (may_take s.cur name target) as (λ t. may_take s.cur name target ≡ t → KeepsHomesOf b s (cond t (record s { cur = insert (remove s.cur name) target bytes }) s)) [
+          elim (may_take s.cur name target)
+          as (λ t. may_take s.cur name target ≡ t → KeepsHomesOf b s (cond t (record s { cur = insert (remove s.cur name) target bytes }) s)) [
             | true ↦ λ may. reflag_kept b s name target bytes has may
             | false ↦ λ may. IsPermutation-refl _
           ] refl

@@ -1,6 +1,8 @@
 -- How many converter's names tmp has, as other programs act.
 use Rattle.std.proofs.Common.{◌≡◌, ℕ, suc, ◌≤◌, ◌-◌, Bool, true, false, cond, List, [], ◌∷◌, map, length, None, refl, sym, ap, ◌∙◌, inl, inr, arith, filter}
-use Rattle.maildir_run.proofs.Common.{get, remove, entries, keys, len, retain_keys, contains_key, from_sorted, same_map, get-entries, get-from_sorted, entries-from_sorted, entries_sorted, len-entries, len-remove, cases_Bool, is_converter_name, name_cmp, FileMap, Files, Action, ToCur, Reflag, DropTmp, Outside, outsiders_of, acted, leftover_count}
+use Rattle.maildir_run.proofs.Common.{get, remove, entries, keys, len, retain_keys, contains_key, from_sorted, same_map, get-entries}
+use Rattle.maildir_run.proofs.Common.{get-from_sorted, entries-from_sorted, entries_sorted, len-entries, len-remove, cases_Bool, is_converter_name}
+use Rattle.maildir_run.proofs.Common.{name_cmp, FileMap, Files, Action, ToCur, Reflag, DropTmp, Outside, outsiders_of, acted, leftover_count}
 use Rattle.std.specs.FinMap.Entries.{where_key, is_sorted-where_key, find-where_key}
 use Rattle.maildir_run.proofs.Names.Maps.{total, same, get_under, under_same, under_remove, under_remove_other}
 use Rattle.maildir_run.proofs.Call.Homes.{get-outsiders_of}
@@ -19,14 +21,16 @@ entries_under p m =
 keys_filter : (p : List ℕ → Bool) (es : List (List ℕ × List ℕ)) → length (filter p (map (λ e. e.0) es)) ≡ length (where_key name_cmp p es)
 keys_filter p [] = refl
 keys_filter p (e ∷ es) =
-    elim (p e.0) as (λ t. length (cond t (e.0 ∷ filter p (map (λ x. x.0) es)) (filter p (map (λ x. x.0) es))) ≡ length (cond t (e ∷ where_key name_cmp p es) (where_key name_cmp p es))) [
+    elim (p e.0) as (λ t. length (cond t (e.0 ∷ filter p (map (λ x. x.0) es)) (filter p (map (λ x. x.0) es)))
+    ≡ length (cond t (e ∷ where_key name_cmp p es) (where_key name_cmp p es))) [
       | true ↦ ap suc (keys_filter p es)
       | false ↦ keys_filter p es
     ]
 
 -- the number as a length of the map
 pub leftovers_are : (m : FileMap) → length (filter is_converter_name (keys m)) ≡ len (retain_keys m is_converter_name)
-leftovers_are m = keys_filter is_converter_name (entries m) ∙ sym (len-entries (retain_keys m is_converter_name) ∙ ap length (entries_under is_converter_name m))
+leftovers_are m =
+    keys_filter is_converter_name (entries m) ∙ sym (len-entries (retain_keys m is_converter_name) ∙ ap length (entries_under is_converter_name m))
 
 one_less : (t : Bool) (n : ℕ) → cond t (n - 1) n ≤ n
 one_less true n = omega arith
@@ -35,7 +39,8 @@ one_less false n = omega arith
 pub dropped_count : (m : FileMap) (name : List ℕ) → len (retain_keys (remove m name) is_converter_name) ≤ len (retain_keys m is_converter_name)
 dropped_count m name =
     elim (cases_Bool (is_converter_name name)) [
-      | inl on ↦ rw (under_remove is_converter_name m name on, len-remove total (retain_keys m is_converter_name) name) (one_less (contains_key (retain_keys m is_converter_name) name) _)
+      | inl on ↦ rw (under_remove is_converter_name m name on, len-remove total (retain_keys m is_converter_name) name)
+          (one_less (contains_key (retain_keys m is_converter_name) name) _)
       | inr off ↦ rw (under_remove_other is_converter_name m name off) (omega arith)
     ]
 
@@ -43,7 +48,8 @@ pub acted_count : (action : Action) (s : Files) → len (retain_keys (acted acti
 acted_count (ToCur name target) s = rw (to_cur_tmp s name target (get s.new name)) (omega arith)
 acted_count (Reflag name target) s = rw (reflag_tmp s name target (get s.cur name)) (omega arith)
 acted_count (DropTmp name) s =
-    elim (is_converter_name name) as (λ t. len (retain_keys (cond t (record s { tmp = remove s.tmp name }) s).tmp is_converter_name) ≤ len (retain_keys s.tmp is_converter_name)) [ true ↦ dropped_count s.tmp name | false ↦ omega arith ]
+    elim (is_converter_name name) as (λ t. len (retain_keys (cond t (record s { tmp = remove s.tmp name }) s).tmp is_converter_name)
+    ≤ len (retain_keys s.tmp is_converter_name)) [ true ↦ dropped_count s.tmp name | false ↦ omega arith ]
 acted_count (Outside files) s =
     rw (under_same is_converter_name (outsiders_of s.tmp files.tmp) s.tmp (λ q on. get-outsiders_of s.tmp files.tmp q on)) (omega arith)
 

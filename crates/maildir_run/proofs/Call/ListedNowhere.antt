@@ -1,6 +1,8 @@
 -- A base that two listings do not show has no home.
 use Rattle.std.proofs.Common.{◌≡◌, ℕ, true, false, cond, List, [], ◌∷◌, Option, Some, None, IsPermutation, IsTrue, IsFalse, refl, sym, ap, ◌∙◌, inl, inr}
-use Rattle.maildir_run.proofs.Common.{list_any, get, remove, insert, keys, contains_key-keys, get-remove, or_parts, cases_Bool, list_any-IsPermutation, Sub, New, Cur, is_converter_base, is_converter_name, is_name, FileMap, Files, has_base, held_under, homes, Action, ToCur, Reflag, DropTmp, Outside, may_take, to_cur, reflag, acted, all_acted, Listing, Move, Other, Again, moved, after, Lists}
+use Rattle.maildir_run.proofs.Common.{list_any, get, remove, insert, keys, contains_key-keys, get-remove, or_parts, cases_Bool, list_any-IsPermutation, Sub}
+use Rattle.maildir_run.proofs.Common.{New, Cur, is_converter_base, is_converter_name, is_name, FileMap, Files, has_base, held_under, homes, Action, ToCur}
+use Rattle.maildir_run.proofs.Common.{Reflag, DropTmp, Outside, may_take, to_cur, reflag, acted, all_acted, Listing, Move, Other, Again, moved, after, Lists}
 use Rattle.maildir_run.proofs.Names.Maps.{none_if_not_some, total, is_name-true}
 use Rattle.maildir_run.proofs.Call.Homes.{same_both, held-outsiders_of}
 use Rattle.maildir_run.proofs.Call.Moves.{after_kept, after-append, homes_none, none_held, held_none}
@@ -17,7 +19,8 @@ none_alike b q on (x ∷ names) off =
 
 pub unlisted : (b : List ℕ) (m : FileMap) (names : List (List ℕ)) → IsPermutation names (keys m) → IsFalse (list_any (has_base b) names) → held_under b m ≡ []
 unlisted b m names listed off =
-    held_none b m (λ q on. none_if_not_some (get m q) (contains_key-keys m q ∙ none_alike b q on (keys m) (sym (list_any-IsPermutation (has_base b) names (keys m) listed) ∙ off)))
+    held_none b m (λ q on. none_if_not_some (get m q)
+    (contains_key-keys m q ∙ none_alike b q on (keys m) (sym (list_any-IsPermutation (has_base b) names (keys m) listed) ∙ off)))
 
 -- ---- nobody brings a file of this base into `new`
 none_removed : (b : List ℕ) (m : FileMap) (name : List ℕ) → held_under b m ≡ [] → held_under b (remove m name) ≡ []
@@ -27,12 +30,14 @@ module _ (b : List ℕ) (s : Files) (name target : List ℕ) where
   to_cur_new : (o : Option (List ℕ)) → held_under b s.new ≡ [] → held_under b (to_cur s name target o).new ≡ []
   to_cur_new None e = e
   to_cur_new (Some bytes) e =
-      elim (may_take s.cur name target) as (λ t. held_under b (cond t (record s { new = remove s.new name; cur = insert s.cur target bytes }) s).new ≡ []) [ true ↦ none_removed b s.new name e | false ↦ e ]
+      elim (may_take s.cur name target) as (λ t. held_under b (cond t (record s { new = remove s.new name; cur = insert s.cur target bytes }) s).new
+      ≡ []) [ true ↦ none_removed b s.new name e | false ↦ e ]
 
   reflag_new : (o : Option (List ℕ)) → held_under b s.new ≡ [] → held_under b (reflag s name target o).new ≡ []
   reflag_new None e = e
   reflag_new (Some bytes) e =
-      elim (may_take s.cur name target) as (λ t. held_under b (cond t (record s { cur = insert (remove s.cur name) target bytes }) s).new ≡ []) [ true ↦ e | false ↦ e ]
+      elim (may_take s.cur name target)
+      as (λ t. held_under b (cond t (record s { cur = insert (remove s.cur name) target bytes }) s).new ≡ []) [ true ↦ e | false ↦ e ]
 
 module _ (b : List ℕ) (named : IsTrue (is_converter_base b)) where
   pub acted_new : (action : Action) (s : Files) → held_under b s.new ≡ [] → held_under b (acted action s).new ≡ []
@@ -55,19 +60,24 @@ module _ (b : List ℕ) (named : IsTrue (is_converter_base b)) where
   all_acted_new (action ∷ actions) s e = all_acted_new actions (acted action s) (acted_new action s e)
 
   -- after a listing of `new` that does not show it, `new` has no file of the base
-  pub listed_new : (old : Files) (names : List (List ℕ)) (new : Files) → Lists New old names new → IsFalse (list_any (has_base b) names) → held_under b new.new ≡ []
+  pub listed_new : (old : Files) (names : List (List ℕ)) (new : Files) → Lists New old names new
+      → IsFalse (list_any (has_base b) names) → held_under b new.new ≡ []
   listed_new old names new listed off =
       let mid = after old (Listing New) listed.before in
-      rw (listed.left ∙ after-append old (Listing New) listed.before (Again ∷ listed.rest)) (listing_new New listed.rest mid (unlisted b mid.new names listed.names_are off))
+      rw (listed.left ∙ after-append old (Listing New) listed.before (Again ∷ listed.rest))
+      (listing_new New listed.rest mid (unlisted b mid.new names listed.names_are off))
 
   -- and after a later listing of `cur` that does not show it either, it has no home
-  pub listed_cur : (old : Files) (names : List (List ℕ)) (new : Files) → held_under b old.new ≡ [] → Lists Cur old names new → IsFalse (list_any (has_base b) names) → homes new b ≡ []
+  pub listed_cur : (old : Files) (names : List (List ℕ)) (new : Files) → held_under b old.new ≡ []
+      → Lists Cur old names new → IsFalse (list_any (has_base b) names) → homes new b ≡ []
   listed_cur old names new e listed off =
       let mid = after old (Listing Cur) listed.before in
       let none : homes mid b ≡ [] = rw (listing_new Cur listed.before old e, unlisted b mid.cur names listed.names_are off) refl in
-      rw (listed.left ∙ after-append old (Listing Cur) listed.before (Again ∷ listed.rest)) (homes_none b mid (after mid (Listing Cur) listed.rest) (after_kept b named (Listing Cur) tt listed.rest mid) none)
+      rw (listed.left ∙ after-append old (Listing Cur) listed.before (Again ∷ listed.rest))
+      (homes_none b mid (after mid (Listing Cur) listed.rest) (after_kept b named (Listing Cur) tt listed.rest mid) none)
 
-  pub listed_twice : (s : Files) (t u v : Files) (in_new in_cur : List (List ℕ)) (actions : List Action) → Lists New s in_new t → u ≡ all_acted actions t → Lists Cur u in_cur v → IsFalse (list_any (has_base b) in_new) → IsFalse (list_any (has_base b) in_cur) → homes v b ≡ []
+  pub listed_twice : (s : Files) (t u v : Files) (in_new in_cur : List (List ℕ)) (actions : List Action) → Lists New s in_new t
+      → u ≡ all_acted actions t → Lists Cur u in_cur v → IsFalse (list_any (has_base b) in_new) → IsFalse (list_any (has_base b) in_cur) → homes v b ≡ []
   listed_twice s t u v in_new in_cur actions first between second off_new off_cur =
       listed_cur u in_cur v
       (rw between (all_acted_new actions t (listed_new s in_new t first off_new)))

@@ -1,13 +1,21 @@
 -- What a call's moves leave: of the homes of a base, and of a name in tmp.
-use Rattle.std.proofs.Common.{◌≡◌, ℕ, true, false, cond, List, [], ◌∷◌, ◌++◌, ◌⊎◌, Option, Some, None, IsPermutation, IsTrue, refl, sym, ap, subst, ◌∙◌, inl, inr, map, arith, is_some}
-use Rattle.maildir_run.proofs.Common.{get, insert, remove, values, contains_key, entries, retain_keys, empty, get-entries, get-insert, get-empty, same_map, len, len-empty, len-entries, cases_Bool, All-nil, All-cons, nil_from_length, IsPermutation-refl, IsPermutation-sym, IsPermutation-trans, IsPermutation-middle, IsPermutation-append_left, IsPermutation-append_right, length_permutation, All-permutation, is_converter_name, is_converter_base, name_cmp, is_name, FileMap, Files, has_base, held_under, homes, Action, ToCur, Reflag, DropTmp, Outside, may_take, to_cur, reflag, acted, Call, Listing, Writing, Placing, Removing, Move, Other, Again, Torn, placed, effect, torn, moved, after, IsOthers, IsWhole, Succeeded, PlacesElsewhere, WritesElsewhere, StaysOrGoes, IsReady}
+use Rattle.std.proofs.Common.{◌≡◌, ℕ, true, false, cond, List, [], ◌∷◌, ◌++◌, ◌⊎◌, Option, Some, None}
+use Rattle.std.proofs.Common.{IsPermutation, IsTrue, refl, sym, ap, subst, ◌∙◌, inl, inr, map, arith, is_some}
+use Rattle.maildir_run.proofs.Common.{get, insert, remove, values, contains_key, entries, retain_keys, empty, get-entries, get-insert, get-empty}
+use Rattle.maildir_run.proofs.Common.{same_map, len, len-empty, len-entries, cases_Bool, All-nil, All-cons, nil_from_length, IsPermutation-refl}
+use Rattle.maildir_run.proofs.Common.{IsPermutation-sym, IsPermutation-trans, IsPermutation-middle, IsPermutation-append_left}
+use Rattle.maildir_run.proofs.Common.{IsPermutation-append_right, length_permutation, All-permutation, is_converter_name, is_converter_base, name_cmp}
+use Rattle.maildir_run.proofs.Common.{is_name, FileMap, Files, has_base, held_under, homes, Action, ToCur, Reflag, DropTmp, Outside, may_take}
+use Rattle.maildir_run.proofs.Common.{to_cur, reflag, acted, Call, Listing, Writing, Placing, Removing, Move, Other, Again, Torn, placed, effect}
+use Rattle.maildir_run.proofs.Common.{torn, moved, after, IsOthers, IsWhole, Succeeded, PlacesElsewhere, WritesElsewhere, StaysOrGoes, IsReady}
 use Rattle.maildir_name.specs.declared.target.Place.{Place}
 use Rattle.maildir_name.specs.declared.target.Place.TheVariants.{New, Cur}
 use Rattle.maildir_run.proofs.Names.Maps.{total, same, get_under, get_removed, get-insert_same, get-remove_same}
 use Rattle.maildir_run.proofs.Call.Homes.{KeepsHomesOf, equally, acted_kept, held-insert_other, held-insert_new, get-outsiders_of}
 
 -- ---- a base at which nothing is placed
-placed_kept : (b : List ℕ) (name : List ℕ) (p : Place) (target : List ℕ) → has_base b target ≡ false → (o : Option (List ℕ)) (s : Files) → KeepsHomesOf b s (placed s name p target o)
+placed_kept : (b : List ℕ) (name : List ℕ) (p : Place) (target : List ℕ) → has_base b target ≡ false
+    → (o : Option (List ℕ)) (s : Files) → KeepsHomesOf b s (placed s name p target o)
 placed_kept b name p target off None s = IsPermutation-refl _
 placed_kept b name New target off (Some bytes) s = equally b s (placed s name New target (Some bytes)) (rw (held-insert_other b s.new target bytes off) refl)
 placed_kept b name Cur target off (Some bytes) s = equally b s (placed s name Cur target (Some bytes)) (rw (held-insert_other b s.cur target bytes off) refl)
@@ -41,18 +49,21 @@ stays_trans q a b c (inr e) (inl f) = inr (f ∙ e)
 stays_trans q a b c (inr e) (inr f) = inr f
 
 dropped : (q name : List ℕ) (s : Files) → StaysOrGoes q s (record s { tmp = remove s.tmp name })
-dropped q name s = elim (cases_Bool (is_name q name)) [ inl e ↦ inr (get_removed s.tmp name q ∙ rw e refl) | inr e ↦ inl (get_removed s.tmp name q ∙ rw e refl) ]
+dropped q name s =
+    elim (cases_Bool (is_name q name)) [ inl e ↦ inr (get_removed s.tmp name q ∙ rw e refl) | inr e ↦ inl (get_removed s.tmp name q ∙ rw e refl) ]
 
 module _ (s : Files) (name target : List ℕ) where
   pub to_cur_tmp : (o : Option (List ℕ)) → (to_cur s name target o).tmp ≡ s.tmp
   to_cur_tmp None = refl
   to_cur_tmp (Some bytes) =
-      elim (may_take s.cur name target) as (λ t. (cond t (record s { new = remove s.new name; cur = insert s.cur target bytes }) s).tmp ≡ s.tmp) [ true ↦ refl | false ↦ refl ]
+      elim (may_take s.cur name target)
+      as (λ t. (cond t (record s { new = remove s.new name; cur = insert s.cur target bytes }) s).tmp ≡ s.tmp) [ true ↦ refl | false ↦ refl ]
 
   pub reflag_tmp : (o : Option (List ℕ)) → (reflag s name target o).tmp ≡ s.tmp
   reflag_tmp None = refl
   reflag_tmp (Some bytes) =
-      elim (may_take s.cur name target) as (λ t. (cond t (record s { cur = insert (remove s.cur name) target bytes }) s).tmp ≡ s.tmp) [ true ↦ refl | false ↦ refl ]
+      elim (may_take s.cur name target)
+      as (λ t. (cond t (record s { cur = insert (remove s.cur name) target bytes }) s).tmp ≡ s.tmp) [ true ↦ refl | false ↦ refl ]
 
 pub acted_tmp : (q : List ℕ) → IsTrue (is_converter_name q) → (action : Action) (s : Files) → StaysOrGoes q s (acted action s)
 acted_tmp q ours (ToCur name target) s = inl (ap (λ m. get m q) (to_cur_tmp s name target (get s.new name)))
@@ -95,7 +106,8 @@ permutation_of_none ys h = nil_from_length ys (length_permutation [] ys h)
 
 pub permutation_of_one : {X : Type 0} (x : X) (ys : List X) → IsPermutation (x ∷ []) ys → ys ≡ x ∷ []
 permutation_of_one x [] h = absurd (omega (arith, length_permutation (x ∷ []) [] h))
-permutation_of_one x (y ∷ []) h = ap (λ z. z ∷ []) (All-permutation (λ z. z ≡ x) (x ∷ []) (y ∷ []) h (All-cons (λ z. z ≡ x) x [] refl (All-nil _)) 0 y (omega arith))
+permutation_of_one x (y ∷ []) h =
+    ap (λ z. z ∷ []) (All-permutation (λ z. z ≡ x) (x ∷ []) (y ∷ []) h (All-cons (λ z. z ≡ x) x [] refl (All-nil _)) 0 y (omega arith))
 permutation_of_one x (y ∷ z ∷ ys) h = absurd (omega (arith, length_permutation (x ∷ []) (y ∷ z ∷ ys) h))
 
 pub homes_none : (b : List ℕ) (old new : Files) → KeepsHomesOf b old new → homes old b ≡ [] → homes new b ≡ []
@@ -144,7 +156,8 @@ homes_first : (xs ys : List (List ℕ)) (v : List ℕ) (zs : List (List ℕ)) �
 homes_first xs ys v zs e h = permutation_of_one v zs (rw e at h)
 
 -- a base that has no home, and then the file of tmp
-placed_first : (b name : List ℕ) (p : Place) (target bytes : List ℕ) (s : Files) → has_base b target ≡ true → homes s b ≡ [] → homes (placed s name p target (Some bytes)) b ≡ bytes ∷ []
+placed_first : (b name : List ℕ) (p : Place) (target bytes : List ℕ) (s : Files) → has_base b target ≡ true
+    → homes s b ≡ [] → homes (placed s name p target (Some bytes)) b ≡ bytes ∷ []
 placed_first b name New target bytes s on e =
     let parts = both_none (held_under b s.new) (held_under b s.cur) e in
     homes_first (held_under b s.new) (held_under b s.cur) bytes _ e
@@ -179,7 +192,8 @@ placed_gone s name New target bytes = get-remove_same s.tmp name
 placed_gone s name Cur target bytes = get-remove_same s.tmp name
 
 -- the effect, where tmp has the file
-arrives : (b name : List ℕ) (p : Place) (target : List ℕ) (had : Option (List ℕ)) (s : Files) → has_base b target ≡ true → Waits b name had s → (bytes : List ℕ) → get s.tmp name ≡ Some bytes → Arrived b name had (placed s name p target (Some bytes))
+arrives : (b name : List ℕ) (p : Place) (target : List ℕ) (had : Option (List ℕ)) (s : Files) → has_base b target ≡ true
+    → Waits b name had s → (bytes : List ℕ) → get s.tmp name ≡ Some bytes → Arrived b name had (placed s name p target (Some bytes))
 arrives b name p target had s on w bytes has =
     record {
       bytes = bytes;
@@ -191,7 +205,8 @@ arrives b name p target had s on w bytes has =
 abbrev pub Stage : (b name : List ℕ) (had : Option (List ℕ)) (s : Files) → Type 0
 Stage b name had s = Waits b name had s ⊎ Arrived b name had s
 
-module _ (b name : List ℕ) (p : Place) (target : List ℕ) (named : IsTrue (is_converter_base b)) (ours : IsTrue (is_converter_name name)) (on : has_base b target ≡ true) (had : Option (List ℕ)) where
+module _ (b name : List ℕ) (p : Place) (target : List ℕ) (named : IsTrue (is_converter_base b))
+    (ours : IsTrue (is_converter_name name)) (on : has_base b target ≡ true) (had : Option (List ℕ)) where
   arrived_again : (s : Files) → Arrived b name had s → Arrived b name had (effect (Placing name p target) s)
   arrived_again s a = rw a.gone a
 
@@ -224,7 +239,8 @@ module _ (b name : List ℕ) (p : Place) (target : List ℕ) (named : IsTrue (is
   -- others alone let it wait
   pub waits_after : (ms : List Move) (s : Files) → IsOthers ms → Waits b name had s → Waits b name had (after s (Placing name p target) ms)
   waits_after [] s others w = w
-  waits_after (Other action ∷ ms) s others w = waits_after ms (acted action s) others (waits_on b name had s (acted action s) (acted_kept b named action s) (acted_tmp name ours action s) w)
+  waits_after (Other action ∷ ms) s others w =
+      waits_after ms (acted action s) others (waits_on b name had s (acted action s) (acted_kept b named action s) (acted_tmp name ours action s) w)
   waits_after (other ∷ ms) s others w = absurd others
 
   ready : (s : Files) → Waits b name had s → IsTrue (contains_key s.tmp name) → Arrived b name had (effect (Placing name p target) s)
@@ -239,7 +255,8 @@ after-append s call [] ns = refl
 after-append s call (m ∷ ms) ns = after-append (moved call m s) call ms ns
 
 -- whatever a call that places at a base without a home answers
-module _ (b name : List ℕ) (p : Place) (target : List ℕ) (named : IsTrue (is_converter_base b)) (ours : IsTrue (is_converter_name name)) (on : has_base b target ≡ true) where
+module _ (b name : List ℕ) (p : Place) (target : List ℕ) (named : IsTrue (is_converter_base b))
+    (ours : IsTrue (is_converter_name name)) (on : has_base b target ≡ true) where
   pub placing : (ms : List Move) (s : Files) → homes s b ≡ [] → Stage b name (get s.tmp name) (after s (Placing name p target) ms)
   placing ms s e = stage_after b name p target named ours on (get s.tmp name) ms s (inl record { homes_are = e; waiting = inl refl })
 
@@ -263,9 +280,11 @@ module _ (name bytes : List ℕ) where
   written_on s t (inl stays) (inl e) = inl (stays ∙ e)
   written_on s t (inl stays) (inr e) = inr (stays ∙ e)
 
-  written_after : IsTrue (is_converter_name name) → (ms : List Move) (s : Files) → IsWhole ms → WrittenOrGone s → WrittenOrGone (after s (Writing name bytes) ms)
+  written_after : IsTrue (is_converter_name name) → (ms : List Move) (s : Files)
+      → IsWhole ms → WrittenOrGone s → WrittenOrGone (after s (Writing name bytes) ms)
   written_after ours [] s whole w = w
-  written_after ours (Other action ∷ ms) s whole w = written_after ours ms (acted action s) whole (written_on s (acted action s) (acted_tmp name ours action s) w)
+  written_after ours (Other action ∷ ms) s whole w =
+      written_after ours ms (acted action s) whole (written_on s (acted action s) (acted_tmp name ours action s) w)
   written_after ours (Again ∷ ms) s whole w = written_after ours ms (effect (Writing name bytes) s) whole (inl (get-insert_same s.tmp name bytes))
   written_after ours (Torn _ ∷ ms) s whole w = absurd whole
 

@@ -1,6 +1,7 @@
 -- An action outside reaches just the states that leave the converter's names as they are.
 use Rattle.std.proofs.Common.{◌≡◌, ℕ, true, false, cond, not, List, [], ◌∷◌, ◌++◌, Some, None, refl, sym, ◌∙◌, inl, inr}
-use Rattle.maildir_run.proofs.Common.{get, entries, retain_keys, find, get-entries, get-from_entries, same_map, cases_Bool, is_converter_name, name_cmp, is_name, FileMap, Files, KeepsConverters, outsiders_of, Outside, acted}
+use Rattle.maildir_run.proofs.Common.{get, entries, retain_keys, find, get-entries, get-from_entries, same_map, cases_Bool}
+use Rattle.maildir_run.proofs.Common.{is_converter_name, name_cmp, is_name, FileMap, Files, KeepsConverters, outsiders_of, Outside, acted}
 use Rattle.maildir_run.proofs.Names.Maps.{total, same, get_under}
 use Rattle.maildir_run.proofs.Call.Homes.{get-outsiders_of}
 

@@ -1,6 +1,11 @@
 -- What one call of a run gives, in the words of a run.
-use Rattle.std.proofs.Common.{◌≡◌, ℕ, true, false, ◌||◌, List, [], ◌∷◌, ◌++◌, Some, None, IsPermutation, IsTrue, IsFalse, refl, sym, ap, subst, ◌∙◌, inl, inr, is_some}
-use Rattle.maildir_run.proofs.Common.{list_any, get, keys, contains_key-keys, or-true, or_parts, cases_Bool, false_from_ne_true, list_any-IsPermutation, IsPermutation-refl, IsPermutation-trans, Sub, Tmp, is_converter_name, is_converter_base, Files, FileMap, is_name, has_base, held_under, homes, Call, Listing, Writing, Placing, Removing, Again, after, effect, Succeeded, AnyMoves, Lists, PlacesElsewhere, WritesElsewhere, StaysOrGoes, Message, IsMissing, IsHome, KeepsHomes, TmpWithin, DeliversMessage, IsTarget}
+use Rattle.std.proofs.Common.{◌≡◌, ℕ, true, false, ◌||◌, List, [], ◌∷◌, ◌++◌, Some, None, IsPermutation}
+use Rattle.std.proofs.Common.{IsTrue, IsFalse, refl, sym, ap, subst, ◌∙◌, inl, inr, is_some}
+use Rattle.maildir_run.proofs.Common.{list_any, get, keys, contains_key-keys, or-true, or_parts, cases_Bool, false_from_ne_true}
+use Rattle.maildir_run.proofs.Common.{list_any-IsPermutation, IsPermutation-refl, IsPermutation-trans, Sub, Tmp, is_converter_name}
+use Rattle.maildir_run.proofs.Common.{is_converter_base, Files, FileMap, is_name, has_base, held_under, homes, Call, Listing, Writing}
+use Rattle.maildir_run.proofs.Common.{Placing, Removing, Again, after, effect, Succeeded, AnyMoves, Lists, PlacesElsewhere, WritesElsewhere}
+use Rattle.maildir_run.proofs.Common.{StaysOrGoes, Message, IsMissing, IsHome, KeepsHomes, TmpWithin, DeliversMessage, IsTarget}
 use Rattle.maildir_name.specs.declared.target.Place.{Place}
 use Rattle.maildir_run.proofs.Names.Maps.{none_if_not_some, is_name-true, is_name-refl, get-remove_same}
 use Rattle.maildir_run.proofs.Call.Moves.{after_kept, after_tmp, after-append, homes_none, none_held, placing, placing_ok, WrittenOrGone, writing_ok}
@@ -9,15 +14,18 @@ use Rattle.maildir_run.proofs.Call.Moves.{after_kept, after_tmp, after-append, h
 pub ok_moves : (call : Call) (old new : Files) → Succeeded call old new → AnyMoves call old new
 ok_moves call old new h = record { moves = h.before ++ Again ∷ h.rest; left = h.left }
 
-pub called_kept : (b : List ℕ) → IsTrue (is_converter_base b) → (call : Call) → PlacesElsewhere b call → (old new : Files) → AnyMoves call old new → IsPermutation (homes old b) (homes new b)
+pub called_kept : (b : List ℕ) → IsTrue (is_converter_base b) → (call : Call) → PlacesElsewhere b call
+    → (old new : Files) → AnyMoves call old new → IsPermutation (homes old b) (homes new b)
 called_kept b named call h old new c =
     rw c.left (after_kept b named call h c.moves old)
 
-pub called_tmp : (q : List ℕ) → IsTrue (is_converter_name q) → (call : Call) → WritesElsewhere q call → (old new : Files) → AnyMoves call old new → StaysOrGoes q old new
+pub called_tmp : (q : List ℕ) → IsTrue (is_converter_name q) → (call : Call)
+    → WritesElsewhere q call → (old new : Files) → AnyMoves call old new → StaysOrGoes q old new
 called_tmp q ours call h old new c = rw c.left (after_tmp q ours call h c.moves old)
 
 -- ---- tmp
-pub within_on : (names : List (List ℕ)) (old new : Files) → ((q : List ℕ) → IsTrue (is_converter_name q) → IsFalse (list_any (is_name q) names) → StaysOrGoes q old new) → TmpWithin names old → TmpWithin names new
+pub within_on : (names : List (List ℕ)) (old new : Files)
+    → ((q : List ℕ) → IsTrue (is_converter_name q) → IsFalse (list_any (is_name q) names) → StaysOrGoes q old new) → TmpWithin names old → TmpWithin names new
 within_on names old new stays within = record {
   gone = λ q ours off.
       elim (stays q ours off) [ inl e ↦ e ∙ within.gone q ours off | inr e ↦ e ];
@@ -50,22 +58,29 @@ removing_gone : (name : List ℕ) → IsTrue (is_converter_name name) → (old n
 removing_gone name ours old new done =
     let call = Removing name in
     let mid = effect call (after old call done.before) in
-    rw (done.left ∙ after-append old call done.before (Again ∷ done.rest)) (gone_on name mid (after mid call done.rest) (after_tmp name ours call tt done.rest mid) (get-remove_same (after old call done.before).tmp name))
+    rw (done.left ∙ after-append old call done.before (Again ∷ done.rest))
+    (gone_on name mid (after mid call done.rest) (after_tmp name ours call tt done.rest mid) (get-remove_same (after old call done.before).tmp name))
 
-pub removing_within : (name : List ℕ) (names : List (List ℕ)) → IsTrue (is_converter_name name) → (old new : Files) → Succeeded (Removing name) old new → TmpWithin (name ∷ names) old → TmpWithin names new
+pub removing_within : (name : List ℕ) (names : List (List ℕ)) → IsTrue (is_converter_name name)
+    → (old new : Files) → Succeeded (Removing name) old new → TmpWithin (name ∷ names) old → TmpWithin names new
 removing_within name names ours old new done within =
     without name names new (removing_gone name ours old new done)
     (within_on (name ∷ names) old new (λ q is off. called_tmp q is (Removing name) tt old new (ok_moves (Removing name) old new done)) within)
 
-pub placing_within : (name : List ℕ) (p : Place) (target : List ℕ) (old new : Files) → Succeeded (Placing name p target) old new → get new.tmp name ≡ None → TmpWithin (name ∷ []) old → TmpWithin [] new
+pub placing_within : (name : List ℕ) (p : Place) (target : List ℕ) (old new : Files)
+    → Succeeded (Placing name p target) old new → get new.tmp name ≡ None → TmpWithin (name ∷ []) old → TmpWithin [] new
 placing_within name p target old new done gone within =
-    without name [] new gone (within_on (name ∷ []) old new (λ q is off. called_tmp q is (Placing name p target) tt old new (ok_moves (Placing name p target) old new done)) within)
+    without name [] new gone
+    (within_on (name ∷ []) old new (λ q is off. called_tmp q is (Placing name p target) tt old new (ok_moves (Placing name p target) old new done)) within)
 
 pub listing_within : (old : Files) (names : List (List ℕ)) (new : Files) → Lists Tmp old names new → TmpWithin names new
 listing_within old names new listed =
     let call = Listing Tmp in
     let mid = after old call listed.before in
-    let here : TmpWithin names mid = record { gone = λ q ours off. none_if_not_some _ (contains_key-keys mid.tmp q ∙ sym (list_any-IsPermutation (is_name q) names (keys mid.tmp) listed.names_are) ∙ off) } in
+    let here : TmpWithin names mid = record {
+      gone = λ q ours off.
+          none_if_not_some _ (contains_key-keys mid.tmp q ∙ sym (list_any-IsPermutation (is_name q) names (keys mid.tmp) listed.names_are) ∙ off);
+    } in
     subst (TmpWithin names) (sym (listed.left ∙ after-append old call listed.before (Again ∷ listed.rest)))
     (within_on names mid (after mid call listed.rest) (λ q ours off. after_tmp q ours call tt listed.rest mid) here)
 
@@ -76,10 +91,12 @@ listing_keeps_homes sub old names new listed = record {
       rw listed.left (after_kept base named (Listing sub) tt (listed.before ++ Again ∷ listed.rest) old);
 }
 
-elsewhere : (m : Message) (base target : List ℕ) → IsTrue (has_base m.target.base target) → IsFalse (is_name m.target.base base) → IsFalse (has_base base target)
+elsewhere : (m : Message) (base target : List ℕ) → IsTrue (has_base m.target.base target)
+    → IsFalse (is_name m.target.base base) → IsFalse (has_base base target)
 elsewhere m base target on off =
     false_from_ne_true (has_base base target) (λ e.
-    let alike : is_name m.target.base base ≡ true = subst (λ b. is_name m.target.base b ≡ true) (is_name-true m.target.base _ on ∙ sym (is_name-true base _ e)) (is_name-refl m.target.base) in cc)
+    let alike : is_name m.target.base base ≡ true =
+    subst (λ b. is_name m.target.base b ≡ true) (is_name-true m.target.base _ on ∙ sym (is_name-true base _ e)) (is_name-refl m.target.base) in cc)
 
 body_of : (name : List ℕ) (body bytes : List ℕ) (s : Files) → WrittenOrGone name body s → get s.tmp name ≡ Some bytes → bytes ≡ body
 body_of name body bytes s (inl e) h = cc
@@ -89,12 +106,14 @@ body_of name body bytes s (inr e) h = cc
 shown : (b : List ℕ) (ks : List (List ℕ)) → list_any (has_base b) ks ≡ true → (q : List ℕ) × (has_base b q ≡ true) × (list_any (is_name q) ks ≡ true)
 shown b [] e = cc
 shown b (k ∷ ks) e =
-    elim (has_base b k) as (λ t. has_base b k ≡ t → (t || list_any (has_base b) ks) ≡ true → (q : List ℕ) × (has_base b q ≡ true) × (list_any (is_name q) (k ∷ ks) ≡ true)) [
+    elim (has_base b k)
+    as (λ t. has_base b k ≡ t → (t || list_any (has_base b) ks) ≡ true → (q : List ℕ) × (has_base b q ≡ true) × (list_any (is_name q) (k ∷ ks) ≡ true)) [
       | true ↦ λ on e. (k, on, ap (λ t. t || list_any (is_name k) ks) (is_name-refl k))
       | false ↦ λ off e. let r = shown b ks e in (r.0, r.1, rw r.2 (or-true (is_name r.0 k)))
     ] refl e
 
-pub not_shown : (b : List ℕ) (m : FileMap) (names : List (List ℕ)) → IsPermutation names (keys m) → held_under b m ≡ [] → IsTrue (list_any (has_base b) names) → ⊥
+pub not_shown : (b : List ℕ) (m : FileMap) (names : List (List ℕ)) → IsPermutation names (keys m)
+    → held_under b m ≡ [] → IsTrue (list_any (has_base b) names) → ⊥
 not_shown b m names listed e on =
     let r = shown b (keys m) (sym (list_any-IsPermutation (has_base b) names (keys m) listed) ∙ on) in
     let is : is_some (get m r.0) ≡ true = contains_key-keys m r.0 ∙ r.2 in
@@ -105,7 +124,8 @@ not_shown b m names listed e on =
 written_leaves : (name bytes : List ℕ) (old new : Files) → AnyMoves (Writing name bytes) old new → KeepsHomes old new
 written_leaves name bytes old new c = record { kept = λ base named. called_kept base named (Writing name bytes) tt old new c }
 
-pub write_delivers : (m : Message) → IsTarget m.target → (old new : Files) → AnyMoves (Writing m.target.base m.body) old new → IsMissing old m → DeliversMessage m old new
+pub write_delivers : (m : Message) → IsTarget m.target → (old new : Files)
+    → AnyMoves (Writing m.target.base m.body) old new → IsMissing old m → DeliversMessage m old new
 write_delivers m is old new c missing =
     let leaves = written_leaves m.target.base m.body old new c in
     record { own = inl (homes_none m.target.base old new (leaves.kept m.target.base is.named) missing); others = λ base named off. leaves.kept base named }
@@ -120,7 +140,8 @@ pub record WrittenFirst (m : Message) (old mid : Files) : Type 0 where
   pub leaves : KeepsHomes old mid
   pub within : TmpWithin [] old → TmpWithin (m.target.base ∷ []) mid
 
-pub write_ok : (m : Message) → IsTarget m.target → (old mid : Files) → Succeeded (Writing m.target.base m.body) old mid → IsMissing old m → WrittenFirst m old mid
+pub write_ok : (m : Message) → IsTarget m.target → (old mid : Files)
+    → Succeeded (Writing m.target.base m.body) old mid → IsMissing old m → WrittenFirst m old mid
 write_ok m is old mid done missing =
     let moves = ok_moves (Writing m.target.base m.body) old mid done in
     let leaves = written_leaves m.target.base m.body old mid moves in
@@ -142,7 +163,8 @@ module _ (m : Message) (is : IsTarget m.target) (old mid new : Files) (w : Writt
           | inl waits ↦ inl waits.homes_are
           | inr a ↦ inr (a.homes_are ∙ ap (λ x. x ∷ []) (body_of m.target.base m.body a.bytes mid w.written a.was))
         ]);
-        others = λ base named off. IsPermutation-trans _ _ _ (w.leaves.kept base named) (called_kept base named put (elsewhere m base m.target.name is.under off) mid new c);
+        others = λ base named off.
+            IsPermutation-trans _ _ _ (w.leaves.kept base named) (called_kept base named put (elsewhere m base m.target.name is.under off) mid new c);
       }
 
   pub place_home : Succeeded put mid new → IsHome new m × (TmpWithin [] old → TmpWithin [] new)

@@ -1,6 +1,9 @@
 -- Which number the base of each message of a text has.
-use Rattle.std.proofs.Common.{◌≡◌, ℕ, zero, suc, ◌+◌, ◌<◌, ◌≤◌, ◌^◌, Bool, true, false, cond, List, [], ◌∷◌, length, get_or, take, map, count_by, refl, sym, ap, subst, ◌∙◌, inl, inr, arith, take-take}
-use Rattle.maildir_run.proofs.Common.{list_any, cases_Bool, cases_lt, take-map, get_or-map, count_by_more_yes, sum_by-cons, sum_by-take-le, count_by-le-length, Target, numbered, same_digest, targets, length-targets, get_or-targets, Message, with_bodies, messages_of, bodies_of, MessagesOf}
+use Rattle.std.proofs.Common.{◌≡◌, ℕ, zero, suc, ◌+◌, ◌<◌, ◌≤◌, ◌^◌, Bool, true, false, cond, List, [], ◌∷◌, length}
+use Rattle.std.proofs.Common.{get_or, take, map, count_by, refl, sym, ap, subst, ◌∙◌, inl, inr, arith, take-take}
+use Rattle.maildir_run.proofs.Common.{list_any, cases_Bool, cases_lt, take-map, get_or-map, count_by_more_yes, sum_by-cons}
+use Rattle.maildir_run.proofs.Common.{sum_by-take-le, count_by-le-length, Target, numbered, same_digest, targets}
+use Rattle.maildir_run.proofs.Common.{length-targets, get_or-targets, Message, with_bodies, messages_of, bodies_of, MessagesOf}
 use Rattle.maildir_name.proofs.DistinctBases.{number_after-is, target-base}
 use Rattle.maildir_run.proofs.Chains.MessageLemmas.{targets_of, length-messages_of, few_bodies_of_text}
 
@@ -14,7 +17,8 @@ with_digest b ms = count_by (has_digest_of b) ms
 
 -- the number in each message's base counts the messages up to and with it that have its digest
 abbrev pub AreNumbered : List Message → Type 0
-AreNumbered ms = (i : ℕ) (d : Message) → i < length ms → (get_or ms i d).target.base ≡ numbered (get_or ms i d).body (with_digest (get_or ms i d).body (take i ms) + 1)
+AreNumbered ms =
+    (i : ℕ) (d : Message) → i < length ms → (get_or ms i d).target.base ≡ numbered (get_or ms i d).body (with_digest (get_or ms i d).body (take i ms) + 1)
 
 bodies_are : (ts : List Target) (bodies : List (List ℕ)) → length ts ≡ length bodies → map (λ (m : Message). m.body) (with_bodies ts bodies) ≡ bodies
 bodies_are [] [] e = refl
@@ -39,7 +43,8 @@ messages_numbered bodies i d below =
     let body_is : body ≡ m.body = ap (λ bs. get_or bs i []) (sym are) ∙ get_or-map (λ (n : Message). n.body) ms i d [] below in
     let front_is : front ≡ map (λ (n : Message). n.body) (take i ms) = ap (take i) (sym are) ∙ take-map (λ (n : Message). n.body) i ms in
     let target_is : get_or (targets bodies) i d.target ≡ m.target =
-    ap (λ ts. get_or ts i d.target) (sym (targets_of (targets bodies) bodies (length-targets bodies))) ∙ get_or-map (λ (n : Message). n.target) ms i d d.target below in
+    ap (λ ts. get_or ts i d.target) (sym (targets_of (targets bodies) bodies (length-targets bodies)))
+    ∙ get_or-map (λ (n : Message). n.target) ms i d d.target below in
     ap (λ (t : Target). t.base) (sym target_is ∙ get_or-targets bodies i d.target (omega (arith, below, length-messages_of bodies)))
     ∙ target-base front body
     ∙ ap (numbered body) (number_after-is front body)
@@ -51,7 +56,10 @@ text_numbered t ms (inl (entries, is, e)) = subst AreNumbered (sym e) (messages_
 text_numbered t ms (inr (none, e)) = subst AreNumbered (sym e) (λ i d below. absurd (omega (arith, below)))
 
 pub text_few : (t : List ℕ) (ms : List Message) → MessagesOf t ms → length t < 2 ^ 63 → length ms ≤ 2 ^ 63
-text_few t ms (inl (entries, is, e)) small = let few = few_bodies_of_text t entries is small in let len = length-messages_of (bodies_of entries) in omega (arith, ap length e, len, few)
+text_few t ms (inl (entries, is, e)) small =
+    let few = few_bodies_of_text t entries is small in
+    let len = length-messages_of (bodies_of entries) in
+    omega (arith, ap length e, len, few)
 text_few t ms (inr (none, e)) small = omega (arith, ap length e)
 
 -- ---- the elements that pass a test, by their number

@@ -1,33 +1,46 @@
 -- What any list of runs and actions leaves.
 use Rattle.std.proofs.Common.{◌≡◌, ℕ, zero, suc, List, [], ◌∷◌, ◌++◌, map, All, Contains, None, refl, IsTrue, Ok, get_or, sym, subst, ◌∙◌, inl, inr, arith}
-use Rattle.maildir_run.proofs.Common.{get, IsPermutation-refl, IsPermutation-trans, is_converter_name, is_converter_base, Files, Action, acted, Message, IsMissing, IsSoundAt, AreNamed, Sound, Delivered, Report, MessagesOf, Chain, IsRun, Link, Acted, Linked, Runs}
+use Rattle.maildir_run.proofs.Common.{get, IsPermutation-refl, IsPermutation-trans, is_converter_name, is_converter_base, Files, Action, acted, Message}
+use Rattle.maildir_run.proofs.Common.{IsMissing, IsSoundAt, AreNamed, Sound, Delivered, Report, MessagesOf, Chain, IsRun, Link, Acted, Linked, Runs}
 use Rattle.maildir_run.specs.Runs.{Ran}
 use Rattle.maildir_run.proofs.Call.Homes.{acted_kept}
 use Rattle.maildir_run.proofs.Call.Moves.{homes_none, homes_one, acted_tmp}
 
 -- ---- any chain
 -- what holds of its end holds of each moment from which its links lead there
-pub chain_fold : {L S : Type 0} (step : L → S → S → Type 0) (Q : List L → S → Type 0) (new : S) → Q [] new → ((link : L) (links : List L) (a b : S) → step link a b → Q links b → Q (link ∷ links) a) → (links : List L) (old : S) → Chain step links old new → Q links old
+pub chain_fold : {L S : Type 0} (step : L → S → S → Type 0) (Q : List L → S → Type 0) (new : S)
+    → Q [] new → ((link : L) (links : List L) (a b : S) → step link a b → Q links b → Q (link ∷ links) a)
+    → (links : List L) (old : S) → Chain step links old new → Q links old
 chain_fold step Q new last first [] old e = subst (Q []) e last
 chain_fold step Q new last first (link ∷ links) old (mid, linked, rest) = first link links old mid linked (chain_fold step Q new last first links mid rest)
 
 -- what each link keeps
-pub chain_keeps : {L S : Type 0} (step : L → S → S → Type 0) (P : S → Type 0) → ((link : L) (a b : S) → P a → step link a b → P b) → (links : List L) (old new : S) → P old → Chain step links old new → P new
-chain_keeps step P keeps links old new at chain = chain_fold step (λ _ s. P s → P new) new (λ p. p) (λ link _ a b linked rest p. rest (keeps link a b p linked)) links old chain at
+pub chain_keeps : {L S : Type 0} (step : L → S → S → Type 0) (P : S → Type 0) → ((link : L) (a b : S) → P a → step link a b → P b)
+    → (links : List L) (old new : S) → P old → Chain step links old new → P new
+chain_keeps step P keeps links old new at chain =
+    chain_fold step (λ _ s. P s → P new) new (λ p. p) (λ link _ a b linked rest p. rest (keeps link a b p linked)) links old chain at
 
 -- where each link is one of another kind, so is the chain
-pub chain_map : {L K S : Type 0} (step : L → S → S → Type 0) (other : K → S → S → Type 0) (f : L → K) → ((link : L) (a b : S) → step link a b → other (f link) a b) → (links : List L) (old new : S) → Chain step links old new → Chain other (map f links) old new
-chain_map step other f each links old new = chain_fold step (λ ls s. Chain other (map f ls) s new) new refl (λ link _ a b linked rest. (b, each link a b linked, rest)) links old
+pub chain_map : {L K S : Type 0} (step : L → S → S → Type 0) (other : K → S → S → Type 0) (f : L → K)
+    → ((link : L) (a b : S) → step link a b → other (f link) a b) → (links : List L) (old new : S)
+    → Chain step links old new → Chain other (map f links) old new
+chain_map step other f each links old new =
+    chain_fold step (λ ls s. Chain other (map f ls) s new) new refl (λ link _ a b linked rest. (b, each link a b linked, rest)) links old
 
 -- each of its links leads from one moment to another
-pub chain_at : {L S : Type 0} (step : L → S → S → Type 0) (link : L) (links : List L) (old new : S) → Chain step links old new → Contains links link → (a : S) × (b : S) × step link a b
-chain_at {L} {S} step link links old new = chain_fold step (λ ls s. Contains ls link → (a : S) × (b : S) × step link a b) new (λ (k, below, is). absurd (omega (arith, below))) at_first links old where
-  at_first : (l : L) (ls : List L) (a b : S) → step l a b → (Contains ls link → (a : S) × (b : S) × step link a b) → Contains (l ∷ ls) link → (a : S) × (b : S) × step link a b
-  at_first l ls a b linked rest (zero, below, is) = (a, b, rw is at linked)
-  at_first l ls a b linked rest (suc k, below, is) = rest (k, omega (arith, below), is)
+pub chain_at : {L S : Type 0} (step : L → S → S → Type 0) (link : L) (links : List L) (old new : S)
+    → Chain step links old new → Contains links link → (a : S) × (b : S) × step link a b
+chain_at {L} {S} step link links old new =
+    chain_fold step (λ ls s. Contains ls link → (a : S) × (b : S) × step link a b)
+    new (λ (k, below, is). absurd (omega (arith, below))) at_first links old where
+      at_first : (l : L) (ls : List L) (a b : S) → step l a b → (Contains ls link → (a : S) × (b : S) × step link a b)
+          → Contains (l ∷ ls) link → (a : S) × (b : S) × step link a b
+      at_first l ls a b linked rest (zero, below, is) = (a, b, rw is at linked)
+      at_first l ls a b linked rest (suc k, below, is) = rest (k, omega (arith, below), is)
 
 -- a chain in two parts
-pub chain_parts : {L S : Type 0} (step : L → S → S → Type 0) (xs ys : List L) (old new : S) → Chain step (xs ++ ys) old new → (mid : S) × Chain step xs old mid × Chain step ys mid new
+pub chain_parts : {L S : Type 0} (step : L → S → S → Type 0) (xs ys : List L) (old new : S)
+    → Chain step (xs ++ ys) old new → (mid : S) × Chain step xs old mid × Chain step ys mid new
 chain_parts step [] ys old new chain = (old, refl, chain)
 chain_parts step (x ∷ xs) ys old new (next, first, then) = let r = chain_parts step xs ys next new then in (r.0, (next, first, r.1), r.2)
 
@@ -60,9 +73,11 @@ module _ (t : List ℕ) (ms : List Message) (are : MessagesOf t ms) (named : Are
   linked_sound (Acted action) a old new sound e = subst (Sound ms a) (sym e) (acted_sound ms named a old action sound)
 
   pub chain_sound : (links : List Link) (old new : Files) → All (IsMissing old) ms → Runs t links old new → Sound ms old new
-  chain_sound links old new missing runs = chain_keeps (Linked t) (Sound ms old) (λ link a b sound linked. linked_sound link old a b sound linked) links old new (sound_at_start ms old missing) runs
+  chain_sound links old new missing runs =
+      chain_keeps (Linked t) (Sound ms old) (λ link a b sound linked. linked_sound link old a b sound linked) links old new (sound_at_start ms old missing) runs
 
-  pub chain_delivered : (links : List Link) (old mid new : Files) (report : Report) → All (IsMissing old) ms → Runs t links old mid → IsRun t mid (Ok report) new → Delivered ms new
+  pub chain_delivered : (links : List Link) (old mid new : Files) (report : Report)
+      → All (IsMissing old) ms → Runs t links old mid → IsRun t mid (Ok report) new → Delivered ms new
   chain_delivered links old mid new report missing runs last =
       (last.keeps ms are (sound_now ms mid (chain_sound links old mid missing runs).own)).ends.delivered
 
@@ -72,6 +87,8 @@ still_swept name ours action s h =
 
 pub acted_delivered : (ms : List Message) → AreNamed ms → (action : Action) (s : Files) → Delivered ms s → Delivered ms (acted action s)
 acted_delivered ms named action s d = record {
-  homes_are = λ k e h. homes_one (get_or ms k e).target.base (get_or ms k e).body s (acted action s) (acted_kept (get_or ms k e).target.base (named k e h) action s) (d.homes_are k e h);
+  homes_are = λ k e h.
+      homes_one (get_or ms k e).target.base (get_or ms k e).body s (acted action s)
+      (acted_kept (get_or ms k e).target.base (named k e h) action s) (d.homes_are k e h);
   swept = λ name ours. still_swept name ours action s (d.swept name ours);
 }

@@ -1,6 +1,8 @@
 -- How often a body is there, before a run over one of several texts and after it.
-use Rattle.std.proofs.Common.{◌≡◌, ℕ, ◌+◌, ◌-◌, ◌<◌, ◌≤◌, ◌^◌, true, false, List, [], ◌∷◌, length, get_or, take, All, IsTrue, Result, Ok, Err, refl, sym, ap, subst, ◌∙◌, inl, inr, arith, OnOk}
-use Rattle.maildir_run.proofs.Common.{take-length, cases_Bool, cases_lt, is_converter_base, digest_text, numbered, RunFault, Report, Files, homes, is_name, Message, AreNamed, IsSoundAt, IsHome, is_any, has_home, is_base_of, Keeps}
+use Rattle.std.proofs.Common.{◌≡◌, ℕ, ◌+◌, ◌-◌, ◌<◌, ◌≤◌, ◌^◌, true, false, List, [], ◌∷◌, length, get_or, take}
+use Rattle.std.proofs.Common.{All, IsTrue, Result, Ok, Err, refl, sym, ap, subst, ◌∙◌, inl, inr, arith, OnOk}
+use Rattle.maildir_run.proofs.Common.{take-length, cases_Bool, cases_lt, is_converter_base, digest_text, numbered, RunFault, Report}
+use Rattle.maildir_run.proofs.Common.{Files, homes, is_name, Message, AreNamed, IsSoundAt, IsHome, is_any, has_home, is_base_of, Keeps}
 use Rattle.maildir_name.proofs.Digests.{same_digest-refl, same_digest-text}
 use Rattle.maildir_name.proofs.BaseLemmas.{numbered-converter, numbered-digits, same-number}
 use Rattle.maildir_run.specs.Several.{IsThere}
@@ -30,11 +32,13 @@ other_number b x j k lt few is e =
     absurd (omega (arith, same, lt))
 
 -- a message whose number is among those that are there is at home
-pub home_level : (ms : List Message) (s : Files) → AreNumbered ms → (i : ℕ) (d : Message) → i < length ms → (level : Level (get_or ms i d).body s) → with_digest (get_or ms i d).body (take i ms) < level.n → IsHome s (get_or ms i d)
+pub home_level : (ms : List Message) (s : Files) → AreNumbered ms → (i : ℕ) (d : Message) → i < length ms
+    → (level : Level (get_or ms i d).body s) → with_digest (get_or ms i d).body (take i ms) < level.n → IsHome s (get_or ms i d)
 home_level ms s nums i d below level lt = ap (homes s) (nums i d below) ∙ level.there.up_to (with_digest (get_or ms i d).body (take i ms)) lt
 
 -- a message whose body is there so often is sound
-pub sound_level : (ms : List Message) (s : Files) → AreNumbered ms → length ms ≤ 2 ^ 63 → AreNamed ms → (i : ℕ) (d : Message) → i < length ms → Level (get_or ms i d).body s → IsSoundAt s (get_or ms i d)
+pub sound_level : (ms : List Message) (s : Files) → AreNumbered ms → length ms ≤ 2 ^ 63 → AreNamed ms
+    → (i : ℕ) (d : Message) → i < length ms → Level (get_or ms i d).body s → IsSoundAt s (get_or ms i d)
 sound_level ms s nums few named i d below level =
     let m = get_or ms i d in
     let k = with_digest m.body (take i ms) in
@@ -42,7 +46,8 @@ sound_level ms s nums few named i d below level =
     let most : k ≤ length ms = few_with_digest m.body ms i in
     elim (cases_lt k level.n) [
       | inl lt ↦ inr (home_level ms s nums i d below level lt)
-      | inr ge ↦ inl (level.there.no_other m.target.base (named i d below) (ap (take 64) is ∙ numbered-digits m.body (k + 1)) (λ j lt. other_number m.body m.target.base j k (omega (arith, lt, ge)) (omega (arith, most, few)) is))
+      | inr ge ↦ inl (level.there.no_other m.target.base (named i d below) (ap (take 64) is ∙ numbered-digits m.body (k + 1))
+          (λ j lt. other_number m.body m.target.base j k (omega (arith, lt, ge)) (omega (arith, most, few)) is))
     ]
 
 -- the message of a text with this body and this base, before which the body stands k times
@@ -92,7 +97,8 @@ module _ (d : Message) (ms : List Message) (b : List ℕ) (nums : AreNumbered ms
       }
 
 -- ---- one run over the text
-module _ (d : Message) (ms : List Message) (b : List ℕ) (nums : AreNumbered ms) (own : IsOwnDigest d ms b) (few : length ms ≤ 2 ^ 63) (old new : Files) (answer : Result Report RunFault) (keeps : Keeps ms old answer new) (n : ℕ) (there : IsThere n b old) (small : n ≤ 2 ^ 63) where
+module _ (d : Message) (ms : List Message) (b : List ℕ) (nums : AreNumbered ms) (own : IsOwnDigest d ms b) (few : length ms ≤ 2 ^ 63)
+    (old new : Files) (answer : Result Report RunFault) (keeps : Keeps ms old answer new) (n : ℕ) (there : IsThere n b old) (small : n ≤ 2 ^ 63) where
   most : with_digest b ms ≤ length ms
   most = rw (take-length ms) at (few_with_digest b ms (length ms))
 
@@ -133,22 +139,27 @@ module _ (d : Message) (ms : List Message) (b : List ℕ) (nums : AreNumbered ms
       let c = with_digest b ms in
       let at_end : has_home new (numbered b (risen.j + 1)) ≡ false = risen.ends (omega (arith, ge, o.below, risen.from)) in
       elim (cases_lt risen.j o.k) [
-        | inr le ↦ let same : o.k ≡ risen.j = omega (arith, ge, le) in none_of (homes new x) (ap (has_home new) (o.is ∙ ap (λ z. numbered b (z + 1)) same) ∙ at_end)
+        | inr le ↦ let same : o.k ≡ risen.j =
+            omega (arith, ge, le) in
+            none_of (homes new x) (ap (has_home new) (o.is ∙ ap (λ z. numbered b (z + 1)) same) ∙ at_end)
         | inl lt ↦
             let a = at_number d ms b nums own risen.j (omega (arith, lt, o.below)) in
             let before : a.i < o.at.i = fewer_before (has_digest_of b) ms a.i o.at.i (omega (arith, a.before, o.at.before, lt)) in
             let missing : homes old (get_or ms o.at.i d).target.base ≡ [] =
-            ap (homes old) o.at.base_is ∙ there.no_other x named digits (λ k below. other_number b x k o.k (omega (arith, below, risen.from, ge)) (omega (arith, o.below, most, few)) o.is) in
+            ap (homes old) o.at.base_is ∙ there.no_other x named digits
+            (λ k below. other_number b x k o.k (omega (arith, below, risen.from, ge)) (omega (arith, o.below, most, few)) o.is) in
             elim (cases_Bool (has_home new x)) [
               | inr off ↦ none_of (homes new x) off
               | inl on ↦
-                  let came : has_home new (get_or ms a.i d).target.base ≡ true = keeps.in_order a.i o.at.i d before o.at.below missing (ap (has_home new) o.at.base_is ∙ on) in
+                  let came : has_home new (get_or ms a.i d).target.base ≡ true =
+                  keeps.in_order a.i o.at.i d before o.at.below missing (ap (has_home new) o.at.base_is ∙ on) in
                   let came_at : has_home new (numbered b (risen.j + 1)) ≡ true = ap (has_home new) (sym a.base_is) ∙ came in
                   cc
             ]
       ]
 
-  no_other_now : (x : List ℕ) → IsTrue (is_converter_base x) → take 64 x ≡ digest_text b → ((k : ℕ) → k < risen.j → numbered b (k + 1) ≡ x → ⊥) → homes new x ≡ []
+  no_other_now : (x : List ℕ) → IsTrue (is_converter_base x) → take 64 x ≡ digest_text b
+      → ((k : ℕ) → k < risen.j → numbered b (k + 1) ≡ x → ⊥) → homes new x ≡ []
   no_other_now x named digits apart =
       elim (cases_Bool (is_base_of ms x)) [
         | inr off ↦ homes_none x old new (keeps.sound.others x named off) (there.no_other x named digits (λ k lt. apart k (omega (arith, lt, risen.from))))

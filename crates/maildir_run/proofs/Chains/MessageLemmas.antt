@@ -1,6 +1,8 @@
 -- The messages of a text: their bases are a converter's, and no two are the same.
 use Rattle.std.proofs.Common.{◌≡◌, ℕ, ◌<◌, ◌≤◌, ◌^◌, List, [], ◌∷◌, ◌++◌, map, length, get_or, All, IsTrue, IsFalse, refl, sym, ap, subst, ◌∙◌, inl, inr, arith}
-use Rattle.maildir_run.proofs.Common.{false_from_ne_true, length-map, get_or-map, All-nil, Entry, Target, base, is_converter_base, IsConverterBase, target, targets, length-targets, targets-push, is_name, Message, AreNamed, AreDistinct, with_bodies, messages_of, bodies_of, MessagesOf, IsTarget}
+use Rattle.maildir_run.proofs.Common.{false_from_ne_true, length-map, get_or-map, All-nil, Entry, Target, base, is_converter_base}
+use Rattle.maildir_run.proofs.Common.{IsConverterBase, target, targets, length-targets, targets-push, is_name, Message}
+use Rattle.maildir_run.proofs.Common.{AreNamed, AreDistinct, with_bodies, messages_of, bodies_of, MessagesOf, IsTarget}
 use Rattle.mbox_text.specs.Mbox.{Mbox}
 use Rattle.mbox_text.proofs.Reading.FirstGiven.{mbox-length}
 use Rattle.maildir_name.proofs.DistinctBases.{named-targets, distinct-targets}
@@ -18,7 +20,8 @@ length-messages_of bodies =
     ∙ ap length (targets_of (targets bodies) bodies (length-targets bodies))
     ∙ length-targets bodies
 
-with_bodies-push : (ts : List Target) (bodies : List (List ℕ)) (t : Target) (body : List ℕ) → length ts ≡ length bodies → with_bodies (ts ++ t ∷ []) (bodies ++ body ∷ []) ≡ with_bodies ts bodies ++ record { target = t; body = body } ∷ []
+with_bodies-push : (ts : List Target) (bodies : List (List ℕ)) (t : Target) (body : List ℕ) → length ts ≡ length bodies
+    → with_bodies (ts ++ t ∷ []) (bodies ++ body ∷ []) ≡ with_bodies ts bodies ++ record { target = t; body = body } ∷ []
 with_bodies-push [] [] t body e = refl
 with_bodies-push [] (b ∷ bodies) t body e = absurd (omega arith)
 with_bodies-push (x ∷ ts) [] t body e = absurd (omega arith)
@@ -62,8 +65,10 @@ different a b apart = false_from_ne_true (is_name a b) (λ e. apart (is_name-tru
 
 pub messages_distinct : (bodies : List (List ℕ)) → length bodies ≤ 2 ^ 63 → AreDistinct (messages_of bodies)
 messages_distinct bodies few i j d lt below =
-    let base_i : (get_or (targets bodies) i d.target).base ≡ (get_or (messages_of bodies) i d).target.base = ap (λ (t : Target). t.base) (get_target bodies i d (omega arith)) in
-    let base_j : (get_or (targets bodies) j d.target).base ≡ (get_or (messages_of bodies) j d).target.base = ap (λ (t : Target). t.base) (get_target bodies j d below) in
+    let base_i : (get_or (targets bodies) i d.target).base ≡ (get_or (messages_of bodies) i d).target.base =
+    ap (λ (t : Target). t.base) (get_target bodies i d (omega arith)) in
+    let base_j : (get_or (targets bodies) j d.target).base ≡ (get_or (messages_of bodies) j d).target.base =
+    ap (λ (t : Target). t.base) (get_target bodies j d below) in
     different (get_or (messages_of bodies) i d).target.base (get_or (messages_of bodies) j d).target.base
     (λ e. distinct-targets bodies few i j d.target lt (omega (arith, below, as_many bodies)) (base_i ∙ (e ∙ sym base_j)))
 
@@ -84,5 +89,6 @@ module _ (t : List ℕ) (ms : List Message) where
   text_distinct (inr (none, e)) small = subst AreDistinct (sym e) (λ i j d lt below. absurd (omega arith))
 
   pub text_targets : MessagesOf t ms → length t < 2 ^ 63 → All (λ m. IsTarget m.target) ms
-  text_targets (inl (entries, is, e)) small = subst (All (λ m. IsTarget m.target)) (sym e) (messages_targets (bodies_of entries) (omega (arith, few_bodies_of_text t entries is small)))
+  text_targets (inl (entries, is, e)) small =
+      subst (All (λ m. IsTarget m.target)) (sym e) (messages_targets (bodies_of entries) (omega (arith, few_bodies_of_text t entries is small)))
   text_targets (inr (none, e)) small = subst (All (λ m. IsTarget m.target)) (sym e) (All-nil (λ (m : Message). IsTarget m.target))

@@ -1,6 +1,8 @@
 -- For one text, what is said of several is what is said of it.
-use Rattle.std.proofs.Common.{◌≡◌, ℕ, zero, suc, ◌<◌, ◌&&◌, ◌||◌, ◌⊎◌, true, false, List, [], ◌∷◌, length, get_or, map, bytes_eq, All, Contains, refl, sym, ap, ◌∙◌, inl, inr, arith}
-use Rattle.maildir_run.proofs.Common.{bytes_decides, or-false, cases_lt, and_parts, or_parts, eq_by_cmp_equiv, All-head, All-from_get_or, Files, is_name, Message, IsMissing, IsSoundAt, AreDistinct, Sound, is_base_of, Link, Acted, Linked, Runs}
+use Rattle.std.proofs.Common.{◌≡◌, ℕ, zero, suc, ◌<◌, ◌&&◌, ◌||◌, ◌⊎◌, true, false, List, [], ◌∷◌, length}
+use Rattle.std.proofs.Common.{get_or, map, bytes_eq, All, Contains, refl, sym, ap, ◌∙◌, inl, inr, arith}
+use Rattle.maildir_run.proofs.Common.{bytes_decides, or-false, cases_lt, and_parts, or_parts, eq_by_cmp_equiv, All-head, All-from_get_or}
+use Rattle.maildir_run.proofs.Common.{Files, is_name, Message, IsMissing, IsSoundAt, AreDistinct, Sound, is_base_of, Link, Acted, Linked, Runs}
 use Rattle.maildir_run.specs.Runs.{Ran}
 use Rattle.maildir_run.specs.Several.{Mailbox, IsMailbox, HoldsGiven, SoundForAll, LinkOver, RanOver, ActedOver, LinkedOver, RunsOver, link_over, link_of}
 use Rattle.maildir_run.proofs.Chains.Chains.{chain_map}
@@ -10,10 +12,13 @@ use Rattle.maildir_run.proofs.Chains.BaseNumbers.{any_at}
 use Rattle.maildir_run.proofs.Chains.SeveralTexts.{home_given}
 
 -- messages with one base are one message
-same_place : (ms : List Message) → AreDistinct ms → (i j : ℕ) (d : Message) → i < length ms → j < length ms → is_name (get_or ms j d).target.base (get_or ms i d).target.base ≡ true → i ≡ j
+same_place : (ms : List Message) → AreDistinct ms → (i j : ℕ) (d : Message) → i < length ms
+    → j < length ms → is_name (get_or ms j d).target.base (get_or ms i d).target.base ≡ true → i ≡ j
 same_place ms distinct i j d in_i in_j same =
     elim (cases_lt i j) [
-      | inl lt ↦ let off : is_name (get_or ms j d).target.base (get_or ms i d).target.base ≡ false = (eq_by_cmp_equiv total).symm (get_or ms j d).target.base (get_or ms i d).target.base ∙ distinct i j d lt in_j in cc
+      | inl lt ↦ let off : is_name (get_or ms j d).target.base (get_or ms i d).target.base ≡ false =
+          (eq_by_cmp_equiv total).symm (get_or ms j d).target.base (get_or ms i d).target.base ∙ distinct i j d lt in_j in
+          cc
       | inr ge ↦ elim (cases_lt j i) [
         | inl lt ↦ let off : is_name (get_or ms j d).target.base (get_or ms i d).target.base ≡ false = distinct j i d lt in_i in cc
         | inr le ↦ omega (arith, ge, le)
@@ -21,7 +26,8 @@ same_place ms distinct i j d in_i in_j same =
     ]
 
 -- the text gives to each base the body of its message alone
-own_body : (text : Mailbox) → AreDistinct text.messages → (i : ℕ) (d : Message) → i < length text.messages → (s : Files) → IsMissing s (get_or text.messages i d) ⊎ HoldsGiven (text ∷ []) s (get_or text.messages i d) → IsSoundAt s (get_or text.messages i d)
+own_body : (text : Mailbox) → AreDistinct text.messages → (i : ℕ) (d : Message) → i < length text.messages → (s : Files)
+    → IsMissing s (get_or text.messages i d) ⊎ HoldsGiven (text ∷ []) s (get_or text.messages i d) → IsSoundAt s (get_or text.messages i d)
 own_body text distinct i d below s (inl none) = inl none
 own_body text distinct i d below s (inr holds) =
     let ms = text.messages in
@@ -40,13 +46,16 @@ one_sound text old new is sound =
       others = λ b named off. sound.others b named (ap (λ t. t || false) off);
     }
 
-one_place : (text : Mailbox) (old new : Files) → Sound text.messages old new → (k : ℕ) → k < length (text ∷ []) → All (λ (m : Message). IsMissing new m ⊎ HoldsGiven (text ∷ []) new m) (get_or (text ∷ []) k text).messages
+one_place : (text : Mailbox) (old new : Files) → Sound text.messages old new → (k : ℕ) → k < length (text ∷ [])
+    → All (λ (m : Message). IsMissing new m ⊎ HoldsGiven (text ∷ []) new m) (get_or (text ∷ []) k text).messages
 one_place text old new sound zero below = λ i e inside. home_given (text ∷ []) 0 text below i e inside new (sound.own i e inside)
 one_place text old new sound (suc k) below = absurd (omega (arith, below))
 
 pub sound_one : (text : Mailbox) (old new : Files) → Sound text.messages old new → SoundForAll (text ∷ []) old new
 sound_one text old new sound = record {
-  own = All-from_get_or (λ (x : Mailbox). All (λ (m : Message). IsMissing new m ⊎ HoldsGiven (text ∷ []) new m) x.messages) (text ∷ []) text (one_place text old new sound);
+  own =
+      All-from_get_or (λ (x : Mailbox). All (λ (m : Message). IsMissing new m ⊎ HoldsGiven (text ∷ []) new m) x.messages)
+      (text ∷ []) text (one_place text old new sound);
   others = λ b named off. sound.others b named (or_parts (is_base_of text.messages b) false off).0;
 }
 
@@ -66,5 +75,6 @@ link_one text (Acted action) a b e = e
 pub one_runs : (text : Mailbox) (links : List LinkOver) (old new : Files) → RunsOver (text ∷ []) links old new → Runs text.bytes (map link_of links) old new
 one_runs text = chain_map (LinkedOver (text ∷ [])) (Linked text.bytes) link_of (one_link text)
 
-pub runs_one : (text : Mailbox) (links : List Link) (old new : Files) → Runs text.bytes links old new → RunsOver (text ∷ []) (map (link_over text) links) old new
+pub runs_one : (text : Mailbox) (links : List Link) (old new : Files)
+    → Runs text.bytes links old new → RunsOver (text ∷ []) (map (link_over text) links) old new
 runs_one text = chain_map (Linked text.bytes) (LinkedOver (text ∷ [])) (link_over text) (link_one text)

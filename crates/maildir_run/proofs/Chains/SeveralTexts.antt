@@ -1,10 +1,15 @@
 -- What runs over any of several texts, and actions of other programs, leave.
-use Rattle.std.proofs.Common.{◌≡◌, ℕ, zero, suc, ◌+◌, ◌<◌, ◌≤◌, ◌^◌, ◌&&◌, ◌⊎◌, max, Bool, true, false, cond, List, [], ◌∷◌, length, get_or, count_by, bytes_eq, All, Contains, IsTrue, IsPermutation, Result, Ok, Err, refl, sym, ap, subst, ◌∙◌, inl, inr, arith}
-use Rattle.maildir_run.proofs.Common.{list_any, nat_list_eq_equiv, bytes_decides, cases_Bool, false_from_ne_true, All-head, All-tail, All-contains, All-from_get_or, Contains-get_or, list_any_at, count_by-le-length, IsPermutation-refl, IsPermutation-trans, is_converter_base, digest_text, numbered, same_digest, RunFault, Report, Files, Action, acted, homes, is_name, Message, IsMissing, IsHome, IsSoundAt, Sound, is_base_of, IsRun}
+use Rattle.std.proofs.Common.{◌≡◌, ℕ, zero, suc, ◌+◌, ◌<◌, ◌≤◌, ◌^◌, ◌&&◌, ◌⊎◌, max, Bool, true, false, cond, List, [], ◌∷◌, length, get_or}
+use Rattle.std.proofs.Common.{count_by, bytes_eq, All, Contains, IsTrue, IsPermutation, Result, Ok, Err, refl, sym, ap, subst, ◌∙◌, inl, inr, arith}
+use Rattle.maildir_run.proofs.Common.{list_any, nat_list_eq_equiv, bytes_decides, cases_Bool, false_from_ne_true, All-head, All-tail}
+use Rattle.maildir_run.proofs.Common.{All-contains, All-from_get_or, Contains-get_or, list_any_at, count_by-le-length, IsPermutation-refl}
+use Rattle.maildir_run.proofs.Common.{IsPermutation-trans, is_converter_base, digest_text, numbered, same_digest, RunFault, Report, Files}
+use Rattle.maildir_run.proofs.Common.{Action, acted, homes, is_name, Message, IsMissing, IsHome, IsSoundAt, Sound, is_base_of, IsRun}
 use Rattle.maildir_name.specs.declared.target.Place.TheVariants.{New}
 use Rattle.maildir_name.proofs.Digests.{same_digest-refl, same_digest-text}
 use Rattle.maildir_name.proofs.BaseLemmas.{numbered-converter}
-use Rattle.maildir_run.specs.Several.{Mailbox, IsMailbox, OfEach, is_base_of_any, HoldsGiven, SoundForAll, LinkOver, RanOver, ActedOver, LinkedOver, RunsOver, HaveOwnDigests, IsUnknown, count_in, most_delivered, most_tried, StandsAfter}
+use Rattle.maildir_run.specs.Several.{Mailbox, IsMailbox, OfEach, is_base_of_any, HoldsGiven, SoundForAll, LinkOver, RanOver, ActedOver}
+use Rattle.maildir_run.specs.Several.{LinkedOver, RunsOver, HaveOwnDigests, IsUnknown, count_in, most_delivered, most_tried, StandsAfter}
 use Rattle.maildir_run.proofs.Names.Maps.{is_name-refl}
 use Rattle.maildir_run.proofs.Chains.Chains.{chain_fold, chain_keeps, chain_at, sound_now}
 use Rattle.maildir_run.proofs.Call.Homes.{acted_kept}
@@ -22,7 +27,8 @@ same_test b m own =
           let on' : same_digest b m.body ≡ true = ap (same_digest b) (sym ((bytes_decides b m.body).0 on)) ∙ same_digest-refl b in cc))
     ]
 
-counts_alike : (b : List ℕ) (ms : List Message) → All (λ m. digest_text m.body ≡ digest_text b → m.body ≡ b) ms → with_digest b ms ≡ count_by (λ m. bytes_eq b m.body) ms
+counts_alike : (b : List ℕ) (ms : List Message) → All (λ m. digest_text m.body ≡ digest_text b → m.body ≡ b) ms
+    → with_digest b ms ≡ count_by (λ m. bytes_eq b m.body) ms
 counts_alike b [] own = refl
 counts_alike b (m ∷ ms) own =
     let here = All-head (λ (n : Message). digest_text n.body ≡ digest_text b → n.body ≡ b) m ms own in
@@ -54,7 +60,8 @@ pub record Grown (links : List LinkOver) (b : List ℕ) (n : ℕ) (s : Files) : 
   pub at_least : most_delivered b links ≤ level.n
   pub at_most : level.n ≤ max n (most_tried b links)
 
-grown_ran : (text : Mailbox) (answer : Result Report RunFault) (links : List LinkOver) (b : List ℕ) (n : ℕ) (mid new : Files) (r : Rise b (count_in b text) n answer mid) → Grown links b r.now new → Grown (RanOver text answer ∷ links) b n new
+grown_ran : (text : Mailbox) (answer : Result Report RunFault) (links : List LinkOver) (b : List ℕ) (n : ℕ) (mid new : Files)
+    (r : Rise b (count_in b text) n answer mid) → Grown links b r.now new → Grown (RanOver text answer ∷ links) b n new
 grown_ran text (Ok report) links b n mid new r g = record {
   level = g.level;
   from = omega (arith, r.from, g.from);
@@ -69,7 +76,9 @@ grown_ran text (Err fault) links b n mid new r g = record {
 }
 
 -- the home of a message holds what a text gives to its base
-pub home_given : (texts : List Mailbox) (k : ℕ) (d : Mailbox) → k < length texts → (i : ℕ) (e : Message) → i < length (get_or texts k d).messages → (s : Files) → IsSoundAt s (get_or (get_or texts k d).messages i e) → IsMissing s (get_or (get_or texts k d).messages i e) ⊎ HoldsGiven texts s (get_or (get_or texts k d).messages i e)
+pub home_given : (texts : List Mailbox) (k : ℕ) (d : Mailbox) → k < length texts → (i : ℕ) (e : Message)
+    → i < length (get_or texts k d).messages → (s : Files) → IsSoundAt s (get_or (get_or texts k d).messages i e)
+    → IsMissing s (get_or (get_or texts k d).messages i e) ⊎ HoldsGiven texts s (get_or (get_or texts k d).messages i e)
 home_given texts k d below i e inside s (inl none) = inl none
 home_given texts k d below i e inside s (inr home) =
     let m = get_or (get_or texts k d).messages i e in
@@ -77,13 +86,16 @@ home_given texts k d below i e inside s (inr home) =
     let inner = list_any_at (λ (n : Message). is_name n.target.base m.target.base && bytes_eq n.body m.body) (get_or texts k d).messages i e inside hit in
     inr (record {
       body = m.body;
-      given = list_any_at (λ (x : Mailbox). list_any (λ (n : Message). is_name n.target.base m.target.base && bytes_eq n.body m.body) x.messages) texts k d below inner;
+      given =
+          list_any_at (λ (x : Mailbox). list_any (λ (n : Message). is_name n.target.base m.target.base && bytes_eq n.body m.body) x.messages)
+          texts k d below inner;
       homes_are = home;
     })
 
 -- ---- texts whose distinct bodies have distinct digests
 -- a text of which a run answered Ok is among those whose counts are taken
-delivered_count : (b : List ℕ) (links : List LinkOver) (text : Mailbox) (report : Report) → Contains links (RanOver text (Ok report)) → count_in b text ≤ most_delivered b links
+delivered_count : (b : List ℕ) (links : List LinkOver) (text : Mailbox) (report : Report)
+    → Contains links (RanOver text (Ok report)) → count_in b text ≤ most_delivered b links
 delivered_count b [] text report (k, below, is) = absurd (omega (arith, below))
 delivered_count b (link ∷ links) text report (zero, below, is) = rw is (omega arith)
 delivered_count b (RanOver other (Ok _) ∷ links) text report (suc k, below, is) =
@@ -101,9 +113,13 @@ module _ (texts : List Mailbox) (are : All IsMailbox texts) (own : HaveOwnDigest
     own_in b is =
         All-from_get_or (λ (m : Message). digest_text m.body ≡ digest_text b → m.body ≡ b) text.messages nobody (λ i below e.
         let m = get_or text.messages i nobody in
-        let of_m = All-contains (λ (x : Mailbox). All (λ (n : Message). OfEach (λ n'. digest_text n.body ≡ digest_text n'.body → n.body ≡ n'.body) texts) x.messages) texts text own among i nobody below in
-        let of_text = All-contains (λ (x : Mailbox). All (λ (n : Message). digest_text m.body ≡ digest_text n.body → m.body ≡ n.body) x.messages) texts is.text of_m is.among in
-        All-contains (λ (n : Message). digest_text m.body ≡ digest_text n.body → m.body ≡ n.body) is.text.messages is.m of_text is.inside (e ∙ ap digest_text (sym is.is)) ∙ is.is)
+        let of_m =
+        All-contains (λ (x : Mailbox). All (λ (n : Message). OfEach (λ n'. digest_text n.body ≡ digest_text n'.body → n.body ≡ n'.body) texts) x.messages)
+        texts text own among i nobody below in
+        let of_text = All-contains (λ (x : Mailbox). All (λ (n : Message). digest_text m.body ≡ digest_text n.body → m.body ≡ n.body) x.messages)
+        texts is.text of_m is.among in
+        All-contains (λ (n : Message). digest_text m.body ≡ digest_text n.body → m.body ≡ n.body)
+        is.text.messages is.m of_text is.inside (e ∙ ap digest_text (sym is.is)) ∙ is.is)
 
     text_at : IsMailbox text
     text_at = All-contains IsMailbox texts text are among
@@ -111,18 +127,22 @@ module _ (texts : List Mailbox) (are : All IsMailbox texts) (own : HaveOwnDigest
     level_sound_at : (s : Files) → AreLevel s → All (IsSoundAt s) text.messages
     level_sound_at s levels i d below =
         let t = text_at in
-        sound_level text.messages s (text_numbered text.bytes text.messages t.are) (text_few text.bytes text.messages t.are t.small) (text_named text.bytes text.messages t.are t.small) i d below
-        (levels (get_or text.messages i d).body (record { text = text; among = among; m = get_or text.messages i d; inside = Contains-get_or text.messages i d below; is = refl }))
+        sound_level text.messages s (text_numbered text.bytes text.messages t.are)
+        (text_few text.bytes text.messages t.are t.small) (text_named text.bytes text.messages t.are t.small) i d below
+        (levels (get_or text.messages i d).body
+        (record { text = text; among = among; m = get_or text.messages i d; inside = Contains-get_or text.messages i d below; is = refl }))
 
     level_sound : (s : Files) → AreLevel s → Sound text.messages s s
     level_sound s levels = sound_now text.messages s (level_sound_at s levels)
 
-    ran_rise : (answer : Result Report RunFault) (old new : Files) → AreLevel old → IsRun text.bytes old answer new → (b : List ℕ) → IsBodyOf texts b → (l : Level b old) → Rise b (count_in b text) l.n answer new
+    ran_rise : (answer : Result Report RunFault) (old new : Files) → AreLevel old → IsRun text.bytes old answer new
+        → (b : List ℕ) → IsBodyOf texts b → (l : Level b old) → Rise b (count_in b text) l.n answer new
     ran_rise answer old new levels run b is l =
         let t = text_at in
         let keeps = run.keeps text.messages t.are (level_sound old levels) in
         let mine = own_in b is in
-        rw (counts_alike b text.messages mine) at (rise nobody text.messages b (text_numbered text.bytes text.messages t.are) (λ i below. mine i nobody below) (text_few text.bytes text.messages t.are t.small) old new answer keeps l.n l.there l.small)
+        rw (counts_alike b text.messages mine) at (rise nobody text.messages b (text_numbered text.bytes text.messages t.are)
+        (λ i below. mine i nobody below) (text_few text.bytes text.messages t.are t.small) old new answer keeps l.n l.there l.small)
 
     count_small : (b : List ℕ) → count_in b text ≤ 2 ^ 63
     count_small b =
@@ -138,13 +158,16 @@ module _ (texts : List Mailbox) (are : All IsMailbox texts) (own : HaveOwnDigest
   acted_level action s b l = record {
     n = l.n;
     there = record {
-      up_to = λ k lt. homes_one (numbered b (k + 1)) b s (acted action s) (acted_kept (numbered b (k + 1)) (numbered-converter b (k + 1) (omega arith) (omega (arith, lt, l.small))) action s) (l.there.up_to k lt);
+      up_to = λ k lt.
+          homes_one (numbered b (k + 1)) b s (acted action s)
+          (acted_kept (numbered b (k + 1)) (numbered-converter b (k + 1) (omega arith) (omega (arith, lt, l.small))) action s) (l.there.up_to k lt);
       no_other = λ x named digits apart. homes_none x s (acted action s) (acted_kept x named action s) (l.there.no_other x named digits apart);
     };
     small = l.small;
   }
 
-  ran_levels : (text : Mailbox) → Contains texts text → (answer : Result Report RunFault) (old new : Files) → AreLevel old → IsRun text.bytes old answer new → AreLevel new
+  ran_levels : (text : Mailbox) → Contains texts text → (answer : Result Report RunFault) (old new : Files)
+      → AreLevel old → IsRun text.bytes old answer new → AreLevel new
   ran_levels text among answer old new levels run b is =
       rise_level text among answer new b (levels b is).n (levels b is).small (ran_rise text among answer old new levels run b is (levels b is))
 
@@ -157,27 +180,35 @@ module _ (texts : List Mailbox) (are : All IsMailbox texts) (own : HaveOwnDigest
   abbrev Grows : Files → List LinkOver → Files → Type 0
   Grows new links s = AreLevel s → (b : List ℕ) → IsBodyOf texts b → (l : Level b s) → Grown links b l.n new
 
-  linked_grows : (new : Files) (link : LinkOver) (links : List LinkOver) (old mid : Files) → LinkedOver texts link old mid → Grows new links mid → Grows new (link ∷ links) old
+  linked_grows : (new : Files) (link : LinkOver) (links : List LinkOver) (old mid : Files)
+      → LinkedOver texts link old mid → Grows new links mid → Grows new (link ∷ links) old
   linked_grows new (RanOver text answer) links old mid (among, run) rest levels b is l =
       let r = ran_rise text among answer old mid levels run b is l in
-      grown_ran text answer links b l.n mid new r (rest (ran_levels text among answer old mid levels run) b is (rise_level text among answer mid b l.n l.small r))
+      grown_ran text answer links b l.n mid new r
+      (rest (ran_levels text among answer old mid levels run) b is (rise_level text among answer mid b l.n l.small r))
   linked_grows new (ActedOver action) links old mid e rest levels b is l =
       let g = subst (Grows new links) e rest (λ x at. acted_level action old x (levels x at)) b is (acted_level action old b l) in
       record { level = g.level; from = g.from; at_least = g.at_least; at_most = g.at_most }
 
   chain_grown : (links : List LinkOver) (old new : Files) → RunsOver texts links old new → Grows new links old
   chain_grown links old new =
-      chain_fold (LinkedOver texts) (Grows new) new (λ levels b is l. record { level = l; from = omega arith; at_least = omega arith; at_most = omega arith }) (linked_grows new) links old
+      chain_fold (LinkedOver texts) (Grows new) new
+      (λ levels b is l. record { level = l; from = omega arith; at_least = omega arith; at_most = omega arith }) (linked_grows new) links old
 
-  linked_others : (x : List ℕ) → IsTrue (is_converter_base x) → is_base_of_any texts x ≡ false → (link : LinkOver) (old new : Files) → AreLevel old → LinkedOver texts link old new → IsPermutation (homes old x) (homes new x)
+  linked_others : (x : List ℕ) → IsTrue (is_converter_base x) → is_base_of_any texts x ≡ false → (link : LinkOver) (old new : Files)
+      → AreLevel old → LinkedOver texts link old new → IsPermutation (homes old x) (homes new x)
   linked_others x named off (RanOver text answer) old new levels (among, run) =
       let keeps = run.keeps text.messages (text_at text among).are (level_sound text among old levels) in
       keeps.sound.others x named (none_at (λ (y : Mailbox). is_base_of y.messages x) texts text off among)
   linked_others x named off (ActedOver action) old new levels e = rw e (acted_kept x named action old)
 
-  chain_others : (links : List LinkOver) (old new : Files) → AreLevel old → RunsOver texts links old new → (x : List ℕ) → IsTrue (is_converter_base x) → is_base_of_any texts x ≡ false → IsPermutation (homes old x) (homes new x)
+  chain_others : (links : List LinkOver) (old new : Files) → AreLevel old → RunsOver texts links old new → (x : List ℕ)
+      → IsTrue (is_converter_base x) → is_base_of_any texts x ≡ false → IsPermutation (homes old x) (homes new x)
   chain_others links old new levels runs x named off =
-      (chain_keeps (LinkedOver texts) (λ s. AreLevel s × IsPermutation (homes old x) (homes s x)) (λ link a b at linked. (linked_levels link a b at.0 linked, IsPermutation-trans _ _ _ at.1 (linked_others x named off link a b at.0 linked))) links old new (levels, IsPermutation-refl _) runs).1
+      (chain_keeps (LinkedOver texts) (λ s. AreLevel s × IsPermutation (homes old x) (homes s x)) (λ link a b at linked. (
+        linked_levels link a b at.0 linked,
+        IsPermutation-trans _ _ _ at.1 (linked_others x named off link a b at.0 linked),
+      )) links old new (levels, IsPermutation-refl _) runs).1
 
   abbrev levels_at_start : (s : Files) → OfEach (λ m. IsUnknown s m.body) texts → AreLevel s
   levels_at_start s unknown b is =
@@ -192,7 +223,8 @@ module _ (texts : List Mailbox) (are : All IsMailbox texts) (own : HaveOwnDigest
         small = omega arith;
       }
 
-  body_at : (k : ℕ) (d : Mailbox) → k < length texts → (i : ℕ) (e : Message) → i < length (get_or texts k d).messages → IsBodyOf texts (get_or (get_or texts k d).messages i e).body
+  body_at : (k : ℕ) (d : Mailbox) → k < length texts → (i : ℕ) (e : Message)
+      → i < length (get_or texts k d).messages → IsBodyOf texts (get_or (get_or texts k d).messages i e).body
   body_at k d below i e inside = record {
     text = get_or texts k d;
     among = Contains-get_or texts k d below;
@@ -201,7 +233,8 @@ module _ (texts : List Mailbox) (are : All IsMailbox texts) (own : HaveOwnDigest
     is = refl;
   }
 
-  pub chain_counted : (links : List LinkOver) (old new : Files) → OfEach (λ m. IsUnknown old m.body) texts → RunsOver texts links old new → OfEach (λ m. StandsAfter links m.body new) texts
+  pub chain_counted : (links : List LinkOver) (old new : Files) → OfEach (λ m. IsUnknown old m.body) texts
+      → RunsOver texts links old new → OfEach (λ m. StandsAfter links m.body new) texts
   chain_counted links old new unknown runs k d below i e inside =
       let b = (get_or (get_or texts k d).messages i e).body in
       let is = body_at k d below i e inside in
@@ -209,7 +242,8 @@ module _ (texts : List Mailbox) (are : All IsMailbox texts) (own : HaveOwnDigest
       let g = chain_grown links old new runs start b is (levels_at_start old unknown b is) in
       record { n = g.level.n; there = g.level.there; at_least = g.at_least; at_most = omega (arith, g.at_most) }
 
-  pub chain_whole : (links : List LinkOver) (old new : Files) (text : Mailbox) (report : Report) → OfEach (λ m. IsUnknown old m.body) texts → RunsOver texts links old new → Contains links (RanOver text (Ok report)) → All (IsHome new) text.messages
+  pub chain_whole : (links : List LinkOver) (old new : Files) (text : Mailbox) (report : Report) → OfEach (λ m. IsUnknown old m.body) texts
+      → RunsOver texts links old new → Contains links (RanOver text (Ok report)) → All (IsHome new) text.messages
   chain_whole links old new text report unknown runs ran i d below =
       let ms = text.messages in
       let b = (get_or ms i d).body in
@@ -223,11 +257,13 @@ module _ (texts : List Mailbox) (are : All IsMailbox texts) (own : HaveOwnDigest
       let before = count-front (has_digest_of b) ms i d below (same_digest-refl b) in
       home_level ms new (text_numbered text.bytes ms t.are) i d below g.level (omega (arith, count, alike, before, g.at_least))
 
-  pub chain_sound : (links : List LinkOver) (old new : Files) → OfEach (λ m. IsUnknown old m.body) texts → RunsOver texts links old new → SoundForAll texts old new
+  pub chain_sound : (links : List LinkOver) (old new : Files) → OfEach (λ m. IsUnknown old m.body) texts
+      → RunsOver texts links old new → SoundForAll texts old new
   chain_sound links old new unknown runs =
       let start = levels_at_start old unknown in
       let levels : AreLevel new = λ b is. (chain_grown links old new runs start b is (start b is)).level in
       record {
-        own = λ k d below i e inside. home_given texts k d below i e inside new (level_sound_at (get_or texts k d) (Contains-get_or texts k d below) new levels i e inside);
+        own = λ k d below i e inside.
+            home_given texts k d below i e inside new (level_sound_at (get_or texts k d) (Contains-get_or texts k d below) new levels i e inside);
         others = λ x named off. chain_others links old new start runs x named off;
       }

@@ -1,12 +1,16 @@
 -- What a call of the folder in memory leaves that followed its script.
 use Rattle.std.proofs.Common.{◌≡◌, Result, Ok, Err, IfOk, refl, ap, inl, inr, String, Vec, Global}
-use Rattle.maildir_run.proofs.Common.{keys, Sub, FolderFault, Mode, Plain, Twice, Files, Call, Listing, Called, Listed, folder_of, names_of, IsCutShort, acts_at, Answers}
+use Rattle.maildir_run.proofs.Common.{keys, Sub, FolderFault, Mode, Plain, Twice, Files, Call, Listing}
+use Rattle.maildir_run.proofs.Common.{Called, Listed, folder_of, names_of, IsCutShort, acts_at, Answers}
 use Rattle.maildir_run.specs.declared.mem_folder.MemFolder.{MemFolder}
 use Rattle.maildir_run.specs.MemFolder.{files_of, next_call, next_acts, next_files, next_mode, IsQuiet, FollowsScript}
 use Rattle.maildir_run.proofs.Memory.Scripts.{answered, called_then, cut_fails, listed_then, not_cut}
 
-pub follows_called : {A : Type 0} (call : Call) (old new : MemFolder) (result : Result A FolderFault) → FollowsScript call old result new → Called call (files_of old) result (files_of new)
-follows_called call old new result (inl a) = called_then call (next_acts old) (files_of old) (next_files old) (files_of new) result refl (answered (next_mode old) call (next_files old) (files_of new) result a)
+pub follows_called : {A : Type 0} (call : Call) (old new : MemFolder) (result : Result A FolderFault)
+    → FollowsScript call old result new → Called call (files_of old) result (files_of new)
+follows_called call old new result (inl a) =
+    called_then call (next_acts old) (files_of old) (next_files old) (files_of new)
+    result refl (answered (next_mode old) call (next_files old) (files_of new) result a)
 follows_called call old new (Ok x) (inr w) = cc w.0
 follows_called call old new (Err f) (inr w) = cut_fails call (next_acts old) (files_of old) (files_of new) w.1
 
@@ -16,8 +20,11 @@ listing_changes_none Plain sub s t x a = a.2
 listing_changes_none Twice sub s t x a = a.2
 listing_changes_none other sub s t x a = cc a.0
 
-pub follows_listed : (sub : Sub) (old new : MemFolder) (result : Result (Vec (String Global) Global) FolderFault) → FollowsScript (Listing sub) old result new → IfOk result (λ names. names_of names ≡ keys (folder_of sub (files_of new))) → Listed sub (files_of old) result (files_of new)
-follows_listed sub old new (Ok names) (inl a) is = listed_then sub (next_acts old) (files_of old) (files_of new) (names_of names) (listing_changes_none (next_mode old) sub (next_files old) (files_of new) names a) is
+pub follows_listed : (sub : Sub) (old new : MemFolder) (result : Result (Vec (String Global) Global) FolderFault) → FollowsScript (Listing sub) old result new
+    → IfOk result (λ names. names_of names ≡ keys (folder_of sub (files_of new))) → Listed sub (files_of old) result (files_of new)
+follows_listed sub old new (Ok names) (inl a) is =
+    listed_then sub (next_acts old) (files_of old) (files_of new) (names_of names)
+    (listing_changes_none (next_mode old) sub (next_files old) (files_of new) names a) is
 follows_listed sub old new (Ok names) (inr w) is = cc w.0
 follows_listed sub old new (Err f) follows is = follows_called {A = Vec (String Global) Global} (Listing sub) old new (Err f) follows
 

@@ -1,6 +1,13 @@
 -- What a script makes of a folder in memory is what other programs and a call may do.
-use Rattle.std.proofs.Common.{◌≡◌, ℕ, Bool, true, false, cond, not, List, [], ◌∷◌, ◌++◌, length, take, drop, get_or, ◌<◌, ◌+◌, ◌==◌, map, Option, Some, None, Result, Ok, Err, IsTrue, IsFalse, IsOk, IsErrOf, OnErr, string_bytes, IsPermutation, ◌&&◌, ◌/◌, append-nil, refl, sym, ap, subst, ◌∙◌, inl, inr, append_assoc, suc, arith, take-append-drop, is_some, bytes_eq}
-use Rattle.maildir_run.proofs.Common.{drop-cons, false_from_ne_true, take_more, IsPermutation-refl, insert, remove, get, keys, contains_key, base, is_converter_name, Sub, Tmp, New, Cur, FolderFault, Mode, Plain, FailBefore, FailAfter, Half, Twice, Files, FileMap, Action, ToCur, Reflag, DropTmp, Outside, acted, all_acted, is_name, may_take, AgreeOnConverters, KeepsConverters, Call, Listing, Writing, Placing, Move, Other, Again, Torn, placed, effect, after, IsOthers, IsWhole, IsReady, folder_of, AnyMoves, Lists, Called, linked, with_file, without_file, performed, all_performed, acts_at, may_link, IsCutShort, IsPart, Answers, halved, fails, done}
+use Rattle.std.proofs.Common.{◌≡◌, ℕ, Bool, true, false, cond, not, List, [], ◌∷◌, ◌++◌, length, take, drop, get_or, ◌<◌, ◌+◌, ◌==◌, map, Option}
+use Rattle.std.proofs.Common.{Some, None, Result, Ok, Err, IsTrue, IsFalse, IsOk, IsErrOf, OnErr, string_bytes, IsPermutation, ◌&&◌, ◌/◌}
+use Rattle.std.proofs.Common.{append-nil, refl, sym, ap, subst, ◌∙◌, inl, inr, append_assoc, suc, arith, take-append-drop, is_some, bytes_eq}
+use Rattle.maildir_run.proofs.Common.{drop-cons, false_from_ne_true, take_more, IsPermutation-refl, insert, remove, get, keys, contains_key}
+use Rattle.maildir_run.proofs.Common.{base, is_converter_name, Sub, Tmp, New, Cur, FolderFault, Mode, Plain, FailBefore, FailAfter, Half}
+use Rattle.maildir_run.proofs.Common.{Twice, Files, FileMap, Action, ToCur, Reflag, DropTmp, Outside, acted, all_acted, is_name, may_take}
+use Rattle.maildir_run.proofs.Common.{AgreeOnConverters, KeepsConverters, Call, Listing, Writing, Placing, Move, Other, Again, Torn, placed}
+use Rattle.maildir_run.proofs.Common.{effect, after, IsOthers, IsWhole, IsReady, folder_of, AnyMoves, Lists, Called, linked, with_file}
+use Rattle.maildir_run.proofs.Common.{without_file, performed, all_performed, acts_at, may_link, IsCutShort, IsPart, Answers, halved, fails, done}
 use Rattle.std.proofs.lemmas.Map.Text.{is_eq-slice_cmp}
 use Rattle.maildir_name.specs.declared.target.Place.{Place}
 use Rattle.maildir_run.specs.declared.script.Act.{Act}
@@ -33,7 +40,8 @@ without_leaves Cur k s off = record { tmp_alike = agrees s.tmp; new_alike = agre
 
 -- a file is changed where its name is not a converter's
 guarded_action : (ours : Bool) (s t : Files) → (ours ≡ false → KeepsConverters s t) → (action : Action) × (cond ours s t ≡ acted action s)
-guarded_action true s t leaves = (Outside s, sym (outside_reaches s s (record { tmp_alike = agrees s.tmp; new_alike = agrees s.new; cur_alike = agrees s.cur })))
+guarded_action true s t leaves =
+    (Outside s, sym (outside_reaches s s (record { tmp_alike = agrees s.tmp; new_alike = agrees s.new; cur_alike = agrees s.cur })))
 guarded_action false s t leaves = (Outside t, sym (outside_reaches s t (leaves refl)))
 
 pub an_action : (a : Act) (s : Files) → (action : Action) × (performed a s ≡ acted action s)
@@ -60,10 +68,13 @@ free_of false same e = refl
 
 other_name : (m : FileMap) (name target bytes : List ℕ) → get m name ≡ Some bytes → contains_key m target ≡ false → is_name name target ≡ false
 other_name m name target bytes has free =
-    false_from_ne_true (is_name name target) (λ e. let there : contains_key m target ≡ true = ap (contains_key m) (sym (is_name-true name target e)) ∙ ap is_some has in cc)
+    false_from_ne_true (is_name name target)
+    (λ e. let there : contains_key m target ≡ true = ap (contains_key m) (sym (is_name-true name target e)) ∙ ap is_some has in cc)
 
-pub free_name : (m : FileMap) (name target : List ℕ) (answer : Bool) → get m target ≡ None → answer ≡ bytes_eq (base name) (base target) → answer ≡ may_take m name target
-free_name m name target answer none is = is ∙ sym (is_eq-slice_cmp (base name) (base target)) ∙ ap (λ o. not (is_some o) && is_name (base name) (base target)) (sym none)
+pub free_name : (m : FileMap) (name target : List ℕ) (answer : Bool) → get m target ≡ None
+    → answer ≡ bytes_eq (base name) (base target) → answer ≡ may_take m name target
+free_name m name target answer none is =
+    is ∙ sym (is_eq-slice_cmp (base name) (base target)) ∙ ap (λ o. not (is_some o) && is_name (base name) (base target)) (sym none)
 
 pub on_err : {A E : Type 0} (result : Result A E) {P : Type 0} → P → OnErr result P
 on_err (Ok x) p = tt
@@ -74,7 +85,8 @@ pub all_performed-append : (xs ys : List Act) (s : Files) → all_performed (xs 
 all_performed-append [] ys s = refl
 all_performed-append (x ∷ xs) ys s = all_performed-append xs ys (performed x s)
 
-pub one_more : (acts : List Act) (i : ℕ) (d : Act) (s now then : Files) → i < length acts → now ≡ all_performed (take i acts) s → then ≡ performed (get_or acts i d) now → then ≡ all_performed (take (i + 1) acts) s
+pub one_more : (acts : List Act) (i : ℕ) (d : Act) (s now then : Files) → i < length acts
+    → now ≡ all_performed (take i acts) s → then ≡ performed (get_or acts i d) now → then ≡ all_performed (take (i + 1) acts) s
 one_more acts i d s now then lt is next =
     next ∙ ap (performed (get_or acts i d)) is
     ∙ sym (ap (λ xs. all_performed xs s) (take_more acts i d lt) ∙ all_performed-append (take i acts) (get_or acts i d ∷ []) s)
@@ -90,16 +102,20 @@ cut_at acts i d s now lt is = record {
 
 pub acts_at-append : (call : ℕ) (xs ys : List ScriptLine) → acts_at call (xs ++ ys) ≡ acts_at call xs ++ acts_at call ys
 acts_at-append call [] ys = refl
-acts_at-append call (x ∷ xs) ys = ap (λ l. cond (x.call == call) x.acts.items [] ++ l) (acts_at-append call xs ys) ∙ sym (append_assoc _ (acts_at call xs) (acts_at call ys))
+acts_at-append call (x ∷ xs) ys =
+    ap (λ l. cond (x.call == call) x.acts.items [] ++ l) (acts_at-append call xs ys) ∙ sym (append_assoc _ (acts_at call xs) (acts_at call ys))
 
-pub lines_more : (call : ℕ) (lines : List ScriptLine) (i : ℕ) (d : ScriptLine) (acts : List Act) (s now then : Files) → i < length lines → cond ((get_or lines i d).call == call) (get_or lines i d).acts.items [] ≡ acts → now ≡ all_performed (acts_at call (take i lines)) s → then ≡ all_performed acts now → then ≡ all_performed (acts_at call (take (i + 1) lines)) s
+pub lines_more : (call : ℕ) (lines : List ScriptLine) (i : ℕ) (d : ScriptLine) (acts : List Act) (s now then : Files) → i < length lines
+    → cond ((get_or lines i d).call == call) (get_or lines i d).acts.items [] ≡ acts → now ≡ all_performed (acts_at call (take i lines)) s
+    → then ≡ all_performed acts now → then ≡ all_performed (acts_at call (take (i + 1) lines)) s
 lines_more call lines i d acts s now then lt here is next =
     next ∙ ap (all_performed acts) is
     ∙ sym (all_performed-append (acts_at call (take i lines)) acts s)
     ∙ ap (λ xs. all_performed (acts_at call (take i lines) ++ xs) s) (sym here ∙ sym (append-nil _))
     ∙ ap (λ xs. all_performed xs s) (sym (ap (acts_at call) (take_more lines i d lt) ∙ acts_at-append call (take i lines) (get_or lines i d ∷ [])))
 
-pub lines_cut : (call : ℕ) (lines : List ScriptLine) (i : ℕ) (d : ScriptLine) (s now then : Files) → i < length lines → (get_or lines i d).call == call ≡ true → now ≡ all_performed (acts_at call (take i lines)) s → IsCutShort (get_or lines i d).acts.items now then → IsCutShort (acts_at call lines) s then
+pub lines_cut : (call : ℕ) (lines : List ScriptLine) (i : ℕ) (d : ScriptLine) (s now then : Files) → i < length lines → (get_or lines i d).call == call ≡ true
+    → now ≡ all_performed (acts_at call (take i lines)) s → IsCutShort (get_or lines i d).acts.items now then → IsCutShort (acts_at call lines) s then
 lines_cut call lines i d s now then lt on is cut =
     let line = get_or lines i d in
     let rest = acts_at call (drop (suc i) lines) in
@@ -121,13 +137,15 @@ pub not_cut : (acts : List Act) (s t : Files) → acts ≡ [] → IsCutShort act
 not_cut acts s t none cut = no_parts cut.made cut.refused cut.rest (sym none ∙ cut.parts)
 
 -- ---- a file under another name
-reflagged : (s : Files) (name target bytes : List ℕ) (there : FileMap) → get s.cur name ≡ Some bytes → may_take s.cur name target ≡ true → there ≡ remove (insert s.cur target bytes) name → record s { cur = there } ≡ acted (Reflag name target) s
+reflagged : (s : Files) (name target bytes : List ℕ) (there : FileMap) → get s.cur name ≡ Some bytes → may_take s.cur name target ≡ true
+    → there ≡ remove (insert s.cur target bytes) name → record s { cur = there } ≡ acted (Reflag name target) s
 reflagged s name target bytes there has free is =
     let apart_names : is_name name target ≡ false = other_name s.cur name target bytes has (free_of (contains_key s.cur target) _ free) in
     rw (has, free, is, remove-insert s.cur name target bytes apart_names) refl
 
 -- one that was put under another name, and is then taken from the old one
-pub unlinked : (s mid : Files) (name target : List ℕ) (o : Option (List ℕ)) → get s.cur name ≡ o → may_link s name target o ≡ true → mid ≡ linked s name target o → record mid { cur = remove mid.cur name } ≡ acted (Reflag name target) s
+pub unlinked : (s mid : Files) (name target : List ℕ) (o : Option (List ℕ)) → get s.cur name ≡ o → may_link s name target o ≡ true
+    → mid ≡ linked s name target o → record mid { cur = remove mid.cur name } ≡ acted (Reflag name target) s
 unlinked s mid name target None has may is = cc
 unlinked s mid name target (Some bytes) has may is =
     ap (λ (t : Files). record t { cur = remove t.cur name }) is ∙ rw may (reflagged s name target bytes (remove (insert s.cur target bytes) name) has may refl)
@@ -146,12 +164,14 @@ others_whole [] = tt
 others_whole (a ∷ more) = others_whole more
 
 -- acts and then moves are moves
-acts_then : (acts : List Act) (old mid : Files) → mid ≡ all_performed acts old → (call : Call) (ms : List Move) → after mid call ms ≡ after old call (map Other (actions acts old).0 ++ ms)
+acts_then : (acts : List Act) (old mid : Files) → mid ≡ all_performed acts old → (call : Call) (ms : List Move)
+    → after mid call ms ≡ after old call (map Other (actions acts old).0 ++ ms)
 acts_then acts old mid is call ms =
     let done = actions acts old in
     ap (λ s. after s call ms) (is ∙ done.1 ∙ sym (after_others done.0 old call)) ∙ sym (after-append old call (map Other done.0) ms)
 
-pub called_then : {A : Type 0} (call : Call) (acts : List Act) (old mid new : Files) (result : Result A FolderFault) → mid ≡ all_performed acts old → Called call mid result new → Called call old result new
+pub called_then : {A : Type 0} (call : Call) (acts : List Act) (old mid new : Files) (result : Result A FolderFault)
+    → mid ≡ all_performed acts old → Called call mid result new → Called call old result new
 called_then call acts old mid new (Ok x) is done =
     let others = map Other (actions acts old).0 in
     record {
@@ -160,16 +180,20 @@ called_then call acts old mid new (Ok x) is done =
       others = others_before (actions acts old).0 done.before done.others;
       ready = subst (IsReady call) (acts_then acts old mid is call done.before) done.ready;
       whole = done.whole;
-      left = done.left ∙ acts_then acts old mid is call (done.before ++ Again ∷ done.rest) ∙ ap (after old call) (sym (append_assoc others done.before (Again ∷ done.rest)));
+      left =
+          done.left ∙ acts_then acts old mid is call (done.before ++ Again ∷ done.rest)
+          ∙ ap (after old call) (sym (append_assoc others done.before (Again ∷ done.rest)));
     }
-called_then call acts old mid new (Err f) is done = record { moves = map Other (actions acts old).0 ++ done.moves; left = done.left ∙ acts_then acts old mid is call done.moves }
+called_then call acts old mid new (Err f) is done =
+    record { moves = map Other (actions acts old).0 ++ done.moves; left = done.left ∙ acts_then acts old mid is call done.moves }
 
 pub cut_fails : (call : Call) (acts : List Act) (old new : Files) → IsCutShort acts old new → AnyMoves call old new
 cut_fails call acts old new cut =
     let done = actions cut.made old in
     record { moves = map Other done.0; left = cut.left ∙ done.1 ∙ sym (after_others done.0 old call) }
 
-pub listed_then : (sub : Sub) (acts : List Act) (old new : Files) (names : List (List ℕ)) → new ≡ all_performed acts old → names ≡ keys (folder_of sub new) → Lists sub old names new
+pub listed_then : (sub : Sub) (acts : List Act) (old new : Files) (names : List (List ℕ))
+    → new ≡ all_performed acts old → names ≡ keys (folder_of sub new) → Lists sub old names new
 listed_then sub acts old new names is names_are =
     let done = actions acts old in
     let others = map Other done.0 in
@@ -198,7 +222,8 @@ part_moves : (mode : Mode) (call : Call) (old new : Files) → IsPart mode call 
 part_moves mode call old new (inl same) = ([], same)
 part_moves mode call old new (inr once) = (Again ∷ [], once.1)
 
-pub answered : {A : Type 0} (mode : Mode) (call : Call) (old new : Files) (result : Result A FolderFault) → Answers mode call old result new → Called call old result new
+pub answered : {A : Type 0} (mode : Mode) (call : Call) (old new : Files) (result : Result A FolderFault)
+    → Answers mode call old result new → Called call old result new
 answered Plain call old new (Ok x) a = record { before = []; rest = []; others = tt; ready = a.1; whole = tt; left = a.2 }
 answered Twice call old new (Ok x) a = record { before = []; rest = Again ∷ []; others = tt; ready = a.1; whole = tt; left = a.2 }
 answered other call old new (Ok x) a = cc (a.0)
@@ -207,15 +232,19 @@ answered mode call old new (Err fault.Failed) a = let ms = mode_moves mode call 
 answered mode call old new (Err fault.OutOfMemory) a = let ms = part_moves mode call old new a.1 in record { moves = ms.0; left = ms.1 }
 
 -- ---- placements
-nothing_placed : (mode : Mode) (name : List ℕ) (p : Place) (target : List ℕ) (s : Files) → IsFalse (fails mode) → get s.tmp name ≡ None → done mode (Placing name p target) s ≡ s
+nothing_placed : (mode : Mode) (name : List ℕ) (p : Place) (target : List ℕ) (s : Files)
+    → IsFalse (fails mode) → get s.tmp name ≡ None → done mode (Placing name p target) s ≡ s
 nothing_placed Plain name p target s plain none = ap (placed s name p target) none
 nothing_placed Twice name p target s plain none = let once = ap (placed s name p target) none in ap (effect (Placing name p target)) once ∙ once
 nothing_placed other name p target s plain none = cc
 
-pub placed_in : {A : Type 0} (mode : Mode) (name : List ℕ) (p : Place) (target : List ℕ) (old new : Files) (result : Result A FolderFault) (there : Bool) → IsFalse (fails mode) → (IsTrue there → IsReady (Placing name p target) old) → (IsFalse there → get old.tmp name ≡ None) → (IsTrue there → IsOk result) → (IsFalse there → IsErrOf result fault.Absent) → new ≡ done mode (Placing name p target) old → Answers mode (Placing name p target) old result new
+pub placed_in : {A : Type 0} (mode : Mode) (name : List ℕ) (p : Place) (target : List ℕ) (old new : Files) (result : Result A FolderFault) (there : Bool)
+    → IsFalse (fails mode) → (IsTrue there → IsReady (Placing name p target) old) → (IsFalse there → get old.tmp name ≡ None) → (IsTrue there → IsOk result)
+    → (IsFalse there → IsErrOf result fault.Absent) → new ≡ done mode (Placing name p target) old → Answers mode (Placing name p target) old result new
 placed_in mode name p target old new (Ok x) true plain ready none ok absent is = (plain, ready refl, is)
 placed_in mode name p target old new (Ok x) false plain ready none ok absent is = cc (absent refl)
 placed_in mode name p target old new (Err f) true plain ready none ok absent is = cc (ok refl)
-placed_in mode name p target old new (Err fault.Absent) false plain ready none ok absent is = (plain, (λ r. let gone = ap is_some (none refl) in cc), is ∙ nothing_placed mode name p target old plain (none refl))
+placed_in mode name p target old new (Err fault.Absent) false plain ready none ok absent is =
+    (plain, (λ r. let gone = ap is_some (none refl) in cc), is ∙ nothing_placed mode name p target old plain (none refl))
 placed_in mode name p target old new (Err fault.Failed) false plain ready none ok absent is = cc (absent refl)
 placed_in mode name p target old new (Err fault.OutOfMemory) false plain ready none ok absent is = cc (absent refl)

@@ -1,6 +1,10 @@
 -- Trees of files, seen as finite maps: what each change leaves.
-use Rattle.std.proofs.Common.{append_assoc, ◌≡◌, ◌&&◌, vec_len, ℕ, Bool, true, false, cond, List, [], ◌∷◌, ◌++◌, map, length, Option, Some, None, refl, sym, ap, ◌∙◌, Bor, String, Vec, Global, string_bytes, option_map, MatchOption, IfSome, is_eq, nat_cmp, string_cmp, string_eq, bytes_eq, append-nil}
-use Rattle.maildir_run.proofs.Common.{AllZip, each_same, slice_cmp, nat_list_eq_equiv, bytes_decides, get, insert, remove, find, put, empty, entries, keys, len, from_entries, entries-insert, len-empty, len-entries, get-from_entries, get-insert, get-remove, same_map, Less, nil_from_length, length-map, map-append, and_parts, eq_by_cmp_equiv, name_cmp, is_name, FileMap}
+use Rattle.std.proofs.Common.{append_assoc, ◌≡◌, ◌&&◌, vec_len, ℕ, Bool, true, false, cond, List, [], ◌∷◌, ◌++◌, map}
+use Rattle.std.proofs.Common.{length, Option, Some, None, refl, sym, ap, ◌∙◌, Bor, String, Vec, Global, string_bytes}
+use Rattle.std.proofs.Common.{option_map, MatchOption, IfSome, is_eq, nat_cmp, string_cmp, string_eq, bytes_eq, append-nil}
+use Rattle.maildir_run.proofs.Common.{AllZip, each_same, slice_cmp, nat_list_eq_equiv, bytes_decides, get, insert, remove, find, put, empty, entries}
+use Rattle.maildir_run.proofs.Common.{keys, len, from_entries, entries-insert, len-empty, len-entries, get-from_entries, get-insert, get-remove}
+use Rattle.maildir_run.proofs.Common.{same_map, Less, nil_from_length, length-map, map-append, and_parts, eq_by_cmp_equiv, name_cmp, is_name, FileMap}
 use lib.Pointwise.{pointwise}
 use Rattle.std.specs.Iterator.{Yields}
 use Rattle.std.specs.Map.{lookup, keys_of}
@@ -23,10 +27,12 @@ abbrev at_text : List ℕ → String Global → Bool
 at_text q k = is_eq (slice_cmp nat_cmp q (string_bytes k))
 
 -- ---- what a tree has under a name
-found : (q : List ℕ) (es : List (String Global × Vec ℕ Global)) → find name_cmp q (map (λ e. (string_bytes e.0, e.1.items)) es) ≡ bytes_in (lookup (at_text q) es)
+found : (q : List ℕ) (es : List (String Global × Vec ℕ Global))
+    → find name_cmp q (map (λ e. (string_bytes e.0, e.1.items)) es) ≡ bytes_in (lookup (at_text q) es)
 found q [] = refl
 found q (e ∷ es) =
-    elim (is_name q (string_bytes e.0)) as (λ t. cond t (Some e.1.items) (find name_cmp q (map (λ x. (string_bytes x.0, x.1.items)) es)) ≡ bytes_in (cond t (Some e.1) (lookup (at_text q) es))) [
+    elim (is_name q (string_bytes e.0))
+    as (λ t. cond t (Some e.1.items) (find name_cmp q (map (λ x. (string_bytes x.0, x.1.items)) es)) ≡ bytes_in (cond t (Some e.1) (lookup (at_text q) es))) [
       | true ↦ refl
       | false ↦ found q es
     ]
@@ -39,7 +45,8 @@ inside : (t : Bool) (w o : Option (Vec ℕ Global)) → bytes_in (cond t w o) �
 inside true w o = refl
 inside false w o = refl
 
-updated : (m n : Tree) (k : List ℕ) (w : Option (Vec ℕ Global)) → UpdatesBy string_cmp (λ x. slice_cmp nat_cmp k (string_bytes x)) m n w → (q : List ℕ) → get (map_of n) q ≡ cond (is_name q k) (bytes_in w) (get (map_of m) q)
+updated : (m n : Tree) (k : List ℕ) (w : Option (Vec ℕ Global)) → UpdatesBy string_cmp (λ x. slice_cmp nat_cmp k (string_bytes x)) m n w
+    → (q : List ℕ) → get (map_of n) q ≡ cond (is_name q k) (bytes_in w) (get (map_of m) q)
 updated m n k w updates q =
     get-map_of n q
     ∙ ap bytes_in (btree_map_updates_text k m n w updates q)
@@ -47,7 +54,8 @@ updated m n k w updates q =
     ∙ ap (λ t. cond t (bytes_in w) (bytes_in (get_by_text m q))) (sym (is_eq-slice_cmp k q) ∙ (eq_by_cmp_equiv total).symm k q)
     ∙ ap (cond (is_name q k) (bytes_in w)) (sym (get-map_of m q))
 
-pub map_of-insert : (m n : Tree) (k : List ℕ) (v : Vec ℕ Global) → UpdatesBy string_cmp (λ x. slice_cmp nat_cmp k (string_bytes x)) m n (Some v) → map_of n ≡ insert (map_of m) k v.items
+pub map_of-insert : (m n : Tree) (k : List ℕ) (v : Vec ℕ Global)
+    → UpdatesBy string_cmp (λ x. slice_cmp nat_cmp k (string_bytes x)) m n (Some v) → map_of n ≡ insert (map_of m) k v.items
 map_of-insert m n k v updates = same_map total same _ _ (λ q. updated m n k (Some v) updates q ∙ sym (get-insert total (map_of m) k v.items q))
 
 pub map_of-remove : (m n : Tree) (k : List ℕ) → UpdatesBy string_cmp (λ x. slice_cmp nat_cmp k (string_bytes x)) m n None → map_of n ≡ remove (map_of m) k
@@ -57,7 +65,8 @@ map_of-remove m n k updates = same_map total same _ _ (λ q. updated m n k None 
 abbrev pairs : List (String Global × Vec ℕ Global) → List (List ℕ × List ℕ)
 pairs es = map (λ e. (string_bytes e.0, e.1.items)) es
 
-put_first : (e : String Global × Vec ℕ Global) (es : List (String Global × Vec ℕ Global)) → IsStrictlySortedBy string_cmp (keys_of (e ∷ es)) → put name_cmp (string_bytes e.0) e.1.items (pairs es) ≡ pairs (e ∷ es)
+put_first : (e : String Global × Vec ℕ Global) (es : List (String Global × Vec ℕ Global))
+    → IsStrictlySortedBy string_cmp (keys_of (e ∷ es)) → put name_cmp (string_bytes e.0) e.1.items (pairs es) ≡ pairs (e ∷ es)
 put_first e [] ordered = refl
 put_first e (x ∷ es) ordered =
     let before : name_cmp (string_bytes e.0) (string_bytes x.0) ≡ Less = (sorted_head string_cmp e.0 (keys_of (x ∷ es)) ordered).0 in
@@ -66,7 +75,8 @@ put_first e (x ∷ es) ordered =
 no_entries : (m : FileMap) → len m ≡ 0 → entries m ≡ []
 no_entries m e = nil_from_length (entries m) (sym (len-entries m) ∙ e)
 
-ordered_entries : (es : List (String Global × Vec ℕ Global)) → IsStrictlySortedBy string_cmp (keys_of es) → entries (from_entries {R = name_cmp} (pairs es)) ≡ pairs es
+ordered_entries : (es : List (String Global × Vec ℕ Global)) → IsStrictlySortedBy string_cmp (keys_of es)
+    → entries (from_entries {R = name_cmp} (pairs es)) ≡ pairs es
 ordered_entries [] ordered = no_entries empty (len-empty name_cmp (List ℕ))
 ordered_entries (e ∷ es) ordered =
     entries-insert total (from_entries (pairs es)) (string_bytes e.0) e.1.items
@@ -84,7 +94,9 @@ pub len-map_of : (m : Tree) → IsOrdered string_cmp m → len (map_of m) ≡ le
 len-map_of m ordered = len-entries (map_of m) ∙ ap length (ordered_entries m.entries ordered) ∙ length-map m.entries (λ e. (string_bytes e.0, e.1.items))
 
 -- ---- the loop over the names
-pub one_listed : (listed rest after : List (String Global)) (name copy : String Global) (all : List (List ℕ)) → map string_bytes listed ++ map string_bytes rest ≡ all → rest ≡ name ∷ after → string_bytes copy ≡ string_bytes name → map string_bytes (listed ++ copy ∷ []) ++ map string_bytes after ≡ all
+pub one_listed : (listed rest after : List (String Global)) (name copy : String Global) (all : List (List ℕ))
+    → map string_bytes listed ++ map string_bytes rest ≡ all → rest ≡ name ∷ after
+    → string_bytes copy ≡ string_bytes name → map string_bytes (listed ++ copy ∷ []) ++ map string_bytes after ≡ all
 one_listed listed rest after name copy all so_far left same_bytes =
     ap (λ xs. xs ++ map string_bytes after) (map-append string_bytes listed (copy ∷ []))
     ∙ append_assoc (map string_bytes listed) (string_bytes copy ∷ []) (map string_bytes after)
@@ -92,11 +104,15 @@ one_listed listed rest after name copy all so_far left same_bytes =
     ∙ ap (λ xs. map string_bytes listed ++ map string_bytes xs) (sym left)
     ∙ so_far
 
-pub all_listed : (listed rest : List (String Global)) (all : List (List ℕ)) → map string_bytes listed ++ map string_bytes rest ≡ all → rest ≡ [] → map string_bytes listed ≡ all
-all_listed listed rest all so_far left = sym (append-nil (map string_bytes listed)) ∙ ap (λ xs. map string_bytes listed ++ map string_bytes xs) (sym left) ∙ so_far
+pub all_listed : (listed rest : List (String Global)) (all : List (List ℕ))
+    → map string_bytes listed ++ map string_bytes rest ≡ all → rest ≡ [] → map string_bytes listed ≡ all
+all_listed listed rest all so_far left =
+    sym (append-nil (map string_bytes listed)) ∙ ap (λ xs. map string_bytes listed ++ map string_bytes xs) (sym left) ∙ so_far
 
 -- ---- a copy of a tree
-pub copied_pairs : (es fs : List (String Global × Vec ℕ Global)) → AllZip (λ p q. (string_bytes q.0 ≡ string_bytes p.0) × (AllZip (λ x y. y ≡ x) p.1.items q.1.items × (vec_len q.1 ≡ vec_len p.1))) es fs → pairs fs ≡ pairs es
+pub copied_pairs : (es fs : List (String Global × Vec ℕ Global))
+    → AllZip (λ p q. (string_bytes q.0 ≡ string_bytes p.0) × (AllZip (λ x y. y ≡ x) p.1.items q.1.items × (vec_len q.1 ≡ vec_len p.1))) es fs
+    → pairs fs ≡ pairs es
 copied_pairs [] [] h = refl
 copied_pairs [] (f ∷ fs) h = absurd h
 copied_pairs (e ∷ es) [] h = absurd h
@@ -155,7 +171,8 @@ TellsSame r s t = (r ≡ true → map string_bytes s ≡ map string_bytes t) × 
 last_names : (s t u v : List (String Global)) (o p : Option (Bor (String Global))) (r : Bool) → Step s o u → Step t p v → Last o p r → TellsSame r s t
 last_names s t u v None None r first then last = (λ _. ap (map string_bytes) (first.0 ∙ sym then.0), λ _. last)
 last_names s t u v None (Some y) r first then last = (λ on. cc, λ names. let a = ap (map string_bytes) first.0 in let b = ap (map string_bytes) then in cc)
-last_names s t u v (Some x) None r first then last = (λ on. let off = last.0 in cc, λ names. let a = ap (map string_bytes) first in let b = ap (map string_bytes) then.0 in cc)
+last_names s t u v (Some x) None r first then last =
+    (λ on. let off = last.0 in cc, λ names. let a = ap (map string_bytes) first in let b = ap (map string_bytes) then.0 in cc)
 last_names s t u v (Some x) (Some y) r first then last = (
   λ on. let off = last.0 in cc,
   λ names.
@@ -167,7 +184,9 @@ last_names s t u v (Some x) (Some y) r first then last = (
       cc,
 )
 
-pub names_compared : (s t s' t' u v : List (String Global)) (xs ys : List (Bor (String Global))) (o p : Option (Bor (String Global))) (r : Bool) → Yields Step s xs s' → Step s' o u → Yields Step t ys t' → Step t' p v → AllZip (λ (x y : Bor (String Global)). string_eq x.now y.now ≡ true) xs ys → Last o p r → TellsSame r s t
+pub names_compared : (s t s' t' u v : List (String Global)) (xs ys : List (Bor (String Global))) (o p : Option (Bor (String Global))) (r : Bool)
+    → Yields Step s xs s' → Step s' o u → Yields Step t ys t' → Step t' p v
+    → AllZip (λ (x y : Bor (String Global)). string_eq x.now y.now ≡ true) xs ys → Last o p r → TellsSame r s t
 names_compared s t s' t' u v [] [] o p r from_s ends_s from_t ends_t same last =
     last_names s t u v o p r (rw from_s ends_s) (rw from_t ends_t) last
 names_compared s t s' t' u v [] (y ∷ ys) o p r from_s ends_s from_t ends_t same last = absurd same

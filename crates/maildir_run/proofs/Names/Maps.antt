@@ -1,6 +1,10 @@
 -- Folders by what they hold under a test of their names.
-use Rattle.std.proofs.Common.{◌≡◌, ℕ, Bool, true, false, cond, List, [], ◌∷◌, map, Option, Some, None, IsPermutation, refl, sym, ap, subst, ◌∙◌, arith, is_some, is_eq, Ordering}
-use Rattle.maildir_run.proofs.Common.{get, insert, remove, entries, values, retain_keys, find, put, entries-insert, get-entries, get-insert, get-remove, get-retain_keys, same_map, IsAntisymmetric, slice_cmp-IsAntisymmetric, nat_cmp-IsAntisymmetric, nat_list_cmp_total, eq_by_cmp_equiv, Less, Equal, Greater, IsPermutation-refl, IsPermutation-sym, IsPermutation-trans, IsPermutation-cons, IsPermutation-middle, name_cmp, is_name, FileMap}
+use Rattle.std.proofs.Common.{◌≡◌, ℕ, Bool, true, false, cond, List, [], ◌∷◌, map, Option, Some, None}
+use Rattle.std.proofs.Common.{IsPermutation, refl, sym, ap, subst, ◌∙◌, arith, is_some, is_eq, Ordering}
+use Rattle.maildir_run.proofs.Common.{get, insert, remove, entries, values, retain_keys, find, put, entries-insert, get-entries, get-insert}
+use Rattle.maildir_run.proofs.Common.{get-remove, get-retain_keys, same_map, IsAntisymmetric, slice_cmp-IsAntisymmetric, nat_cmp-IsAntisymmetric}
+use Rattle.maildir_run.proofs.Common.{nat_list_cmp_total, eq_by_cmp_equiv, Less, Equal, Greater, IsPermutation-refl, IsPermutation-sym}
+use Rattle.maildir_run.proofs.Common.{IsPermutation-trans, IsPermutation-cons, IsPermutation-middle, name_cmp, is_name, FileMap}
 use Rattle.std.specs.FinMap.Entries.{by_order}
 use Rattle.std.specs.Cmp.{IsTotalOrder}
 
@@ -67,7 +71,8 @@ put_back m k v has = same_map total same _ _ (λ q. grind (arith, get_removed, g
 pub put_away : (m : FileMap) (k v : List ℕ) → get m k ≡ None → remove (insert m k v) k ≡ m
 put_away m k v none = same_map total same _ _ (λ q. grind (arith, get_removed, get_inserted, is_name-true))
 
-pub remove-insert : (m : FileMap) (name target bytes : List ℕ) → is_name name target ≡ false → remove (insert m target bytes) name ≡ insert (remove m name) target bytes
+pub remove-insert : (m : FileMap) (name target bytes : List ℕ) → is_name name target ≡ false
+    → remove (insert m target bytes) name ≡ insert (remove m name) target bytes
 remove-insert m name target bytes differ = same_map total same _ _ (λ q. grind (arith, get_removed, get_inserted, alike (λ n. is_name n target) q name))
 
 -- ---- what a folder holds, as one more file comes or goes
@@ -77,10 +82,12 @@ the_values es = map (λ e. e.1) es
 put_new : (k v : List ℕ) (es : List (List ℕ × List ℕ)) → find name_cmp k es ≡ None → IsPermutation (v ∷ the_values es) (the_values (put name_cmp k v es))
 put_new k v [] none = IsPermutation-refl _
 put_new k v (e ∷ es) none =
-    elim (name_cmp k e.0) as (λ r. cond (is_eq r) (Some e.1) (find name_cmp k es) ≡ None → IsPermutation (v ∷ e.1 ∷ the_values es) (the_values (by_order r ((k, v) ∷ e ∷ es) ((e.0, v) ∷ es) (e ∷ put name_cmp k v es)))) [
+    elim (name_cmp k e.0) as (λ r. cond (is_eq r) (Some e.1) (find name_cmp k es) ≡ None
+    → IsPermutation (v ∷ e.1 ∷ the_values es) (the_values (by_order r ((k, v) ∷ e ∷ es) ((e.0, v) ∷ es) (e ∷ put name_cmp k v es)))) [
       | Less ↦ λ none. IsPermutation-refl _
       | Equal ↦ λ none. cc
-      | Greater ↦ λ none. IsPermutation-trans _ _ _ (IsPermutation-sym _ _ (IsPermutation-middle (e.1 ∷ []) v (the_values es))) (IsPermutation-cons e.1 _ _ (put_new k v es none))
+      | Greater ↦ λ none. IsPermutation-trans _ _ _ (IsPermutation-sym _ _ (IsPermutation-middle (e.1 ∷ []) v (the_values es)))
+          (IsPermutation-cons e.1 _ _ (put_new k v es none))
     ] none
 
 pub values-insert : (m : FileMap) (k v : List ℕ) → get m k ≡ None → IsPermutation (v ∷ values m) (values (insert m k v))

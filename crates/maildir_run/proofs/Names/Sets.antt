@@ -1,6 +1,8 @@
 -- Sets of bases: what each change leaves in them.
-use Rattle.std.proofs.Common.{◌≡◌, ℕ, Bool, true, false, cond, ◌||◌, List, [], ◌∷◌, ◌++◌, map, Option, Some, None, refl, sym, ap, ◌∙◌, Bor, take, get_or, length, ◌<◌, ◌+◌, String, Global, string_bytes, is_some, nat_cmp}
-use Rattle.maildir_run.proofs.Common.{list_any, slice_cmp, insert, empty, contains_key, find, get-from_entries, get-insert, get-empty, same_map, or-false, map-append, take_more, eq_by_cmp_equiv, base, name_cmp, is_name, has_base, is_listed, BaseSet, set_of, with_bases}
+use Rattle.std.proofs.Common.{◌≡◌, ℕ, Bool, true, false, cond, ◌||◌, List, [], ◌∷◌, ◌++◌, map, Option, Some, None, refl, sym}
+use Rattle.std.proofs.Common.{ap, ◌∙◌, Bor, take, get_or, length, ◌<◌, ◌+◌, String, Global, string_bytes, is_some, nat_cmp}
+use Rattle.maildir_run.proofs.Common.{list_any, slice_cmp, insert, empty, contains_key, find, get-from_entries, get-insert, get-empty, same_map, or-false}
+use Rattle.maildir_run.proofs.Common.{map-append, take_more, eq_by_cmp_equiv, base, name_cmp, is_name, has_base, is_listed, BaseSet, set_of, with_bases}
 use Rattle.std.specs.BTreeSet.{BTreeSet, UpdatesBy}
 use Rattle.maildir_run.proofs.Names.Maps.{total, same}
 
@@ -8,7 +10,8 @@ use Rattle.maildir_run.proofs.Names.Maps.{total, same}
 found : (b : List ℕ) (ks : List (Bor (List ℕ))) → is_some (find name_cmp b (map (λ k. (k.now, tt {0})) ks)) ≡ list_any (λ k. is_name b k.now) ks
 found b [] = refl
 found b (k ∷ ks) =
-    elim (is_name b k.now) as (λ t. is_some (cond t (Some (tt {0})) (find name_cmp b (map (λ x. (x.now, tt {0})) ks))) ≡ (t || list_any (λ x. is_name b x.now) ks)) [
+    elim (is_name b k.now)
+    as (λ t. is_some (cond t (Some (tt {0})) (find name_cmp b (map (λ x. (x.now, tt {0})) ks))) ≡ (t || list_any (λ x. is_name b x.now) ks)) [
       | true ↦ refl
       | false ↦ found b ks
     ]
@@ -34,7 +37,8 @@ some_or false o = refl
 abbrev text_of : List ℕ → Bor (List ℕ)
 text_of b = record { ref_ptr = (0, 0); now = b }
 
-pub set_of-insert : (old new : BTreeSet (Bor (List ℕ))) (k : List ℕ) → UpdatesBy (λ x y. slice_cmp nat_cmp x.now y.now) (λ x. slice_cmp nat_cmp k x.now) old new true → set_of new.keys ≡ insert (set_of old.keys) k (tt {0})
+pub set_of-insert : (old new : BTreeSet (Bor (List ℕ))) (k : List ℕ)
+    → UpdatesBy (λ x y. slice_cmp nat_cmp x.now y.now) (λ x. slice_cmp nat_cmp k x.now) old new true → set_of new.keys ≡ insert (set_of old.keys) k (tt {0})
 set_of-insert old new k updates =
     same_map total same _ _ (λ q. unit_options _ _
     (contains_key-set_of q new.keys
@@ -53,7 +57,8 @@ turned true true rest = refl
 turned true false rest = refl
 turned false s rest = refl
 
-pub contains_key-with_bases : (s : BaseSet) (names : List (List ℕ)) (b : List ℕ) → contains_key (with_bases s names) b ≡ (contains_key s b || list_any (has_base b) names)
+pub contains_key-with_bases : (s : BaseSet) (names : List (List ℕ)) (b : List ℕ)
+    → contains_key (with_bases s names) b ≡ (contains_key s b || list_any (has_base b) names)
 contains_key-with_bases s [] b = sym (or-false (contains_key s b))
 contains_key-with_bases s (name ∷ names) b =
     contains_key-with_bases (insert s (base name) (tt {0})) names b
@@ -65,12 +70,15 @@ contains_key-listed new cur b =
     contains_key-with_bases (with_bases empty new) cur b
     ∙ ap (λ t. t || list_any (has_base b) cur) (contains_key-with_bases empty new b ∙ ap (λ o. is_some o || list_any (has_base b) new) (get-empty name_cmp b))
 
-pub with_bases-push : (s : BaseSet) (names : List (List ℕ)) (name : List ℕ) → with_bases s (names ++ name ∷ []) ≡ insert (with_bases s names) (base name) (tt {0})
+pub with_bases-push : (s : BaseSet) (names : List (List ℕ)) (name : List ℕ)
+    → with_bases s (names ++ name ∷ []) ≡ insert (with_bases s names) (base name) (tt {0})
 with_bases-push s [] name = refl
 with_bases-push s (x ∷ names) name = with_bases-push (insert s (base x) (tt {0})) names name
 
 -- one more name of a list
-pub with_bases-more : (names : List (String Global)) (i : ℕ) (d : String Global) (old s now : BaseSet) → i < length names → s ≡ with_bases old (map string_bytes (take i names)) → now ≡ insert s (base (string_bytes (get_or names i d))) (tt {0}) → now ≡ with_bases old (map string_bytes (take (i + 1) names))
+pub with_bases-more : (names : List (String Global)) (i : ℕ) (d : String Global) (old s now : BaseSet)
+    → i < length names → s ≡ with_bases old (map string_bytes (take i names))
+    → now ≡ insert s (base (string_bytes (get_or names i d))) (tt {0}) → now ≡ with_bases old (map string_bytes (take (i + 1) names))
 with_bases-more names i d old s now h is added =
     added
     ∙ ap (λ x. insert x (base (string_bytes (get_or names i d))) (tt {0})) is

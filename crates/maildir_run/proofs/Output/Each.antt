@@ -1,5 +1,6 @@
 -- Messages that are written one after the other.
-use Rattle.std.proofs.Common.{◌≡◌, ℕ, ◌+◌, ◌<◌, true, Option, Result, Ok, Err, is_err, List, ◌∷◌, ◌++◌, length, get_or, take, drop, sym, ◌∙◌, ap, flat_map, take-append-drop}
+use Rattle.std.proofs.Common.{◌≡◌, ℕ, ◌+◌, ◌<◌, true, Option, Result, Ok, Err, is_err, List, ◌∷◌, ◌++◌}
+use Rattle.std.proofs.Common.{length, get_or, take, drop, sym, ◌∙◌, ap, flat_map, take-append-drop}
 use Rattle.maildir_run.proofs.Common.{Appends, false≢true, drop_more, flat_map-append, Entry, spelling, AppendsFront, Writes, front_then}
 
 -- the first messages, one more and the others
@@ -14,7 +15,9 @@ refused : {T E : Type 0} (r : Result T E) (a b : Option (List ℕ)) (bytes : Lis
 refused (Ok x) a b bytes e w = absurd (false≢true (sym e))
 refused (Err x) a b bytes e w = w
 
-pub each_front : {T E : Type 0} (entries : List Entry) (i : ℕ) (e : Entry) (r : Result T E) (a b c : Option (List ℕ)) → i < length entries → e ≡ get_or entries i e → Appends a b (flat_map spelling (take i entries))
+pub each_front : {T E : Type 0} (entries : List Entry) (i : ℕ) (e : Entry) (r : Result T E) (a b c : Option (List ℕ))
+    → i < length entries → e ≡ get_or entries i e → Appends a b (flat_map spelling (take i entries))
     → true ≡ is_err r → Writes b c r (spelling e) → AppendsFront a c (flat_map spelling entries)
 each_front entries i e r a b c l is h err w =
-    front_then a b c (flat_map spelling (take i entries)) (spelling e) (flat_map spelling (drop (i + 1) entries)) (flat_map spelling entries) h (refused r b c (spelling e) err w) (parted entries i e l is)
+    front_then a b c (flat_map spelling (take i entries)) (spelling e) (flat_map spelling (drop (i + 1) entries))
+    (flat_map spelling entries) h (refused r b c (spelling e) err w) (parted entries i e l is)

@@ -1,6 +1,8 @@
 -- A source that is read piece by piece while what belongs to its messages is written.
-use Rattle.std.proofs.Common.{◌≡◌, ℕ, ◌+◌, ◌^◌, ◌<◌, ◌≤◌, Bool, true, false, Option, Some, None, Ok, List, [], ◌++◌, length, refl, sym, ◌∙◌, ap, arith, flat_map, append-nil, length-append}
-use Rattle.maildir_run.proofs.Common.{flat_map-append, spelling, FromLines, Appends, Consumes-nil, Appends-trans, Appends-nil, Entry, Splitter, Fed, AppendsFront, front_more, front_then, RunFault, NoFromLine, Reader, IsFrontOf, Gave, GaveAll, SourceStopped, Breaks, Went}
+use Rattle.std.proofs.Common.{◌≡◌, ℕ, ◌+◌, ◌^◌, ◌<◌, ◌≤◌, Bool, true, false, Option, Some, None, Ok, List, []}
+use Rattle.std.proofs.Common.{◌++◌, length, refl, sym, ◌∙◌, ap, arith, flat_map, append-nil, length-append}
+use Rattle.maildir_run.proofs.Common.{flat_map-append, spelling, FromLines, Appends, Consumes-nil, Appends-trans, Appends-nil, Entry, Splitter, Fed}
+use Rattle.maildir_run.proofs.Common.{AppendsFront, front_more, front_then, RunFault, NoFromLine, Reader, IsFrontOf, Gave, GaveAll, SourceStopped, Breaks, Went}
 use Rattle.std.specs.Io.KnownBytes.{Keeps}
 use Rattle.maildir_run.proofs.Source.Givens.{given-from_lines, read_is, gave_more, gave_refused, given_front, broken_front}
 use Rattle.maildir_run.specs.Output.{GivesAll, GivesFront, GivesNothing}
@@ -10,7 +12,8 @@ pub record IsOutput (output : List Entry → List ℕ) : Type 0 where
   pub none : output [] ≡ []
   pub front : (a b : List Entry) → (rest : List ℕ) × (output (a ++ b) ≡ output a ++ rest)
 
-gives_front : {output : List Entry → List ℕ} {before now : Option (List ℕ)} (was is : Option (List ℕ)) {reads : ℕ} {given : List Entry} → IsOutput output → IsFrontOf before now reads given → AppendsFront was is (output given) → GivesFront output before now was is
+gives_front : {output : List Entry → List ℕ} {before now : Option (List ℕ)} (was is : Option (List ℕ)) {reads : ℕ} {given : List Entry}
+    → IsOutput output → IsFrontOf before now reads given → AppendsFront was is (output given) → GivesFront output before now was is
 gives_front {output} {before} {now} was is {given = given} o f h t entries p m =
     let e : t ≡ f.text ++ p.more = rw (← read_is before now f.text t f.read p) p.front in
     let r = f.tells p.more p.left entries p.has p.whole (rw e at m) in
@@ -23,7 +26,8 @@ appends_nothing (Some x) None h = h
 appends_nothing (Some x) (Some y) h = h ∙ append-nil x
 
 -- all that was given is written, and nothing is whole that was not
-pub record Poured (output : List Entry → List ℕ) (given : List Entry) (before now was is : Option (List ℕ)) (splitter : Splitter) (left : ℕ) (whole : List Entry) (reads count : ℕ) : Type 0 where
+pub record Poured (output : List Entry → List ℕ) (given : List Entry) (before now was is : Option (List ℕ))
+    (splitter : Splitter) (left : ℕ) (whole : List Entry) (reads count : ℕ) : Type 0 where
   pub gave : Gave before now splitter left reads given
   pub written : Appends was is (output given)
   pub count_is : count ≡ length given
@@ -35,8 +39,10 @@ pub record Broken (output : List Entry → List ℕ) (before now was is : Option
   pub nothing : fault ≡ NoFromLine → GivesNothing before now was is
   pub refused : SourceStopped before now reads fault
 
-pub read_broken : {output : List Entry → List ℕ} {given : List Entry} {before mid : Option (List ℕ)} (now : Option (List ℕ)) {was is : Option (List ℕ)} (messages : Reader) {whole : List Entry} {reads count : ℕ} (fault : RunFault)
-    → IsOutput output → Poured output given before mid was is messages.splitter messages.reads_left whole reads count → Breaks messages mid now fault → Broken output before now was is reads fault
+pub read_broken : {output : List Entry → List ℕ} {given : List Entry} {before mid : Option (List ℕ)} (now : Option (List ℕ))
+    {was is : Option (List ℕ)} (messages : Reader) {whole : List Entry} {reads count : ℕ} (fault : RunFault)
+    → IsOutput output → Poured output given before mid was is messages.splitter messages.reads_left whole reads count
+    → Breaks messages mid now fault → Broken output before now was is reads fault
 read_broken {output} {given} now {was} {is} messages fault o p b =
     let refused = gave_refused now messages fault p.gave b in
     record {
@@ -54,8 +60,10 @@ pub record Batch (output : List Entry → List ℕ) (given : List Entry) (before
   pub count_is : count ≡ length given
   pub from_lines : FromLines whole
 
-pub batch : {output : List Entry → List ℕ} {given : List Entry} {before mid : Option (List ℕ)} (now : Option (List ℕ)) {was is : Option (List ℕ)} (messages : Reader) (splitter : Splitter) (left : ℕ) {old : List Entry} (whole : List Entry) {reads count : ℕ} (ended : Bool)
-    → Poured output given before mid was is messages.splitter messages.reads_left old reads count → Went messages mid now old whole splitter left (Ok ended) → Batch output given before now was is whole reads count
+pub batch : {output : List Entry → List ℕ} {given : List Entry} {before mid : Option (List ℕ)} (now : Option (List ℕ)) {was is : Option (List ℕ)}
+    (messages : Reader) (splitter : Splitter) (left : ℕ) {old : List Entry} (whole : List Entry) {reads count : ℕ} (ended : Bool)
+    → Poured output given before mid was is messages.splitter messages.reads_left old reads count
+    → Went messages mid now old whole splitter left (Ok ended) → Batch output given before now was is whole reads count
 batch {given = given} {before} now messages splitter left {old} whole {reads} ended p w =
     let more = gave_more ended now messages splitter left old whole p.empty p.gave w in
     record {
@@ -65,7 +73,8 @@ batch {given = given} {before} now messages splitter left {old} whole {reads} en
       from_lines = given-from_lines ended before now splitter left reads given whole more;
     }
 
-module _ {output : List Entry → List ℕ} {given : List Entry} {before now was is : Option (List ℕ)} {whole : List Entry} {reads count : ℕ} (b : Batch output given before now was is whole reads count) where
+module _ {output : List Entry → List ℕ} {given : List Entry} {before now was is : Option (List ℕ)}
+    {whole : List Entry} {reads count : ℕ} (b : Batch output given before now was is whole reads count) where
   -- the count is far from its type's end
   pub count_fits : reads ≤ 2 ^ 40 → count + length whole < 2 ^ 64
   count_fits most = omega (arith, length-append given whole, b.front.few, b.front.budget, b.count_is)
@@ -75,13 +84,15 @@ module _ {output : List Entry → List ℕ} {given : List Entry} {before now was
   names_fit most = omega (arith, b.front.few, b.front.budget)
 
   -- the writer failed in the batch
-  pub batch_broken : (is' : Option (List ℕ)) (bytes : List ℕ) → IsOutput output → output (given ++ whole) ≡ output given ++ bytes → AppendsFront is is' bytes → GivesFront output before now was is'
+  pub batch_broken : (is' : Option (List ℕ)) (bytes : List ℕ) → IsOutput output
+      → output (given ++ whole) ≡ output given ++ bytes → AppendsFront is is' bytes → GivesFront output before now was is'
   batch_broken is' bytes o e h =
       gives_front was is' o b.front
       (front_then was is is' (output given) bytes [] (output (given ++ whole)) b.written h (e ∙ ap (λ z. output given ++ z) (sym (append-nil bytes))))
 
 -- nothing is left of the source
-all_given : (output : List Entry → List ℕ) (before now was is : Option (List ℕ)) {reads : ℕ} (all : List Entry) {count : ℕ} → GaveAll before now reads all → count ≡ length all → Appends was is (output all) → GivesAll output before was is count
+all_given : (output : List Entry → List ℕ) (before now was is : Option (List ℕ)) {reads : ℕ} (all : List Entry) {count : ℕ}
+    → GaveAll before now reads all → count ≡ length all → Appends was is (output all) → GivesAll output before was is count
 all_given output None now was is all gave c h = tt
 all_given output (Some x) None was is all gave c h = absurd gave.read
 all_given output (Some x) (Some y) was is all gave c h =
@@ -89,8 +100,10 @@ all_given output (Some x) (Some y) was is all gave c h =
     (all, rw e gave.all, c, h)
 
 -- the batch is written
-module _ {output : List Entry → List ℕ} {given : List Entry} {before mid : Option (List ℕ)} (now : Option (List ℕ)) {was is : Option (List ℕ)} (is' : Option (List ℕ)) (messages : Reader) (splitter : Splitter) (left : ℕ) {old : List Entry} (whole : List Entry) {reads count : ℕ} (bytes : List ℕ)
-    (p : Poured output given before mid was is messages.splitter messages.reads_left old reads count) (e : output (given ++ whole) ≡ output given ++ bytes) (h : Appends is is' bytes) where
+module _ {output : List Entry → List ℕ} {given : List Entry} {before mid : Option (List ℕ)} (now : Option (List ℕ)) {was is : Option (List ℕ)}
+    (is' : Option (List ℕ)) (messages : Reader) (splitter : Splitter) (left : ℕ) {old : List Entry} (whole : List Entry) {reads count : ℕ} (bytes : List ℕ)
+    (p : Poured output given before mid was is messages.splitter messages.reads_left old reads count)
+    (e : output (given ++ whole) ≡ output given ++ bytes) (h : Appends is is' bytes) where
   written : Appends was is' (output (given ++ whole))
   written = rw e (Appends-trans was is is' (output given) bytes p.written h)
 
@@ -102,11 +115,14 @@ module _ {output : List Entry → List ℕ} {given : List Entry} {before mid : O
   poured_all w = all_given output before now was is' (given ++ whole) (gave_more true now messages splitter left old whole p.empty p.gave w) total written
 
   -- and more is to come
-  pub poured_more : (after : List Entry) → Went messages mid now old whole splitter left (Ok false) → after ≡ [] → Poured output (given ++ whole) before now was is' splitter left after reads (count + length whole)
-  poured_more after w none = record { gave = gave_more false now messages splitter left old whole p.empty p.gave w; written = written; count_is = total; empty = none }
+  pub poured_more : (after : List Entry) → Went messages mid now old whole splitter left (Ok false) → after ≡ []
+      → Poured output (given ++ whole) before now was is' splitter left after reads (count + length whole)
+  poured_more after w none =
+      record { gave = gave_more false now messages splitter left old whole p.empty p.gave w; written = written; count_is = total; empty = none }
 
 -- nothing was read
-pub poured_none : (output : List Entry → List ℕ) (before was : Option (List ℕ)) (splitter : Splitter) (reads left : ℕ) (whole : List Entry) → IsOutput output → Fed [] [] splitter → left ≡ reads → whole ≡ []
+pub poured_none : (output : List Entry → List ℕ) (before was : Option (List ℕ)) (splitter : Splitter) (reads left : ℕ) (whole : List Entry)
+    → IsOutput output → Fed [] [] splitter → left ≡ reads → whole ≡ []
     → Poured output [] before before was was splitter left whole reads 0
 poured_none output before was splitter reads left whole o f l none = record {
   gave = record { text = []; read = Consumes-nil before; budget = omega (arith, l); spent = omega (arith, l); fed = f };

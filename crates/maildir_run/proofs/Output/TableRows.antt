@@ -1,6 +1,9 @@
 -- The table of messages that are listed one after the other.
-use Rattle.std.proofs.Common.{◌≡◌, ℕ, ◌+◌, ◌^◌, ◌<◌, ◌≤◌, false, eqb, Option, Result, Ok, Err, List, [], ◌∷◌, ◌++◌, length, map, take, drop, get_or, refl, sym, ◌∙◌, ap, arith, append_assoc, MatchResult, IsErr, append-nil, length-append, take-append-drop, take_all, length-take-le}
-use Rattle.maildir_run.proofs.Common.{Appends, Appends-trans, Appends-nil, false≢true, length-map, map-append, take_more, Entry, sender, AppendsFront, Writes, front_then, Target, Counts, Named, targets, length-targets, targets-prefix, HasListed, info, place_word, shown_byte, shown_sender}
+use Rattle.std.proofs.Common.{◌≡◌, ℕ, ◌+◌, ◌^◌, ◌<◌, ◌≤◌, false, eqb, Option, Result, Ok, Err, List, [], ◌∷◌, ◌++◌, length, map, take, drop, get_or, refl}
+use Rattle.std.proofs.Common.{sym, ◌∙◌, ap, arith, append_assoc, MatchResult, IsErr, append-nil, length-append, take-append-drop, take_all, length-take-le}
+use Rattle.maildir_run.proofs.Common.{Appends, Appends-trans, Appends-nil, false≢true, length-map, map-append, take_more}
+use Rattle.maildir_run.proofs.Common.{Entry, sender, AppendsFront, Writes, front_then, Target, Counts, Named, targets}
+use Rattle.maildir_run.proofs.Common.{length-targets, targets-prefix, HasListed, info, place_word, shown_byte, shown_sender}
 use Rattle.std.specs.Fmt.{decimal}
 use Rattle.maildir_run.specs.Table.{message_row, rows_from, table_of}
 use Rattle.maildir_run.proofs.Output.Poured.{IsOutput}
@@ -36,7 +39,8 @@ listing_output = record {
   none = refl;
   front = λ a b. (
     rows_from (1 + length a) b (drop (length (bodies a)) (targets (bodies (a ++ b)))),
-    ap (λ ts. rows_from 1 (a ++ b) ts) (targets-parts a b) ∙ rows-append 1 a b (targets (bodies a)) (drop (length (bodies a)) (targets (bodies (a ++ b)))) (many a),
+    ap (λ ts. rows_from 1 (a ++ b) ts) (targets-parts a b)
+        ∙ rows-append 1 a b (targets (bodies a)) (drop (length (bodies a)) (targets (bodies (a ++ b)))) (many a),
   );
 }
 
@@ -57,7 +61,8 @@ sender-some [] e = absurd (cc)
 sender-some (c ∷ sender) e = refl
 
 -- nothing went out
-pub lists_none : (given entries : List Entry) (was : Option (List ℕ)) → (lines : List ℕ) × (table_of (given ++ entries) ≡ table_of given ++ lines) × AppendsFront was was lines
+pub lists_none : (given entries : List Entry) (was : Option (List ℕ))
+    → (lines : List ℕ) × (table_of (given ++ entries) ≡ table_of given ++ lines) × AppendsFront was was lines
 lists_none given entries was = let f = listing_output.front given entries in (f.0, f.1, ([], f.0, refl, Appends-nil was))
 
 pub lists_err : {E : Type 0} (r : Result (Unit {0}) E) (given entries : List Entry) (was : Option (List ℕ)) (P : Type 0) → IsErr r
@@ -66,7 +71,8 @@ lists_err (Ok x) given entries was P e = absurd (false≢true e)
 lists_err (Err x) given entries was P e = let n = lists_none given entries was in (n.0, n.1, n.2, tt)
 
 -- one more message was listed
-pub listed_more : (given : List Entry) (namer namer' : Counts) (count count' : ℕ) (e : Entry) (body : List ℕ) → HasListed given namer count → body ≡ e.body → Named (bodies given ++ body ∷ []) namer' → count' ≡ length given + 1
+pub listed_more : (given : List Entry) (namer namer' : Counts) (count count' : ℕ) (e : Entry) (body : List ℕ)
+    → HasListed given namer count → body ≡ e.body → Named (bodies given ++ body ∷ []) namer' → count' ≡ length given + 1
     → HasListed (given ++ e ∷ []) namer' count'
 listed_more given namer namer' count count' e body h is named count_goes =
     let all : bodies (given ++ e ∷ []) ≡ bodies given ++ e.body ∷ [] = map-append (λ entry. entry.body) given (e ∷ []) in
@@ -82,7 +88,8 @@ pub record ListedTo (given entries : List Entry) (i : ℕ) (was is : Option (Lis
   pub out : Appends was is lines
   pub has_listed : HasListed (given ++ take i entries) namer count
 
-pub listed_to_none : (given entries : List Entry) (was : Option (List ℕ)) (namer : Counts) (count : ℕ) → HasListed given namer count → ListedTo given entries 0 was was namer count
+pub listed_to_none : (given entries : List Entry) (was : Option (List ℕ)) (namer : Counts) (count : ℕ)
+    → HasListed given namer count → ListedTo given entries 0 was was namer count
 listed_to_none given entries was namer count h =
     record { lines = []; are = ap table_of (append-nil given) ∙ sym (append-nil (table_of given)); out = Appends-nil was; has_listed = rw (append-nil given) h }
 
@@ -96,7 +103,9 @@ module _ (given entries : List Entry) (i : ℕ) (e : Entry) where
       ap (λ z. given ++ z) (sym (take-append-drop (i + 1) entries)) ∙ sym (append_assoc given (take (i + 1) entries) (drop (i + 1) entries))
       ∙ ap (λ z. z ++ drop (i + 1) entries) (sym (next l is))
 
-  pub listed_to_more : (was is is' : Option (List ℕ)) (namer namer' : Counts) (count count' : ℕ) (line : List ℕ) → i < length entries → e ≡ get_or entries i e → (t : ListedTo given entries i was is namer count) → table_of ((given ++ take i entries) ++ e ∷ []) ≡ table_of (given ++ take i entries) ++ line → Appends is is' line → HasListed ((given ++ take i entries) ++ e ∷ []) namer' count' → ListedTo given entries (i + 1) was is' namer' count'
+  pub listed_to_more : (was is is' : Option (List ℕ)) (namer namer' : Counts) (count count' : ℕ) (line : List ℕ) → i < length entries → e ≡ get_or entries i e
+      → (t : ListedTo given entries i was is namer count) → table_of ((given ++ take i entries) ++ e ∷ []) ≡ table_of (given ++ take i entries) ++ line
+      → Appends is is' line → HasListed ((given ++ take i entries) ++ e ∷ []) namer' count' → ListedTo given entries (i + 1) was is' namer' count'
   listed_to_more was is is' namer namer' count count' line l at t eq out h =
       let n = next l at in
       record {
@@ -106,17 +115,21 @@ module _ (given entries : List Entry) (i : ℕ) (e : Entry) where
         has_listed = rw n at h;
       }
 
-  pub listed_to_front : (was is is' : Option (List ℕ)) (namer : Counts) (count : ℕ) (line : List ℕ) → i < length entries → e ≡ get_or entries i e → (t : ListedTo given entries i was is namer count) → table_of ((given ++ take i entries) ++ e ∷ []) ≡ table_of (given ++ take i entries) ++ line → AppendsFront is is' line → (lines : List ℕ) × (table_of (given ++ entries) ≡ table_of given ++ lines) × AppendsFront was is' lines
+  pub listed_to_front : (was is is' : Option (List ℕ)) (namer : Counts) (count : ℕ) (line : List ℕ) → i < length entries → e ≡ get_or entries i e
+      → (t : ListedTo given entries i was is namer count) → table_of ((given ++ take i entries) ++ e ∷ []) ≡ table_of (given ++ take i entries) ++ line
+      → AppendsFront is is' line → (lines : List ℕ) × (table_of (given ++ entries) ≡ table_of given ++ lines) × AppendsFront was is' lines
   listed_to_front was is is' namer count line l at t eq out =
       let b = behind l at in
       let f = listing_output.front ((given ++ take i entries) ++ e ∷ []) (drop (i + 1) entries) in (
         t.lines ++ (line ++ f.0),
-        ap table_of b ∙ f.1 ∙ ap (λ z. z ++ f.0) (eq ∙ ap (λ z. z ++ line) t.are ∙ append_assoc (table_of given) t.lines line) ∙ append_assoc (table_of given) (t.lines ++ line) f.0
+        ap table_of b ∙ f.1 ∙ ap (λ z. z ++ f.0) (eq ∙ ap (λ z. z ++ line) t.are ∙ append_assoc (table_of given) t.lines line)
+            ∙ append_assoc (table_of given) (t.lines ++ line) f.0
             ∙ ap (λ z. table_of given ++ z) (append_assoc t.lines line f.0),
         front_then was is is' t.lines line f.0 (t.lines ++ (line ++ f.0)) t.out out refl,
       )
 
-pub listed_to_all : (given entries : List Entry) (i : ℕ) (was is : Option (List ℕ)) (namer : Counts) (count : ℕ) → length entries ≤ i → ListedTo given entries i was is namer count
+pub listed_to_all : (given entries : List Entry) (i : ℕ) (was is : Option (List ℕ)) (namer : Counts) (count : ℕ)
+    → length entries ≤ i → ListedTo given entries i was is namer count
     → (lines : List ℕ) × (table_of (given ++ entries) ≡ table_of given ++ lines) × Appends was is lines × HasListed (given ++ entries) namer count
 listed_to_all given entries i was is namer count l t =
     let whole : take i entries ≡ entries = take_all i entries l in
@@ -125,7 +138,8 @@ listed_to_all given entries i was is namer count l t =
 -- the line from its parts
 pub row-is : (index size : ℕ) (entry : Entry) (target : Target) (front sent line line' line'' : List ℕ)
     → front ≡ decimal index ++ 32 ∷ (target.base ++ 32 ∷ (place_word target.place ++ 32 ∷ (info target.name ++ 32 ∷ (decimal size ++ 32 ∷ []))))
-    → size ≡ length entry.body → line ≡ front → sent ≡ sender entry.from_line → line' ≡ line ++ shown_sender sent → line'' ≡ line' ++ 10 ∷ [] → line'' ≡ message_row index entry target
+    → size ≡ length entry.body → line ≡ front → sent ≡ sender entry.from_line
+    → line' ≡ line ++ shown_sender sent → line'' ≡ line' ++ 10 ∷ [] → line'' ≡ message_row index entry target
 unfolding message_row
 row-is index size entry target front sent line line' line'' is_front is_size is_line is_sent is_more is_all =
     rw (is_all, is_more, is_line, is_front, is_sent, is_size) (simp append_assoc)
@@ -137,7 +151,9 @@ lists_broken (Ok x) given entries was is P e h = absurd (false≢true e)
 lists_broken (Err x) given entries was is P e h = (h.0, h.1, h.2, tt)
 
 -- there is room for one more
-pub room : (given entries : List Entry) (i : ℕ) (e : Entry) → i < length entries → length (given ++ entries) < 2 ^ 63 → length ((given ++ take i entries) ++ e ∷ []) < 2 ^ 63
+pub room : (given entries : List Entry) (i : ℕ) (e : Entry) → i < length entries
+    → length (given ++ entries) < 2 ^ 63 → length ((given ++ take i entries) ++ e ∷ []) < 2 ^ 63
 room given entries i e l h =
     let le : i ≤ length entries = omega arith in
-    omega (arith, h, length-append given entries, length-append (given ++ take i entries) (e ∷ []), length-append given (take i entries), length-take-le i entries le)
+    omega
+    (arith, h, length-append given entries, length-append (given ++ take i entries) (e ∷ []), length-append given (take i entries), length-take-le i entries le)

@@ -1,5 +1,6 @@
 -- One more entry of a batch.
-use Rattle.std.proofs.Common.{◌≡◌, ℕ, ◌+◌, ◌<◌, ◌≤◌, ◌^◌, List, [], ◌∷◌, ◌++◌, take, drop, length, get_or, sym, ap, ◌∙◌, arith, length-append, append_assoc, append-nil, take-append-drop, length-take-le, ◌*◌}
+use Rattle.std.proofs.Common.{◌≡◌, ℕ, ◌+◌, ◌<◌, ◌≤◌, ◌^◌, List, [], ◌∷◌, ◌++◌, take, drop, length, get_or, sym, ap, ◌∙◌}
+use Rattle.std.proofs.Common.{arith, length-append, append_assoc, append-nil, take-append-drop, length-take-le, ◌*◌}
 use Rattle.maildir_run.proofs.Common.{take_more, map-append, length-map, nil_from_length, Entry, target, messages_of, bodies_of, message_at, messages_after}
 use Rattle.maildir_run.proofs.Chains.MessageLemmas.{messages_of-push, length-messages_of}
 
@@ -27,7 +28,8 @@ module _ (entries : List Entry) (i : ℕ) (entry : Entry) (h : i < length entrie
       ∙ ap (λ (e : Entry). bodies_of (take i entries) ++ e.body ∷ []) (sym is))
       ∙ sym (append_assoc bodies (bodies_of (take i entries)) (entry.body ∷ []))
 
-  pub bodies_split : (bodies : List (List ℕ)) → bodies ++ bodies_of entries ≡ ((bodies ++ bodies_of (take i entries)) ++ entry.body ∷ []) ++ bodies_of (drop (i + 1) entries)
+  pub bodies_split : (bodies : List (List ℕ))
+      → bodies ++ bodies_of entries ≡ ((bodies ++ bodies_of (take i entries)) ++ entry.body ∷ []) ++ bodies_of (drop (i + 1) entries)
   bodies_split bodies =
       ap (λ xs. bodies ++ bodies_of xs) (sym (take-append-drop (i + 1) entries))
       ∙ ap (λ xs. bodies ++ xs) (map-append (λ (e : Entry). e.body) (take (i + 1) entries) (drop (i + 1) entries))
@@ -36,14 +38,17 @@ module _ (entries : List Entry) (i : ℕ) (entry : Entry) (h : i < length entrie
 
   pub few_next : (bodies : List (List ℕ)) → length bodies + length entries ≤ 2 ^ 63 → length (bodies ++ bodies_of (take i entries)) < 2 ^ 63
   few_next bodies few =
-      omega (arith, length-append bodies (bodies_of (take i entries)), length-map (take i entries) (λ (e : Entry). e.body), length-take-le i entries (omega arith))
+      omega
+      (arith, length-append bodies (bodies_of (take i entries)), length-map (take i entries) (λ (e : Entry). e.body), length-take-le i entries (omega arith))
 
 -- ---- the numbers of a run
 -- one more batch
-pub batch_fits : (messages reads : ℕ) (given whole entries : List Entry) → messages ≡ length given → length (given ++ whole) ≤ 65536 * reads → reads ≤ 2 ^ 40 → entries ≡ whole → messages + length entries < 2 ^ 63
+pub batch_fits : (messages reads : ℕ) (given whole entries : List Entry) → messages ≡ length given
+    → length (given ++ whole) ≤ 65536 * reads → reads ≤ 2 ^ 40 → entries ≡ whole → messages + length entries < 2 ^ 63
 batch_fits messages reads given whole entries count few most e = omega (arith, length-append given whole, ap length e)
 
-pub batch_count : (messages all : ℕ) (given whole entries : List Entry) → messages ≡ length given → all ≡ messages + length entries → entries ≡ whole → all ≡ length (given ++ whole)
+pub batch_count : (messages all : ℕ) (given whole entries : List Entry) → messages ≡ length given
+    → all ≡ messages + length entries → entries ≡ whole → all ≡ length (given ++ whole)
 batch_count messages all given whole entries count more e = omega (arith, length-append given whole, ap length e)
 
 pub batch_begun : (given more : List Entry) → 0 < length given → 0 < length (given ++ more)

@@ -1,6 +1,10 @@
 -- A run at its exits, from its parts.
-use Rattle.std.proofs.Common.{◌≡◌, ℕ, ◌+◌, ◌-◌, ◌*◌, ◌<◌, ◌≤◌, ◌^◌, Bool, cond, Option, Some, None, List, [], ◌∷◌, ◌++◌, length, Result, refl, sym, ap, subst, ◌∙◌, arith, IsErrAnd}
-use Rattle.maildir_run.proofs.Common.{contains_key, length-map, Entry, Counts, Named, RunFault, NoFromLine, Report, BaseSet, Conversion, ReportsTasks, run_tasks, Seen, Performed, DeliversMessages, sweep_of, messages_after, delivery_of, delivery_if, deliveries_of, IsOfFolder, Message, IsFrontOf, SourceStopped, is_listed, IsReading, Task, Listings, listing_tasks, messages_of, bodies_of}
+use Rattle.std.proofs.Common.{◌≡◌, ℕ, ◌+◌, ◌-◌, ◌*◌, ◌<◌, ◌≤◌, ◌^◌, Bool, cond, Option, Some, None, List}
+use Rattle.std.proofs.Common.{[], ◌∷◌, ◌++◌, length, Result, refl, sym, ap, subst, ◌∙◌, arith, IsErrAnd}
+use Rattle.maildir_run.proofs.Common.{contains_key, length-map, Entry, Counts, Named, RunFault, NoFromLine, Report, BaseSet}
+use Rattle.maildir_run.proofs.Common.{Conversion, ReportsTasks, run_tasks, Seen, Performed, DeliversMessages, sweep_of}
+use Rattle.maildir_run.proofs.Common.{messages_after, delivery_of, delivery_if, deliveries_of, IsOfFolder, Message, IsFrontOf}
+use Rattle.maildir_run.proofs.Common.{SourceStopped, is_listed, IsReading, Task, Listings, listing_tasks, messages_of, bodies_of}
 use Rattle.std.proofs.lemmas.Result.{err_from_is_err_and}
 use Rattle.maildir_run.proofs.Run.Delivering.{delivers_then}
 use Rattle.maildir_run.proofs.Run.Batches.{all_messages}
@@ -12,7 +16,9 @@ use Rattle.maildir_run.proofs.Tasks.Tasks.{ran_nothing, ran_then, ran_err}
 
 -- ---- at a fault
 module _ (before now : Option (List ℕ)) (reads : ℕ) (old new : Seen) (r : Result Report RunFault) (fault : RunFault) (is : IsErrAnd r (λ e. e ≡ fault)) where
-  pub stops : SourceStopped before now reads fault → (fault ≡ NoFromLine → new.calls ≡ old.calls) → (given : List Entry) → IsFrontOf before now reads given → (names : Listings) → length names.tmp < 2 ^ 64 → (begun made : ℕ) → begun ≡ 0 → Performed (run_tasks names (messages_of (bodies_of given))) old new begun made (Some fault) → Conversion before now reads old new r
+  pub stops : SourceStopped before now reads fault → (fault ≡ NoFromLine → new.calls ≡ old.calls) → (given : List Entry)
+      → IsFrontOf before now reads given → (names : Listings) → length names.tmp < 2 ^ 64 → (begun made : ℕ) → begun ≡ 0
+      → Performed (run_tasks names (messages_of (bodies_of given))) old new begun made (Some fault) → Conversion before now reads old new r
   stops refused untouched given front names few begun made none ran =
       let at_fault = (err_from_is_err_and r is).1 in
       record {
@@ -29,12 +35,19 @@ module _ (before now : Option (List ℕ)) (reads : ℕ) (old new : Seen) (r : Re
       }
 
   -- which a folder call gave, or a growth
-  pub stops_in_folder : IsOfFolder fault → (given : List Entry) → IsFrontOf before now reads given → (names : Listings) → length names.tmp < 2 ^ 64 → (begun made : ℕ) → begun ≡ 0 → Performed (run_tasks names (messages_of (bodies_of given))) old new begun made (Some fault) → Conversion before now reads old new r
+  pub stops_in_folder : IsOfFolder fault → (given : List Entry) → IsFrontOf before now reads given
+      → (names : Listings) → length names.tmp < 2 ^ 64 → (begun made : ℕ) → begun ≡ 0
+      → Performed (run_tasks names (messages_of (bodies_of given))) old new begun made (Some fault) → Conversion before now reads old new r
   stops_in_folder of given front =
-      stops (record { budget = (front.text, front.read, front.budget); spent = λ e. absurd (subst IsOfFolder e of); unreadable = λ e. absurd (subst IsOfFolder e of) }) (λ e. absurd (subst IsOfFolder e of)) given front
+      stops (record {
+        budget = (front.text, front.read, front.budget);
+        spent = λ e. absurd (subst IsOfFolder e of);
+        unreadable = λ e. absurd (subst IsOfFolder e of);
+      }) (λ e. absurd (subst IsOfFolder e of)) given front
 
 -- before anything was done
-pub stops_unread : (before now : Option (List ℕ)) (reads : ℕ) (s : Seen) (r : Result Report RunFault) (fault : RunFault) → IsErrAnd r (λ e. e ≡ fault) → IsReading fault → SourceStopped before now reads fault → Conversion before now reads s s r
+pub stops_unread : (before now : Option (List ℕ)) (reads : ℕ) (s : Seen) (r : Result Report RunFault) (fault : RunFault)
+    → IsErrAnd r (λ e. e ≡ fault) → IsReading fault → SourceStopped before now reads fault → Conversion before now reads s s r
 stops_unread before now reads s r fault is reading refused =
     let names : Listings = record { tmp = []; new = []; cur = [] } in
     stops before now reads s s r fault is refused (λ e. refl) [] (refused_front refused) names (omega arith) 0 0 refl
@@ -43,24 +56,40 @@ stops_unread before now reads s r fault is reading refused =
 -- ---- the set of bases tells what was listed
 same_deliveries : (f g : List ℕ → Bool) → ((b : List ℕ) → f b ≡ g b) → (ms : List Message) → deliveries_of f ms ≡ deliveries_of g ms
 same_deliveries f g same [] = refl
-same_deliveries f g same (m ∷ ms) = ap (λ t. cond t [] (delivery_of m.target m.body) ++ deliveries_of f ms) (same m.target.base) ∙ ap (λ ts. delivery_if g m ++ ts) (same_deliveries f g same ms)
+same_deliveries f g same (m ∷ ms) =
+    ap (λ t. cond t [] (delivery_of m.target m.body) ++ deliveries_of f ms) (same m.target.base)
+    ∙ ap (λ ts. delivery_if g m ++ ts) (same_deliveries f g same ms)
 
-pub tells_listed : (there : BaseSet) (new cur : List (List ℕ)) (names : Listings) (bodies : List (List ℕ)) → ((b : List ℕ) → contains_key there b ≡ is_listed new cur b) → new ≡ names.new → cur ≡ names.cur → deliveries_of (contains_key there) (messages_after [] bodies) ≡ deliveries_of (is_listed names.new names.cur) (messages_of bodies)
+pub tells_listed : (there : BaseSet) (new cur : List (List ℕ)) (names : Listings) (bodies : List (List ℕ))
+    → ((b : List ℕ) → contains_key there b ≡ is_listed new cur b) → new ≡ names.new → cur ≡ names.cur
+    → deliveries_of (contains_key there) (messages_after [] bodies) ≡ deliveries_of (is_listed names.new names.cur) (messages_of bodies)
 tells_listed there new cur names bodies told new_is cur_is =
     ap (deliveries_of (contains_key there)) (all_messages bodies)
-    ∙ same_deliveries (contains_key there) (is_listed names.new names.cur) (λ b. told b ∙ ap (λ l. is_listed l cur b) new_is ∙ ap (λ l. is_listed names.new l b) cur_is) (messages_of bodies)
+    ∙ same_deliveries (contains_key there) (is_listed names.new names.cur)
+    (λ b. told b ∙ ap (λ l. is_listed l cur b) new_is ∙ ap (λ l. is_listed names.new l b) cur_is) (messages_of bodies)
 
 -- ---- the listings, the sweep and some messages
-pub all_ran : {tasks : List Task} {tmp : List (List ℕ)} {a b c d : Seen} {made mid swept begun made' : ℕ} {fault : Option RunFault} (names : Listings) (ms : List Message) → made ≡ 0 → tmp ≡ names.tmp → begun ≡ swept → tasks ≡ deliveries_of (is_listed names.new names.cur) ms
-    → Performed (listing_tasks names) a b made mid None → Performed (sweep_of tmp) b c mid swept None → Performed tasks c d begun made' fault → Performed (run_tasks names ms) a d 0 made' fault
-all_ran names ms none tmp_is begun_is tasks_are look sweep deliver = ran_then (rw none at look) (ran_then (rw tmp_is at sweep) (rw (tasks_are, begun_is) at deliver))
+pub all_ran : {tasks : List Task} {tmp : List (List ℕ)} {a b c d : Seen} {made mid swept begun made' : ℕ} {fault : Option RunFault}
+    (names : Listings) (ms : List Message) → made ≡ 0 → tmp ≡ names.tmp → begun ≡ swept → tasks ≡ deliveries_of (is_listed names.new names.cur) ms
+    → Performed (listing_tasks names) a b made mid None → Performed (sweep_of tmp) b c mid swept None
+    → Performed tasks c d begun made' fault → Performed (run_tasks names ms) a d 0 made' fault
+all_ran names ms none tmp_is begun_is tasks_are look sweep deliver =
+    ran_then (rw none at look) (ran_then (rw tmp_is at sweep) (rw (tasks_are, begun_is) at deliver))
 
 -- one more batch
-pub one_batch : {there there' : BaseSet} {a b c : Seen} {made mid made' p q n : ℕ} {namer namer' : Counts} {fault : Option RunFault} (given whole entries : List Entry) (reads : ℕ) → there' ≡ there → entries ≡ whole → length (given ++ whole) ≤ 65536 * reads → reads ≤ 2 ^ 40 → DeliversMessages (contains_key there) [] (bodies_of given) a b made mid p q namer None → ((bodies : List (List ℕ)) → Named bodies namer → length bodies + length entries ≤ 2 ^ 63 → DeliversMessages (contains_key there') bodies (bodies_of entries) b c mid made' q n namer' fault) → DeliversMessages (contains_key there) [] (bodies_of (given ++ whole)) a c made made' p n namer' fault
+pub one_batch : {there there' : BaseSet} {a b c : Seen} {made mid made' p q n : ℕ} {namer namer' : Counts} {fault : Option RunFault} (given whole
+    entries : List Entry) (reads : ℕ) → there' ≡ there → entries ≡ whole → length (given ++ whole) ≤ 65536 * reads → reads ≤ 2 ^ 40
+    → DeliversMessages (contains_key there) [] (bodies_of given) a b made mid p q namer None → ((bodies : List (List ℕ)) → Named bodies namer
+    → length bodies + length entries ≤ 2 ^ 63 → DeliversMessages (contains_key there') bodies (bodies_of entries) b c mid made' q n namer' fault)
+    → DeliversMessages (contains_key there) [] (bodies_of (given ++ whole)) a c made made' p n namer' fault
 one_batch {there} {there'} {a} {b} {c} {made} {mid} {made'} {p} {q} {n} {namer} {namer'} {fault} given whole entries reads same e few most first then =
-    rw (batch_bodies given whole entries e) at (delivers_then first (rw same at (then (bodies_of given) (first.named refl) (batch_few given whole entries reads e few most))))
+    rw (batch_bodies given whole entries e) at (delivers_then first
+    (rw same at (then (bodies_of given) (first.named refl) (batch_few given whole entries reads e few most))))
 
-pub report_tells : (names : Listings) (all : List Entry) (report : Report) (tasks : List Task) (messages placed before : ℕ) → tasks ≡ deliveries_of (is_listed names.new names.cur) (messages_of (bodies_of all)) → messages ≡ length all → before ≡ 0 → 2 * placed ≡ 2 * before + length tasks → report.messages ≡ messages → report.there ≡ messages - placed → report.placed ≡ placed → report.swept ≡ length (sweep_of names.tmp) → ReportsTasks names (messages_of (bodies_of all)) report
+pub report_tells : (names : Listings) (all : List Entry) (report : Report) (tasks : List Task) (messages placed before : ℕ)
+    → tasks ≡ deliveries_of (is_listed names.new names.cur) (messages_of (bodies_of all)) → messages ≡ length all
+    → before ≡ 0 → 2 * placed ≡ 2 * before + length tasks → report.messages ≡ messages → report.there ≡ messages - placed
+    → report.placed ≡ placed → report.swept ≡ length (sweep_of names.tmp) → ReportsTasks names (messages_of (bodies_of all)) report
 report_tells names all report tasks messages placed before is count none delivers e1 e2 e3 e4 = record {
   messages = e1 ∙ count ∙ sym (length-messages_of (bodies_of all) ∙ length-map all (λ (x : Entry). x.body));
   there = rw (e1, e3) e2;

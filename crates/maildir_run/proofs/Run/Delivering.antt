@@ -1,6 +1,8 @@
 -- Messages that are delivered one after the other.
-use Rattle.std.proofs.Common.{◌≡◌, ℕ, ◌+◌, Bool, true, false, cond, List, [], ◌∷◌, ◌++◌, length, Option, Some, None, Result, Ok, Err, refl, sym, ap, inr, ◌∙◌, arith, append_assoc, length-append, IsErrAnd, append-nil}
-use Rattle.maildir_run.proofs.Common.{flat_map-append, Target, Counts, Named, target, targets, targets-push, RunFault, OutOfMemory, fault_of, message_at, Seen, Performed, DeliversMessages, messages_after, delivery_of, delivery_if, deliveries_of}
+use Rattle.std.proofs.Common.{◌≡◌, ℕ, ◌+◌, Bool, true, false, cond, List, [], ◌∷◌, ◌++◌, length, Option, Some, None, Result}
+use Rattle.std.proofs.Common.{Ok, Err, refl, sym, ap, inr, ◌∙◌, arith, append_assoc, length-append, IsErrAnd, append-nil}
+use Rattle.maildir_run.proofs.Common.{flat_map-append, Target, Counts, Named, target, targets, targets-push, RunFault, OutOfMemory, fault_of}
+use Rattle.maildir_run.proofs.Common.{message_at, Seen, Performed, DeliversMessages, messages_after, delivery_of, delivery_if, deliveries_of}
 use Rattle.maildir_run.proofs.Tasks.Tasks.{ran_none, ran_nothing, ran_then, ran_before}
 
 pub last_is : (ts : List Target) (a b : Target) → ts ++ a ∷ [] ≡ ts ++ b ∷ [] → a ≡ b
@@ -12,13 +14,18 @@ messages_after-append : (before xs ys : List (List ℕ)) → messages_after befo
 messages_after-append before [] ys = ap (λ b. messages_after b ys) (sym (append-nil before))
 messages_after-append before (x ∷ xs) ys =
     let m = message_at (target before x) x in
-    ap (λ ms. m ∷ ms) (messages_after-append (before ++ x ∷ []) xs ys ∙ ap (λ b. messages_after (before ++ x ∷ []) xs ++ messages_after b ys) (append_assoc before (x ∷ []) xs))
+    ap (λ ms. m ∷ ms)
+    (messages_after-append (before ++ x ∷ []) xs ys ∙ ap (λ b. messages_after (before ++ x ∷ []) xs ++ messages_after b ys) (append_assoc before (x ∷ []) xs))
 
-parts : (is_there : List ℕ → Bool) (before xs ys : List (List ℕ)) → deliveries_of is_there (messages_after before (xs ++ ys)) ≡ deliveries_of is_there (messages_after before xs) ++ deliveries_of is_there (messages_after (before ++ xs) ys)
-parts is_there before xs ys = ap (deliveries_of is_there) (messages_after-append before xs ys) ∙ flat_map-append (delivery_if is_there) (messages_after before xs) (messages_after (before ++ xs) ys)
+parts : (is_there : List ℕ → Bool) (before xs ys : List (List ℕ)) → deliveries_of is_there (messages_after before (xs ++ ys))
+    ≡ deliveries_of is_there (messages_after before xs) ++ deliveries_of is_there (messages_after (before ++ xs) ys)
+parts is_there before xs ys =
+    ap (deliveries_of is_there) (messages_after-append before xs ys)
+    ∙ flat_map-append (delivery_if is_there) (messages_after before xs) (messages_after (before ++ xs) ys)
 
 -- none
-pub delivers_none : (is_there : List ℕ → Bool) (before : List (List ℕ)) (s : Seen) (made placed : ℕ) (namer : Counts) → Named before namer → DeliversMessages is_there before [] s s made made placed placed namer None
+pub delivers_none : (is_there : List ℕ → Bool) (before : List (List ℕ)) (s : Seen) (made placed : ℕ) (namer : Counts)
+    → Named before namer → DeliversMessages is_there before [] s s made made placed placed namer None
 delivers_none is_there before s made placed namer named = record {
   ran = ran_none s made;
   named = λ e. rw (append-nil before) named;
@@ -26,7 +33,8 @@ delivers_none is_there before s made placed namer named = record {
 }
 
 -- memory was refused before the first
-pub delivers_refused : {A : Type 0} (answer : Result A RunFault) (is_there : List ℕ → Bool) (before more : List (List ℕ)) (s : Seen) (made placed : ℕ) (namer : Counts) → IsErrAnd answer (λ e. e ≡ OutOfMemory) → DeliversMessages is_there before more s s made made placed placed namer (fault_of answer)
+pub delivers_refused : {A : Type 0} (answer : Result A RunFault) (is_there : List ℕ → Bool) (before more : List (List ℕ)) (s : Seen) (made placed : ℕ)
+    (namer : Counts) → IsErrAnd answer (λ e. e ≡ OutOfMemory) → DeliversMessages is_there before more s s made made placed placed namer (fault_of answer)
 delivers_refused (Ok x) is_there before more s made placed namer is = absurd is
 delivers_refused (Err e) is_there before more s made placed namer is = record {
   ran = ran_nothing e (inr (inr (inr is))) _ s made;
@@ -35,17 +43,27 @@ delivers_refused (Err e) is_there before more s made placed namer is = record {
 }
 
 -- some, and more
-pub delivers_then : {is_there : List ℕ → Bool} {before : List (List ℕ)} {xs ys : List (List ℕ)} {a b c : Seen} {made mid made' p q r : ℕ} {first_namer namer : Counts} {fault : Option RunFault} → DeliversMessages is_there before xs a b made mid p q first_namer None → DeliversMessages is_there (before ++ xs) ys b c mid made' q r namer fault → DeliversMessages is_there before (xs ++ ys) a c made made' p r namer fault
+pub delivers_then : {is_there : List ℕ → Bool} {before : List (List ℕ)} {xs ys : List (List ℕ)} {a b c : Seen} {made mid made' p q r : ℕ}
+    {first_namer namer : Counts} {fault : Option RunFault} → DeliversMessages is_there before xs a b made mid p q first_namer None
+    → DeliversMessages is_there (before ++ xs) ys b c mid made' q r namer fault → DeliversMessages is_there before (xs ++ ys) a c made made' p r namer fault
 delivers_then {is_there} {before} {xs} {ys} {a} {b} {c} {made} {mid} {made'} {p} {q} {r} {first_namer} {namer} {fault} first then =
     let all = parts is_there before xs ys in
     record {
       ran = rw all (ran_then first.ran then.ran);
       named = λ e. rw (append_assoc before xs ys) at (then.named e);
-      placed_are = λ e. omega (arith, first.placed_are refl, then.placed_are e, ap length all, length-append (deliveries_of is_there (messages_after before xs)) (deliveries_of is_there (messages_after (before ++ xs) ys)));
+      placed_are = λ e. omega (
+        arith,
+        first.placed_are refl,
+        then.placed_are e,
+        ap length all,
+        length-append (deliveries_of is_there (messages_after before xs)) (deliveries_of is_there (messages_after (before ++ xs) ys)),
+      );
     }
 
 -- refused before the others
-pub delivers_before : {A : Type 0} {fault : RunFault} (answer : Result A RunFault) (is_there : List ℕ → Bool) (before xs ys : List (List ℕ)) (a b : Seen) (made made' p q : ℕ) (namer : Counts) → IsErrAnd answer (λ e. e ≡ fault) → DeliversMessages is_there before xs a b made made' p q namer (Some fault) → DeliversMessages is_there before (xs ++ ys) a b made made' p q namer (fault_of answer)
+pub delivers_before : {A : Type 0} {fault : RunFault} (answer : Result A RunFault) (is_there : List ℕ → Bool) (before xs ys : List (List ℕ)) (a b : Seen)
+    (made made' p q : ℕ) (namer : Counts) → IsErrAnd answer (λ e. e ≡ fault) → DeliversMessages is_there before xs a b made made' p q namer (Some fault)
+    → DeliversMessages is_there before (xs ++ ys) a b made made' p q namer (fault_of answer)
 delivers_before (Ok x) is_there before xs ys a b made made' p q namer is h = absurd is
 delivers_before (Err e) is_there before xs ys a b made made' p q namer is h = record {
   ran = rw (parts is_there before xs ys) (rw is (ran_before _ h.ran));
@@ -54,7 +72,8 @@ delivers_before (Err e) is_there before xs ys a b made made' p q namer is h = re
 }
 
 -- ---- one message, whose target is this
-module _ (is_there : List ℕ → Bool) (before : List (List ℕ)) (body : List ℕ) (t : Target) (next : targets (before ++ body ∷ []) ≡ targets before ++ t ∷ []) where
+module _ (is_there : List ℕ → Bool) (before : List (List ℕ)) (body : List ℕ)
+    (t : Target) (next : targets (before ++ body ∷ []) ≡ targets before ++ t ∷ []) where
   target_is_next : target before body ≡ t
   target_is_next = last_is (targets before) (target before body) t (sym (targets-push before body) ∙ next)
 
@@ -63,14 +82,17 @@ module _ (is_there : List ℕ → Bool) (before : List (List ℕ)) (body : List 
       ap (λ x. delivery_if is_there (message_at x body) ++ []) target_is_next ∙ append-nil (delivery_if is_there (message_at t body))
       ∙ ap (λ b. cond b [] (delivery_of t body)) is
 
-  pub delivers_one : {a b : Seen} {made made' : ℕ} {fault : Option RunFault} (p q : ℕ) (namer : Counts) → is_there t.base ≡ false → Performed (delivery_of t body) a b made made' fault → Named (before ++ body ∷ []) namer → (fault ≡ None → q ≡ p + 1) → DeliversMessages is_there before (body ∷ []) a b made made' p q namer fault
+  pub delivers_one : {a b : Seen} {made made' : ℕ} {fault : Option RunFault} (p q : ℕ) (namer : Counts)
+      → is_there t.base ≡ false → Performed (delivery_of t body) a b made made' fault → Named (before ++ body ∷ []) namer
+      → (fault ≡ None → q ≡ p + 1) → DeliversMessages is_there before (body ∷ []) a b made made' p q namer fault
   delivers_one {a} {b} {made} {made'} {fault} p q namer off ran named more = record {
     ran = rw (one_delivery false off) ran;
     named = λ e. named;
     placed_are = λ e. omega (arith, more e, ap length (one_delivery false off));
   }
 
-  pub delivers_nothing : (a : Seen) (made p : ℕ) (namer : Counts) → is_there t.base ≡ true → Named (before ++ body ∷ []) namer → DeliversMessages is_there before (body ∷ []) a a made made p p namer None
+  pub delivers_nothing : (a : Seen) (made p : ℕ) (namer : Counts) → is_there t.base ≡ true
+      → Named (before ++ body ∷ []) namer → DeliversMessages is_there before (body ∷ []) a a made made p p namer None
   delivers_nothing a made p namer on named = record {
     ran = rw (one_delivery true on) (ran_none a made);
     named = λ e. named;

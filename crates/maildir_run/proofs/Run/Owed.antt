@@ -1,6 +1,14 @@
 -- What a run owes where it ends, from the tasks that it performed.
-use Rattle.std.proofs.Common.{◌≡◌, ℕ, ◌+◌, ◌*◌, ◌<◌, ◌≤◌, ◌^◌, Bool, true, false, cond, Option, Some, None, List, [], ◌∷◌, ◌++◌, length, All, Result, Ok, Err, IfOk, OnOk, IsTrue, refl, sym, ap, subst, ◌∙◌, inl, inr, arith, append_assoc, length-append, IsErrOf, filter, append-nil}
-use Rattle.maildir_run.proofs.Common.{get, keys, length-map, All-head, All-tail, length-filter, count_by-le-length, IsAtEnd, Entry, Target, base, is_converter_name, is_converter_base, RunFault, NoFromLine, TooManyReads, Report, swept, filled, alone, Conversion, ReportsTasks, run_tasks, Seen, Performed, sweep_of, delivery_of, delivery_if, deliveries_of, fault_of, capped, HasCallNumber, CallNumber, Follows, Message, IsSoundAt, IsMissing, Delivered, AreDistinct, Sound, has_home, there_count, leftover_count, Files, GaveAll, SourceStopped, is_listed, TmpWithin, Knows, Progress, IsTarget, KeepsForeign, ReadsAtLeast, Possible, Keeps, IsRun, CountsRun, Link, Runs, Mbox, Task, Do, Performs, AllDone, Stopped, honestly, quietly, Listings, listing_tasks, planned_tasks, Way, leaving, Removing, messages_of, bodies_of, MessagesOf, flat_map-append}
+use Rattle.std.proofs.Common.{◌≡◌, ℕ, ◌+◌, ◌*◌, ◌<◌, ◌≤◌, ◌^◌, Bool, true, false, cond, Option, Some, None, List, [], ◌∷◌, ◌++◌, length, All, Result, Ok}
+use Rattle.std.proofs.Common.{Err, IfOk, OnOk, IsTrue, refl, sym, ap, subst, ◌∙◌, inl, inr, arith, append_assoc, length-append, IsErrOf, filter, append-nil}
+use Rattle.maildir_run.proofs.Common.{get, keys, length-map, All-head, All-tail, length-filter, count_by-le-length, IsAtEnd, Entry, Target}
+use Rattle.maildir_run.proofs.Common.{base, is_converter_name, is_converter_base, RunFault, NoFromLine, TooManyReads, Report, swept, filled}
+use Rattle.maildir_run.proofs.Common.{alone, Conversion, ReportsTasks, run_tasks, Seen, Performed, sweep_of, delivery_of, delivery_if}
+use Rattle.maildir_run.proofs.Common.{deliveries_of, fault_of, capped, HasCallNumber, CallNumber, Follows, Message, IsSoundAt, IsMissing}
+use Rattle.maildir_run.proofs.Common.{Delivered, AreDistinct, Sound, has_home, there_count, leftover_count, Files, GaveAll, SourceStopped}
+use Rattle.maildir_run.proofs.Common.{is_listed, TmpWithin, Knows, Progress, IsTarget, KeepsForeign, ReadsAtLeast, Possible, Keeps, IsRun}
+use Rattle.maildir_run.proofs.Common.{CountsRun, Link, Runs, Mbox, Task, Do, Performs, AllDone, Stopped, honestly, quietly, Listings}
+use Rattle.maildir_run.proofs.Common.{listing_tasks, planned_tasks, Way, leaving, Removing, messages_of, bodies_of, MessagesOf, flat_map-append}
 use Rattle.std.proofs.lemmas.Result.{on_ok_weaker, IfErr-at_err}
 use Rattle.maildir_run.proofs.Tasks.CallCounts.{run_counts}
 use Rattle.maildir_run.proofs.Names.Maps.{is_name-true}
@@ -14,7 +22,9 @@ use Rattle.maildir_run.proofs.Call.FolderListings.{filter-length}
 use Rattle.maildir_run.proofs.Chains.BaseNumbers.{count-cons}
 use Rattle.maildir_run.proofs.Tasks.PlanLemmas.{planned_are}
 use Rattle.maildir_run.proofs.Tasks.Tasks.{stopped_before, honestly_stops, MayStop, leaving_stops}
-use Rattle.maildir_run.proofs.Tasks.TaskEffects.{EachTask, each_of_both, PlacesNone, IsOurs, done_leaves, all_parts, stopped_parts, known_by_listings, listed_quietly, all_swept, sweep_ours, listings_place_none, sweep_places_none, all_progress, stopped_came, CameTo, all_filled, done_others}
+use Rattle.maildir_run.proofs.Tasks.TaskEffects.{EachTask, each_of_both, PlacesNone, IsOurs, done_leaves, all_parts, stopped_parts}
+use Rattle.maildir_run.proofs.Tasks.TaskEffects.{known_by_listings, listed_quietly, all_swept, sweep_ours, listings_place_none}
+use Rattle.maildir_run.proofs.Tasks.TaskEffects.{sweep_places_none, all_progress, stopped_came, CameTo, all_filled, done_others}
 
 -- ---- tasks that name converter's names alone
 delivery_ours : (t : Target) (body : List ℕ) → IsTarget t → EachTask IsOurs (delivery_of t body)
@@ -27,18 +37,23 @@ deliveries_ours : (is_there : List ℕ → Bool) (ms : List Message) → All (λ
 deliveries_ours is_there [] are = tt
 deliveries_ours is_there (m ∷ ms) are =
     each_of_both IsOurs (delivery_if is_there m) (deliveries_of is_there ms)
-    (elim (is_there m.target.base) as (λ t. EachTask IsOurs (cond t [] (delivery_of m.target m.body))) [ true ↦ tt | false ↦ delivery_ours m.target m.body (All-head (λ (x : Message). IsTarget x.target) m ms are) ])
+    (elim (is_there m.target.base) as (λ t. EachTask IsOurs
+    (cond t [] (delivery_of m.target m.body))) [ true ↦ tt | false ↦ delivery_ours m.target m.body (All-head (λ (x : Message). IsTarget x.target) m ms are) ])
     (deliveries_ours is_there ms (All-tail (λ (x : Message). IsTarget x.target) m ms are))
 
 -- ---- how many they are
-deliveries_count : (start : Files) (is_there : List ℕ → Bool) → Knows is_there start → (ms : List Message) → All (λ m. IsTarget m.target) ms → length (deliveries_of is_there ms) + 2 * there_count start ms ≡ 2 * length ms
+deliveries_count : (start : Files) (is_there : List ℕ → Bool) → Knows is_there start → (ms : List Message)
+    → All (λ m. IsTarget m.target) ms → length (deliveries_of is_there ms) + 2 * there_count start ms ≡ 2 * length ms
 deliveries_count start is_there knows [] are = omega arith
 deliveries_count start is_there knows (m ∷ ms) are =
     let more = deliveries_count start is_there knows ms (All-tail (λ (x : Message). IsTarget x.target) m ms are) in
     let is = All-head (λ (x : Message). IsTarget x.target) m ms are in
     let count = count-cons (λ (x : Message). has_home start x.target.base) m ms (is_there m.target.base) (sym (knows m.target.base is.named)) in
     let parts = length-append (delivery_if is_there m) (deliveries_of is_there ms) in
-    elim (is_there m.target.base) as (λ t. length (deliveries_of is_there (m ∷ ms)) ≡ length (cond t [] (delivery_of m.target m.body)) + length (deliveries_of is_there ms) → there_count start (m ∷ ms) ≡ cond t 1 0 + there_count start ms → length (deliveries_of is_there (m ∷ ms)) + 2 * there_count start (m ∷ ms) ≡ 2 * length (m ∷ ms)) [
+    elim (is_there m.target.base)
+    as (λ t. length (deliveries_of is_there (m ∷ ms)) ≡ length (cond t [] (delivery_of m.target m.body)) + length (deliveries_of is_there ms)
+    → there_count start (m ∷ ms) ≡ cond t 1 0 + there_count start ms
+    → length (deliveries_of is_there (m ∷ ms)) + 2 * there_count start (m ∷ ms) ≡ 2 * length (m ∷ ms)) [
       | true ↦ λ e f. omega (arith, more, e, f)
       | false ↦ λ e f. omega (arith, more, e, f)
     ] parts count
@@ -47,7 +62,8 @@ pub sweep_count : (names : List (List ℕ)) → length (sweep_of names) ≡ leng
 sweep_count names = length-map (filter is_converter_name names) (λ name. Do (Removing name))
 
 -- ---- the answers' numbers
-pub ran_numbers : {A : Type 0} (tasks : List Task) (start now : Seen) (made made' : ℕ) (r : Result A RunFault) → Performed tasks start now made made' (fault_of r) → made ≡ 0 → length tasks < 2 ^ 66 → CallNumber r start.calls now.calls
+pub ran_numbers : {A : Type 0} (tasks : List Task) (start now : Seen) (made made' : ℕ) (r : Result A RunFault)
+    → Performed tasks start now made made' (fault_of r) → made ≡ 0 → length tasks < 2 ^ 66 → CallNumber r start.calls now.calls
 ran_numbers tasks start now made made' r ran e few =
     let most = ran.most in
     record {
@@ -62,12 +78,24 @@ early_none : (names : Listings) → EachTask PlacesNone (listing_tasks names ++ 
 early_none names = each_of_both PlacesNone (listing_tasks names) (sweep_of names.tmp) (listings_place_none names) (sweep_places_none names.tmp)
 
 run_ours : (names : Listings) (ms : List Message) → All (λ m. IsTarget m.target) ms → EachTask IsOurs (run_tasks names ms)
-run_ours names ms are = (tt, (tt, (tt, each_of_both IsOurs (sweep_of names.tmp) (deliveries_of (is_listed names.new names.cur) ms) (sweep_ours names.tmp) (deliveries_ours (is_listed names.new names.cur) ms are))))
+run_ours names ms are = (
+  tt,
+  (
+    tt,
+    (
+      tt,
+      each_of_both IsOurs (sweep_of names.tmp) (deliveries_of (is_listed names.new names.cur) ms)
+          (sweep_ours names.tmp) (deliveries_ours (is_listed names.new names.cur) ms are),
+    ),
+  ),
+)
 
 module _ (names : Listings) (ms : List Message) (distinct : AreDistinct ms) (are : All (λ m. IsTarget m.target) ms) (start : Files) where
-  began : (mid now : Files) → AllDone honestly (listing_tasks names) start mid → AllDone honestly (sweep_of names.tmp) mid now → Progress [] start now × TmpWithin [] now
+  began : (mid now : Files) → AllDone honestly (listing_tasks names) start mid
+      → AllDone honestly (sweep_of names.tmp) mid now → Progress [] start now × TmpWithin [] now
   began mid now first then = (
-    none_done start now (leaves_trans start mid now (done_leaves None (listing_tasks names) (listings_place_none names) start mid first) (done_leaves None (sweep_of names.tmp) (sweep_places_none names.tmp) mid now then)),
+    none_done start now (leaves_trans start mid now (done_leaves None (listing_tasks names) (listings_place_none names) start mid first)
+        (done_leaves None (sweep_of names.tmp) (sweep_places_none names.tmp) mid now then)),
     all_swept names.tmp mid now (known_by_listings names start mid first).within then,
   )
 
@@ -75,18 +103,23 @@ module _ (names : Listings) (ms : List Message) (distinct : AreDistinct ms) (are
   come_to fault now h sound =
       let early = listing_tasks names ++ sweep_of names.tmp in
       let last = deliveries_of (is_listed names.new names.cur) ms in
-      elim (stopped_parts honestly early last start now (subst (λ ts. Stopped honestly ts start now) (sym (append_assoc (listing_tasks names) (sweep_of names.tmp) last)) h)) as (λ _. CameTo ms start now) [
+      elim (stopped_parts honestly early last start now
+      (subst (λ ts. Stopped honestly ts start now) (sym (append_assoc (listing_tasks names) (sweep_of names.tmp) last)) h)) as (λ _. CameTo ms start now) [
         | inl s ↦ record { done = []; rest = ms; is = refl; progress = none_done start now (done_leaves (Some fault) early (early_none names) start now s) }
         | inr (mid, first, more) ↦
             let parts = all_parts honestly (listing_tasks names) (sweep_of names.tmp) start mid first in
             let b = began parts.0 mid parts.1 parts.2 in
-            stopped_came start (is_listed names.new names.cur) (known_by_listings names start parts.0 parts.1).knows ms distinct are sound [] ms mid now refl b.0 b.1 more
+            stopped_came start (is_listed names.new names.cur)
+            (known_by_listings names start parts.0 parts.1).knows ms distinct are sound [] ms mid now refl b.0 b.1 more
       ]
 
   stands : (now : Files) → Stopped honestly (run_tasks names ms) start now → Sound ms start start → (fault : RunFault) → Keeps ms start (Err fault) now
-  stands now h sound fault = let came = come_to fault now h sound.own in stands_keeps ms start now fault (front_stands ms came.done came.rest start now (λ k d lt. (are k d lt).named) distinct sound came.is came.progress)
+  stands now h sound fault =
+      let came = come_to fault now h sound.own in
+      stands_keeps ms start now fault (front_stands ms came.done came.rest start now (λ k d lt. (are k d lt).named) distinct sound came.is came.progress)
 
-  pub keeps : (now : Files) (r : Result Report RunFault) → Performs honestly (run_tasks names ms) start r now → IfOk r (ReportsTasks names ms) → Sound ms start start → Keeps ms start r now
+  pub keeps : (now : Files) (r : Result Report RunFault) → Performs honestly (run_tasks names ms) start r now
+      → IfOk r (ReportsTasks names ms) → Sound ms start start → Keeps ms start r now
   keeps now (Err fault) h tells sound = stands now h sound fault
   keeps now (Ok report) h tells sound =
       let one = all_parts honestly (listing_tasks names) (sweep_of names.tmp ++ deliveries_of (is_listed names.new names.cur) ms) start now h in
@@ -113,21 +146,27 @@ module _ (names : Listings) (ms : List Message) (distinct : AreDistinct ms) (are
         };
       }
 
-  filled_all : (now : Files) (r : Result Report RunFault) → Performs honestly (run_tasks names ms) start r now → Performs quietly (run_tasks names ms) start r now → IfOk r (ReportsTasks names ms) → IfOk r (λ report. (now ≡ alone ms start) × (report.swept ≡ leftover_count start))
+  filled_all : (now : Files) (r : Result Report RunFault) → Performs honestly (run_tasks names ms) start r now
+      → Performs quietly (run_tasks names ms) start r now → IfOk r (ReportsTasks names ms)
+      → IfOk r (λ report. (now ≡ alone ms start) × (report.swept ≡ leftover_count start))
   filled_all now (Err fault) performed h tells = tt
   filled_all now (Ok report) performed h tells =
-      let look = known_by_listings names start _ (all_parts honestly (listing_tasks names) (sweep_of names.tmp ++ deliveries_of (is_listed names.new names.cur) ms) start now performed).1 in
+      let look = known_by_listings names start _
+      (all_parts honestly (listing_tasks names) (sweep_of names.tmp ++ deliveries_of (is_listed names.new names.cur) ms) start now performed).1 in
       let one = all_parts quietly (listing_tasks names) (sweep_of names.tmp ++ deliveries_of (is_listed names.new names.cur) ms) start now h in
       let two = all_parts quietly (sweep_of names.tmp) (deliveries_of (is_listed names.new names.cur) ms) one.0 now one.2 in
       let l = listed_quietly names start one.0 one.1 in
       let clean : two.0 ≡ swept start = swept_exact names.tmp one.0 two.0 (rw l.0 l.1) two.1 ∙ ap swept l.0 in (
-        all_filled start (is_listed names.new names.cur) look.knows ms are two.0 now (λ name ours. ap (λ s. get s.tmp name) clean ∙ swept_free start name ours) two.2 ∙ ap (filled start ms) clean,
+        all_filled start (is_listed names.new names.cur) look.knows ms are two.0 now
+            (λ name ours. ap (λ s. get s.tmp name) clean ∙ swept_free start name ours) two.2 ∙ ap (filled start ms) clean,
         tells.swept ∙ sweep_count names.tmp ∙ filter-length is_converter_name names.tmp (keys start.tmp) l.1,
       )
 
 -- a run after other runs
-restarted : (r : Result Report RunFault) (t : List ℕ) (ms : List Message) (links : List Link) (first start now : Files) → length t < 2 ^ 63 → MessagesOf t ms → All (IsMissing first) ms → Runs t links first start → IsRun t start r now → OnOk r (Delivered ms now)
-restarted (Ok report) t ms links first start now small of missing before run = chain_delivered t ms of (text_named t ms of small) links first start now report missing before run
+restarted : (r : Result Report RunFault) (t : List ℕ) (ms : List Message) (links : List Link) (first start now : Files) → length t < 2 ^ 63
+    → MessagesOf t ms → All (IsMissing first) ms → Runs t links first start → IsRun t start r now → OnOk r (Delivered ms now)
+restarted (Ok report) t ms links first start now small of missing before run =
+    chain_delivered t ms of (text_named t ms of small) links first start now report missing before run
 restarted (Err fault) t ms links first start now small of missing before run = tt
 
 both_ok : {A E : Type 0} {P : Type 0} {Q R : A → Type 0} (r : Result A E) → (P → (x : A) → Q x → R x) → OnOk r P → IfOk r Q → IfOk r R
@@ -139,20 +178,26 @@ module _ (names : Listings) (these more ms : List Message) (e : ms ≡ these ++ 
   planned_front : planned_tasks names ms ≡ run_tasks names these ++ deliveries_of (is_listed names.new names.cur) more
   planned_front =
       let is_there = is_listed names.new names.cur in
-      planned_are names ms ∙ ap (run_tasks names) e ∙ ap (λ ts. listing_tasks names ++ (sweep_of names.tmp ++ ts)) (flat_map-append (delivery_if is_there) these more)
+      planned_are names ms ∙ ap (run_tasks names) e
+      ∙ ap (λ ts. listing_tasks names ++ (sweep_of names.tmp ++ ts)) (flat_map-append (delivery_if is_there) these more)
       ∙ ap (λ ts. listing_tasks names ++ ts) (sym (append_assoc (sweep_of names.tmp) (deliveries_of is_there these) (deliveries_of is_there more)))
 
-  planned_performs : (w : Way) → MayStop w → (r : Result Report RunFault) → OnOk r (ms ≡ these) → (start now : Files) → Performs w (run_tasks names these) start r now → Performs w (planned_tasks names ms) start r now
+  planned_performs : (w : Way) → MayStop w → (r : Result Report RunFault) → OnOk r (ms ≡ these) → (start now : Files)
+      → Performs w (run_tasks names these) start r now → Performs w (planned_tasks names ms) start r now
   planned_performs w still (Ok x) same start now h = subst (λ ts. AllDone w ts start now) (sym (planned_are names ms ∙ ap (run_tasks names) same)) h
   planned_performs w still (Err fault) same start now h =
-      subst (λ ts. Stopped w ts start now) (sym planned_front) (stopped_before w still (run_tasks names these) (deliveries_of (is_listed names.new names.cur) more) start now h)
+      subst (λ ts. Stopped w ts start now) (sym planned_front)
+      (stopped_before w still (run_tasks names these) (deliveries_of (is_listed names.new names.cur) more) start now h)
 
 -- the calls are those of the report
-calls_made : (names : Listings) (ms : List Message) (start now : Seen) (made made' : ℕ) (r : Result Report RunFault) → Performed (run_tasks names ms) start now made made' (fault_of r) → IfOk r (ReportsTasks names ms) → IfOk r (λ report. CountsRun report start.calls now.calls)
+calls_made : (names : Listings) (ms : List Message) (start now : Seen) (made made' : ℕ) (r : Result Report RunFault)
+    → Performed (run_tasks names ms) start now made made' (fault_of r)
+    → IfOk r (ReportsTasks names ms) → IfOk r (λ report. CountsRun report start.calls now.calls)
 calls_made names ms start now made made' (Err fault) ran tells = tt
 calls_made names ms start now made made' (Ok report) ran tells =
     let placed = tells.placed in
-    let all_made : ran.n ≡ 3 + length (sweep_of names.tmp) + 2 * report.placed = ran.all refl ∙ (omega (arith, placed, length-append (sweep_of names.tmp) (deliveries_of (is_listed names.new names.cur) ms))) in
+    let all_made : ran.n ≡ 3 + length (sweep_of names.tmp) + 2 * report.placed =
+    ran.all refl ∙ (omega (arith, placed, length-append (sweep_of names.tmp) (deliveries_of (is_listed names.new names.cur) ms))) in
     run_counts report (length (sweep_of names.tmp)) report.placed made made' start.calls now.calls tells.swept refl (rw all_made at ran.makes)
 
 -- ---- how many the tasks are
@@ -161,23 +206,34 @@ deliveries_most is_there [] = omega arith
 deliveries_most is_there (m ∷ ms) =
     let more = deliveries_most is_there ms in
     let parts = length-append (delivery_if is_there m) (deliveries_of is_there ms) in
-    let one : length (delivery_if is_there m) ≤ 2 = elim (is_there m.target.base) as (λ t. length (cond t [] (delivery_of m.target m.body)) ≤ 2) [ true ↦ omega arith | false ↦ omega arith ] in
+    let one : length (delivery_if is_there m) ≤ 2 =
+    elim (is_there m.target.base) as (λ t. length (cond t [] (delivery_of m.target m.body)) ≤ 2) [ true ↦ omega arith | false ↦ omega arith ] in
     omega arith
 
-few_tasks : (names : Listings) (bodies : List (List ℕ)) → length names.tmp < 2 ^ 64 → length bodies ≤ 2 ^ 63 → length (run_tasks names (messages_of bodies)) < 2 ^ 66
+few_tasks : (names : Listings) (bodies : List (List ℕ)) → length names.tmp < 2 ^ 64
+    → length bodies ≤ 2 ^ 63 → length (run_tasks names (messages_of bodies)) < 2 ^ 66
 few_tasks names bodies small few =
     let most = deliveries_most (is_listed names.new names.cur) (messages_of bodies) in
-    omega (arith, length-messages_of bodies, length-append (sweep_of names.tmp) (deliveries_of (is_listed names.new names.cur) (messages_of bodies)), sweep_count names.tmp, length-filter is_converter_name names.tmp, count_by-le-length is_converter_name names.tmp)
+    omega (
+      arith,
+      length-messages_of bodies,
+      length-append (sweep_of names.tmp) (deliveries_of (is_listed names.new names.cur) (messages_of bodies)),
+      sweep_count names.tmp,
+      length-filter is_converter_name names.tmp,
+      count_by-le-length is_converter_name names.tmp,
+    )
 
 -- ---- what a run owes, from what it was given and the tasks that it performed
-module _ {before after : Option (List ℕ)} {reads : ℕ} {start now : Seen} {r : Result Report RunFault} (run : Conversion before after reads start now r) (most : reads ≤ 2 ^ 40) where
+module _ {before after : Option (List ℕ)} {reads : ℕ} {start now : Seen} {r : Result Report RunFault}
+    (run : Conversion before after reads start now r) (most : reads ≤ 2 ^ 40) where
   bodies : List (List ℕ)
   bodies = bodies_of run.given
 
   few_bodies : length (bodies_of run.given) ≤ 2 ^ 63
   few_bodies = omega (arith, run.front.few, run.front.budget, length-map run.given (λ (e : Entry). e.body))
 
-  given_here : (t : List ℕ) (ms : List Message) → Possible before after t → MessagesOf t ms → (more : List Message) × (ms ≡ messages_of (bodies_of run.given) ++ more) × OnOk r (ms ≡ messages_of (bodies_of run.given))
+  given_here : (t : List ℕ) (ms : List Message) → Possible before after t → MessagesOf t ms
+      → (more : List Message) × (ms ≡ messages_of (bodies_of run.given) ++ more) × OnOk r (ms ≡ messages_of (bodies_of run.given))
   given_here = given_of r before after reads run.given run.front run.whole
 
   module _ (h : start.honest) (t : List ℕ) (ms : List Message) (p : Possible before after t) (of : MessagesOf t ms) where
@@ -192,28 +248,37 @@ module _ {before after : Option (List ℕ)} {reads : ℕ} {start now : Seen} {r 
     pub owes_left : Follows (λ old new. (names : Listings) × Performs leaving (planned_tasks names ms) old r new) start.may_leave now.may_leave
     owes_left =
         let g = given_here t ms p of in
-        left_as _ _ start.may_leave now.may_leave (λ old new q. (run.names, planned_performs run.names (messages_of (bodies_of run.given)) g.0 ms g.1 leaving leaving_stops r g.2 old new q)) (run.ran.left h)
+        left_as _ _ start.may_leave now.may_leave
+        (λ old new q. (run.names, planned_performs run.names (messages_of (bodies_of run.given)) g.0 ms g.1 leaving leaving_stops r g.2 old new q))
+        (run.ran.left h)
 
   pub owes_run : start.honest → (t : List ℕ) → length t < 2 ^ 63 → Possible before after t → IsRun t start.files r now.files
   owes_run h t small p = record {
     keeps = λ ms of sound.
-        keeps run.names ms (text_distinct t ms of small) (text_targets t ms of small) start.files now.files r (rw (planned_are run.names ms) at (performs_here h t ms p of))
+        keeps run.names ms (text_distinct t ms of small) (text_targets t ms of small)
+        start.files now.files r (rw (planned_are run.names ms) at (performs_here h t ms p of))
         (both_ok r (λ (same : ms ≡ messages_of (bodies_of run.given)) report tells. rw same tells) (given_here t ms p of).2 run.tells) sound;
     is_read = on_ok_weaker r (λ (w : GaveAll before after reads run.given). (run.given, whole_text w t p)) run.whole;
   }
 
-  pub owes_restart : start.honest → (t : List ℕ) (ms : List Message) (links : List Link) (first : Files) → length t < 2 ^ 63 → Possible before after t → MessagesOf t ms → All (IsMissing first) ms → Runs t links first start.files → OnOk r (Delivered ms now.files)
+  pub owes_restart : start.honest → (t : List ℕ) (ms : List Message) (links : List Link) (first : Files) → length t < 2 ^ 63
+      → Possible before after t → MessagesOf t ms → All (IsMissing first) ms → Runs t links first start.files → OnOk r (Delivered ms now.files)
   owes_restart h t ms links first small p of missing before = restarted r t ms links first start.files now.files small of missing before (owes_run h t small p)
 
-  pub owes_alone : (start.quiet → start.honest) → start.quiet → (t : List ℕ) (ms : List Message) → Possible before after t → MessagesOf t ms → IfOk r (λ report. (now.files ≡ alone ms start.files) × (report.swept ≡ leftover_count start.files))
+  pub owes_alone : (start.quiet → start.honest) → start.quiet → (t : List ℕ) (ms : List Message) → Possible before after t
+      → MessagesOf t ms → IfOk r (λ report. (now.files ≡ alone ms start.files) × (report.swept ≡ leftover_count start.files))
   owes_alone honest_of q t ms p of =
-      both_ok r (λ (same : ms ≡ messages_of (bodies_of run.given)) report (alone_is : (now.files ≡ alone (messages_of (bodies_of run.given)) start.files) × (report.swept ≡ leftover_count start.files)).
+      both_ok r (λ (same : ms ≡ messages_of (bodies_of run.given)) report (alone_is : (now.files ≡ alone (messages_of (bodies_of run.given)) start.files)
+      × (report.swept ≡ leftover_count start.files)).
       (alone_is.0 ∙ ap (λ x. alone x start.files) (sym same), alone_is.1)) (given_here t ms p of).2
-      (filled_all run.names (messages_of (bodies_of run.given)) (messages_distinct (bodies_of run.given) few_bodies) (messages_targets (bodies_of run.given) few_bodies) start.files now.files r (run.ran.done_honestly (honest_of q)) (run.ran.done_quietly q) run.tells)
+      (filled_all run.names (messages_of (bodies_of run.given)) (messages_distinct (bodies_of run.given) few_bodies)
+      (messages_targets (bodies_of run.given) few_bodies) start.files now.files r (run.ran.done_honestly (honest_of q)) (run.ran.done_quietly q) run.tells)
 
   pub owes_others : start.quiet → KeepsForeign start.files now.files
   owes_others q =
-      done_others (fault_of r) (run_tasks run.names (messages_of (bodies_of run.given))) (run_ours run.names (messages_of (bodies_of run.given)) (messages_targets (bodies_of run.given) few_bodies)) start.files now.files (run.ran.done_quietly q)
+      done_others (fault_of r) (run_tasks run.names (messages_of (bodies_of run.given)))
+      (run_ours run.names (messages_of (bodies_of run.given)) (messages_targets (bodies_of run.given) few_bodies))
+      start.files now.files (run.ran.done_quietly q)
 
   pub owes_calls : IfOk r (λ report. CountsRun report start.calls now.calls)
   owes_calls = calls_made run.names (messages_of (bodies_of run.given)) start now 0 run.made r run.ran run.tells

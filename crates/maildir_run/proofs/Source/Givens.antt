@@ -1,6 +1,8 @@
 -- What one more read gives, and what a refused one leaves.
-use Rattle.std.proofs.Common.{◌≡◌, ℕ, ◌*◌, ◌<◌, ◌≤◌, Bool, true, false, Option, Some, Ok, List, [], ◌∷◌, ◌++◌, length, refl, sym, ◌∙◌, ap, arith, append_assoc, ◌==◌, eqb-true, eq-eqb, append-nil, length-append, inl, inr, suc, cond}
-use Rattle.maildir_run.proofs.Common.{Consumes, IsAtEnd, Consumes-trans, append_cancel_right, Entry, Splitter, mbox-one, RunFault, NoFromLine, Reader, Breaks, Went, IsFrontOf, Gave, IsGiven, SourceStopped, Possible, FromLines, Consumes-nil, ReadsAtMost}
+use Rattle.std.proofs.Common.{◌≡◌, ℕ, ◌*◌, ◌<◌, ◌≤◌, Bool, true, false, Option, Some, Ok, List, [], ◌∷◌, ◌++◌, length, refl, sym}
+use Rattle.std.proofs.Common.{◌∙◌, ap, arith, append_assoc, ◌==◌, eqb-true, eq-eqb, append-nil, length-append, inl, inr, suc, cond}
+use Rattle.maildir_run.proofs.Common.{Consumes, IsAtEnd, Consumes-trans, append_cancel_right, Entry, Splitter, mbox-one, RunFault, NoFromLine}
+use Rattle.maildir_run.proofs.Common.{Reader, Breaks, Went, IsFrontOf, Gave, IsGiven, SourceStopped, Possible, FromLines, Consumes-nil, ReadsAtMost}
 use Rattle.mbox_text.proofs.Reading.FirstGiven.{few_given, first_of, unread_none, mbox-length}
 use Rattle.mbox_text.proofs.FromLine.FromLines.{from_lines-before, from_lines-behind, mbox-from_lines}
 
@@ -17,8 +19,10 @@ read_is before now text t read p =
     append_cancel_right p.read text p.left (consumed before now (p.read ++ p.left) p.left text p.had p.has read)
 
 -- one more read, with what became whole by it
-pub gave_more : (ended : Bool) {before mid : Option (List ℕ)} (now : Option (List ℕ)) (old : Reader) (splitter : Splitter) (left : ℕ) {reads : ℕ} {given : List Entry} (out whole : List Entry) → out ≡ []
-    → Gave before mid old.splitter old.reads_left reads given → Went old mid now out whole splitter left (Ok ended) → IsGiven ended before now splitter left reads (given ++ whole)
+pub gave_more : (ended : Bool) {before mid : Option (List ℕ)} (now : Option (List ℕ)) (old : Reader)
+    (splitter : Splitter) (left : ℕ) {reads : ℕ} {given : List Entry} (out whole : List Entry) → out ≡ []
+    → Gave before mid old.splitter old.reads_left reads given → Went old mid now out whole splitter left (Ok ended)
+    → IsGiven ended before now splitter left reads (given ++ whole)
 gave_more true {before} {mid} now old splitter left {given = given} out whole none p w =
     let within = p.budget in
     let added : whole ≡ w.0 = rw none at w.3 in
@@ -41,7 +45,8 @@ gave_more false {before} {mid} now old splitter left {given = given} out whole n
       fed = rw added (w.6 p.text given p.fed);
     }
 
-module _ {before mid : Option (List ℕ)} (now : Option (List ℕ)) (old : Reader) {reads : ℕ} {given : List Entry} (fault : RunFault) (p : Gave before mid old.splitter old.reads_left reads given) where
+module _ {before mid : Option (List ℕ)} (now : Option (List ℕ)) (old : Reader) {reads : ℕ}
+    {given : List Entry} (fault : RunFault) (p : Gave before mid old.splitter old.reads_left reads given) where
   pub gave_refused : Breaks old mid now fault → SourceStopped before now reads fault
   gave_refused b =
       let within = p.budget in
@@ -67,7 +72,8 @@ read_nothing source most = ([], Consumes-nil source, omega arith)
 at_end_same : (text more left : List ℕ) (now : Option (List ℕ)) → IsAtEnd now → now ≡ Some left → (left ≡ [] → more ≡ []) → text ++ more ≡ text
 at_end_same text more left now end has whole = let none : left ≡ [] = rw has at end in rw (whole none) (append-nil text)
 
-pub given_front : (ended : Bool) (before now : Option (List ℕ)) (splitter : Splitter) (left reads : ℕ) (given : List Entry) → IsGiven ended before now splitter left reads given → IsFrontOf before now reads given
+pub given_front : (ended : Bool) (before now : Option (List ℕ)) (splitter : Splitter) (left reads : ℕ) (given : List Entry)
+    → IsGiven ended before now splitter left reads given → IsFrontOf before now reads given
 given_front false before now splitter left reads given p =
     let within = p.budget in
     record {
@@ -83,7 +89,8 @@ given_front true before now splitter left reads given p = record {
   read = p.read;
   budget = p.budget;
   few = mbox-length p.text given p.all;
-  tells = λ more rest entries has whole m. ([], mbox-one p.text entries given (rw (at_end_same p.text more rest now p.end has whole) at m) p.all ∙ sym (append-nil given));
+  tells = λ more rest entries has whole m.
+      ([], mbox-one p.text entries given (rw (at_end_same p.text more rest now p.end has whole) at m) p.all ∙ sym (append-nil given));
   none = λ more rest has whole none. absurd (none given (rw (at_end_same p.text more rest now p.end has whole) p.all));
 }
 
@@ -91,7 +98,8 @@ pub front_few : {before now : Option (List ℕ)} {reads : ℕ} {given : List Ent
 front_few front = omega (arith, front.few, front.budget)
 
 -- a read was refused behind these messages
-pub broken_front : {before mid : Option (List ℕ)} (now : Option (List ℕ)) (old : Reader) {reads : ℕ} {given : List Entry} (fault : RunFault) → Gave before mid old.splitter old.reads_left reads given → Breaks old mid now fault → IsFrontOf before now reads given
+pub broken_front : {before mid : Option (List ℕ)} (now : Option (List ℕ)) (old : Reader) {reads : ℕ} {given : List Entry} (fault : RunFault)
+    → Gave before mid old.splitter old.reads_left reads given → Breaks old mid now fault → IsFrontOf before now reads given
 broken_front {before} {mid} now old {given = given} fault p b =
     let within = p.budget in
     let few = few_given p.text given p.fed.given_are in
@@ -128,7 +136,8 @@ none_behind : (given whole : List Entry) → given ++ whole ≡ [] → FromLines
 none_behind [] whole e = rw e tt
 none_behind (g ∷ given) whole e = absurd (cc)
 
-pub given-from_lines : (ended : Bool) (before now : Option (List ℕ)) (splitter : Splitter) (left reads : ℕ) (given whole : List Entry) → IsGiven ended before now splitter left reads (given ++ whole) → FromLines whole
+pub given-from_lines : (ended : Bool) (before now : Option (List ℕ)) (splitter : Splitter) (left reads : ℕ) (given whole : List Entry)
+    → IsGiven ended before now splitter left reads (given ++ whole) → FromLines whole
 given-from_lines true before now splitter left reads given whole p = from_lines-behind given whole (mbox-from_lines p.text (given ++ whole) p.all)
 given-from_lines false before now splitter left reads given whole p = elim p.fed.given_are [
   | inl a ↦ from_lines-behind given whole (from_lines-before (given ++ whole) (a.1.0 ∷ []) (mbox-from_lines p.text ((given ++ whole) ++ a.1.0 ∷ []) a.1.1))
@@ -136,11 +145,13 @@ given-from_lines false before now splitter left reads given whole p = elim p.fed
 ]
 
 -- ---- one more read
-pub went_on : (ended : Bool) (before after : Option (List ℕ)) (old : Reader) (splitter : Splitter) (left : ℕ) (out out' : List Entry) → ended ≡ false → Went old before after out out' splitter left (Ok ended) → left < old.reads_left
+pub went_on : (ended : Bool) (before after : Option (List ℕ)) (old : Reader) (splitter : Splitter) (left : ℕ) (out out' : List Entry)
+    → ended ≡ false → Went old before after out out' splitter left (Ok ended) → left < old.reads_left
 went_on true before after old splitter left out out' e w = absurd (cc)
 went_on false before after old splitter left out out' e w = omega (arith, w.4)
 
-pub went_down : (was ended : Bool) (before after : Option (List ℕ)) (old : Reader) (splitter : Splitter) (left : ℕ) (out out' : List Entry) → was ≡ false → Went old before after out out' splitter left (Ok ended) → cond ended 0 (suc left) < cond was 0 (suc old.reads_left)
+pub went_down : (was ended : Bool) (before after : Option (List ℕ)) (old : Reader) (splitter : Splitter) (left : ℕ) (out out' : List Entry)
+    → was ≡ false → Went old before after out out' splitter left (Ok ended) → cond ended 0 (suc left) < cond was 0 (suc old.reads_left)
 went_down true ended before after old splitter left out out' e w = absurd (cc)
 went_down false true before after old splitter left out out' e w = omega arith
 went_down false false before after old splitter left out out' e w = omega (arith, w.4)

@@ -1,6 +1,8 @@
 -- What a run has kept at its exits, for each text that its source may have had.
-use Rattle.std.proofs.Common.{◌≡◌, ℕ, ◌+◌, ◌*◌, ◌≤◌, ◌^◌, Option, Result, Ok, Err, OnOk, List, [], ◌++◌, length, sym, ap, subst, ◌∙◌, inl, inr, arith, append-nil, length-append}
-use Rattle.maildir_run.proofs.Common.{map-append, length-map, All-nil, Entry, Mbox, mbox-one, RunFault, Files, Message, IsHome, AreNamed, AreDistinct, Sound, messages_of, bodies_of, MessagesOf, messages_after, Possible, Keeps, KeepsHomes, Progress, IsFrontOf, GaveAll}
+use Rattle.std.proofs.Common.{◌≡◌, ℕ, ◌+◌, ◌*◌, ◌≤◌, ◌^◌, Option, Result, Ok, Err, OnOk, List, [], ◌++◌}
+use Rattle.std.proofs.Common.{length, sym, ap, subst, ◌∙◌, inl, inr, arith, append-nil, length-append}
+use Rattle.maildir_run.proofs.Common.{map-append, length-map, All-nil, Entry, Mbox, mbox-one, RunFault, Files, Message, IsHome, AreNamed, AreDistinct}
+use Rattle.maildir_run.proofs.Common.{Sound, messages_of, bodies_of, MessagesOf, messages_after, Possible, Keeps, KeepsHomes, Progress, IsFrontOf, GaveAll}
 use Rattle.maildir_run.proofs.Tasks.Progress.{KeptSoFar, progress_stands}
 use Rattle.maildir_run.proofs.Run.Batches.{after_these, no_messages}
 use Rattle.maildir_run.proofs.Source.Givens.{read_is}
@@ -12,7 +14,8 @@ pub stands_keeps : (ms : List Message) (start now : Files) (fault : RunFault) �
 stands_keeps ms start now fault s = record { sound = s.sound; still = s.still; in_order = s.in_order; ends = tt }
 
 -- messages of which the first are done
-pub front_stands : (ms done more : List Message) (start now : Files) → AreNamed ms → AreDistinct ms → Sound ms start start → ms ≡ done ++ more → Progress done start now → KeptSoFar ms start now
+pub front_stands : (ms done more : List Message) (start now : Files) → AreNamed ms → AreDistinct ms
+    → Sound ms start start → ms ≡ done ++ more → Progress done start now → KeptSoFar ms start now
 front_stands ms done more start now named distinct sound e p =
     rw e (progress_stands done more start now (subst AreNamed e named) (subst AreDistinct e distinct) (rw e at sound) p)
 
@@ -21,18 +24,26 @@ bodies_parts all rest = map-append (λ (e : Entry). e.body) all rest
 
 -- ---- the messages of each text that a source may have had
 -- those that were given are the first of them
-front_of_text : (before after : Option (List ℕ)) (reads : ℕ) (given : List Entry) → IsFrontOf before after reads given → (t : List ℕ) (ms : List Message) → Possible before after t → MessagesOf t ms → (more : List Message) × (ms ≡ messages_of (bodies_of given) ++ more)
+front_of_text : (before after : Option (List ℕ)) (reads : ℕ) (given : List Entry) → IsFrontOf before after reads given → (t : List ℕ) (ms : List Message)
+    → Possible before after t → MessagesOf t ms → (more : List Message) × (ms ≡ messages_of (bodies_of given) ++ more)
 front_of_text before after reads given f t ms p of =
     let is : t ≡ f.text ++ p.more = rw (← read_is before after f.text t f.read p) p.front in
     elim of [
       | inl (entries, m, e) ↦
-          let r = f.tells p.more p.left entries p.has p.whole (rw is at m) in
-          (messages_after (bodies_of given) (bodies_of r.0), e ∙ ap messages_of (ap bodies_of r.1 ∙ bodies_parts given r.0) ∙ after_these (bodies_of given) (bodies_of r.0))
-      | inr (none, e) ↦ ([], e ∙ sym (append-nil (messages_of (bodies_of given)) ∙ ap (λ xs. messages_of (bodies_of xs)) (f.none p.more p.left p.has p.whole (rw is at none)) ∙ no_messages))
+          let r = f.tells p.more p.left entries p.has p.whole (rw is at m) in (
+            messages_after (bodies_of given) (bodies_of r.0),
+            e ∙ ap messages_of (ap bodies_of r.1 ∙ bodies_parts given r.0) ∙ after_these (bodies_of given) (bodies_of r.0),
+          )
+      | inr (none, e) ↦ (
+        [],
+        e ∙ sym (append-nil (messages_of (bodies_of given))
+            ∙ ap (λ xs. messages_of (bodies_of xs)) (f.none p.more p.left p.has p.whole (rw is at none)) ∙ no_messages),
+      )
     ]
 
 -- and with Ok all of them
-pub whole_text : {before after : Option (List ℕ)} {reads : ℕ} {all : List Entry} → GaveAll before after reads all → (t : List ℕ) → Possible before after t → Mbox t all
+pub whole_text : {before after : Option (List ℕ)} {reads : ℕ} {all : List Entry}
+    → GaveAll before after reads all → (t : List ℕ) → Possible before after t → Mbox t all
 whole_text {before} {after} gave t p =
     let at_end : p.left ≡ [] = rw p.has at gave.end in
     let is : t ≡ gave.text = rw (← read_is before after gave.text t gave.read p) p.front ∙ ap (λ xs. gave.text ++ xs) (p.whole at_end) ∙ append-nil gave.text in
@@ -43,7 +54,9 @@ whole_messages t all whole ms (inl (entries, m, e)) = e ∙ ap (λ es. messages_
 whole_messages t all whole ms (inr (none, e)) = absurd (none all whole)
 
 -- the messages that were given, and those that were not; with Ok there are no others
-pub given_of : {A E : Type 0} (r : Result A E) (before after : Option (List ℕ)) (reads : ℕ) (given : List Entry) → IsFrontOf before after reads given → OnOk r (GaveAll before after reads given) → (t : List ℕ) (ms : List Message) → Possible before after t → MessagesOf t ms → (more : List Message) × (ms ≡ messages_of (bodies_of given) ++ more) × OnOk r (ms ≡ messages_of (bodies_of given))
+pub given_of : {A E : Type 0} (r : Result A E) (before after : Option (List ℕ)) (reads : ℕ) (given : List Entry) → IsFrontOf before after reads given
+    → OnOk r (GaveAll before after reads given) → (t : List ℕ) (ms : List Message) → Possible before after t → MessagesOf t ms
+    → (more : List Message) × (ms ≡ messages_of (bodies_of given) ++ more) × OnOk r (ms ≡ messages_of (bodies_of given))
 given_of (Ok x) before after reads given front whole t ms p of =
     let same = whole_messages t given (whole_text whole t p) ms of in
     ([], same ∙ sym (append-nil (messages_of (bodies_of given))), same)
@@ -53,5 +66,6 @@ given_of (Err e) before after reads given front whole t ms p of = let f = front_
 pub batch_bodies : (given whole entries : List Entry) → entries ≡ whole → bodies_of given ++ bodies_of entries ≡ bodies_of (given ++ whole)
 batch_bodies given whole entries e = ap (λ es. bodies_of given ++ bodies_of es) e ∙ sym (bodies_parts given whole)
 
-pub batch_few : (given whole entries : List Entry) (reads : ℕ) → entries ≡ whole → length (given ++ whole) ≤ 65536 * reads → reads ≤ 2 ^ 40 → length (bodies_of given) + length entries ≤ 2 ^ 63
+pub batch_few : (given whole entries : List Entry) (reads : ℕ) → entries ≡ whole
+    → length (given ++ whole) ≤ 65536 * reads → reads ≤ 2 ^ 40 → length (bodies_of given) + length entries ≤ 2 ^ 63
 batch_few given whole entries reads e few most = omega (arith, ap length e, length-append given whole, length-map given (λ (x : Entry). x.body))

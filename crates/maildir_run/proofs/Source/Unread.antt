@@ -1,6 +1,7 @@
 -- Reads that are refused, of texts that no list of messages fits.
 use Rattle.std.proofs.Common.{◌≡◌, ◌⊎◌, ℕ, ◌≤◌, Bool, Option, Result, Ok, Err, List, [], ◌++◌, length, arith, inl, inr, ◌*◌, IsErr, IsErrAnd, append-nil}
-use Rattle.maildir_run.proofs.Common.{Consumes, IsAtEnd, false≢true, Entry, Splitter, NeverFrom, IsTooShort, NeverBegins, RunFault, NoFromLine, TooManyReads, OutOfMemory, Reader, NeverReads, Breaks, Went}
+use Rattle.maildir_run.proofs.Common.{Consumes, IsAtEnd, false≢true, Entry, Splitter, NeverFrom, IsTooShort, NeverBegins}
+use Rattle.maildir_run.proofs.Common.{RunFault, NoFromLine, TooManyReads, OutOfMemory, Reader, NeverReads, Breaks, Went}
 use Rattle.mbox_text.specs.Fed.{Fed}
 use Rattle.mbox_text.proofs.Splitting.Fields.{never-more}
 use Rattle.mbox_text.proofs.Reading.Unreadable.{never_given, never_unreadable, short_given, short_unreadable}
@@ -15,7 +16,8 @@ short_reads text after s end more left has whole entries h =
     short_unreadable text s entries (rw all at h)
 
 -- a read that is refused
-pub breaks_went : (old : Reader) (before after : Option (List ℕ)) (out out' : List Entry) (splitter : Splitter) (reads : ℕ) (r : Result Bool RunFault) (fault : RunFault) → IsErr r → IsErrAnd r (λ e. e ≡ fault)
+pub breaks_went : (old : Reader) (before after : Option (List ℕ)) (out out' : List Entry) (splitter : Splitter)
+    (reads : ℕ) (r : Result Bool RunFault) (fault : RunFault) → IsErr r → IsErrAnd r (λ e. e ≡ fault)
     → Breaks old before after fault → Went old before after out out' splitter reads r
 breaks_went old before after out out' splitter reads (Ok b) fault is e h = absurd (false≢true is)
 breaks_went old before after out out' splitter reads (Err f) fault is e h = rw e h
@@ -26,7 +28,8 @@ unspent left fault (inl e) is = cc
 unspent left fault (inr e) is = cc
 
 -- the last message could not be told
-pub finish_breaks : (old : Reader) (before after : Option (List ℕ)) (fault : RunFault) → (fault ≡ NoFromLine) ⊎ (fault ≡ OutOfMemory) → Consumes before after [] → IsAtEnd after
+pub finish_breaks : (old : Reader) (before after : Option (List ℕ)) (fault : RunFault)
+    → (fault ≡ NoFromLine) ⊎ (fault ≡ OutOfMemory) → Consumes before after [] → IsAtEnd after
     → (fault ≡ NoFromLine → (text : List ℕ) (given : List Entry) → Fed text given old.splitter → IsTooShort text) → Breaks old before after fault
 finish_breaks old before after fault cause read end short = (
   [],
@@ -37,7 +40,8 @@ finish_breaks old before after fault cause read end short = (
 )
 
 -- what was read can't begin a text
-pub feed_breaks : (old : Reader) (before after : Option (List ℕ)) (piece : List ℕ) (out out' : List Entry) (fault : RunFault) → (fault ≡ NoFromLine) ⊎ (fault ≡ OutOfMemory) → Consumes before after piece → length piece ≤ 65536 * old.reads_left
+pub feed_breaks : (old : Reader) (before after : Option (List ℕ)) (piece : List ℕ) (out out' : List Entry) (fault : RunFault)
+    → (fault ≡ NoFromLine) ⊎ (fault ≡ OutOfMemory) → Consumes before after piece → length piece ≤ 65536 * old.reads_left
     → (fault ≡ NoFromLine → NeverBegins old.splitter piece out out') → Breaks old before after fault
 feed_breaks old before after piece out out' fault cause read size never = (
   piece,

@@ -1,6 +1,8 @@
 -- Where the messages are delivered, a quiet run has nothing to do.
 use Rattle.std.proofs.Common.{◌≡◌, ℕ, ◌+◌, ◌%◌, ◌^◌, length, Ok, arith, true, cond, not, List, [], ◌∷◌, All, None, IsTrue, refl, ap, ◌∙◌, inr}
-use Rattle.maildir_run.proofs.Common.{get, retain_keys, same_map, empty, get-empty, len, len-empty, All-head, All-tail, is_converter_name, Files, FileMap, name_cmp, Message, is_any, has_home, IsHome, IsSwept, Delivered, there_count, leftover_count, IsPermutation-refl, Report, MessagesOf, IsRun, CountsRun, swept, added, filled, alone}
+use Rattle.maildir_run.proofs.Common.{get, retain_keys, same_map, empty, get-empty, len, len-empty, All-head, All-tail, is_converter_name}
+use Rattle.maildir_run.proofs.Common.{Files, FileMap, name_cmp, Message, is_any, has_home, IsHome, IsSwept, Delivered, there_count}
+use Rattle.maildir_run.proofs.Common.{leftover_count, IsPermutation-refl, Report, MessagesOf, IsRun, CountsRun, swept, added, filled, alone}
 use Rattle.maildir_run.proofs.Call.Leftovers.{leftovers_are}
 use Rattle.maildir_run.proofs.Chains.BaseNumbers.{count-cons}
 use Rattle.maildir_run.proofs.Names.Maps.{total, same, get_under}
@@ -30,7 +32,8 @@ all_there s (m ∷ ms) there =
     let rest = all_there s ms (All-tail (IsHome s) m ms there) in
     count-cons (λ (n : Message). has_home s n.target.base) m ms true (ap is_any (All-head (IsHome s) m ms there)) ∙ omega (arith, rest)
 
-pub three_calls : (t : List ℕ) (ms : List Message) (s new : Files) (report : Report) → MessagesOf t ms → Delivered ms s → IsRun t s (Ok report) new → (before after : ℕ) → CountsRun report before after →
+pub three_calls : (t : List ℕ) (ms : List Message) (s new : Files) (report : Report) → MessagesOf t ms
+    → Delivered ms s → IsRun t s (Ok report) new → (before after : ℕ) → CountsRun report before after →
     (report.placed ≡ 0) × (report.swept ≡ 0) × (after % 2 ^ 128 ≡ (before + 3) % 2 ^ 128)
 three_calls t ms s new report are d run before after made =
     let reports = (run.keeps ms are (record { own = λ k e h. inr (d.homes_are k e h); others = λ b named other. IsPermutation-refl _ })).ends.reports in

@@ -32,7 +32,8 @@ raised-mod (suc n) count =
     ∙ ap (λ k. k % 2 ^ 128) (omega arith)
 
 -- ---- at an exit
-pub run_counts : (report : Report) (swept placed made made' calls calls' : ℕ) → report.swept ≡ swept → report.placed ≡ placed → Makes (3 + swept + 2 * placed) made made' calls calls' → CountsRun report calls calls'
+pub run_counts : (report : Report) (swept placed made made' calls calls' : ℕ) → report.swept ≡ swept
+    → report.placed ≡ placed → Makes (3 + swept + 2 * placed) made made' calls calls' → CountsRun report calls calls'
 run_counts report swept placed made made' calls calls' e f makes =
     ap (λ k. k % 2 ^ 128) makes.count_is ∙ raised-mod (3 + swept + 2 * placed) calls
     ∙ ap (λ k. (calls + k) % 2 ^ 128) (omega (arith, e, f))

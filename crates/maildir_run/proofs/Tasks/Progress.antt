@@ -1,6 +1,10 @@
 -- How far a run has come, and what that says at its exits.
-use Rattle.std.proofs.Common.{◌≡◌, ℕ, ◌<◌, ◌≤◌, false, List, [], ◌∷◌, ◌++◌, All, IsPermutation, IsFalse, length, get_or, refl, sym, subst, ◌∙◌, inl, inr, ◌⊎◌, arith, AllPairs, IsTrue, ap, length-append}
-use Rattle.maildir_run.proofs.Common.{or_parts, cases_Bool, cases_lt, All-push, All-from_get_or, get_or_append_left, list_any-append, list_any_none, IsPermutation-refl, IsPermutation-sym, IsPermutation-trans, Files, is_name, homes, Message, IsMissing, IsHome, IsSoundAt, HasHome, is_any, AreNamed, AreDistinct, is_base_of, Sound, KeepsHomes, DeliversMessage, Progress, get_or-append_seam, eq_by_cmp_equiv, All-weaker, is_converter_base}
+use Rattle.std.proofs.Common.{◌≡◌, ℕ, ◌<◌, ◌≤◌, false, List, [], ◌∷◌, ◌++◌, All, IsPermutation, IsFalse, length}
+use Rattle.std.proofs.Common.{get_or, refl, sym, subst, ◌∙◌, inl, inr, ◌⊎◌, arith, AllPairs, IsTrue, ap, length-append}
+use Rattle.maildir_run.proofs.Common.{or_parts, cases_Bool, cases_lt, All-push, All-from_get_or, get_or_append_left, list_any-append}
+use Rattle.maildir_run.proofs.Common.{list_any_none, IsPermutation-refl, IsPermutation-sym, IsPermutation-trans, Files, is_name, homes, Message}
+use Rattle.maildir_run.proofs.Common.{IsMissing, IsHome, IsSoundAt, HasHome, is_any, AreNamed, AreDistinct, is_base_of, Sound, KeepsHomes}
+use Rattle.maildir_run.proofs.Common.{DeliversMessage, Progress, get_or-append_seam, eq_by_cmp_equiv, All-weaker, is_converter_base}
 use Rattle.maildir_run.proofs.Names.Maps.{is_name-true, total}
 use Rattle.maildir_run.proofs.Call.Moves.{homes_none, homes_one, permutation_of_none}
 
@@ -11,7 +15,8 @@ progress_on done old mid now named leaves p = record {
   kept = λ base is other. IsPermutation-trans _ _ _ (p.kept base is other) (leaves.kept base is);
 }
 
-not_before : (done : List Message) (m : Message) (base : List ℕ) → IsFalse (is_base_of (done ++ m ∷ []) base) → IsFalse (is_base_of done base) × IsFalse (is_name m.target.base base)
+not_before : (done : List Message) (m : Message) (base : List ℕ) → IsFalse (is_base_of (done ++ m ∷ []) base)
+    → IsFalse (is_base_of done base) × IsFalse (is_name m.target.base base)
 not_before done m base off =
     let parts = or_parts (is_base_of done base) (is_base_of (m ∷ []) base) (sym (list_any-append (λ n. is_name n.target.base base) done (m ∷ [])) ∙ off) in
     (parts.0, (or_parts (is_name m.target.base base) false parts.1).0)
@@ -24,11 +29,14 @@ progress_home done m old now home p = record {
 }
 
 -- the messages so far keep their homes as another is delivered
-delivers_done : (done : List Message) (m : Message) (mid now : Files) → AreNamed done → All (λ n. IsFalse (is_name m.target.base n.target.base)) done → DeliversMessage m mid now → All (IsHome mid) done → All (IsHome now) done
+delivers_done : (done : List Message) (m : Message) (mid now : Files) → AreNamed done
+    → All (λ n. IsFalse (is_name m.target.base n.target.base)) done → DeliversMessage m mid now → All (IsHome mid) done → All (IsHome now) done
 delivers_done done m mid now named apart delivers all =
     λ k d h. homes_one _ _ mid now (delivers.others _ (named k d h) (apart k d h)) (all k d h)
 
-pub progress_delivered : (done : List Message) (m : Message) (old mid now : Files) → AreNamed done → All (λ n. IsFalse (is_name m.target.base n.target.base)) done → DeliversMessage m mid now → IsHome now m → Progress done old mid → Progress (done ++ m ∷ []) old now
+pub progress_delivered : (done : List Message) (m : Message) (old mid now : Files) → AreNamed done
+    → All (λ n. IsFalse (is_name m.target.base n.target.base)) done → DeliversMessage m mid now
+    → IsHome now m → Progress done old mid → Progress (done ++ m ∷ []) old now
 progress_delivered done m old mid now named apart delivers home p = record {
   homes_are = All-push (IsHome now) done m (delivers_done done m mid now named apart delivers p.homes_are) home;
   kept = λ base is other.
@@ -58,7 +66,8 @@ pub record KeptSoFar (ms : List Message) (old now : Files) : Type 0 where
 at_done : (P : Message → Type 0) (done rest : List Message) (k : ℕ) (d : Message) → k < length done → P (get_or done k d) → P (get_or (done ++ rest) k d)
 at_done P done rest k d lt h = subst P (sym (get_or_append_left done rest d k lt)) h
 
-module _ (done rest : List Message) (old now : Files) (named : AreNamed (done ++ rest)) (distinct : AreDistinct (done ++ rest)) (sound : Sound (done ++ rest) old old) (p : Progress done old now) where
+module _ (done rest : List Message) (old now : Files) (named : AreNamed (done ++ rest))
+    (distinct : AreDistinct (done ++ rest)) (sound : Sound (done ++ rest) old old) (p : Progress done old now) where
   module _ (k : ℕ) (d : Message) (ge : length done ≤ k) (h : k < length (done ++ rest)) where
     base_apart : IsFalse (is_base_of done (get_or (done ++ rest) k d).target.base)
     base_apart =
@@ -86,11 +95,15 @@ module _ (done rest : List Message) (old now : Files) (named : AreNamed (done ++
         | inr ge ↦ sym (any_kept _ _ (kept_at k d ge h)) ∙ there
       ]
 
-  in_order_now : (i j : ℕ) (d : Message) → i < j → j < length (done ++ rest) → IsMissing old (get_or (done ++ rest) j d) → HasHome now (get_or (done ++ rest) j d) → HasHome now (get_or (done ++ rest) i d)
+  in_order_now : (i j : ℕ) (d : Message) → i < j → j < length (done ++ rest) → IsMissing old (get_or (done ++ rest) j d)
+      → HasHome now (get_or (done ++ rest) j d) → HasHome now (get_or (done ++ rest) i d)
   in_order_now i j d lt h missing there =
       elim (cases_lt j (length done)) [
-        | inl lt_done ↦ let before : i < length done = omega arith in at_done (HasHome now) done rest i d before (home_there (get_or done i d) now (p.homes_are i d before))
-        | inr ge ↦ absurd (missing_there (get_or (done ++ rest) j d) now (homes_none (get_or (done ++ rest) j d).target.base old now (kept_at j d ge h) missing) there)
+        | inl lt_done ↦ let before : i < length done =
+            omega arith in
+            at_done (HasHome now) done rest i d before (home_there (get_or done i d) now (p.homes_are i d before))
+        | inr ge ↦
+            absurd (missing_there (get_or (done ++ rest) j d) now (homes_none (get_or (done ++ rest) j d).target.base old now (kept_at j d ge h) missing) there)
       ]
 
   other_now : (base : List ℕ) → IsFalse (is_base_of (done ++ rest) base) → IsFalse (is_base_of done base)
@@ -114,7 +127,8 @@ nothing_delivered m mid now was is delivers = record {
 }
 
 -- a message that was missing was delivered, or is missing yet
-pub progress_or_more : (done : List Message) (m : Message) (old mid now : Files) → AreNamed done → All (λ n. IsFalse (is_name m.target.base n.target.base)) done → IsMissing mid m → DeliversMessage m mid now → Progress done old mid → Progress done old now ⊎ Progress (done ++ m ∷ []) old now
+pub progress_or_more : (done : List Message) (m : Message) (old mid now : Files) → AreNamed done → All (λ n. IsFalse (is_name m.target.base n.target.base)) done
+    → IsMissing mid m → DeliversMessage m mid now → Progress done old mid → Progress done old now ⊎ Progress (done ++ m ∷ []) old now
 progress_or_more done m old mid now named apart was delivers p =
     elim delivers.own [
       | inl is ↦ inl (progress_on done old mid now named (nothing_delivered m mid now was is delivers) p)
@@ -122,19 +136,24 @@ progress_or_more done m old mid now named apart was delivers p =
     ]
 
 -- ---- messages that were done
-pub apart_front : (done : List Message) (m : Message) (later : List Message) → AreDistinct (done ++ m ∷ later) → All (λ n. IsFalse (is_name m.target.base n.target.base)) done
+pub apart_front : (done : List Message) (m : Message) (later : List Message)
+    → AreDistinct (done ++ m ∷ later) → All (λ n. IsFalse (is_name m.target.base n.target.base)) done
 apart_front done m later distinct =
     All-from_get_or (λ n. IsFalse (is_name m.target.base n.target.base)) done m (λ i lt.
-    let h : IsFalse (is_name (get_or (done ++ m ∷ later) i m).target.base (get_or (done ++ m ∷ later) (length done) m).target.base) = distinct i (length done) m lt (omega (arith, length-append done (m ∷ later))) in
+    let h : IsFalse (is_name (get_or (done ++ m ∷ later) i m).target.base (get_or (done ++ m ∷ later) (length done) m).target.base) =
+    distinct i (length done) m lt (omega (arith, length-append done (m ∷ later))) in
     (eq_by_cmp_equiv total).symm m.target.base (get_or done i m).target.base
     ∙ ap (λ x. is_name x.target.base m.target.base) (sym (get_or_append_left done (m ∷ later) m i lt))
     ∙ ap (λ y. is_name (get_or (done ++ m ∷ later) i m).target.base y.target.base) (sym (get_or-append_seam done m later m))
     ∙ h)
 
 not_done : (done : List Message) (m : Message) → All (λ n. IsFalse (is_name m.target.base n.target.base)) done → IsFalse (is_base_of done m.target.base)
-not_done done m apart = list_any_none (λ n. is_name n.target.base m.target.base) done (All-weaker (λ n. is_name m.target.base n.target.base ≡ false) (λ n. is_name n.target.base m.target.base ≡ false) (λ n h. (eq_by_cmp_equiv total).symm n.target.base m.target.base ∙ h) done apart)
+not_done done m apart =
+    list_any_none (λ n. is_name n.target.base m.target.base) done (All-weaker (λ n. is_name m.target.base n.target.base ≡ false)
+    (λ n. is_name n.target.base m.target.base ≡ false) (λ n h. (eq_by_cmp_equiv total).symm n.target.base m.target.base ∙ h) done apart)
 
-module _ (done : List Message) (m : Message) (old now : Files) (named : IsTrue (is_converter_base m.target.base)) (apart : All (λ n. IsFalse (is_name m.target.base n.target.base)) done) (p : Progress done old now) where
+module _ (done : List Message) (m : Message) (old now : Files) (named : IsTrue (is_converter_base m.target.base))
+    (apart : All (λ n. IsFalse (is_name m.target.base n.target.base)) done) (p : Progress done old now) where
   pub still_missing : IsMissing old m → IsMissing now m
   still_missing h = homes_none m.target.base old now (p.kept m.target.base named (not_done done m apart)) h
 

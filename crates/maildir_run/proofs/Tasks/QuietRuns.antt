@@ -1,6 +1,9 @@
 -- What a run's calls leave in a quiet folder.
-use Rattle.std.proofs.Common.{◌≡◌, ℕ, Bool, true, false, cond, not, List, [], ◌∷◌, map, Option, Some, None, IsPermutation, IsTrue, IsFalse, refl, sym, ap, ◌∙◌, arith, filter}
-use Rattle.maildir_run.proofs.Common.{list_any, get, insert, remove, keys, retain_keys, same_map, contains_key-keys, any-filter_same, list_any-IsPermutation, is_converter_name, Files, FileMap, is_name, Call, Listing, Writing, Placing, Removing, Move, Other, Again, Torn, after, effect, placed, torn, IsOwn, swept, added, Message, KeepsForeign, Do, quietly, AllDone, sweep_of}
+use Rattle.std.proofs.Common.{◌≡◌, ℕ, Bool, true, false, cond, not, List, [], ◌∷◌, map, Option, Some}
+use Rattle.std.proofs.Common.{None, IsPermutation, IsTrue, IsFalse, refl, sym, ap, ◌∙◌, arith, filter}
+use Rattle.maildir_run.proofs.Common.{list_any, get, insert, remove, keys, retain_keys, same_map, contains_key-keys, any-filter_same, list_any-IsPermutation}
+use Rattle.maildir_run.proofs.Common.{is_converter_name, Files, FileMap, is_name, Call, Listing, Writing, Placing, Removing, Move, Other, Again}
+use Rattle.maildir_run.proofs.Common.{Torn, after, effect, placed, torn, IsOwn, swept, added, Message, KeepsForeign, Do, quietly, AllDone, sweep_of}
 use Rattle.maildir_name.specs.declared.target.Place.{Place}
 use Rattle.maildir_name.specs.declared.target.Place.TheVariants.{New, Cur}
 use Rattle.maildir_run.proofs.Names.Maps.{none_if_not_some, total, same, is_name-true, alike, get_under, get_inserted, get_removed, get-insert_same, put_away}
@@ -31,10 +34,13 @@ remove_other m q name ours off = grind (arith, get_removed, alike is_converter_n
 wrote : (s : Files) (name bytes : List ℕ) → IsTrue (is_converter_name name) → KeepsForeign s (record s { tmp = insert s.tmp name bytes })
 wrote s name bytes ours = record { in_tmp = λ q off. insert_other s.tmp q name bytes ours off; in_new = λ q off. refl; in_cur = λ q off. refl }
 
-placed_others : (s : Files) (name : List ℕ) (p : Place) (target : List ℕ) (o : Option (List ℕ)) → IsTrue (is_converter_name name) → IsTrue (is_converter_name target) → KeepsForeign s (placed s name p target o)
+placed_others : (s : Files) (name : List ℕ) (p : Place) (target : List ℕ) (o : Option (List ℕ))
+    → IsTrue (is_converter_name name) → IsTrue (is_converter_name target) → KeepsForeign s (placed s name p target o)
 placed_others s name p target None ours theirs = others_same s
-placed_others s name New target (Some bytes) ours theirs = record { in_tmp = λ q off. remove_other s.tmp q name ours off; in_new = λ q off. insert_other s.new q target bytes theirs off; in_cur = λ q off. refl }
-placed_others s name Cur target (Some bytes) ours theirs = record { in_tmp = λ q off. remove_other s.tmp q name ours off; in_new = λ q off. refl; in_cur = λ q off. insert_other s.cur q target bytes theirs off }
+placed_others s name New target (Some bytes) ours theirs =
+    record { in_tmp = λ q off. remove_other s.tmp q name ours off; in_new = λ q off. insert_other s.new q target bytes theirs off; in_cur = λ q off. refl }
+placed_others s name Cur target (Some bytes) ours theirs =
+    record { in_tmp = λ q off. remove_other s.tmp q name ours off; in_new = λ q off. refl; in_cur = λ q off. insert_other s.cur q target bytes theirs off }
 
 pub effect_others : (call : Call) → OfConverter call → (s : Files) → KeepsForeign s (effect call s)
 effect_others (Listing sub) h s = others_same s
@@ -49,12 +55,15 @@ torn_others other h bytes s = others_same s
 pub own_others : (call : Call) → OfConverter call → (ms : List Move) (s : Files) → IsOwn ms → KeepsForeign s (after s call ms)
 own_others call h [] s own = others_same s
 own_others call h (Other action ∷ ms) s own = absurd own
-own_others call h (Again ∷ ms) s own = foreign_then s (effect call s) (after s call (Again ∷ ms)) (effect_others call h s) (own_others call h ms (effect call s) own)
-own_others call h (Torn bytes ∷ ms) s own = foreign_then s (torn call bytes s) (after s call (Torn bytes ∷ ms)) (torn_others call h bytes s) (own_others call h ms (torn call bytes s) own)
+own_others call h (Again ∷ ms) s own =
+    foreign_then s (effect call s) (after s call (Again ∷ ms)) (effect_others call h s) (own_others call h ms (effect call s) own)
+own_others call h (Torn bytes ∷ ms) s own =
+    foreign_then s (torn call bytes s) (after s call (Torn bytes ∷ ms)) (torn_others call h bytes s) (own_others call h ms (torn call bytes s) own)
 
 -- ---- the sweep
 -- these names are out of `tmp`, and nothing else has changed
-all_removed : (names : List (List ℕ)) (old new : Files) → AllDone quietly (map (λ name. Do (Removing name)) names) old new → ((q : List ℕ) → get new.tmp q ≡ cond (list_any (is_name q) names) None (get old.tmp q)) × (new.new ≡ old.new) × (new.cur ≡ old.cur)
+all_removed : (names : List (List ℕ)) (old new : Files) → AllDone quietly (map (λ name. Do (Removing name)) names) old new
+    → ((q : List ℕ) → get new.tmp q ≡ cond (list_any (is_name q) names) None (get old.tmp q)) × (new.new ≡ old.new) × (new.cur ≡ old.cur)
 all_removed [] old new e = ((λ q. ap (λ s. get s.tmp q) e), ap (λ s. s.new) e, ap (λ s. s.cur) e)
 all_removed (x ∷ names) old new (mid, one, more) =
     let r = all_removed names mid new more in (
@@ -63,24 +72,29 @@ all_removed (x ∷ names) old new (mid, one, more) =
       r.2 ∙ ap (λ s. s.cur) one.1,
     )
 
-pub swept_exact : (names : List (List ℕ)) (start now : Files) → IsPermutation names (keys start.tmp) → AllDone quietly (sweep_of names) start now → now ≡ swept start
+pub swept_exact : (names : List (List ℕ)) (start now : Files) → IsPermutation names (keys start.tmp)
+    → AllDone quietly (sweep_of names) start now → now ≡ swept start
 swept_exact names start now listed done =
     let r = all_removed (filter is_converter_name names) start now done in
     let tmp : now.tmp ≡ retain_keys start.tmp (λ name. not (is_converter_name name)) = same_map total same _ _ (λ q.
     r.0 q
-    ∙ ap (λ t. cond t None (get start.tmp q)) (any-filter_same (is_name q) is_converter_name (is_converter_name q) (λ k e. ap is_converter_name (sym (is_name-true q k e))) names)
-    ∙ (let gone : list_any (is_name q) names ≡ false → get start.tmp q ≡ None = λ off. none_if_not_some (get start.tmp q) (contains_key-keys start.tmp q ∙ sym (list_any-IsPermutation (is_name q) names (keys start.tmp) listed) ∙ off) in
+    ∙ ap (λ t. cond t None (get start.tmp q))
+    (any-filter_same (is_name q) is_converter_name (is_converter_name q) (λ k e. ap is_converter_name (sym (is_name-true q k e))) names)
+    ∙ (let gone : list_any (is_name q) names ≡ false → get start.tmp q ≡ None = λ off.
+    none_if_not_some (get start.tmp q) (contains_key-keys start.tmp q ∙ sym (list_any-IsPermutation (is_name q) names (keys start.tmp) listed) ∙ off) in
     grind (arith, gone, get_under))) in
     ap (λ m. record now { tmp = m }) tmp
     ∙ ap (λ m. record { tmp = (swept start).tmp; new = m; cur = now.cur }) r.1
     ∙ ap (λ m. record { tmp = (swept start).tmp; new = start.new; cur = m }) r.2
 
 -- ---- a message
-placed_exact : (old : Files) (b body : List ℕ) (p : Place) (name : List ℕ) → get old.tmp b ≡ None → placed (record old { tmp = insert old.tmp b body }) b p name (Some body) ≡ added old p name body
+placed_exact : (old : Files) (b body : List ℕ) (p : Place) (name : List ℕ) → get old.tmp b ≡ None
+    → placed (record old { tmp = insert old.tmp b body }) b p name (Some body) ≡ added old p name body
 placed_exact old b body New name none = ap (λ m. record { tmp = m; new = insert old.new name body; cur = old.cur }) (put_away old.tmp b body none)
 placed_exact old b body Cur name none = ap (λ m. record { tmp = m; new = old.new; cur = insert old.cur name body }) (put_away old.tmp b body none)
 
-pub delivers_exact : (old mid new : Files) (b body : List ℕ) (p : Place) (name : List ℕ) → mid ≡ effect (Writing b body) old → new ≡ effect (Placing b p name) mid → get old.tmp b ≡ None → new ≡ added old p name body
+pub delivers_exact : (old mid new : Files) (b body : List ℕ) (p : Place) (name : List ℕ) → mid ≡ effect (Writing b body) old
+    → new ≡ effect (Placing b p name) mid → get old.tmp b ≡ None → new ≡ added old p name body
 delivers_exact old mid new b body p name wrote put none =
     put ∙ ap (effect (Placing b p name)) wrote
     ∙ ap (placed (record old { tmp = insert old.tmp b body }) b p name) (get-insert_same old.tmp b body)

@@ -1,12 +1,19 @@
 -- What tasks that were performed leave.
-use Rattle.std.proofs.Common.{Option, Some, None, ◌≡◌, ℕ, ◌≤◌, Bool, true, false, cond, List, [], ◌∷◌, ◌++◌, ◌⊎◌, map, length, All, IsPermutation, IsFalse, refl, sym, ap, subst, ◌∙◌, inl, inr, arith, append_assoc, length-append, filter, append-nil}
-use Rattle.maildir_run.proofs.Common.{get, keys, cases_Bool, get_or-append_seam, get_or_append_left, All-head, All-tail, any-filter_same, Target, is_converter_name, RunFault, New, Cur, filled, added, Placing, Removing, Again, AnyMoves, PlacesElsewhere, IsSwept, Message, IsMissing, IsHome, IsSoundAt, AreNamed, AreDistinct, has_home, leftover_count, Files, homes, is_name, is_listed, KeepsHomes, TmpWithin, DeliversMessage, Progress, Knows, IsTarget, KeepsForeign, Task, Ask, Do, call_of, Done, Way, honestly, quietly, AllDone, Stopped, Listings, listing_tasks, DoneUntil, sweep_of, delivery_of, delivery_if, deliveries_of}
+use Rattle.std.proofs.Common.{Option, Some, None, ◌≡◌, ℕ, ◌≤◌, Bool, true, false, cond, List, [], ◌∷◌, ◌++◌, ◌⊎◌, map, length, All, IsPermutation}
+use Rattle.std.proofs.Common.{IsFalse, refl, sym, ap, subst, ◌∙◌, inl, inr, arith, append_assoc, length-append, filter, append-nil}
+use Rattle.maildir_run.proofs.Common.{get, keys, cases_Bool, get_or-append_seam, get_or_append_left, All-head, All-tail, any-filter_same}
+use Rattle.maildir_run.proofs.Common.{Target, is_converter_name, RunFault, New, Cur, filled, added, Placing, Removing, Again, AnyMoves}
+use Rattle.maildir_run.proofs.Common.{PlacesElsewhere, IsSwept, Message, IsMissing, IsHome, IsSoundAt, AreNamed, AreDistinct, has_home}
+use Rattle.maildir_run.proofs.Common.{leftover_count, Files, homes, is_name, is_listed, KeepsHomes, TmpWithin, DeliversMessage}
+use Rattle.maildir_run.proofs.Common.{Progress, Knows, IsTarget, KeepsForeign, Task, Ask, Do, call_of, Done, Way, honestly, quietly, AllDone}
+use Rattle.maildir_run.proofs.Common.{Stopped, Listings, listing_tasks, DoneUntil, sweep_of, delivery_of, delivery_if, deliveries_of}
 use Rattle.maildir_run.specs.Tasks.{TaskRefused}
 use Rattle.maildir_run.proofs.Names.Maps.{is_name-true}
 use Rattle.maildir_run.proofs.Tasks.Progress.{progress_home, progress_delivered, progress_or_more, apart_front, still_missing, still_there}
 use Rattle.maildir_run.proofs.Tasks.QuietRuns.{OfConverter, others_same, foreign_then, effect_others, own_others, delivers_exact, step_tmp}
 use Rattle.maildir_run.proofs.Call.Homes.{none_of, home_known}
-use Rattle.maildir_run.proofs.Call.Steps.{ok_moves, called_kept, write_delivers, write_ok, place_delivers, place_home, removing_within, listing_within, base_name, leaves_none, leaves_trans}
+use Rattle.maildir_run.proofs.Call.Steps.{ok_moves, called_kept, write_delivers, write_ok, place_delivers, place_home}
+use Rattle.maildir_run.proofs.Call.Steps.{removing_within, listing_within, base_name, leaves_none, leaves_trans}
 use Rattle.maildir_run.proofs.Call.FolderListings.{listed_within, three_listings, few_listed}
 
 -- ---- the parts of a list of tasks
@@ -14,7 +21,8 @@ pub all_parts : (w : Way) (xs ys : List Task) (a c : Files) → AllDone w (xs ++
 all_parts w [] ys a c h = (a, refl, h)
 all_parts w (x ∷ xs) ys a c (mid, one, more) = let r = all_parts w xs ys mid c more in (r.0, (mid, one, r.1), r.2)
 
-pub stopped_parts : (w : Way) (xs ys : List Task) (a c : Files) → Stopped w (xs ++ ys) a c → Stopped w xs a c ⊎ ((b : Files) × AllDone w xs a b × Stopped w ys b c)
+pub stopped_parts : (w : Way) (xs ys : List Task) (a c : Files) → Stopped w (xs ++ ys) a c
+    → Stopped w xs a c ⊎ ((b : Files) × AllDone w xs a b × Stopped w ys b c)
 stopped_parts w [] ys a c h = inr (a, refl, h)
 stopped_parts w (x ∷ xs) ys a c (inl h) = inl (inl h)
 stopped_parts w (x ∷ xs) ys a c (inr (mid, one, more)) =
@@ -42,20 +50,23 @@ abbrev pub PlacesNone : Task → Type 0
 PlacesNone task = (b : List ℕ) → PlacesElsewhere b (call_of task)
 
 -- what each of them keeps from one moment to the next, done or refused, all of them keep
-module _ (w : Way) (R : Files → Files → Type 0) (same : (s : Files) → R s s) (then : (a b c : Files) → R a b → R b c → R a c) (P : Task → Type 0) (one : (task : Task) → P task → (old new : Files) → w.done task old new ⊎ w.refused task old new → R old new) where
+module _ (w : Way) (R : Files → Files → Type 0) (same : (s : Files) → R s s) (then : (a b c : Files) → R a b → R b c → R a c)
+    (P : Task → Type 0) (one : (task : Task) → P task → (old new : Files) → w.done task old new ⊎ w.refused task old new → R old new) where
   pub across : (fault : Option RunFault) (tasks : List Task) → EachTask P tasks → (old new : Files) → DoneUntil w tasks old fault new → R old new
   across None [] each old new e = subst (R old) (sym e) (same old)
   across (Some f) [] each old new e = subst (R old) (sym e) (same old)
   across None (task ∷ tasks) each old new (mid, done, more) = then old mid new (one task each.0 old mid (inl done)) (across None tasks each.1 mid new more)
   across (Some f) (task ∷ tasks) each old new (inl refused) = one task each.0 old new (inr refused)
-  across (Some f) (task ∷ tasks) each old new (inr (mid, done, more)) = then old mid new (one task each.0 old mid (inl done)) (across (Some f) tasks each.1 mid new more)
+  across (Some f) (task ∷ tasks) each old new (inr (mid, done, more)) =
+      then old mid new (one task each.0 old mid (inl done)) (across (Some f) tasks each.1 mid new more)
 
 one_leaves : (task : Task) → PlacesNone task → (old new : Files) → Done task old new ⊎ TaskRefused task old new → KeepsHomes old new
 one_leaves task off old new h = record {
   kept = λ b named. called_kept b named (call_of task) (off b) old new (elim h [ inl done ↦ done_moves task old new done | inr refused ↦ refused ]);
 }
 
-pub done_leaves : (fault : Option RunFault) (tasks : List Task) → EachTask PlacesNone tasks → (old new : Files) → DoneUntil honestly tasks old fault new → KeepsHomes old new
+pub done_leaves : (fault : Option RunFault) (tasks : List Task) → EachTask PlacesNone tasks
+    → (old new : Files) → DoneUntil honestly tasks old fault new → KeepsHomes old new
 done_leaves = across honestly KeepsHomes leaves_none leaves_trans PlacesNone one_leaves
 
 pub listings_place_none : (names : Listings) → EachTask PlacesNone (listing_tasks names)
@@ -76,7 +87,9 @@ pub record KnownByListings (names : Listings) (old new : Files) : Type 0 where
 
 pub known_by_listings : (names : Listings) (old new : Files) → AllDone honestly (listing_tasks names) old new → KnownByListings names old new
 known_by_listings names old new (a, first, (b, second, (c, third, e))) = record {
-  within = subst (TmpWithin names.tmp) (sym e) (listed_within Cur names.tmp b names.cur c third (listed_within New names.tmp a names.new b second (listing_within old names.tmp a first)));
+  within =
+      subst (TmpWithin names.tmp) (sym e)
+      (listed_within Cur names.tmp b names.cur c third (listed_within New names.tmp a names.new b second (listing_within old names.tmp a first)));
   few = few_listed old names.tmp a first;
   knows = λ base named. three_listings base named old a b c names.tmp names.new names.cur first second third;
 }
@@ -92,19 +105,23 @@ IsOurs task = OfConverter (call_of task)
 pub sweep_ours : (names : List (List ℕ)) → EachTask IsOurs (sweep_of names)
 sweep_ours [] = tt
 sweep_ours (name ∷ names) =
-    elim (is_converter_name name) as (λ t. is_converter_name name ≡ t → EachTask IsOurs (map (λ n. Do (Removing n)) (cond t (name ∷ filter is_converter_name names) (filter is_converter_name names)))) [
+    elim (is_converter_name name) as (λ t. is_converter_name name ≡ t
+    → EachTask IsOurs (map (λ n. Do (Removing n)) (cond t (name ∷ filter is_converter_name names) (filter is_converter_name names)))) [
       | true ↦ λ e. (e, sweep_ours names)
       | false ↦ λ e. sweep_ours names
     ] refl
 
-each_swept : (names : List (List ℕ)) → EachTask IsOurs (map (λ name. Do (Removing name)) names) → (old new : Files) → TmpWithin names old → AllDone honestly (map (λ name. Do (Removing name)) names) old new → TmpWithin [] new
+each_swept : (names : List (List ℕ)) → EachTask IsOurs (map (λ name. Do (Removing name)) names) → (old new : Files)
+    → TmpWithin names old → AllDone honestly (map (λ name. Do (Removing name)) names) old new → TmpWithin [] new
 each_swept [] ours old new within e = subst (TmpWithin []) (sym e) within
 each_swept (name ∷ names) ours old new within (mid, one, more) = each_swept names ours.1 mid new (removing_within name names ours.0 old mid one within) more
 
 pub all_swept : (names : List (List ℕ)) (old new : Files) → TmpWithin names old → AllDone honestly (sweep_of names) old new → TmpWithin [] new
 all_swept names old new within =
     each_swept (filter is_converter_name names) (sweep_ours names) old new (record {
-      gone = λ q ours off. within.gone q ours (sym (any-filter_same (is_name q) is_converter_name true (λ k e. ap is_converter_name (sym (is_name-true q k e)) ∙ ours) names) ∙ off);
+      gone = λ q ours off.
+          within.gone q ours
+          (sym (any-filter_same (is_name q) is_converter_name true (λ k e. ap is_converter_name (sym (is_name-true q k e)) ∙ ours) names) ∙ off);
     })
 
 -- ---- one message
@@ -142,7 +159,8 @@ module _ (start : Files) (is_there : List ℕ → Bool) (knows : Knows is_there 
   home_is : (t : Target) (shown : Bool) → IsTarget t → is_there t.base ≡ shown → has_home start t.base ≡ shown
   home_is t shown named e = sym (knows t.base named.named) ∙ e
 
-  as_shown : (w : Way) (m : Message) (shown : Bool) (old new : Files) → is_there m.target.base ≡ shown → AllDone w (delivery_if is_there m) old new → AllDone w (cond shown [] (delivery_of m.target m.body)) old new
+  as_shown : (w : Way) (m : Message) (shown : Bool) (old new : Files) → is_there m.target.base ≡ shown
+      → AllDone w (delivery_if is_there m) old new → AllDone w (cond shown [] (delivery_of m.target m.body)) old new
   as_shown w m shown old new e h = rw e at h
 
   module _ (all : List Message) (distinct : AreDistinct all) (are : All (λ m. IsTarget m.target) all) (sound : All (IsSoundAt start) all) where
@@ -153,7 +171,8 @@ module _ (start : Files) (is_there : List ℕ → Bool) (knows : Knows is_there 
     apart done ms m e = apart_front done m ms (subst AreDistinct e distinct)
 
     done_named : (done ms : List Message) → all ≡ done ++ ms → AreNamed done
-    done_named done ms e = λ k d h. rw (get_or_append_left done ms d k h) at ((subst (All (λ m. IsTarget m.target)) e are k d (omega (arith, h, length-append done ms))).named)
+    done_named done ms e = λ k d h.
+        rw (get_or_append_left done ms d k h) at ((subst (All (λ m. IsTarget m.target)) e are k d (omega (arith, h, length-append done ms))).named)
 
     module _ (done ms : List Message) (m : Message) where
       missing_here : (now : Files) → all ≡ done ++ m ∷ ms → is_there m.target.base ≡ false → Progress done start now → IsMissing now m
@@ -164,24 +183,30 @@ module _ (start : Files) (is_there : List ℕ → Bool) (knows : Knows is_there 
       home_here : (now : Files) → all ≡ done ++ m ∷ ms → is_there m.target.base ≡ true → Progress done start now → IsHome now m
       home_here now e on p =
           let is = at (λ m. IsTarget m.target) are done ms m e in
-          still_there done m start now is.named (apart done ms m e) p (home_known m start (home_is m.target true is on) (at (IsSoundAt start) sound done ms m e))
+          still_there done m start now is.named (apart done ms m e) p
+          (home_known m start (home_is m.target true is on) (at (IsSoundAt start) sound done ms m e))
 
       next : all ≡ done ++ m ∷ ms → all ≡ (done ++ m ∷ []) ++ ms
       next e = e ∙ sym (append_assoc done (m ∷ []) ms)
 
       -- one message was done
-      one_done : (old new : Files) → all ≡ done ++ m ∷ ms → Progress done start old → TmpWithin [] old → AllDone honestly (delivery_if is_there m) old new → Progress (done ++ m ∷ []) start new × TmpWithin [] new
+      one_done : (old new : Files) → all ≡ done ++ m ∷ ms → Progress done start old → TmpWithin [] old
+          → AllDone honestly (delivery_if is_there m) old new → Progress (done ++ m ∷ []) start new × TmpWithin [] new
       one_done old new e p within h =
           elim (cases_Bool (is_there m.target.base)) [
             | inl on ↦
-                let same : new ≡ old = as_shown honestly m true old new on h in
-                (subst (Progress (done ++ m ∷ []) start) (sym same) (progress_home done m start old (home_here old e on p) p), subst (TmpWithin []) (sym same) within)
+                let same : new ≡ old = as_shown honestly m true old new on h in (
+                  subst (Progress (done ++ m ∷ []) start) (sym same) (progress_home done m start old (home_here old e on p) p),
+                  subst (TmpWithin []) (sym same) within,
+                )
             | inr off ↦
-                let d = delivered m (at (λ m. IsTarget m.target) are done ms m e) old new (missing_here old e off p) (as_shown honestly m false old new off h) in
+                let d =
+                delivered m (at (λ m. IsTarget m.target) are done ms m e) old new (missing_here old e off p) (as_shown honestly m false old new off h) in
                 (progress_delivered done m start old new (done_named done (m ∷ ms) e) (apart done ms m e) d.delivers d.home p, d.within within)
           ]
 
-    pub all_progress : (done ms : List Message) (old new : Files) → all ≡ done ++ ms → Progress done start old → TmpWithin [] old → AllDone honestly (deliveries_of is_there ms) old new → Progress all start new × TmpWithin [] new
+    pub all_progress : (done ms : List Message) (old new : Files) → all ≡ done ++ ms → Progress done start old
+        → TmpWithin [] old → AllDone honestly (deliveries_of is_there ms) old new → Progress all start new × TmpWithin [] new
     all_progress done [] old new e p within h = (rw (e ∙ append-nil done) (subst (Progress done start) (sym h) p), subst (TmpWithin []) (sym h) within)
     all_progress done (m ∷ ms) old new e p within h =
         let r = all_parts honestly (delivery_if is_there m) (deliveries_of is_there ms) old new h in
@@ -189,7 +214,8 @@ module _ (start : Files) (is_there : List ℕ → Bool) (knows : Knows is_there 
         all_progress (done ++ m ∷ []) ms r.0 new (next done ms m e) one.0 one.1 r.2
 
     -- the run stopped at one message
-    one_stopped : (done ms : List Message) (m : Message) (old new : Files) → all ≡ done ++ m ∷ ms → Progress done start old → Stopped honestly (delivery_if is_there m) old new → CameTo all start new
+    one_stopped : (done ms : List Message) (m : Message) (old new : Files) → all ≡ done ++ m ∷ ms
+        → Progress done start old → Stopped honestly (delivery_if is_there m) old new → CameTo all start new
     one_stopped done ms m old new e p h =
         elim (cases_Bool (is_there m.target.base)) [
           | inl on ↦
@@ -204,7 +230,8 @@ module _ (start : Files) (is_there : List ℕ → Bool) (knows : Knows is_there 
               ]
         ]
 
-    pub stopped_came : (done ms : List Message) (old new : Files) → all ≡ done ++ ms → Progress done start old → TmpWithin [] old → Stopped honestly (deliveries_of is_there ms) old new → CameTo all start new
+    pub stopped_came : (done ms : List Message) (old new : Files) → all ≡ done ++ ms → Progress done start old
+        → TmpWithin [] old → Stopped honestly (deliveries_of is_there ms) old new → CameTo all start new
     stopped_came done [] old new e p within h = record { done = done; rest = []; is = e; progress = subst (Progress done start) (sym h) p }
     stopped_came done (m ∷ ms) old new e p within h =
         elim (stopped_parts honestly (delivery_if is_there m) (deliveries_of is_there ms) old new h) [
@@ -215,7 +242,8 @@ module _ (start : Files) (is_there : List ℕ → Bool) (knows : Knows is_there 
         ]
 
   -- ---- and where the folder is quiet
-  pub all_filled : (ms : List Message) → All (λ m. IsTarget m.target) ms → (old new : Files) → IsSwept old → AllDone quietly (deliveries_of is_there ms) old new → new ≡ filled start ms old
+  pub all_filled : (ms : List Message) → All (λ m. IsTarget m.target) ms → (old new : Files)
+      → IsSwept old → AllDone quietly (deliveries_of is_there ms) old new → new ≡ filled start ms old
   all_filled [] are old new free e = e
   all_filled (m ∷ ms) are old new free h =
       let is = All-head (λ (x : Message). IsTarget x.target) m ms are in
@@ -231,7 +259,8 @@ module _ (start : Files) (is_there : List ℕ → Bool) (knows : Knows is_there 
             (end.2 ∙ delivers_exact old d.0 end.0 t.base m.body t.place t.name d.1.1 end.1.1 (free t.base (base_name m is)))
             ∙ ap (λ b. cond b old (added old t.place t.name m.body)) (sym (home_is t false is off))
       ] in
-      all_filled ms more r.0 new (λ name ours. ap (λ s. get s.tmp name) step ∙ ap (λ x. get x name) (step_tmp (has_home start t.base) old m) ∙ free name ours) r.2
+      all_filled ms more r.0 new
+      (λ name ours. ap (λ s. get s.tmp name) step ∙ ap (λ x. get x name) (step_tmp (has_home start t.base) old m) ∙ free name ours) r.2
       ∙ ap (filled start ms) step
 
 -- ---- other files
@@ -240,5 +269,6 @@ one_others (Ask sub names) ours old new (inl h) = subst (KeepsForeign old) (sym 
 one_others (Do call) ours old new (inl h) = subst (KeepsForeign old) (sym h.1) (effect_others call ours old)
 one_others task ours old new (inr h) = subst (KeepsForeign old) (sym h.2) (own_others (call_of task) ours h.0 old h.1)
 
-pub done_others : (fault : Option RunFault) (tasks : List Task) → EachTask IsOurs tasks → (old new : Files) → DoneUntil quietly tasks old fault new → KeepsForeign old new
+pub done_others : (fault : Option RunFault) (tasks : List Task) → EachTask IsOurs tasks
+    → (old new : Files) → DoneUntil quietly tasks old fault new → KeepsForeign old new
 done_others = across quietly KeepsForeign others_same foreign_then IsOurs one_others

@@ -1,6 +1,11 @@
 -- Tasks after one another.
-use Rattle.std.proofs.Common.{◌≡◌, ℕ, ◌+◌, ◌<◌, List, [], ◌∷◌, ◌++◌, length, take, drop, get_or, Result, Ok, Err, IsPermutation, IfOk, refl, sym, ap, subst, ◌∙◌, inl, inr, arith, length-append, append_assoc, Option, Some, None, IsErrAnd, flat_map, take-append-drop, append-nil, Vec, String, Global}
-use Rattle.maildir_run.proofs.Common.{keys, take_more, flat_map-append, RunFault, FolderFault, Sub, Call, Called, CalledQuietly, Listed, Listing, GoesUp, CountsFailure, folder_of, names_of, fault_of, run_answer, capped, GoesUpWith, CountsFault, HasCallNumber, Follows, LeavesOf, Files, Task, Ask, Do, Way, honestly, quietly, leaving, AllDone, Stopped, DoneUntil, Performs, Seen, Performed, names_in, IsReading}
+use Rattle.std.proofs.Common.{◌≡◌, ℕ, ◌+◌, ◌<◌, List, [], ◌∷◌, ◌++◌, length, take, drop, get_or, Result, Ok, Err}
+use Rattle.std.proofs.Common.{IsPermutation, IfOk, refl, sym, ap, subst, ◌∙◌, inl, inr, arith, length-append, append_assoc}
+use Rattle.std.proofs.Common.{Option, Some, None, IsErrAnd, flat_map, take-append-drop, append-nil, Vec, String, Global}
+use Rattle.maildir_run.proofs.Common.{keys, take_more, flat_map-append, RunFault, FolderFault, Sub, Call, Called, CalledQuietly}
+use Rattle.maildir_run.proofs.Common.{Listed, Listing, GoesUp, CountsFailure, folder_of, names_of, fault_of, run_answer, capped}
+use Rattle.maildir_run.proofs.Common.{GoesUpWith, CountsFault, HasCallNumber, Follows, LeavesOf, Files, Task, Ask, Do, Way, honestly}
+use Rattle.maildir_run.proofs.Common.{quietly, leaving, AllDone, Stopped, DoneUntil, Performs, Seen, Performed, names_in, IsReading}
 use Rattle.maildir_run.specs.declared.folder.FolderFault.TheVariants.{Absent, Failed as Broken}
 use Rattle.maildir_run.proofs.Tasks.Faults.{at_reading}
 use Rattle.maildir_run.proofs.Call.Cuts.{left_as, left_then}
@@ -24,7 +29,8 @@ stopped_here : (w : Way) → MayStop w → (tasks : List Task) (s : Files) → S
 stopped_here w still [] s = refl
 stopped_here w still (task ∷ tasks) s = inl (still task s)
 
-done_then : (w : Way) (xs ys : List Task) (a b c : Files) (fault : Option RunFault) → AllDone w xs a b → DoneUntil w ys b fault c → DoneUntil w (xs ++ ys) a fault c
+done_then : (w : Way) (xs ys : List Task) (a b c : Files) (fault : Option RunFault)
+    → AllDone w xs a b → DoneUntil w ys b fault c → DoneUntil w (xs ++ ys) a fault c
 done_then w [] ys a b c fault e h = rw e at h
 done_then w (x ∷ xs) ys a b c None (mid, one, more) h = (mid, one, done_then w xs ys mid b c None more h)
 done_then w (x ∷ xs) ys a b c (Some e) (mid, one, more) h = inr (mid, one, done_then w xs ys mid b c (Some e) more h)
@@ -56,14 +62,16 @@ ran_none s made = record {
   call_number = tt;
 }
 
-pub ran_then : {xs ys : List Task} {a b c : Seen} {made mid made' : ℕ} {fault : Option RunFault} → Performed xs a b made mid None → Performed ys b c mid made' fault → Performed (xs ++ ys) a c made made' fault
+pub ran_then : {xs ys : List Task} {a b c : Seen} {made mid made' : ℕ} {fault : Option RunFault}
+    → Performed xs a b made mid None → Performed ys b c mid made' fault → Performed (xs ++ ys) a c made made' fault
 ran_then {xs} {ys} {a} {b} {c} {made} {mid} {made'} {fault} first then =
     let one = first.most in
     let two = then.most in
     record {
       honest = λ h. then.honest (first.honest h);
       done_honestly = λ h. done_then honestly xs ys a.files b.files c.files fault (first.done_honestly h) (then.done_honestly (first.honest h));
-      left = λ h. left_then _ _ _ a.may_leave b.may_leave c.may_leave (λ x y z. done_then leaving xs ys x y z fault) (first.left h) (then.left (first.honest h));
+      left = λ h.
+          left_then _ _ _ a.may_leave b.may_leave c.may_leave (λ x y z. done_then leaving xs ys x y z fault) (first.left h) (then.left (first.honest h));
       quiet = λ q. then.quiet (first.quiet q);
       done_quietly = λ q. done_then quietly xs ys a.files b.files c.files fault (first.done_quietly q) (then.done_quietly (first.quiet q));
       n = first.n + then.n;
@@ -75,7 +83,8 @@ ran_then {xs} {ys} {a} {b} {c} {made} {mid} {made'} {fault} first then =
     }
 
 -- what follows is not begun
-pub ran_before : {xs : List Task} {a b : Seen} {made made' : ℕ} {fault : RunFault} (ys : List Task) → Performed xs a b made made' (Some fault) → Performed (xs ++ ys) a b made made' (Some fault)
+pub ran_before : {xs : List Task} {a b : Seen} {made made' : ℕ} {fault : RunFault} (ys : List Task)
+    → Performed xs a b made made' (Some fault) → Performed (xs ++ ys) a b made made' (Some fault)
 ran_before {xs} {a} {b} ys h =
     let most = h.most in
     record {
@@ -93,7 +102,8 @@ ran_before {xs} {a} {b} ys h =
     }
 
 -- all, and then the run stops for want of something else
-pub ran_stop : {xs : List Task} {a b : Seen} {made made' : ℕ} (fault : RunFault) → IsReading fault → Performed xs a b made made' None → Performed xs a b made made' (Some fault)
+pub ran_stop : {xs : List Task} {a b : Seen} {made made' : ℕ} (fault : RunFault) → IsReading fault
+    → Performed xs a b made made' None → Performed xs a b made made' (Some fault)
 ran_stop {xs} {a} {b} {made} {made'} fault reading h = record {
   honest = h.honest;
   done_honestly = λ q. all_stopped honestly xs a.files b.files (h.done_honestly q);
@@ -113,12 +123,14 @@ pub ran_nothing : (fault : RunFault) → IsReading fault → (tasks : List Task)
 ran_nothing fault reading tasks s made = ran_before tasks (ran_stop fault reading (ran_none s made))
 
 -- the fault of a refused call, as that of the answer of the function that made it
-pub ran_err : {B : Type 0} {xs : List Task} {a b : Seen} {made made' : ℕ} {fault : RunFault} (r : Result B RunFault) → IsErrAnd r (λ e. e ≡ fault) → Performed xs a b made made' (Some fault) → Performed xs a b made made' (fault_of r)
+pub ran_err : {B : Type 0} {xs : List Task} {a b : Seen} {made made' : ℕ} {fault : RunFault} (r : Result B RunFault)
+    → IsErrAnd r (λ e. e ≡ fault) → Performed xs a b made made' (Some fault) → Performed xs a b made made' (fault_of r)
 ran_err (Ok x) is h = absurd is
 ran_err {B} {xs} {a} {b} {made} {made'} (Err e) is h = rw is h
 
 -- ---- one call
-run_performs : {A : Type 0} (w : Way) (xs : List Task) (old : Files) (r : Result A FolderFault) (new : Files) (number : ℕ) → Performs w xs old r new → Performs w xs old (run_answer number r) new
+run_performs : {A : Type 0} (w : Way) (xs : List Task) (old : Files) (r : Result A FolderFault) (new : Files) (number : ℕ)
+    → Performs w xs old r new → Performs w xs old (run_answer number r) new
 run_performs w xs old (Ok v) new number h = h
 run_performs w xs old (Err e) new number h = h
 
@@ -135,22 +147,28 @@ told_names : (r : Result (Vec (String Global) Global) FolderFault) (number : ℕ
 told_names (Ok v) number = refl
 told_names (Err e) number = refl
 
-ran_one : {A : Type 0} (task : Task) (old new : Seen) (made made' : ℕ) (r : Result A FolderFault) (answer : Result A RunFault) → made' ≡ capped (made + 1) → answer ≡ run_answer made' r → (old.honest → new.honest) → (old.honest → Performs honestly (task ∷ []) old.files r new.files) → (old.honest → Follows (λ before now. Performs leaving (task ∷ []) before r now) old.may_leave new.may_leave) → (old.quiet → new.quiet) → (old.quiet → Performs quietly (task ∷ []) old.files r new.files) → GoesUp old.calls new.calls → CountsFailure r old.failures new.failures → Performed (task ∷ []) old new made made' (fault_of answer)
-ran_one task old new made made' r answer up is honest called left quiet alone counted cause = subst (λ x. Performed (task ∷ []) old new made made' (fault_of x)) (sym is) (record {
-  honest = honest;
-  done_honestly = λ h. run_performs honestly (task ∷ []) old.files r new.files made' (called h);
-  left = λ h. left_as _ _ old.may_leave new.may_leave (λ before now. run_performs leaving (task ∷ []) before r now made') (left h);
-  quiet = quiet;
-  done_quietly = λ q. run_performs quietly (task ∷ []) old.files r new.files made' (alone q);
-  n = 1;
-  most = omega arith;
-  all = λ e. refl;
-  makes = one_call _ _ _ _ up counted;
-  cause = told_cause r made' _ _ cause;
-  call_number = told_number r made';
-})
+ran_one : {A : Type 0} (task : Task) (old new : Seen) (made made' : ℕ) (r : Result A FolderFault) (answer : Result A RunFault) → made' ≡ capped (made + 1)
+    → answer ≡ run_answer made' r → (old.honest → new.honest) → (old.honest → Performs honestly (task ∷ []) old.files r new.files)
+    → (old.honest → Follows (λ before now. Performs leaving (task ∷ []) before r now) old.may_leave new.may_leave)
+    → (old.quiet → new.quiet) → (old.quiet → Performs quietly (task ∷ []) old.files r new.files) → GoesUp old.calls new.calls
+    → CountsFailure r old.failures new.failures → Performed (task ∷ []) old new made made' (fault_of answer)
+ran_one task old new made made' r answer up is honest called left quiet alone counted cause =
+    subst (λ x. Performed (task ∷ []) old new made made' (fault_of x)) (sym is) (record {
+      honest = honest;
+      done_honestly = λ h. run_performs honestly (task ∷ []) old.files r new.files made' (called h);
+      left = λ h. left_as _ _ old.may_leave new.may_leave (λ before now. run_performs leaving (task ∷ []) before r now made') (left h);
+      quiet = quiet;
+      done_quietly = λ q. run_performs quietly (task ∷ []) old.files r new.files made' (alone q);
+      n = 1;
+      most = omega arith;
+      all = λ e. refl;
+      makes = one_call _ _ _ _ up counted;
+      cause = told_cause r made' _ _ cause;
+      call_number = told_number r made';
+    })
 
-do_honestly : {A : Type 0} (call : Call) (old : Files) (r : Result A FolderFault) (new : Files) → Called call old r new → Performs honestly (Do call ∷ []) old r new
+do_honestly : {A : Type 0} (call : Call) (old : Files) (r : Result A FolderFault) (new : Files)
+    → Called call old r new → Performs honestly (Do call ∷ []) old r new
 do_honestly call old (Ok v) new h = (new, h, refl)
 do_honestly call old (Err e) new h = inl h
 
@@ -158,36 +176,51 @@ do_leaving : {A : Type 0} (call : Call) (r : Result A FolderFault) (old new : Fi
 do_leaving call (Ok v) old new h = (new, h, refl)
 do_leaving call (Err e) old new h = inl h
 
-do_quietly : {A : Type 0} (call : Call) (old : Files) (r : Result A FolderFault) (new : Files) → CalledQuietly call old r new → Performs quietly (Do call ∷ []) old r new
+do_quietly : {A : Type 0} (call : Call) (old : Files) (r : Result A FolderFault) (new : Files)
+    → CalledQuietly call old r new → Performs quietly (Do call ∷ []) old r new
 do_quietly call old (Ok v) new h = (new, h, refl)
 do_quietly call old (Err e) new h = inl h
 
-ask_honestly : (sub : Sub) (old : Files) (r : Result (Vec (String Global) Global) FolderFault) (new : Files) → Listed sub old r new → Performs honestly (Ask sub (names_in r) ∷ []) old r new
+ask_honestly : (sub : Sub) (old : Files) (r : Result (Vec (String Global) Global) FolderFault) (new : Files)
+    → Listed sub old r new → Performs honestly (Ask sub (names_in r) ∷ []) old r new
 ask_honestly sub old (Ok v) new h = (new, h, refl)
 ask_honestly sub old (Err e) new h = inl h
 
-ask_leaving : (sub : Sub) (r : Result (Vec (String Global) Global) FolderFault) (old new : Files) → LeavesOf (Listing sub) old r new → Performs leaving (Ask sub (names_in r) ∷ []) old r new
+ask_leaving : (sub : Sub) (r : Result (Vec (String Global) Global) FolderFault) (old new : Files)
+    → LeavesOf (Listing sub) old r new → Performs leaving (Ask sub (names_in r) ∷ []) old r new
 ask_leaving sub (Ok v) old new h = (new, h, refl)
 ask_leaving sub (Err e) old new h = inl h
 
-ask_quietly : (sub : Sub) (old : Files) (r : Result (Vec (String Global) Global) FolderFault) (new : Files) → CalledQuietly (Listing sub) old r new → IfOk r (λ v. IsPermutation (names_of v) (keys (folder_of sub old))) → Performs quietly (Ask sub (names_in r) ∷ []) old r new
+ask_quietly : (sub : Sub) (old : Files) (r : Result (Vec (String Global) Global) FolderFault) (new : Files) → CalledQuietly (Listing sub) old r new
+    → IfOk r (λ v. IsPermutation (names_of v) (keys (folder_of sub old))) → Performs quietly (Ask sub (names_in r) ∷ []) old r new
 ask_quietly sub old (Ok v) new h names = (new, (h.1, names), refl)
 ask_quietly sub old (Err e) new h names = inl h
 
 -- a write, a placement or a removal
-pub ran_do : {A : Type 0} (call : Call) (old new : Seen) (made made' : ℕ) (r : Result A FolderFault) (answer : Result A RunFault) → made' ≡ capped (made + 1) → answer ≡ run_answer made' r → (old.honest → new.honest) → (old.honest → Called call old.files r new.files) → (old.honest → Follows (λ before now. LeavesOf call before r now) old.may_leave new.may_leave) → (old.quiet → new.quiet) → (old.quiet → CalledQuietly call old.files r new.files) → GoesUp old.calls new.calls → CountsFailure r old.failures new.failures → Performed (Do call ∷ []) old new made made' (fault_of answer)
+pub ran_do : {A : Type 0} (call : Call) (old new : Seen) (made made' : ℕ) (r : Result A FolderFault) (answer : Result A RunFault)
+    → made' ≡ capped (made + 1) → answer ≡ run_answer made' r → (old.honest → new.honest) → (old.honest → Called call old.files r new.files)
+    → (old.honest → Follows (λ before now. LeavesOf call before r now) old.may_leave new.may_leave)
+    → (old.quiet → new.quiet) → (old.quiet → CalledQuietly call old.files r new.files) → GoesUp old.calls new.calls
+    → CountsFailure r old.failures new.failures → Performed (Do call ∷ []) old new made made' (fault_of answer)
 ran_do call old new made made' r answer up is honest called left quiet alone =
-    ran_one (Do call) old new made made' r answer up is honest (λ h. do_honestly call old.files r new.files (called h)) (λ h. left_as _ _ old.may_leave new.may_leave (do_leaving call r) (left h))
+    ran_one (Do call) old new made made' r answer up is honest (λ h. do_honestly call old.files r new.files (called h))
+    (λ h. left_as _ _ old.may_leave new.may_leave (do_leaving call r) (left h))
     quiet (λ q. do_quietly call old.files r new.files (alone q))
 
 -- a listing
-pub ran_ask : (sub : Sub) (old new : Seen) (made made' : ℕ) (r : Result (Vec (String Global) Global) FolderFault) (answer : Result (Vec (String Global) Global) RunFault) → made' ≡ capped (made + 1) → answer ≡ run_answer made' r → (old.honest → new.honest) → (old.honest → Listed sub old.files r new.files) → (old.honest → Follows (λ before now. LeavesOf (Listing sub) before r now) old.may_leave new.may_leave) → (old.quiet → new.quiet) → (old.quiet → CalledQuietly (Listing sub) old.files r new.files) → (old.quiet → IfOk r (λ v. IsPermutation (names_of v) (keys (folder_of sub old.files)))) → GoesUp old.calls new.calls → CountsFailure r old.failures new.failures → Performed (Ask sub (names_in answer) ∷ []) old new made made' (fault_of answer)
+pub ran_ask : (sub : Sub) (old new : Seen) (made made' : ℕ) (r : Result (Vec (String Global) Global) FolderFault) (answer : Result (Vec (String Global) Global)
+    RunFault) → made' ≡ capped (made + 1) → answer ≡ run_answer made' r → (old.honest → new.honest) → (old.honest → Listed sub old.files r new.files)
+    → (old.honest → Follows (λ before now. LeavesOf (Listing sub) before r now) old.may_leave new.may_leave) → (old.quiet → new.quiet)
+    → (old.quiet → CalledQuietly (Listing sub) old.files r new.files) → (old.quiet → IfOk r (λ v. IsPermutation (names_of v) (keys (folder_of sub old.files))))
+    → GoesUp old.calls new.calls → CountsFailure r old.failures new.failures → Performed (Ask sub (names_in answer) ∷ []) old new made made' (fault_of answer)
 ran_ask sub old new made made' r answer up is honest called left quiet alone names counted cause =
-    rw (ap names_in is ∙ told_names r made') (ran_one (Ask sub (names_in r)) old new made made' r answer up is honest (λ h. ask_honestly sub old.files r new.files (called h)) (λ h. left_as _ _ old.may_leave new.may_leave (ask_leaving sub r) (left h))
+    rw (ap names_in is ∙ told_names r made') (ran_one (Ask sub (names_in r)) old new made made' r answer up is honest
+    (λ h. ask_honestly sub old.files r new.files (called h)) (λ h. left_as _ _ old.may_leave new.may_leave (ask_leaving sub r) (left h))
     quiet (λ q. ask_quietly sub old.files r new.files (alone q) (names q)) counted cause)
 
 -- one more step of a plan, which has these tasks
-module _ {X : Type 0} (f : X → List Task) (xs : List X) (i : ℕ) (x : X) (h : i < length xs) (is : x ≡ get_or xs i x) (ys : List Task) (tasks_are : f x ≡ ys) where
+module _ {X : Type 0} (f : X → List Task) (xs : List X) (i : ℕ) (x : X) (h : i < length xs)
+    (is : x ≡ get_or xs i x) (ys : List Task) (tasks_are : f x ≡ ys) where
   pub next_step : flat_map f (take (i + 1) xs) ≡ flat_map f (take i xs) ++ ys
   next_step =
       ap (flat_map f) (take_more xs i x h) ∙ flat_map-append f (take i xs) (get_or xs i x ∷ [])

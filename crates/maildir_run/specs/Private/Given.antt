@@ -37,7 +37,8 @@ pub record IsFrontOf (before now : Option (List ℕ)) (reads : ℕ) (given : Lis
   pub read : Consumes before now text
   pub budget : length text ≤ 65536 * reads
   pub few : length given ≤ length text
-  pub tells : (more left : List ℕ) (entries : List Entry) → now ≡ Some left → (left ≡ [] → more ≡ []) → Mbox (text ++ more) entries → (rest : List Entry) × (entries ≡ given ++ rest)
+  pub tells : (more left : List ℕ) (entries : List Entry) → now ≡ Some left → (left ≡ [] → more ≡ [])
+      → Mbox (text ++ more) entries → (rest : List Entry) × (entries ≡ given ++ rest)
   pub none : (more left : List ℕ) → now ≡ Some left → (left ≡ [] → more ≡ []) → IsUnreadable (text ++ more) → given ≡ []
 
 -- the source was read up to its end, or up to where these messages are whole, of which there is one

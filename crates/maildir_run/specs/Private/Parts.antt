@@ -1,5 +1,6 @@
 -- What the parts of a run say of what they did.
-use Rattle.std.specs.Prelude.{◌≡◌, ℕ, ◌+◌, ◌*◌, ◌-◌, ◌<◌, ◌≤◌, ◌^◌, Bool, List, [], ◌∷◌, ◌++◌, length, Option, None, OnOk, IfOk, IfErr, IsErrOf, Result, Ok, Err}
+use Rattle.std.specs.Prelude.{◌≡◌, ℕ, ◌+◌, ◌*◌, ◌-◌, ◌<◌, ◌≤◌, ◌^◌, Bool, List, [], ◌∷◌, ◌++◌}
+use Rattle.std.specs.Prelude.{length, Option, None, OnOk, IfOk, IfErr, IsErrOf, Result, Ok, Err}
 use Rattle.std.specs.declared.vec.Vec.{Vec}
 use Rattle.std.specs.declared.string.String.{String}
 use Rattle.std.specs.declared.alloc.Global.{Global}
@@ -63,7 +64,8 @@ messages_after before [] = []
 messages_after before (body ∷ more) = message_at (target before body) body ∷ messages_after (before ++ body ∷ []) more
 
 -- Of the messages with the bodies `more`, which follow the bodies `before`, those that were missing were delivered; each takes two calls.
-pub record DeliversMessages (is_there : List ℕ → Bool) (before more : List (List ℕ)) (old new : Seen) (made made' placed placed' : ℕ) (namer' : Counts) (fault : Option RunFault) : Type 0 where
+pub record DeliversMessages (is_there : List ℕ → Bool) (before more : List (List ℕ)) (old new : Seen)
+    (made made' placed placed' : ℕ) (namer' : Counts) (fault : Option RunFault) : Type 0 where
   pub ran : Performed (deliveries_of is_there (messages_after before more)) old new made made' fault
   pub named : fault ≡ None → Named (before ++ more) namer'
   pub placed_are : fault ≡ None → 2 * placed' ≡ 2 * placed + length (deliveries_of is_there (messages_after before more))

@@ -14,4 +14,5 @@ pub record HasListed (given : List Entry) (namer : Counts) (count : ℕ) : Type 
 abbrev pub ListsMore : {E : Type 0} → Counts → ℕ → List Entry → Option (List ℕ) → Option (List ℕ) → Result (Unit {0}) E → Counts → ℕ → Type 0
 ListsMore namer count entries was is result namer' count' =
     (given : List Entry) → HasListed given namer count → length (given ++ entries) < 2 ^ 63
-    → (lines : List ℕ) × (table_of (given ++ entries) ≡ table_of given ++ lines) × Writes was is result lines × MatchResult result (λ _. HasListed (given ++ entries) namer' count') (λ _. Unit {0})
+    → (lines : List ℕ) × (table_of (given ++ entries) ≡ table_of given ++ lines) × Writes was is result lines
+    × MatchResult result (λ _. HasListed (given ++ entries) namer' count') (λ _. Unit {0})

@@ -1,5 +1,6 @@
 -- From_ lines that are taken apart and built.
-use Rattle.std.proofs.Common.{◌≡◌, ℕ, zero, suc, add-zero, ◌+◌, ◌-◌, ◌<◌, ◌≤◌, true, false, Option, Some, None, Result, Ok, Err, cond, eqb, List, [], ◌∷◌, ◌++◌, get_or, length, take, drop, map, refl, sym, ◌∙◌, ap, arith, append_assoc, Contains, OnOk, codes, is_ok, is_some}
+use Rattle.std.proofs.Common.{◌≡◌, ℕ, zero, suc, add-zero, ◌+◌, ◌-◌, ◌<◌, ◌≤◌, true, false, Option, Some, None, Result, Ok, Err, cond, eqb, List, []}
+use Rattle.std.proofs.Common.{◌∷◌, ◌++◌, get_or, length, take, drop, map, refl, sym, ◌∙◌, ap, arith, append_assoc, Contains, OnOk, codes, is_ok, is_some}
 use Rattle.std.proofs.lemmas.Bool.{ne_eqb, false_from_ne_true, false≢true}
 use Rattle.std.proofs.lemmas.List.{append-nil, drop_at, drop_more, get_or-drop, length-drop, length-take, take_rest}
 use Rattle.memchr.specs.Find.{IsFirstByte, is_byte}
@@ -9,7 +10,8 @@ use Rattle.mbox_text.specs.FromLine.{IsFromLine, before_space, past_spaces, send
 use Rattle.mbox_text.proofs.TextLines.LineEnds.{none-there, NoEnd-append, NoEnd-at}
 
 -- a list that a call extended
-pub extended_by : {E : Type 0} (r : Result (Unit {0}) E) {now : List ℕ} (was : List ℕ) {ys zs : List ℕ} → now ≡ cond (is_ok r) (was ++ ys) was → ys ≡ zs → OnOk r (now ≡ was ++ zs)
+pub extended_by : {E : Type 0} (r : Result (Unit {0}) E) {now : List ℕ} (was : List ℕ) {ys zs : List ℕ}
+    → now ≡ cond (is_ok r) (was ++ ys) was → ys ≡ zs → OnOk r (now ≡ was ++ zs)
 extended_by (Ok u) was e e' = rw (← e') e
 extended_by (Err x) was e e' = tt
 
@@ -91,7 +93,8 @@ built-some s [] h = absurd (h refl)
 built-some s (c ∷ r) h = simp append_assoc
 
 -- a search for the first space
-before-at : (s : List ℕ) (n : ℕ) → ((k : ℕ) → k < n → eqb (get_or s k 0) 32 ≡ true → ⊥) → n < length s → eqb (get_or s n 0) 32 ≡ true → take n s ≡ before_space s
+before-at : (s : List ℕ) (n : ℕ) → ((k : ℕ) → k < n → eqb (get_or s k 0) 32 ≡ true → ⊥)
+    → n < length s → eqb (get_or s n 0) 32 ≡ true → take n s ≡ before_space s
 before-at [] n h l e = absurd (omega (arith, l))
 before-at (c ∷ s) zero h l e = rw e refl
 before-at (c ∷ s) (suc n) h l e =

@@ -1,5 +1,6 @@
 -- A text that is read block by block.
-use Rattle.std.proofs.Common.{◌≡◌, ℕ, zero, suc, ◌+◌, ◌≤◌, ◌<◌, Some, None, true, false, eqb, List, [], ◌∷◌, ◌++◌, length, take, drop, refl, sym, ◌∙◌, ap, arith, append_assoc, inl, inr, ◌⊎◌, flat_map, take-add}
+use Rattle.std.proofs.Common.{◌≡◌, ℕ, zero, suc, ◌+◌, ◌≤◌, ◌<◌, Some, None, true, false, eqb, List, [], ◌∷◌, ◌++◌, length}
+use Rattle.std.proofs.Common.{take, drop, refl, sym, ◌∙◌, ap, arith, append_assoc, inl, inr, ◌⊎◌, flat_map, take-add}
 use Rattle.std.proofs.lemmas.Bool.{both_ways}
 use Rattle.std.proofs.lemmas.List.{take-append-drop, take_all, drop_all, drop-drop, length-drop}
 use Rattle.memchr.specs.Find.{IsFirstByte, is_byte}
@@ -24,7 +25,8 @@ body_stops within ends none b is = grind (arith, chopped-body ends)
 
 -- whole lines, and then one that lacks its `\n`
 pub body_ends : {text body : List ℕ} (n : ℕ) → Ended (take n text) → NoFrom (lines (take n text)) → begins_from (drop n text) ≡ false
-    → (begins_from (drop n text) ≡ true) ⊎ NoEnd (drop n text) → body ≡ chopped (flat_map unquoted (lines (take n text)) ++ unquoted (drop n text)) → IsFirstBody text (length text) body
+    → (begins_from (drop n text) ≡ true) ⊎ NoEnd (drop n text)
+    → body ≡ chopped (flat_map unquoted (lines (take n text)) ++ unquoted (drop n text)) → IsFirstBody text (length text) body
 body_ends {text} n ends none b stops is =
     let part : NoEnd (drop n text) = elim stops [ inl y ↦ absurd (both_ways (begins_from (drop n text)) b y) | inr h ↦ h ] in
     let whole : take (length text) text ≡ take n text ++ drop n text = take_all (length text) text (omega arith) ∙ sym (take-append-drop n text) in
@@ -63,7 +65,8 @@ block_there text head len e b found body from_line =
     }
 
 -- the From_ line is all that is there
-pub block_alone : {text : List ℕ} (e : Entry) → begins_from text ≡ true → IsFirstByte (is_byte 10) text None → e.from_line ≡ text → e.body ≡ [] → IsFirstBlock text (length text) e
+pub block_alone : {text : List ℕ} (e : Entry) → begins_from text ≡ true → IsFirstByte (is_byte 10) text None
+    → e.from_line ≡ text → e.body ≡ [] → IsFirstBlock text (length text) e
 block_alone {text} e b found from_line body = grind (arith, take_all, from-block, none-there)
 
 -- a block is not empty

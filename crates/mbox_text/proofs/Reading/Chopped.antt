@@ -1,5 +1,6 @@
 -- A body without its last line if that is `\n` alone.
-use Rattle.std.proofs.Common.{◌-◌, ◌<◌, ◌≡◌, ℕ, Bool, true, false, eqb, List, [], ◌∷◌, ◌++◌, length, length-append, take, refl, sym, ◌∙◌, ap, arith, inl, inr, ◌&&◌, Decides, MatchBool, append-nil}
+use Rattle.std.proofs.Common.{◌-◌, ◌<◌, ◌≡◌, ℕ, Bool, true, false, eqb, List, [], ◌∷◌, ◌++◌, length, length-append}
+use Rattle.std.proofs.Common.{take, refl, sym, ◌∙◌, ap, arith, inl, inr, ◌&&◌, Decides, MatchBool, append-nil}
 use Rattle.std.specs.List.{flat_map, ends_with}
 use Rattle.std.proofs.lemmas.Bool.{cases_Bool, false≢true, both_ways, eqb-true, and_parts, and_right}
 use Rattle.std.proofs.Math.Seq.{take-append-add}

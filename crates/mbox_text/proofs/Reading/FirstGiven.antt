@@ -28,7 +28,8 @@ pub few_given : (text : List ℕ) (given : List Entry) → AllButLast text given
 few_given text given (inl a) = omega (arith, mbox-length text (given ++ a.1.0 ∷ []) a.1.1, length-append given (a.1.0 ∷ []))
 few_given text given (inr a) = rw a.1 (omega arith)
 
-pub first_of : (text more : List ℕ) (given entries : List Entry) → AllButLast text given → Mbox (text ++ more) entries → (rest : List Entry) × (entries ≡ given ++ rest)
+pub first_of : (text more : List ℕ) (given entries : List Entry) → AllButLast text given
+    → Mbox (text ++ more) entries → (rest : List Entry) × (entries ≡ given ++ rest)
 first_of text more given entries a m = elim (all_stay text given a more entries m) [
   | inl none ↦ (entries, rw none refl)
   | inr q ↦ (q.0 ∷ q.1, q.2)

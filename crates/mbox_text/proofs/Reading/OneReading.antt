@@ -70,7 +70,8 @@ reads-append ls tail (g ∷ gs) (e ∷ es) r b h =
     let ih = reads-append r.0 tail gs es r.2 b (rw c.1 h.2) in
     (ih.0, ap₂ (λ x y. x ∷ y) (sym heads) ih.1, ih.2)
 
-joined : {block : List ℕ} (rest : List ℕ) (entries : List Entry) → Ended block ⊎ (entries ≡ []) → Mbox rest entries → lines (block ++ rest) ≡ lines block ++ lines rest
+joined : {block : List ℕ} (rest : List ℕ) (entries : List Entry) → Ended block ⊎ (entries ≡ [])
+    → Mbox rest entries → lines (block ++ rest) ≡ lines block ++ lines rest
 unfolding Mbox lines
 joined rest entries (inl e) h = lines-append rest e
 joined {block} rest [] (inr e) h = rw h (rw (append-nil block, append-nil (lines block)) refl)

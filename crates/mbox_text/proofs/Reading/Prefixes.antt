@@ -18,7 +18,8 @@ closed-ended front [] h = inl h
 closed-ended front (g ∷ given) h = rw h.2 (Ended-append h.0 h.4 (closed-ended h.1 given h.5))
 
 -- a line that is left is a message's
-some-left : (l : List ℕ) (ls : List (List ℕ)) (given : List Entry) {entries : List Entry} (rest : List Entry) → entries ≡ given ++ rest → LinesRead (l ∷ ls) rest → IsProperFront given entries
+some-left : (l : List ℕ) (ls : List (List ℕ)) (given : List Entry) {entries : List Entry} (rest : List Entry)
+    → entries ≡ given ++ rest → LinesRead (l ∷ ls) rest → IsProperFront given entries
 some-left l ls given [] e h = let no : l ∷ ls ≡ [] = h in absurd (cc)
 some-left l ls given (next ∷ rest) e h = (next, rest, e)
 
@@ -28,7 +29,8 @@ pub closed-front : (front tail : List ℕ) (given entries : List Entry) → Clos
 closed-front front tail given entries c b m =
     let f = head-line tail b in
     let e : lines (front ++ tail) ≡ lines front ++ f.0 ∷ f.1 = rw (lines-append tail (closed-ended front given c), f.2) refl in
-    let r = reads-append (lines front) (f.0 ∷ f.1) given entries (mbox-reads front given (closed-mbox front given c)) f.3 (rw e at (mbox-reads (front ++ tail) entries m)) in
+    let r = reads-append (lines front) (f.0 ∷ f.1) given entries
+    (mbox-reads front given (closed-mbox front given c)) f.3 (rw e at (mbox-reads (front ++ tail) entries m)) in
     some-left f.0 f.1 given r.0 r.1 r.2
 
 -- the blocks of all messages but the last

@@ -1,5 +1,6 @@
 -- What a splitter holds, over the fields as the code changes them.
-use Rattle.std.proofs.Common.{◌≡◌, ℕ, ◌+◌, ◌-◌, true, false, eqb, List, [], ◌∷◌, ◌++◌, length, take, drop, refl, sym, inl, inr, Option, Some, None, Result, Ok, Err, IfOk, is_some, flat_map, take-add, arith}
+use Rattle.std.proofs.Common.{◌≡◌, ℕ, ◌+◌, ◌-◌, true, false, eqb, List, [], ◌∷◌, ◌++◌, length, take, drop, refl, sym}
+use Rattle.std.proofs.Common.{inl, inr, Option, Some, None, Result, Ok, Err, IfOk, is_some, flat_map, take-add, arith}
 use Rattle.std.specs.declared.alloc.AllocError.{AllocError}
 use Rattle.std.proofs.lemmas.Bool.{both_ways, false≢true, and_parts, ne_eqb, eqb-false, eqb-true, eq-eqb, cases_Bool}
 use Rattle.std.proofs.lemmas.List.{take-append-drop, append-nil, take_rest}
@@ -29,7 +30,8 @@ pub none_ends : {message : Option PartialMessage} {line line1 : List ℕ} (f : L
     → (text : List ℕ) (given : List Entry) → Held text given message line → InBody (text ++ 10 ∷ []) (given ++ []) f body line'
 none_ends f line' e el b ef eb el' text given h = grind (arith, append-nil, head-ends)
 
-pub some_closes : {message message' : Option PartialMessage} {m : PartialMessage} (e : Entry) (line part : List ℕ) {line' line1 : List ℕ} → message ≡ Some m → message' ≡ None
+pub some_closes : {message message' : Option PartialMessage} {m : PartialMessage} (e : Entry) (line part : List ℕ) {line' line1 : List ℕ}
+    → message ≡ Some m → message' ≡ None
     → line' ≡ line ++ part → NoEnd part → line1 ≡ line' → begins_from line1 ≡ true → e.from_line ≡ m.from_line.items → e.body ≡ chopped m.body.items
     → (text : List ℕ) (given : List Entry) → Held text given message line → Held (text ++ part) (given ++ e ∷ []) message' line'
 some_closes e line part is is' el h e1 b ef eb text given held = grind (arith, body-closes)
@@ -39,7 +41,8 @@ pub none_adds : {message message' : Option PartialMessage} (line part : List ℕ
     → (text : List ℕ) (given : List Entry) → Held text given message line → Held (text ++ part) (given ++ []) message' line'
 none_adds line part is is' el h e1 b text given held = grind (arith, append-nil, head-add)
 
-pub plain_adds : (message : Option PartialMessage) (line part : List ℕ) {line' line1 : List ℕ} → line' ≡ line ++ part → NoEnd part → line1 ≡ line' → begins_from line1 ≡ false
+pub plain_adds : (message : Option PartialMessage) (line part : List ℕ) {line' line1 : List ℕ}
+    → line' ≡ line ++ part → NoEnd part → line1 ≡ line' → begins_from line1 ≡ false
     → (message ≡ None → begins_with line' from_bytes ≡ true)
     → (text : List ℕ) (given : List Entry) → Held text given message line → Held (text ++ part) (given ++ []) message line'
 plain_adds None line part {line'} el h e1 b start text given held = grind (arith, append-nil, head-add)
@@ -102,8 +105,11 @@ pub three-parts : (text : List ℕ) (at n : ℕ) → let rest : List ℕ = take 
 three-parts text at n = grind (arith, take-append-drop, take_rest)
 
 -- the lines that a call took
-pub lines_taken : (r : Result ℕ AllocError) {message : Option PartialMessage} {m : PartialMessage} {line : List ℕ} (body text : List ℕ) → message ≡ Some m → line ≡ []
-    → IfOk r (λ n. body ≡ m.body.items ++ flat_map unquoted (lines (take n text))) → IfOk r (λ n. Ended (take n text)) → IfOk r (λ n. NoFrom (lines (take n text)))
-    → IfOk r (λ n. (text' : List ℕ) (given : List Entry) → Held text' given message line → InBody (text' ++ take n text) (given ++ []) m.from_line.items body line)
+pub lines_taken : (r : Result ℕ AllocError) {message : Option PartialMessage} {m : PartialMessage} {line : List ℕ} (body text : List ℕ)
+    → message ≡ Some m → line ≡ []
+    → IfOk r (λ n. body ≡ m.body.items ++ flat_map unquoted (lines (take n text)))
+    → IfOk r (λ n. Ended (take n text)) → IfOk r (λ n. NoFrom (lines (take n text)))
+    → IfOk r
+    (λ n. (text' : List ℕ) (given : List Entry) → Held text' given message line → InBody (text' ++ take n text) (given ++ []) m.from_line.items body line)
 lines_taken (Ok n) body text is e eb ends none = some_lines is e eb ends none
 lines_taken (Err x) body text is e eb ends none = tt

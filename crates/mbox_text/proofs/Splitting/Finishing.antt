@@ -19,7 +19,8 @@ use Rattle.mbox_text.proofs.Reading.Last.{head-last, body-last}
 abbrev pub EndsWith : Splitter → Entry → Type 0
 EndsWith splitter e = (text : List ℕ) (given : List Entry) → HeldIn text given splitter → Mbox text (given ++ e ∷ [])
 
-pub ends_body : (splitter : Splitter) {m : PartialMessage} (e : Entry) (line : List ℕ) → splitter.message ≡ Some m → line ≡ splitter.line.items → e.from_line ≡ m.from_line.items
+pub ends_body : (splitter : Splitter) {m : PartialMessage} (e : Entry) (line : List ℕ)
+    → splitter.message ≡ Some m → line ≡ splitter.line.items → e.from_line ≡ m.from_line.items
     → e.body ≡ chopped (m.body.items ++ unquoted line) → EndsWith splitter e
 ends_body splitter {m} e line is e1 ef eb text given h = grind (arith, body-last)
 
@@ -43,16 +44,20 @@ not_short splitter e r ends n = λ text given h. (
   λ s. absurd (omega (arith, long splitter e ends text given h.held, s.1)),
 )
 
-pub not_short_body : (splitter : Splitter) {m : PartialMessage} (r : Result (Option Entry) TextFault) → splitter.message ≡ Some m → (IsErrOf r NoFromLine → ⊥) → RefusesShort splitter r
+pub not_short_body : (splitter : Splitter) {m : PartialMessage} (r : Result (Option Entry) TextFault)
+    → splitter.message ≡ Some m → (IsErrOf r NoFromLine → ⊥) → RefusesShort splitter r
 not_short_body splitter {m} r is =
-    not_short splitter _ r (ends_body splitter (record { from_line = m.from_line.items; body = chopped (m.body.items ++ unquoted splitter.line.items) }) splitter.line.items is refl refl refl)
+    not_short splitter _ r (ends_body splitter
+    (record { from_line = m.from_line.items; body = chopped (m.body.items ++ unquoted splitter.line.items) }) splitter.line.items is refl refl refl)
 
-pub not_short_head : (splitter : Splitter) {line : List ℕ} (r : Result (Option Entry) TextFault) → splitter.message ≡ None → line ≡ splitter.line.items → begins_from line ≡ true
+pub not_short_head : (splitter : Splitter) {line : List ℕ} (r : Result (Option Entry) TextFault)
+    → splitter.message ≡ None → line ≡ splitter.line.items → begins_from line ≡ true
     → (IsErrOf r NoFromLine → ⊥) → RefusesShort splitter r
 not_short_head splitter r is e1 b = not_short splitter _ r (ends_head splitter (record { from_line = splitter.line.items; body = [] }) is e1 b refl refl)
 
 -- a line that begins no message is all that has come, and then it is short
-first_line : (splitter : Splitter) {line : List ℕ} (text : List ℕ) (given : List Entry) → splitter.message ≡ None → line ≡ splitter.line.items → begins_from line ≡ false → HeldIn text given splitter
+first_line : (splitter : Splitter) {line : List ℕ} (text : List ℕ) (given : List Entry) → splitter.message ≡ None
+    → line ≡ splitter.line.items → begins_from line ≡ false → HeldIn text given splitter
     → (given ≡ []) × ((text ≡ splitter.line.items) × (length text < 5))
 first_line splitter text given is e1 b h = grind (arith, at_start, false≢true, from-short)
 
@@ -63,13 +68,15 @@ ends_none splitter is e = λ text given h.
     let empty = f.1.0 ∙ e in
     (rw (f.0, empty) refl, (λ _. empty, λ _. refl))
 
-pub short_none : (splitter : Splitter) (r : Result (Option Entry) TextFault) → (IsErrOf r NoFromLine → ⊥) → splitter.message ≡ None → splitter.line.items ≡ [] → RefusesShort splitter r
+pub short_none : (splitter : Splitter) (r : Result (Option Entry) TextFault) → (IsErrOf r NoFromLine → ⊥)
+    → splitter.message ≡ None → splitter.line.items ≡ [] → RefusesShort splitter r
 unfolding begins_from
 short_none splitter r n is e = λ text given h.
     let f = first_line splitter text given is (sym e) refl h.held in
     let empty = ap length (f.1.0 ∙ e) in
     (λ x. absurd (n x), λ s. absurd (omega (arith, empty, s.0)))
 
-pub short_refused : (splitter : Splitter) {line : List ℕ} (r : Result (Option Entry) TextFault) → IsErrOf r NoFromLine → splitter.message ≡ None → 0 < length splitter.line.items
+pub short_refused : (splitter : Splitter) {line : List ℕ} (r : Result (Option Entry) TextFault)
+    → IsErrOf r NoFromLine → splitter.message ≡ None → 0 < length splitter.line.items
     → line ≡ splitter.line.items → begins_from line ≡ false → RefusesShort splitter r
 short_refused splitter r y is some e1 b = grind (arith, first_line)

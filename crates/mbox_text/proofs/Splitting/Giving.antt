@@ -1,5 +1,6 @@
 -- What a splitter has given: all messages but the last, whatever comes behind the text.
-use Rattle.std.proofs.Common.{◌≡◌, ℕ, false, List, [], ◌∷◌, ◌++◌, refl, sym, ◌∙◌, ap, append_assoc, inl, inr, Option, Some, None, Result, Ok, Err, OnOk, IfErr, IsErr, IsErrOf, is_err, IsErrAnd, append-nil, arith}
+use Rattle.std.proofs.Common.{◌≡◌, ℕ, false, List, [], ◌∷◌, ◌++◌, refl, sym, ◌∙◌, ap, append_assoc, inl, inr, Option, Some}
+use Rattle.std.proofs.Common.{None, Result, Ok, Err, OnOk, IfErr, IsErr, IsErrOf, is_err, IsErrAnd, append-nil, arith}
 use Rattle.std.proofs.lemmas.Bool.{both_ways}
 use Rattle.std.proofs.lemmas.List.{append_cancel_left}
 use Rattle.mbox_text.specs.declared.entry.Entry.{Entry}
@@ -39,7 +40,8 @@ all_none text more (inl a) n = grind (arith, both_ways, begins_from-more)
 all_none text more (inr a) n = a.1
 
 -- one part, and then another
-pub gives_then : (old mid new : Splitter) (p q : List ℕ) (out out1 out' : List Entry) → Gives old p out out1 mid → Gives mid q out1 out' new → Gives old (p ++ q) out out' new
+pub gives_then : (old mid new : Splitter) (p q : List ℕ) (out out1 out' : List Entry)
+    → Gives old p out out1 mid → Gives mid q out1 out' new → Gives old (p ++ q) out out' new
 gives_then old mid new p q out out1 out' a b = grind (arith, append_assoc)
 
 pub gives_none : (old new : Splitter) (part : List ℕ) (out out' : List Entry) → out' ≡ out → Moves old part [] new → Gives old part out out' new
@@ -57,7 +59,8 @@ refuses_more LineEndInRest splitter part more r = absurd r
 refuses_more Failed splitter part more r = absurd r
 refuses_more WriteFault splitter part more r = absurd r
 
-pub stops_at : (fault : TextFault) (old now : Splitter) {piece : List ℕ} (front part more : List ℕ) (out out' : List Entry) → Gives old front out out' now → Refuses fault now part
+pub stops_at : (fault : TextFault) (old now : Splitter) {piece : List ℕ} (front part more : List ℕ) (out out' : List Entry)
+    → Gives old front out out' now → Refuses fault now part
     → piece ≡ front ++ (part ++ more) → Stops fault old piece out out'
 stops_at fault old now front part more out out' g r e = record {
   front = front;
@@ -68,7 +71,8 @@ stops_at fault old now front part more out out' g r e = record {
   refuses = refuses_more fault now part more r;
 }
 
-pub stops_behind : {fault : TextFault} {old mid : Splitter} {piece : List ℕ} (front : List ℕ) {part : List ℕ} {out out1 out' : List Entry} → Gives old front out out1 mid → Stops fault mid part out1 out'
+pub stops_behind : {fault : TextFault} {old mid : Splitter} {piece : List ℕ} (front : List ℕ) {part : List ℕ} {out out1 out' : List Entry}
+    → Gives old front out out1 mid → Stops fault mid part out1 out'
     → piece ≡ front ++ part → Stops fault old piece out out'
 stops_behind {old} {mid} front {out} {out1} {out'} g s e = record {
   front = front ++ s.front;
@@ -111,13 +115,15 @@ from-alone =
     (entry, (from_bytes, [], refl, from-block from_bytes (refl, (refl, (refl, (refl, (refl, tt))))) refl refl refl, inr refl, refl))
 
 -- what stays is the first of what is given where nothing is refused
-part : (text : List ℕ) (given added all : List Entry) → Stay text (given ++ added) → AllButLast text (given ++ all) → (rest : List Entry) × (all ≡ added ++ rest)
+part : (text : List ℕ) (given added all : List Entry) → Stay text (given ++ added)
+    → AllButLast text (given ++ all) → (rest : List Entry) × (all ≡ added ++ rest)
 part text given added all s (inl h) =
     let texts = append-nil text in
     elim (s [] ((given ++ all) ++ h.1.0 ∷ []) (rw texts h.1.1)) [
       | inl none ↦ let n = nil_right given added none in (all, rw n refl)
       | inr f ↦
-          let e = append_cancel_left given (all ++ h.1.0 ∷ []) (added ++ f.0 ∷ f.1) (sym (append_assoc given all (h.1.0 ∷ [])) ∙ f.2 ∙ append_assoc given added (f.0 ∷ f.1)) in
+          let e = append_cancel_left given (all ++ h.1.0 ∷ []) (added ++ f.0 ∷ f.1)
+          (sym (append_assoc given all (h.1.0 ∷ [])) ∙ f.2 ∙ append_assoc given added (f.0 ∷ f.1)) in
           front-cut added all f.1 h.1.0 f.0 e
     ]
 part text given added all s (inr h) =
@@ -149,6 +155,7 @@ fed_part r old piece out out' h is =
           let now = given ++ g.0 in
           let a = held-all s.now.message front now s.now.line.items (g.2 text given fed.held) in
           let texts : text ++ piece ≡ front ++ s.rest = ap (λ z. text ++ z) s.is ∙ sym (append_assoc text s.front s.rest) in
-          let stay : Stay (text ++ piece) now = λ more entries m. all_stay front now a (s.rest ++ more) entries (rw (texts, append_assoc front s.rest more) at m) in
+          let stay : Stay (text ++ piece) now = λ more entries m.
+          all_stay front now a (s.rest ++ more) entries (rw (texts, append_assoc front s.rest more) at m) in
           (λ all is_all. part (text ++ piece) given g.0 all stay is_all, λ n. nil_right given g.0 (all_none front s.rest a (rw texts at n))),
     )

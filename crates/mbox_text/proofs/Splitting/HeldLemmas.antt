@@ -23,7 +23,8 @@ pub unended-push : (l : List ℕ) → NoEnd l → unended (l ++ 10 ∷ []) ≡ l
 unended-push [] h = refl
 unended-push (c ∷ l) h = rw (h.0, unended-push l h.1) refl
 
-pub Closed-push : (text : List ℕ) (given : List Entry) {block : List ℕ} {e : Entry} → Closed text given → Block block e → Ended block → Closed (text ++ block) (given ++ e ∷ [])
+pub Closed-push : (text : List ℕ) (given : List Entry) {block : List ℕ} {e : Entry}
+    → Closed text given → Block block e → Ended block → Closed (text ++ block) (given ++ e ∷ [])
 unfolding Closed
 Closed-push text [] {block} h b ends = (block, [], rw h (sym (append-nil block)), b, ends, refl)
 Closed-push text (g ∷ given) {block} h b ends = grind (arith, Closed-push h.1 given h.5 b ends, append_assoc)
@@ -54,7 +55,8 @@ last_body {front} (c ∷ l) ends none part b is =
     }
 
 -- a block that ends in a line with no `\n`, or in a whole one
-pub open-last : {block f body : List ℕ} (line : List ℕ) (e : Entry) → Open block f body → NoEnd line → begins_from line ≡ false → e.from_line ≡ f → e.body ≡ chopped (body ++ unquoted line)
+pub open-last : {block f body : List ℕ} (line : List ℕ) (e : Entry) → Open block f body → NoEnd line
+    → begins_from line ≡ false → e.from_line ≡ f → e.body ≡ chopped (body ++ unquoted line)
     → Block (block ++ line) e
 open-last {f} {body} line e o h b ef eb =
     let last = last_body line o.ended o.tail h b (eb ∙ ap (λ z. chopped (z ++ unquoted line)) o.as_read) in
@@ -86,7 +88,14 @@ body-add {line} part a h b = grind (arith, append_assoc, NoEnd-append)
 -- the line begins the next message
 pub body-closes : {text : List ℕ} {given : List Entry} {f body line : List ℕ} (part : List ℕ) (e : Entry) → InBody text given f body line → NoEnd part
     → begins_from (line ++ part) ≡ true → e.from_line ≡ f → e.body ≡ chopped body → AtHead (text ++ part) (given ++ e ∷ []) (line ++ part)
-body-closes {given} {line} part e a h b is_line is_body = grind (arith, append_assoc a.front (a.block ++ line) part, append_assoc a.block line part, append_assoc a.front a.block (line ++ part), Closed-push a.front given a.closed (open-block e a.opened is_line is_body) (open-ends a.opened), NoEnd-append line part a.part h)
+body-closes {given} {line} part e a h b is_line is_body = grind (
+  arith,
+  append_assoc a.front (a.block ++ line) part,
+  append_assoc a.block line part,
+  append_assoc a.front a.block (line ++ part),
+  Closed-push a.front given a.closed (open-block e a.opened is_line is_body) (open-ends a.opened),
+  NoEnd-append line part a.part h,
+)
 
 -- the From_ line is whole
 pub head-ends : {text : List ℕ} {given : List Entry} {line : List ℕ} → AtHead text given line → begins_from line ≡ true
@@ -134,5 +143,6 @@ body-ends {text} {given} {f} {body} {line} a =
     let none : NoFrom (lines part) = rw one (begins_from-cut line [] ∙ a.tail, tt) in
     let whole = body-lines part (body-whole text given f body line a) (inr (line, refl)) none in
     let texts : (a.front ++ a.block) ++ part ≡ text ++ 10 ∷ [] = rw a.is (simp append_assoc) in
-    let bodies : body ++ flat_map unquoted (lines part) ≡ (body ++ unquoted line) ++ 10 ∷ [] = rw (one, append-nil (unquoted part), unquoted-push line) (sym (append_assoc body (unquoted line) (10 ∷ []))) in
+    let bodies : body ++ flat_map unquoted (lines part) ≡ (body ++ unquoted line) ++ 10 ∷ [] =
+    rw (one, append-nil (unquoted part), unquoted-push line) (sym (append_assoc body (unquoted line) (10 ∷ []))) in
     rw (← texts, ← bodies) whole

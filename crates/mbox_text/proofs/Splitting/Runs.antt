@@ -1,5 +1,6 @@
 -- Whole lines that are added as they are read.
-use Rattle.std.proofs.Common.{◌≡◌, ℕ, ◌+◌, ◌-◌, ◌≤◌, true, false, Some, eqb, List, [], ◌∷◌, ◌++◌, length, take, drop, refl, sym, ◌∙◌, ap, arith, append_assoc, inr, take-add}
+use Rattle.std.proofs.Common.{◌≡◌, ℕ, ◌+◌, ◌-◌, ◌≤◌, true, false, Some, eqb, List, [], ◌∷◌, ◌++◌, length}
+use Rattle.std.proofs.Common.{take, drop, refl, sym, ◌∙◌, ap, arith, append_assoc, inr, take-add}
 use Rattle.std.specs.List.{flat_map, concat}
 use Rattle.std.proofs.lemmas.Bool.{false_from_ne_true, both_ways, cases_Bool}
 use Rattle.std.proofs.lemmas.List.{append-nil, take-append-drop, take_rest, length-drop}
@@ -58,7 +59,8 @@ taken_more {text} {before} {at} n t le ends none is =
     record {
       within = omega (arith, t.within, le, length-drop at text);
       added = rw (front, flat_map-append unquoted (lines (take at text)) (lines x))
-          (is ∙ ap (λ z. z ++ flat_map unquoted (lines x)) t.added ∙ append_assoc before (flat_map unquoted (lines (take at text))) (flat_map unquoted (lines x)));
+          (is ∙ ap (λ z. z ++ flat_map unquoted (lines x)) t.added
+          ∙ append_assoc before (flat_map unquoted (lines (take at text))) (flat_map unquoted (lines x)));
       ended = rw (take-add at n text) (Ended-append (take at text) t.ended ends);
       none = rw front (NoFrom-append (lines (take at text)) (lines x) t.none none);
     }
@@ -93,12 +95,15 @@ taken_rest {text} {at} n t le ends none is =
 
 -- one whole line that begins no message
 pub taken_line : {text before body body' : List ℕ} {at : ℕ} (n : ℕ) → let line : List ℕ = take (length text - at) (drop at text) in
-    LinesTaken text before body at → IsFirstByte (is_byte 10) line (Some n) → begins_from line ≡ false → body' ≡ body ++ unquoted (take (n + 1) line) → LinesTaken text before body' (at + (n + 1))
+    LinesTaken text before body at → IsFirstByte (is_byte 10) line (Some n) → begins_from line ≡ false
+    → body' ≡ body ++ unquoted (take (n + 1) line) → LinesTaken text before body' (at + (n + 1))
 unfolding lines
 taken_line {text} {at} n t found none is =
     let D = drop at text in
     let x = take (n + 1) D in
     let h = line-there D n (rw (take_rest text at) at found) in
     let one : lines x ≡ x ∷ [] = rw h.is (lines-line (take n D) [] h.part) in
-    let plain : begins_from x ≡ false = false_from_ne_true (begins_from x) (λ b. both_ways (begins_from D) (rw (take_rest text at) at none) (begins_from-take D (n + 1) b)) in
-    taken_more (n + 1) t (omega (arith, h.within)) (inr (take n D, h.is)) (rw one (plain, tt)) (rw (take_rest text at) at is ∙ rw (one, append-nil (unquoted x)) refl)
+    let plain : begins_from x ≡ false =
+    false_from_ne_true (begins_from x) (λ b. both_ways (begins_from D) (rw (take_rest text at) at none) (begins_from-take D (n + 1) b)) in
+    taken_more (n + 1) t (omega (arith, h.within)) (inr (take n D, h.is)) (rw one (plain, tt))
+    (rw (take_rest text at) at is ∙ rw (one, append-nil (unquoted x)) refl)

@@ -33,7 +33,8 @@ first-begins q (r ∷ prefix) (c ∷ text) n h =
     let a = and_parts (eqb q c) (begins_with (r ∷ prefix) text) h in
     rw (no-end q c a.0 n.0) (before-begins q c (r ∷ prefix) (lines text) a.0 (inr (first-begins r prefix text n.1 a.1)))
 
-first-there : (prefix : List ℕ) (ls : List (List ℕ)) → FirstBegins prefix ls → (first : List ℕ) × (rest : List (List ℕ)) × (ls ≡ first ∷ rest) × (begins_with prefix first ≡ true)
+first-there : (prefix : List ℕ) (ls : List (List ℕ)) → FirstBegins prefix ls
+    → (first : List ℕ) × (rest : List (List ℕ)) × (ls ≡ first ∷ rest) × (begins_with prefix first ≡ true)
 first-there prefix [] h = absurd h
 first-there prefix (l ∷ ls) h = (l, ls, refl, h)
 

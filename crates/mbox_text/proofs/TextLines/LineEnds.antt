@@ -1,5 +1,6 @@
 -- Where the `\n` of a text stand.
-use Rattle.std.proofs.Common.{◌≡◌, ℕ, zero, suc, ◌+◌, ◌<◌, ◌↔◌, Bool, true, false, Option, Some, None, eqb, List, [], ◌∷◌, ◌++◌, length, get_or, take, drop, not, is_some, IsTrue, refl, sym, ◌∙◌, ap, arith, inl}
+use Rattle.std.proofs.Common.{◌≡◌, ℕ, zero, suc, ◌+◌, ◌<◌, ◌↔◌, Bool, true, false, Option, Some, None, eqb, List, [], ◌∷◌}
+use Rattle.std.proofs.Common.{◌++◌, length, get_or, take, drop, not, is_some, IsTrue, refl, sym, ◌∙◌, ap, arith, inl}
 use Rattle.std.proofs.lemmas.Bool.{both_ways, false_from_ne_true, eqb-true}
 use Rattle.std.proofs.lemmas.List.{take_all, take_more, length-drop, get_or-drop}
 use Rattle.memchr.specs.Find.{IsFirstByte, IsLastByte, is_byte}
@@ -20,7 +21,8 @@ pub NoEnd-behind : (s : List ℕ) (n : ℕ) → IsLastByte (is_byte 10) s (Some 
 NoEnd-behind s n h =
     let D = drop (n + 1) s in
     let whole : take (length D) D ≡ D = take_all (length D) D (omega arith) in
-    rw (← whole) (NoEnd-take D (length D) (λ k l e. h.0.after ((n + 1) + k) (omega arith) (omega (arith, l, length-drop (n + 1) s)) (ap (is_byte 10) (sym (get_or-drop (n + 1) s k 0)) ∙ e)))
+    rw (← whole) (NoEnd-take D (length D)
+    (λ k l e. h.0.after ((n + 1) + k) (omega arith) (omega (arith, l, length-drop (n + 1) s)) (ap (is_byte 10) (sym (get_or-drop (n + 1) s k 0)) ∙ e)))
 
 -- the line up to the first `\n`
 pub record LineThere (s : List ℕ) (n : ℕ) : Type 0 where

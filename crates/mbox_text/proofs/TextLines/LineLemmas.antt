@@ -1,5 +1,6 @@
 -- Lemmas on lines and quoting.
-use Rattle.std.proofs.Common.{◌≡◌, ℕ, Bool, true, false, eqb, List, [], ◌∷◌, ◌++◌, ◌+◌, ◌<◌, add-zero, length, get_or, drop, refl, sym, ap, arith, append_assoc, inl, inr, ◌&&◌, MatchBool}
+use Rattle.std.proofs.Common.{◌≡◌, ℕ, Bool, true, false, eqb, List, [], ◌∷◌, ◌++◌, ◌+◌, ◌<◌, add-zero, length}
+use Rattle.std.proofs.Common.{get_or, drop, refl, sym, ap, arith, append_assoc, inl, inr, ◌&&◌, MatchBool}
 use Rattle.std.specs.List.{concat, starts_with}
 use Rattle.std.proofs.lemmas.Bool.{false≢true, cases_Bool, ne_eqb, eq-eqb, cases_lt, and_parts, and_from}
 use Rattle.std.proofs.lemmas.List.{drop_more, drop_all, get_or-drop}

@@ -1,5 +1,6 @@
 -- What a writer took, piece after piece.
-use Rattle.std.proofs.Common.{◌≡◌, ℕ, ◌+◌, ◌-◌, Option, Result, Ok, Err, List, [], ◌++◌, length, take, drop, sym, ap, append_assoc, IsErr, take-append-drop, append-nil, refl, arith}
+use Rattle.std.proofs.Common.{◌≡◌, ℕ, ◌+◌, ◌-◌, Option, Result, Ok, Err, List, [], ◌++◌, length, take, drop}
+use Rattle.std.proofs.Common.{sym, ap, append_assoc, IsErr, take-append-drop, append-nil, refl, arith}
 use Rattle.std.specs.Io.KnownBytes.{Appends}
 use Rattle.std.proofs.KnownBytes.{Appends-trans}
 use Rattle.std.proofs.lemmas.Result.{MatchResult-from_err}
@@ -19,7 +20,8 @@ pub front_at : (bytes : List ℕ) (a b : Option (List ℕ)) (n : ℕ) → Append
 front_at bytes a b n h = grind (arith, take-append-drop n bytes)
 
 -- the next n bytes went out
-pub part_more : (bytes : List ℕ) (a b c : Option (List ℕ)) (at n : ℕ) → Appends a b (take at bytes) → Appends b c (take n (take (length bytes - at) (drop at bytes))) → Appends a c (take (at + n) bytes)
+pub part_more : (bytes : List ℕ) (a b c : Option (List ℕ)) (at n : ℕ) → Appends a b (take at bytes)
+    → Appends b c (take n (take (length bytes - at) (drop at bytes))) → Appends a c (take (at + n) bytes)
 part_more bytes a b c at n h k = grind (arith, take-at, Appends-trans)
 
 -- a fault in the first of two parts

@@ -1,5 +1,6 @@
 -- The first quotable line of a text, and the lines before it, of which none is.
-use Rattle.std.proofs.Common.{◌≡◌, ℕ, zero, suc, ◌+◌, ◌-◌, ◌≤◌, ◌<◌, Some, None, true, false, eqb, List, [], ◌∷◌, ◌++◌, length, take, drop, get_or, sym, ◌∙◌, ap, arith, inl, inr, ◌⊎◌}
+use Rattle.std.proofs.Common.{◌≡◌, ℕ, zero, suc, ◌+◌, ◌-◌, ◌≤◌, ◌<◌, Some, None, true, false, eqb, List, []}
+use Rattle.std.proofs.Common.{◌∷◌, ◌++◌, length, take, drop, get_or, sym, ◌∙◌, ap, arith, inl, inr, ◌⊎◌}
 use Rattle.std.specs.List.{concat}
 use Rattle.std.proofs.lemmas.Bool.{cases_Bool, cases_lt, false≢true, and_parts, eqb-true}
 use Rattle.std.proofs.lemmas.List.{take_all, length-drop, length-take, get_or-drop, drop-append-le, drop-take, take-take, take_rest}
@@ -103,7 +104,9 @@ plain_front {text} {at} n f p found within ended =
     plain_more f p (plain_before n (rw (take_rest text at) at found) le (rw (take-take f n D le) at ends))
 
 -- and one line more that is not quotable
-pub plain_line : {text : List ℕ} {at n : ℕ} → let line : List ℕ = take (length text - at) (drop at text) in Plain text at → IsLine line n → quotable line ≡ false → Plain text (at + n)
+pub plain_line : {text : List ℕ} {at n : ℕ} → let line : List ℕ =
+    take (length text - at) (drop at text) in
+    Plain text at → IsLine line n → quotable line ≡ false → Plain text (at + n)
 plain_line {text} {at} {n} p is not =
     let h = rw (take_rest text at) at is in
     let q = rw (take_rest text at) at not in

@@ -8,7 +8,8 @@ use Rattle.mbox_text.specs.Lines.{lines, Ended, NoEnd}
 use Rattle.mbox_text.specs.Quoting.{quotable, quoted, unquoted, begins_from}
 use Rattle.mbox_text.specs.Mbox.{NoFrom, Block, Mbox, without_blank}
 use Rattle.mbox_text.specs.Spelling.{missing_end, spelling, completed, FromLines}
-use Rattle.mbox_text.proofs.TextLines.LineLemmas.{lines-append, lines-line, lines-part, begins_from-more, quotable-cut, missing-ended, missing-part, quoted_no_from, unquoted_quoted, concat-lines}
+use Rattle.mbox_text.proofs.TextLines.LineLemmas.{lines-append, lines-line, lines-part, begins_from-more, quotable-cut}
+use Rattle.mbox_text.proofs.TextLines.LineLemmas.{missing-ended, missing-part, quoted_no_from, unquoted_quoted, concat-lines}
 use Rattle.mbox_text.proofs.Reading.Chopped.{Whole, lines-whole}
 use Rattle.mbox_text.proofs.Splitting.HeldLemmas.{unended-push, NoFrom-append}
 
@@ -86,7 +87,21 @@ pub full-cut : {body front : List ℕ} (last : List ℕ) → body ≡ front ++ l
 unfolding lines missing_end
 full-cut [] e (inl n) h = rw (e, n) (record { ended = inl refl; written = refl })
 full-cut {body} {front} [] e (inr s) h = grind (arith, append-nil front, missing-ended s.0, append-nil body, append-nil (flat_map quoted (lines body)))
-full-cut {body} {front} (c ∷ l) e ends h = grind (arith, missing-part front c l h, lines-append (c ∷ l) ends, lines-part c l h, append_assoc front (c ∷ l) (10 ∷ []), lines-append (c ∷ (l ++ 10 ∷ [])) ends, lines-line (c ∷ l) [] h, flat_map-append quoted (lines front) ((c ∷ l) ∷ []), flat_map-append quoted (lines front) ((c ∷ (l ++ 10 ∷ [])) ∷ []), append-nil (quoted (c ∷ l)), append-nil (quoted (c ∷ (l ++ 10 ∷ []))), quoted-push (c ∷ l), append_assoc (flat_map quoted (lines front)) (quoted (c ∷ l)) (10 ∷ []))
+full-cut {body} {front} (c ∷ l) e ends h = grind (
+  arith,
+  missing-part front c l h,
+  lines-append (c ∷ l) ends,
+  lines-part c l h,
+  append_assoc front (c ∷ l) (10 ∷ []),
+  lines-append (c ∷ (l ++ 10 ∷ [])) ends,
+  lines-line (c ∷ l) [] h,
+  flat_map-append quoted (lines front) ((c ∷ l) ∷ []),
+  flat_map-append quoted (lines front) ((c ∷ (l ++ 10 ∷ [])) ∷ []),
+  append-nil (quoted (c ∷ l)),
+  append-nil (quoted (c ∷ (l ++ 10 ∷ []))),
+  quoted-push (c ∷ l),
+  append_assoc (flat_map quoted (lines front)) (quoted (c ∷ l)) (10 ∷ []),
+)
 
 full : (body : List ℕ) → Full body
 full body = let k = cut body in full-cut k.last k.is k.ended k.part
@@ -112,7 +127,9 @@ spelled-block e b h =
       record {
         first = f ++ 10 ∷ [];
         others = qs ++ (10 ∷ []) ∷ [];
-        is = lines-line f (flat_map quoted (lines e.body) ++ (missing_end e.body ++ 10 ∷ [])) h ∙ rw (others, lines-concat (qs ++ (10 ∷ []) ∷ []) (whole-blank qs w)) refl;
+        is =
+            lines-line f (flat_map quoted (lines e.body) ++ (missing_end e.body ++ 10 ∷ [])) h
+            ∙ rw (others, lines-concat (qs ++ (10 ∷ []) ∷ []) (whole-blank qs w)) refl;
         head = begins_from-more f (10 ∷ []) b;
         tail = NoFrom-append qs ((10 ∷ []) ∷ []) (no-from-quoted ls) (refl, tt);
         from_line = sym (unended-push f h);

@@ -1,5 +1,6 @@
 -- What is written of a body, part by part.
-use Rattle.std.proofs.Common.{◌≡◌, ℕ, zero, suc, ◌+◌, ◌-◌, ◌≤◌, ◌<◌, Option, Result, true, false, eqb, List, [], ◌∷◌, ◌++◌, length, take, drop, get_or, refl, sym, ◌∙◌, ap, arith, append_assoc, inl, inr, ◌⊎◌, take-add}
+use Rattle.std.proofs.Common.{◌≡◌, ℕ, zero, suc, ◌+◌, ◌-◌, ◌≤◌, ◌<◌, Option, Result, true, false, eqb, List, [], ◌∷◌, ◌++◌}
+use Rattle.std.proofs.Common.{length, take, drop, get_or, refl, sym, ◌∙◌, ap, arith, append_assoc, inl, inr, ◌⊎◌, take-add}
 use Rattle.std.specs.List.{flat_map, concat}
 use Rattle.std.specs.Io.KnownBytes.{Appends}
 use Rattle.std.proofs.KnownBytes.{Appends-trans, Appends-nil}
@@ -56,16 +57,19 @@ plain : (ls : List (List ℕ)) → NoneQuotable ls → flat_map quoted ls ≡ co
 plain [] n = refl
 plain (l ∷ ls) n = rw (quoted-plain l n.0, plain ls n.1) refl
 
-pub found_part : (body : List ℕ) (at n : ℕ) → FirstQuotable (take (length body - at) (drop at body)) n → Part (drop at body) n (take ((at + n) - at) (drop at body))
+pub found_part : (body : List ℕ) (at n : ℕ) → FirstQuotable (take (length body - at) (drop at body)) n
+    → Part (drop at body) n (take ((at + n) - at) (drop at body))
 found_part body at n found = grind (arith, take_rest, plain, concat-lines)
 
 -- the quotable line there
-pub line_part : (body : List ℕ) (at n len : ℕ) → FirstQuotable (take (length body - at) (drop at body)) n → IsLine (take (length body - (at + n)) (drop (at + n) body)) len
+pub line_part : (body : List ℕ) (at n len : ℕ) → FirstQuotable (take (length body - at) (drop at body)) n
+    → IsLine (take (length body - (at + n)) (drop (at + n) body)) len
     → Part (drop (at + n) body) len (62 ∷ take (((at + n) + len) - (at + n)) (drop (at + n) body))
 line_part body at n len found line = grind (arith, take_rest, quotable-line, drop-drop, append-nil, quoted-marked)
 
 -- a part comes off the front
-split-at : (text : List ℕ) {n : ℕ} → (n ≡ length text) ⊎ Ended (take n text) → flat_map quoted (lines text) ≡ flat_map quoted (lines (take n text)) ++ flat_map quoted (lines (drop n text))
+split-at : (text : List ℕ) {n : ℕ} → (n ≡ length text) ⊎ Ended (take n text)
+    → flat_map quoted (lines text) ≡ flat_map quoted (lines (take n text)) ++ flat_map quoted (lines (drop n text))
 unfolding lines
 split-at text {n} (inl e) =
     let all : take n text ≡ text = take_all n text (omega (arith, e)) in
@@ -75,13 +79,15 @@ split-at text {n} (inr e) =
     ap (λ z. flat_map quoted (lines z)) (sym (take-append-drop n text)) ∙ ap (flat_map quoted) (lines-append (drop n text) e)
     ∙ flat_map-append quoted (lines (take n text)) (lines (drop n text))
 
-written_more : {body : List ℕ} {old mid : Option (List ℕ)} (new : Option (List ℕ)) {at n : ℕ} {bytes : List ℕ} → WrittenTo body old mid at → at < length body → Part (drop at body) n bytes
+written_more : {body : List ℕ} {old mid : Option (List ℕ)} (new : Option (List ℕ)) {at n : ℕ} {bytes : List ℕ}
+    → WrittenTo body old mid at → at < length body → Part (drop at body) n bytes
     → Appends mid new bytes → WrittenTo body old new (at + n)
 written_more {body} {old} {mid} new {at} {n} {bytes} w lt p h =
     let x = take n (drop at body) in
     let front = take-add at n body in
     let ended : Ended (take at body) = elim (w.ends) [ inl e ↦ absurd (omega (arith, e, lt)) | inr e ↦ e ] in
-    let lines_are : flat_map quoted (lines (take (at + n) body)) ≡ flat_map quoted (lines (take at body)) ++ bytes = rw (front, lines-append x ended, flat_map-append quoted (lines (take at body)) (lines x), p.is) refl in
+    let lines_are : flat_map quoted (lines (take (at + n) body)) ≡ flat_map quoted (lines (take at body)) ++ bytes =
+    rw (front, lines-append x ended, flat_map-append quoted (lines (take at body)) (lines x), p.is) refl in
     record {
       within = omega (arith, w.within, p.within, length-drop at body);
       ends = elim (p.ends) [
@@ -91,18 +97,21 @@ written_more {body} {old} {mid} new {at} {n} {bytes} w lt p h =
       written = rw lines_are (Appends-trans old mid new (flat_map quoted (lines (take at body))) bytes w.written h);
     }
 
-pub written_found : {body : List ℕ} {old mid : Option (List ℕ)} (new : Option (List ℕ)) {at : ℕ} (n : ℕ) → WrittenTo body old mid at → FirstQuotable (take (length body - at) (drop at body)) n
+pub written_found : {body : List ℕ} {old mid : Option (List ℕ)} (new : Option (List ℕ)) {at : ℕ} (n : ℕ)
+    → WrittenTo body old mid at → FirstQuotable (take (length body - at) (drop at body)) n
     → Appends mid new (take ((at + n) - at) (drop at body)) → WrittenTo body old new (at + n)
 written_found {body} new {at} n w found h =
     let f = rw (take_rest body at) at found in written_more new w (omega (arith, f.within, length-drop at body)) (found_part body at n found) h
 
-pub written_line : (body : List ℕ) (old mid new : Option (List ℕ)) (at n len : ℕ) → WrittenTo body old mid (at + n) → FirstQuotable (take (length body - at) (drop at body)) n
+pub written_line : (body : List ℕ) (old mid new : Option (List ℕ)) (at n len : ℕ)
+    → WrittenTo body old mid (at + n) → FirstQuotable (take (length body - at) (drop at body)) n
     → IsLine (take (length body - (at + n)) (drop (at + n) body)) len → Appends mid new (62 ∷ take (((at + n) + len) - (at + n)) (drop (at + n) body))
     → WrittenTo body old new ((at + n) + len)
 written_line body old mid new at n len w found line h =
     let f = rw (take_rest body at) at found in written_more new w (omega (arith, f.within, length-drop at body)) (line_part body at n len found line) h
 
-pub written_front : {body : List ℕ} {old mid : Option (List ℕ)} (new : Option (List ℕ)) {at n : ℕ} {bytes : List ℕ} → WrittenTo body old mid at → Part (drop at body) n bytes
+pub written_front : {body : List ℕ} {old mid : Option (List ℕ)} (new : Option (List ℕ)) {at n : ℕ} {bytes : List ℕ}
+    → WrittenTo body old mid at → Part (drop at body) n bytes
     → AppendsFront mid new bytes → AppendsFront old new (flat_map quoted (lines body))
 written_front {body} {old} {mid} new {at} {n} {bytes} w p h =
     let D = drop at body in
@@ -112,7 +121,8 @@ written_front {body} {old} {mid} new {at} {n} {bytes} w p h =
     (split-at body w.ends ∙ ap (λ z. F ++ z) (split-at D p.ends ∙ ap (λ z. z ++ R) p.is))
 
 -- the lines behind the last quotable one
-pub written_rest : {T E : Type 0} (r : Result T E) {body : List ℕ} {old mid : Option (List ℕ)} (new : Option (List ℕ)) {at : ℕ} → let rest : List ℕ = take (length body - at) (drop at body) in
+pub written_rest : {T E : Type 0} (r : Result T E) {body : List ℕ} {old mid : Option (List ℕ)} (new : Option (List ℕ)) {at : ℕ} → let rest : List ℕ =
+    take (length body - at) (drop at body) in
     WrittenTo body old mid at → NoneQuotable (lines rest) → Writes mid new r rest → Writes old new r (flat_map quoted (lines body))
 written_rest r {body} {old} {mid} new {at} w none h =
     let D = drop at body in

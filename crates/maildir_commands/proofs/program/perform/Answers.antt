@@ -9,41 +9,72 @@ use Rattle.maildir_commands.proofs.Output.{all_front, each_some, handed_all, han
 use Rattle.maildir_commands.proofs.program.perform.Goals as goal
 
 pub returns-in_err-answer-clause-some : goal.returns-in_err-answer-clause-some
-returns-in_err-answer-clause-some g c = λ h words maildir texts is_of these. on_err _ _ (some_kept _ _ texts (writer_contents g.W.Write.contents c.args.out.now) (writer_contents g.W.Write.contents c.work-answer.new.out) (writer_contents g.W.Write.contents c.flush-handed.new.out) c.flush-handed.ensures.same (c.in_err-answer.ensures.some h words maildir texts is_of these))
+returns-in_err-answer-clause-some g c = λ h words maildir texts is_of these.
+    on_err _ _ (some_kept _ _ texts (writer_contents g.W.Write.contents c.args.out.now) (writer_contents g.W.Write.contents c.work-answer.new.out)
+    (writer_contents g.W.Write.contents c.flush-handed.new.out) c.flush-handed.ensures.same (c.in_err-answer.ensures.some h words maildir texts is_of these))
 
 pub returns-clause-rewritten_input : goal.returns-clause-rewritten_input
 returns-clause-rewritten_input g c = λ words is_of are.
-    on_ok_then c.flush-handed.result _ _ (λ none. handed_all (writer_contents g.W.Write.contents c.args.out.now) (writer_contents g.W.Write.contents c.work-answer.new.out) (writer_contents g.W.Write.contents c.flush-handed.new.out) (g.W.Write.contents c.flush-handed.new.out.inner) (writer_buffer c.flush-handed.new.out) c.flush-handed.ensures.same refl none (flat_map spelling) (g.I.Read.remaining c.args.input.now) (c.in_ok-answer.ensures.rewritten_input words is_of are)) c.flush-handed.ensures.handed
+    on_ok_then c.flush-handed.result _ _
+    (λ none. handed_all (writer_contents g.W.Write.contents c.args.out.now) (writer_contents g.W.Write.contents c.work-answer.new.out)
+    (writer_contents g.W.Write.contents c.flush-handed.new.out) (g.W.Write.contents c.flush-handed.new.out.inner) (writer_buffer c.flush-handed.new.out)
+    c.flush-handed.ensures.same refl none (flat_map spelling) (g.I.Read.remaining c.args.input.now) (c.in_ok-answer.ensures.rewritten_input words is_of are))
+    c.flush-handed.ensures.handed
 
 pub returns-clause-rewritten : goal.returns-clause-rewritten
 returns-clause-rewritten g c = λ h file is_of.
-    on_ok_then c.flush-handed.result _ _ (λ none. handed_all (writer_contents g.W.Write.contents c.args.out.now) (writer_contents g.W.Write.contents c.work-answer.new.out) (writer_contents g.W.Write.contents c.flush-handed.new.out) (g.W.Write.contents c.flush-handed.new.out.inner) (writer_buffer c.flush-handed.new.out) c.flush-handed.ensures.same refl none (flat_map spelling) (Some (g.M.Machine.text_of c.args.machine.now file)) (c.in_ok-answer.ensures.rewritten h file is_of)) c.flush-handed.ensures.handed
+    on_ok_then c.flush-handed.result _ _ (λ none. handed_all (writer_contents g.W.Write.contents c.args.out.now)
+    (writer_contents g.W.Write.contents c.work-answer.new.out) (writer_contents g.W.Write.contents c.flush-handed.new.out)
+    (g.W.Write.contents c.flush-handed.new.out.inner) (writer_buffer c.flush-handed.new.out) c.flush-handed.ensures.same refl none (flat_map spelling)
+    (Some (g.M.Machine.text_of c.args.machine.now file)) (c.in_ok-answer.ensures.rewritten h file is_of)) c.flush-handed.ensures.handed
 
 pub returns-clause-listed_input : goal.returns-clause-listed_input
 returns-clause-listed_input g c = λ is_of.
-    on_ok_then c.flush-handed.result _ _ (λ none. handed_all (writer_contents g.W.Write.contents c.args.out.now) (writer_contents g.W.Write.contents c.work-answer.new.out) (writer_contents g.W.Write.contents c.flush-handed.new.out) (g.W.Write.contents c.flush-handed.new.out.inner) (writer_buffer c.flush-handed.new.out) c.flush-handed.ensures.same refl none table_of (g.I.Read.remaining c.args.input.now) (c.in_ok-answer.ensures.listed_input is_of)) c.flush-handed.ensures.handed
+    on_ok_then c.flush-handed.result _ _
+    (λ none. handed_all (writer_contents g.W.Write.contents c.args.out.now) (writer_contents g.W.Write.contents c.work-answer.new.out)
+    (writer_contents g.W.Write.contents c.flush-handed.new.out) (g.W.Write.contents c.flush-handed.new.out.inner) (writer_buffer c.flush-handed.new.out)
+    c.flush-handed.ensures.same refl none table_of (g.I.Read.remaining c.args.input.now) (c.in_ok-answer.ensures.listed_input is_of))
+    c.flush-handed.ensures.handed
 
 pub returns-clause-listed : goal.returns-clause-listed
 returns-clause-listed g c = λ h file is_of.
-    on_ok_then c.flush-handed.result _ _ (λ none. handed_all (writer_contents g.W.Write.contents c.args.out.now) (writer_contents g.W.Write.contents c.work-answer.new.out) (writer_contents g.W.Write.contents c.flush-handed.new.out) (g.W.Write.contents c.flush-handed.new.out.inner) (writer_buffer c.flush-handed.new.out) c.flush-handed.ensures.same refl none table_of (Some (g.M.Machine.text_of c.args.machine.now file)) (c.in_ok-answer.ensures.listed h file is_of)) c.flush-handed.ensures.handed
+    on_ok_then c.flush-handed.result _ _
+    (λ none. handed_all (writer_contents g.W.Write.contents c.args.out.now) (writer_contents g.W.Write.contents c.work-answer.new.out)
+    (writer_contents g.W.Write.contents c.flush-handed.new.out) (g.W.Write.contents c.flush-handed.new.out.inner) (writer_buffer c.flush-handed.new.out)
+    c.flush-handed.ensures.same refl none table_of (Some (g.M.Machine.text_of c.args.machine.now file)) (c.in_ok-answer.ensures.listed h file is_of))
+    c.flush-handed.ensures.handed
 
 pub returns-clause-printed : goal.returns-clause-printed
 returns-clause-printed g c = λ maildir files is_of.
-    on_ok_then c.flush-handed.result _ _ (λ none. handed_reports (writer_contents g.W.Write.contents c.args.out.now) (writer_contents g.W.Write.contents c.work-answer.new.out) (writer_contents g.W.Write.contents c.flush-handed.new.out) (g.W.Write.contents c.flush-handed.new.out.inner) (writer_buffer c.flush-handed.new.out) c.flush-handed.ensures.same refl none _ (c.in_ok-answer.ensures.printed maildir files is_of)) c.flush-handed.ensures.handed
+    on_ok_then c.flush-handed.result _ _
+    (λ none. handed_reports (writer_contents g.W.Write.contents c.args.out.now) (writer_contents g.W.Write.contents c.work-answer.new.out)
+    (writer_contents g.W.Write.contents c.flush-handed.new.out) (g.W.Write.contents c.flush-handed.new.out.inner) (writer_buffer c.flush-handed.new.out)
+    c.flush-handed.ensures.same refl none _ (c.in_ok-answer.ensures.printed maildir files is_of)) c.flush-handed.ensures.handed
 
 pub returns-clause-safe : goal.returns-clause-safe
 returns-clause-safe g c = λ h words maildir texts is_of these. on_ok _ c.flush-handed.result (c.in_ok-answer.ensures.safe h words maildir texts is_of these)
 
 pub returns-clause-each : goal.returns-clause-each
 returns-clause-each g c = λ h words maildir texts is_of these.
-    on_ok_then c.flush-handed.result _ _ (λ none. handed_each (writer_contents g.W.Write.contents c.args.out.now) (writer_contents g.W.Write.contents c.work-answer.new.out) (writer_contents g.W.Write.contents c.flush-handed.new.out) (g.W.Write.contents c.flush-handed.new.out.inner) (writer_buffer c.flush-handed.new.out) c.flush-handed.ensures.same refl none _ texts (c.in_ok-answer.ensures.each h words maildir texts is_of these)) c.flush-handed.ensures.handed
+    on_ok_then c.flush-handed.result _ _
+    (λ none. handed_each (writer_contents g.W.Write.contents c.args.out.now) (writer_contents g.W.Write.contents c.work-answer.new.out)
+    (writer_contents g.W.Write.contents c.flush-handed.new.out) (g.W.Write.contents c.flush-handed.new.out.inner) (writer_buffer c.flush-handed.new.out)
+    c.flush-handed.ensures.same refl none _ texts (c.in_ok-answer.ensures.each h words maildir texts is_of these)) c.flush-handed.ensures.handed
 
 pub returns-clause-rewritten_front : goal.returns-clause-rewritten_front
-returns-clause-rewritten_front g c = λ h file is_of. on_err _ _ (all_front (flat_map spelling) (g.M.Machine.text_of c.args.machine.now file) (writer_contents g.W.Write.contents c.args.out.now) (writer_contents g.W.Write.contents c.work-answer.new.out) (writer_contents g.W.Write.contents c.flush-handed.new.out) c.flush-handed.ensures.same (c.in_ok-answer.ensures.rewritten h file is_of))
+returns-clause-rewritten_front g c = λ h file is_of.
+    on_err _ _ (all_front (flat_map spelling) (g.M.Machine.text_of c.args.machine.now file)
+    (writer_contents g.W.Write.contents c.args.out.now) (writer_contents g.W.Write.contents c.work-answer.new.out)
+    (writer_contents g.W.Write.contents c.flush-handed.new.out) c.flush-handed.ensures.same (c.in_ok-answer.ensures.rewritten h file is_of))
 
 pub returns-clause-listed_front : goal.returns-clause-listed_front
-returns-clause-listed_front g c = λ h file is_of. on_err _ _ (all_front table_of (g.M.Machine.text_of c.args.machine.now file) (writer_contents g.W.Write.contents c.args.out.now) (writer_contents g.W.Write.contents c.work-answer.new.out) (writer_contents g.W.Write.contents c.flush-handed.new.out) c.flush-handed.ensures.same (c.in_ok-answer.ensures.listed h file is_of))
+returns-clause-listed_front g c = λ h file is_of.
+    on_err _ _ (all_front table_of (g.M.Machine.text_of c.args.machine.now file)
+    (writer_contents g.W.Write.contents c.args.out.now) (writer_contents g.W.Write.contents c.work-answer.new.out)
+    (writer_contents g.W.Write.contents c.flush-handed.new.out) c.flush-handed.ensures.same (c.in_ok-answer.ensures.listed h file is_of))
 
 pub returns-clause-some : goal.returns-clause-some
 returns-clause-some g c = λ h words maildir texts is_of these.
-    on_err _ _ (each_some _ _ texts (writer_contents g.W.Write.contents c.args.out.now) (writer_contents g.W.Write.contents c.work-answer.new.out) (writer_contents g.W.Write.contents c.flush-handed.new.out) c.flush-handed.ensures.same (c.in_ok-answer.ensures.each h words maildir texts is_of these) (c.in_ok-answer.ensures.safe h words maildir texts is_of these))
+    on_err _ _ (each_some _ _ texts (writer_contents g.W.Write.contents c.args.out.now) (writer_contents g.W.Write.contents c.work-answer.new.out)
+    (writer_contents g.W.Write.contents c.flush-handed.new.out) c.flush-handed.ensures.same
+    (c.in_ok-answer.ensures.each h words maildir texts is_of these) (c.in_ok-answer.ensures.safe h words maildir texts is_of these))

@@ -20,15 +20,18 @@ returns-clause-printed g c =
 
 pub returns-in_err-map_err-clause-intact : goal.returns-in_err-map_err-clause-intact
 returns-in_err-map_err-clause-intact g c = λ honest t ms small p are intact.
-    intact_after_both t ms are small _ _ _ c.convert.result (c.convert.ensures.left honest t ms p are) (c.sync.ensures.left (c.convert.ensures.honest honest)) intact
+    intact_after_both t ms are small _ _ _ c.convert.result (c.convert.ensures.left honest t ms p are)
+    (c.sync.ensures.left (c.convert.ensures.honest honest)) intact
 
 pub returns-in_err-print_report-clause-intact : goal.returns-in_err-print_report-clause-intact
 returns-in_err-print_report-clause-intact g c = λ honest t ms small p are intact.
-    intact_after_both t ms are small _ _ _ c.convert.result (c.convert.ensures.left honest t ms p are) (c.sync.ensures.left (c.convert.ensures.honest honest)) intact
+    intact_after_both t ms are small _ _ _ c.convert.result (c.convert.ensures.left honest t ms p are)
+    (c.sync.ensures.left (c.convert.ensures.honest honest)) intact
 
 pub returns-clause-intact : goal.returns-clause-intact
 returns-clause-intact g c = λ honest t ms small p are intact.
-    intact_after_both t ms are small _ _ _ c.convert.result (c.convert.ensures.left honest t ms p are) (c.sync.ensures.left (c.convert.ensures.honest honest)) intact
+    intact_after_both t ms are small _ _ _ c.convert.result (c.convert.ensures.left honest t ms p are)
+    (c.sync.ensures.left (c.convert.ensures.honest honest)) intact
 
 pub returns-in_err-report-clause-intact : goal.returns-in_err-report-clause-intact
 returns-in_err-report-clause-intact g c = λ honest t ms small p are intact.
@@ -37,32 +40,38 @@ returns-in_err-report-clause-intact g c = λ honest t ms small p are intact.
 pub returns-in_err-print_report-clause-line : goal.returns-in_err-print_report-clause-line
 returns-in_err-print_report-clause-line g c = λ honest t ms small p are sound intact.
     let still = c.convert.ensures.honest honest in
-    inr (safe_after_both t ms are small _ _ _ _ _ _ _ c.in_ok-report.report c.sync.result (c.in_ok-report.ensures.owes honest t small p) sound (c.in_ok-report.ensures.left honest t ms p are) intact
+    inr (safe_after_both t ms are small _ _ _ _ _ _ _ c.in_ok-report.report c.sync.result
+    (c.in_ok-report.ensures.owes honest t small p) sound (c.in_ok-report.ensures.left honest t ms p are) intact
     (c.sync.ensures.acts still) (search rules) (c.sync.ensures.synced still) (c.sync.ensures.rooted still))
 
 pub returns-clause-line : goal.returns-clause-line
 returns-clause-line g c = λ honest t ms small p are sound intact.
     let still = c.convert.ensures.honest honest in
-    inr (safe_after_both t ms are small _ _ _ _ _ _ _ c.in_ok-report.report c.sync.result (c.in_ok-report.ensures.owes honest t small p) sound (c.in_ok-report.ensures.left honest t ms p are) intact
+    inr (safe_after_both t ms are small _ _ _ _ _ _ _ c.in_ok-report.report c.sync.result
+    (c.in_ok-report.ensures.owes honest t small p) sound (c.in_ok-report.ensures.left honest t ms p are) intact
     (c.sync.ensures.acts still) (search rules) (c.sync.ensures.synced still) (c.sync.ensures.rooted still))
 
 pub returns-clause-safe : goal.returns-clause-safe
 returns-clause-safe g c = λ honest t ms small p are sound intact.
     let still = c.convert.ensures.honest honest in
-    (safe_after_both t ms are small _ _ _ _ _ _ _ c.in_ok-report.report c.sync.result (c.in_ok-report.ensures.owes honest t small p) sound (c.in_ok-report.ensures.left honest t ms p are) intact
+    (safe_after_both t ms are small _ _ _ _ _ _ _ c.in_ok-report.report c.sync.result
+    (c.in_ok-report.ensures.owes honest t small p) sound (c.in_ok-report.ensures.left honest t ms p are) intact
     (c.sync.ensures.acts still) (search rules) (c.sync.ensures.synced still) (c.sync.ensures.rooted still))
 
 pub returns-in_err-map_err-clause-still : goal.returns-in_err-map_err-clause-still
 returns-in_err-map_err-clause-still g c = λ honest t ms others small p are named alike survive.
-    survive_after_both t ms are small others _ _ _ c.convert.result named alike (c.convert.ensures.left honest t ms p are) (c.sync.ensures.left (c.convert.ensures.honest honest)) survive
+    survive_after_both t ms are small others _ _ _ c.convert.result named alike
+    (c.convert.ensures.left honest t ms p are) (c.sync.ensures.left (c.convert.ensures.honest honest)) survive
 
 pub returns-in_err-print_report-clause-still : goal.returns-in_err-print_report-clause-still
 returns-in_err-print_report-clause-still g c = λ honest t ms others small p are named alike survive.
-    survive_after_both t ms are small others _ _ _ c.convert.result named alike (c.convert.ensures.left honest t ms p are) (c.sync.ensures.left (c.convert.ensures.honest honest)) survive
+    survive_after_both t ms are small others _ _ _ c.convert.result named alike
+    (c.convert.ensures.left honest t ms p are) (c.sync.ensures.left (c.convert.ensures.honest honest)) survive
 
 pub returns-clause-still : goal.returns-clause-still
 returns-clause-still g c = λ honest t ms others small p are named alike survive.
-    survive_after_both t ms are small others _ _ _ c.convert.result named alike (c.convert.ensures.left honest t ms p are) (c.sync.ensures.left (c.convert.ensures.honest honest)) survive
+    survive_after_both t ms are small others _ _ _ c.convert.result named alike
+    (c.convert.ensures.left honest t ms p are) (c.sync.ensures.left (c.convert.ensures.honest honest)) survive
 
 pub returns-in_err-report-clause-still : goal.returns-in_err-report-clause-still
 returns-in_err-report-clause-still g c = λ honest t ms others small p are named alike survive.
@@ -70,36 +79,44 @@ returns-in_err-report-clause-still g c = λ honest t ms others small p are named
 
 pub returns-in_err-report-clause-stays : goal.returns-in_err-report-clause-stays
 returns-in_err-report-clause-stays g c = λ honest t ms others small p are sound named alike.
-    stays_after_run t ms are small others named alike _ _ _ _ c.convert.result (c.convert.ensures.owes honest t small p) sound (c.convert.ensures.left honest t ms p are)
+    stays_after_run t ms are small others named alike _ _ _ _ c.convert.result
+    (c.convert.ensures.owes honest t small p) sound (c.convert.ensures.left honest t ms p are)
 
 pub returns-in_err-map_err-clause-stays : goal.returns-in_err-map_err-clause-stays
 returns-in_err-map_err-clause-stays g c = λ honest t ms others small p are sound named alike.
     let still = c.convert.ensures.honest honest in
-    stays_after_both t ms are small others named alike _ _ _ _ _ _ c.convert.result (c.convert.ensures.owes honest t small p) sound (c.convert.ensures.left honest t ms p are) (c.sync.ensures.acts still) (c.sync.ensures.left still)
+    stays_after_both t ms are small others named alike _ _ _ _ _ _ c.convert.result (c.convert.ensures.owes honest t small p)
+    sound (c.convert.ensures.left honest t ms p are) (c.sync.ensures.acts still) (c.sync.ensures.left still)
 
 pub returns-in_err-print_report-clause-stays : goal.returns-in_err-print_report-clause-stays
 returns-in_err-print_report-clause-stays g c = λ honest t ms others small p are sound named alike.
     let still = c.convert.ensures.honest honest in
-    stays_after_both t ms are small others named alike _ _ _ _ _ _ c.convert.result (c.convert.ensures.owes honest t small p) sound (c.convert.ensures.left honest t ms p are) (c.sync.ensures.acts still) (c.sync.ensures.left still)
+    stays_after_both t ms are small others named alike _ _ _ _ _ _ c.convert.result (c.convert.ensures.owes honest t small p)
+    sound (c.convert.ensures.left honest t ms p are) (c.sync.ensures.acts still) (c.sync.ensures.left still)
 
 pub returns-clause-stays : goal.returns-clause-stays
 returns-clause-stays g c = λ honest t ms others small p are sound named alike.
     let still = c.convert.ensures.honest honest in
-    stays_after_both t ms are small others named alike _ _ _ _ _ _ c.convert.result (c.convert.ensures.owes honest t small p) sound (c.convert.ensures.left honest t ms p are) (c.sync.ensures.acts still) (c.sync.ensures.left still)
+    stays_after_both t ms are small others named alike _ _ _ _ _ _ c.convert.result (c.convert.ensures.owes honest t small p)
+    sound (c.convert.ensures.left honest t ms p are) (c.sync.ensures.acts still) (c.sync.ensures.left still)
 
 pub returns-clause-known : goal.returns-clause-known
 returns-clause-known g c = λ honest t ms small p are sound.
-    both_have ms _ _ _ c.in_ok-report.report ((c.in_ok-report.ensures.owes honest t small p).keeps ms are (sound_now ms _ sound)) (c.sync.ensures.acts (c.convert.ensures.honest honest))
+    both_have ms _ _ _ c.in_ok-report.report ((c.in_ok-report.ensures.owes honest t small p).keeps ms are (sound_now ms _ sound))
+    (c.sync.ensures.acts (c.convert.ensures.honest honest))
 
 pub returns-in_err-print_report-clause-stopped : goal.returns-in_err-print_report-clause-stopped
 returns-in_err-print_report-clause-stopped g c = λ honest t ms small p are sound intact.
     let still = c.convert.ensures.honest honest in
     let report = c.in_ok-report.report in
-    let safe = safe_after_both t ms are small _ _ _ _ _ _ _ report c.sync.result (c.in_ok-report.ensures.owes honest t small p) sound (c.in_ok-report.ensures.left honest t ms p are) intact
+    let safe = safe_after_both t ms are small _ _ _ _ _ _ _ report c.sync.result
+    (c.in_ok-report.ensures.owes honest t small p) sound (c.in_ok-report.ensures.left honest t ms p are) intact
     (c.sync.ensures.acts still) (search rules) (c.sync.ensures.synced still) (c.sync.ensures.rooted still) in
     on_err _ _ (inr (record {
       report = report;
-      true_of = of_reports (record { bytes = t; messages = ms }) _ report (reports_after_run t ms are small _ _ report (c.in_ok-report.ensures.owes honest t small p) sound);
+      true_of =
+          of_reports (record { bytes = t; messages = ms }) _ report
+          (reports_after_run t ms are small _ _ report (c.in_ok-report.ensures.owes honest t small p) sound);
       kept = record { home = safe.home; survive = safe.survive };
       line = c.in_err-print_report.ensures.printed;
     }))

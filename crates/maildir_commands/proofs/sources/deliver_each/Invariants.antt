@@ -13,7 +13,8 @@ invariant-loop-path g l =
     × (g.M.Machine.honest l.fn.machine → g.M.Machine.text_of l.machine ≡ g.M.Machine.text_of l.fn.machine)
     × (g.M.Machine.honest l.fn.machine → (word : List ℕ) → Rests (g.M.Machine.maildir_at l.fn.machine word) (g.M.Machine.maildir_at l.machine word))
     × (g.M.Machine.honest l.fn.machine → g.M.Maildir.System.honest l.fn.folder.system → g.M.Maildir.System.honest l.folder.system)
-    × (g.M.Machine.honest l.fn.machine → g.M.Maildir.System.honest l.fn.folder.system → (texts : List Mailbox) (text : List ℕ) → g.M.Source.Read.remaining l.fn.first ≡ Some text →
+    × (g.M.Machine.honest l.fn.machine → g.M.Maildir.System.honest l.fn.folder.system
+    → (texts : List Mailbox) (text : List ℕ) → g.M.Source.Read.remaining l.fn.first ≡ Some text →
     bytes_of texts ≡ text ∷ map (λ file. g.M.Machine.text_of l.fn.machine (string_bytes file)) l.rest → AreFit texts →
     IsSoundFor texts (held g.M.Maildir.System.world g.M.Maildir.System.may_leave g.M.Maildir.System.rooted l.fn.folder.system) →
     UpTo (l.path-index + 1) texts (held g.M.Maildir.System.world g.M.Maildir.System.may_leave g.M.Maildir.System.rooted l.fn.folder.system)

@@ -16,20 +16,24 @@ returns-in_err-deliver-clause-stopped g c = λ honest text is p sound.
 
 pub returns-in_err-deliver-clause-stays : goal.returns-in_err-deliver-clause-stays
 returns-in_err-deliver-clause-stays g c = λ honest text is p sound others named alike.
-    c.deliver.ensures.stays honest text.bytes text.messages others is.small p is.are (sound_of_one text _ sound) named (All-head (λ (t : Mailbox). AreAlike others t.messages) text [] alike)
+    c.deliver.ensures.stays honest text.bytes text.messages others is.small p is.are
+    (sound_of_one text _ sound) named (All-head (λ (t : Mailbox). AreAlike others t.messages) text [] alike)
 
 pub returns-clause-stays : goal.returns-clause-stays
 returns-clause-stays g c = λ honest text is p sound others named alike.
-    c.deliver.ensures.stays honest text.bytes text.messages others is.small p is.are (sound_of_one text _ sound) named (All-head (λ (t : Mailbox). AreAlike others t.messages) text [] alike)
+    c.deliver.ensures.stays honest text.bytes text.messages others is.small p is.are
+    (sound_of_one text _ sound) named (All-head (λ (t : Mailbox). AreAlike others t.messages) text [] alike)
 
 pub returns-clause-printed : goal.returns-clause-printed
 returns-clause-printed g c =
     let printed = c.in_ok-deliver.ensures.printed in
-    on_ok _ c.flush.result (one_report _ _ (λ _. Unit {0}) (record { report = printed.report; line = Appends-kept _ _ _ (report_line printed.report) printed.line c.flush.ensures.same; said = tt }))
+    on_ok _ c.flush.result (one_report _ _ (λ _. Unit {0})
+    (record { report = printed.report; line = Appends-kept _ _ _ (report_line printed.report) printed.line c.flush.ensures.same; said = tt }))
 
 pub returns-clause-safe : goal.returns-clause-safe
 returns-clause-safe g c = λ honest text is p sound.
-    on_ok _ c.flush.result (c.in_ok-deliver.ensures.safe honest text.bytes text.messages is.small p is.are (sound_of_one text _ sound) (intact_of_one text _ sound))
+    on_ok _ c.flush.result
+    (c.in_ok-deliver.ensures.safe honest text.bytes text.messages is.small p is.are (sound_of_one text _ sound) (intact_of_one text _ sound))
 
 pub returns-clause-line : goal.returns-clause-line
 returns-clause-line g c = λ honest text is p sound.

@@ -6,4 +6,5 @@ pub returns-clause-intact : goal.returns-clause-intact
 returns-clause-intact c = λ t ms names before now answer are small ran. all_intact ms before now (own_hold t ms are small names before answer now ran)
 
 pub returns-clause-bodies : goal.returns-clause-bodies
-returns-clause-bodies c = λ t ms others names before now answer are small ran named alike. all_bodies others before now (texts_hold t ms are small names before answer now ran others named alike)
+returns-clause-bodies c = λ t ms others names before now answer are small ran named alike.
+    all_bodies others before now (texts_hold t ms are small names before answer now ran others named alike)

@@ -21,7 +21,9 @@ loop-preserved g c = record {
       record {
         honest = c.sleep.ensures.honest timed;
         acts = acts_on kept.acts (acts_on told (c.sleep.ensures.acts timed));
-        left = left_by_others_then (left_by_others_then kept.left (c.take_names.ensures.left kept.honest)) (left_by_others_then (c.instant-in-loop.ensures.left still) (c.sleep.ensures.left timed));
+        left =
+            left_by_others_then (left_by_others_then kept.left (c.take_names.ensures.left kept.honest))
+            (left_by_others_then (c.instant-in-loop.ensures.left still) (c.sleep.ensures.left timed));
       };
   quietly = λ quiet.
       let kept = c.loop.invariant.quietly quiet in
@@ -48,7 +50,8 @@ pub returns-in_err-instant-clause-listed : goal.returns-in_err-instant-clause-li
 returns-in_err-instant-clause-listed g c = λ honest.
     let kept = c.loop.invariant.acted honest in
     let looked = acts_on kept.acts (rw c.in-Wait.is at (c.in_ok-names.ensures.looked kept.honest)) in
-    listed_fault c.args.sub _ c.from_residual-in_err-instant.ensures.0 (acts_on looked (c.instant-in-loop.ensures.acts (c.take_names.ensures.honest kept.honest)))
+    listed_fault c.args.sub _ c.from_residual-in_err-instant.ensures.0
+    (acts_on looked (c.instant-in-loop.ensures.acts (c.take_names.ensures.honest kept.honest)))
 
 pub returns-clause-listed : goal.returns-clause-listed
 returns-clause-listed g c = λ honest.
@@ -74,7 +77,8 @@ returns-in-Taken-clause-left g c = λ honest.
 pub returns-in_err-instant-clause-left : goal.returns-in_err-instant-clause-left
 returns-in_err-instant-clause-left g c = λ honest.
     let kept = c.loop.invariant.acted honest in
-    left_by_others_then (left_by_others_then kept.left (c.take_names.ensures.left kept.honest)) (c.instant-in-loop.ensures.left (c.take_names.ensures.honest kept.honest))
+    left_by_others_then (left_by_others_then kept.left (c.take_names.ensures.left kept.honest))
+    (c.instant-in-loop.ensures.left (c.take_names.ensures.honest kept.honest))
 
 pub returns-clause-left : goal.returns-clause-left
 returns-clause-left g c = λ honest.
@@ -82,7 +86,8 @@ returns-clause-left g c = λ honest.
     elim c.loop-test.branch [
       | else-loop-test w ↦ rw w.system-is kept.left
       | then-loop-test+in_ok-names+in-Wait+in_ok-instant+then-ge w ↦
-          rw w.system-is (left_by_others_then (left_by_others_then kept.left (w.take_names.ensures.left kept.honest)) (w.instant-in-loop.ensures.left (w.take_names.ensures.honest kept.honest)))
+          rw w.system-is (left_by_others_then (left_by_others_then kept.left (w.take_names.ensures.left kept.honest))
+          (w.instant-in-loop.ensures.left (w.take_names.ensures.honest kept.honest)))
     ]
 
 -- ---- in a quiet system

@@ -32,7 +32,8 @@ returns-in_default-2 g c = record {
       acts_on (acts_on (c.stamp.ensures.passes honest).acts (c.now.ensures.acts told)) watched;
   left = λ honest.
       let told = c.stamp.ensures.honest honest in
-      left_by_others_then (left_by_others_then (c.stamp.ensures.left honest) (c.now.ensures.left told)) (c.watched_names.ensures.left (c.now.ensures.honest told));
+      left_by_others_then (left_by_others_then (c.stamp.ensures.left honest) (c.now.ensures.left told))
+      (c.watched_names.ensures.left (c.now.ensures.honest told));
   quiet = λ quiet. c.watched_names.ensures.quiet (c.now.ensures.quiet (c.stamp.ensures.quiet quiet));
   quietly = λ quiet.
       let told = c.stamp.ensures.quiet quiet in

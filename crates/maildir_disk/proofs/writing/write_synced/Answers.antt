@@ -40,7 +40,9 @@ loop-preserved g c =
                   honest = c.append.ensures.honest kept.honest;
                   named = c.append.ensures.name ∙ kept.named;
                   current = c.append.ensures.current kept.honest kept.current;
-                  holds = rw (w.at-is, ← taken bytes at n) (written_changed c.args.name.now (take at bytes) more kept.holds (rw kept.named at (w.in-Ok.ensures.appended kept.honest kept.current)));
+                  holds =
+                      rw (w.at-is, ← taken bytes at n)
+                      (written_changed c.args.name.now (take at bytes) more kept.holds (rw kept.named at (w.in-Ok.ensures.appended kept.honest kept.current)));
                   left = left_both kept.left (rw kept.named at (c.append.ensures.left kept.honest));
                 };
             quietly = λ quiet.
@@ -48,7 +50,9 @@ loop-preserved g c =
                 let was = c.loop.invariant.written (g.met.S.System.quiet_is_honest _ quiet) in
                 record {
                   quiet = c.append.ensures.quiet kept.quiet;
-                  holds = rw (w.at-is, ← taken bytes at n) (grown_quietly c.args.name.now (take at bytes) more _ kept.holds (rw was.named at (w.in-Ok.ensures.quietly kept.quiet was.current)));
+                  holds =
+                      rw (w.at-is, ← taken bytes at n)
+                      (grown_quietly c.args.name.now (take at bytes) more _ kept.holds (rw was.named at (w.in-Ok.ensures.quietly kept.quiet was.current)));
                 };
           }
       | in-Err+else-ne w ↦ record {
@@ -80,7 +84,8 @@ loop-preserved g c =
 
 -- ---- what is reported
 pub returns-in_err-file-clause-called : goal.returns-in_err-file-clause-called
-returns-in_err-file-clause-called g c = λ honest. not_created c.args.name.now c.args.bytes.now _ c.from_residual.ensures.0 (c.in_err-file.ensures.created honest)
+returns-in_err-file-clause-called g c = λ honest.
+    not_created c.args.name.now c.args.bytes.now _ c.from_residual.ensures.0 (c.in_err-file.ensures.created honest)
 
 pub returns-then-at-bytes-clause-called : goal.returns-then-at-bytes-clause-called
 returns-then-at-bytes-clause-called g c = λ honest.
@@ -129,7 +134,8 @@ returns-clause-left g c = λ honest. left_torn (c.loop.invariant.written honest)
 
 -- ---- in a quiet system
 pub returns-in_err-file-clause-quietly : goal.returns-in_err-file-clause-quietly
-returns-in_err-file-clause-quietly g c = λ quiet. not_created_quietly c.args.name.now c.args.bytes.now _ _ _ c.from_residual.ensures.0 (c.in_err-file.ensures.quietly quiet)
+returns-in_err-file-clause-quietly g c = λ quiet.
+    not_created_quietly c.args.name.now c.args.bytes.now _ _ _ c.from_residual.ensures.0 (c.in_err-file.ensures.quietly quiet)
 
 pub returns-then-at-bytes-clause-quietly : goal.returns-then-at-bytes-clause-quietly
 returns-then-at-bytes-clause-quietly g c = λ quiet.

@@ -4,7 +4,8 @@ use Rattle.maildir_name.proofs.flags.field_of.Goals.{else-loop-rest-test, then-l
 
 pub returns-then-begins_with_name : goal.returns-then-begins_with_name
 returns-then-begins_with_name c =
-    field_then {body = c.args.body.now} (record { same = c.loop-rest.invariant; first = c.line_len.ensures.first; front = c.split_at.ensures.front; back = c.split_at.ensures.back })
+    field_then {body = c.args.body.now}
+    (record { same = c.loop-rest.invariant; first = c.line_len.ensures.first; front = c.split_at.ensures.front; back = c.split_at.ensures.back })
     c.is_blank.ensures c.if-is_blank.false c.begins_with_name.ensures c.if-begins_with_name.true
 
 pub loop-rest-preserved : goal.loop-rest-preserved

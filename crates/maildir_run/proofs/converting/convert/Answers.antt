@@ -1,4 +1,5 @@
-use Rattle.maildir_run.proofs.Run.Owed.{owes_planned, owes_left, owes_run, owes_restart, owes_end, owes_alone, owes_others, owes_calls, owes_numbers, owes_unread, owes_spent}
+use Rattle.maildir_run.proofs.Run.Owed.{owes_planned, owes_left, owes_run, owes_restart, owes_end, owes_alone}
+use Rattle.maildir_run.proofs.Run.Owed.{owes_others, owes_calls, owes_numbers, owes_unread, owes_spent}
 use Rattle.maildir_run.proofs.converting.convert.Goals as goal
 
 pub returns : goal.returns

@@ -24,7 +24,8 @@ returns-in_err-listings-clause-is g c =
     let is = c.from_residual-in_err-listings.ensures.1 in
     let begins = rw c.in_ok-reader.ensures.1 at c.in_ok-ended.ensures.begins in
     let look = c.in_err-listings.ensures.ran in
-    stops_in_folder _ _ _ _ _ _ _ is c.in_err-listings.ensures.causes _ (given_front c.in_ok-ended.ended _ _ _ _ _ _ begins.gave) look.0 look.1 _ _ c.new-calls.ensures
+    stops_in_folder _ _ _ _ _ _ _ is c.in_err-listings.ensures.causes _
+    (given_front c.in_ok-ended.ended _ _ _ _ _ _ begins.gave) look.0 look.1 _ _ c.new-calls.ensures
     (ran_before _ look.2)
 
 pub returns-in_err-engine-clause-is : goal.returns-in_err-engine-clause-is
@@ -33,7 +34,8 @@ returns-in_err-engine-clause-is g c =
     let begins = rw c.in_ok-reader.ensures.1 at c.in_ok-ended.ensures.begins in
     let look = c.in_ok-listings.ensures.ran in
     let sweep = rw look.3.0 at c.in_err-engine.ensures.ran.1 in
-    stops_in_folder _ _ _ _ _ _ _ is c.in_err-engine.ensures.causes _ (given_front c.in_ok-ended.ended _ _ _ _ _ _ begins.gave) look.0 look.1 _ _ c.new-calls.ensures
+    stops_in_folder _ _ _ _ _ _ _ is c.in_err-engine.ensures.causes _
+    (given_front c.in_ok-ended.ended _ _ _ _ _ _ begins.gave) look.0 look.1 _ _ c.new-calls.ensures
     (ran_then look.2 (ran_before _ sweep))
 
 pub pieces-init : goal.pieces-init
@@ -64,7 +66,9 @@ pieces-preserved g c =
     let few = front_few (given_front c.pieces.ended _ _ _ _ _ _ i.gave) in
     record {
       given = i.given ++ whole;
-      gave = gave_more c.in_ok-ended-2.ended _ c.pieces.reader _ _ c.clear.new.self.items c.read.new.out.items c.clear.ensures.items (rw c.if-ended.false at i.gave) c.in_ok-ended-2.ensures.went;
+      gave =
+          gave_more c.in_ok-ended-2.ended _ c.pieces.reader _ _ c.clear.new.self.items c.read.new.out.items c.clear.ensures.items
+          (rw c.if-ended.false at i.gave) c.in_ok-ended-2.ensures.went;
       begun = λ e. batch_begun (i.given ++ whole) c.read.new.out.items (i.begun c.if-ended.false);
       count = batch_count c.pieces.engine.messages c.deliver_entries.new.self.messages i.given whole entries i.count c.in_ok-deliver_entries.ensures.all is;
       there = c.in_ok-deliver_entries.ensures.there ∙ i.there;
@@ -82,7 +86,8 @@ returns-in_err-deliver_entries-clause-is g c =
     let front = given_front c.pieces.ended _ _ _ _ _ given i.gave in
     let few = front_few front in
     let listed = tells_listed c.in_ok-engine.engine.there _ _ look.0 (bodies_of given) c.in_ok-engine.ensures.there look.3.1 look.3.2 in
-    let delivers = one_batch i.given c.pieces.whole.items c.deref.result.now c.args.reads i.there c.deref.ensures.value few c.requires i.delivers c.in_err-deliver_entries.ensures.delivers in
+    let delivers = one_batch i.given c.pieces.whole.items c.deref.result.now c.args.reads i.there
+    c.deref.ensures.value few c.requires i.delivers c.in_err-deliver_entries.ensures.delivers in
     stops_in_folder _ _ _ _ _ _ _ is c.in_err-deliver_entries.ensures.causes given front look.0 look.1 _ _ refl
     (all_ran look.0 _ c.new-calls.ensures look.3.0 begin.2 listed look.2 begin.1 delivers.ran)
 
@@ -97,10 +102,12 @@ returns-in_err-ended-2-clause-is g c =
     let front = given_front c.pieces.ended _ _ _ _ _ given i.gave in
     let few = front_few front in
     let listed = tells_listed c.in_ok-engine.engine.there _ _ look.0 (bodies_of given) c.in_ok-engine.ensures.there look.3.1 look.3.2 in
-    let delivers = one_batch i.given c.pieces.whole.items c.deref.result.now c.args.reads i.there c.deref.ensures.value few c.requires i.delivers c.in_ok-deliver_entries.ensures.delivers in
+    let delivers = one_batch i.given c.pieces.whole.items c.deref.result.now c.args.reads i.there
+    c.deref.ensures.value few c.requires i.delivers c.in_ok-deliver_entries.ensures.delivers in
     let gave = rw c.if-ended.false at i.gave in
     let went = c.in_err-ended-2.ensures.went in
-    stops _ _ _ _ _ _ fault is (gave_refused _ c.pieces.reader fault gave went) (λ e. absurd (never_again _ c.pieces.reader fault gave (i.begun c.if-ended.false) went e))
+    stops _ _ _ _ _ _ fault is (gave_refused _ c.pieces.reader fault gave went)
+    (λ e. absurd (never_again _ c.pieces.reader fault gave (i.begun c.if-ended.false) went e))
     given (broken_front _ c.pieces.reader fault gave went) look.0 look.1 _ _ refl
     (ran_stop fault c.in_err-ended-2.ensures.causes (all_ran look.0 _ c.new-calls.ensures look.3.0 begin.2 listed look.2 begin.1 delivers.ran))
 
@@ -115,8 +122,10 @@ returns-then-ended-clause-is g c =
     let front = given_front c.pieces.ended _ _ _ _ _ given i.gave in
     let few = front_few front in
     let listed = tells_listed c.in_ok-engine.engine.there _ _ look.0 (bodies_of given) c.in_ok-engine.ensures.there look.3.1 look.3.2 in
-    let delivers = one_batch i.given c.pieces.whole.items entries c.args.reads i.there c.deref.ensures.value few c.requires i.delivers c.in_ok-deliver_entries.ensures.delivers in
-    let count = batch_count c.pieces.engine.messages c.deliver_entries.new.self.messages i.given c.pieces.whole.items entries i.count c.in_ok-deliver_entries.ensures.all c.deref.ensures.value in
+    let delivers = one_batch i.given c.pieces.whole.items entries c.args.reads i.there
+    c.deref.ensures.value few c.requires i.delivers c.in_ok-deliver_entries.ensures.delivers in
+    let count = batch_count c.pieces.engine.messages c.deliver_entries.new.self.messages i.given
+    c.pieces.whole.items entries i.count c.in_ok-deliver_entries.ensures.all c.deref.ensures.value in
     record {
       given = given;
       front = front;
@@ -127,7 +136,9 @@ returns-then-ended-clause-is g c =
       few = look.1;
       made = c.deliver_entries.new.self.calls.made;
       ran = all_ran look.0 _ c.new-calls.ensures look.3.0 begin.2 listed look.2 begin.1 delivers.ran;
-      tells = report_tells look.0 given c.report.result _ _ _ _ listed count counts.1 (delivers.placed_are refl) c.report.ensures.messages c.report.ensures.there c.report.ensures.placed
+      tells =
+          report_tells look.0 given c.report.result _ _ _ _ listed count counts.1 (delivers.placed_are refl)
+          c.report.ensures.messages c.report.ensures.there c.report.ensures.placed
           (c.report.ensures.swept ∙ c.in_ok-deliver_entries.ensures.swept ∙ i.swept ∙ rw look.3.0 at counts.2);
     }
 

@@ -7,12 +7,14 @@ invariant-pieces g l =
     let at = seen g.F.Folder in
     record {
       given : List Entry;
-      gave : IsGiven l.ended (g.R.Read.remaining l.fn.source) (g.R.Read.remaining l.source) l.reader.splitter l.reader.reads_left l.reads (given ++ l.whole.items);
+      gave : IsGiven l.ended (g.R.Read.remaining l.fn.source) (g.R.Read.remaining l.source)
+          l.reader.splitter l.reader.reads_left l.reads (given ++ l.whole.items);
       begun : l.ended ≡ false → 0 < length (given ++ l.whole.items);
       count : l.engine.messages ≡ length given;
       there : l.engine.there ≡ l.initial.engine.there;
       swept : l.engine.swept ≡ l.initial.engine.swept;
-      delivers : DeliversMessages (contains_key l.initial.engine.there) [] (bodies_of given) (at l.initial.folder) (at l.folder) l.initial.engine.calls.made l.engine.calls.made l.initial.engine.placed l.engine.placed l.engine.namer None;
+      delivers : DeliversMessages (contains_key l.initial.engine.there) [] (bodies_of given) (at l.initial.folder) (at l.folder)
+          l.initial.engine.calls.made l.engine.calls.made l.initial.engine.placed l.engine.placed l.engine.namer None;
     }
 
 abbrev pub decreases-pieces : goal.decreases-pieces

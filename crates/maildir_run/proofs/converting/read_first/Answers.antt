@@ -18,7 +18,8 @@ returns-then-ended-clause-begins g c =
       begun = λ e.
           elim c.then-ended.branch [
             | then-ended-via-then-ended w ↦ let on = w.if-ended.true in cc
-            | then-ended-via-else-ended+then-not-is_empty w ↦ some_left c.read.new.out.items _ w.is_empty.result w.is_empty.ensures w.if-not-is_empty.true (omega (arith, c.read.new.out.ok.0))
+            | then-ended-via-else-ended+then-not-is_empty w ↦
+                some_left c.read.new.out.items _ w.is_empty.result w.is_empty.ensures w.if-not-is_empty.true (omega (arith, c.read.new.out.ok.0))
           ];
     }
 
@@ -26,5 +27,6 @@ pub pieces-preserved : goal.pieces-preserved
 pieces-preserved g c =
     let i = c.pieces.invariant in
     let more = gave_more c.in_ok-ended.ended _ c.pieces.reader _ _ c.pieces.whole.items c.read.new.out.items i.empty i.gave c.in_ok-ended.ensures.went in
-    let none : c.read.new.out.items ≡ [] = none_whole c.read.new.out.items _ c.is_empty.result c.is_empty.ensures c.if-not-is_empty.false (omega (arith, c.read.new.out.ok.0)) in
+    let none : c.read.new.out.items ≡ [] =
+    none_whole c.read.new.out.items _ c.is_empty.result c.is_empty.ensures c.if-not-is_empty.false (omega (arith, c.read.new.out.ok.0)) in
     record { gave = rw (c.if-ended.false, none) at more; empty = none }

@@ -8,4 +8,5 @@ pub returns-clause-counted : goal.returns-clause-counted
 returns-clause-counted c = λ texts links old new fresh runs. chain_counted texts fresh.are fresh.own links old new fresh.unknown runs
 
 pub returns-clause-whole : goal.returns-clause-whole
-returns-clause-whole c = λ texts links old new text report fresh runs ran. chain_whole texts fresh.are fresh.own links old new text report fresh.unknown runs ran
+returns-clause-whole c = λ texts links old new text report fresh runs ran.
+    chain_whole texts fresh.are fresh.own links old new text report fresh.unknown runs ran

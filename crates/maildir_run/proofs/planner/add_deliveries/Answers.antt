@@ -16,7 +16,8 @@ loop-i-preserved c =
       | then-not-contains+in_ok-push+in_ok-push-2 w ↦
           deliveries-step (contains_key there) c.args.targets.now i d c.args.steps.now.items old c.if-not-contains.steps.items false
           c.loop-i-test.true (shown ∙ w.if-not-contains.true) c.loop-i.invariant
-          (ap (λ v. v.items) w.steps-is ∙ w.in_ok-push-2.ensures.items ∙ ap (λ (xs : List Step). xs ++ Place i ∷ []) w.in_ok-push.ensures.items ∙ append_assoc old (Write i ∷ []) (Place i ∷ []))
+          (ap (λ v. v.items) w.steps-is ∙ w.in_ok-push-2.ensures.items
+          ∙ ap (λ (xs : List Step). xs ++ Place i ∷ []) w.in_ok-push.ensures.items ∙ append_assoc old (Write i ∷ []) (Place i ∷ []))
       | else-not-contains w ↦
           deliveries-step (contains_key there) c.args.targets.now i d c.args.steps.now.items old c.if-not-contains.steps.items true
           c.loop-i-test.true (shown ∙ w.if-not-contains.false) c.loop-i.invariant

@@ -23,19 +23,22 @@ returns-in_err-ended g c =
 
 pub returns-in_err-write_entries-clause-front : goal.returns-in_err-write_entries-clause-front
 returns-in_err-write_entries-clause-front g c =
-    let b = batch _ c.pieces.reader c.read.new.self.splitter c.read.new.self.reads_left c.read.new.out.items c.in_ok-ended.ended c.pieces.invariant.1 c.in_ok-ended.ensures.went in
+    let b = batch _ c.pieces.reader c.read.new.self.splitter c.read.new.self.reads_left
+    c.read.new.out.items c.in_ok-ended.ended c.pieces.invariant.1 c.in_ok-ended.ensures.went in
     on_err c.from_residual-in_err-write_entries.result
     (batch_broken b _ (flat_map spelling c.deref.result.now) flat_output
     (flat_more c.pieces.invariant.0 c.read.new.out.items c.deref.result.now c.deref.ensures.value) c.in_err-write_entries.ensures.written)
 
 pub returns-in_err-write_entries-clause-budget : goal.returns-in_err-write_entries-clause-budget
 returns-in_err-write_entries-clause-budget g c =
-    let b = batch _ c.pieces.reader c.read.new.self.splitter c.read.new.self.reads_left c.read.new.out.items c.in_ok-ended.ended c.pieces.invariant.1 c.in_ok-ended.ensures.went in
+    let b = batch _ c.pieces.reader c.read.new.self.splitter c.read.new.self.reads_left
+    c.read.new.out.items c.in_ok-ended.ended c.pieces.invariant.1 c.in_ok-ended.ensures.went in
     (b.front.text, b.front.read, b.front.budget)
 
 pub overflow_add-count : goal.overflow_add-count
 overflow_add-count g c =
-    let b = batch _ c.pieces.reader c.read.new.self.splitter c.read.new.self.reads_left c.read.new.out.items c.in_ok-ended.ended c.pieces.invariant.1 c.in_ok-ended.ensures.went in
+    let b = batch _ c.pieces.reader c.read.new.self.splitter c.read.new.self.reads_left
+    c.read.new.out.items c.in_ok-ended.ended c.pieces.invariant.1 c.in_ok-ended.ensures.went in
     let fits = count_fits b c.requires in
     let len : c.len.result ≡ length c.read.new.out.items = omega (arith, c.len.ensures, c.read.new.out.ok.0) in
     omega (arith, fits, len)
@@ -43,7 +46,8 @@ overflow_add-count g c =
 pub returns-then-ended-clause-all : goal.returns-then-ended-clause-all
 returns-then-ended-clause-all g c =
     let p = c.pieces.invariant.1 in
-    let all = poured_all _ _ c.pieces.reader c.read.new.self.splitter c.read.new.self.reads_left c.read.new.out.items (flat_map spelling c.deref.result.now) p (flat_more c.pieces.invariant.0 c.read.new.out.items c.deref.result.now c.deref.ensures.value) c.in_ok-write_entries.ensures.written
+    let all = poured_all _ _ c.pieces.reader c.read.new.self.splitter c.read.new.self.reads_left c.read.new.out.items (flat_map spelling c.deref.result.now)
+    p (flat_more c.pieces.invariant.0 c.read.new.out.items c.deref.result.now c.deref.ensures.value) c.in_ok-write_entries.ensures.written
     (rw c.if-ended.true at c.in_ok-ended.ensures.went) in
     let len : c.len.result ≡ length c.read.new.out.items = omega (arith, c.len.ensures, c.read.new.out.ok.0) in
     rw len all
@@ -51,7 +55,8 @@ returns-then-ended-clause-all g c =
 pub pieces-preserved : goal.pieces-preserved
 pieces-preserved g c =
     let p = c.pieces.invariant.1 in
-    let more = poured_more _ _ c.pieces.reader c.read.new.self.splitter c.read.new.self.reads_left c.read.new.out.items (flat_map spelling c.deref.result.now) p (flat_more c.pieces.invariant.0 c.read.new.out.items c.deref.result.now c.deref.ensures.value) c.in_ok-write_entries.ensures.written
+    let more = poured_more _ _ c.pieces.reader c.read.new.self.splitter c.read.new.self.reads_left c.read.new.out.items (flat_map spelling c.deref.result.now)
+    p (flat_more c.pieces.invariant.0 c.read.new.out.items c.deref.result.now c.deref.ensures.value) c.in_ok-write_entries.ensures.written
     c.clear.new.self.items (rw c.if-ended.false at c.in_ok-ended.ensures.went) c.clear.ensures.items in
     let len : c.len.result ≡ length c.read.new.out.items = omega (arith, c.len.ensures, c.read.new.out.ok.0) in
     (c.pieces.invariant.0 ++ c.read.new.out.items, rw len more)

@@ -7,7 +7,8 @@ use Rattle.maildir_run.proofs.sweep.remove_planned.Goals as goal
 none_removed : (step : Step) → ((name : List ℕ) → step ≡ Remove name → ⊥) → task_of [] step ≡ []
 none_removed (Remove name) other = absurd (other name refl)
 none_removed (Write i) other = ap (λ (ms : List Message). map (λ (m : Message). Do (Writing m.target.base m.body)) (take 1 ms)) (drop-nil i)
-none_removed (Place i) other = ap (λ (ms : List Message). map (λ (m : Message). Do (Placing m.target.base m.target.place m.target.name)) (take 1 ms)) (drop-nil i)
+none_removed (Place i) other =
+    ap (λ (ms : List Message). map (λ (m : Message). Do (Placing m.target.base m.target.place m.target.name)) (take 1 ms)) (drop-nil i)
 
 pub loop-step-init : goal.loop-step-init
 loop-step-init g c = record { ran = ran_none _ _; count = refl; few = omega arith }
@@ -30,7 +31,9 @@ loop-step-preserved g c =
       | in-Remove+in_ok-remove w ↦
           let tasks = ap (task_of []) w.in-Remove.is ∙ ap (λ n. Do (Removing n) ∷ []) (sym w.as_str.ensures) in
           rw (w.folder-is, w.calls-is, w.swept-is) (record {
-            ran = rw (next_step (task_of []) steps i c.step-item.result c.loop-step-test.true c.step-item.is _ tasks) (ran_then before.ran w.in_ok-remove.ensures.ran);
+            ran =
+                rw (next_step (task_of []) steps i c.step-item.result c.loop-step-test.true c.step-item.is _ tasks)
+                (ran_then before.ran w.in_ok-remove.ensures.ran);
             count = next_count (task_of []) steps i c.step-item.result c.loop-step-test.true c.step-item.is _ tasks _ before.count;
             few = omega (arith, before.few);
           })
@@ -38,7 +41,9 @@ loop-step-preserved g c =
           let tasks = none_removed c.step-item.result w.in_default.not-Remove in
           rw (w.folder-is, w.calls-is, w.swept-is) (record {
             ran = rw (next_step (task_of []) steps i c.step-item.result c.loop-step-test.true c.step-item.is _ tasks, append-nil) before.ran;
-            count = before.count ∙ ap length (sym (next_step (task_of []) steps i c.step-item.result c.loop-step-test.true c.step-item.is _ tasks ∙ append-nil (tasks_of [] (take i steps))));
+            count =
+                before.count ∙ ap length (sym (next_step (task_of []) steps i c.step-item.result c.loop-step-test.true c.step-item.is _ tasks
+                ∙ append-nil (tasks_of [] (take i steps))));
             few = omega (arith, before.few);
           })
     ]

@@ -9,8 +9,12 @@ use Rattle.maildir_run.proofs.table.list_text.Goals as goal
 
 pub pieces-init : goal.pieces-init
 pieces-init g c =
-    let none = c.new-lister.ensures in
-    ([], rw none.count_is (poured_none table_of _ _ c.in_ok-reader.reader.splitter c.args.reads c.in_ok-reader.reader.reads_left c.new-whole.result.items listing_output c.in_ok-reader.ensures.0 c.in_ok-reader.ensures.1 c.new-whole.ensures.items), none)
+    let none = c.new-lister.ensures in (
+      [],
+      rw none.count_is (poured_none table_of _ _ c.in_ok-reader.reader.splitter c.args.reads c.in_ok-reader.reader.reads_left
+          c.new-whole.result.items listing_output c.in_ok-reader.ensures.0 c.in_ok-reader.ensures.1 c.new-whole.ensures.items),
+      none,
+    )
 
 pub returns-in_err-ended : goal.returns-in_err-ended
 returns-in_err-ended g c =
@@ -29,40 +33,49 @@ returns-in_err-ended g c =
 
 pub list-requires : goal.list-requires
 list-requires g c =
-    let b = batch _ c.pieces.reader c.read.new.self.splitter c.read.new.self.reads_left c.read.new.out.items c.in_ok-ended.ended c.pieces.invariant.1 c.in_ok-ended.ensures.went in
+    let b = batch _ c.pieces.reader c.read.new.self.splitter c.read.new.self.reads_left
+    c.read.new.out.items c.in_ok-ended.ended c.pieces.invariant.1 c.in_ok-ended.ensures.went in
     rw c.deref.ensures.value b.from_lines
 
 pub returns-in_err-list-clause-front : goal.returns-in_err-list-clause-front
 returns-in_err-list-clause-front g c =
     let given : List Entry = c.pieces.invariant.0 in
-    let b = batch _ c.pieces.reader c.read.new.self.splitter c.read.new.self.reads_left c.read.new.out.items c.in_ok-ended.ended c.pieces.invariant.1 c.in_ok-ended.ensures.went in
+    let b = batch _ c.pieces.reader c.read.new.self.splitter c.read.new.self.reads_left
+    c.read.new.out.items c.in_ok-ended.ended c.pieces.invariant.1 c.in_ok-ended.ensures.went in
     let fit = names_fit b c.requires in
     let s = rw c.deref.ensures.value at (c.in_err-list.ensures.lists given c.pieces.invariant.2 (rw c.deref.ensures.value fit)) in
     on_err c.from_residual-in_err-list.result (batch_broken b _ s.0 listing_output s.1 s.2)
 
 pub returns-in_err-list-clause-budget : goal.returns-in_err-list-clause-budget
 returns-in_err-list-clause-budget g c =
-    let b = batch _ c.pieces.reader c.read.new.self.splitter c.read.new.self.reads_left c.read.new.out.items c.in_ok-ended.ended c.pieces.invariant.1 c.in_ok-ended.ensures.went in
+    let b = batch _ c.pieces.reader c.read.new.self.splitter c.read.new.self.reads_left
+    c.read.new.out.items c.in_ok-ended.ended c.pieces.invariant.1 c.in_ok-ended.ensures.went in
     (b.front.text, b.front.read, b.front.budget)
 
 pub returns-then-ended-clause-all : goal.returns-then-ended-clause-all
 returns-then-ended-clause-all g c =
     let given : List Entry = c.pieces.invariant.0 in
-    let b = batch _ c.pieces.reader c.read.new.self.splitter c.read.new.self.reads_left c.read.new.out.items c.in_ok-ended.ended c.pieces.invariant.1 c.in_ok-ended.ensures.went in
+    let b = batch _ c.pieces.reader c.read.new.self.splitter c.read.new.self.reads_left
+    c.read.new.out.items c.in_ok-ended.ended c.pieces.invariant.1 c.in_ok-ended.ensures.went in
     let fit = names_fit b c.requires in
     let s = rw c.deref.ensures.value at (c.in_ok-list.ensures.lists given c.pieces.invariant.2 (rw c.deref.ensures.value fit)) in
-    let all = poured_all _ _ c.pieces.reader c.read.new.self.splitter c.read.new.self.reads_left c.read.new.out.items s.0 c.pieces.invariant.1 s.1 s.2 (rw c.if-ended.true at c.in_ok-ended.ensures.went) in
-    let count : c.list.new.self.count ≡ c.pieces.lister.count + length c.read.new.out.items = omega (arith, s.3.count_is, c.pieces.invariant.2.count_is, length-append given c.read.new.out.items) in
+    let all = poured_all _ _ c.pieces.reader c.read.new.self.splitter c.read.new.self.reads_left c.read.new.out.items s.0 c.pieces.invariant.1 s.1 s.2
+    (rw c.if-ended.true at c.in_ok-ended.ensures.went) in
+    let count : c.list.new.self.count ≡ c.pieces.lister.count + length c.read.new.out.items =
+    omega (arith, s.3.count_is, c.pieces.invariant.2.count_is, length-append given c.read.new.out.items) in
     rw count all
 
 pub pieces-preserved : goal.pieces-preserved
 pieces-preserved g c =
     let given : List Entry = c.pieces.invariant.0 in
-    let b = batch _ c.pieces.reader c.read.new.self.splitter c.read.new.self.reads_left c.read.new.out.items c.in_ok-ended.ended c.pieces.invariant.1 c.in_ok-ended.ensures.went in
+    let b = batch _ c.pieces.reader c.read.new.self.splitter c.read.new.self.reads_left
+    c.read.new.out.items c.in_ok-ended.ended c.pieces.invariant.1 c.in_ok-ended.ensures.went in
     let fit = names_fit b c.requires in
     let s = rw c.deref.ensures.value at (c.in_ok-list.ensures.lists given c.pieces.invariant.2 (rw c.deref.ensures.value fit)) in
-    let more = poured_more _ _ c.pieces.reader c.read.new.self.splitter c.read.new.self.reads_left c.read.new.out.items s.0 c.pieces.invariant.1 s.1 s.2 c.clear.new.self.items (rw c.if-ended.false at c.in_ok-ended.ensures.went) c.clear.ensures.items in
-    let count : c.list.new.self.count ≡ c.pieces.lister.count + length c.read.new.out.items = omega (arith, s.3.count_is, c.pieces.invariant.2.count_is, length-append given c.read.new.out.items) in
+    let more = poured_more _ _ c.pieces.reader c.read.new.self.splitter c.read.new.self.reads_left c.read.new.out.items s.0
+    c.pieces.invariant.1 s.1 s.2 c.clear.new.self.items (rw c.if-ended.false at c.in_ok-ended.ensures.went) c.clear.ensures.items in
+    let count : c.list.new.self.count ≡ c.pieces.lister.count + length c.read.new.out.items =
+    omega (arith, s.3.count_is, c.pieces.invariant.2.count_is, length-append given c.read.new.out.items) in
     (given ++ c.read.new.out.items, rw count more, s.3)
 
 pub pieces-smaller : goal.pieces-smaller

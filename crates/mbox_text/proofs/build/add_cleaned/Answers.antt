@@ -6,7 +6,8 @@ use Rattle.mbox_text.proofs.build.add_cleaned.Goals as goal
 
 pub returns-then-is_empty : goal.returns-then-is_empty
 returns-then-is_empty c =
-    extended_by c.extend_from_slice.result c.args.line.now.items c.extend_from_slice.ensures.items (cleaned-none c.args.sender.now (eqb-true _ _ (sym c.if-is_empty.ensures)))
+    extended_by c.extend_from_slice.result c.args.line.now.items c.extend_from_slice.ensures.items
+    (cleaned-none c.args.sender.now (eqb-true _ _ (sym c.if-is_empty.ensures)))
 
 pub returns : goal.returns
 returns c =

@@ -15,8 +15,14 @@ returns-then-ne-clause-written g c = front_at c.args.bytes.now _ _ c.writes.at (
 pub writes-preserved : goal.writes-preserved
 writes-preserved g c =
     elim (c.match-write.branch) [
-      | in-Ok w ↦ rw w.at-is (record { within = let bound = rw (take_rest c.args.bytes.now c.writes.at) at w.in-Ok.ensures.bound in omega (arith, bound, length-drop c.writes.at c.args.bytes.now, c.writes.invariant.within); written = part_more c.args.bytes.now _ _ _ c.writes.at w.in-Ok.n c.writes.invariant.written w.in-Ok.ensures.bytes })
-      | in-Err+else-ne w ↦ rw w.at-is (record { within = c.writes.invariant.within; written = Appends-kept _ _ _ _ c.writes.invariant.written w.in-Err.ensures.bytes })
+      | in-Ok w ↦ rw w.at-is (record {
+        within =
+            let bound = rw (take_rest c.args.bytes.now c.writes.at) at w.in-Ok.ensures.bound in
+            omega (arith, bound, length-drop c.writes.at c.args.bytes.now, c.writes.invariant.within);
+        written = part_more c.args.bytes.now _ _ _ c.writes.at w.in-Ok.n c.writes.invariant.written w.in-Ok.ensures.bytes;
+      })
+      | in-Err+else-ne w ↦
+          rw w.at-is (record { within = c.writes.invariant.within; written = Appends-kept _ _ _ _ c.writes.invariant.written w.in-Err.ensures.bytes })
     ]
 
 pub returns-clause-written : goal.returns-clause-written

@@ -9,25 +9,32 @@ returns-in_default-clause-others c = λ h word other. same_rests _ _ c.get_mut.f
 pub returns-in-Some-take-clause-honest : goal.returns-in-Some-take-clause-honest
 returns-in-Some-take-clause-honest c = λ h.
     still_quiet c.args.self.now.maildirs (c.get_mut.follows.lender c.take.new.self) c.args.path.now c.take.new.self
-    (btree_map_updates_text c.args.path.now c.args.self.now.maildirs (c.get_mut.follows.lender c.take.new.self) (Some c.take.new.self) ((c.get_mut.follows.holds c.take.new.self).3 (search rules))) h c.take.ensures.after
+    (btree_map_updates_text c.args.path.now c.args.self.now.maildirs (c.get_mut.follows.lender c.take.new.self)
+    (Some c.take.new.self) ((c.get_mut.follows.holds c.take.new.self).3 (search rules))) h c.take.ensures.after
 
 pub returns-in-Some-take-clause-others : goal.returns-in-Some-take-clause-others
 returns-in-Some-take-clause-others c = λ h word other.
     others_rest c.args.self.now.maildirs (c.get_mut.follows.lender c.take.new.self) c.args.path.now c.take.new.self
-    (btree_map_updates_text c.args.path.now c.args.self.now.maildirs (c.get_mut.follows.lender c.take.new.self) (Some c.take.new.self) ((c.get_mut.follows.holds c.take.new.self).3 (search rules))) word other
+    (btree_map_updates_text c.args.path.now c.args.self.now.maildirs (c.get_mut.follows.lender c.take.new.self)
+    (Some c.take.new.self) ((c.get_mut.follows.holds c.take.new.self).3 (search rules))) word other
 
 pub returns-in-None-clause-honest : goal.returns-in-None-clause-honest
 returns-in-None-clause-honest c = λ h.
     still_quiet c.args.self.now.maildirs (c.get_mut.follows.lender c.take.new.self) c.args.path.now c.take.new.self
-    (btree_map_updates_text c.args.path.now c.args.self.now.maildirs (c.get_mut.follows.lender c.take.new.self) (Some c.take.new.self) ((c.get_mut.follows.holds c.take.new.self).3 (search rules))) h c.take.ensures.after
+    (btree_map_updates_text c.args.path.now c.args.self.now.maildirs (c.get_mut.follows.lender c.take.new.self)
+    (Some c.take.new.self) ((c.get_mut.follows.holds c.take.new.self).3 (search rules))) h c.take.ensures.after
 
 pub returns-in-None-clause-others : goal.returns-in-None-clause-others
 returns-in-None-clause-others c = λ h word other.
     others_rest c.args.self.now.maildirs (c.get_mut.follows.lender c.take.new.self) c.args.path.now c.take.new.self
-    (btree_map_updates_text c.args.path.now c.args.self.now.maildirs (c.get_mut.follows.lender c.take.new.self) (Some c.take.new.self) ((c.get_mut.follows.holds c.take.new.self).3 (search rules))) word other
+    (btree_map_updates_text c.args.path.now c.args.self.now.maildirs (c.get_mut.follows.lender c.take.new.self)
+    (Some c.take.new.self) ((c.get_mut.follows.holds c.take.new.self).3 (search rules))) word other
 
 pub returns-in-Some-take-clause-works : goal.returns-in-Some-take-clause-works
-returns-in-Some-take-clause-works c = λ h. h c.args.path.now c.in-Some-take.maildir (sym c.in-Some.ensures.value ∙ ap Some (sym c.take.ensures.value ∙ c.in-Some-take.is))
+returns-in-Some-take-clause-works c = λ h.
+    h c.args.path.now c.in-Some-take.maildir (sym c.in-Some.ensures.value ∙ ap Some (sym c.take.ensures.value ∙ c.in-Some-take.is))
 
 pub returns-in-Some-take-clause-opens : goal.returns-in-Some-take-clause-opens
-returns-in-Some-take-clause-opens c = λ h. found_rests c.args.self.now.maildirs c.args.path.now c.in-Some-take.maildir (sym c.in-Some.ensures.value ∙ ap Some (sym c.take.ensures.value ∙ c.in-Some-take.is))
+returns-in-Some-take-clause-opens c = λ h.
+    found_rests c.args.self.now.maildirs c.args.path.now c.in-Some-take.maildir
+    (sym c.in-Some.ensures.value ∙ ap Some (sym c.take.ensures.value ∙ c.in-Some-take.is))

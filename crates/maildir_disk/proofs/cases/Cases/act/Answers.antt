@@ -24,9 +24,14 @@ returns-in_err-act_once-clause-left c =
 
 pub loop-act-preserved : goal.loop-act-preserved
 loop-act-preserved c = record {
-  script = record { lines = c.act_once.ensures.script.lines ∙ c.loop-act.invariant.script.lines; fail_from = c.act_once.ensures.script.fail_from ∙ c.loop-act.invariant.script.fail_from };
+  script = record {
+    lines = c.act_once.ensures.script.lines ∙ c.loop-act.invariant.script.lines;
+    fail_from = c.act_once.ensures.script.fail_from ∙ c.loop-act.invariant.script.fail_from;
+  };
   acts = actions_then (files_of c.args.folder.now) c.loop-act.invariant.acts c.act_once.ensures.acts;
-  done = one_more c.args.acts.now c.loop-act.act-index c.act-item.result (files_of c.args.folder.now) (files_of c.loop-act.folder) (files_of c.act_once.new.folder) c.loop-act-test.true c.loop-act.invariant.done
+  done =
+      one_more c.args.acts.now c.loop-act.act-index c.act-item.result (files_of c.args.folder.now)
+      (files_of c.loop-act.folder) (files_of c.act_once.new.folder) c.loop-act-test.true c.loop-act.invariant.done
       (c.in_ok-act_once.ensures.done ∙ ap (λ act. performed act (files_of c.loop-act.folder)) c.act-item.is);
   left = left_by_others_then c.loop-act.invariant.left c.act_once.ensures.left;
   keeps = keeps_on c.loop-act.invariant.keeps c.in_ok-act_once.ensures.keeps;

@@ -23,11 +23,14 @@ returns-clause-left c =
     let folder = c.args.folder.now in
     left_by_others_then
     (left_by_change (Half c.args.act) folder folder c.args.self.now c.may_lose.new.self c.may_lose.ensures.more leaves_none)
-    (left_by_change (Other c.args.act) folder c.act.new.self c.may_lose.new.self c.may_lose-2.new.self c.may_lose-2.ensures.more (acted_leaves c.args.act.now c.act.result c.act.ensures.ok c.act.ensures.err))
+    (left_by_change (Other c.args.act) folder c.act.new.self c.may_lose.new.self c.may_lose-2.new.self c.may_lose-2.ensures.more
+    (acted_leaves c.args.act.now c.act.result c.act.ensures.ok c.act.ensures.err))
 
 pub returns-clause-keeps : goal.returns-clause-keeps
 returns-clause-keeps c =
     let folder = c.args.folder.now in
     on_ok _ c.act.result (keeps_on
-    (keeps_lost (Half c.args.act) folder folder c.args.self.now c.may_lose.new.self c.may_lose.ensures.more c.may_lose.ensures.room c.in_ok-may_lose.ensures.loses)
-    (keeps_lost (Other c.args.act) folder c.act.new.self c.may_lose.new.self c.may_lose-2.new.self c.may_lose-2.ensures.more c.may_lose-2.ensures.room c.in_ok-may_lose-2.ensures.loses))
+    (keeps_lost (Half c.args.act)
+    folder folder c.args.self.now c.may_lose.new.self c.may_lose.ensures.more c.may_lose.ensures.room c.in_ok-may_lose.ensures.loses)
+    (keeps_lost (Other c.args.act)
+    folder c.act.new.self c.may_lose.new.self c.may_lose-2.new.self c.may_lose-2.ensures.more c.may_lose-2.ensures.room c.in_ok-may_lose-2.ensures.loses))

@@ -6,4 +6,5 @@ use Rattle.maildir_disk.proofs.cases.Cases.keep_file.Goals as goal
 
 pub returns-clause-stays : goal.returns-clause-stays
 returns-clause-stays c =
-    stays _ _ files_of (λ left. get left.tmp c.args.name.now ≡ get (files_of c.args.folder.now).tmp c.args.name.now) (λ x b f k. search rules) c.retain.ensures.filtered
+    stays _ _ files_of (λ left. get left.tmp c.args.name.now ≡ get (files_of c.args.folder.now).tmp c.args.name.now)
+    (λ x b f k. search rules) c.retain.ensures.filtered

@@ -24,7 +24,8 @@ loop-at-preserved c =
       with = λ room.
           let longer = no_fewer c.add_with.ensures.one in
           let before : HasRoom mid = omega (arith, room, longer, c.add_with.ensures.room) in
-          one_more_with c.args.change.now old mid new below c.loop-at.invariant.more c.add_with.ensures.one (c.loop-at.invariant.with before) (c.in_ok-add_with.ensures.there room);
+          one_more_with c.args.change.now old mid new below c.loop-at.invariant.more c.add_with.ensures.one
+          (c.loop-at.invariant.with before) (c.in_ok-add_with.ensures.there room);
     }
 
 pub returns-in_err-copy-clause-more : goal.returns-in_err-copy-clause-more
@@ -44,4 +45,5 @@ returns-clause-loses c =
     ok_then (HasRoom new → Contains (lefts_of new) x) (HasRoom new → Loses c.args.change.now (files_of c.args.folder.now) old new) c.add.result (λ there room.
     let longer = no_fewer c.add.ensures.one in
     let before : HasRoom mid = omega (arith, room, longer, c.add.ensures.room) in
-    all_lost c.args.change.now old mid c.in_ok-copy.ensures.files count c.loop-at.invariant.more c.add.ensures.one (c.loop-at.invariant.with before) (there room)) c.add.ensures.there
+    all_lost c.args.change.now old mid c.in_ok-copy.ensures.files count c.loop-at.invariant.more c.add.ensures.one
+    (c.loop-at.invariant.with before) (there room)) c.add.ensures.there

@@ -16,7 +16,8 @@ loop-end-init c = record {
 
 pub returns-in_err-may_lose-clause-left : goal.returns-in_err-may_lose-clause-left
 returns-in_err-may_lose-clause-left c =
-    left_by_bytes (take c.loop-end.end c.args.holds.now) c.args.folder.now c.args.self.now c.loop-end.self c.may_lose.new.self c.loop-end.invariant.left c.may_lose.ensures.more
+    left_by_bytes (take c.loop-end.end c.args.holds.now)
+    c.args.folder.now c.args.self.now c.loop-end.self c.may_lose.new.self c.loop-end.invariant.left c.may_lose.ensures.more
 
 pub loop-end-preserved : goal.loop-end-preserved
 loop-end-preserved c =
@@ -31,7 +32,8 @@ loop-end-preserved c =
       left = left_by_bytes bytes c.args.folder.now c.args.self.now mid new c.loop-end.invariant.left c.may_lose.ensures.more;
       loses = λ room.
           let before : HasRoom mid = omega (arith, room, longer, c.may_lose.ensures.room) in
-          one_front c.args.name.now c.args.holds.now c.args.held c.args.folder.now c.args.self.now c.loop-end.auto.end (λ s. refl) c.loop-end.invariant.still (c.loop-end.invariant.loses before) (c.in_ok-may_lose.ensures.loses room);
+          one_front c.args.name.now c.args.holds.now c.args.held c.args.folder.now c.args.self.now c.loop-end.auto.end
+          (λ s. refl) c.loop-end.invariant.still (c.loop-end.invariant.loses before) (c.in_ok-may_lose.ensures.loses room);
     }
 
 pub returns-clause-loses : goal.returns-clause-loses

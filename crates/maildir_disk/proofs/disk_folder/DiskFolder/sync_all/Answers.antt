@@ -31,5 +31,12 @@ returns-clause-synced g c = λ honest.
     on_ok _ c.sync_root.result (λ left may.
     let three = c.sync_root.ensures.left second left may in
     let two = c.in_ok-sync_folder-2.ensures.names first three.0 three.1 in
-    let one = c.in_ok-sync_folder.ensures.names honest two.0 two.1 in
-    (one.0, one.1, record { mid = record { files = (g.S.System.world c.sync_folder.new.self).files; left = two.0 }; first = one.2; then = kept_later two.2 (c.sync_root.ensures.acts second) three.2 }))
+    let one = c.in_ok-sync_folder.ensures.names honest two.0 two.1 in (
+      one.0,
+      one.1,
+      record {
+        mid = record { files = (g.S.System.world c.sync_folder.new.self).files; left = two.0 };
+        first = one.2;
+        then = kept_later two.2 (c.sync_root.ensures.acts second) three.2;
+      },
+    ))

@@ -4,7 +4,8 @@ use Rattle.maildir_disk.proofs.Left.Lefts.{left_always, left_early}
 use Rattle.maildir_disk.proofs.disk_folder.DiskFolderFolder.list.Goals as goal
 
 pub returns-clause-left : goal.returns-clause-left
-returns-clause-left g c = λ honest. rw c.count_call.ensures.system (left_always _ (λ s. tt) (left_early {call = Listing c.args.sub} (c.names_of_one_moment.ensures.left honest)))
+returns-clause-left g c = λ honest.
+    rw c.count_call.ensures.system (left_always _ (λ s. tt) (left_early {call = Listing c.args.sub} (c.names_of_one_moment.ensures.left honest)))
 
 pub returns-clause-not_absent : goal.returns-clause-not_absent
 returns-clause-not_absent g c = search rules

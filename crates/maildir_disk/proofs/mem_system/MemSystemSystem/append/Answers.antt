@@ -31,7 +31,8 @@ returns-in-Ok-clause-appended c = λ honest current.
     let acts = c.pass_shortly.ensures.acts in
     let mid = files_of c.pass_shortly.new.self.folder in
     let written = (rw c.in-Ok.is at (c.write.ensures.quietly (c.pass_shortly.ensures.honest honest))).1 in
-    let has : get mid.tmp (opened_as c.args.file.now) ≡ Some c.in-Some.held.now = rw c.as_str.ensures.value at (sym c.bytes_of.ensures ∙ ap option_copied c.in-Some.is) in
+    let has : get mid.tmp (opened_as c.args.file.now) ≡ Some c.in-Some.held.now =
+    rw c.as_str.ensures.value at (sym c.bytes_of.ensures ∙ ap option_copied c.in-Some.is) in
     let name = ap (λ n. effect (Writing n c.deref-2.result.now) mid) c.as_str-3.ensures.value in
     let bytes = ap (λ b. effect (Writing (opened_as c.args.file.now) b) mid) (c.deref-2.ensures.value ∙ c.in_ok-holds.ensures) in
     comes_by_write (opened_as c.args.file.now) _ acts has (written ∙ (name ∙ bytes))
@@ -48,7 +49,8 @@ returns-in_err-holds-clause-left c = λ honest. left_early c.pass_shortly.ensure
 pub returns-in_err-map_err-clause-left : goal.returns-in_err-map_err-clause-left
 returns-in_err-map_err-clause-left c = λ honest.
     let mid = c.pass_shortly.new.self in
-    rw c.as_str-2.ensures.value at (left_of_bytes mid.folder mid.folder mid.cases c.may_lose_bytes.new.self c.pass_shortly.ensures.left c.may_lose_bytes.ensures.left leaves_none)
+    rw c.as_str-2.ensures.value at (left_of_bytes mid.folder mid.folder mid.cases
+    c.may_lose_bytes.new.self c.pass_shortly.ensures.left c.may_lose_bytes.ensures.left leaves_none)
 
 pub returns-in-Ok-clause-left : goal.returns-in-Ok-clause-left
 returns-in-Ok-clause-left c = λ honest.
@@ -73,15 +75,19 @@ returns-in-Ok-clause-loses c = λ honest has there.
     let bytes = c.args.bytes.now in
     let n = length bytes - length bytes / 2 in
     let holds : c.deref.result.now ≡ held ++ take n bytes = c.deref.ensures.value ∙ c.in_ok-holds.ensures in
-    let told = if_ok c.may_lose_bytes.result (HasRoom new → LosesBytes c.as_str-2.result.now c.deref.result.now (length held) mid.folder mid.cases new) (search rules) c.may_lose_bytes.ensures.loses in
-    let loses = subst (λ all. HasRoom new → LosesBytes name all (length held) mid.folder mid.cases new) holds (subst (λ by. HasRoom new → LosesBytes by c.deref.result.now (length held) mid.folder mid.cases new) c.as_str-2.ensures.value told) in
+    let told = if_ok c.may_lose_bytes.result (HasRoom new → LosesBytes c.as_str-2.result.now c.deref.result.now (length held) mid.folder mid.cases new)
+    (search rules) c.may_lose_bytes.ensures.loses in
+    let loses = subst (λ all. HasRoom new → LosesBytes name all (length held) mid.folder mid.cases new) holds
+    (subst (λ by. HasRoom new → LosesBytes by c.deref.result.now (length held) mid.folder mid.cases new) c.as_str-2.ensures.value told) in
     record {
       held = held;
       fronts = λ k above below.
           let long : length held + k ≤ length (held ++ take n bytes) = simp (length-append, length-take) (omega (arith, below)) in
-          let each = bytes_after c.write.new.self c.in_ok-pass_shortly.ensures.keeps c.may_lose_bytes.ensures.no_fewer c.may_lose_bytes.ensures.room loses has (omega (arith, above)) long in
+          let each = bytes_after c.write.new.self c.in_ok-pass_shortly.ensures.keeps c.may_lose_bytes.ensures.no_fewer c.may_lose_bytes.ensures.room loses has
+          (omega (arith, above)) long in
           record {
             without = λ left may. (each left may).0;
-            also = λ left may. subst (λ front. may_find c.write.new.self new (changed name (λ _. front) left)) (front_of_appended held bytes below) (each left may).1;
+            also = λ left may.
+                subst (λ front. may_find c.write.new.self new (changed name (λ _. front) left)) (front_of_appended held bytes below) (each left may).1;
           };
     }

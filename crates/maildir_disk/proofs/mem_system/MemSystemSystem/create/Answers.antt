@@ -38,17 +38,20 @@ returns-in_err-map_err-clause-left c = λ honest.
 pub returns-in-Ok-clause-left : goal.returns-in-Ok-clause-left
 returns-in-Ok-clause-left c = λ honest.
     let mid = c.pass_shortly.new.self in
-    left_made (Make c.args.name) mid.folder c.write.new.self mid.cases c.may_lose.new.self c.write.result c.pass_shortly.ensures.left c.may_lose.ensures.more c.write.ensures.called
+    left_made (Make c.args.name)
+    mid.folder c.write.new.self mid.cases c.may_lose.new.self c.write.result c.pass_shortly.ensures.left c.may_lose.ensures.more c.write.ensures.called
 
 pub returns-in-Err-clause-left : goal.returns-in-Err-clause-left
 returns-in-Err-clause-left c = λ honest.
     let mid = c.pass_shortly.new.self in
-    left_made (Make c.args.name) mid.folder c.write.new.self mid.cases c.may_lose.new.self c.write.result c.pass_shortly.ensures.left c.may_lose.ensures.more c.write.ensures.called
+    left_made (Make c.args.name)
+    mid.folder c.write.new.self mid.cases c.may_lose.new.self c.write.result c.pass_shortly.ensures.left c.may_lose.ensures.more c.write.ensures.called
 
 pub returns-in-Ok-clause-loses : goal.returns-in-Ok-clause-loses
 returns-in-Ok-clause-loses c = λ honest has.
     let mid = c.pass_shortly.new.self in
     let written = (rw c.in-Ok.is at (c.write.ensures.quietly (c.pass_shortly.ensures.honest honest))).1 in
-    let loses = if_ok c.may_lose.result (HasRoom c.may_lose.new.self → Loses (Make c.args.name) (files_of mid.folder) mid.cases c.may_lose.new.self) (search rules) c.may_lose.ensures.loses in
+    let loses = if_ok c.may_lose.result (HasRoom c.may_lose.new.self → Loses (Make c.args.name) (files_of mid.folder) mid.cases c.may_lose.new.self)
+    (search rules) c.may_lose.ensures.loses in
     let there = lost_after mid.folder c.write.new.self c.in_ok-pass_shortly.ensures.keeps c.may_lose.ensures.more c.may_lose.ensures.room loses written has in
     record { without = λ left may. (there left may).0; also = λ left may. (there left may).1 }

@@ -6,7 +6,8 @@ use Rattle.maildir_disk.proofs.mem_system.MemSystemSystem.rename.Goals as goal
 
 pub returns-in-Err-clause-gone : goal.returns-in-Err-clause-gone
 returns-in-Err-clause-gone c = λ honest not_found.
-    gone_quietly c.args.self.now.folder c.place.new.self c.args.name.now c.args.place c.args.target.now c.place.result honest (rw (c.error_of.ensures not_found) at c.in-Err.is) c.place.ensures.scripted
+    gone_quietly c.args.self.now.folder c.place.new.self c.args.name.now c.args.place c.args.target.now c.place.result honest
+    (rw (c.error_of.ensures not_found) at c.in-Err.is) c.place.ensures.scripted
 
 pub returns-in_err-begin-clause-left : goal.returns-in_err-begin-clause-left
 returns-in_err-begin-clause-left c = λ honest. left_none
@@ -19,9 +20,11 @@ returns-in_err-map_err-clause-left c = λ honest.
 pub returns-in-Ok-clause-left : goal.returns-in-Ok-clause-left
 returns-in-Ok-clause-left c = λ honest.
     let old = c.args.self.now in
-    left_made (Place c.args.name c.args.place c.args.target) old.folder c.place.new.self old.cases c.may_lose.new.self c.place.result left_none c.may_lose.ensures.more c.place.ensures.called
+    left_made (Place c.args.name c.args.place c.args.target)
+    old.folder c.place.new.self old.cases c.may_lose.new.self c.place.result left_none c.may_lose.ensures.more c.place.ensures.called
 
 pub returns-in-Err-clause-left : goal.returns-in-Err-clause-left
 returns-in-Err-clause-left c = λ honest.
     let old = c.args.self.now in
-    left_made (Place c.args.name c.args.place c.args.target) old.folder c.place.new.self old.cases c.may_lose.new.self c.place.result left_none c.may_lose.ensures.more c.place.ensures.called
+    left_made (Place c.args.name c.args.place c.args.target)
+    old.folder c.place.new.self old.cases c.may_lose.new.self c.place.result left_none c.may_lose.ensures.more c.place.ensures.called

@@ -10,4 +10,5 @@ pub returns-clause-passes : goal.returns-clause-passes
 returns-clause-passes c = λ honest. c.pass_shortly.ensures.passes c.args._sub
 
 pub returns-clause-stamp : goal.returns-clause-stamp
-returns-clause-stamp c = λ honest. record { moment = world_of c.args.self.now; before = passes_none; rest = c.pass_shortly.ensures.passes c.args._sub; is = refl }
+returns-clause-stamp c = λ honest.
+    record { moment = world_of c.args.self.now; before = passes_none; rest = c.pass_shortly.ensures.passes c.args._sub; is = refl }

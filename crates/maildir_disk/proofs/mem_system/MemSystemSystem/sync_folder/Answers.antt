@@ -18,4 +18,5 @@ pub returns-clause-names : goal.returns-clause-names
 returns-clause-names c = λ honest.
     let mid = c.pass_shortly.new.self in
     let acts = c.pass_shortly.ensures.acts in
-    names_stayed c.sub_of.ensures (world_of c.args.self.now) mid.folder mid.cases c.keep_names.new.self (acts.actions, acts.files_are) c.pass_shortly.ensures.left c.keep_names.ensures.stays
+    names_stayed c.sub_of.ensures (world_of c.args.self.now) mid.folder mid.cases c.keep_names.new.self
+    (acts.actions, acts.files_are) c.pass_shortly.ensures.left c.keep_names.ensures.stays

@@ -18,17 +18,20 @@ returns-in_err-map_err-clause-left c = λ honest.
 pub returns-in-Ok-clause-left : goal.returns-in-Ok-clause-left
 returns-in-Ok-clause-left c = λ honest.
     let old = c.args.self.now in
-    left_made (Remove c.args.name) old.folder c.remove.new.self old.cases c.may_lose.new.self c.remove.result left_none c.may_lose.ensures.more c.remove.ensures.called
+    left_made (Remove c.args.name)
+    old.folder c.remove.new.self old.cases c.may_lose.new.self c.remove.result left_none c.may_lose.ensures.more c.remove.ensures.called
 
 pub returns-in-Err-clause-left : goal.returns-in-Err-clause-left
 returns-in-Err-clause-left c = λ honest.
     let old = c.args.self.now in
-    left_made (Remove c.args.name) old.folder c.remove.new.self old.cases c.may_lose.new.self c.remove.result left_none c.may_lose.ensures.more c.remove.ensures.called
+    left_made (Remove c.args.name)
+    old.folder c.remove.new.self old.cases c.may_lose.new.self c.remove.result left_none c.may_lose.ensures.more c.remove.ensures.called
 
 pub returns-in-Ok-clause-loses : goal.returns-in-Ok-clause-loses
 returns-in-Ok-clause-loses c = λ honest has.
     let old = c.args.self.now in
     let removed = (rw c.in-Ok.is at (c.remove.ensures.quietly honest)).1 in
-    let loses = if_ok c.may_lose.result (HasRoom c.may_lose.new.self → Loses (Remove c.args.name) (files_of old.folder) old.cases c.may_lose.new.self) (search rules) c.may_lose.ensures.loses in
+    let loses = if_ok c.may_lose.result (HasRoom c.may_lose.new.self → Loses (Remove c.args.name) (files_of old.folder) old.cases c.may_lose.new.self)
+    (search rules) c.may_lose.ensures.loses in
     let there = lost_after old.folder c.remove.new.self (keeps_none old.folder) c.may_lose.ensures.more c.may_lose.ensures.room loses removed has in
     record { without = λ left may. (there left may).0; also = λ left may. (there left may).1 }

@@ -7,4 +7,7 @@ updated {at = true} old n e is = rw (e, is) refl
 updated {at = false} old n e is = rw (e, is) refl
 
 pub returns-clause-set : goal.returns-clause-set
-returns-clause-set c other = let u = updated _ _ (texts_ties c.args.digest other) (c.in_ok-insert.ensures.updates.0 other) in let v = c.self.view_is in rw v at u
+returns-clause-set c other =
+    let u = updated _ _ (texts_ties c.args.digest other) (c.in_ok-insert.ensures.updates.0 other) in
+    let v = c.self.view_is in
+    rw v at u

@@ -8,5 +8,6 @@ returns c =
     let new = map string_bytes c.args.new.now in
     let cur = map string_bytes c.args.cur.now in
     λ b.
-    ap (λ s. contains_key s b) (c.in_ok-add_all-2.ensures ∙ ap (λ s. with_bases s cur) (c.in_ok-add_all.ensures ∙ ap (λ s. with_bases s new) c.new-bases.ensures))
+    ap (λ s. contains_key s b)
+    (c.in_ok-add_all-2.ensures ∙ ap (λ s. with_bases s cur) (c.in_ok-add_all.ensures ∙ ap (λ s. with_bases s new) c.new-bases.ensures))
     ∙ contains_key-listed new cur b

@@ -20,7 +20,8 @@ returns-in_err-deliver-clause-delivers g c = λ bodies named few.
     let lt : i < length entries = c.loop-entry-test.true in
     let before = c.loop-entry.invariant in
     let first = before.delivers bodies named few in
-    let then = rw (before.there, c.as_slice.ensures) at (c.in_err-deliver.ensures.delivers (bodies ++ bodies_of (take i entries)) (first.named refl) (few_next entries i entry lt c.entry-item.is bodies few)) in
+    let then = rw (before.there, c.as_slice.ensures) at (c.in_err-deliver.ensures.delivers (bodies ++ bodies_of (take i entries))
+    (first.named refl) (few_next entries i entry lt c.entry-item.is bodies few)) in
     rw (bodies_split entries i entry lt c.entry-item.is [])
     (delivers_before c.from_residual.result _ bodies _ (bodies_of (drop (i + 1) entries)) _ _ _ _ _ _ _ c.from_residual.ensures.1 (delivers_then first then))
 
@@ -36,7 +37,8 @@ loop-entry-preserved g c =
     record {
       delivers = λ bodies named few.
           let first = before.delivers bodies named few in
-          let then = rw (before.there, c.as_slice.ensures) at (c.in_ok-deliver.ensures.delivers (bodies ++ bodies_of (take i entries)) (first.named refl) (few_next entries i entry lt c.entry-item.is bodies few)) in
+          let then = rw (before.there, c.as_slice.ensures) at (c.in_ok-deliver.ensures.delivers (bodies ++ bodies_of (take i entries))
+          (first.named refl) (few_next entries i entry lt c.entry-item.is bodies few)) in
           rw (bodies_next entries i entry lt c.entry-item.is []) (delivers_then first then);
       there = c.in_ok-deliver.ensures.there ∙ before.there;
       swept = c.in_ok-deliver.ensures.swept ∙ before.swept;

@@ -7,7 +7,8 @@ invariant-loop-entry g l =
     let at = seen g.F.Folder in
     record {
       delivers : (bodies : List (List ℕ)) → Named bodies l.fn.self.namer → length bodies + length l.entries ≤ 2 ^ 63 →
-          DeliversMessages (contains_key l.fn.self.there) bodies (bodies_of (take l.entry-index l.entries)) (at l.fn.folder) (at l.folder) l.fn.self.calls.made l.self.calls.made l.fn.self.placed l.self.placed l.self.namer None;
+          DeliversMessages (contains_key l.fn.self.there) bodies (bodies_of (take l.entry-index l.entries)) (at l.fn.folder)
+          (at l.folder) l.fn.self.calls.made l.self.calls.made l.fn.self.placed l.self.placed l.self.namer None;
       there : l.self.there ≡ l.fn.self.there;
       swept : l.self.swept ≡ l.fn.self.swept;
       count : l.self.messages ≡ l.fn.self.messages + l.entry-index;

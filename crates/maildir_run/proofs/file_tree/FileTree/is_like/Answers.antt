@@ -7,7 +7,8 @@ use Rattle.maildir_run.proofs.file_tree.FileTree.is_like.Goals as goal
 pub returns-then-len : goal.returns-then-len
 returns-then-len c = (
   λ on. sym c.self.view_is ∙ trees_alike c.self.inside.files c.other.inside.files (sym c.eq.ensures ∙ on) ∙ c.other.view_is,
-  λ same. c.eq.ensures ∙ alike_trees c.self.inside.files c.other.inside.files c.len.ensures.ordered c.len-2.ensures.ordered (c.self.view_is ∙ same ∙ sym c.other.view_is),
+  λ same. c.eq.ensures
+      ∙ alike_trees c.self.inside.files c.other.inside.files c.len.ensures.ordered c.len-2.ensures.ordered (c.self.view_is ∙ same ∙ sym c.other.view_is),
 )
 
 pub returns-else-len : goal.returns-else-len

@@ -11,7 +11,8 @@ returns-in_err-perform_all-clause-err c =
     let same : line.call ≡ c.args.call = ap (λ l. l.call) (sym c.line-item.is) ∙ c.if-line-call.true in
     let on : line.call == c.args.call ≡ true = eq-eqb line.call c.args.call same in
     on_err c.from_residual.result
-    (lines_cut c.args.call c.args.lines.now i c.line-item.result (files_in c.args.self.now) (files_in c.loop-line.self) (files_in c.perform_all.new.self) c.loop-line-test.true on c.loop-line.invariant
+    (lines_cut c.args.call c.args.lines.now i c.line-item.result (files_in c.args.self.now)
+    (files_in c.loop-line.self) (files_in c.perform_all.new.self) c.loop-line-test.true on c.loop-line.invariant
     (rw (c.deref.ensures.value ∙ ap (λ l. l.acts.items) c.line-item.is) at c.in_err-perform_all.ensures.err))
 
 pub loop-line-preserved : goal.loop-line-preserved
@@ -23,8 +24,10 @@ loop-line-preserved c =
     elim c.if-line-call.branch [
       | then-line-call+in_ok-perform_all w ↦
           let on : line.call == c.args.call ≡ true = eq-eqb line.call c.args.call (same ∙ w.if-line-call.true) in
-          let here : cond (line.call == c.args.call) line.acts.items [] ≡ w.deref.result.now = rw on (ap (λ l. l.acts.items) (sym c.line-item.is) ∙ sym w.deref.ensures.value) in
-          more w.deref.result.now (files_in c.args.self.now) (files_in c.loop-line.self) (files_in c.if-line-call.self) c.loop-line-test.true here c.loop-line.invariant
+          let here : cond (line.call == c.args.call) line.acts.items [] ≡ w.deref.result.now =
+          rw on (ap (λ l. l.acts.items) (sym c.line-item.is) ∙ sym w.deref.ensures.value) in
+          more w.deref.result.now (files_in c.args.self.now) (files_in c.loop-line.self)
+          (files_in c.if-line-call.self) c.loop-line-test.true here c.loop-line.invariant
           (ap files_in w.self-is ∙ w.in_ok-perform_all.ensures.ok)
       | else-line-call w ↦
           let off : line.call == c.args.call ≡ false = ne_eqb line.call c.args.call (λ e. w.if-line-call.false (sym same ∙ e)) in

@@ -13,7 +13,8 @@ returns-clause-called c =
     follows_called (Placing c.args.name.now c.args.place c.args.target.now) c.args.self.now c.count_call.new.self c.count_call.result (search rules)
 
 pub returns-in_err-mode-clause-left : goal.returns-in_err-mode-clause-left
-returns-in_err-mode-clause-left c = called_left (Placing c.args.name.now c.args.place c.args.target.now) _ c.from_residual.result _ (returns-in_err-mode-clause-called c)
+returns-in_err-mode-clause-left c =
+    called_left (Placing c.args.name.now c.args.place c.args.target.now) _ c.from_residual.result _ (returns-in_err-mode-clause-called c)
 
 pub returns-clause-left : goal.returns-clause-left
 returns-clause-left c = called_left (Placing c.args.name.now c.args.place c.args.target.now) _ c.count_call.result _ (returns-clause-called c)

@@ -30,4 +30,5 @@ returns-in_err-list_one-clause-lists g c = λ given h l.
     (listed_to_front given entries i c.entry-item.result _ _ _ _ _ s.0 c.loop-entry-test.true c.entry-item.is t s.1 s.2)
 
 pub returns-clause-lists : goal.returns-clause-lists
-returns-clause-lists g c = λ given h l. listed_to_all given c.args.entries.now c.loop-entry.entry-index _ _ _ _ c.loop-entry-test.false (c.loop-entry.invariant given h l)
+returns-clause-lists g c = λ given h l.
+    listed_to_all given c.args.entries.now c.loop-entry.entry-index _ _ _ _ c.loop-entry-test.false (c.loop-entry.invariant given h l)

@@ -23,8 +23,10 @@ returns-in_ok-end_line-in-Some-clause-moved c =
     let A = λ (z : List ℕ). take at text ++ z in
     let size : at + n + 1 ≡ at + (n + 1) = omega arith in
     let front = ap T size ∙ take-at text at (n + 1) ∙ ap A h.is ∙ sym (append_assoc (take at text) (take n rest) (10 ∷ [])) in
-    let g = gives_then c.args.self.now c.take_body_lines.new.self c.add_part.new.self _ _ _ _ _ (gives_none c.args.self.now c.take_body_lines.new.self _ _ c.args.out.now.items refl c.in_ok-at.ensures.held) c.in_ok-add_part-in-Some.ensures.moved in
-    rw front (gives_then c.args.self.now c.add_part.new.self c.end_line.new.self _ _ _ _ _ g (gives_none c.add_part.new.self c.end_line.new.self _ _ c.add_part.new.out.items refl c.in_ok-end_line-in-Some.ensures.moved))
+    let g = gives_then c.args.self.now c.take_body_lines.new.self c.add_part.new.self _ _ _ _ _
+    (gives_none c.args.self.now c.take_body_lines.new.self _ _ c.args.out.now.items refl c.in_ok-at.ensures.held) c.in_ok-add_part-in-Some.ensures.moved in
+    rw front (gives_then c.args.self.now c.add_part.new.self c.end_line.new.self _ _ _ _ _ g
+    (gives_none c.add_part.new.self c.end_line.new.self _ _ c.add_part.new.out.items refl c.in_ok-end_line-in-Some.ensures.moved))
 
 pub returns-in_err-at-clause-stopped : goal.returns-in_err-at-clause-stopped
 returns-in_err-at-clause-stopped c =
@@ -39,7 +41,8 @@ returns-in_err-add_part-in-Some-clause-stopped c =
     let rest = take (length text - at) (drop at text) in
     let g = gives_none c.args.self.now c.take_body_lines.new.self (take at text) _ _ c.in_err-add_part-in-Some.ensures.kept c.in_ok-at.ensures.held in
     handed_on c.from_residual-in_err-add_part-in-Some.result _ _ c.from_residual-in_err-add_part-in-Some.ensures
-    (stops_at _ c.args.self.now c.take_body_lines.new.self (take at text) (take n rest) (drop n rest) _ _ g c.in_err-add_part-in-Some.ensures.stopped (three-parts text at n))
+    (stops_at _ c.args.self.now c.take_body_lines.new.self (take at text) (take n rest)
+    (drop n rest) _ _ g c.in_err-add_part-in-Some.ensures.stopped (three-parts text at n))
 
 pub returns-in_err-end_line-in-Some-clause-stopped : goal.returns-in_err-end_line-in-Some-clause-stopped
 returns-in_err-end_line-in-Some-clause-stopped c =
@@ -50,9 +53,11 @@ returns-in_err-end_line-in-Some-clause-stopped c =
     let h = line-there rest n c.in-Some.ensures in
     let W = λ (z : List ℕ). take at text ++ (z ++ drop (n + 1) rest) in
     let is : text ≡ (take at text ++ take n rest) ++ ((10 ∷ []) ++ drop (n + 1) rest) = three-parts text at (n + 1) ∙ ap W h.is ∙ (simp append_assoc) in
-    let g = gives_then c.args.self.now c.take_body_lines.new.self c.add_part.new.self _ _ _ _ _ (gives_none c.args.self.now c.take_body_lines.new.self _ _ c.args.out.now.items refl c.in_ok-at.ensures.held) c.in_ok-add_part-in-Some.ensures.moved in
+    let g = gives_then c.args.self.now c.take_body_lines.new.self c.add_part.new.self _ _ _ _ _
+    (gives_none c.args.self.now c.take_body_lines.new.self _ _ c.args.out.now.items refl c.in_ok-at.ensures.held) c.in_ok-add_part-in-Some.ensures.moved in
     handed_on c.from_residual-in_err-end_line-in-Some.result _ _ c.from_residual-in_err-end_line-in-Some.ensures
-    (stops_at _ c.args.self.now c.add_part.new.self (take at text ++ take n rest) (10 ∷ []) (drop (n + 1) rest) _ _ g c.in_err-end_line-in-Some.ensures.stopped is)
+    (stops_at _ c.args.self.now c.add_part.new.self (take at text ++ take n rest)
+    (10 ∷ []) (drop (n + 1) rest) _ _ g c.in_err-end_line-in-Some.ensures.stopped is)
 
 pub returns-in_err-add_part-in-None-clause-stopped : goal.returns-in_err-add_part-in-None-clause-stopped
 returns-in_err-add_part-in-None-clause-stopped c =

@@ -16,7 +16,8 @@ loop-at-preserved c =
     record {
       within = omega (arith, length-drop at piece, w, c.loop-at.invariant.within);
       same = e.same ∙ c.loop-at.invariant.same;
-      gives = rw (take-at piece at c.in_ok-at.field-0) (gives_then c.args.self.now c.loop-at.self c.advance.new.self _ _ _ _ _ c.loop-at.invariant.gives e.moved);
+      gives =
+          rw (take-at piece at c.in_ok-at.field-0) (gives_then c.args.self.now c.loop-at.self c.advance.new.self _ _ _ _ _ c.loop-at.invariant.gives e.moved);
     }
 
 pub returns-in_err-at-clause-stopped : goal.returns-in_err-at-clause-stopped
