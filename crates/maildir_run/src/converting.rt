@@ -12,7 +12,6 @@ ghost use Rattle.maildir_run.specs.Files.{Files};
 ghost use Rattle.maildir_run.specs.Private.Given.{Begins, SourceStopped};
 ghost use Rattle.maildir_run.specs.Foreign.{KeepsForeign};
 ghost use Rattle.maildir_run.specs.Reading.{IsReading, ReadsAtLeast, ReadsAtMost};
-ghost use Rattle.maildir_run.specs.Private.Reading.{Taken};
 ghost use Rattle.maildir_run.specs.Runs.{CountsRun, Link, Possible, IsRun, Runs};
 ghost use Rattle.maildir_run.specs.Tasks.{Listings, Performs, honestly, leaving, planned_tasks};
 ghost use Rattle.maildir_run.specs.Texts.{MessagesOf};
