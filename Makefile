@@ -40,8 +40,9 @@ run: $(PROGRAM)
 # Where there are two processors, three checks go on at a time: else one is idle while the last edits are tried.
 LANES := $(if $(filter 2,$(shell nproc)),RT_JOBS=3)
 
-# The documents, the gate, and then the tests that run what it has built.
+# The lines and the documents, the gate, and then the tests that run what it has built.
 test:
+	tests/lines
 	tests/promises.py
 	tests/rooms.py
 	tests/documents

@@ -24,7 +24,8 @@ fn worked_texts(rt: HostRuntime) {
         (
             "equal_empty_messages",
             b"From a\n\nFrom b\n\n",
-            b"1 e3b0c44298fc1c149afbf4c8996fb92427ae41e4649b934ca495991b7852b855.1 new - 0 a\n2 e3b0c44298fc1c149afbf4c8996fb92427ae41e4649b934ca495991b7852b855.2 new - 0 b\n",
+            b"1 e3b0c44298fc1c149afbf4c8996fb92427ae41e4649b934ca495991b7852b855.1 new - 0 a\n\
+              2 e3b0c44298fc1c149afbf4c8996fb92427ae41e4649b934ca495991b7852b855.2 new - 0 b\n",
             2,
         ),
         (
