@@ -136,7 +136,7 @@ CalledQuietly call old (Err _) new = (moves : List Move) × IsOwn moves × (new 
 abbrev pub GoesUp : ℕ → ℕ → Type 0
 GoesUp old new = new ≡ (old + 1) % 2 ^ 128
 
--- the count of failures goes up with `Absent` and `AnyMoves`, and with no other answer
+-- the count of failures goes up with `Absent` and `Failed`, and with no other answer
 abbrev pub CountsFailure : {A : Type 0} → Result A FolderFault → ℕ → ℕ → Type 0
 CountsFailure (Err Absent) old new = GoesUp old new
 CountsFailure (Err fault.Failed) old new = GoesUp old new
