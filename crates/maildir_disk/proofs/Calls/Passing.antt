@@ -1,18 +1,10 @@
 -- What follows from what is assumed of a system.
-use Rattle.std.proofs.Common.{◌≡◌, ◌⊎◌, inl, inr, ℕ, ◌+◌, ◌%◌, ◌==◌, true, false, cond, ◌≤◌, ◌<◌, List, []}
-use Rattle.std.proofs.Common.{◌∷◌, ◌++◌, map, append_assoc, refl, sym, ◌∙◌, ap, subst, arith, IsPermutation}
-use Rattle.std.specs.Prelude.{Result, Ok, Err, IsErr, Option}
-use Rattle.std.specs.declared.vec.Vec.{Vec}
-use Rattle.std.specs.declared.string.String.{String}
-use Rattle.std.specs.declared.alloc.Global.{Global}
-use Rattle.std.specs.FinMap.{keys}
-use Rattle.maildir_run.specs.declared.folder.Sub.{Sub}
-use Rattle.maildir_run.specs.Files.{Files, Action, acted, all_acted}
-use Rattle.maildir_run.specs.Calls.{Call, Listing, Move, Other, Again, moved, after, folder_of, IsWhole, Lists, Listed, AnyMoves}
+use Rattle.std.proofs.Common.{◌≡◌, ◌⊎◌, inl, inr, ℕ, ◌+◌, ◌%◌, ◌==◌, true, false, cond, ◌≤◌, ◌<◌, List, [], ◌∷◌, ◌++◌, map, append_assoc, refl, sym, ◌∙◌, ap}
+use Rattle.std.proofs.Common.{subst, arith, IsPermutation, Result, Ok, Err, IsErr, Option, Vec, String, Global}
+use Rattle.maildir_disk.proofs.Common.{keys, Sub, Files, Action, acted, all_acted, Call, Listing, Move, Other, Again, moved, after, folder_of, IsWhole, Lists}
+use Rattle.maildir_disk.proofs.Common.{Listed, AnyMoves, IsSettled, IsFarAhead, World, margin_of, IsOfChange, Acts, Passes, IsStampWithin, ReadsNames}
 use Rattle.maildir_disk.specs.declared.one_moment.Look.{Look}
-use Rattle.maildir_disk.specs.Look.{IsSettled, IsFarAhead}
 use Rattle.maildir_disk.specs.Private.Look.{LookGives, Watched, WatchedOr}
-use Rattle.maildir_disk.specs.World.{World, margin_of, IsOfChange, Acts, Passes, IsStampWithin, ReadsNames}
 
 pub all_acted-append : (xs ys : List Action) (s : Files) → all_acted (xs ++ ys) s ≡ all_acted ys (all_acted xs s)
 all_acted-append [] ys s = refl

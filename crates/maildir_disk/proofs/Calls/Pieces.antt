@@ -1,20 +1,13 @@
 -- A write that comes in pieces, between which other programs act, is one write at the moment when its file was made.
-use Rattle.std.proofs.Common.{◌≡◌, ◌⊎◌, inl, inr, ℕ, Bool, true, false, cond, not, List, [], ◌∷◌, ◌++◌, map, Option, Some, None, refl, sym, ◌∙◌, ap}
-use Rattle.std.specs.Prelude.{IsErr, Result, Ok, Err, take}
-use Rattle.std.specs.declared.io.Error.{Error}
-use Rattle.std.specs.FinMap.{get, insert, remove, get-insert, get-remove, same_map}
-use Rattle.std.proofs.lemmas.Bool.{cases_Bool, false_from_ne_true}
-use Rattle.maildir_name.specs.Names.{is_converter_name}
-use Rattle.maildir_run.specs.Files.{Files, FileMap, is_name, KeepsConverters, Action, ToCur, Reflag, DropTmp}
-use Rattle.maildir_run.specs.Files.{Outside, outsiders_of, may_take, to_cur, reflag, acted, all_acted}
-use Rattle.maildir_run.specs.Calls.{Call, Writing, Other, Again, Torn, after, effect, IsOthers, Succeeded, AnyMoves, Called}
-use Rattle.maildir_run.proofs.Names.Maps.{total, same, alike, is_name-true, get-insert_same}
+use Rattle.std.proofs.Common.{◌≡◌, ◌⊎◌, inl, inr, ℕ, Bool, true, false, cond, not, List, [], ◌∷◌, ◌++◌, map, Option, Some, None, refl, sym, ◌∙◌, ap, IsErr}
+use Rattle.std.proofs.Common.{Result, Ok, Err, take}
+use Rattle.maildir_disk.proofs.Common.{Error, get, insert, remove, get-insert, get-remove, same_map, cases_Bool, false_from_ne_true, is_converter_name, Files}
+use Rattle.maildir_disk.proofs.Common.{FileMap, is_name, KeepsConverters, Action, ToCur, Reflag, DropTmp, Outside, outsiders_of, may_take, to_cur, reflag}
+use Rattle.maildir_disk.proofs.Common.{acted, all_acted, Call, Writing, Other, Again, Torn, after, effect, IsOthers, Succeeded, AnyMoves, Called, total, same}
+use Rattle.maildir_disk.proofs.Common.{alike, is_name-true, get-insert_same, get-outsiders_of, World, Acts, Comes, rewritten, changed, Created, Appended}
+use Rattle.maildir_disk.proofs.Common.{Written}
 use Rattle.maildir_run.proofs.Call.Outsiders.{outside_reaches, get-outsiders_other}
-use Rattle.maildir_run.proofs.Call.Homes.{get-outsiders_of}
 use Rattle.maildir_disk.proofs.Calls.Passing.{all_acted-append, after-others, after-append, others_whole, acts_on}
-use Rattle.maildir_disk.specs.World.{World, Acts}
-use Rattle.maildir_disk.specs.Writing.{Comes, rewritten, changed, Created, Appended}
-use Rattle.maildir_disk.specs.Private.Writing.{Written}
 
 -- ---- a change of one file, name by name
 abbrev mapped : Bool → (List ℕ → List ℕ) → Option (List ℕ) → Option (List ℕ)

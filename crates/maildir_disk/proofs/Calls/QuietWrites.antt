@@ -1,11 +1,6 @@
 -- A write that comes in pieces while no other program acts.
-use Rattle.std.proofs.Common.{◌≡◌, inl, inr, ℕ, List, [], ◌∷◌, ◌++◌, refl, ◌∙◌, ap}
-use Rattle.std.specs.Prelude.{IsErr, Result, Ok, Err, take}
-use Rattle.std.specs.declared.io.Error.{Error}
-use Rattle.maildir_run.specs.Files.{Files}
-use Rattle.maildir_run.specs.Calls.{Writing, Move, Other, Again, Torn, after, effect, IsOwn, CalledQuietly}
-use Rattle.maildir_disk.specs.Quiet.{AppendedQuietly}
-use Rattle.maildir_disk.specs.Writing.{changed}
+use Rattle.std.proofs.Common.{◌≡◌, inl, inr, ℕ, List, [], ◌∷◌, ◌++◌, refl, ◌∙◌, ap, IsErr, Result, Ok, Err, take}
+use Rattle.maildir_disk.proofs.Common.{Error, Files, Writing, Move, Other, Again, Torn, after, effect, IsOwn, CalledQuietly, AppendedQuietly, changed}
 use Rattle.maildir_disk.proofs.Calls.Pieces.{changed_again}
 
 -- what a write of other bytes would do, as if it were torn

@@ -1,24 +1,14 @@
 -- What runs over any of several texts, actions, syncs and power cuts leave that follow one another.
-use Rattle.std.proofs.Common.{◌≡◌, ℕ, true, List, [], ◌∷◌, ◌++◌, map, get_or, All, Any, Contains}
-use Rattle.std.proofs.Common.{IsTrue, IsPermutation, Result, Ok, refl, sym, ◌∙◌, ap, subst, inl, inr}
-use Rattle.std.proofs.lemmas.Bool.{cases_Bool}
-use Rattle.std.proofs.lemmas.List.Elements.{All-contains, All-cons, All-head, All-nil, Contains-append_right, Contains-get_or}
+use Rattle.std.proofs.Common.{◌≡◌, ℕ, true, List, [], ◌∷◌, ◌++◌, map, get_or, All, Any, Contains, IsTrue, IsPermutation, Result, Ok, refl, sym, ◌∙◌, ap, subst}
+use Rattle.std.proofs.Common.{inl, inr}
+use Rattle.maildir_disk.proofs.Common.{cases_Bool, All-contains, All-cons, All-head, All-nil, Contains-append_right, Contains-get_or, is_converter_base}
+use Rattle.maildir_disk.proofs.Common.{RunFault, Report, Message, HasHome, IsMissing, IsHome, IsSoundAt, Delivered, is_any, is_base_of, Sub, Files, Action}
+use Rattle.maildir_disk.proofs.Common.{acted, all_acted, homes, is_name, Keeps, IsRun, chain_fold, chain_keeps, chain_map, chain_parts, sound_now, acted_kept}
+use Rattle.maildir_disk.proofs.Common.{is_name-true, text_named, text_distinct, homes_none, homes_one, IsCut, IsIntact, HasBody, KeepsNames, FilesAndLeft}
+use Rattle.maildir_disk.proofs.Common.{Event, Ran, Acted, Cut, Happens, Happen, Syncs}
 use Rattle.std.proofs.lemmas.List.Folds.{Any-from_list_any}
 use Rattle.std.proofs.lemmas.List.Sorted.{IsPermutation-trans}
-use Rattle.maildir_name.specs.Names.{is_converter_base}
-use Rattle.maildir_run.specs.declared.fault.RunFault.{RunFault}
-use Rattle.maildir_run.specs.declared.report.Report.{Report}
-use Rattle.maildir_run.specs.Delivery.{Message, HasHome, IsMissing, IsHome, IsSoundAt, Delivered, is_any, is_base_of}
-use Rattle.maildir_run.specs.declared.folder.Sub.{Sub}
-use Rattle.maildir_run.specs.Files.{Files, Action, acted, all_acted, homes, is_name}
-use Rattle.maildir_run.specs.Runs.{Keeps, IsRun}
 use Rattle.maildir_run.specs.Several.{Mailbox, IsMailbox, OfEach}
-use Rattle.maildir_run.proofs.Chains.Chains.{chain_fold, chain_keeps, chain_map, chain_parts, sound_now}
-use Rattle.maildir_run.proofs.Call.Homes.{acted_kept}
-use Rattle.maildir_run.proofs.Names.Maps.{is_name-true}
-use Rattle.maildir_run.proofs.Chains.MessageLemmas.{text_named, text_distinct}
-use Rattle.maildir_run.proofs.Call.Moves.{homes_none, homes_one}
-use Rattle.maildir_disk.specs.PowerCuts.{IsCut, IsIntact, HasBody, KeepsNames, FilesAndLeft, Event, Ran, Acted, Cut, Happens, Happen, Syncs}
 use Rattle.maildir_disk.specs.Private.SeveralCuts.{event_over}
 use Rattle.maildir_disk.specs.SeveralCuts.{EventOver, RanOver, ActedOver, SyncedOver, CutOver, HappensOver, HappenOver, AreNew}
 use Rattle.maildir_disk.proofs.Left.SingleHomes.{single_sound, single_home}

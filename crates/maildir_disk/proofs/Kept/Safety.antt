@@ -1,18 +1,8 @@
 -- A run, and then a sync: what a cut leaves of the run's messages.
-use Rattle.std.proofs.Common.{ℕ, ◌<◌, ◌^◌, List, length, get_or, All, Ok, Result, OnOk, subst, sym}
-use Rattle.std.specs.Prelude.{IsOk}
-use Rattle.maildir_run.specs.declared.fault.RunFault.{RunFault}
-use Rattle.maildir_run.specs.declared.report.Report.{Report}
-use Rattle.maildir_run.specs.Cuts.{Follows}
-use Rattle.maildir_run.specs.Delivery.{Message, AreNamed, IsHome, IsSoundAt}
-use Rattle.maildir_run.specs.Files.{Files}
-use Rattle.maildir_run.specs.Runs.{ReportsMessages, IsRun}
+use Rattle.std.proofs.Common.{ℕ, ◌<◌, ◌^◌, List, length, get_or, All, Ok, Result, OnOk, subst, sym, IsOk}
+use Rattle.maildir_disk.proofs.Common.{RunFault, Report, Follows, Message, AreNamed, IsHome, IsSoundAt, Files, ReportsMessages, IsRun, MessagesOf, text_named}
+use Rattle.maildir_disk.proofs.Common.{AreAlike, AreIntact, AreSafe, LeftByOthers, Survive, Syncs, World, Acts, sound_now}
 use Rattle.maildir_run.specs.Tasks.{Listings, Performs, leaving, planned_tasks}
-use Rattle.maildir_run.specs.Texts.{MessagesOf}
-use Rattle.maildir_run.proofs.Chains.MessageLemmas.{text_named}
-use Rattle.maildir_disk.specs.PowerCuts.{AreAlike, AreIntact, AreSafe, LeftByOthers, Survive, Syncs}
-use Rattle.maildir_disk.specs.World.{World, Acts}
-use Rattle.maildir_run.proofs.Chains.Chains.{sound_now}
 use Rattle.maildir_disk.proofs.Left.Lefts.{if_ok}
 use Rattle.maildir_disk.proofs.Left.LeftHomes.{all_beside, all_bodies, all_intact}
 use Rattle.maildir_disk.proofs.Left.LeftTasks.{own_hold, texts_hold}

@@ -1,22 +1,11 @@
 -- What a cut leaves after the names in `new` were kept, and then those in `cur`.
-use Rattle.std.proofs.Common.{◌≡◌, ℕ, false, List, [], ◌∷◌, ◌++◌, Option, Some, None, IsTrue, All, get_or, refl, sym, ap, subst, ◌∙◌}
-use Rattle.std.specs.List.{Contains}
-use Rattle.std.specs.FinMap.{get, contains_key}
-use Rattle.std.specs.Option.{is_some}
-use Rattle.std.proofs.lemmas.List.Elements.{Contains-append_left, Contains-append_right}
-use Rattle.maildir_name.specs.Names.{base, is_converter_name, is_converter_base}
-use Rattle.maildir_run.specs.declared.folder.Sub.{Sub}
-use Rattle.maildir_run.specs.declared.folder.Sub.TheVariants.{New, Cur}
-use Rattle.maildir_disk.specs.World.{World, Acts}
+use Rattle.std.proofs.Common.{◌≡◌, ℕ, false, List, [], ◌∷◌, ◌++◌, Option, Some, None, IsTrue, All, get_or, refl, sym, ap, subst, ◌∙◌, Contains, is_some}
+use Rattle.maildir_disk.proofs.Common.{get, contains_key, Contains-append_left, Contains-append_right, base, is_converter_name, is_converter_base, Sub, New}
+use Rattle.maildir_disk.proofs.Common.{Cur, World, Acts, Message, AreNamed, IsHome, FileMap, Files, Action, acted, all_acted, held_under, acted_kept}
+use Rattle.maildir_disk.proofs.Common.{is_name-true, homes_one, none_held, held_none, IsIntact, HasBody, KeepsNames, LeftByOthers, Syncs}
 use Rattle.maildir_disk.proofs.Calls.Passing.{all_acted-append}
 use Rattle.maildir_disk.proofs.Left.Lefts.{leaves_then}
-use Rattle.maildir_run.specs.Delivery.{Message, AreNamed, IsHome}
-use Rattle.maildir_run.specs.Files.{FileMap, Files, Action, acted, all_acted, held_under}
-use Rattle.maildir_run.proofs.Call.Homes.{acted_kept}
 use Rattle.maildir_run.proofs.Call.ListedNowhere.{all_acted_new}
-use Rattle.maildir_run.proofs.Names.Maps.{is_name-true}
-use Rattle.maildir_run.proofs.Call.Moves.{homes_one, none_held, held_none}
-use Rattle.maildir_disk.specs.PowerCuts.{IsIntact, HasBody, KeepsNames, LeftByOthers, Syncs}
 use Rattle.maildir_disk.proofs.Left.LeftHomes.{first_in, intact_on, others_hold}
 
 -- what is there, where one thing alone may be

@@ -1,24 +1,16 @@
 -- What a cut leaves of the files of one base, from one move to the next.
-use Rattle.std.proofs.Common.{◌≡◌, ℕ, true, false, cond, zero, suc, List, [], ◌∷◌, ◌++◌, ◌⊎◌, Option, Some, None}
-use Rattle.std.proofs.Common.{All, get_or, IsPermutation, IsTrue, refl, sym, ap, subst, ◌∙◌, inl, inr, arith}
-use Rattle.std.specs.List.{Contains}
-use Rattle.std.specs.FinMap.{get, insert, remove, get-insert, get-remove, same_map}
-use Rattle.std.proofs.lemmas.Bool.{cases_Bool, and_parts}
-use Rattle.std.proofs.lemmas.List.Elements.{Contains-push, Contains-append_left, Contains-append_right, Contains-append_cases}
+use Rattle.std.proofs.Common.{◌≡◌, ℕ, true, false, cond, zero, suc, List, [], ◌∷◌, ◌++◌, ◌⊎◌, Option, Some, None, All, get_or, IsPermutation, IsTrue, refl, sym}
+use Rattle.std.proofs.Common.{ap, subst, ◌∙◌, inl, inr, arith, Contains}
+use Rattle.maildir_disk.proofs.Common.{get, insert, remove, get-insert, get-remove, same_map, cases_Bool, and_parts, Contains-push, Contains-append_left}
+use Rattle.maildir_disk.proofs.Common.{Contains-append_right, Contains-append_cases, Place, is_converter_name, is_converter_base, FileMap, Files, is_name}
+use Rattle.maildir_disk.proofs.Common.{has_base, held_under, homes, Action, ToCur, Reflag, DropTmp, Outside, may_take, acted, Call, Writing, Placing, Move}
+use Rattle.maildir_disk.proofs.Common.{Other, Again, Torn, placed, moved, PlacesElsewhere, StaysOrGoes, Leaves, IsFoundWhole, Came, Doubled, linked, doubled}
+use Rattle.maildir_disk.proofs.Common.{left_after, Message, AreNamed, total, same, is_name-true, get-insert_same, absent, acted_kept, equally}
+use Rattle.maildir_disk.proofs.Common.{held-insert_other, held-insert_new, held-remove_old, after_kept, after_tmp, IsIntact, HasBody, LeftByOthers}
 use Rattle.std.proofs.lemmas.List.Sorted.{IsPermutation-sym, Contains-permutation}
-use Rattle.maildir_name.specs.declared.target.Place.{Place}
 use Rattle.maildir_name.specs.declared.target.Place.TheVariants.{New, Cur}
-use Rattle.maildir_name.specs.Names.{is_converter_name, is_converter_base}
-use Rattle.maildir_run.specs.Files.{FileMap, Files, is_name, has_base, held_under, homes, Action, ToCur, Reflag, DropTmp, Outside, may_take, acted}
-use Rattle.maildir_run.specs.Calls.{Call, Writing, Placing, Move, Other, Again, Torn, placed, moved, PlacesElsewhere, StaysOrGoes}
-use Rattle.maildir_run.specs.Cuts.{Leaves, IsFoundWhole, Came, Doubled, linked, doubled, left_after}
-use Rattle.maildir_run.specs.Cuts as cuts
-use Rattle.maildir_run.specs.Delivery.{Message, AreNamed}
-use Rattle.maildir_run.proofs.Names.Maps.{total, same, is_name-true, get-insert_same}
-use Rattle.maildir_run.proofs.Call.Homes.{absent, acted_kept, equally, held-insert_other, held-insert_new, held-remove_old}
-use Rattle.maildir_run.proofs.Call.Moves.{after_kept, after_tmp}
-use Rattle.maildir_disk.specs.PowerCuts.{IsIntact, HasBody, LeftByOthers}
 use Rattle.maildir_disk.proofs.Calls.Pieces.{again}
+use Rattle.maildir_run.specs.Cuts as cuts
 
 -- ---- one more element
 pub none_in : {X : Type 0} {y : X} → Contains [] y → ⊥

@@ -1,26 +1,17 @@
 -- What a cut leaves of the tasks of a run.
-use Rattle.std.proofs.Common.{◌≡◌, ℕ, ◌<◌, ◌^◌, length, get_or, Bool, true, false, cond, List, [], ◌∷◌, ◌++◌}
-use Rattle.std.proofs.Common.{◌⊎◌, All, IsTrue, IsFalse, Result, Ok, Err, sym, ap, subst, ◌∙◌, inl, inr}
-use Rattle.std.proofs.lemmas.Bool.{cases_Bool, cases_order, false≢true}
+use Rattle.std.proofs.Common.{◌≡◌, ℕ, ◌<◌, ◌^◌, length, get_or, Bool, true, false, cond, List, [], ◌∷◌, ◌++◌, ◌⊎◌, All, IsTrue, IsFalse, Result, Ok, Err, sym}
+use Rattle.std.proofs.Common.{ap, subst, ◌∙◌, inl, inr}
+use Rattle.maildir_disk.proofs.Common.{cases_Bool, cases_order, false≢true, All-head, All-tail, base, is_converter_name, is_converter_base, Writing, Placing}
+use Rattle.maildir_disk.proofs.Common.{PlacesElsewhere, Leaves, Message, AreNamed, AreDistinct, Files, is_name, has_base, MessagesOf, converters, is_name-true}
+use Rattle.maildir_disk.proofs.Common.{is_name-refl, text_named, text_targets, text_distinct, AreAlike}
 use Rattle.std.proofs.lemmas.List.{get_or_default}
-use Rattle.std.proofs.lemmas.List.Elements.{All-head, All-tail}
 use Rattle.maildir_name.specs.declared.target.Target.{Target}
-use Rattle.maildir_name.specs.Names.{base, is_converter_name, is_converter_base}
-use Rattle.maildir_run.specs.Calls.{Writing, Placing, PlacesElsewhere}
-use Rattle.maildir_run.specs.Cuts.{Leaves}
-use Rattle.maildir_run.specs.Delivery.{Message, AreNamed, AreDistinct}
-use Rattle.maildir_run.specs.Files.{Files, is_name, has_base}
 use Rattle.maildir_run.specs.Parts.{sweep_of, delivery_of, delivery_if, deliveries_of}
 use Rattle.maildir_run.specs.Plan.{is_listed}
 use Rattle.maildir_run.specs.Private.Progress.{IsTarget}
 use Rattle.maildir_run.specs.Tasks.{Task, Do, call_of, AllDone, Stopped, Performs, leaving, Listings, LeavesDone, listing_tasks, planned_tasks}
-use Rattle.maildir_run.specs.Texts.{MessagesOf}
-use Rattle.maildir_run.proofs.Call.Homes.{converters}
-use Rattle.maildir_run.proofs.Names.Maps.{is_name-true, is_name-refl}
-use Rattle.maildir_run.proofs.Chains.MessageLemmas.{text_named, text_targets, text_distinct}
 use Rattle.maildir_run.proofs.Tasks.PlanLemmas.{planned_are}
 use Rattle.maildir_run.proofs.Tasks.TaskEffects.{EachTask, PlacesNone, all_parts, stopped_parts, listings_place_none, sweep_places_none}
-use Rattle.maildir_disk.specs.PowerCuts.{AreAlike}
 use Rattle.maildir_disk.proofs.Left.LeftHomes.{SteadyAt, steady_same, steady_then, leaves_elsewhere, leaves_placing, AllHold}
 
 -- ---- the parts of a list of tasks

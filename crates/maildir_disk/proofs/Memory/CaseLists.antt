@@ -1,22 +1,14 @@
 -- Lists of cases: what is added, and what stays.
-use Rattle.std.proofs.Common.{◌≡◌, ◌⊎◌, ◌↔◌, ℕ, ◌+◌, ◌<◌, ◌≤◌, Bool, true, false, List, [], ◌∷◌, ◌++◌, map, take, length}
-use Rattle.std.proofs.Common.{get_or, Contains, refl, sym, ◌∙◌, ap, subst, inl, inr, append_assoc, arith, length-append}
+use Rattle.std.proofs.Common.{◌≡◌, ◌⊎◌, ◌↔◌, ℕ, ◌+◌, ◌<◌, ◌≤◌, Bool, true, false, List, [], ◌∷◌, ◌++◌, map, take, length, get_or, Contains, refl, sym, ◌∙◌, ap}
+use Rattle.std.proofs.Common.{subst, inl, inr, append_assoc, arith, length-append}
+use Rattle.maildir_disk.proofs.Common.{All-append, All-cons, All-contains, All-nil, Contains-get_or, Contains-append_cases, Contains-append_left}
+use Rattle.maildir_disk.proofs.Common.{Contains-append_right, cases_lt, MemFolder, files_of, Cases, Change, Adds, IsAdded, Loses, made, nth_left, lefts_of}
+use Rattle.maildir_disk.proofs.Common.{may_find, changed, Files}
 use Rattle.std.specs.List.{items_where_true}
 use Rattle.std.specs.List.Retain.{IsFiltered, ReturnsInTurn}
-use Rattle.std.proofs.lemmas.List.Elements.{All-append, All-cons, All-contains, All-nil, Contains-get_or}
-use Rattle.std.proofs.lemmas.List.Elements.{Contains-append_cases, Contains-append_left, Contains-append_right}
 use Rattle.std.proofs.lemmas.List.{get_or_append_left, get_or_default, get_or-map, length-map, map-append}
-use Rattle.std.proofs.lemmas.Bool.{cases_lt}
-use Rattle.maildir_run.specs.declared.mem_folder.MemFolder.{MemFolder}
 use Rattle.maildir_run.specs.MemFiles.{no_files}
-use Rattle.maildir_run.specs.MemFolder.{files_of}
-use Rattle.maildir_disk.specs.declared.cases.Cases.{Cases}
-use Rattle.maildir_disk.specs.declared.cases.Change.{Change}
-use Rattle.maildir_disk.specs.Private.Cases.{Adds, IsAdded, Loses, made, nth_left}
-use Rattle.maildir_disk.specs.Cases.{lefts_of, may_find}
-use Rattle.maildir_disk.specs.Writing.{changed}
 use Rattle.maildir_disk.proofs.Left.LeftHomes.{none_in, first_in, first_or}
-use Rattle.maildir_run.specs.Files.{Files}
 
 -- ---- what is added
 pub adds_on : {P : Files → Type 0} {xs ys zs : List Files} → Adds P xs ys → Adds P ys zs → Adds P xs zs

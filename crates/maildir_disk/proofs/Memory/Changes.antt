@@ -1,34 +1,20 @@
 -- Changes of a Maildir in memory: what each leaves, and of which call it is.
-use Rattle.std.proofs.Common.{◌≡◌, ◌⊎◌, ◌↔◌, ◌+◌, ◌<◌, ◌≤◌, ℕ, List, [], ◌∷◌, ◌++◌, length, take, Contains, Option, Some}
-use Rattle.std.proofs.Common.{None, Result, Ok, Err, OnOk, OnErr, refl, sym, ◌∙◌, ap, subst, inl, inr, arith, string_bytes}
-use Rattle.std.specs.FinMap.{get, keys, contains_key, contains_key-keys}
+use Rattle.std.proofs.Common.{◌≡◌, ◌⊎◌, ◌↔◌, ◌+◌, ◌<◌, ◌≤◌, ℕ, List, [], ◌∷◌, ◌++◌, length, take, Contains, Option, Some, None, Result, Ok, Err, OnOk, OnErr}
+use Rattle.std.proofs.Common.{refl, sym, ◌∙◌, ap, subst, inl, inr, arith, string_bytes, take-take}
+use Rattle.maildir_disk.proofs.Common.{get, keys, contains_key, contains_key-keys, Sub, Tmp, MemFolder, Call, Listing, Writing, Placing, Removing, Again, Torn}
+use Rattle.maildir_disk.proofs.Common.{Other, Called, CalledQuietly, effect, folder_of, Leaves, Follows, Came, Doubled, files_of, Files, Action, ToCur, Reflag}
+use Rattle.maildir_disk.proofs.Common.{all_acted, is_name, performed, half_performed, leaves_moves, an_action, Cases, Change, Make, Hold, Remove, Half, Adds}
+use Rattle.maildir_disk.proofs.Common.{IsAdded, KeepsCases, Loses, LosesBytes, made, HasRoom, lefts_of, may_find, KeepsNames, LeftByOthers, World, changed}
+use Rattle.maildir_disk.proofs.Common.{rewritten}
 use Rattle.std.specs.List.{list_any}
 use Rattle.std.proofs.Math.Seq.{take-append-add}
-use Rattle.std.proofs.lemmas.List.{take-take}
-use Rattle.maildir_run.specs.declared.folder.Sub.{Sub}
-use Rattle.maildir_run.specs.declared.folder.Sub.TheVariants.{Tmp}
-use Rattle.maildir_run.specs.declared.mem_folder.MemFolder.{MemFolder}
-use Rattle.maildir_run.specs.Calls.{Call, Listing, Writing, Placing, Removing, Again, Torn, Other, Called, CalledQuietly, effect, folder_of}
-use Rattle.maildir_run.specs.Cuts.{Leaves, Follows, Came, Doubled}
-use Rattle.maildir_run.specs.MemFolder.{files_of}
-use Rattle.maildir_run.specs.Files.{Files, Action, ToCur, Reflag, all_acted, is_name}
-use Rattle.maildir_run.specs.Script.{performed, half_performed}
 use Rattle.maildir_run.specs.declared.script.Act.{Act}
-use Rattle.maildir_run.specs.declared.script.Act.TheVariants as act
-use Rattle.maildir_run.proofs.Call.Cuts.{leaves_moves}
-use Rattle.maildir_run.proofs.Memory.Scripts.{an_action}
-use Rattle.maildir_disk.specs.declared.cases.Cases.{Cases}
-use Rattle.maildir_disk.specs.declared.cases.Change.{Change}
-use Rattle.maildir_disk.specs.declared.cases.Change.TheVariants.{Make, Hold, Place, Remove, Half}
-use Rattle.maildir_disk.specs.declared.cases.Change.TheVariants as change
-use Rattle.maildir_disk.specs.Private.Cases.{Adds, IsAdded, KeepsCases, Loses, LosesBytes, made}
-use Rattle.maildir_disk.specs.Cases.{HasRoom, lefts_of, may_find}
-use Rattle.maildir_disk.specs.PowerCuts.{KeepsNames, LeftByOthers}
-use Rattle.maildir_disk.specs.World.{World}
-use Rattle.maildir_disk.specs.Writing.{changed, rewritten}
+use Rattle.maildir_disk.specs.declared.cases.Change.TheVariants.{Place}
 use Rattle.maildir_disk.proofs.Memory.CaseLists.{no_fewer, there_or_added}
 use Rattle.maildir_disk.proofs.Left.Lefts.{leaves_none, leaves_then, left_both, left_early}
 use Rattle.maildir_disk.proofs.Calls.Passing.{all_acted-append}
+use Rattle.maildir_run.specs.declared.script.Act.TheVariants as act
+use Rattle.maildir_disk.specs.declared.cases.Change.TheVariants as change
 
 -- the call that a change is of; what other programs do comes in a listing
 abbrev pub call_of_change : Change → Call

@@ -1,6 +1,5 @@
 use Rattle.std.proofs.Common.{[]}
-use Rattle.maildir_run.specs.Calls.{Writing, Removing}
-use Rattle.maildir_run.specs.MemFolder.{files_of}
+use Rattle.maildir_disk.proofs.Common.{Writing, Removing, files_of}
 use Rattle.maildir_disk.proofs.Memory.Changes.{effect_quietly}
 use Rattle.maildir_disk.proofs.cases.make.Goals as goal
 

@@ -1,9 +1,9 @@
 use Rattle.std.proofs.Common.{subst, ◌∙◌}
-use Rattle.maildir_disk.specs.Quiet.{AreNames}
+use Rattle.maildir_disk.proofs.Common.{AreNames}
 use Rattle.maildir_disk.proofs.Calls.Passing.{acts_on, listed_fault, failed_listing, lists_later}
 use Rattle.maildir_disk.proofs.Left.Lefts.{left_by_others_then}
-use Rattle.maildir_disk.proofs.one_moment.names_of_one_moment.Goals as goal
 use Rattle.maildir_disk.proofs.one_moment.names_of_one_moment.Goals.{else-loop-test, then-loop-test+in_ok-names+in-Wait+in_ok-instant+then-ge}
+use Rattle.maildir_disk.proofs.one_moment.names_of_one_moment.Goals as goal
 
 pub loop-init : goal.loop-init
 loop-init g c = record {

@@ -1,6 +1,5 @@
 use Rattle.std.proofs.Common.{◌∙◌}
-use Rattle.std.specs.Time.{system_time_nanos}
-use Rattle.maildir_disk.specs.Look.{IsSettled, IsFarAhead}
+use Rattle.maildir_disk.proofs.Common.{system_time_nanos, IsSettled, IsFarAhead}
 use Rattle.maildir_disk.proofs.Calls.Passing.{acts_on, looked_fault, lists_at, exact_if_settled, exact_if_ahead}
 use Rattle.maildir_disk.proofs.Left.Lefts.{left_by_others_then}
 use Rattle.maildir_disk.proofs.one_moment.take_names.Goals as goal

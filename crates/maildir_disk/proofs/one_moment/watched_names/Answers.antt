@@ -1,7 +1,6 @@
 use Rattle.std.proofs.Common.{◌≡◌, subst, arith}
+use Rattle.maildir_disk.proofs.Common.{system_time_nanos, IsStampWithin}
 use Rattle.std.proofs.lemmas.Grind.{common_steps}
-use Rattle.std.specs.Time.{system_time_nanos}
-use Rattle.maildir_disk.specs.World.{IsStampWithin}
 use Rattle.maildir_disk.proofs.Calls.Passing.{acts_on, watched_fault, watched}
 use Rattle.maildir_disk.proofs.Left.Lefts.{left_by_others_then}
 use Rattle.maildir_disk.proofs.one_moment.watched_names.Goals as goal

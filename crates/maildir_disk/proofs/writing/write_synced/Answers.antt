@@ -1,11 +1,10 @@
-use Rattle.std.proofs.Common.{rules, arith, inl, inr, ℕ, List, ◌≡◌, ◌∙◌, sym, ap, ◌++◌, ◌+◌, ◌-◌, length, take, drop}
-use Rattle.std.proofs.lemmas.List.{take_all, length-drop}
+use Rattle.std.proofs.Common.{rules, arith, inl, inr, ℕ, List, ◌≡◌, ◌∙◌, sym, ap, ◌++◌, ◌+◌, ◌-◌, length, take, drop, take_all, length-drop}
 use Rattle.std.proofs.Math.Seq.{take-add}
 use Rattle.maildir_disk.proofs.Left.Lefts.{left_both, left_more, left_fault, left_torn, left_written}
 use Rattle.maildir_disk.proofs.Calls.Pieces.{written_on, written_changed, write_called, write_succeeded, not_created, append_failed, write_failed}
 use Rattle.maildir_disk.proofs.Calls.QuietWrites.{grown_quietly, not_created_quietly, written_quietly, appended_quietly, torn_quietly}
-use Rattle.maildir_disk.proofs.writing.write_synced.Goals as goal
 use Rattle.maildir_disk.proofs.writing.write_synced.Goals.{in-Ok, in-Err+else-ne}
+use Rattle.maildir_disk.proofs.writing.write_synced.Goals as goal
 
 -- a front of the bytes, and then one of the rest
 taken : (bytes : List ℕ) (at n : ℕ) → take at bytes ++ take n (take (length bytes - at) (drop at bytes)) ≡ take (at + n) bytes

@@ -1,5 +1,5 @@
-use Rattle.maildir_run.specs.MemFolder.{files_of}
-use Rattle.maildir_disk.specs.declared.cases.Change.TheVariants.{Half, Other}
+use Rattle.maildir_disk.proofs.Common.{files_of, Half}
+use Rattle.maildir_disk.specs.declared.cases.Change.TheVariants.{Other}
 use Rattle.maildir_disk.proofs.Memory.Changes.{acts_of_act, acted_leaves, keeps_lost, keeps_on, left_by_change}
 use Rattle.maildir_disk.proofs.Left.Lefts.{leaves_none, on_ok, left_by_others_then}
 use Rattle.maildir_disk.proofs.cases.Cases.act_once.Goals as goal

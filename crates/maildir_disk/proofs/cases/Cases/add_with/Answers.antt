@@ -1,6 +1,5 @@
 use Rattle.std.proofs.Common.{Contains, OnOk, ◌∙◌, ap, subst}
-use Rattle.maildir_disk.specs.Cases.{HasRoom, lefts_of}
-use Rattle.maildir_disk.specs.Private.Cases.{made}
+use Rattle.maildir_disk.proofs.Common.{HasRoom, lefts_of, made}
 use Rattle.maildir_disk.proofs.Memory.CaseLists.{nth_files}
 use Rattle.maildir_disk.proofs.cases.Cases.add_with.Goals as goal
 

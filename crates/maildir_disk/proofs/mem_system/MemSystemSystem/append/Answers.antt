@@ -1,16 +1,9 @@
-use Rattle.std.proofs.Common.{◌++◌, ◌+◌, ◌-◌, ◌/◌, ◌≤◌, length, take, subst, arith, length-append, rules, ◌≡◌, ◌∙◌, ap, sym, [], Some, None}
-use Rattle.std.specs.FinMap.{get}
-use Rattle.std.specs.Option.{option_copied}
-use Rattle.maildir_run.specs.Calls.{Writing, effect}
-use Rattle.maildir_run.specs.MemFolder.{files_of}
+use Rattle.std.proofs.Common.{◌++◌, ◌+◌, ◌-◌, ◌/◌, ◌≤◌, length, take, subst, arith, length-append, rules, ◌≡◌, ◌∙◌, ap, sym, [], Some, None, option_copied}
+use Rattle.std.proofs.Common.{length-take}
+use Rattle.maildir_disk.proofs.Common.{get, Writing, effect, files_of, opened_as, HasRoom, may_find, LosesBytes, changed}
 use Rattle.maildir_disk.proofs.Calls.Pieces.{appended_fault, comes_to_none, comes_by_write}
-use Rattle.maildir_disk.specs.MemSystem.{opened_as}
 use Rattle.maildir_disk.proofs.Memory.Changes.{bytes_after, front_of_appended, called_leaves, left_of_bytes}
 use Rattle.maildir_disk.proofs.Left.Lefts.{if_ok, left_early, leaves_none, leaves_torn}
-use Rattle.std.proofs.lemmas.List.{length-take}
-use Rattle.maildir_disk.specs.Cases.{HasRoom, may_find}
-use Rattle.maildir_disk.specs.Private.Cases.{LosesBytes}
-use Rattle.maildir_disk.specs.Writing.{changed}
 use Rattle.maildir_disk.proofs.mem_system.MemSystemSystem.append.Goals as goal
 
 pub returns-in_err-pass_shortly-clause-appended : goal.returns-in_err-pass_shortly-clause-appended

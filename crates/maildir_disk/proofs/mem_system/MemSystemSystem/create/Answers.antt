@@ -1,12 +1,8 @@
 use Rattle.std.proofs.Common.{◌∙◌, ap, [], inl, rules}
-use Rattle.maildir_run.specs.Calls.{Writing, effect}
+use Rattle.maildir_disk.proofs.Common.{Writing, effect, Make, files_of, HasRoom, Loses}
 use Rattle.maildir_disk.proofs.Calls.Pieces.{created_fault}
-use Rattle.maildir_disk.specs.declared.cases.Change.TheVariants.{Make}
 use Rattle.maildir_disk.proofs.Memory.Changes.{left_made, left_unmade, lost_after}
 use Rattle.maildir_disk.proofs.Left.Lefts.{if_ok, left_early, left_none}
-use Rattle.maildir_run.specs.MemFolder.{files_of}
-use Rattle.maildir_disk.specs.Cases.{HasRoom}
-use Rattle.maildir_disk.specs.Private.Cases.{Loses}
 use Rattle.maildir_disk.proofs.mem_system.MemSystemSystem.create.Goals as goal
 
 pub returns-in_err-pass_shortly-clause-created : goal.returns-in_err-pass_shortly-clause-created
