@@ -1,5 +1,5 @@
 -- A run, and then a sync: what a cut leaves of the run's messages.
-use Rattle.std.proofs.Common.{ℕ, ◌<◌, ◌^◌, List, length, get_or, All, Ok, Result, OnOk, subst, sym, IsOk}
+use Rattle.std.proofs.Common.{ℕ, ◌<◌, ◌^◌, List, length, All, Ok, Result, OnOk, IsOk, arith}
 use Rattle.maildir_disk.proofs.Common.{RunFault, Report, Follows, Message, AreNamed, IsHome, IsSoundAt, Files, ReportsMessages, IsRun, MessagesOf, text_named}
 use Rattle.maildir_disk.proofs.Common.{AreAlike, AreIntact, AreSafe, LeftByOthers, Survive, Syncs, World, Acts, sound_now}
 use Rattle.maildir_run.specs.Tasks.{Listings, Performs, leaving, planned_tasks}
@@ -29,9 +29,7 @@ module _ (t : List ℕ) (ms : List Message) (are : MessagesOf t ms) (small : len
   reports_after_run old new report run sound = (run.keeps ms are (sound_now ms old sound)).ends.reports
 
   home_after_others : {old new : World} → Acts old new → All (IsHome old.files) ms → All (IsHome new.files) ms
-  home_after_others {old} acts home k d below =
-      let m = get_or ms k d in
-      subst (λ s. IsHome s m) (sym acts.files_are) (still_home m (text_named t ms are small k d below) acts.actions old.files (home k d below))
+  home_after_others {old} acts home k d below = grind (arith, still_home, text_named)
 
   -- a run and a sync
   pub intact_after_both : (before between now : Files → Type 0) (answer : Result Report RunFault)

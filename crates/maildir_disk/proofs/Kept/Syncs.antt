@@ -1,6 +1,6 @@
 -- What a cut leaves after the names in `new` were kept, and then those in `cur`.
-use Rattle.std.proofs.Common.{◌≡◌, ℕ, false, List, [], ◌∷◌, ◌++◌, Option, Some, None, IsTrue, All, get_or, refl, sym, ap, subst, ◌∙◌, Contains, is_some}
-use Rattle.maildir_disk.proofs.Common.{get, contains_key, Contains-append_left, Contains-append_right, base, is_converter_name, is_converter_base, Sub, New}
+use Rattle.std.proofs.Common.{◌≡◌, ℕ, false, List, [], ◌∷◌, ◌++◌, Option, Some, None, IsTrue, All, get_or, refl, sym, ap, subst, ◌∙◌, Contains, is_some, arith}
+use Rattle.maildir_disk.proofs.Common.{contains_key, Contains-append_left, Contains-append_right, is_converter_name, is_converter_base, Sub, New}
 use Rattle.maildir_disk.proofs.Common.{Cur, World, Acts, Message, AreNamed, IsHome, FileMap, Files, Action, acted, all_acted, held_under, acted_kept}
 use Rattle.maildir_disk.proofs.Common.{is_name-true, homes_one, none_held, held_none, IsIntact, HasBody, KeepsNames, LeftByOthers, Syncs}
 use Rattle.maildir_disk.proofs.Calls.Passing.{all_acted-append}
@@ -23,10 +23,7 @@ module _ (m : Message) (named : IsTrue (is_converter_base m.target.base)) where
   Alike there moment = (name : List ℕ) → IsTrue (is_converter_name name) → contains_key there name ≡ contains_key moment name
 
   none_alike : (there moment : FileMap) → Alike there moment → held_under m.target.base there ≡ [] → held_under m.target.base moment ≡ []
-  none_alike there moment alike none =
-      held_none m.target.base moment (λ q on.
-      let ours : IsTrue (is_converter_name q) = ap is_converter_base (sym (is_name-true m.target.base (base q) on)) ∙ named in
-      none_if_not_some (get moment q) (sym (alike q ours) ∙ ap is_some (none_held m.target.base there none q on)))
+  none_alike there moment alike none = grind (arith, held_none, is_name-true, none_if_not_some, none_held)
 
   found_new : (moment there : Files) → Alike there.new moment.new → IsIntact there m → (held_under m.target.base moment.new ≡ [] → ⊥) → HasBody there m
   found_new moment there alike intact some =

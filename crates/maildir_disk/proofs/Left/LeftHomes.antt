@@ -97,8 +97,7 @@ whole_on name x s t (inr gone) whole = λ ours held has. let e = sym gone ∙ ha
 
 linked_tmp : (s : Files) (name target : List ℕ) (o : Option (List ℕ)) → (linked s name target o).tmp ≡ s.tmp
 linked_tmp s name target None = refl
-linked_tmp s name target (Some bytes) =
-    elim (may_take s.cur name target) as (λ t. (cond t (record s { cur = insert s.cur target bytes }) s).tmp ≡ s.tmp) [ true ↦ refl | false ↦ refl ]
+linked_tmp s name target (Some bytes) = grind arith
 
 doubled_tmp : (action : Action) (s : Files) → (doubled action s).tmp ≡ s.tmp
 doubled_tmp (ToCur name target) s = linked_tmp s name target (get s.new name)

@@ -19,7 +19,7 @@ adds_on {P} {xs} first then = record {
 }
 
 pub adds_as : {P Q : Files → Type 0} {xs ys : List Files} → Adds P xs ys → ((x : Files) → P x → Q x) → Adds Q xs ys
-adds_as adds is = record { more = adds.more; are = adds.are; each = λ k d below. is _ (adds.each k d below) }
+adds_as adds is = grind arith
 
 pub still_there : {P : Files → Type 0} {xs ys : List Files} → Adds P xs ys → {x : Files} → Contains xs x → Contains ys x
 still_there {xs} adds {x} has = subst (λ l. Contains l x) (sym adds.are) (Contains-append_left xs adds.more x has)

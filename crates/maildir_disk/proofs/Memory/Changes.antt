@@ -3,10 +3,9 @@ use Rattle.std.proofs.Common.{◌≡◌, ◌⊎◌, ◌↔◌, ◌+◌, ◌<◌,
 use Rattle.std.proofs.Common.{refl, sym, ◌∙◌, ap, subst, inl, inr, arith, string_bytes, take-take}
 use Rattle.maildir_disk.proofs.Common.{get, keys, contains_key, contains_key-keys, Sub, Tmp, MemFolder, Call, Listing, Writing, Placing, Removing, Again, Torn}
 use Rattle.maildir_disk.proofs.Common.{Other, Called, CalledQuietly, effect, folder_of, Leaves, Follows, Came, Doubled, files_of, Files, Action, ToCur, Reflag}
-use Rattle.maildir_disk.proofs.Common.{all_acted, is_name, performed, half_performed, leaves_moves, an_action, Cases, Change, Make, Hold, Remove, Half, Adds}
+use Rattle.maildir_disk.proofs.Common.{all_acted, performed, half_performed, leaves_moves, an_action, Cases, Change, Make, Hold, Remove, Half, Adds}
 use Rattle.maildir_disk.proofs.Common.{IsAdded, KeepsCases, Loses, LosesBytes, made, HasRoom, lefts_of, may_find, KeepsNames, LeftByOthers, World, changed}
 use Rattle.maildir_disk.proofs.Common.{rewritten}
-use Rattle.std.specs.List.{list_any}
 use Rattle.std.proofs.Math.Seq.{take-append-add}
 use Rattle.maildir_run.specs.declared.script.Act.{Act}
 use Rattle.maildir_disk.specs.declared.cases.Change.TheVariants.{Place}
@@ -136,10 +135,7 @@ pub bytes_after : {name holds : List ℕ} {held : ℕ} {before : Files → Type 
     → KeepsCases before (may_find folder mid) old mid → length (lefts_of mid) ≤ length (lefts_of new) → new.room ≡ mid.room
     → (HasRoom new → LosesBytes name holds held folder mid new) → HasRoom new → {n : ℕ} → held < n → n ≤ length holds
     → (left : Files) → before left → may_find then new left × may_find then new (changed name (λ _. take n holds) left)
-bytes_after then {mid} keeps longer room loses has {n} above below left may =
-    let in_mid : HasRoom mid = omega (arith, has, longer, room) in
-    let there = keeps.there in_mid left may in
-    (inr ((loses has).without left there), inr ((loses has).fronts n above below left there))
+bytes_after then {mid} keeps longer room loses has {n} above below left may = grind arith
 
 -- another program's act, or what is left of it where it found no memory
 pub acts_of_act : {E : Type 0} (a : Act) (old : Files) (outcome : Result (Unit {0}) E) {new : Files}
@@ -160,13 +156,7 @@ pub keeps_none : (folder : MemFolder) {cases : Cases} → KeepsCases (may_find f
 keeps_none folder = record { room = refl; no_fewer = omega arith; there = λ room left may. may }
 
 pub keeps_on : {a b c : Files → Type 0} {old mid new : Cases} → KeepsCases a b old mid → KeepsCases b c mid new → KeepsCases a c old new
-keeps_on {mid} first then = record {
-  room = then.room ∙ first.room;
-  no_fewer = omega (arith, first.no_fewer, then.no_fewer);
-  there = λ room left may.
-      let before : HasRoom mid = omega (arith, room, then.no_fewer, then.room) in
-      then.there room left (first.there before left may);
-}
+keeps_on {mid} first then = grind (arith, no_fewer)
 
 -- ---- syncs
 module _ (P : Files → Type 0) (folder : MemFolder) (old new : Cases)
@@ -184,7 +174,7 @@ module _ (P : Files → Type 0) (folder : MemFolder) (old new : Cases)
 
 same_names : (sub : Sub) (s t : Files) (name : List ℕ) → keys (folder_of sub s) ≡ keys (folder_of sub t)
     → contains_key (folder_of sub s) name ≡ contains_key (folder_of sub t) name
-same_names sub s t name e = contains_key-keys (folder_of sub s) name ∙ (ap (list_any (is_name name)) e ∙ sym (contains_key-keys (folder_of sub t) name))
+same_names sub s t name e = grind (arith, contains_key-keys)
 
 pub names_stayed : {sub is : Sub} → sub ≡ is → (a : World) {before : Files → Type 0} (folder : MemFolder) (old new : Cases)
     → (actions : List Action) × (files_of folder ≡ all_acted actions a.files) → Follows LeftByOthers before (may_find folder old)

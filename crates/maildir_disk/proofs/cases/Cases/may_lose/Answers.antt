@@ -27,7 +27,7 @@ loop-at-preserved c =
     }
 
 pub returns-in_err-copy-clause-more : goal.returns-in_err-copy-clause-more
-returns-in_err-copy-clause-more c = with_more c.args.change.now c.args.self.now c.loop-at.self (files_of c.args.folder.now) c.loop-at.invariant.more
+returns-in_err-copy-clause-more c = grind (arith, with_more)
 
 pub returns-clause-more : goal.returns-clause-more
 returns-clause-more c =
