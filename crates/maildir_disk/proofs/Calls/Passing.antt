@@ -1,6 +1,6 @@
 -- What follows from what is assumed of a system.
 use Rattle.std.proofs.Common.{◌≡◌, inl, inr, ℕ, ◌+◌, ◌≤◌, ◌<◌, List, [], ◌∷◌, ◌++◌, map, append_assoc, refl, sym, ◌∙◌, ap}
-use Rattle.std.proofs.Common.{subst, arith, IsPermutation, Result, Ok, Err, IsErr, Option, Vec, String, Global}
+use Rattle.std.proofs.Common.{subst, arith, IsPermutation, Result, Ok, Err, IsErr, Option, Vec, String, Global, rules}
 use Rattle.maildir_disk.proofs.Common.{keys, Sub, Files, Action, acted, all_acted, Call, Listing, Move, Other, Again, moved, after, folder_of, IsWhole, Lists}
 use Rattle.maildir_disk.proofs.Common.{Listed, AnyMoves, IsSettled, IsFarAhead, World, margin_of, IsOfChange, Acts, Passes, IsStampWithin, ReadsNames}
 use Rattle.maildir_disk.specs.declared.one_moment.Look.{Look}
@@ -36,7 +36,7 @@ acts_on {a} p q =
 
 -- no time passes
 pub passes_none : {sub : Sub} {a : World} → Passes sub a a
-passes_none = record { acts = acts_none; later = omega arith; stamp_is = inl refl }
+passes_none = search (rules, acts_none)
 
 -- a stamp of a change in a part of a time is one of a change in all of it
 pub longer : {s t u v stamp : ℕ} → s ≤ t → u ≤ v → IsOfChange t u stamp → IsOfChange s v stamp

@@ -1,6 +1,6 @@
 -- A write that comes in pieces, between which other programs act, is one write at the moment when its file was made.
 use Rattle.std.proofs.Common.{◌≡◌, ◌⊎◌, inl, inr, ℕ, Bool, true, false, cond, not, List, [], ◌∷◌, ◌++◌, map, Option, Some, None, refl, sym, ◌∙◌, ap, IsErr}
-use Rattle.std.proofs.Common.{Result, Ok, Err, take, arith}
+use Rattle.std.proofs.Common.{Result, Ok, Err, take, arith, rules}
 use Rattle.maildir_disk.proofs.Common.{Error, get, insert, remove, get-insert, get-remove, same_map, cases_Bool, false_from_ne_true, is_converter_name, Files}
 use Rattle.maildir_disk.proofs.Common.{FileMap, is_name, KeepsConverters, Action, ToCur, Reflag, DropTmp, Outside, outsiders_of}
 use Rattle.maildir_disk.proofs.Common.{acted, all_acted, Call, Writing, Other, Again, Torn, after, effect, IsOthers, Succeeded, AnyMoves, Called, total, same}
@@ -82,12 +82,7 @@ change_then_act : (a : Action) (m : FileMap) (name : List ℕ) (change : List �
     → rewritten (acted_on a m) name change (get (acted_on a m) name) ≡ acted_on a (rewritten m name change (get m name))
 change_then_act (ToCur from to) m name change ours = refl
 change_then_act (Reflag from to) m name change ours = refl
-change_then_act (DropTmp other) m name change ours =
-    elim (is_converter_name other) as (λ t. rewritten (cond t (remove m other) m) name change (get (cond t (remove m other) m) name)
-    ≡ cond t (remove (rewritten m name change (get m name)) other) (rewritten m name change (get m name))) [
-      | true ↦ change_then_remove m name other change
-      | false ↦ refl
-    ]
+change_then_act (DropTmp other) m name change ours = search (rules, change_then_remove)
 change_then_act (Outside files) m name change ours = change_then_outside m files.tmp name change ours
 
 acted_then_changed : (a : Action) (name : List ℕ) (change : List ℕ → List ℕ) (s : Files)
@@ -156,9 +151,6 @@ comes_acts {step} {a} leaves comes =
     }
 
 -- ---- a write, step by step
-pub written_created : (name : List ℕ) {a b : World} → Comes (effect (Writing name [])) a b → Written name [] a b
-written_created name comes = inl comes
-
 comes_on : {step : Files → Files} {a b c : World} → Comes step a b → Acts b c → Comes step a c
 comes_on comes acts = record {
   before = comes.before;
@@ -276,11 +268,11 @@ appended_fault name bytes (Ok _) is_err acts = cc
 appended_fault name bytes (Err _) is_err acts = inl acts
 
 pub not_changed : (name : List ℕ) (change : List ℕ → List ℕ) {s : Files} → get s.tmp name ≡ None → s ≡ changed name change s
-not_changed name change {s} none = ap (λ o. record s { tmp = rewritten s.tmp name change o }) (sym none)
+not_changed name change {s} none = search rules
 
 pub changed_by_write : (name : List ℕ) {held : List ℕ} (change : List ℕ → List ℕ) (s : Files)
     → get s.tmp name ≡ Some held → effect (Writing name (change held)) s ≡ changed name change s
-changed_by_write name change s has = ap (λ o. record s { tmp = rewritten s.tmp name change o }) (sym has)
+changed_by_write name change s has = search rules
 
 pub comes_to_none : (name : List ℕ) (change : List ℕ → List ℕ) {a b : World} → Acts a b → get b.files.tmp name ≡ None → Comes (changed name change) a b
 comes_to_none name change acts none = grind (arith, not_changed)

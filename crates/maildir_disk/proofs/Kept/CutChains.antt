@@ -1,6 +1,6 @@
 -- What runs over any of several texts, actions, syncs and power cuts leave that follow one another.
 use Rattle.std.proofs.Common.{◌≡◌, ℕ, true, List, [], ◌∷◌, ◌++◌, map, get_or, All, Any, Contains, IsTrue, IsPermutation, Result, Ok, refl, sym, ◌∙◌, ap, subst}
-use Rattle.std.proofs.Common.{inl, inr, arith}
+use Rattle.std.proofs.Common.{inl, inr, arith, rules}
 use Rattle.maildir_disk.proofs.Common.{cases_Bool, All-contains, All-cons, All-head, All-nil, Contains-append_right, Contains-get_or, is_converter_base}
 use Rattle.maildir_disk.proofs.Common.{RunFault, Report, Message, HasHome, IsMissing, IsHome, IsSoundAt, Delivered, is_any, is_base_of, Sub, Files, Action}
 use Rattle.maildir_disk.proofs.Common.{acted, all_acted, homes, is_name, Keeps, IsRun, chain_fold, chain_keeps, chain_map, chain_parts, sound_now, acted_kept}
@@ -85,7 +85,7 @@ module _ (texts : List Mailbox) where
   Stand moment = OfEach (StandsAt moment) texts
 
   of_text : {text : Mailbox} → Contains texts text → (moment : FilesAndLeft) → Stand moment → All (StandsAt moment) text.messages
-  of_text {text} among moment stand = All-contains (λ (t : Mailbox). All (StandsAt moment) t.messages) texts text stand among
+  of_text {text} among moment stand = search (rules, All-contains)
 
   -- ---- one event, and one message
   module _ (m : Message) (known : Known texts m) where

@@ -1,5 +1,5 @@
 -- A run, and then a sync: what a cut leaves of the run's messages.
-use Rattle.std.proofs.Common.{ℕ, ◌<◌, ◌^◌, List, length, All, Ok, Result, OnOk, IsOk, arith}
+use Rattle.std.proofs.Common.{ℕ, ◌<◌, ◌^◌, List, length, All, Ok, Result, OnOk, IsOk, arith, rules}
 use Rattle.maildir_disk.proofs.Common.{RunFault, Report, Follows, Message, AreNamed, IsHome, IsSoundAt, Files, ReportsMessages, IsRun, MessagesOf, text_named}
 use Rattle.maildir_disk.proofs.Common.{AreAlike, AreIntact, AreSafe, LeftByOthers, Survive, Syncs, World, Acts, sound_now}
 use Rattle.maildir_run.specs.Tasks.{Listings, Performs, leaving, planned_tasks}
@@ -23,7 +23,7 @@ module _ (t : List ℕ) (ms : List Message) (are : MessagesOf t ms) (small : len
       all_bodies others was.0 left (texts_hold t ms are small was.2.0 was.0 answer left was.2.1 others named alike) (survive was.0 was.1)
 
   home_after_run : {old new : Files} {report : Report} → IsRun t old (Ok report) new → All (IsSoundAt old) ms → All (IsHome new) ms
-  home_after_run {old} run sound = (run.keeps ms are (sound_now ms old sound)).ends.delivered.homes_are
+  home_after_run {old} run sound = search (rules, sound_now)
 
   pub reports_after_run : (old new : Files) (report : Report) → IsRun t old (Ok report) new → All (IsSoundAt old) ms → ReportsMessages ms old report
   reports_after_run old new report run sound = (run.keeps ms are (sound_now ms old sound)).ends.reports

@@ -1,5 +1,6 @@
 -- What a cut leaves after the names in `new` were kept, and then those in `cur`.
-use Rattle.std.proofs.Common.{◌≡◌, ℕ, false, List, [], ◌∷◌, ◌++◌, Option, Some, None, IsTrue, All, get_or, refl, sym, ap, subst, ◌∙◌, Contains, is_some, arith}
+use Rattle.std.proofs.Common.{◌≡◌, ℕ, false, List, [], ◌∷◌, ◌++◌, Option, Some, None, IsTrue, All, refl, sym, ap, subst, ◌∙◌, Contains, is_some, arith}
+use Rattle.std.proofs.Common.{rules}
 use Rattle.maildir_disk.proofs.Common.{contains_key, Contains-append_left, Contains-append_right, is_converter_name, is_converter_base, Sub, New}
 use Rattle.maildir_disk.proofs.Common.{Cur, World, Acts, Message, AreNamed, IsHome, FileMap, Files, Action, acted, all_acted, held_under, acted_kept}
 use Rattle.maildir_disk.proofs.Common.{is_name-true, homes_one, none_held, held_none, IsIntact, HasBody, KeepsNames, LeftByOthers, Syncs}
@@ -11,7 +12,7 @@ use Rattle.maildir_disk.proofs.Left.LeftHomes.{first_in, intact_on, others_hold}
 -- what is there, where one thing alone may be
 only : {x : List ℕ} (found : List (List ℕ)) → ((y : List ℕ) → Contains found y → y ≡ x) → (found ≡ [] → ⊥) → Contains found x
 only [] is some = absurd (some refl)
-only (y ∷ found) is some = subst (Contains (y ∷ found)) (is y (first_in found)) (first_in found)
+only (y ∷ found) is some = search (rules, first_in)
 
 none_if_not_some : (o : Option (List ℕ)) → is_some o ≡ false → o ≡ None
 none_if_not_some None e = refl
@@ -26,14 +27,10 @@ module _ (m : Message) (named : IsTrue (is_converter_base m.target.base)) where
   none_alike there moment alike none = grind (arith, held_none, is_name-true, none_if_not_some, none_held)
 
   found_new : (moment there : Files) → Alike there.new moment.new → IsIntact there m → (held_under m.target.base moment.new ≡ [] → ⊥) → HasBody there m
-  found_new moment there alike intact some =
-      Contains-append_left _ _ m.body
-      (only (held_under m.target.base there.new) (λ y h. intact y (Contains-append_left _ _ y h)) (λ none. some (none_alike there.new moment.new alike none)))
+  found_new moment there alike intact some = search (rules, Contains-append_left, only, none_alike)
 
   found_cur : (moment there : Files) → Alike there.cur moment.cur → IsIntact there m → (held_under m.target.base moment.cur ≡ [] → ⊥) → HasBody there m
-  found_cur moment there alike intact some =
-      Contains-append_right _ _ m.body
-      (only (held_under m.target.base there.cur) (λ y h. intact y (Contains-append_right _ _ y h)) (λ none. some (none_alike there.cur moment.cur alike none)))
+  found_cur moment there alike intact some = search (rules, Contains-append_right, only, none_alike)
 
   pub still_home : (actions : List Action) (s : Files) → IsHome s m → IsHome (all_acted actions s) m
   still_home [] s home = home
@@ -66,8 +63,7 @@ module _ (m : Message) (named : IsTrue (is_converter_base m.target.base)) where
 
 pub synced_bodies : (ms : List Message) → AreNamed ms → {old before new left : Files}
     → All (IsHome old) ms → All (IsIntact before) ms → Syncs old before new left → All (HasBody left) ms
-synced_bodies ms named home intact syncs k d below =
-    kept_names (get_or ms k d) (named k d below) (home k d below) (intact k d below) syncs.first syncs.then
+synced_bodies ms named home intact syncs k d below = search (rules, kept_names)
 
 -- names that were kept, and then what others did
 pub kept_later : {sub : Sub} {s before : Files} {t u : World} {mid left : Files}

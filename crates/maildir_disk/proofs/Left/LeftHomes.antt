@@ -1,6 +1,6 @@
 -- What a cut leaves of the files of one base, from one move to the next.
 use Rattle.std.proofs.Common.{◌≡◌, ℕ, true, false, cond, zero, suc, List, [], ◌∷◌, ◌++◌, ◌⊎◌, Option, Some, None, All, get_or, IsPermutation, IsTrue, refl, sym}
-use Rattle.std.proofs.Common.{ap, subst, ◌∙◌, inl, inr, arith, Contains}
+use Rattle.std.proofs.Common.{ap, subst, ◌∙◌, inl, inr, arith, Contains, rules}
 use Rattle.maildir_disk.proofs.Common.{get, insert, remove, get-insert, get-remove, same_map, cases_Bool, and_parts, Contains-push, Contains-append_left}
 use Rattle.maildir_disk.proofs.Common.{Contains-append_right, Contains-append_cases, Place, is_converter_name, is_converter_base, FileMap, Files, is_name}
 use Rattle.maildir_disk.proofs.Common.{has_base, held_under, homes, Action, ToCur, Reflag, DropTmp, Outside, may_take, acted, Call, Writing, Placing, Move}
@@ -156,16 +156,14 @@ module _ (b x : List ℕ) where
       ] refl
 
   doubled_steady : (action : Action) (s : Files) → SteadyAt b x s (doubled action s)
-  doubled_steady (ToCur name target) s =
-      linked_steady s name target (get s.new name) (λ bytes on has. Contains-append_left _ _ bytes (held_in b s.new name bytes on has))
-  doubled_steady (Reflag name target) s =
-      linked_steady s name target (get s.cur name) (λ bytes on has. Contains-append_right _ _ bytes (held_in b s.cur name bytes on has))
+  doubled_steady (ToCur name target) s = search (rules, linked_steady, Contains-append_left, held_in)
+  doubled_steady (Reflag name target) s = search (rules, linked_steady, Contains-append_right, held_in)
   doubled_steady (DropTmp name) s = steady_same s
   doubled_steady (Outside files) s = steady_same s
 
   -- these bytes come under a name of the base, also one that is taken
   inserted_steady : (m : FileMap) (target : List ℕ) → has_base b target ≡ true → Steady x (held_under b m) (held_under b (insert m target x))
-  inserted_steady m target on = record { within = inserted_or b m target x on; still = λ h. inserted_in b m target x on }
+  inserted_steady m target on = search (rules, inserted_or, inserted_in)
 
   placed_steady : (s : Files) (name : List ℕ) (p : Place) (target : List ℕ) (o : Option (List ℕ))
       → has_base b target ≡ true → ((held : List ℕ) → o ≡ Some held → held ≡ x) → SteadyAt b x s (placed s name p target o)
@@ -188,7 +186,7 @@ module _ (b x : List ℕ) where
         steady_then s (doubled action s) (left_after s call (Doubled action ∷ kept)) (doubled_steady action s) (left_elsewhere call off kept (doubled action s))
 
     pub leaves_elsewhere : {call : Call} → PlacesElsewhere b call → {s t : Files} → Leaves call s t → SteadyAt b x s t
-    leaves_elsewhere {call} off {s} leaves = subst (SteadyAt b x s) (sym leaves.are) (left_elsewhere call off leaves.kept s)
+    leaves_elsewhere {call} off {s} leaves = search (rules, left_elsewhere)
 
     -- a call that places there what `tmp` has under a name, where these bytes were written
     module _ (name : List ℕ) (p : Place) (target : List ℕ) (ours : IsTrue (is_converter_name name)) (on : has_base b target ≡ true) where
@@ -209,7 +207,7 @@ module _ (b x : List ℕ) where
           (left_placing kept t (whole_on name x s t (inl (ap (λ m. get m name) (doubled_tmp action s))) whole))
 
       pub leaves_placing : {s t : Files} → IsFoundWhole (Writing name x) s → Leaves (Placing name p target) s t → SteadyAt b x s t
-      leaves_placing {s} whole leaves = subst (SteadyAt b x s) (sym leaves.are) (left_placing leaves.kept s whole)
+      leaves_placing {s} whole leaves = search (rules, left_placing)
 
 -- ---- a message, of whose base this holds
 pub intact_on : (m : Message) (s t : Files) → SteadyAt m.target.base m.body s t → IsIntact s m → IsIntact t m

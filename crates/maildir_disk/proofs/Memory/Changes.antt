@@ -1,6 +1,6 @@
 -- Changes of a Maildir in memory: what each leaves, and of which call it is.
 use Rattle.std.proofs.Common.{◌≡◌, ◌⊎◌, ◌↔◌, ◌+◌, ◌<◌, ◌≤◌, ℕ, List, [], ◌∷◌, ◌++◌, length, take, Contains, Option, Some, None, Result, Ok, Err, OnOk, OnErr}
-use Rattle.std.proofs.Common.{refl, sym, ◌∙◌, ap, subst, inl, inr, arith, string_bytes, take-take}
+use Rattle.std.proofs.Common.{refl, sym, ◌∙◌, ap, subst, inl, inr, arith, string_bytes, take-take, rules}
 use Rattle.maildir_disk.proofs.Common.{get, keys, contains_key, contains_key-keys, Sub, Tmp, MemFolder, Call, Listing, Writing, Placing, Removing, Again, Torn}
 use Rattle.maildir_disk.proofs.Common.{Other, Called, CalledQuietly, effect, folder_of, Leaves, Follows, Came, Doubled, files_of, Files, Action, ToCur, Reflag}
 use Rattle.maildir_disk.proofs.Common.{all_acted, performed, half_performed, leaves_moves, an_action, Cases, Change, Make, Hold, Remove, Half, Adds}
@@ -56,7 +56,7 @@ module _ (change : Change) (folder then : MemFolder) (old new : Cases) (more : A
       ]
 
   pub lost_there : Loses change (files_of folder) old new → (left : Files) → may_find folder old left → may_find then new left
-  lost_there loses left (inl e) = inr (subst (Contains (lefts_of new)) (sym e) loses.as_they_are)
+  lost_there loses left (inl e) = search rules
   lost_there loses left (inr has) = inr (loses.without left has)
 
   pub made_there : Loses change (files_of folder) old new → files_of then ≡ made change (files_of folder)
@@ -65,7 +65,7 @@ module _ (change : Change) (folder then : MemFolder) (old new : Cases) (more : A
   made_there loses is left (inr has) = inr (loses.also left has)
 
   pub keeps_lost : new.room ≡ old.room → (HasRoom new → Loses change (files_of folder) old new) → KeepsCases (may_find folder old) (may_find then new) old new
-  keeps_lost room loses = record { room = room; no_fewer = no_fewer more; there = λ has. lost_there (loses has) }
+  keeps_lost room loses = search (rules, no_fewer, lost_there)
 
 pub called_leaves : {A E : Type 0} {call : Call} {a : Files} (outcome : Result A E) {b : Files} → Called call a outcome b → Leaves call a b
 called_leaves {call} {a} (Ok x) {b} h = leaves_moves call a b (h.before ++ Again ∷ h.rest) h.left
@@ -129,7 +129,7 @@ left_of_bytes {name} folder then old new first bytes own = left_both (left_early
   each left (inr has) = bytes left has
 
 pub front_of_appended : (held bytes : List ℕ) {n k : ℕ} → k ≤ n → take (length held + k) (held ++ take n bytes) ≡ held ++ take k bytes
-front_of_appended held bytes {n} {k} le = take-append-add held (take n bytes) k ∙ ap (λ l. held ++ l) (take-take k n bytes le)
+front_of_appended held bytes {n} {k} le = search (rules, take-append-add, take-take)
 
 pub bytes_after : {name holds : List ℕ} {held : ℕ} {before : Files → Type 0} {folder : MemFolder} (then : MemFolder) {old mid new : Cases}
     → KeepsCases before (may_find folder mid) old mid → length (lefts_of mid) ≤ length (lefts_of new) → new.room ≡ mid.room
@@ -153,7 +153,7 @@ pub actions_then : (a : Files) {b c : Files} → (actions : List Action) × (b �
 actions_then a first then = (first.0 ++ then.0, then.1 ∙ (ap (all_acted then.0) first.1 ∙ sym (all_acted-append first.0 then.0 a)))
 
 pub keeps_none : (folder : MemFolder) {cases : Cases} → KeepsCases (may_find folder cases) (may_find folder cases) cases cases
-keeps_none folder = record { room = refl; no_fewer = omega arith; there = λ room left may. may }
+keeps_none folder = search (rules, no_fewer)
 
 pub keeps_on : {a b c : Files → Type 0} {old mid new : Cases} → KeepsCases a b old mid → KeepsCases b c mid new → KeepsCases a c old new
 keeps_on {mid} first then = grind (arith, no_fewer)
