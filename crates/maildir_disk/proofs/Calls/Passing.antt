@@ -1,18 +1,10 @@
 -- What follows from what is assumed of a system.
-use Rattle.std.proofs.Common.{◌≡◌, ◌⊎◌, inl, inr, ℕ, ◌+◌, ◌%◌, ◌==◌, true, false, cond, ◌≤◌, ◌<◌, List, []}
-use Rattle.std.proofs.Common.{◌∷◌, ◌++◌, map, append_assoc, refl, sym, ◌∙◌, ap, subst, arith, IsPermutation}
-use Rattle.std.specs.Prelude.{Result, Ok, Err, IsErr, Option}
-use Rattle.std.specs.declared.vec.Vec.{Vec}
-use Rattle.std.specs.declared.string.String.{String}
-use Rattle.std.specs.declared.alloc.Global.{Global}
-use Rattle.std.specs.FinMap.{keys}
-use Rattle.maildir_run.specs.declared.folder.Sub.{Sub}
-use Rattle.maildir_run.specs.Files.{Files, Action, acted, all_acted}
-use Rattle.maildir_run.specs.Calls.{Call, Listing, Move, Other, Again, moved, after, folder_of, IsWhole, Lists, Listed, AnyMoves}
+use Rattle.std.proofs.Common.{◌≡◌, inl, inr, ℕ, ◌+◌, ◌≤◌, ◌<◌, List, [], ◌∷◌, ◌++◌, map, append_assoc, refl, sym, ◌∙◌, ap}
+use Rattle.std.proofs.Common.{subst, arith, IsPermutation, Result, Ok, Err, IsErr, Option, Vec, String, Global, rules}
+use Rattle.maildir_disk.proofs.Common.{keys, Sub, Files, Action, acted, all_acted, Call, Listing, Move, Other, Again, moved, after, folder_of, IsWhole, Lists}
+use Rattle.maildir_disk.proofs.Common.{Listed, AnyMoves, IsSettled, IsFarAhead, World, margin_of, IsOfChange, Acts, Passes, IsStampWithin, ReadsNames}
 use Rattle.maildir_disk.specs.declared.one_moment.Look.{Look}
-use Rattle.maildir_disk.specs.Look.{IsSettled, IsFarAhead}
 use Rattle.maildir_disk.specs.Private.Look.{LookGives, Watched, WatchedOr}
-use Rattle.maildir_disk.specs.World.{World, margin_of, IsOfChange, Acts, Passes, IsStampWithin, ReadsNames}
 
 pub all_acted-append : (xs ys : List Action) (s : Files) → all_acted (xs ++ ys) s ≡ all_acted ys (all_acted xs s)
 all_acted-append [] ys s = refl
@@ -44,32 +36,14 @@ acts_on {a} p q =
 
 -- no time passes
 pub passes_none : {sub : Sub} {a : World} → Passes sub a a
-passes_none = record { acts = acts_none; later = omega arith; stamp_is = inl refl }
+passes_none = search (rules, acts_none)
 
 -- a stamp of a change in a part of a time is one of a change in all of it
 pub longer : {s t u v stamp : ℕ} → s ≤ t → u ≤ v → IsOfChange t u stamp → IsOfChange s v stamp
-longer before after change = record {
-  time = change.time;
-  no_earlier = omega (arith, change.no_earlier, before);
-  no_later = omega (arith, change.no_later, after);
-  less_behind = change.less_behind;
-  less_ahead = change.less_ahead;
-}
+longer before after change = grind arith
 
 pub passes_on : {sub : Sub} {a b c : World} → Passes sub a b → Passes sub b c → Passes sub a c
-passes_on {a} {c} p q =
-    record {
-      acts = acts_on p.acts q.acts;
-      later = omega (arith, p.later, q.later);
-      stamp_is = elim q.stamp_is [
-        | inr change ↦ inr (longer p.later (omega arith) change)
-        | inl same ↦
-            elim p.stamp_is [
-              | inl alike ↦ inl (same ∙ alike)
-              | inr change ↦ inr (subst (IsOfChange a.time c.time) (sym same) (longer (omega arith) q.later change))
-            ]
-      ];
-    }
+passes_on {a} {c} p q = grind (arith, acts_on, longer)
 
 -- a look that failed
 pub looked_fault : {E : Type 0} (sub : Sub) {a b : World} (outcome : Result Look E) → IsErr outcome → Acts a b → LookGives sub a outcome b
@@ -112,7 +86,7 @@ lists_at {sub} {a} {b} {names} p q are =
 -- names as of a moment of a later part of the call
 others_first : (xs : List Action) (call : Call) (ns : List Move) (a : Files) {b : Files}
     → b ≡ all_acted xs a → after a call (map Other xs ++ ns) ≡ after b call ns
-others_first xs call ns a e = after-append call (map Other xs) ns a ∙ ap (λ s. after s call ns) (after-others xs call a ∙ sym e)
+others_first xs call ns a e = grind (arith, after-append, after-others)
 
 others_then_whole : (xs : List Action) (ns : List Move) → IsWhole ns → IsWhole (map Other xs ++ ns)
 others_then_whole [] ns whole = whole
@@ -138,32 +112,17 @@ lists_later {sub} {a} {names} p lists =
 pub watched : {sub : Sub} {b c d : World} {names : List (List ℕ)} {stamp : ℕ} → Passes sub b c
     → Passes sub c d → ReadsNames sub b names c → IsStampWithin sub c stamp d → Watched sub stamp b names d
 watched p q (inl exact) tells = record { acts = acts_on p.acts q.acts; are = inl exact }
-watched {sub} {b} {c} {d} {stamp} p q (inr change) tells =
-    let same : (tells.moment.stamp_of sub ≡ c.stamp_of sub) ⊎ IsOfChange c.time tells.moment.time (tells.moment.stamp_of sub) = tells.before.stamp_is in
-    let here : IsOfChange b.time d.time stamp =
-    elim same [
-      | inl e ↦ subst (IsOfChange b.time d.time) (sym (tells.is ∙ e)) (longer (omega arith) q.later change)
-      | inr since ↦ subst (IsOfChange b.time d.time) (sym tells.is) (longer p.later tells.rest.later since)
-    ] in
-    record { acts = acts_on p.acts q.acts; are = inr here }
+watched {sub} {b} {c} {d} {stamp} p q (inr change) tells = grind (arith, longer, acts_on)
 
 -- what was read is exact where the stamp was settled before the reading
 pub exact_if_settled : {sub : Sub} {b d : World} {names : List (List ℕ)} {now stamp : ℕ} → IsSettled stamp now
     → now ≤ b.time → Watched sub stamp b names d → IsPermutation names (keys (folder_of sub b.files))
-exact_if_settled settled le w =
-    elim w.are [
-      | inl exact ↦ exact
-      | inr change ↦ absurd (omega (arith, settled, le, change.no_earlier, change.less_behind))
-    ]
+exact_if_settled settled le w = grind arith
 
 -- and where it was far ahead of the clock after the reading
 pub exact_if_ahead : {sub : Sub} {b d : World} {names : List (List ℕ)} {later stamp : ℕ} → IsFarAhead stamp later
     → d.time ≤ later → Watched sub stamp b names d → IsPermutation names (keys (folder_of sub b.files))
-exact_if_ahead ahead le w =
-    elim w.are [
-      | inl exact ↦ exact
-      | inr change ↦ absurd (omega (arith, ahead, le, change.no_later, change.less_ahead))
-    ]
+exact_if_ahead ahead le w = grind arith
 
 pub within : (time : ℕ) → time < time + margin_of time
-within time = elim (time % 1_000_000_000 == 0) as (λ t. time < time + cond t 2_050_000_000 50_000_000) [ true ↦ omega arith | false ↦ omega arith ]
+within time = grind arith

@@ -1,20 +1,13 @@
 -- A write that comes in pieces, between which other programs act, is one write at the moment when its file was made.
-use Rattle.std.proofs.Common.{◌≡◌, ◌⊎◌, inl, inr, ℕ, Bool, true, false, cond, not, List, [], ◌∷◌, ◌++◌, map, Option, Some, None, refl, sym, ◌∙◌, ap}
-use Rattle.std.specs.Prelude.{IsErr, Result, Ok, Err, take}
-use Rattle.std.specs.declared.io.Error.{Error}
-use Rattle.std.specs.FinMap.{get, insert, remove, get-insert, get-remove, same_map}
-use Rattle.std.proofs.lemmas.Bool.{cases_Bool, false_from_ne_true}
-use Rattle.maildir_name.specs.Names.{is_converter_name}
-use Rattle.maildir_run.specs.Files.{Files, FileMap, is_name, KeepsConverters, Action, ToCur, Reflag, DropTmp}
-use Rattle.maildir_run.specs.Files.{Outside, outsiders_of, may_take, to_cur, reflag, acted, all_acted}
-use Rattle.maildir_run.specs.Calls.{Call, Writing, Other, Again, Torn, after, effect, IsOthers, Succeeded, AnyMoves, Called}
-use Rattle.maildir_run.proofs.Names.Maps.{total, same, alike, is_name-true, get-insert_same}
+use Rattle.std.proofs.Common.{◌≡◌, ◌⊎◌, inl, inr, ℕ, Bool, true, false, cond, not, List, [], ◌∷◌, ◌++◌, map, Option, Some, None, refl, sym, ◌∙◌, ap, IsErr}
+use Rattle.std.proofs.Common.{Result, Ok, Err, take, arith, rules}
+use Rattle.maildir_disk.proofs.Common.{Error, get, insert, remove, get-insert, get-remove, same_map, cases_Bool, false_from_ne_true, is_converter_name, Files}
+use Rattle.maildir_disk.proofs.Common.{FileMap, is_name, KeepsConverters, Action, ToCur, Reflag, DropTmp, Outside, outsiders_of}
+use Rattle.maildir_disk.proofs.Common.{acted, all_acted, Call, Writing, Other, Again, Torn, after, effect, IsOthers, Succeeded, AnyMoves, Called, total, same}
+use Rattle.maildir_disk.proofs.Common.{alike, is_name-true, get-insert_same, get-outsiders_of, World, Acts, Comes, rewritten, changed, Created, Appended}
+use Rattle.maildir_disk.proofs.Common.{Written}
 use Rattle.maildir_run.proofs.Call.Outsiders.{outside_reaches, get-outsiders_other}
-use Rattle.maildir_run.proofs.Call.Homes.{get-outsiders_of}
 use Rattle.maildir_disk.proofs.Calls.Passing.{all_acted-append, after-others, after-append, others_whole, acts_on}
-use Rattle.maildir_disk.specs.World.{World, Acts}
-use Rattle.maildir_disk.specs.Writing.{Comes, rewritten, changed, Created, Appended}
-use Rattle.maildir_disk.specs.Private.Writing.{Written}
 
 -- ---- a change of one file, name by name
 abbrev mapped : Bool → (List ℕ → List ℕ) → Option (List ℕ) → Option (List ℕ)
@@ -33,11 +26,7 @@ there change some = refl
 
 get-rewritten : (m : FileMap) (name : List ℕ) (change : List ℕ → List ℕ) (q : List ℕ)
     → get (rewritten m name change (get m name)) q ≡ mapped (is_name q name) change (get m q)
-get-rewritten m name change q =
-    elim (get m name) as (λ o. get m name ≡ o → get (rewritten m name change o) q ≡ mapped (is_name q name) change (get m q)) [
-      | None ↦ λ has. not_there change (λ e. ap (get m) (is_name-true q name e) ∙ has)
-      | Some held ↦ λ has. get-insert total m name (change held) q ∙ there change (λ e. ap (get m) (is_name-true q name e) ∙ has)
-    ] refl
+get-rewritten m name change q = grind (arith, not_there, is_name-true, get-insert, total, there)
 
 -- ---- `tmp` after an action
 abbrev acted_on : Action → FileMap → FileMap
@@ -55,22 +44,9 @@ either_apart true r s m = refl
 either_apart false r s m = refl
 
 acted_apart : (a : Action) (s : Files) (m : FileMap) → acted a (record s { tmp = m }) ≡ record (acted a s) { tmp = acted_on a m }
-acted_apart (ToCur name target) s m =
-    elim (get s.new name) as (λ o. to_cur (record s { tmp = m }) name target o ≡ record (to_cur s name target o) { tmp = m }) [
-      | None ↦ refl
-      | Some bytes ↦ either_apart (may_take s.cur name target) (record s { new = remove s.new name; cur = insert s.cur target bytes }) s m
-    ]
-acted_apart (Reflag name target) s m =
-    elim (get s.cur name) as (λ o. reflag (record s { tmp = m }) name target o ≡ record (reflag s name target o) { tmp = m }) [
-      | None ↦ refl
-      | Some bytes ↦ either_apart (may_take s.cur name target) (record s { cur = insert (remove s.cur name) target bytes }) s m
-    ]
-acted_apart (DropTmp name) s m =
-    elim (is_converter_name name) as (λ t. cond t (record s { tmp = remove m name }) (record s { tmp = m })
-    ≡ record (cond t (record s { tmp = remove s.tmp name }) s) { tmp = cond t (remove m name) m }) [
-      | true ↦ refl
-      | false ↦ refl
-    ]
+acted_apart (ToCur name target) s m = grind (arith, either_apart)
+acted_apart (Reflag name target) s m = grind (arith, either_apart)
+acted_apart (DropTmp name) s m = grind arith
 acted_apart (Outside files) s m = refl
 
 -- ---- a change of a converter's file and an action, in either order
@@ -106,12 +82,7 @@ change_then_act : (a : Action) (m : FileMap) (name : List ℕ) (change : List �
     → rewritten (acted_on a m) name change (get (acted_on a m) name) ≡ acted_on a (rewritten m name change (get m name))
 change_then_act (ToCur from to) m name change ours = refl
 change_then_act (Reflag from to) m name change ours = refl
-change_then_act (DropTmp other) m name change ours =
-    elim (is_converter_name other) as (λ t. rewritten (cond t (remove m other) m) name change (get (cond t (remove m other) m) name)
-    ≡ cond t (remove (rewritten m name change (get m name)) other) (rewritten m name change (get m name))) [
-      | true ↦ change_then_remove m name other change
-      | false ↦ refl
-    ]
+change_then_act (DropTmp other) m name change ours = search (rules, change_then_remove)
 change_then_act (Outside files) m name change ours = change_then_outside m files.tmp name change ours
 
 acted_then_changed : (a : Action) (name : List ℕ) (change : List ℕ → List ℕ) (s : Files)
@@ -124,8 +95,7 @@ acted_then_changed a name change s ours =
 all_acted_then_changed : (xs : List Action) (name : List ℕ) (change : List ℕ → List ℕ) (s : Files)
     → is_converter_name name ≡ true → changed name change (all_acted xs s) ≡ all_acted xs (changed name change s)
 all_acted_then_changed [] name change s ours = refl
-all_acted_then_changed (a ∷ xs) name change s ours =
-    all_acted_then_changed xs name change (acted a s) ours ∙ ap (all_acted xs) (acted_then_changed a name change s ours)
+all_acted_then_changed (a ∷ xs) name change s ours = grind (arith, all_acted_then_changed xs name change (acted a s) ours, acted_then_changed)
 
 -- two files of one name, one after the other
 pub again : {X : Type 0} (here : Bool) (x y : Option X) (z : Option X) → cond here x (cond here y z) ≡ cond here x z
@@ -142,9 +112,7 @@ insert_again m name a b =
 
 pub changed_again : (name held : List ℕ) (change : List ℕ → List ℕ) (s : Files)
     → changed name change (effect (Writing name held) s) ≡ effect (Writing name (change held)) s
-changed_again name held change s =
-    ap (λ o. record s { tmp = rewritten (insert s.tmp name held) name change o }) (get-insert_same s.tmp name held)
-    ∙ ap (λ m. record s { tmp = m }) (insert_again s.tmp name held (change held))
+changed_again name held change s = grind (arith, get-insert_same, insert_again)
 
 -- ---- under a name that is no converter's each step of a write is an action of another program
 as_action : {s t : Files} → KeepsConverters s t → t ≡ acted (Outside t) s
@@ -183,9 +151,6 @@ comes_acts {step} {a} leaves comes =
     }
 
 -- ---- a write, step by step
-pub written_created : (name : List ℕ) {a b : World} → Comes (effect (Writing name [])) a b → Written name [] a b
-written_created name comes = inl comes
-
 comes_on : {step : Files → Files} {a b c : World} → Comes step a b → Acts b c → Comes step a c
 comes_on comes acts = record {
   before = comes.before;
@@ -230,9 +195,7 @@ others_only (a ∷ xs) = others_only xs
 
 with_effect : (call : Call) (xs ys : List Action) (s : Files)
     → after s call (map Other xs ++ Again ∷ map Other ys) ≡ all_acted ys (effect call (all_acted xs s))
-with_effect call xs ys s =
-    after-append call (map Other xs) (Again ∷ map Other ys) s
-    ∙ (ap (λ t. after (effect call t) call (map Other ys)) (after-others xs call s) ∙ after-others ys call _)
+with_effect call xs ys s = grind (arith, after-append, after-others)
 
 pub write_succeeded : {name bytes : List ℕ} {a b : World} → Written name bytes a b → Succeeded (Writing name bytes) a.files b.files
 write_succeeded {name} {bytes} {a} (inl comes) = record {
@@ -258,10 +221,7 @@ write_succeeded {name} {bytes} {a} {b} (inr other) =
 
 with_torn : (name whole bytes : List ℕ) (xs ys : List Action) (s : Files)
     → after s (Writing name whole) (map Other xs ++ Torn bytes ∷ map Other ys) ≡ all_acted ys (effect (Writing name bytes) (all_acted xs s))
-with_torn name whole bytes xs ys s =
-    let call = Writing name whole in
-    after-append call (map Other xs) (Torn bytes ∷ map Other ys) s
-    ∙ (ap (λ t. after (effect (Writing name bytes) t) call (map Other ys)) (after-others xs call s) ∙ after-others ys call _)
+with_torn name whole bytes xs ys s = grind (arith, after-append, after-others)
 
 pub acts_failed : {call : Call} {a b : World} → Acts a b → AnyMoves call a.files b.files
 acts_failed {call} {a} acts = record { moves = map Other acts.actions; left = acts.files_are ∙ sym (after-others acts.actions call a.files) }
@@ -308,16 +268,15 @@ appended_fault name bytes (Ok _) is_err acts = cc
 appended_fault name bytes (Err _) is_err acts = inl acts
 
 pub not_changed : (name : List ℕ) (change : List ℕ → List ℕ) {s : Files} → get s.tmp name ≡ None → s ≡ changed name change s
-not_changed name change {s} none = ap (λ o. record s { tmp = rewritten s.tmp name change o }) (sym none)
+not_changed name change {s} none = search rules
 
 pub changed_by_write : (name : List ℕ) {held : List ℕ} (change : List ℕ → List ℕ) (s : Files)
     → get s.tmp name ≡ Some held → effect (Writing name (change held)) s ≡ changed name change s
-changed_by_write name change s has = ap (λ o. record s { tmp = rewritten s.tmp name change o }) (sym has)
+changed_by_write name change s has = search rules
 
 pub comes_to_none : (name : List ℕ) (change : List ℕ → List ℕ) {a b : World} → Acts a b → get b.files.tmp name ≡ None → Comes (changed name change) a b
-comes_to_none name change acts none = record { before = acts.actions; rest = []; left = not_changed name change none ∙ ap (changed name change) acts.files_are }
+comes_to_none name change acts none = grind (arith, not_changed)
 
 pub comes_by_write : (name : List ℕ) {held : List ℕ} (change : List ℕ → List ℕ) {a b c : World} → Acts a b
     → get b.files.tmp name ≡ Some held → c.files ≡ effect (Writing name (change held)) b.files → Comes (changed name change) a c
-comes_by_write name change {b} acts has written =
-    record { before = acts.actions; rest = []; left = written ∙ (changed_by_write name change b.files has ∙ ap (changed name change) acts.files_are) }
+comes_by_write name change {b} acts has written = grind (arith, changed_by_write)

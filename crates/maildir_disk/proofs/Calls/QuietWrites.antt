@@ -1,11 +1,6 @@
 -- A write that comes in pieces while no other program acts.
-use Rattle.std.proofs.Common.{◌≡◌, inl, inr, ℕ, List, [], ◌∷◌, ◌++◌, refl, ◌∙◌, ap}
-use Rattle.std.specs.Prelude.{IsErr, Result, Ok, Err, take}
-use Rattle.std.specs.declared.io.Error.{Error}
-use Rattle.maildir_run.specs.Files.{Files}
-use Rattle.maildir_run.specs.Calls.{Writing, Move, Other, Again, Torn, after, effect, IsOwn, CalledQuietly}
-use Rattle.maildir_disk.specs.Quiet.{AppendedQuietly}
-use Rattle.maildir_disk.specs.Writing.{changed}
+use Rattle.std.proofs.Common.{◌≡◌, inl, inr, ℕ, List, [], ◌∷◌, ◌++◌, refl, ◌∙◌, IsErr, Result, Ok, Err, take, rules}
+use Rattle.maildir_disk.proofs.Common.{Error, Files, Writing, Move, Other, Again, Torn, after, effect, IsOwn, CalledQuietly, AppendedQuietly, changed}
 use Rattle.maildir_disk.proofs.Calls.Pieces.{changed_again}
 
 -- what a write of other bytes would do, as if it were torn
@@ -48,7 +43,7 @@ written_quietly name bytes old (Err _) left = torn_quietly name bytes bytes old 
 
 pub grown_quietly : (name held : List ℕ) (change : List ℕ → List ℕ) (old : Files) {mid new : Files}
     → mid ≡ effect (Writing name held) old → new ≡ changed name change mid → new ≡ effect (Writing name (change held)) old
-grown_quietly name held change old had made = made ∙ (ap (changed name change) had ∙ changed_again name held change old)
+grown_quietly name held change old had made = search (rules, changed_again)
 
 pub appended_quietly : (name held piece bytes : List ℕ) (old : Files) {mid : Files} (new : Files) (outcome : Result ℕ Error)
     → mid ≡ effect (Writing name held) old → AppendedQuietly name piece mid outcome new → WriteEndedEarly name bytes old new

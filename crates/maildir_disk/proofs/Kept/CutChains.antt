@@ -1,24 +1,14 @@
 -- What runs over any of several texts, actions, syncs and power cuts leave that follow one another.
-use Rattle.std.proofs.Common.{◌≡◌, ℕ, true, List, [], ◌∷◌, ◌++◌, map, get_or, All, Any, Contains}
-use Rattle.std.proofs.Common.{IsTrue, IsPermutation, Result, Ok, refl, sym, ◌∙◌, ap, subst, inl, inr}
-use Rattle.std.proofs.lemmas.Bool.{cases_Bool}
-use Rattle.std.proofs.lemmas.List.Elements.{All-contains, All-cons, All-head, All-nil, Contains-append_right, Contains-get_or}
+use Rattle.std.proofs.Common.{◌≡◌, ℕ, true, List, [], ◌∷◌, ◌++◌, map, get_or, All, Any, Contains, IsTrue, IsPermutation, Result, Ok, refl, sym, ◌∙◌, ap, subst}
+use Rattle.std.proofs.Common.{inl, inr, arith, rules}
+use Rattle.maildir_disk.proofs.Common.{cases_Bool, All-contains, All-cons, All-head, All-nil, Contains-append_right, Contains-get_or, is_converter_base}
+use Rattle.maildir_disk.proofs.Common.{RunFault, Report, Message, HasHome, IsMissing, IsHome, IsSoundAt, Delivered, is_any, is_base_of, Sub, Files, Action}
+use Rattle.maildir_disk.proofs.Common.{acted, all_acted, homes, is_name, Keeps, IsRun, chain_fold, chain_keeps, chain_map, chain_parts, sound_now, acted_kept}
+use Rattle.maildir_disk.proofs.Common.{is_name-true, text_named, text_distinct, homes_none, homes_one, IsCut, IsIntact, HasBody, KeepsNames, FilesAndLeft}
+use Rattle.maildir_disk.proofs.Common.{Event, Ran, Acted, Cut, Happens, Happen, Syncs}
 use Rattle.std.proofs.lemmas.List.Folds.{Any-from_list_any}
 use Rattle.std.proofs.lemmas.List.Sorted.{IsPermutation-trans}
-use Rattle.maildir_name.specs.Names.{is_converter_base}
-use Rattle.maildir_run.specs.declared.fault.RunFault.{RunFault}
-use Rattle.maildir_run.specs.declared.report.Report.{Report}
-use Rattle.maildir_run.specs.Delivery.{Message, HasHome, IsMissing, IsHome, IsSoundAt, Delivered, is_any, is_base_of}
-use Rattle.maildir_run.specs.declared.folder.Sub.{Sub}
-use Rattle.maildir_run.specs.Files.{Files, Action, acted, all_acted, homes, is_name}
-use Rattle.maildir_run.specs.Runs.{Keeps, IsRun}
 use Rattle.maildir_run.specs.Several.{Mailbox, IsMailbox, OfEach}
-use Rattle.maildir_run.proofs.Chains.Chains.{chain_fold, chain_keeps, chain_map, chain_parts, sound_now}
-use Rattle.maildir_run.proofs.Call.Homes.{acted_kept}
-use Rattle.maildir_run.proofs.Names.Maps.{is_name-true}
-use Rattle.maildir_run.proofs.Chains.MessageLemmas.{text_named, text_distinct}
-use Rattle.maildir_run.proofs.Call.Moves.{homes_none, homes_one}
-use Rattle.maildir_disk.specs.PowerCuts.{IsCut, IsIntact, HasBody, KeepsNames, FilesAndLeft, Event, Ran, Acted, Cut, Happens, Happen, Syncs}
 use Rattle.maildir_disk.specs.Private.SeveralCuts.{event_over}
 use Rattle.maildir_disk.specs.SeveralCuts.{EventOver, RanOver, ActedOver, SyncedOver, CutOver, HappensOver, HappenOver, AreNew}
 use Rattle.maildir_disk.proofs.Left.SingleHomes.{single_sound, single_home}
@@ -43,7 +33,7 @@ pub record IsSafeAt (moment : FilesAndLeft) (m : Message) : Type 0 where
 
 on_same : (n m : Message) (s : Files) → n.target.base ≡ m.target.base → n.body ≡ m.body → IsSoundAt s n → IsSoundAt s m
 on_same n m s base body (inl none) = inl (subst (λ b. homes s b ≡ []) base none)
-on_same n m s base body (inr home) = inr (subst (λ b. homes s b ≡ m.body ∷ []) base (subst (λ x. homes s n.target.base ≡ x ∷ []) body home))
+on_same n m s base body (inr home) = grind arith
 
 pub moved_sound : (m : Message) (s t : Files) → IsPermutation (homes s m.target.base) (homes t m.target.base) → IsSoundAt s m → IsSoundAt t m
 moved_sound m s t kept (inl none) = inl (homes_none m.target.base s t kept none)
@@ -95,18 +85,17 @@ module _ (texts : List Mailbox) where
   Stand moment = OfEach (StandsAt moment) texts
 
   of_text : {text : Mailbox} → Contains texts text → (moment : FilesAndLeft) → Stand moment → All (StandsAt moment) text.messages
-  of_text {text} among moment stand = All-contains (λ (t : Mailbox). All (StandsAt moment) t.messages) texts text stand among
+  of_text {text} among moment stand = search (rules, All-contains)
 
   -- ---- one event, and one message
   module _ (m : Message) (known : Known texts m) where
     alike_in : {text : Mailbox} → Contains texts text → All (λ n. n.target.base ≡ m.target.base → n.body ≡ m.body) text.messages
-    alike_in {text} among =
-        All-contains (λ (t : Mailbox). All (λ (n : Message). n.target.base ≡ m.target.base → n.body ≡ m.body) t.messages) texts text known.alike among
+    alike_in {text} among = grind (arith, All-contains)
 
     -- a sync of one folder
     kept_on : (P : Files → Type 0) → ((actions : List Action) (s : Files) → P s → P (all_acted actions s))
         → {sub : Sub} {s before t left : Files} → KeepsNames sub s before t left → P s → P t
-    kept_on P on {s} keeps at = subst P (sym keeps.new_is) (on keeps.rest keeps.moment (subst P (sym keeps.moment_is) (on keeps.actions s at)))
+    kept_on P on {s} keeps at = grind arith
 
     kept_holds : {sub : Sub} {s before t left : Files} → KeepsNames sub s before t left → SteadyAt m.target.base m.body before left
     kept_holds {before} {left} keeps =
@@ -181,10 +170,7 @@ module _ (texts : List Mailbox) where
   -- ---- chains
   module _ (are : All IsMailbox texts) (alike : OfEach (λ m. OfEach (λ n. n.target.base ≡ m.target.base → n.body ≡ m.body) texts) texts) where
     known : OfEach (Known texts) texts
-    known k d below j e inside = record {
-      named = text_named (get_or texts k d).bytes (get_or texts k d).messages (are k d below).are (are k d below).small j e inside;
-      alike = alike k d below j e inside;
-    }
+    known k d below j e inside = grind (arith, text_named)
 
     stand_after : (event : EventOver) (old new : FilesAndLeft) → Stand old → HappensOver texts event old new → Stand new
     stand_after event old new stand happens k d below j e inside =
@@ -258,7 +244,7 @@ happens_over text Cut old new happens = happens
 
 happen_over : (text : Mailbox) (events : List Event) (old new : FilesAndLeft)
     → Happen text.bytes events old new → HappenOver (text ∷ []) (map (event_over text) events) old new
-happen_over text = chain_map (Happens text.bytes) (HappensOver (text ∷ [])) (event_over text) (happens_over text)
+happen_over text = grind (arith, chain_map, happens_over)
 
 only_text : (text : Mailbox) (P : Mailbox → Type 0) → P text → All P (text ∷ [])
 only_text text P h = All-cons P text [] h (All-nil P)

@@ -1,17 +1,9 @@
 -- A run, and then a sync: what they leave of the messages of other texts.
-use Rattle.std.proofs.Common.{◌≡◌, ℕ, ◌<◌, ◌^◌, List, length, get_or, All, Result, sym, subst}
-use Rattle.maildir_run.specs.declared.fault.RunFault.{RunFault}
-use Rattle.maildir_run.specs.declared.report.Report.{Report}
-use Rattle.maildir_run.specs.Cuts.{Follows}
-use Rattle.maildir_run.specs.Delivery.{Message, AreNamed, IsHome, IsSoundAt}
-use Rattle.maildir_run.specs.Files.{Files, Action, all_acted}
-use Rattle.maildir_run.specs.Runs.{IsRun}
+use Rattle.std.proofs.Common.{◌≡◌, ℕ, ◌<◌, ◌^◌, List, length, get_or, All, Result, sym, subst, rules}
+use Rattle.maildir_disk.proofs.Common.{RunFault, Report, Follows, Message, AreNamed, IsHome, IsSoundAt, Files, Action, all_acted, IsRun, MessagesOf, sound_now}
+use Rattle.maildir_disk.proofs.Common.{AreAlike, LeftByOthers, World, Acts}
 use Rattle.maildir_run.specs.Tasks.{Listings, Performs, leaving, planned_tasks}
-use Rattle.maildir_run.specs.Texts.{MessagesOf}
-use Rattle.maildir_run.proofs.Chains.Chains.{sound_now}
 use Rattle.maildir_disk.specs.Others.{Stays}
-use Rattle.maildir_disk.specs.PowerCuts.{AreAlike, LeftByOthers}
-use Rattle.maildir_disk.specs.World.{World, Acts}
 use Rattle.maildir_disk.proofs.Kept.CutChains.{kept_by_run, still_sound}
 use Rattle.maildir_disk.proofs.Left.LeftHomes.{all_beside, all_bodies, all_intact}
 use Rattle.maildir_disk.proofs.Left.LeftTasks.{texts_hold}
@@ -33,7 +25,7 @@ stays_acted others named actions old new before now are left = record {
 
 stays_beside : {others : List Message} → AreNamed others → {old new : World} {before now : Files → Type 0}
     → Acts old new → Follows LeftByOthers before now → Stays others old.files before new.files now
-stays_beside {others} named {old} {new} {before} {now} acts left = stays_acted others named acts.actions old.files new.files before now acts.files_are left
+stays_beside {others} named {old} {new} {before} {now} acts left = search (rules, stays_acted)
 
 -- one after the other
 pub stays_then : (others : List Message) (r : Files) (a : Files → Type 0) (s : Files) (b : Files → Type 0) (t : Files) (c : Files → Type 0)

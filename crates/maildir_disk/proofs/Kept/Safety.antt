@@ -1,18 +1,8 @@
 -- A run, and then a sync: what a cut leaves of the run's messages.
-use Rattle.std.proofs.Common.{ℕ, ◌<◌, ◌^◌, List, length, get_or, All, Ok, Result, OnOk, subst, sym}
-use Rattle.std.specs.Prelude.{IsOk}
-use Rattle.maildir_run.specs.declared.fault.RunFault.{RunFault}
-use Rattle.maildir_run.specs.declared.report.Report.{Report}
-use Rattle.maildir_run.specs.Cuts.{Follows}
-use Rattle.maildir_run.specs.Delivery.{Message, AreNamed, IsHome, IsSoundAt}
-use Rattle.maildir_run.specs.Files.{Files}
-use Rattle.maildir_run.specs.Runs.{ReportsMessages, IsRun}
+use Rattle.std.proofs.Common.{ℕ, ◌<◌, ◌^◌, List, length, All, Ok, Result, OnOk, IsOk, arith, rules}
+use Rattle.maildir_disk.proofs.Common.{RunFault, Report, Follows, Message, AreNamed, IsHome, IsSoundAt, Files, ReportsMessages, IsRun, MessagesOf, text_named}
+use Rattle.maildir_disk.proofs.Common.{AreAlike, AreIntact, AreSafe, LeftByOthers, Survive, Syncs, World, Acts, sound_now}
 use Rattle.maildir_run.specs.Tasks.{Listings, Performs, leaving, planned_tasks}
-use Rattle.maildir_run.specs.Texts.{MessagesOf}
-use Rattle.maildir_run.proofs.Chains.MessageLemmas.{text_named}
-use Rattle.maildir_disk.specs.PowerCuts.{AreAlike, AreIntact, AreSafe, LeftByOthers, Survive, Syncs}
-use Rattle.maildir_disk.specs.World.{World, Acts}
-use Rattle.maildir_run.proofs.Chains.Chains.{sound_now}
 use Rattle.maildir_disk.proofs.Left.Lefts.{if_ok}
 use Rattle.maildir_disk.proofs.Left.LeftHomes.{all_beside, all_bodies, all_intact}
 use Rattle.maildir_disk.proofs.Left.LeftTasks.{own_hold, texts_hold}
@@ -33,15 +23,13 @@ module _ (t : List ℕ) (ms : List Message) (are : MessagesOf t ms) (small : len
       all_bodies others was.0 left (texts_hold t ms are small was.2.0 was.0 answer left was.2.1 others named alike) (survive was.0 was.1)
 
   home_after_run : {old new : Files} {report : Report} → IsRun t old (Ok report) new → All (IsSoundAt old) ms → All (IsHome new) ms
-  home_after_run {old} run sound = (run.keeps ms are (sound_now ms old sound)).ends.delivered.homes_are
+  home_after_run {old} run sound = search (rules, sound_now)
 
   pub reports_after_run : (old new : Files) (report : Report) → IsRun t old (Ok report) new → All (IsSoundAt old) ms → ReportsMessages ms old report
   reports_after_run old new report run sound = (run.keeps ms are (sound_now ms old sound)).ends.reports
 
   home_after_others : {old new : World} → Acts old new → All (IsHome old.files) ms → All (IsHome new.files) ms
-  home_after_others {old} acts home k d below =
-      let m = get_or ms k d in
-      subst (λ s. IsHome s m) (sym acts.files_are) (still_home m (text_named t ms are small k d below) acts.actions old.files (home k d below))
+  home_after_others {old} acts home k d below = grind (arith, still_home, text_named)
 
   -- a run and a sync
   pub intact_after_both : (before between now : Files → Type 0) (answer : Result Report RunFault)

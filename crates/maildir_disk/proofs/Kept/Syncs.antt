@@ -1,28 +1,18 @@
 -- What a cut leaves after the names in `new` were kept, and then those in `cur`.
-use Rattle.std.proofs.Common.{◌≡◌, ℕ, false, List, [], ◌∷◌, ◌++◌, Option, Some, None, IsTrue, All, get_or, refl, sym, ap, subst, ◌∙◌}
-use Rattle.std.specs.List.{Contains}
-use Rattle.std.specs.FinMap.{get, contains_key}
-use Rattle.std.specs.Option.{is_some}
-use Rattle.std.proofs.lemmas.List.Elements.{Contains-append_left, Contains-append_right}
-use Rattle.maildir_name.specs.Names.{base, is_converter_name, is_converter_base}
-use Rattle.maildir_run.specs.declared.folder.Sub.{Sub}
-use Rattle.maildir_run.specs.declared.folder.Sub.TheVariants.{New, Cur}
-use Rattle.maildir_disk.specs.World.{World, Acts}
+use Rattle.std.proofs.Common.{◌≡◌, ℕ, false, List, [], ◌∷◌, ◌++◌, Option, Some, None, IsTrue, All, refl, sym, ap, subst, ◌∙◌, Contains, is_some, arith}
+use Rattle.std.proofs.Common.{rules}
+use Rattle.maildir_disk.proofs.Common.{contains_key, Contains-append_left, Contains-append_right, is_converter_name, is_converter_base, Sub, New}
+use Rattle.maildir_disk.proofs.Common.{Cur, World, Acts, Message, AreNamed, IsHome, FileMap, Files, Action, acted, all_acted, held_under, acted_kept}
+use Rattle.maildir_disk.proofs.Common.{is_name-true, homes_one, none_held, held_none, IsIntact, HasBody, KeepsNames, LeftByOthers, Syncs}
 use Rattle.maildir_disk.proofs.Calls.Passing.{all_acted-append}
 use Rattle.maildir_disk.proofs.Left.Lefts.{leaves_then}
-use Rattle.maildir_run.specs.Delivery.{Message, AreNamed, IsHome}
-use Rattle.maildir_run.specs.Files.{FileMap, Files, Action, acted, all_acted, held_under}
-use Rattle.maildir_run.proofs.Call.Homes.{acted_kept}
 use Rattle.maildir_run.proofs.Call.ListedNowhere.{all_acted_new}
-use Rattle.maildir_run.proofs.Names.Maps.{is_name-true}
-use Rattle.maildir_run.proofs.Call.Moves.{homes_one, none_held, held_none}
-use Rattle.maildir_disk.specs.PowerCuts.{IsIntact, HasBody, KeepsNames, LeftByOthers, Syncs}
 use Rattle.maildir_disk.proofs.Left.LeftHomes.{first_in, intact_on, others_hold}
 
 -- what is there, where one thing alone may be
 only : {x : List ℕ} (found : List (List ℕ)) → ((y : List ℕ) → Contains found y → y ≡ x) → (found ≡ [] → ⊥) → Contains found x
 only [] is some = absurd (some refl)
-only (y ∷ found) is some = subst (Contains (y ∷ found)) (is y (first_in found)) (first_in found)
+only (y ∷ found) is some = search (rules, first_in)
 
 none_if_not_some : (o : Option (List ℕ)) → is_some o ≡ false → o ≡ None
 none_if_not_some None e = refl
@@ -34,20 +24,13 @@ module _ (m : Message) (named : IsTrue (is_converter_base m.target.base)) where
   Alike there moment = (name : List ℕ) → IsTrue (is_converter_name name) → contains_key there name ≡ contains_key moment name
 
   none_alike : (there moment : FileMap) → Alike there moment → held_under m.target.base there ≡ [] → held_under m.target.base moment ≡ []
-  none_alike there moment alike none =
-      held_none m.target.base moment (λ q on.
-      let ours : IsTrue (is_converter_name q) = ap is_converter_base (sym (is_name-true m.target.base (base q) on)) ∙ named in
-      none_if_not_some (get moment q) (sym (alike q ours) ∙ ap is_some (none_held m.target.base there none q on)))
+  none_alike there moment alike none = grind (arith, held_none, is_name-true, none_if_not_some, none_held)
 
   found_new : (moment there : Files) → Alike there.new moment.new → IsIntact there m → (held_under m.target.base moment.new ≡ [] → ⊥) → HasBody there m
-  found_new moment there alike intact some =
-      Contains-append_left _ _ m.body
-      (only (held_under m.target.base there.new) (λ y h. intact y (Contains-append_left _ _ y h)) (λ none. some (none_alike there.new moment.new alike none)))
+  found_new moment there alike intact some = search (rules, Contains-append_left, only, none_alike)
 
   found_cur : (moment there : Files) → Alike there.cur moment.cur → IsIntact there m → (held_under m.target.base moment.cur ≡ [] → ⊥) → HasBody there m
-  found_cur moment there alike intact some =
-      Contains-append_right _ _ m.body
-      (only (held_under m.target.base there.cur) (λ y h. intact y (Contains-append_right _ _ y h)) (λ none. some (none_alike there.cur moment.cur alike none)))
+  found_cur moment there alike intact some = search (rules, Contains-append_right, only, none_alike)
 
   pub still_home : (actions : List Action) (s : Files) → IsHome s m → IsHome (all_acted actions s) m
   still_home [] s home = home
@@ -80,8 +63,7 @@ module _ (m : Message) (named : IsTrue (is_converter_base m.target.base)) where
 
 pub synced_bodies : (ms : List Message) → AreNamed ms → {old before new left : Files}
     → All (IsHome old) ms → All (IsIntact before) ms → Syncs old before new left → All (HasBody left) ms
-synced_bodies ms named home intact syncs k d below =
-    kept_names (get_or ms k d) (named k d below) (home k d below) (intact k d below) syncs.first syncs.then
+synced_bodies ms named home intact syncs k d below = search (rules, kept_names)
 
 -- names that were kept, and then what others did
 pub kept_later : {sub : Sub} {s before : Files} {t u : World} {mid left : Files}

@@ -1,24 +1,16 @@
 -- What a cut leaves of the files of one base, from one move to the next.
-use Rattle.std.proofs.Common.{◌≡◌, ℕ, true, false, cond, zero, suc, List, [], ◌∷◌, ◌++◌, ◌⊎◌, Option, Some, None}
-use Rattle.std.proofs.Common.{All, get_or, IsPermutation, IsTrue, refl, sym, ap, subst, ◌∙◌, inl, inr, arith}
-use Rattle.std.specs.List.{Contains}
-use Rattle.std.specs.FinMap.{get, insert, remove, get-insert, get-remove, same_map}
-use Rattle.std.proofs.lemmas.Bool.{cases_Bool, and_parts}
-use Rattle.std.proofs.lemmas.List.Elements.{Contains-push, Contains-append_left, Contains-append_right, Contains-append_cases}
+use Rattle.std.proofs.Common.{◌≡◌, ℕ, true, false, cond, zero, suc, List, [], ◌∷◌, ◌++◌, ◌⊎◌, Option, Some, None, All, get_or, IsPermutation, IsTrue, refl, sym}
+use Rattle.std.proofs.Common.{ap, subst, ◌∙◌, inl, inr, arith, Contains, rules}
+use Rattle.maildir_disk.proofs.Common.{get, insert, remove, get-insert, get-remove, same_map, cases_Bool, and_parts, Contains-push, Contains-append_left}
+use Rattle.maildir_disk.proofs.Common.{Contains-append_right, Contains-append_cases, Place, is_converter_name, is_converter_base, FileMap, Files, is_name}
+use Rattle.maildir_disk.proofs.Common.{has_base, held_under, homes, Action, ToCur, Reflag, DropTmp, Outside, may_take, acted, Call, Writing, Placing, Move}
+use Rattle.maildir_disk.proofs.Common.{Other, Again, Torn, placed, moved, PlacesElsewhere, StaysOrGoes, Leaves, IsFoundWhole, Came, Doubled, linked, doubled}
+use Rattle.maildir_disk.proofs.Common.{left_after, Message, AreNamed, total, same, is_name-true, get-insert_same, absent, acted_kept, equally}
+use Rattle.maildir_disk.proofs.Common.{held-insert_other, held-insert_new, held-remove_old, after_kept, after_tmp, IsIntact, HasBody, LeftByOthers}
 use Rattle.std.proofs.lemmas.List.Sorted.{IsPermutation-sym, Contains-permutation}
-use Rattle.maildir_name.specs.declared.target.Place.{Place}
 use Rattle.maildir_name.specs.declared.target.Place.TheVariants.{New, Cur}
-use Rattle.maildir_name.specs.Names.{is_converter_name, is_converter_base}
-use Rattle.maildir_run.specs.Files.{FileMap, Files, is_name, has_base, held_under, homes, Action, ToCur, Reflag, DropTmp, Outside, may_take, acted}
-use Rattle.maildir_run.specs.Calls.{Call, Writing, Placing, Move, Other, Again, Torn, placed, moved, PlacesElsewhere, StaysOrGoes}
-use Rattle.maildir_run.specs.Cuts.{Leaves, IsFoundWhole, Came, Doubled, linked, doubled, left_after}
-use Rattle.maildir_run.specs.Cuts as cuts
-use Rattle.maildir_run.specs.Delivery.{Message, AreNamed}
-use Rattle.maildir_run.proofs.Names.Maps.{total, same, is_name-true, get-insert_same}
-use Rattle.maildir_run.proofs.Call.Homes.{absent, acted_kept, equally, held-insert_other, held-insert_new, held-remove_old}
-use Rattle.maildir_run.proofs.Call.Moves.{after_kept, after_tmp}
-use Rattle.maildir_disk.specs.PowerCuts.{IsIntact, HasBody, LeftByOthers}
 use Rattle.maildir_disk.proofs.Calls.Pieces.{again}
+use Rattle.maildir_run.specs.Cuts as cuts
 
 -- ---- one more element
 pub none_in : {X : Type 0} {y : X} → Contains [] y → ⊥
@@ -105,8 +97,7 @@ whole_on name x s t (inr gone) whole = λ ours held has. let e = sym gone ∙ ha
 
 linked_tmp : (s : Files) (name target : List ℕ) (o : Option (List ℕ)) → (linked s name target o).tmp ≡ s.tmp
 linked_tmp s name target None = refl
-linked_tmp s name target (Some bytes) =
-    elim (may_take s.cur name target) as (λ t. (cond t (record s { cur = insert s.cur target bytes }) s).tmp ≡ s.tmp) [ true ↦ refl | false ↦ refl ]
+linked_tmp s name target (Some bytes) = grind arith
 
 doubled_tmp : (action : Action) (s : Files) → (doubled action s).tmp ≡ s.tmp
 doubled_tmp (ToCur name target) s = linked_tmp s name target (get s.new name)
@@ -165,16 +156,14 @@ module _ (b x : List ℕ) where
       ] refl
 
   doubled_steady : (action : Action) (s : Files) → SteadyAt b x s (doubled action s)
-  doubled_steady (ToCur name target) s =
-      linked_steady s name target (get s.new name) (λ bytes on has. Contains-append_left _ _ bytes (held_in b s.new name bytes on has))
-  doubled_steady (Reflag name target) s =
-      linked_steady s name target (get s.cur name) (λ bytes on has. Contains-append_right _ _ bytes (held_in b s.cur name bytes on has))
+  doubled_steady (ToCur name target) s = search (rules, linked_steady, Contains-append_left, held_in)
+  doubled_steady (Reflag name target) s = search (rules, linked_steady, Contains-append_right, held_in)
   doubled_steady (DropTmp name) s = steady_same s
   doubled_steady (Outside files) s = steady_same s
 
   -- these bytes come under a name of the base, also one that is taken
   inserted_steady : (m : FileMap) (target : List ℕ) → has_base b target ≡ true → Steady x (held_under b m) (held_under b (insert m target x))
-  inserted_steady m target on = record { within = inserted_or b m target x on; still = λ h. inserted_in b m target x on }
+  inserted_steady m target on = search (rules, inserted_or, inserted_in)
 
   placed_steady : (s : Files) (name : List ℕ) (p : Place) (target : List ℕ) (o : Option (List ℕ))
       → has_base b target ≡ true → ((held : List ℕ) → o ≡ Some held → held ≡ x) → SteadyAt b x s (placed s name p target o)
@@ -197,7 +186,7 @@ module _ (b x : List ℕ) where
         steady_then s (doubled action s) (left_after s call (Doubled action ∷ kept)) (doubled_steady action s) (left_elsewhere call off kept (doubled action s))
 
     pub leaves_elsewhere : {call : Call} → PlacesElsewhere b call → {s t : Files} → Leaves call s t → SteadyAt b x s t
-    leaves_elsewhere {call} off {s} leaves = subst (SteadyAt b x s) (sym leaves.are) (left_elsewhere call off leaves.kept s)
+    leaves_elsewhere {call} off {s} leaves = search (rules, left_elsewhere)
 
     -- a call that places there what `tmp` has under a name, where these bytes were written
     module _ (name : List ℕ) (p : Place) (target : List ℕ) (ours : IsTrue (is_converter_name name)) (on : has_base b target ≡ true) where
@@ -218,7 +207,7 @@ module _ (b x : List ℕ) where
           (left_placing kept t (whole_on name x s t (inl (ap (λ m. get m name) (doubled_tmp action s))) whole))
 
       pub leaves_placing : {s t : Files} → IsFoundWhole (Writing name x) s → Leaves (Placing name p target) s t → SteadyAt b x s t
-      leaves_placing {s} whole leaves = subst (SteadyAt b x s) (sym leaves.are) (left_placing leaves.kept s whole)
+      leaves_placing {s} whole leaves = search (rules, left_placing)
 
 -- ---- a message, of whose base this holds
 pub intact_on : (m : Message) (s t : Files) → SteadyAt m.target.base m.body s t → IsIntact s m → IsIntact t m

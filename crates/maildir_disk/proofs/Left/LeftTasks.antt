@@ -1,26 +1,17 @@
 -- What a cut leaves of the tasks of a run.
-use Rattle.std.proofs.Common.{◌≡◌, ℕ, ◌<◌, ◌^◌, length, get_or, Bool, true, false, cond, List, [], ◌∷◌, ◌++◌}
-use Rattle.std.proofs.Common.{◌⊎◌, All, IsTrue, IsFalse, Result, Ok, Err, sym, ap, subst, ◌∙◌, inl, inr}
-use Rattle.std.proofs.lemmas.Bool.{cases_Bool, cases_order, false≢true}
+use Rattle.std.proofs.Common.{◌≡◌, ℕ, ◌<◌, ◌^◌, length, get_or, Bool, true, false, cond, List, [], ◌∷◌, ◌++◌, ◌⊎◌, All, IsTrue, IsFalse, Result, Ok, Err, sym}
+use Rattle.std.proofs.Common.{ap, subst, inl, inr, arith}
+use Rattle.maildir_disk.proofs.Common.{cases_Bool, cases_order, false≢true, All-head, All-tail, is_converter_name, is_converter_base, Writing, Placing}
+use Rattle.maildir_disk.proofs.Common.{PlacesElsewhere, Leaves, Message, AreNamed, AreDistinct, Files, is_name, has_base, MessagesOf, converters, is_name-true}
+use Rattle.maildir_disk.proofs.Common.{is_name-refl, text_named, text_targets, text_distinct, AreAlike}
 use Rattle.std.proofs.lemmas.List.{get_or_default}
-use Rattle.std.proofs.lemmas.List.Elements.{All-head, All-tail}
 use Rattle.maildir_name.specs.declared.target.Target.{Target}
-use Rattle.maildir_name.specs.Names.{base, is_converter_name, is_converter_base}
-use Rattle.maildir_run.specs.Calls.{Writing, Placing, PlacesElsewhere}
-use Rattle.maildir_run.specs.Cuts.{Leaves}
-use Rattle.maildir_run.specs.Delivery.{Message, AreNamed, AreDistinct}
-use Rattle.maildir_run.specs.Files.{Files, is_name, has_base}
 use Rattle.maildir_run.specs.Parts.{sweep_of, delivery_of, delivery_if, deliveries_of}
 use Rattle.maildir_run.specs.Plan.{is_listed}
 use Rattle.maildir_run.specs.Private.Progress.{IsTarget}
 use Rattle.maildir_run.specs.Tasks.{Task, Do, call_of, AllDone, Stopped, Performs, leaving, Listings, LeavesDone, listing_tasks, planned_tasks}
-use Rattle.maildir_run.specs.Texts.{MessagesOf}
-use Rattle.maildir_run.proofs.Call.Homes.{converters}
-use Rattle.maildir_run.proofs.Names.Maps.{is_name-true, is_name-refl}
-use Rattle.maildir_run.proofs.Chains.MessageLemmas.{text_named, text_targets, text_distinct}
 use Rattle.maildir_run.proofs.Tasks.PlanLemmas.{planned_are}
 use Rattle.maildir_run.proofs.Tasks.TaskEffects.{EachTask, PlacesNone, all_parts, stopped_parts, listings_place_none, sweep_places_none}
-use Rattle.maildir_disk.specs.PowerCuts.{AreAlike}
 use Rattle.maildir_disk.proofs.Left.LeftHomes.{SteadyAt, steady_same, steady_then, leaves_elsewhere, leaves_placing, AllHold}
 
 -- ---- the parts of a list of tasks
@@ -96,15 +87,7 @@ module _ (b x : List ℕ) (named : IsTrue (is_converter_base b)) where
       ]
 
   delivery_steady : (m : Message) → IsTarget m.target → (m.target.base ≡ b → m.body ≡ x) → AreSteady (delivery_of m.target m.body)
-  delivery_steady m is body =
-      let t = m.target in
-      let same : t.base ≡ base t.name = is_name-true _ _ is.under in
-      elim (cases_Bool (is_name b t.base)) [
-        | inl on ↦
-            subst (λ bytes. AreSteady (delivery_of t bytes)) (sym (body (sym (is_name-true b t.base on))))
-            (own_steady t (converters t.base t.base is.named is.whole) (ap (is_name b) (sym same) ∙ on))
-        | inr off ↦ other_steady t m.body (ap (is_name b) (sym same) ∙ off)
-      ]
+  delivery_steady m is body = grind (arith, is_name-true, cases_Bool, own_steady, converters, other_steady)
 
   delivery_if_steady : (shown : Bool) (m : Message) → AreSteady (delivery_of m.target m.body) → AreSteady (cond shown [] (delivery_of m.target m.body))
   delivery_if_steady true m steady = none_steady
@@ -137,7 +120,7 @@ module _ (b x : List ℕ) (named : IsTrue (is_converter_base b)) where
 
 -- ---- no two messages of a text have the same base
 differ : (m n : Message) → IsFalse (is_name m.target.base n.target.base) → m.target.base ≡ n.target.base → ⊥
-differ m n apart alike = false≢true (sym apart ∙ (ap (is_name m.target.base) (sym alike) ∙ is_name-refl m.target.base))
+differ m n apart alike = grind (arith, false≢true, is_name-refl)
 
 pub own_bodies : (ms : List Message) → AreDistinct ms → AreAlike ms ms
 own_bodies ms distinct k d below j e there =
@@ -157,7 +140,7 @@ module _ (t : List ℕ) (ms : List Message) (are : MessagesOf t ms) (small : len
   text_holds b x named bodies = run_holds b x named names ms (text_targets t ms are small) bodies before r now ran
 
   pub texts_hold : (others : List Message) → AreNamed others → AreAlike others ms → AllHold others before now
-  texts_hold others named alike k d below = text_holds (get_or others k d).target.base (get_or others k d).body (named k d below) (alike k d below)
+  texts_hold others named alike k d below = grind (arith, text_holds)
 
   pub own_hold : AllHold ms before now
   own_hold = texts_hold ms (text_named t ms are small) (own_bodies ms (text_distinct t ms are small))

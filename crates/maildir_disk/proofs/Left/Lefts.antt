@@ -1,13 +1,7 @@
 -- What a cut leaves, from one moment of a call to the next.
-use Rattle.std.proofs.Common.{◌≡◌, inl, inr, ℕ, List, [], ◌∷◌, ◌++◌, refl, sym, ◌∙◌, ap}
-use Rattle.std.specs.Prelude.{IsErr, IsOk, OnErr, OnOk, Result, Ok, Err}
-use Rattle.maildir_run.specs.declared.folder.Sub.TheVariants.{Tmp}
-use Rattle.maildir_run.specs.Calls.{Call, Listing, Writing, Other, Again, Torn, Succeeded, moved}
-use Rattle.maildir_run.specs.Cuts.{CutMove, Came, Doubled, Leaves, LeavesOf, IsFoundWhole, Follows, left_after, doubled}
-use Rattle.maildir_run.specs.Files.{Files}
-use Rattle.maildir_run.proofs.Call.Cuts.{left_as}
-use Rattle.maildir_run.proofs.Call.Moves.{writing_ok}
-use Rattle.maildir_disk.specs.PowerCuts.{LeftByOthers, KeepsHeld}
+use Rattle.std.proofs.Common.{◌≡◌, inl, inr, ℕ, List, [], ◌∷◌, ◌++◌, refl, sym, ◌∙◌, ap, IsErr, IsOk, OnErr, OnOk, Result, Ok, Err, rules}
+use Rattle.maildir_disk.proofs.Common.{Tmp, Call, Listing, Writing, Other, Again, Torn, Succeeded, moved, CutMove, Came, Doubled, Leaves, LeavesOf}
+use Rattle.maildir_disk.proofs.Common.{IsFoundWhole, Follows, left_after, doubled, Files, left_as, writing_ok, LeftByOthers, KeepsHeld}
 
 -- ---- one after the other
 left_after-append : (call : Call) (xs ys : List CutMove) (s : Files) → left_after s call (xs ++ ys) ≡ left_after (left_after s call xs) call ys
@@ -103,7 +97,7 @@ left_fault (Err e) is_err h = h
 -- nothing is to be found whole
 pub left_always : {A E : Type 0} {call : Call} (outcome : Result A E) {a b : Files → Type 0} → ((s : Files) → IsFoundWhole call s)
     → Follows (Leaves call) a b → Follows (λ before now. LeavesOf call before outcome now) a b
-left_always {call} (Ok x) {a} {b} whole h = left_as (Leaves call) _ a b (λ old new leaves. (leaves, whole new)) h
+left_always {call} (Ok x) {a} {b} whole h = search (rules, left_as)
 left_always (Err e) whole h = h
 
 -- the answer of a folder for that of the system

@@ -1,10 +1,6 @@
 -- What a cut leaves of a message where it leaves each file under one name.
-use Rattle.std.proofs.Common.{◌≡◌, ℕ, ◌≤◌, List, [], ◌∷◌, ◌⊎◌, length, IsTrue, sym, ap, inl, inr, arith, refl}
-use Rattle.std.specs.List.{Contains}
-use Rattle.maildir_name.specs.Names.{is_converter_base}
-use Rattle.maildir_run.specs.Delivery.{Message, IsHome, IsSoundAt}
-use Rattle.maildir_run.specs.Files.{Files, homes}
-use Rattle.maildir_disk.specs.PowerCuts.{IsIntact, HasBody, IsSingle}
+use Rattle.std.proofs.Common.{◌≡◌, ℕ, ◌≤◌, List, [], ◌∷◌, ◌⊎◌, length, IsTrue, ap, inl, inr, arith, refl, Contains}
+use Rattle.maildir_disk.proofs.Common.{is_converter_base, Message, IsHome, IsSoundAt, Files, homes, IsIntact, HasBody, IsSingle}
 use Rattle.maildir_disk.proofs.Left.LeftHomes.{none_in, first_in, first_or}
 
 only_one : {x : List ℕ} (ys : List (List ℕ)) → length ys ≤ 1 → ((y : List ℕ) → Contains ys y → y ≡ x) → (ys ≡ []) ⊎ (ys ≡ x ∷ [])
@@ -14,7 +10,7 @@ only_one (y ∷ z ∷ ys) few all = absurd (omega (arith, few))
 
 the_one : {x : List ℕ} (ys : List (List ℕ)) → length ys ≤ 1 → Contains ys x → ys ≡ x ∷ []
 the_one [] few has = absurd (none_in has)
-the_one (y ∷ []) few has = elim (first_or [] has) [ inl is ↦ ap (λ z. z ∷ []) (sym is) | inr none ↦ absurd (none_in none) ]
+the_one (y ∷ []) few has = grind (arith, first_or, none_in)
 the_one (y ∷ z ∷ ys) few has = absurd (omega (arith, few))
 
 at_most_one : (m : Message) (s : Files) → IsSoundAt s m → length (homes s m.target.base) ≤ 1

@@ -1,22 +1,14 @@
 -- Lists of cases: what is added, and what stays.
-use Rattle.std.proofs.Common.{◌≡◌, ◌⊎◌, ◌↔◌, ℕ, ◌+◌, ◌<◌, ◌≤◌, Bool, true, false, List, [], ◌∷◌, ◌++◌, map, take, length}
-use Rattle.std.proofs.Common.{get_or, Contains, refl, sym, ◌∙◌, ap, subst, inl, inr, append_assoc, arith, length-append}
+use Rattle.std.proofs.Common.{◌≡◌, ◌⊎◌, ◌↔◌, ℕ, ◌+◌, ◌<◌, ◌≤◌, Bool, true, false, List, [], ◌∷◌, ◌++◌, map, take, length, get_or, Contains, refl, sym, ◌∙◌, ap}
+use Rattle.std.proofs.Common.{subst, inl, inr, append_assoc, arith, length-append, rules}
+use Rattle.maildir_disk.proofs.Common.{All-append, All-cons, All-contains, All-nil, Contains-get_or, Contains-append_cases, Contains-append_left}
+use Rattle.maildir_disk.proofs.Common.{Contains-append_right, cases_lt, MemFolder, files_of, Cases, Change, Adds, IsAdded, Loses, made, nth_left, lefts_of}
+use Rattle.maildir_disk.proofs.Common.{may_find, changed, Files}
 use Rattle.std.specs.List.{items_where_true}
 use Rattle.std.specs.List.Retain.{IsFiltered, ReturnsInTurn}
-use Rattle.std.proofs.lemmas.List.Elements.{All-append, All-cons, All-contains, All-nil, Contains-get_or}
-use Rattle.std.proofs.lemmas.List.Elements.{Contains-append_cases, Contains-append_left, Contains-append_right}
 use Rattle.std.proofs.lemmas.List.{get_or_append_left, get_or_default, get_or-map, length-map, map-append}
-use Rattle.std.proofs.lemmas.Bool.{cases_lt}
-use Rattle.maildir_run.specs.declared.mem_folder.MemFolder.{MemFolder}
 use Rattle.maildir_run.specs.MemFiles.{no_files}
-use Rattle.maildir_run.specs.MemFolder.{files_of}
-use Rattle.maildir_disk.specs.declared.cases.Cases.{Cases}
-use Rattle.maildir_disk.specs.declared.cases.Change.{Change}
-use Rattle.maildir_disk.specs.Private.Cases.{Adds, IsAdded, Loses, made, nth_left}
-use Rattle.maildir_disk.specs.Cases.{lefts_of, may_find}
-use Rattle.maildir_disk.specs.Writing.{changed}
 use Rattle.maildir_disk.proofs.Left.LeftHomes.{none_in, first_in, first_or}
-use Rattle.maildir_run.specs.Files.{Files}
 
 -- ---- what is added
 pub adds_on : {P : Files → Type 0} {xs ys zs : List Files} → Adds P xs ys → Adds P ys zs → Adds P xs zs
@@ -27,16 +19,16 @@ adds_on {P} {xs} first then = record {
 }
 
 pub adds_as : {P Q : Files → Type 0} {xs ys : List Files} → Adds P xs ys → ((x : Files) → P x → Q x) → Adds Q xs ys
-adds_as adds is = record { more = adds.more; are = adds.are; each = λ k d below. is _ (adds.each k d below) }
+adds_as adds is = grind arith
 
 pub still_there : {P : Files → Type 0} {xs ys : List Files} → Adds P xs ys → {x : Files} → Contains xs x → Contains ys x
 still_there {xs} adds {x} has = subst (λ l. Contains l x) (sym adds.are) (Contains-append_left xs adds.more x has)
 
 pub no_fewer : {P : Files → Type 0} {xs ys : List Files} → Adds P xs ys → length xs ≤ length ys
-no_fewer {xs} adds = let longer = ap length adds.are ∙ length-append xs adds.more in omega (arith, longer)
+no_fewer {xs} adds = search (rules, length-append)
 
 pub same_place : {P : Files → Type 0} {xs ys : List Files} → Adds P xs ys → (k : ℕ) (d : Files) → k < length xs → get_or ys k d ≡ get_or xs k d
-same_place {xs} adds k d below = ap (λ l. get_or l k d) adds.are ∙ get_or_append_left xs adds.more d k below
+same_place {xs} adds k d below = search (rules, get_or_append_left)
 
 pub there_or_added : {P : Files → Type 0} {xs ys : List Files} → Adds P xs ys → {x : Files} → Contains ys x → Contains xs x ⊎ P x
 there_or_added {P} {xs} adds {x} has =
@@ -46,7 +38,7 @@ there_or_added {P} {xs} adds {x} has =
     ]
 
 pub adds_one : {P : Files → Type 0} {xs ys : List Files} (x : Files) → ys ≡ xs ++ x ∷ [] → P x → Adds P xs ys
-adds_one {P} x e holds = record { more = x ∷ []; are = e; each = All-cons P x [] holds (All-nil P) }
+adds_one {P} x e holds = search (rules, All-cons, All-nil)
 
 pub pushed : (folders : List MemFolder) {new : List MemFolder} (x : MemFolder)
     → new ≡ folders ++ x ∷ [] → map files_of new ≡ map files_of folders ++ files_of x ∷ []
@@ -54,7 +46,7 @@ pushed folders x e = ap (map files_of) e ∙ map-append files_of folders (x ∷ 
 
 pub nth_files : (cases : Cases) {at : ℕ} {x : MemFolder} → at < length cases.folders.items
     → x ≡ get_or cases.folders.items at x → files_of x ≡ nth_left at cases
-nth_files cases {at} {x} below is = ap files_of is ∙ sym (get_or-map files_of cases.folders.items at x no_files below)
+nth_files cases {at} {x} below is = search (rules, get_or-map)
 
 pub as_many : (cases : Cases) → length (lefts_of cases) ≡ length cases.folders.items
 as_many cases = length-map cases.folders.items files_of

@@ -1,34 +1,19 @@
 -- Changes of a Maildir in memory: what each leaves, and of which call it is.
-use Rattle.std.proofs.Common.{◌≡◌, ◌⊎◌, ◌↔◌, ◌+◌, ◌<◌, ◌≤◌, ℕ, List, [], ◌∷◌, ◌++◌, length, take, Contains, Option, Some}
-use Rattle.std.proofs.Common.{None, Result, Ok, Err, OnOk, OnErr, refl, sym, ◌∙◌, ap, subst, inl, inr, arith, string_bytes}
-use Rattle.std.specs.FinMap.{get, keys, contains_key, contains_key-keys}
-use Rattle.std.specs.List.{list_any}
+use Rattle.std.proofs.Common.{◌≡◌, ◌⊎◌, ◌↔◌, ◌+◌, ◌<◌, ◌≤◌, ℕ, List, [], ◌∷◌, ◌++◌, length, take, Contains, Option, Some, None, Result, Ok, Err, OnOk, OnErr}
+use Rattle.std.proofs.Common.{refl, sym, ◌∙◌, ap, subst, inl, inr, arith, string_bytes, take-take, rules}
+use Rattle.maildir_disk.proofs.Common.{get, keys, contains_key, contains_key-keys, Sub, Tmp, MemFolder, Call, Listing, Writing, Placing, Removing, Again, Torn}
+use Rattle.maildir_disk.proofs.Common.{Other, Called, CalledQuietly, effect, folder_of, Leaves, Follows, Came, Doubled, files_of, Files, Action, ToCur, Reflag}
+use Rattle.maildir_disk.proofs.Common.{all_acted, performed, half_performed, leaves_moves, an_action, Cases, Change, Make, Hold, Remove, Half, Adds}
+use Rattle.maildir_disk.proofs.Common.{IsAdded, KeepsCases, Loses, LosesBytes, made, HasRoom, lefts_of, may_find, KeepsNames, LeftByOthers, World, changed}
+use Rattle.maildir_disk.proofs.Common.{rewritten}
 use Rattle.std.proofs.Math.Seq.{take-append-add}
-use Rattle.std.proofs.lemmas.List.{take-take}
-use Rattle.maildir_run.specs.declared.folder.Sub.{Sub}
-use Rattle.maildir_run.specs.declared.folder.Sub.TheVariants.{Tmp}
-use Rattle.maildir_run.specs.declared.mem_folder.MemFolder.{MemFolder}
-use Rattle.maildir_run.specs.Calls.{Call, Listing, Writing, Placing, Removing, Again, Torn, Other, Called, CalledQuietly, effect, folder_of}
-use Rattle.maildir_run.specs.Cuts.{Leaves, Follows, Came, Doubled}
-use Rattle.maildir_run.specs.MemFolder.{files_of}
-use Rattle.maildir_run.specs.Files.{Files, Action, ToCur, Reflag, all_acted, is_name}
-use Rattle.maildir_run.specs.Script.{performed, half_performed}
 use Rattle.maildir_run.specs.declared.script.Act.{Act}
-use Rattle.maildir_run.specs.declared.script.Act.TheVariants as act
-use Rattle.maildir_run.proofs.Call.Cuts.{leaves_moves}
-use Rattle.maildir_run.proofs.Memory.Scripts.{an_action}
-use Rattle.maildir_disk.specs.declared.cases.Cases.{Cases}
-use Rattle.maildir_disk.specs.declared.cases.Change.{Change}
-use Rattle.maildir_disk.specs.declared.cases.Change.TheVariants.{Make, Hold, Place, Remove, Half}
-use Rattle.maildir_disk.specs.declared.cases.Change.TheVariants as change
-use Rattle.maildir_disk.specs.Private.Cases.{Adds, IsAdded, KeepsCases, Loses, LosesBytes, made}
-use Rattle.maildir_disk.specs.Cases.{HasRoom, lefts_of, may_find}
-use Rattle.maildir_disk.specs.PowerCuts.{KeepsNames, LeftByOthers}
-use Rattle.maildir_disk.specs.World.{World}
-use Rattle.maildir_disk.specs.Writing.{changed, rewritten}
+use Rattle.maildir_disk.specs.declared.cases.Change.TheVariants.{Place}
 use Rattle.maildir_disk.proofs.Memory.CaseLists.{no_fewer, there_or_added}
 use Rattle.maildir_disk.proofs.Left.Lefts.{leaves_none, leaves_then, left_both, left_early}
 use Rattle.maildir_disk.proofs.Calls.Passing.{all_acted-append}
+use Rattle.maildir_run.specs.declared.script.Act.TheVariants as act
+use Rattle.maildir_disk.specs.declared.cases.Change.TheVariants as change
 
 -- the call that a change is of; what other programs do comes in a listing
 abbrev pub call_of_change : Change → Call
@@ -71,7 +56,7 @@ module _ (change : Change) (folder then : MemFolder) (old new : Cases) (more : A
       ]
 
   pub lost_there : Loses change (files_of folder) old new → (left : Files) → may_find folder old left → may_find then new left
-  lost_there loses left (inl e) = inr (subst (Contains (lefts_of new)) (sym e) loses.as_they_are)
+  lost_there loses left (inl e) = search rules
   lost_there loses left (inr has) = inr (loses.without left has)
 
   pub made_there : Loses change (files_of folder) old new → files_of then ≡ made change (files_of folder)
@@ -80,7 +65,7 @@ module _ (change : Change) (folder then : MemFolder) (old new : Cases) (more : A
   made_there loses is left (inr has) = inr (loses.also left has)
 
   pub keeps_lost : new.room ≡ old.room → (HasRoom new → Loses change (files_of folder) old new) → KeepsCases (may_find folder old) (may_find then new) old new
-  keeps_lost room loses = record { room = room; no_fewer = no_fewer more; there = λ has. lost_there (loses has) }
+  keeps_lost room loses = search (rules, no_fewer, lost_there)
 
 pub called_leaves : {A E : Type 0} {call : Call} {a : Files} (outcome : Result A E) {b : Files} → Called call a outcome b → Leaves call a b
 called_leaves {call} {a} (Ok x) {b} h = leaves_moves call a b (h.before ++ Again ∷ h.rest) h.left
@@ -144,16 +129,13 @@ left_of_bytes {name} folder then old new first bytes own = left_both (left_early
   each left (inr has) = bytes left has
 
 pub front_of_appended : (held bytes : List ℕ) {n k : ℕ} → k ≤ n → take (length held + k) (held ++ take n bytes) ≡ held ++ take k bytes
-front_of_appended held bytes {n} {k} le = take-append-add held (take n bytes) k ∙ ap (λ l. held ++ l) (take-take k n bytes le)
+front_of_appended held bytes {n} {k} le = search (rules, take-append-add, take-take)
 
 pub bytes_after : {name holds : List ℕ} {held : ℕ} {before : Files → Type 0} {folder : MemFolder} (then : MemFolder) {old mid new : Cases}
     → KeepsCases before (may_find folder mid) old mid → length (lefts_of mid) ≤ length (lefts_of new) → new.room ≡ mid.room
     → (HasRoom new → LosesBytes name holds held folder mid new) → HasRoom new → {n : ℕ} → held < n → n ≤ length holds
     → (left : Files) → before left → may_find then new left × may_find then new (changed name (λ _. take n holds) left)
-bytes_after then {mid} keeps longer room loses has {n} above below left may =
-    let in_mid : HasRoom mid = omega (arith, has, longer, room) in
-    let there = keeps.there in_mid left may in
-    (inr ((loses has).without left there), inr ((loses has).fronts n above below left there))
+bytes_after then {mid} keeps longer room loses has {n} above below left may = grind arith
 
 -- another program's act, or what is left of it where it found no memory
 pub acts_of_act : {E : Type 0} (a : Act) (old : Files) (outcome : Result (Unit {0}) E) {new : Files}
@@ -171,16 +153,10 @@ pub actions_then : (a : Files) {b c : Files} → (actions : List Action) × (b �
 actions_then a first then = (first.0 ++ then.0, then.1 ∙ (ap (all_acted then.0) first.1 ∙ sym (all_acted-append first.0 then.0 a)))
 
 pub keeps_none : (folder : MemFolder) {cases : Cases} → KeepsCases (may_find folder cases) (may_find folder cases) cases cases
-keeps_none folder = record { room = refl; no_fewer = omega arith; there = λ room left may. may }
+keeps_none folder = search (rules, no_fewer)
 
 pub keeps_on : {a b c : Files → Type 0} {old mid new : Cases} → KeepsCases a b old mid → KeepsCases b c mid new → KeepsCases a c old new
-keeps_on {mid} first then = record {
-  room = then.room ∙ first.room;
-  no_fewer = omega (arith, first.no_fewer, then.no_fewer);
-  there = λ room left may.
-      let before : HasRoom mid = omega (arith, room, then.no_fewer, then.room) in
-      then.there room left (first.there before left may);
-}
+keeps_on {mid} first then = grind (arith, no_fewer)
 
 -- ---- syncs
 module _ (P : Files → Type 0) (folder : MemFolder) (old new : Cases)
@@ -198,7 +174,7 @@ module _ (P : Files → Type 0) (folder : MemFolder) (old new : Cases)
 
 same_names : (sub : Sub) (s t : Files) (name : List ℕ) → keys (folder_of sub s) ≡ keys (folder_of sub t)
     → contains_key (folder_of sub s) name ≡ contains_key (folder_of sub t) name
-same_names sub s t name e = contains_key-keys (folder_of sub s) name ∙ (ap (list_any (is_name name)) e ∙ sym (contains_key-keys (folder_of sub t) name))
+same_names sub s t name e = grind (arith, contains_key-keys)
 
 pub names_stayed : {sub is : Sub} → sub ≡ is → (a : World) {before : Files → Type 0} (folder : MemFolder) (old new : Cases)
     → (actions : List Action) × (files_of folder ≡ all_acted actions a.files) → Follows LeftByOthers before (may_find folder old)

@@ -1,13 +1,8 @@
 -- A placement in memory that finds no file.
 use Rattle.std.proofs.Common.{◌≡◌, inl, inr, ℕ, List, [], Option, Some, None, is_some, IsTrue, Result, Ok, Err, refl, subst, ap, ◌∙◌}
-use Rattle.std.specs.FinMap.{get}
-use Rattle.maildir_name.specs.declared.target.Place.{Place}
+use Rattle.maildir_disk.proofs.Common.{get, Place, MemFolder, Placing, FollowsScript, IsQuiet, files_of, next_call, acts_at, all_performed}
 use Rattle.maildir_run.specs.declared.folder.FolderFault.{FolderFault}
 use Rattle.maildir_run.specs.declared.folder.FolderFault.TheVariants.{Absent}
-use Rattle.maildir_run.specs.declared.mem_folder.MemFolder.{MemFolder}
-use Rattle.maildir_run.specs.Calls.{Placing}
-use Rattle.maildir_run.specs.MemFolder.{FollowsScript, IsQuiet, files_of, next_call}
-use Rattle.maildir_run.specs.Script.{acts_at, all_performed}
 use Rattle.maildir_disk.specs.Placing.{WasGone}
 
 none_if_not : {X : Type 0} (o : Option X) → ¬ IsTrue (is_some o) → o ≡ None

@@ -1,4 +1,4 @@
-use Rattle.maildir_run.proofs.Chains.Chains.{sound_now}
+use Rattle.maildir_disk.proofs.Common.{sound_now}
 use Rattle.maildir_disk.proofs.Kept.CutChains.{cuts_stand}
 use Rattle.maildir_disk.proofs.cuts.after_any_cuts.Goals as goal
 

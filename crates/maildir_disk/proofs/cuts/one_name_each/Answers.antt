@@ -1,11 +1,9 @@
-use Rattle.std.proofs.Common.{get_or}
+use Rattle.std.proofs.Common.{arith, rules}
 use Rattle.maildir_disk.proofs.Left.SingleHomes.{single_sound, single_home}
 use Rattle.maildir_disk.proofs.cuts.one_name_each.Goals as goal
 
 pub returns-clause-sound : goal.returns-clause-sound
-returns-clause-sound c = λ ms s left named sound intact single k d below.
-    single_sound (get_or ms k d) (named k d below) s left (sound k d below) (intact k d below) single
+returns-clause-sound c = search (rules, single_sound)
 
 pub returns-clause-home : goal.returns-clause-home
-returns-clause-home c = λ ms s left named home bodies single k d below.
-    single_home (get_or ms k d) (named k d below) s left (home k d below) (bodies k d below) single
+returns-clause-home c = grind (arith, single_home)

@@ -1,12 +1,7 @@
-use Rattle.std.proofs.Common.{◌≡◌, ◌∙◌, ℕ, ◌≤◌, [], ◌∷◌, length, refl, sym, inl, inr, arith, IsPermutation, Some, None}
-use Rattle.std.specs.Prelude.{min, max}
+use Rattle.std.proofs.Common.{◌≡◌, ◌∙◌, ℕ, ◌≤◌, [], ◌∷◌, length, refl, sym, inl, inr, arith, IsPermutation, Some, None, min, max}
+use Rattle.maildir_disk.proofs.Common.{empty, insert, keys, entries, get, get-entries, FileMap, get-insert_same, World, IsOfChange, IsSettled, IsFarAhead}
 use Rattle.std.proofs.lemmas.List.{length-map, nil_from_length}
 use Rattle.std.proofs.lemmas.List.Sorted.{length_permutation}
-use Rattle.std.specs.FinMap.{empty, insert, keys, entries, get, get-entries}
-use Rattle.maildir_run.specs.Files.{FileMap}
-use Rattle.maildir_run.proofs.Names.Maps.{get-insert_same}
-use Rattle.maildir_disk.specs.World.{World, IsOfChange}
-use Rattle.maildir_disk.specs.Look.{IsSettled, IsFarAhead}
 use Rattle.maildir_disk.proofs.Calls.Passing.{within}
 use Rattle.maildir_disk.proofs.laws.no_shorter_wait.Goals as goal
 

@@ -1,7 +1,4 @@
-use Rattle.maildir_run.specs.Cuts.{Follows}
-use Rattle.maildir_disk.specs.Quiet.{SameFiles}
-use Rattle.maildir_disk.specs.PowerCuts.{LeftByOthers}
-use Rattle.maildir_disk.specs.World.{Acts}
+use Rattle.maildir_disk.proofs.Common.{Follows, SameFiles, LeftByOthers, Acts}
 use Rattle.maildir_disk.proofs.one_moment.names_of_one_moment.Given as goal
 
 -- the system stays honest, and nothing but other programs acted; where it is quiet, it stays so, and none did

@@ -1,15 +1,12 @@
 use Rattle.std.proofs.Common.{◌≡◌, subst, arith}
+use Rattle.maildir_disk.proofs.Common.{system_time_nanos, IsStampWithin}
 use Rattle.std.proofs.lemmas.Grind.{common_steps}
-use Rattle.std.specs.Time.{system_time_nanos}
-use Rattle.maildir_disk.specs.World.{IsStampWithin}
 use Rattle.maildir_disk.proofs.Calls.Passing.{acts_on, watched_fault, watched}
 use Rattle.maildir_disk.proofs.Left.Lefts.{left_by_others_then}
 use Rattle.maildir_disk.proofs.one_moment.watched_names.Goals as goal
 
 pub returns-in_err-after-clause-watched : goal.returns-in_err-after-clause-watched
-returns-in_err-after-clause-watched g c = λ honest.
-    let read = c.names.ensures.honest honest in
-    watched_fault c.args.sub _ _ c.from_residual-in_err-after.ensures.0 (acts_on (c.names.ensures.passes honest).acts (c.stamp.ensures.passes read).acts)
+returns-in_err-after-clause-watched g c = grind (arith, watched_fault, acts_on)
 
 pub returns-then-eq-clause-watched : goal.returns-then-eq-clause-watched
 returns-then-eq-clause-watched g c = λ honest.
@@ -22,9 +19,7 @@ returns-then-eq-clause-watched g c = λ honest.
     watched (c.names.ensures.passes honest) (c.stamp.ensures.passes read) (c.in_ok-names.ensures.names honest) tells
 
 pub returns-else-eq-clause-watched : goal.returns-else-eq-clause-watched
-returns-else-eq-clause-watched g c = λ honest.
-    let read = c.names.ensures.honest honest in
-    acts_on (c.names.ensures.passes honest).acts (c.stamp.ensures.passes read).acts
+returns-else-eq-clause-watched g c = grind (arith, acts_on)
 
 pub returns-in_err-after-clause-left : goal.returns-in_err-after-clause-left
 returns-in_err-after-clause-left g c = λ honest. left_by_others_then (c.names.ensures.left honest) (c.stamp.ensures.left (c.names.ensures.honest honest))

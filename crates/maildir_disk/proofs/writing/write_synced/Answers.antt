@@ -1,15 +1,14 @@
-use Rattle.std.proofs.Common.{rules, arith, inl, inr, ℕ, List, ◌≡◌, ◌∙◌, sym, ap, ◌++◌, ◌+◌, ◌-◌, length, take, drop}
-use Rattle.std.proofs.lemmas.List.{take_all, length-drop}
+use Rattle.std.proofs.Common.{rules, arith, inl, inr, ℕ, List, ◌≡◌, ◌∙◌, ◌++◌, ◌+◌, ◌-◌, length, take, drop, take_all, length-drop}
 use Rattle.std.proofs.Math.Seq.{take-add}
 use Rattle.maildir_disk.proofs.Left.Lefts.{left_both, left_more, left_fault, left_torn, left_written}
 use Rattle.maildir_disk.proofs.Calls.Pieces.{written_on, written_changed, write_called, write_succeeded, not_created, append_failed, write_failed}
 use Rattle.maildir_disk.proofs.Calls.QuietWrites.{grown_quietly, not_created_quietly, written_quietly, appended_quietly, torn_quietly}
-use Rattle.maildir_disk.proofs.writing.write_synced.Goals as goal
 use Rattle.maildir_disk.proofs.writing.write_synced.Goals.{in-Ok, in-Err+else-ne}
+use Rattle.maildir_disk.proofs.writing.write_synced.Goals as goal
 
 -- a front of the bytes, and then one of the rest
 taken : (bytes : List ℕ) (at n : ℕ) → take at bytes ++ take n (take (length bytes - at) (drop at bytes)) ≡ take (at + n) bytes
-taken bytes at n = ap (λ rest. take at bytes ++ take n rest) (take_all _ _ (omega (arith, length-drop at bytes))) ∙ sym (take-add at n bytes)
+taken bytes at n = grind (arith, take_all, length-drop, take-add)
 
 pub loop-init : goal.loop-init
 loop-init g c = record {
@@ -84,8 +83,7 @@ loop-preserved g c =
 
 -- ---- what is reported
 pub returns-in_err-file-clause-called : goal.returns-in_err-file-clause-called
-returns-in_err-file-clause-called g c = λ honest.
-    not_created c.args.name.now c.args.bytes.now _ c.from_residual.ensures.0 (c.in_err-file.ensures.created honest)
+returns-in_err-file-clause-called g c = grind (arith, not_created)
 
 pub returns-then-at-bytes-clause-called : goal.returns-then-at-bytes-clause-called
 returns-then-at-bytes-clause-called g c = λ honest.
@@ -134,14 +132,10 @@ returns-clause-left g c = λ honest. left_torn (c.loop.invariant.written honest)
 
 -- ---- in a quiet system
 pub returns-in_err-file-clause-quietly : goal.returns-in_err-file-clause-quietly
-returns-in_err-file-clause-quietly g c = λ quiet.
-    not_created_quietly c.args.name.now c.args.bytes.now _ _ _ c.from_residual.ensures.0 (c.in_err-file.ensures.quietly quiet)
+returns-in_err-file-clause-quietly g c = grind (arith, not_created_quietly)
 
 pub returns-then-at-bytes-clause-quietly : goal.returns-then-at-bytes-clause-quietly
-returns-then-at-bytes-clause-quietly g c = λ quiet.
-    let kept = c.loop.invariant.quietly quiet in
-    let all = rw (take_all c.loop.at c.args.bytes.now (search rules)) at kept.holds in
-    written_quietly c.args.name.now c.args.bytes.now _ c.sync_file.result (c.sync_file.ensures.quietly kept.quiet ∙ all)
+returns-then-at-bytes-clause-quietly g c = grind (arith, take_all, written_quietly)
 
 pub returns-in-Ok-eq0-clause-quietly : goal.returns-in-Ok-eq0-clause-quietly
 returns-in-Ok-eq0-clause-quietly g c = λ quiet.

@@ -1,7 +1,5 @@
 use Rattle.std.proofs.Common.{◌≡◌, ◌≤◌, [], length, take}
-use Rattle.maildir_run.specs.Calls.{Writing, effect}
-use Rattle.maildir_run.specs.Cuts.{Leaves, Follows}
-use Rattle.maildir_disk.specs.Private.Writing.{Written}
+use Rattle.maildir_disk.proofs.Common.{Writing, effect, Leaves, Follows, Written}
 use Rattle.maildir_disk.proofs.writing.write_synced.Given as goal
 
 -- the file holds a front of the bytes, as if it had come into it when the file was made; where the system is quiet, nothing else has changed

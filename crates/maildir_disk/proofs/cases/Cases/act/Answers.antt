@@ -1,7 +1,5 @@
 use Rattle.std.proofs.Common.{[], refl, ap, ◌∙◌}
-use Rattle.maildir_run.specs.MemFolder.{files_of}
-use Rattle.maildir_run.specs.Script.{performed}
-use Rattle.maildir_run.proofs.Memory.Scripts.{one_more}
+use Rattle.maildir_disk.proofs.Common.{files_of, performed, one_more}
 use Rattle.maildir_disk.proofs.Memory.Changes.{actions_then, keeps_none, keeps_on}
 use Rattle.maildir_disk.proofs.Left.Lefts.{left_none, left_by_others_then}
 use Rattle.maildir_disk.proofs.cases.Cases.act.Goals as goal

@@ -1,11 +1,5 @@
 use Rattle.std.proofs.Common.{◌≡◌, List, take}
-use Rattle.maildir_run.specs.Cuts.{Follows}
-use Rattle.maildir_run.specs.Files.{Action, all_acted}
-use Rattle.maildir_run.specs.MemFolder.{SameScript, files_of}
-use Rattle.maildir_run.specs.Script.{all_performed}
-use Rattle.maildir_disk.specs.Private.Cases.{KeepsCases}
-use Rattle.maildir_disk.specs.Cases.{may_find}
-use Rattle.maildir_disk.specs.PowerCuts.{LeftByOthers}
+use Rattle.maildir_disk.proofs.Common.{Follows, Action, all_acted, SameScript, files_of, all_performed, KeepsCases, may_find, LeftByOthers}
 use Rattle.maildir_disk.proofs.cases.Cases.act.Given as goal
 
 abbrev pub invariant-loop-act : goal.invariant-loop-act

@@ -1,5 +1,6 @@
-use Rattle.maildir_run.specs.MemFolder.{files_of}
-use Rattle.maildir_disk.specs.declared.cases.Change.TheVariants.{Half, Other}
+use Rattle.std.proofs.Common.{arith}
+use Rattle.maildir_disk.proofs.Common.{Half}
+use Rattle.maildir_disk.specs.declared.cases.Change.TheVariants.{Other}
 use Rattle.maildir_disk.proofs.Memory.Changes.{acts_of_act, acted_leaves, keeps_lost, keeps_on, left_by_change}
 use Rattle.maildir_disk.proofs.Left.Lefts.{leaves_none, on_ok, left_by_others_then}
 use Rattle.maildir_disk.proofs.cases.Cases.act_once.Goals as goal
@@ -16,7 +17,7 @@ returns-in_err-may_lose-2-clause-left c =
     (left_by_change (Other c.args.act) folder folder c.may_lose.new.self c.may_lose-2.new.self c.may_lose-2.ensures.more leaves_none)
 
 pub returns-clause-acts : goal.returns-clause-acts
-returns-clause-acts c = acts_of_act c.args.act.now (files_of c.args.folder.now) c.act.result c.act.ensures.ok c.act.ensures.err
+returns-clause-acts c = grind (arith, acts_of_act)
 
 pub returns-clause-left : goal.returns-clause-left
 returns-clause-left c =

@@ -1,5 +1,5 @@
 use Rattle.std.proofs.Common.{refl}
-use Rattle.maildir_run.specs.MemFolder.{files_of}
+use Rattle.maildir_disk.proofs.Common.{files_of}
 use Rattle.maildir_disk.proofs.Memory.CaseLists.{adds_one, pushed}
 use Rattle.maildir_disk.proofs.cases.Cases.add.Goals as goal
 

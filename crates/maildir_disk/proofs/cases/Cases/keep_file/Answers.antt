@@ -1,6 +1,5 @@
 use Rattle.std.proofs.Common.{◌≡◌, rules}
-use Rattle.std.specs.FinMap.{get}
-use Rattle.maildir_run.specs.MemFolder.{files_of}
+use Rattle.maildir_disk.proofs.Common.{get, files_of}
 use Rattle.maildir_disk.proofs.Memory.CaseLists.{stays}
 use Rattle.maildir_disk.proofs.cases.Cases.keep_file.Goals as goal
 

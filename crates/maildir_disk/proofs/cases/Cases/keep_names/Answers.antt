@@ -1,7 +1,5 @@
 use Rattle.std.proofs.Common.{◌≡◌, rules}
-use Rattle.std.specs.FinMap.{keys}
-use Rattle.maildir_run.specs.Calls.{folder_of}
-use Rattle.maildir_run.specs.MemFolder.{files_of}
+use Rattle.maildir_disk.proofs.Common.{keys, folder_of, files_of}
 use Rattle.maildir_disk.proofs.Memory.CaseLists.{stays}
 use Rattle.maildir_disk.proofs.cases.Cases.keep_names.Goals as goal
 

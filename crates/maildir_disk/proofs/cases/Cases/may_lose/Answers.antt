@@ -1,7 +1,5 @@
 use Rattle.std.proofs.Common.{◌≡◌, ◌<◌, ◌∙◌, Contains, length, arith}
-use Rattle.maildir_run.specs.MemFolder.{files_of}
-use Rattle.maildir_disk.specs.Cases.{HasRoom, lefts_of}
-use Rattle.maildir_disk.specs.Private.Cases.{Loses}
+use Rattle.maildir_disk.proofs.Common.{files_of, HasRoom, lefts_of, Loses}
 use Rattle.maildir_disk.proofs.Memory.CaseLists.{all_lost, all_more, as_many, no_fewer, one_more, one_more_with, with_more}
 use Rattle.maildir_disk.proofs.Left.Lefts.{ok_then}
 use Rattle.maildir_disk.proofs.cases.Cases.may_lose.Goals as goal
@@ -29,7 +27,7 @@ loop-at-preserved c =
     }
 
 pub returns-in_err-copy-clause-more : goal.returns-in_err-copy-clause-more
-returns-in_err-copy-clause-more c = with_more c.args.change.now c.args.self.now c.loop-at.self (files_of c.args.folder.now) c.loop-at.invariant.more
+returns-in_err-copy-clause-more c = grind (arith, with_more)
 
 pub returns-clause-more : goal.returns-clause-more
 returns-clause-more c =

@@ -1,6 +1,5 @@
 use Rattle.std.proofs.Common.{◌≡◌}
-use Rattle.maildir_disk.specs.Private.Cases.{Adds}
-use Rattle.maildir_disk.specs.Cases.{HasRoom, lefts_of}
+use Rattle.maildir_disk.proofs.Common.{Adds, HasRoom, lefts_of}
 use Rattle.maildir_disk.proofs.Memory.CaseLists.{AreWith, With}
 use Rattle.maildir_disk.proofs.cases.Cases.may_lose.Given as goal
 

@@ -1,5 +1,5 @@
 use Rattle.std.proofs.Common.{◌≤◌, ◌∙◌, length, take, refl, inr, arith}
-use Rattle.maildir_disk.specs.Cases.{HasRoom, lefts_of}
+use Rattle.maildir_disk.proofs.Common.{HasRoom, lefts_of}
 use Rattle.maildir_disk.proofs.Memory.CaseLists.{no_fewer, one_front, still_there}
 use Rattle.maildir_disk.proofs.Memory.Changes.{left_by_bytes}
 use Rattle.maildir_disk.proofs.Left.Lefts.{leaves_none}

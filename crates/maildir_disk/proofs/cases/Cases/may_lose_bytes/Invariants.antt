@@ -1,8 +1,5 @@
 use Rattle.std.proofs.Common.{◌≡◌, ◌≤◌, [], Contains, length}
-use Rattle.maildir_run.specs.Calls.{Writing}
-use Rattle.maildir_run.specs.Cuts.{Leaves, Follows}
-use Rattle.maildir_run.specs.Files.{Files}
-use Rattle.maildir_disk.specs.Cases.{HasRoom, lefts_of, may_find}
+use Rattle.maildir_disk.proofs.Common.{Writing, Leaves, Follows, Files, HasRoom, lefts_of, may_find}
 use Rattle.maildir_disk.proofs.Memory.CaseLists.{LosesUpTo}
 use Rattle.maildir_disk.proofs.cases.Cases.may_lose_bytes.Given as goal
 

@@ -1,5 +1,5 @@
 use Rattle.std.proofs.Common.{rules}
-use Rattle.maildir_run.specs.Calls.{Listing}
+use Rattle.maildir_disk.proofs.Common.{Listing}
 use Rattle.maildir_disk.proofs.Left.Lefts.{left_always, left_early}
 use Rattle.maildir_disk.proofs.disk_folder.DiskFolderFolder.list.Goals as goal
 

@@ -1,6 +1,5 @@
 use Rattle.std.proofs.Common.{[], inl, refl}
-use Rattle.maildir_disk.specs.MemSystem.{world_of}
-use Rattle.maildir_disk.specs.World.{Passes}
+use Rattle.maildir_disk.proofs.Common.{world_of, Passes}
 use Rattle.maildir_disk.proofs.Left.Lefts.{left_none}
 use Rattle.maildir_disk.proofs.Calls.Passing.{passes_on}
 use Rattle.maildir_disk.proofs.mem_system.MemSystem.pass.Goals as goal

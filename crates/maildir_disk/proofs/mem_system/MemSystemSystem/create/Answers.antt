@@ -1,28 +1,18 @@
-use Rattle.std.proofs.Common.{◌∙◌, ap, [], inl, rules}
-use Rattle.maildir_run.specs.Calls.{Writing, effect}
+use Rattle.std.proofs.Common.{rules, arith}
+use Rattle.maildir_disk.proofs.Common.{Make, files_of, HasRoom, Loses}
 use Rattle.maildir_disk.proofs.Calls.Pieces.{created_fault}
-use Rattle.maildir_disk.specs.declared.cases.Change.TheVariants.{Make}
 use Rattle.maildir_disk.proofs.Memory.Changes.{left_made, left_unmade, lost_after}
 use Rattle.maildir_disk.proofs.Left.Lefts.{if_ok, left_early, left_none}
-use Rattle.maildir_run.specs.MemFolder.{files_of}
-use Rattle.maildir_disk.specs.Cases.{HasRoom}
-use Rattle.maildir_disk.specs.Private.Cases.{Loses}
 use Rattle.maildir_disk.proofs.mem_system.MemSystemSystem.create.Goals as goal
 
 pub returns-in_err-pass_shortly-clause-created : goal.returns-in_err-pass_shortly-clause-created
-returns-in_err-pass_shortly-clause-created c = λ honest. created_fault _ _ c.from_residual-in_err-pass_shortly.ensures.0 c.pass_shortly.ensures.acts
+returns-in_err-pass_shortly-clause-created c = grind (arith, created_fault)
 
 pub returns-in-Err-clause-created : goal.returns-in-Err-clause-created
-returns-in-Err-clause-created c = λ honest.
-    let acts = c.pass_shortly.ensures.acts in
-    let same = rw c.in-Err.is at (c.write.ensures.err (c.pass_shortly.ensures.honest honest)) in
-    inl (record { actions = acts.actions; files_are = same ∙ acts.files_are })
+returns-in-Err-clause-created c = grind arith
 
 pub returns-in-Ok-clause-created : goal.returns-in-Ok-clause-created
-returns-in-Ok-clause-created c = λ honest.
-    let acts = c.pass_shortly.ensures.acts in
-    let written = (rw c.in-Ok.is at (c.write.ensures.quietly (c.pass_shortly.ensures.honest honest))).1 in
-    record { before = acts.actions; rest = []; left = written ∙ ap (effect (Writing c.args.name.now [])) acts.files_are }
+returns-in-Ok-clause-created c = grind arith
 
 pub returns-in_err-from_str-clause-left : goal.returns-in_err-from_str-clause-left
 returns-in_err-from_str-clause-left c = λ honest. left_none

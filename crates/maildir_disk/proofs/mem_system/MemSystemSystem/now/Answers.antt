@@ -1,5 +1,5 @@
 use Rattle.std.proofs.Common.{arith}
-use Rattle.maildir_run.specs.declared.folder.Sub.TheVariants.{Tmp}
+use Rattle.maildir_disk.proofs.Common.{Tmp}
 use Rattle.maildir_disk.proofs.mem_system.MemSystemSystem.now.Goals as goal
 
 pub returns-clause-now : goal.returns-clause-now

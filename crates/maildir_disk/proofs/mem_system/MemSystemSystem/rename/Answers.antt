@@ -1,3 +1,4 @@
+use Rattle.std.proofs.Common.{arith}
 use Rattle.maildir_disk.proofs.Memory.Gone.{gone_quietly}
 use Rattle.maildir_disk.specs.declared.cases.Change.TheVariants.{Place}
 use Rattle.maildir_disk.proofs.Memory.Changes.{left_made, left_unmade}
@@ -5,9 +6,7 @@ use Rattle.maildir_disk.proofs.Left.Lefts.{left_none}
 use Rattle.maildir_disk.proofs.mem_system.MemSystemSystem.rename.Goals as goal
 
 pub returns-in-Err-clause-gone : goal.returns-in-Err-clause-gone
-returns-in-Err-clause-gone c = λ honest not_found.
-    gone_quietly c.args.self.now.folder c.place.new.self c.args.name.now c.args.place c.args.target.now c.place.result honest
-    (rw (c.error_of.ensures not_found) at c.in-Err.is) c.place.ensures.scripted
+returns-in-Err-clause-gone c = grind (arith, gone_quietly)
 
 pub returns-in_err-begin-clause-left : goal.returns-in_err-begin-clause-left
 returns-in_err-begin-clause-left c = λ honest. left_none

@@ -1,5 +1,5 @@
 use Rattle.std.proofs.Common.{refl}
-use Rattle.maildir_disk.specs.MemSystem.{world_of}
+use Rattle.maildir_disk.proofs.Common.{world_of}
 use Rattle.maildir_disk.proofs.Calls.Passing.{passes_none}
 use Rattle.maildir_disk.proofs.mem_system.MemSystemSystem.stamp.Goals as goal
 

@@ -1,7 +1,5 @@
 use Rattle.std.proofs.Common.{◌≡◌}
-use Rattle.std.specs.FinMap.{get}
-use Rattle.maildir_run.specs.Files.{Files}
-use Rattle.maildir_run.specs.MemFolder.{files_of}
+use Rattle.maildir_disk.proofs.Common.{get, Files, files_of}
 use Rattle.maildir_disk.proofs.Memory.Changes.{left_stayed}
 use Rattle.maildir_disk.proofs.Left.Lefts.{left_by_others_then}
 use Rattle.maildir_disk.proofs.mem_system.MemSystemSystem.sync_file.Goals as goal

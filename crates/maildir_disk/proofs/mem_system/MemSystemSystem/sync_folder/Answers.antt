@@ -1,9 +1,5 @@
 use Rattle.std.proofs.Common.{◌≡◌}
-use Rattle.std.specs.FinMap.{keys}
-use Rattle.maildir_run.specs.Calls.{folder_of}
-use Rattle.maildir_run.specs.Files.{Files}
-use Rattle.maildir_run.specs.MemFolder.{files_of}
-use Rattle.maildir_disk.specs.MemSystem.{world_of}
+use Rattle.maildir_disk.proofs.Common.{keys, folder_of, Files, files_of, world_of}
 use Rattle.maildir_disk.proofs.Memory.Changes.{left_stayed, names_stayed}
 use Rattle.maildir_disk.proofs.Left.Lefts.{left_by_others_then}
 use Rattle.maildir_disk.proofs.mem_system.MemSystemSystem.sync_folder.Goals as goal

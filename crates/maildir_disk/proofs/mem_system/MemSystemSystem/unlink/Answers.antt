@@ -1,10 +1,7 @@
-use Rattle.maildir_disk.specs.declared.cases.Change.TheVariants.{Remove}
+use Rattle.std.proofs.Common.{rules}
+use Rattle.maildir_disk.proofs.Common.{Remove, files_of, HasRoom, Loses}
 use Rattle.maildir_disk.proofs.Memory.Changes.{left_made, left_unmade, lost_after, keeps_none}
 use Rattle.maildir_disk.proofs.Left.Lefts.{if_ok, left_none}
-use Rattle.std.proofs.Common.{rules}
-use Rattle.maildir_run.specs.MemFolder.{files_of}
-use Rattle.maildir_disk.specs.Cases.{HasRoom}
-use Rattle.maildir_disk.specs.Private.Cases.{Loses}
 use Rattle.maildir_disk.proofs.mem_system.MemSystemSystem.unlink.Goals as goal
 
 pub returns-in_err-begin-clause-left : goal.returns-in_err-begin-clause-left
