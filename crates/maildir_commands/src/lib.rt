@@ -3,6 +3,7 @@
 
 mod command;
 mod computer;
+mod ending;
 mod fault;
 mod machine;
 mod mem_machine;
@@ -11,8 +12,9 @@ mod sources;
 mod streams;
 
 pub use computer::Computer;
+pub use ending::Ending;
 pub use fault::Fault;
 pub use machine::Machine;
 pub use mem_machine::{MemMachine, NamedText};
-pub use program::{run, tell};
+pub use program::{execute, run, tell};
 pub use sources::deliver;
