@@ -3,12 +3,12 @@ use Rattle.std.proofs.Common.{◌≡◌, ◌⊎◌, inl, inr, ℕ, Bool, true, f
 use Rattle.std.specs.Prelude.{IsErr, Result, Ok, Err, take}
 use Rattle.std.specs.declared.io.Error.{Error}
 use Rattle.std.specs.FinMap.{get, insert, remove, get-insert, get-remove, same_map}
-use Rattle.std.proofs.lemmas.Bool.{cases_Bool}
+use Rattle.std.proofs.lemmas.Bool.{cases_Bool, false_from_ne_true}
 use Rattle.maildir_name.specs.Names.{is_converter_name}
 use Rattle.maildir_run.specs.Files.{Files, FileMap, is_name, KeepsConverters, Action, ToCur, Reflag, DropTmp}
 use Rattle.maildir_run.specs.Files.{Outside, outsiders_of, may_take, to_cur, reflag, acted, all_acted}
 use Rattle.maildir_run.specs.Calls.{Call, Writing, Other, Again, Torn, after, effect, IsOthers, Succeeded, AnyMoves, Called}
-use Rattle.maildir_run.proofs.Names.Maps.{total, same, apart, is_name-true, get-insert_same}
+use Rattle.maildir_run.proofs.Names.Maps.{total, same, alike, is_name-true, get-insert_same}
 use Rattle.maildir_run.proofs.Call.Outsiders.{outside_reaches, get-outsiders_other}
 use Rattle.maildir_run.proofs.Call.Homes.{get-outsiders_of}
 use Rattle.maildir_disk.proofs.Calls.Passing.{all_acted-append, after-others, after-append, others_whole, acts_on}
@@ -45,6 +45,10 @@ acted_on (ToCur _ _) m = m
 acted_on (Reflag _ _) m = m
 acted_on (DropTmp name) m = cond (is_converter_name name) (remove m name) m
 acted_on (Outside files) m = outsiders_of m files.tmp
+
+-- a test that one name passes and another doesn't tells them apart
+apart : (p : List ℕ → Bool) (k q : List ℕ) → p k ≡ false → p q ≡ true → is_name q k ≡ false
+apart p k q off on = false_from_ne_true (is_name q k) (λ e. let same_test : p q ≡ p k = alike p q k e in cc)
 
 either_apart : (t : Bool) (r s : Files) (m : FileMap) → cond t (record r { tmp = m }) (record s { tmp = m }) ≡ record (cond t r s) { tmp = m }
 either_apart true r s m = refl
