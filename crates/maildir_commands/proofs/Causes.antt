@@ -1,6 +1,6 @@
 -- Why a command ended with a fault.
 use Rattle.std.proofs.Common.{◌≡◌, ℕ, ◌+◌, ◌<◌, ◌≤◌, ◌⊎◌, ◌^◌, List, [], ◌∷◌, ◌++◌, length, get_or, map}
-use Rattle.std.proofs.Common.{Option, Some, None, refl, sym, ap, subst, ◌∙◌, inl, inr, arith, add-one}
+use Rattle.std.proofs.Common.{Option, Some, None, Result, Ok, Err, IfErr, IsErrAnd, refl, sym, ap, subst, ◌∙◌, inl, inr, arith, add-one}
 use Rattle.std.proofs.lemmas.List.{get_or-map, length-append, length-map}
 use Rattle.std.specs.List.{Contains}
 use Rattle.mbox_text.specs.declared.entry.Entry.{Entry}
@@ -19,6 +19,11 @@ use Rattle.maildir_commands.specs.Causes.{IsCauseOf, IsInto, IsNoMbox, IsOfDeliv
 use Rattle.maildir_commands.specs.Faults.{fault_of_opening}
 use Rattle.maildir_commands.proofs.Several.{possible_whole}
 
+-- where `?` returned this fault
+pub of_fault : {T E : Type 0} (answer : Result T E) (fault : E) (P : E → Type 0) → IsErrAnd answer (λ given. given ≡ fault) → P fault → IfErr answer P
+of_fault (Ok x) fault P given is = tt
+of_fault (Err e) fault P given is = subst P (sym given) is
+
 -- ---- a run
 pub of_run : (one : (List ℕ → Type 0) → Type 0) (fault : RunFault) → (fault ≡ run.NoFromLine → one IsNoMbox)
     → (fault ≡ run.TooManyReads → one IsTooLong) → IsOfRun one (Unit {0}) fault
@@ -31,7 +36,7 @@ of_run one run.OutputFault none long = tt
 of_run one run.OutOfMemory none long = tt
 
 -- which makes no folder calls
-pub of_text : (one : (List ℕ → Type 0) → Type 0) (fault : RunFault) → IsReading fault ⊎ (fault ≡ run.OutputFault)
+of_text : (one : (List ℕ → Type 0) → Type 0) (fault : RunFault) → IsReading fault ⊎ (fault ≡ run.OutputFault)
     → (fault ≡ run.NoFromLine → one IsNoMbox) → (fault ≡ run.TooManyReads → one IsTooLong) → IsOfRun one ⊥ fault
 of_text one run.NoFromLine causes none long = none refl
 of_text one run.TooManyReads causes none long = long refl
@@ -61,7 +66,7 @@ run_weaker one other calls calls' f g run.OutputFault h = tt
 run_weaker one other calls calls' f g run.OutOfMemory h = tt
 
 -- ---- a source
-pub none_possible : (before after was is : Option (List ℕ)) → GivesNothing before after was is → IsPossibly before after IsNoMbox
+none_possible : (before after was is : Option (List ℕ)) → GivesNothing before after was is → IsPossibly before after IsNoMbox
 none_possible before after was is nothing = λ t possible entries. nothing.1 t entries possible
 
 long_enough : (before after : Option (List ℕ)) (n : ℕ) → ReadsAtLeast before after n → (t : List ℕ) → Possible before after t → n ≤ length t
@@ -82,6 +87,13 @@ long_enough (Some xs) (Some ys) n reads t p =
 
 pub long_possible : (before after : Option (List ℕ)) → ReadsAtLeast before after (2 ^ 40) → IsPossibly before after IsTooLong
 long_possible before after reads = λ t possible. long_enough before after (2 ^ 40) reads t possible
+
+-- a run that reads a text, and makes no folder calls
+pub of_reads : (before after was is : Option (List ℕ)) (fault : RunFault) → IsReading fault ⊎ (fault ≡ run.OutputFault)
+    → (fault ≡ run.NoFromLine → GivesNothing before after was is) → (fault ≡ run.TooManyReads → ReadsAtLeast before after (2 ^ 40))
+    → IsOfRun (IsPossibly before after) ⊥ fault
+of_reads before after was is fault causes none long =
+    of_text (IsPossibly before after) fault causes (λ e. none_possible before after was is (none e)) (λ e. long_possible before after (long e))
 
 pub holds_first : (file : List ℕ) (files : List (List ℕ)) → Contains (file ∷ files) file
 holds_first file files = (0, omega arith, refl)
@@ -148,6 +160,21 @@ module _ (text_of : List ℕ → List ℕ) (refuses : List ℕ → Type 0)
   of_input none into (Run fault) is =
       run_weaker (IsPossibly before after) (IsOfOne text_of before after (files_of command)) (Unit {0}) (IsInto command (λ _. Unit {0}))
       (λ P h. subst (λ names. IsOfOne text_of before after names P) (sym none) h) (λ _. into) fault is
+
+  -- a text was read, and nothing else was done
+  pub of_read_input : files_of command ≡ [] → (fault : RunFault) → IsOfRun (IsPossibly before after) ⊥ fault
+      → IsCauseOf text_of refuses refuses_maildir before after command (Run fault)
+  of_read_input none fault is =
+      run_weaker (IsPossibly before after) (IsOfOne text_of before after (files_of command)) ⊥ (IsInto command (λ _. Unit {0}))
+      (λ P h. subst (λ names. IsOfOne text_of before after names P) (sym none) h) (λ e. absurd e) fault is
+
+  pub of_read_file : (file : List ℕ) → files_of command ≡ file ∷ [] → (b a : Option (List ℕ)) (most : ℕ)
+      → b ≡ Some (text_of file) → ReadsAtMost b a most → (fault : RunFault) → IsOfRun (IsPossibly b a) ⊥ fault
+      → IsCauseOf text_of refuses refuses_maildir before after command (Run fault)
+  of_read_file file are b a most reads budget fault is =
+      run_weaker (IsPossibly b a) (IsOfOne text_of before after (files_of command)) ⊥ (IsInto command (λ _. Unit {0}))
+      (λ P h. subst (λ names. IsOfOne text_of before after names P) (sym are)
+      (of_one_file text_of refuses file [] before after b a most file (holds_first file []) reads budget P h)) (λ e. absurd e) fault is
 
   by_reason : (maildir : List ℕ) → ((P : List ℕ → Type 0) → P maildir → IsInto command P) → (reason : OpenFault) → refuses_maildir maildir reason
       → IsCauseOf text_of refuses refuses_maildir before after command (fault_of_opening reason)

@@ -1,7 +1,7 @@
 use Rattle.std.proofs.Common.{◌≡◌, ◌+◌, ◌<◌, length, get_or, Some, string_bytes, refl, sym, subst, ◌∙◌, arith}
 use Rattle.std.specs.Io.Buffered.{writer_contents}
 use Rattle.maildir_commands.specs.Report.{PrintsReports}
-use Rattle.maildir_commands.proofs.Causes.{delivered_file, holds_behind, holds_first, refused_file}
+use Rattle.maildir_commands.proofs.Causes.{delivered_file, holds_behind, holds_first, of_fault, refused_file}
 use Rattle.maildir_commands.proofs.Delivered.{all_delivered, more_delivered, stopped_delivered, then_delivered}
 use Rattle.maildir_commands.proofs.Resting.{rest_same, rest_then}
 use Rattle.maildir_commands.proofs.Reports.{more_reports}
@@ -16,7 +16,7 @@ pub returns-in_err-deliver_one-clause-delivers : goal.returns-in_err-deliver_one
 returns-in_err-deliver_one-clause-delivers g c = λ h s texts text is are fit sound.
     let inside : 0 < length texts = omega (arith, behind_length texts text _ _ are) in
     let possible = possible_whole _ _ _ _ (is ∙ first_text texts text _ _ are) c.deliver_one.ensures.budget in
-    then_delivered texts fit _ _ 0 no_text _ _ _ _ _ inside (none_printed texts _ _ sound)
+    then_delivered texts fit _ c.from_residual.result _ 0 no_text _ _ _ _ _ c.from_residual.ensures.0 inside (none_printed texts _ _ sound)
     (c.in_err-deliver_one.ensures.delivers s (get_or texts 0 no_text) (fit.are 0 no_text inside) possible (sound_of texts _ 0 no_text inside sound))
 
 -- the first text
@@ -85,7 +85,8 @@ returns-in_err-deliver_one-2-clause-delivers g c = λ h s texts text is are fit 
     cc (reads, at, kept.2 h, c.as_str.ensures.value, c.path-item.is) in
     let so_far = kept.5 h s texts text is are fit sound in
     let possible = possible_whole _ _ _ _ this c.deliver_one-in-loop-path.ensures.budget in
-    then_delivered texts fit _ _ (i + 1) no_text _ _ _ _ _ inside so_far
+    then_delivered texts fit _ c.from_residual-in_err-deliver_one-2.result _ (i + 1) no_text _ _ _ _ _
+    c.from_residual-in_err-deliver_one-2.ensures.0 inside so_far
     (c.in_err-deliver_one-2.ensures.delivers (kept.4 h s) (get_or texts (i + 1) no_text)
     (fit.are (i + 1) no_text inside) possible (sound_of texts _ (i + 1) no_text inside so_far.sound))
 
@@ -99,7 +100,8 @@ returns-in_err-source-clause-elsewhere g c = λ h word. rest_then _ _ _ (c.loop-
 
 pub returns-in_err-source-clause-delivers : goal.returns-in_err-source-clause-delivers
 returns-in_err-source-clause-delivers g c = λ h s texts text is are fit sound.
-    stopped_delivered texts fit _ _ (c.loop-path.path-index + 1) _ _ _ (c.loop-path.invariant.5 h s texts text is are fit sound)
+    stopped_delivered texts fit _ c.from_residual-in_err-source.result (c.loop-path.path-index + 1) _ _ _ c.from_residual-in_err-source.ensures.0
+    (c.loop-path.invariant.5 h s texts text is are fit sound)
 
 -- all were delivered
 pub returns-clause-delivers : goal.returns-clause-delivers
@@ -118,21 +120,24 @@ returns-in_err-source-clause-still_open g c = λ h word is_open.
 -- why it ended with a fault
 pub returns-in_err-deliver_one-clause-cause : goal.returns-in_err-deliver_one-clause-cause
 returns-in_err-deliver_one-clause-cause g c = λ h name is.
-    delivered_file (g.M.Machine.text_of c.args.machine.now) (g.M.Machine.refuses_source c.args.machine.now) name _ _ _ _ name (holds_first name _) is
-    c.deliver_one.ensures.budget _ c.in_err-deliver_one.ensures.cause
+    of_fault c.from_residual.result _ _ c.from_residual.ensures.1
+    (delivered_file (g.M.Machine.text_of c.args.machine.now) (g.M.Machine.refuses_source c.args.machine.now) name _ _ _ _ name (holds_first name _) is
+    c.deliver_one.ensures.budget _ c.in_err-deliver_one.ensures.cause)
 
 pub returns-in_err-deliver_one-2-clause-cause : goal.returns-in_err-deliver_one-2-clause-cause
 returns-in_err-deliver_one-2-clause-cause g c = λ h name is.
     let kept = c.loop-path.invariant in
     let text = g.M.Machine.text_of c.args.machine.now (string_bytes c.path-item.result) in
     let reads : g.M.Source.Read.remaining c.in_ok-source.source ≡ Some text = cc (c.in_ok-source.ensures.text (kept.1 h), kept.2 h, c.as_str.ensures.value) in
-    delivered_file (g.M.Machine.text_of c.args.machine.now) (g.M.Machine.refuses_source c.args.machine.now) name _ _ _ _ (string_bytes c.path-item.result)
+    of_fault c.from_residual-in_err-deliver_one-2.result _ _ c.from_residual-in_err-deliver_one-2.ensures.1
+    (delivered_file (g.M.Machine.text_of c.args.machine.now) (g.M.Machine.refuses_source c.args.machine.now) name _ _ _ _ (string_bytes c.path-item.result)
     (holds_behind string_bytes _ name c.loop-path.path-index c.path-item.result c.loop-path-test.true (sym c.path-item.is)) reads
-    c.deliver_one-in-loop-path.ensures.budget _ c.in_err-deliver_one-2.ensures.cause
+    c.deliver_one-in-loop-path.ensures.budget _ c.in_err-deliver_one-2.ensures.cause)
 
 pub returns-in_err-source-clause-cause : goal.returns-in_err-source-clause-cause
 returns-in_err-source-clause-cause g c = λ h name is.
     let kept = c.loop-path.invariant in
-    refused_file (g.M.Machine.text_of c.args.machine.now) (g.M.Machine.refuses_source c.args.machine.now) name _ (string_bytes c.path-item.result)
+    of_fault c.from_residual-in_err-source.result _ _ c.from_residual-in_err-source.ensures.1
+    (refused_file (g.M.Machine.text_of c.args.machine.now) (g.M.Machine.refuses_source c.args.machine.now) name _ (string_bytes c.path-item.result)
     (holds_behind string_bytes _ name c.loop-path.path-index c.path-item.result c.loop-path-test.true (sym c.path-item.is)) _ c.in_err-source.ensures.causes
-    (λ e. kept.7 h _ (subst (g.M.Machine.refuses_source c.loop-path.machine) c.as_str.ensures.value (c.in_err-source.ensures.refused (kept.1 h) e)))
+    (λ e. kept.7 h _ (subst (g.M.Machine.refuses_source c.loop-path.machine) c.as_str.ensures.value (c.in_err-source.ensures.refused (kept.1 h) e))))

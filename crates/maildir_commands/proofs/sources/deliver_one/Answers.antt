@@ -7,21 +7,18 @@ use Rattle.maildir_disk.specs.PowerCuts.{AreAlike}
 use Rattle.maildir_disk.proofs.Left.Lefts.{on_ok}
 use Rattle.maildir_commands.specs.Report.{report_line}
 use Rattle.maildir_commands.proofs.Causes.{of_output}
+use Rattle.maildir_commands.proofs.Delivered.{not_delivered}
 use Rattle.maildir_commands.proofs.Known.{of_reports}
 use Rattle.maildir_commands.proofs.Reports.{one_report}
 use Rattle.maildir_commands.proofs.Several.{front_of_all, intact_of_one, on_err, sound_of_one}
 use Rattle.maildir_commands.proofs.sources.deliver_one.Goals as goal
 
 pub returns-in_err-deliver-clause-delivers : goal.returns-in_err-deliver-clause-delivers
-returns-in_err-deliver-clause-delivers g c = λ honest text is p sound. record {
-  safe = tt;
-  line = tt;
-  known = tt;
-  stopped = c.in_err-deliver.ensures.stopped honest text.bytes text.messages is.small p is.are (sound_of_one text _ sound) (intact_of_one text _ sound);
-  stays = λ others named alike.
-      c.deliver.ensures.stays honest text.bytes text.messages others is.small p is.are
-      (sound_of_one text _ sound) named (All-head (λ (t : Mailbox). AreAlike others t.messages) text [] alike);
-}
+returns-in_err-deliver-clause-delivers g c = λ honest text is p sound.
+    not_delivered c.from_residual.result text _ _ _ _ c.from_residual.ensures.0
+    (c.in_err-deliver.ensures.stopped honest text.bytes text.messages is.small p is.are (sound_of_one text _ sound) (intact_of_one text _ sound))
+    (λ others named alike. c.deliver.ensures.stays honest text.bytes text.messages others is.small p is.are
+    (sound_of_one text _ sound) named (All-head (λ (t : Mailbox). AreAlike others t.messages) text [] alike))
 
 pub returns-clause-printed : goal.returns-clause-printed
 returns-clause-printed g c =

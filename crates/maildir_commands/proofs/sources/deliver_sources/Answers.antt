@@ -1,8 +1,9 @@
 use Rattle.std.proofs.Common.{◌≡◌, ◌<◌, ℕ, List, ◌∷◌, length, get_or, map, Some, string_bytes, sym, ap, subst, ◌∙◌, rules, arith}
 use Rattle.std.proofs.lemmas.Result.{IfErr-weaker}
 use Rattle.maildir_run.specs.Runs.{Possible}
+use Rattle.maildir_commands.specs.declared.command.Command.TheVariants.{Convert}
 use Rattle.maildir_commands.specs.Machines.{Rests, bytes_of, held}
-use Rattle.maildir_commands.proofs.Causes.{files_before, holds_first, of_files, of_input, of_maildir, refused_file}
+use Rattle.maildir_commands.proofs.Causes.{files_before, holds_first, of_fault, of_files, of_input, of_maildir, refused_file}
 use Rattle.maildir_commands.proofs.Delivered.{closed, none_delivered, one_delivered}
 use Rattle.maildir_commands.proofs.Forms.{none_named}
 use Rattle.maildir_commands.proofs.Resting.{rest_then}
@@ -11,14 +12,16 @@ use Rattle.maildir_commands.proofs.sources.deliver_sources.Goals as goal
 
 -- ---- nothing was opened
 pub returns-in_err-folder-clause-delivers : goal.returns-in_err-folder-clause-delivers
-returns-in_err-folder-clause-delivers g c = λ h texts given fit sound. none_delivered _ texts _ _ _ (c.in_err-folder.ensures.rests h)
+returns-in_err-folder-clause-delivers g c = λ h texts given fit sound. none_delivered c.from_residual.result texts _ _ _ c.from_residual.ensures.0 (c.in_err-folder.ensures.rests h)
 
 pub returns-in_err-source-clause-delivers : goal.returns-in_err-source-clause-delivers
-returns-in_err-source-clause-delivers g c = λ h texts given fit sound. none_delivered _ texts _ _ _ (c.open.ensures.rests h c.args.maildir.now)
+returns-in_err-source-clause-delivers g c = λ h texts given fit sound.
+    none_delivered c.from_residual-in_err-source.result texts _ _ _ c.from_residual-in_err-source.ensures.0 (c.open.ensures.rests h c.args.maildir.now)
 
 pub returns-in_err-folder-2-clause-delivers : goal.returns-in_err-folder-2-clause-delivers
 returns-in_err-folder-2-clause-delivers g c = λ h texts given fit sound.
-    none_delivered _ texts _ _ _ (rest_then _ _ _ (c.open.ensures.rests h c.args.maildir.now) (c.in_err-folder-2.ensures.rests (c.open.ensures.honest h)))
+    none_delivered c.from_residual-in_err-folder-2.result texts _ _ _ c.from_residual-in_err-folder-2.ensures.0
+    (rest_then _ _ _ (c.open.ensures.rests h c.args.maildir.now) (c.in_err-folder-2.ensures.rests (c.open.ensures.honest h)))
 
 pub returns-in_err-folder-2-clause-elsewhere : goal.returns-in_err-folder-2-clause-elsewhere
 returns-in_err-folder-2-clause-elsewhere g c = λ h word other.
@@ -79,29 +82,36 @@ returns-clause-delivers g c = λ h texts given fit sound.
 -- ---- why it ended with a fault
 pub returns-in_err-folder-clause-cause : goal.returns-in_err-folder-clause-cause
 returns-in_err-folder-clause-cause g c = λ h.
-    of_maildir (g.M.Machine.text_of c.args.machine.now) (g.M.Machine.refuses_source c.args.machine.now) (g.M.Machine.refuses_maildir c.args.machine.now) _ _ _
-    c.args.maildir.now (λ P is. is) _ (c.in_err-folder.ensures.refused h)
+    of_fault c.from_residual.result _ _ c.from_residual.ensures.1
+    (of_maildir (g.M.Machine.text_of c.args.machine.now) (g.M.Machine.refuses_source c.args.machine.now) (g.M.Machine.refuses_maildir c.args.machine.now)
+    (g.I.Read.remaining c.args.input.now) (g.I.Read.remaining c.args.input.now) (Convert c.args.maildir c.args.files)
+    c.args.maildir.now (λ P is. is) _ (c.in_err-folder.ensures.refused h))
 
 pub returns-in_err-source-clause-cause : goal.returns-in_err-source-clause-cause
 returns-in_err-source-clause-cause g c = λ h.
     let refuses = g.M.Machine.refuses_source c.args.machine.now in
     let first = string_bytes c.in-Some.first.now in
-    of_files (g.M.Machine.text_of c.args.machine.now) refuses (g.M.Machine.refuses_maildir c.args.machine.now) _ _ _
+    of_fault c.from_residual-in_err-source.result _ _ c.from_residual-in_err-source.ensures.1
+    (of_files (g.M.Machine.text_of c.args.machine.now) refuses (g.M.Machine.refuses_maildir c.args.machine.now)
+    (g.I.Read.remaining c.args.input.now) (g.I.Read.remaining c.args.input.now) (Convert c.args.maildir c.args.files)
     first (map string_bytes c.in-Some.rest.now) (ap (map string_bytes) c.in-Some.ensures.cases.0) tt _
     (refused_file (g.M.Machine.text_of c.args.machine.now) refuses first _ first (holds_first first _) _ c.in_err-source.ensures.causes
-    (λ e. subst refuses c.as_str.ensures.value (c.in_err-source.ensures.refused h e)))
+    (λ e. subst refuses c.as_str.ensures.value (c.in_err-source.ensures.refused h e))))
 
 pub returns-in_err-folder-2-clause-cause : goal.returns-in_err-folder-2-clause-cause
 returns-in_err-folder-2-clause-cause g c = λ h.
     let told = c.in_err-folder-2.ensures.refused (c.open.ensures.honest h) in
-    of_maildir (g.M.Machine.text_of c.args.machine.now) (g.M.Machine.refuses_source c.args.machine.now) (g.M.Machine.refuses_maildir c.args.machine.now) _ _ _
-    c.args.maildir.now (λ P is. is) _ (told.0, told.1, c.open.ensures.maildirs h c.args.maildir.now told.0 told.2)
+    of_fault c.from_residual-in_err-folder-2.result _ _ c.from_residual-in_err-folder-2.ensures.1
+    (of_maildir (g.M.Machine.text_of c.args.machine.now) (g.M.Machine.refuses_source c.args.machine.now) (g.M.Machine.refuses_maildir c.args.machine.now)
+    (g.I.Read.remaining c.args.input.now) (g.I.Read.remaining c.args.input.now) (Convert c.args.maildir c.args.files)
+    c.args.maildir.now (λ P is. is) _ (told.0, told.1, c.open.ensures.maildirs h c.args.maildir.now told.0 told.2))
 
 pub returns-in_default-clause-cause : goal.returns-in_default-clause-cause
 returns-in_default-clause-cause g c = λ h.
     let none : length c.args.files.now ≡ 0 = search rules in
     IfErr-weaker c.deliver_one-answer.result _ _ (λ fault is.
-    of_input (g.M.Machine.text_of c.args.machine.now) (g.M.Machine.refuses_source c.args.machine.now) (g.M.Machine.refuses_maildir c.args.machine.now) _ _ _
+    of_input (g.M.Machine.text_of c.args.machine.now) (g.M.Machine.refuses_source c.args.machine.now) (g.M.Machine.refuses_maildir c.args.machine.now)
+    (g.I.Read.remaining c.args.input.now) (g.I.Read.remaining c.deliver_one-answer.new.source) (Convert c.args.maildir c.args.files)
     (none_named string_bytes c.args.files.now none) tt fault is) c.deliver_one-answer.ensures.cause
 
 pub returns-clause-cause : goal.returns-clause-cause
@@ -115,7 +125,8 @@ returns-clause-cause g c = λ h.
     let reads : g.M.Source.Read.remaining c.in_ok-source.source ≡ Some (g.M.Machine.text_of c.open_folder-2.new.machine first) =
     cc (c.in_ok-source.ensures.text h, c.as_str.ensures.value, same) in
     IfErr-weaker c.deliver_each-answer.result _ _ (λ fault is.
-    of_files (g.M.Machine.text_of c.args.machine.now) (g.M.Machine.refuses_source c.args.machine.now) (g.M.Machine.refuses_maildir c.args.machine.now) _ _ _
+    of_files (g.M.Machine.text_of c.args.machine.now) (g.M.Machine.refuses_source c.args.machine.now) (g.M.Machine.refuses_maildir c.args.machine.now)
+    (g.I.Read.remaining c.args.input.now) (g.I.Read.remaining c.args.input.now) (Convert c.args.maildir c.args.files)
     first rest (ap (map string_bytes) c.in-Some.ensures.cases.0) tt fault
     (files_before _ _ _ _ (first ∷ rest) same (λ word refused. c.open.ensures.refusals h word (c.open_folder-2.ensures.refusals opened word refused)) fault is))
     (c.deliver_each-answer.ensures.cause honest first reads)
