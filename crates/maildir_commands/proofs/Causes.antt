@@ -3,7 +3,6 @@ use Rattle.std.proofs.Common.{◌≡◌, ℕ, ◌+◌, ◌<◌, ◌≤◌, ◌�
 use Rattle.std.proofs.Common.{Option, Some, None, Result, Ok, Err, IfErr, IsErrAnd, refl, sym, ap, subst, ◌∙◌, inl, inr, arith, add-one}
 use Rattle.std.proofs.lemmas.List.{get_or-map, length-append, length-map}
 use Rattle.std.specs.List.{Contains}
-use Rattle.mbox_text.specs.declared.entry.Entry.{Entry}
 use Rattle.maildir_run.specs.declared.fault.RunFault.{RunFault}
 use Rattle.maildir_run.specs.declared.fault.RunFault.TheVariants as run
 use Rattle.maildir_run.specs.declared.folder.FolderFault.TheVariants as folder
@@ -15,7 +14,8 @@ use Rattle.maildir_disk.specs.declared.faults.OpenFault.TheVariants as opening
 use Rattle.maildir_commands.specs.declared.command.Command.{Command}
 use Rattle.maildir_commands.specs.declared.fault.Fault.{Fault}
 use Rattle.maildir_commands.specs.declared.fault.Fault.TheVariants.{Source, Folder, Locked, Run}
-use Rattle.maildir_commands.specs.Causes.{IsCauseOf, IsInto, IsNoMbox, IsOfDelivery, IsOfFiles, IsOfOne, IsOfRun, IsPossibly, IsToldAs, IsTooLong, files_of}
+use Rattle.maildir_commands.specs.Causes.{IsCauseOf, IsInto, IsNoMbox, IsOfDelivery, IsOfOne, IsOfRun, IsPossibly, IsToldAs, IsTooLong, files_of}
+use Rattle.maildir_commands.specs.Private.Causes.{IsOfFiles}
 use Rattle.maildir_commands.specs.Faults.{fault_of_opening}
 use Rattle.maildir_commands.proofs.Several.{possible_whole}
 

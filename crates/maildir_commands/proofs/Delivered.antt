@@ -4,7 +4,8 @@ use Rattle.std.specs.Io.KnownBytes.{Keeps}
 use Rattle.std.proofs.KnownBytes.{Keeps-refl}
 use Rattle.maildir_run.specs.Several.{Mailbox, IsMailbox}
 use Rattle.maildir_commands.specs.Machines.{HeldMaildir, Rests, AreFit, IsSoundFor, OthersStay}
-use Rattle.maildir_commands.specs.Report.{Delivers, DeliversOne, PrintsOne}
+use Rattle.maildir_commands.specs.Private.Report.{Delivers, DeliversOne}
+use Rattle.maildir_commands.specs.Report.{PrintsOne}
 use Rattle.maildir_commands.proofs.Several.{UpTo, all_each, all_safe, no_text, none_printed, none_some, one_more, rest_all_safe}
 use Rattle.maildir_commands.proofs.Several.{rest_each, rest_some, stay_both, stay_more, stay_rest, stopped_between, then_stopped}
 

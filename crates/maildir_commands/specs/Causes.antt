@@ -1,5 +1,5 @@
 -- Why a command ended with a fault.
-use Rattle.std.specs.Prelude.{◌≡◌, ◌<◌, ◌≤◌, ◌⊎◌, ℕ, ◌+◌, ◌*◌, ◌^◌, min, List, [], ◌∷◌, Contains, length, map, string_bytes, Option, Some, None}
+use Rattle.std.specs.Prelude.{◌≡◌, ◌≤◌, ◌⊎◌, ℕ, ◌+◌, ◌*◌, ◌^◌, List, [], ◌∷◌, Contains, length, map, string_bytes, Option, Some, None}
 use Rattle.mbox_text.specs.declared.entry.Entry.{Entry}
 use Rattle.mbox_text.specs.Mbox.{Mbox}
 use Rattle.maildir_run.specs.declared.fault.RunFault.{RunFault}
@@ -14,7 +14,7 @@ use Rattle.maildir_commands.specs.declared.command.Command.TheVariants as comman
 use Rattle.maildir_commands.specs.declared.fault.Fault.{Fault}
 use Rattle.maildir_commands.specs.declared.fault.Fault.TheVariants.{Source, Folder, Locked, Run}
 use Rattle.maildir_commands.specs.Faults.{fault_of_opening}
-use Rattle.maildir_commands.specs.Private.Words.{IsOf}
+use Rattle.maildir_commands.specs.Words.{IsOf}
 
 -- the text is no mbox text
 abbrev pub IsNoMbox : List ℕ → Type 0
@@ -49,13 +49,6 @@ IsOfDelivery before after Source = ⊥
 IsOfDelivery before after Folder = ⊥
 IsOfDelivery before after Locked = ⊥
 IsOfDelivery before after (Run fault) = IsOfRun (IsPossibly before after) (Unit {0}) fault
-
--- where files were delivered, of which these may be refused
-abbrev pub IsOfFiles : (List ℕ → List ℕ) → (List ℕ → Type 0) → List (List ℕ) → Fault → Type 0
-IsOfFiles text_of refuses files Source = (name : List ℕ) × Contains files name × refuses name
-IsOfFiles text_of refuses files Folder = ⊥
-IsOfFiles text_of refuses files Locked = ⊥
-IsOfFiles text_of refuses files (Run fault) = IsOfRun (IsOfOne text_of None None files) (Unit {0}) fault
 
 -- the files that a command names
 abbrev pub files_of : Command → List (List ℕ)

@@ -1,14 +1,13 @@
 -- What is printed of a conversion.
-use Rattle.std.specs.Prelude.{◌≡◌, ◌⊎◌, ℕ, ◌-◌, ◌||◌, Bool, List, [], ◌∷◌, ◌++◌, length, take, count_by, codes, OnErr, OnOk, Option, Result}
+use Rattle.std.specs.Prelude.{◌≡◌, ℕ, ◌-◌, ◌||◌, Bool, List, [], ◌∷◌, ◌++◌, length, take, count_by, codes, Option}
 use Rattle.std.specs.Fmt.{decimal}
-use Rattle.std.specs.Io.KnownBytes.{Appends, Keeps}
+use Rattle.std.specs.Io.KnownBytes.{Appends}
 use Rattle.std.specs.List.{flat_map}
 use Rattle.mbox_text.specs.Writing.{AppendsFront}
 use Rattle.maildir_run.specs.Delivery.{is_base_of, has_home}
 use Rattle.maildir_run.specs.declared.report.Report.{Report}
 use Rattle.maildir_run.specs.Several.{Mailbox}
-use Rattle.maildir_disk.specs.PowerCuts.{AreSafe}
-use Rattle.maildir_commands.specs.Machines.{HeldMaildir, AreAllKept, AreAllSafe, AreKept, HasAlso, OthersStay}
+use Rattle.maildir_commands.specs.Machines.{HeldMaildir, AreAllKept, AreKept}
 
 -- the line with the counts of a run
 abbrev pub report_line : Report → List ℕ
@@ -66,19 +65,3 @@ pub record PrintsOne (old new : HeldMaildir) (text : Mailbox) (was is : Option (
   pub true_of : IsReportOf (has_home old.files) text report
   pub kept : AreKept text.messages new
   pub line : AppendsFront was is (report_line report)
-
--- What came of delivering the texts: with Ok they are safe and each has its line, and
--- after a fault those are safe whose lines were written; messages of others stay.
-pub record Delivers {A E : Type 0} (answer : Result A E) (texts : List Mailbox) (old new : HeldMaildir) (was is : Option (List ℕ)) : Type 0 where
-  pub safe : OnOk answer (AreAllSafe texts new)
-  pub each : OnOk answer (PrintsEach old texts was is)
-  pub some : OnErr answer (PrintsSome old new texts was is)
-  pub stay : OthersStay texts old new
-
--- What came of delivering one of them.
-pub record DeliversOne {A E : Type 0} (answer : Result A E) (text : Mailbox) (old new : HeldMaildir) (was is : Option (List ℕ)) : Type 0 where
-  pub safe : OnOk answer (AreSafe text.messages new.files new.may_leave new.rooted)
-  pub line : OnOk answer (PrintsReport was is (IsReportOf (has_home old.files) text))
-  pub known : OnOk answer (HasAlso text.messages old.files new.files)
-  pub stopped : OnErr answer (Keeps was is ⊎ PrintsOne old new text was is)
-  pub stays : OthersStay (text ∷ []) old new

@@ -10,11 +10,13 @@ mod mem_machine;
 mod program;
 mod sources;
 mod streams;
+mod telling;
 
 pub use computer::Computer;
 pub use ending::Ending;
 pub use fault::Fault;
 pub use machine::Machine;
 pub use mem_machine::{MemMachine, NamedText};
-pub use program::{execute, run, tell};
+pub use program::{execute, run};
 pub use sources::deliver;
+pub use telling::tell;

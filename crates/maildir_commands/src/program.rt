@@ -1,7 +1,7 @@
 // What the program does with its words, its streams and its status.
-ghost use Rattle.std.specs.Prelude.{◌≡◌, ◌≤◌, ◌⊎◌, ◌↔◌, ℕ, List, [], ◌∷◌, ◌++◌, map, codes, length, max};
+ghost use Rattle.std.specs.Prelude.{◌≡◌, ◌≤◌, ◌⊎◌, ◌↔◌, ℕ, List, [], ◌∷◌, map, codes, length, max};
 ghost use Rattle.std.specs.Prelude.{string_bytes, Some, IfSome, IfErr, IsNone, IsSome, OnErr, OnOk};
-ghost use Rattle.std.specs.Io.Buffered.{writer_buffer, writer_contents, writer_inner};
+ghost use Rattle.std.specs.Io.Buffered.{writer_contents, writer_inner};
 ghost use Rattle.std.specs.Io.KnownBytes.{Appends, IsAtEnd, Keeps};
 ghost use Rattle.std.specs.List.{flat_map};
 ghost use Rattle.mbox_text.specs.Spelling.{spelling};
@@ -13,9 +13,9 @@ ghost use Rattle.maildir_commands.specs.Causes.{HasCause, IsCauseOf};
 ghost use Rattle.maildir_commands.specs.Endings.{IfStopped, IfWrongWords, status_of};
 ghost use Rattle.maildir_commands.specs.Faults.{told};
 ghost use Rattle.maildir_commands.specs.Machines.{AreAllSafe, Converts, OthersStay, Rests};
-ghost use Rattle.maildir_commands.specs.Report.{Delivers, PrintsEach, PrintsReports, PrintsSome};
-ghost use Rattle.maildir_commands.specs.Words.{AreOfAForm, AreRewrite, convert_words};
-ghost use Rattle.maildir_commands.specs.Private.Words.{IsOf};
+ghost use Rattle.maildir_commands.specs.Report.{PrintsEach, PrintsReports, PrintsSome};
+ghost use Rattle.maildir_commands.specs.Words.{AreOfAForm, AreRewrite, IsOf, convert_words};
+ghost use Rattle.maildir_commands.specs.Private.Report.{Delivers};
 ghost use Rattle.maildir_commands.specs.Output.{WritesAll, WritesFront};
 
 use crate::command::Command;
@@ -24,15 +24,10 @@ use crate::fault::Fault;
 use crate::machine::Machine;
 use crate::sources::deliver_sources;
 use crate::streams::{READS, flush, open};
-use arrayvec::ArrayVec;
+use crate::telling::{tell, tell_fault};
 use maildir_run::{list_text, rewrite};
-use mbox_text::{TextFault, write_bytes};
 use std::alloc::Global;
-use std::fmt::Display;
 use std::io::{BufWriter, Read, Write};
-
-// The longest line that is told has fewer bytes.
-const LINE_BYTES: usize = 128;
 
 /// Does the program's work, and answers its status: 0 where it is done; 1 after a fault, and 2 where the words are
 /// of no form, each with one line on standard error. A fault in writing to standard error changes no status. What is
@@ -199,28 +194,6 @@ pub fn execute<M: Machine, I: Read, W: Write + Drop, E: Write>(
             Ending::Stopped(fault, answer)
         }
     }
-}
-
-/// Writes the line of a fault to standard error, in one piece.
-pub fn tell<D: Display + Drop, E: Write>(fault: D, err: &mut E) -> Result<(), TextFault>
-    ensures { IfSome (D.output fault) (λ text. Writes (E.contents err.old) (E.contents err.new) result (told text)) }
-{
-    let mut line = ArrayVec::<u8, LINE_BYTES>::new();
-    match writeln!(line, "mbox2maildir: {fault}") {
-        Ok(()) => write_bytes(line.as_slice(), err),
-        Err(_) => Err(TextFault::WriteFault),
-    }
-}
-
-// Tells a fault, and answers it with what became of that. It is told whatever a fault is, so that no other can be told.
-fn tell_fault<D: Display + Copy + Drop, E: Write>(
-    fault: D,
-    err: &mut E,
-) -> (D, Result<(), TextFault>)
-    ensures same { result.0 ≡ fault }
-    ensures told { IfSome (D.output fault) (λ text. Writes (E.contents err.old) (E.contents err.new) result.1 (told text)) }
-{
-    (fault, tell(fault, err))
 }
 
 // Does the work of a command, and hands on what it wrote, also after a fault.

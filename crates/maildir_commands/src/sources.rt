@@ -1,12 +1,11 @@
 // The sources of a conversion, each with a run of its own and its line.
 ghost use Rattle.std.specs.Prelude.{◌≡◌, ◌⊎◌, ℕ, List, [], ◌∷◌, All, Some, map, string_bytes, ◌<◌, ◌+◌};
-ghost use Rattle.std.specs.Prelude.{◌*◌, ◌-◌, ◌^◌, min, max, length, IsTrue, IfOk, IfErr, OnOk, OnErr};
+ghost use Rattle.std.specs.Prelude.{◌*◌, ◌-◌, ◌^◌, min, max, length, IfOk, IfErr, OnOk, OnErr};
 ghost use Rattle.std.specs.Io.Buffered.{writer_buffer, writer_contents};
 ghost use Rattle.std.specs.Io.KnownBytes.{Appends, IsAtEnd, Keeps};
 ghost use Rattle.mbox_text.specs.Writing.{Writes};
-ghost use Rattle.maildir_name.specs.Names.{is_converter_base};
 ghost use Rattle.maildir_run.specs.Alone.{alone as alone_after};
-ghost use Rattle.maildir_run.specs.Delivery.{AreNamed, IsSoundAt, Message, has_home};
+ghost use Rattle.maildir_run.specs.Delivery.{AreNamed, IsSoundAt, Message};
 ghost use Rattle.maildir_run.specs.Foreign.{KeepsForeign};
 ghost use Rattle.maildir_run.specs.Reading.{ReadsAtMost};
 ghost use Rattle.maildir_run.specs.Runs.{CountsRun, Possible, ReportsMessages};
@@ -15,10 +14,12 @@ ghost use Rattle.maildir_run.specs.Texts.{MessagesOf};
 ghost use Rattle.maildir_disk.specs.Others.{Stays};
 ghost use Rattle.maildir_disk.specs.Paths.{system_of};
 ghost use Rattle.maildir_disk.specs.PowerCuts.{AreAlike, AreIntact, AreSafe, Survive};
-ghost use Rattle.maildir_commands.specs.Causes.{IsCauseOf, IsFailedCall, IsOfDelivery, IsOfFiles, IsToldAs};
+ghost use Rattle.maildir_commands.specs.Causes.{IsCauseOf, IsFailedCall, IsOfDelivery, IsToldAs};
 ghost use Rattle.maildir_commands.specs.declared.command.Command.TheVariants.{Convert};
 ghost use Rattle.maildir_commands.specs.Machines.{AreFit, GivesTexts, HasAlso, IsSoundFor, Rests, bytes_of, held};
-ghost use Rattle.maildir_commands.specs.Report.{Delivers, DeliversOne, PrintsOne, PrintsReport, PrintsReports, report_line};
+ghost use Rattle.maildir_commands.specs.Private.Causes.{IsOfFiles};
+ghost use Rattle.maildir_commands.specs.Private.Report.{Delivers, DeliversOne};
+ghost use Rattle.maildir_commands.specs.Report.{PrintsOne, PrintsReport, PrintsReports, report_line};
 
 use crate::fault::Fault;
 use crate::machine::Machine;

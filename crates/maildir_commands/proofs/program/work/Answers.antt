@@ -1,9 +1,8 @@
 use Rattle.std.proofs.Common.{◌≡◌, map, string_bytes, sym, subst, ◌∙◌}
 use Rattle.std.specs.Io.Buffered.{writer_contents}
 use Rattle.maildir_commands.specs.Machines.{GivesTexts, IsSoundFor}
-use Rattle.maildir_commands.specs.Report.{Delivers}
-use Rattle.maildir_commands.specs.Private.Words.{IsOf}
-use Rattle.maildir_commands.specs.Words.{convert_words}
+use Rattle.maildir_commands.specs.Private.Report.{Delivers}
+use Rattle.maildir_commands.specs.Words.{IsOf, convert_words}
 use Rattle.maildir_commands.proofs.Forms.{same_words}
 use Rattle.maildir_commands.proofs.program.work.Goals as goal
 

@@ -12,7 +12,8 @@ use Rattle.maildir_commands.proofs.sources.deliver_sources.Goals as goal
 
 -- ---- nothing was opened
 pub returns-in_err-folder-clause-delivers : goal.returns-in_err-folder-clause-delivers
-returns-in_err-folder-clause-delivers g c = λ h texts given fit sound. none_delivered c.from_residual.result texts _ _ _ c.from_residual.ensures.0 (c.in_err-folder.ensures.rests h)
+returns-in_err-folder-clause-delivers g c = λ h texts given fit sound.
+    none_delivered c.from_residual.result texts _ _ _ c.from_residual.ensures.0 (c.in_err-folder.ensures.rests h)
 
 pub returns-in_err-source-clause-delivers : goal.returns-in_err-source-clause-delivers
 returns-in_err-source-clause-delivers g c = λ h texts given fit sound.
