@@ -1,3 +1,9 @@
+-- Why a command ended with a fault.
+pub mod Causes
+-- How the program's work ended.
+pub mod Endings
+-- What came of delivering several texts.
+pub mod Delivered
 -- The words of a conversion.
 pub mod Forms
 -- Which bases have a home, from one moment to another.

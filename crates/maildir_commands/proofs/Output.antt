@@ -2,11 +2,12 @@
 use Rattle.std.proofs.Common.{◌≡◌, ℕ, List, [], ◌++◌, length, take, Option, Some, None, sym, ap, subst, ◌∙◌, append-nil}
 use Rattle.std.proofs.KnownBytes.{Appends-kept}
 use Rattle.std.proofs.Math.Seq.{take-length}
-use Rattle.std.specs.Io.KnownBytes.{Appends, Keeps, append_known}
+use Rattle.std.specs.Io.KnownBytes.{Appends, IsAtEnd, Keeps, append_known}
 use Rattle.std.specs.List.{flat_map}
 use Rattle.mbox_text.specs.declared.entry.Entry.{Entry}
 use Rattle.mbox_text.proofs.Reading.OneReading.{mbox-one}
 use Rattle.maildir_run.specs.Delivery.{has_home}
+use Rattle.maildir_run.specs.Output.{GivesFront}
 use Rattle.maildir_commands.specs.Report.{AreReportsOf, PrintsEach, PrintsReports, PrintsSome, report_line}
 use Rattle.maildir_commands.specs.Output.{WritesAll, WritesFront}
 use Rattle.maildir_commands.specs.Machines.{AreAllKept, AreAllSafe, HeldMaildir}
@@ -44,6 +45,16 @@ pub all_front : (output : List Entry → List ℕ) (t : List ℕ) (was given kep
 all_front output t was given kept keeps (count, (these, mbox, many, grown)) entries is =
     front_of_all was kept (output entries)
     (Appends-kept was given kept (output entries) (subst (λ es. Appends was given (output es)) (mbox-one t these entries mbox is) grown) keeps)
+
+-- and so of a source that was read to its end
+pub all_given : (output : List Entry → List ℕ) (before after was given kept : Option (List ℕ))
+    → Keeps given kept → IsAtEnd after → WritesAll output before was given
+    → GivesFront output before after was kept
+all_given output before after was given kept keeps ended all t entries possible mbox =
+    let left : possible.left ≡ [] = subst IsAtEnd possible.has ended in
+    let front : t ≡ possible.read = possible.front ∙ (ap (λ more. possible.read ++ more) (possible.whole left) ∙ append-nil possible.read) in
+    let is : before ≡ Some t = possible.had ∙ ap Some (ap (λ more. possible.read ++ more) left ∙ (append-nil possible.read ∙ sym front)) in
+    all_front output t was given kept keeps (subst (λ source. WritesAll output source was given) is all) entries mbox
 
 pub some_kept : (old new : HeldMaildir) (texts : List Mailbox) (was given kept : Option (List ℕ))
     → Keeps given kept → PrintsSome old new texts was given → PrintsSome old new texts was kept

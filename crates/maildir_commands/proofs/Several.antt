@@ -363,16 +363,6 @@ only_first texts text is = sym (ap (λ ts. get_or ts 0 no_text) is)
 pub only_length : (texts : List Mailbox) (text : Mailbox) → texts ≡ text ∷ [] → length texts ≡ 1
 only_length texts text is = ap length is
 
-pub first_up : {A E : Type 0} (answer : Result A E) (texts : List Mailbox) → AreFit texts → (start now : HeldMaildir) (was is : Option (List ℕ))
-    → IsSoundFor texts start → 0 < length texts → OthersStay (get_or texts 0 no_text ∷ []) start now
-    → OnOk answer (AreSafe (get_or texts 0 no_text).messages now.files now.may_leave now.rooted)
-    → OnOk answer (PrintsReport was is (IsReportOf (has_home start.files) (get_or texts 0 no_text)))
-    → OnOk answer (HasAlso (get_or texts 0 no_text).messages start.files now.files)
-    → OnOk answer (UpTo 1 texts start now was is)
-first_up (Ok x) texts fit start now was is sound inside stay safe line known =
-    one_more texts fit 0 no_text start start now was was is inside (none_printed texts start was sound) safe line known stay
-first_up (Err e) texts fit start now was is sound inside stay safe line known = tt
-
 -- ---- the texts of files
 module _ {X : Type 0} (texts : List Mailbox) (text_of : List ℕ → List ℕ) (name_of : X → List ℕ)
     (before after : Option (List ℕ)) (files : List X) (given : GivesTexts text_of before after (map name_of files) texts) where

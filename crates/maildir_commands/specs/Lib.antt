@@ -1,3 +1,7 @@
+-- Why a command ended with a fault.
+pub mod Causes
+-- How the program's work ended.
+pub mod Endings
 -- The words of the command line.
 pub mod Words
 -- Which fault is answered for what failed below, and the line that tells of it.

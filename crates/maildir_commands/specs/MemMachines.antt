@@ -1,8 +1,11 @@
 -- What a machine in memory has under a word.
-use Rattle.std.specs.Prelude.{◌≡◌, ℕ, List, [], ◌∷◌, Option, Some, None, String, IsTrue, if◌then◌else◌}
+use Rattle.std.specs.Prelude.{◌≡◌, ℕ, Bool, true, false, List, [], ◌∷◌, Option, Some, None, String, IsTrue, if◌then◌else◌}
 use Rattle.std.specs.BTreeMap.{BTreeMap, get_by_text}
 use Rattle.std.specs.Str.{bytes_eq}
+use Rattle.maildir_run.specs.declared.folder.FolderFault.TheVariants.{Failed}
 use Rattle.maildir_run.specs.MemFolder.{IsQuiet}
+use Rattle.maildir_disk.specs.declared.faults.OpenFault.{OpenFault}
+use Rattle.maildir_disk.specs.declared.faults.OpenFault.TheVariants.{Folder, Locked}
 use Rattle.maildir_disk.specs.declared.mem_system.MemSystem.{MemSystem}
 use Rattle.maildir_disk.specs.MemSystem.{may_be_left, world_of}
 use Rattle.maildir_commands.specs.declared.mem_machine.NamedText.{NamedText}
@@ -12,6 +15,17 @@ use Rattle.maildir_commands.specs.Machines.{HeldMaildir, held, nothing_held}
 abbrev pub text_under : List NamedText → List ℕ → List ℕ
 text_under [] word = []
 text_under (named ∷ texts) word = if bytes_eq named.name.now word then named.text.now else text_under texts word
+
+-- whether a text has this name
+abbrev pub has_text : List NamedText → List ℕ → Bool
+has_text [] word = false
+has_text (named ∷ texts) word = if bytes_eq named.name.now word then true else has_text texts word
+
+-- why the Maildir is refused: none is there, or it is open
+abbrev pub IsRefusedAt : Option (Option MemSystem) → OpenFault → Type 0
+IsRefusedAt None fault = fault ≡ Folder Failed
+IsRefusedAt (Some None) fault = fault ≡ Locked
+IsRefusedAt (Some (Some _)) fault = ⊥
 
 -- the Maildir that is there and not open
 abbrev pub held_at : Option (Option MemSystem) → HeldMaildir

@@ -1,4 +1,6 @@
 -- Words of the contracts of private functions and of proofs. No public contract reaches them, and no reader need believe them.
 
--- The words that a command is of.
-pub mod Words
+-- Why the delivery of files ended with a fault.
+pub mod Causes
+-- What came of delivering texts.
+pub mod Report

@@ -1,7 +1,7 @@
 // What the words of the command line ask for.
 ghost use Rattle.std.specs.Prelude.{◌↔◌, map, string_bytes, IfSome, IsSome};
 ghost use Rattle.maildir_commands.specs.Words.{AreOfAForm};
-ghost use Rattle.maildir_commands.specs.Private.Words.{IsOf};
+ghost use Rattle.maildir_commands.specs.Words.{IsOf};
 
 /// A command. Without FILE it reads standard input.
 #[derive(Clone, Copy, Debug)]

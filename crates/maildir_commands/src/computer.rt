@@ -35,6 +35,10 @@ impl<'a, R: Files<File = File> + Clock> Machine for Computer<'a, R> {
 
     ghost text_of = { λ _ _. [] };
 
+    ghost refuses_source = { λ _ _. Unit {0} };
+
+    ghost refuses_maildir = { λ _ _ _. Unit {0} };
+
     ghost maildir_at = { λ _ _. nothing_held };
 
     ghost is_open = { λ _ _. Unit {0} };

@@ -3,16 +3,20 @@
 
 mod command;
 mod computer;
+mod ending;
 mod fault;
 mod machine;
 mod mem_machine;
 mod program;
 mod sources;
 mod streams;
+mod telling;
 
 pub use computer::Computer;
+pub use ending::Ending;
 pub use fault::Fault;
 pub use machine::Machine;
 pub use mem_machine::{MemMachine, NamedText};
-pub use program::{run, tell};
+pub use program::{execute, run};
 pub use sources::deliver;
+pub use telling::tell;

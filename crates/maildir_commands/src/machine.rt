@@ -1,5 +1,7 @@
 // What the program asks of the machine that it runs on.
-ghost use Rattle.std.specs.Prelude.{◌≡◌, ℕ, List, Some, IfOk, OnOk, OnErr};
+ghost use Rattle.std.specs.Prelude.{◌≡◌, ℕ, List, Some, IfErr, IfOk, OnOk, OnErr};
+ghost use Rattle.maildir_disk.specs.Faults.{IsRefusedGrowth};
+ghost use Rattle.maildir_disk.specs.declared.faults.OpenFault.{OpenFault};
 ghost use Rattle.maildir_commands.specs.Machines.{HeldMaildir, Rests, held};
 
 use maildir_disk::{OpenFault, System};
@@ -18,6 +20,12 @@ pub trait Machine {
     /// The text of the source that a word names.
     ghost text_of: { Self → List ℕ → List ℕ };
 
+    /// The source that a word names may be refused.
+    ghost refuses_source: { Self → List ℕ → Type 0 };
+
+    /// The Maildir that a word names may be refused, for this fault.
+    ghost refuses_maildir: { Self → List ℕ → OpenFault → Type 0 };
+
     /// The Maildir that a word names, while it is not open.
     ghost maildir_at: { Self → List ℕ → HeldMaildir };
 
@@ -34,6 +42,10 @@ pub trait Machine {
     fn open_source(&mut self, path: &str) -> io::Result<Self::Source>
         ensures honest { honest self.old → honest self.new }
         ensures texts { honest self.old → text_of self.new ≡ text_of self.old }
+        ensures refusals { honest self.old → (word : List ℕ) → refuses_source self.new word → refuses_source self.old word }
+        ensures maildirs { honest self.old → (word : List ℕ) (fault : OpenFault) →
+            refuses_maildir self.new word fault → refuses_maildir self.old word fault }
+        ensures refused { honest self.old → IfErr result (λ error. ¬ IsRefusedGrowth error → refuses_source self.old path.now) }
         ensures text { honest self.old → IfOk result (λ source. Self.Source.remaining source ≡ Some (text_of self.old path.now)) }
         ensures rests { honest self.old → (word : List ℕ) → Rests (maildir_at self.old word) (maildir_at self.new word) }
         ensures still_open { honest self.old → (word : List ℕ) → is_open self.old word → is_open self.new word };
@@ -42,6 +54,8 @@ pub trait Machine {
     fn open_maildir(&mut self, path: &str) -> Result<Self::Maildir, OpenFault>
         ensures honest { honest self.old → honest self.new }
         ensures texts { honest self.old → text_of self.new ≡ text_of self.old }
+        ensures refusals { honest self.old → (word : List ℕ) → refuses_source self.new word → refuses_source self.old word }
+        ensures refused { honest self.old → IfErr result (refuses_maildir self.old path.now) }
         ensures open { honest self.old → OnOk result (is_open self.new path.now) }
         ensures works { honest self.old → IfOk result Self.Maildir.honest }
         ensures opens { honest self.old → IfOk result (λ maildir. Rests (maildir_at self.old path.now)

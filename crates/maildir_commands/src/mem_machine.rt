@@ -1,5 +1,5 @@
 // A machine in memory.
-ghost use Rattle.std.specs.Prelude.{◌≡◌, ℕ, List, None, Some, IfSome, IsSome, IsTrue, OnOk, string_bytes};
+ghost use Rattle.std.specs.Prelude.{◌≡◌, ℕ, List, false, None, Some, IfSome, IsSome, IsTrue, OnOk, string_bytes};
 ghost use Rattle.std.specs.BTreeMap.{get_by_text};
 ghost use Rattle.std.specs.Str.{bytes_eq};
 
@@ -65,13 +65,17 @@ impl<'a> MemMachine<'a> {
 }
 
 impl<'a> Machine for MemMachine<'a> {
-    ghost use Rattle.maildir_commands.specs.MemMachines.{AreQuiet, held_under_word, text_under};
+    ghost use Rattle.maildir_commands.specs.MemMachines.{AreQuiet, IsRefusedAt, has_text, held_under_word, text_under};
 
     type Source = &'a [u8];
 
     type Maildir = MemSystem;
 
     ghost text_of = { λ machine word. text_under machine.texts.now word };
+
+    ghost refuses_source = { λ machine word. has_text machine.texts.now word ≡ false };
+
+    ghost refuses_maildir = { λ machine word. IsRefusedAt (get_by_text machine.maildirs word) };
 
     ghost maildir_at = { λ machine word. held_under_word machine.maildirs word };
 

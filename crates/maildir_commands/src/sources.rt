@@ -1,12 +1,11 @@
 // The sources of a conversion, each with a run of its own and its line.
 ghost use Rattle.std.specs.Prelude.{◌≡◌, ◌⊎◌, ℕ, List, [], ◌∷◌, All, Some, map, string_bytes, ◌<◌, ◌+◌};
-ghost use Rattle.std.specs.Prelude.{◌*◌, ◌-◌, ◌^◌, min, max, length, IsTrue, IfOk, IfErr, OnOk, OnErr};
+ghost use Rattle.std.specs.Prelude.{◌*◌, ◌-◌, ◌^◌, min, max, length, IfOk, IfErr, OnOk, OnErr};
 ghost use Rattle.std.specs.Io.Buffered.{writer_buffer, writer_contents};
 ghost use Rattle.std.specs.Io.KnownBytes.{Appends, IsAtEnd, Keeps};
 ghost use Rattle.mbox_text.specs.Writing.{Writes};
-ghost use Rattle.maildir_name.specs.Names.{is_converter_base};
 ghost use Rattle.maildir_run.specs.Alone.{alone as alone_after};
-ghost use Rattle.maildir_run.specs.Delivery.{AreNamed, IsSoundAt, Message, has_home};
+ghost use Rattle.maildir_run.specs.Delivery.{AreNamed, IsSoundAt, Message};
 ghost use Rattle.maildir_run.specs.Foreign.{KeepsForeign};
 ghost use Rattle.maildir_run.specs.Reading.{ReadsAtMost};
 ghost use Rattle.maildir_run.specs.Runs.{CountsRun, Possible, ReportsMessages};
@@ -15,9 +14,12 @@ ghost use Rattle.maildir_run.specs.Texts.{MessagesOf};
 ghost use Rattle.maildir_disk.specs.Others.{Stays};
 ghost use Rattle.maildir_disk.specs.Paths.{system_of};
 ghost use Rattle.maildir_disk.specs.PowerCuts.{AreAlike, AreIntact, AreSafe, Survive};
-ghost use Rattle.maildir_commands.specs.Machines.{AreAllSafe, AreFit, GivesTexts, HasAlso, IsSoundFor, OthersStay, Rests, bytes_of, held};
-ghost use Rattle.maildir_commands.specs.Report.{IsReportOf, PrintsEach, PrintsOne, PrintsReport};
-ghost use Rattle.maildir_commands.specs.Report.{PrintsReports, PrintsSome, also, report_line};
+ghost use Rattle.maildir_commands.specs.Causes.{IsCauseOf, IsFailedCall, IsOfDelivery, IsToldAs};
+ghost use Rattle.maildir_commands.specs.declared.command.Command.TheVariants.{Convert};
+ghost use Rattle.maildir_commands.specs.Machines.{AreFit, GivesTexts, HasAlso, IsSoundFor, Rests, bytes_of, held};
+ghost use Rattle.maildir_commands.specs.Private.Causes.{IsOfFiles};
+ghost use Rattle.maildir_commands.specs.Private.Report.{Delivers, DeliversOne};
+ghost use Rattle.maildir_commands.specs.Report.{PrintsOne, PrintsReport, PrintsReports, report_line};
 
 use crate::fault::Fault;
 use crate::machine::Machine;
@@ -36,6 +38,8 @@ const LINE_BYTES: usize = 128;
 fn open_folder<M: Machine>(machine: &mut M, maildir: &str) -> Result<DiskFolder<M::Maildir>, Fault>
     ensures honest { M.honest machine.old → M.honest machine.new }
     ensures texts { M.honest machine.old → M.text_of machine.new ≡ M.text_of machine.old }
+    ensures refusals { M.honest machine.old → (word : List ℕ) → M.refuses_source machine.new word → M.refuses_source machine.old word }
+    ensures refused { M.honest machine.old → IfErr result (IsToldAs (M.refuses_maildir machine.old maildir.now)) }
     ensures open { M.honest machine.old → OnOk result (M.is_open machine.new maildir.now) }
     ensures works { M.honest machine.old → IfOk result (λ folder. M.Maildir.honest (system_of folder)) }
     ensures opens { M.honest machine.old → IfOk result (λ folder. Rests (M.maildir_at machine.old maildir.now)
@@ -68,29 +72,19 @@ pub(crate) fn deliver_sources<M: Machine, I: Read, W: Write + Drop>(
     ensures unread { ¬ (length files.now ≡ 0) → I.remaining input.new ≡ I.remaining input.old }
 
     // over a machine that does as assumed
+    ensures cause { M.honest machine.old →
+        IfErr result (IsCauseOf (M.text_of machine.old) (M.refuses_source machine.old) (M.refuses_maildir machine.old)
+        (I.remaining input.old) (I.remaining input.new) (Convert maildir.entry files.entry)) }
     ensures texts { M.honest machine.old → M.text_of machine.new ≡ M.text_of machine.old }
     ensures elsewhere { M.honest machine.old → (word : List ℕ) → ¬ M.same maildir.now word →
         Rests (M.maildir_at machine.old word) (M.maildir_at machine.new word) }
 
     // and where the texts can go into the Maildir
-    ensures safe { M.honest machine.old → (texts : List Mailbox) →
+    ensures delivers { M.honest machine.old → (texts : List Mailbox) →
         GivesTexts (M.text_of machine.old) (I.remaining input.old) (I.remaining input.new) (map string_bytes files.now) texts →
         AreFit texts → IsSoundFor texts (M.maildir_at machine.old maildir.now) →
-        OnOk result (AreAllSafe texts (M.maildir_at machine.new maildir.now)) }
-    ensures each { M.honest machine.old → (texts : List Mailbox) →
-        GivesTexts (M.text_of machine.old) (I.remaining input.old) (I.remaining input.new) (map string_bytes files.now) texts →
-        AreFit texts → IsSoundFor texts (M.maildir_at machine.old maildir.now) →
-        OnOk result (PrintsEach (M.maildir_at machine.old maildir.now) texts
-        (writer_contents W.contents out.old) (writer_contents W.contents out.new)) }
-    ensures some { M.honest machine.old → (texts : List Mailbox) →
-        GivesTexts (M.text_of machine.old) (I.remaining input.old) (I.remaining input.new) (map string_bytes files.now) texts →
-        AreFit texts → IsSoundFor texts (M.maildir_at machine.old maildir.now) →
-        OnErr result (PrintsSome (M.maildir_at machine.old maildir.now) (M.maildir_at machine.new maildir.now)
-        texts (writer_contents W.contents out.old) (writer_contents W.contents out.new)) }
-    ensures stay { M.honest machine.old → (texts : List Mailbox) →
-        GivesTexts (M.text_of machine.old) (I.remaining input.old) (I.remaining input.new) (map string_bytes files.now) texts →
-        AreFit texts → IsSoundFor texts (M.maildir_at machine.old maildir.now) →
-        OthersStay texts (M.maildir_at machine.old maildir.now) (M.maildir_at machine.new maildir.now) }
+        Delivers result texts (M.maildir_at machine.old maildir.now) (M.maildir_at machine.new maildir.now)
+        (writer_contents W.contents out.old) (writer_contents W.contents out.new) }
 {
     let Some((first, rest)) = files.split_first() else {
         let mut folder = open_folder(machine, maildir)?;
@@ -116,34 +110,19 @@ fn deliver_each<M: Machine, W: Write + Drop>(
 ) -> Result<(), Fault>
     ensures honest { M.honest machine.old → M.honest machine.new }
     ensures texts { M.honest machine.old → M.text_of machine.new ≡ M.text_of machine.old }
+    ensures cause { M.honest machine.old → (name : List ℕ) → M.Source.remaining first.old ≡ Some (M.text_of machine.old name) →
+        IfErr result (IsOfFiles (M.text_of machine.old) (M.refuses_source machine.old) (name ∷ map string_bytes rest.now)) }
     ensures elsewhere { M.honest machine.old → (word : List ℕ) → Rests (M.maildir_at machine.old word) (M.maildir_at machine.new word) }
     ensures still_open { M.honest machine.old → (word : List ℕ) → M.is_open machine.old word → M.is_open machine.new word }
     ensures printed { OnOk result
         (PrintsReports (writer_contents W.contents out.old) (writer_contents W.contents out.new) (1 + length rest.now)) }
-    ensures safe { M.honest machine.old → M.Maildir.honest (system_of folder.old) →
+    ensures delivers { M.honest machine.old → M.Maildir.honest (system_of folder.old) →
         (texts : List Mailbox) (text : List ℕ) → M.Source.remaining first.old ≡ Some text →
         bytes_of texts ≡ text ∷ map (λ file. M.text_of machine.old (string_bytes file)) rest.now → AreFit texts →
         IsSoundFor texts (held M.Maildir.world M.Maildir.may_leave M.Maildir.rooted (system_of folder.old)) →
-        OnOk result (AreAllSafe texts (held M.Maildir.world M.Maildir.may_leave M.Maildir.rooted (system_of folder.new))) }
-    ensures each { M.honest machine.old → M.Maildir.honest (system_of folder.old) →
-        (texts : List Mailbox) (text : List ℕ) → M.Source.remaining first.old ≡ Some text →
-        bytes_of texts ≡ text ∷ map (λ file. M.text_of machine.old (string_bytes file)) rest.now → AreFit texts →
-        IsSoundFor texts (held M.Maildir.world M.Maildir.may_leave M.Maildir.rooted (system_of folder.old)) →
-        OnOk result (PrintsEach (held M.Maildir.world M.Maildir.may_leave M.Maildir.rooted (system_of folder.old))
-        texts (writer_contents W.contents out.old) (writer_contents W.contents out.new)) }
-    ensures some { M.honest machine.old → M.Maildir.honest (system_of folder.old) →
-        (texts : List Mailbox) (text : List ℕ) → M.Source.remaining first.old ≡ Some text →
-        bytes_of texts ≡ text ∷ map (λ file. M.text_of machine.old (string_bytes file)) rest.now → AreFit texts →
-        IsSoundFor texts (held M.Maildir.world M.Maildir.may_leave M.Maildir.rooted (system_of folder.old)) →
-        OnErr result (PrintsSome (held M.Maildir.world M.Maildir.may_leave M.Maildir.rooted (system_of folder.old))
+        Delivers result texts (held M.Maildir.world M.Maildir.may_leave M.Maildir.rooted (system_of folder.old))
         (held M.Maildir.world M.Maildir.may_leave M.Maildir.rooted (system_of folder.new))
-        texts (writer_contents W.contents out.old) (writer_contents W.contents out.new)) }
-    ensures stay { M.honest machine.old → M.Maildir.honest (system_of folder.old) →
-        (texts : List Mailbox) (text : List ℕ) → M.Source.remaining first.old ≡ Some text →
-        bytes_of texts ≡ text ∷ map (λ file. M.text_of machine.old (string_bytes file)) rest.now → AreFit texts →
-        IsSoundFor texts (held M.Maildir.world M.Maildir.may_leave M.Maildir.rooted (system_of folder.old)) →
-        OthersStay texts (held M.Maildir.world M.Maildir.may_leave M.Maildir.rooted (system_of folder.old))
-        (held M.Maildir.world M.Maildir.may_leave M.Maildir.rooted (system_of folder.new)) }
+        (writer_contents W.contents out.old) (writer_contents W.contents out.new) }
 {
     deliver_one(alloc, folder, first, out)?;
     for path in rest {
@@ -162,32 +141,16 @@ fn deliver_one<S: System, I: Read, W: Write + Drop>(
 ) -> Result<(), Fault>
     ensures printed { OnOk result (PrintsReports (writer_contents W.contents out.old) (writer_contents W.contents out.new) 1) }
     ensures handed { OnOk result (writer_buffer out.new ≡ []) }
+    ensures cause { IfErr result (IsOfDelivery (I.remaining source.old) (I.remaining source.new)) }
     ensures end { OnOk result (IsAtEnd (I.remaining source.new)) }
     ensures budget { ReadsAtMost (I.remaining source.old) (I.remaining source.new) (2 ^ 56) }
     ensures honest { S.honest (system_of folder.old) → OnOk result (S.honest (system_of folder.new)) }
-    ensures safe { S.honest (system_of folder.old) → (text : Mailbox) → IsMailbox text →
-        Possible (I.remaining source.old) (I.remaining source.new) text.bytes →
-        IsSoundFor (text ∷ []) (held S.world S.may_leave S.rooted (system_of folder.old)) → OnOk result (AreSafe text.messages
-        (S.world (system_of folder.new)).files (S.may_leave (system_of folder.new)) (S.rooted (system_of folder.new))) }
-    ensures line { S.honest (system_of folder.old) → (text : Mailbox) → IsMailbox text →
+    ensures delivers { S.honest (system_of folder.old) → (text : Mailbox) → IsMailbox text →
         Possible (I.remaining source.old) (I.remaining source.new) text.bytes →
         IsSoundFor (text ∷ []) (held S.world S.may_leave S.rooted (system_of folder.old)) →
-        OnOk result (PrintsReport (writer_contents W.contents out.old) (writer_contents W.contents out.new)
-        (IsReportOf (has_home (S.world (system_of folder.old)).files) text)) }
-    ensures known { S.honest (system_of folder.old) → (text : Mailbox) → IsMailbox text →
-        Possible (I.remaining source.old) (I.remaining source.new) text.bytes →
-        IsSoundFor (text ∷ []) (held S.world S.may_leave S.rooted (system_of folder.old)) →
-        OnOk result (HasAlso text.messages (S.world (system_of folder.old)).files (S.world (system_of folder.new)).files) }
-    ensures stopped { S.honest (system_of folder.old) → (text : Mailbox) → IsMailbox text →
-        Possible (I.remaining source.old) (I.remaining source.new) text.bytes →
-        IsSoundFor (text ∷ []) (held S.world S.may_leave S.rooted (system_of folder.old)) →
-        OnErr result (Keeps (writer_contents W.contents out.old) (writer_contents W.contents out.new)
-        ⊎ PrintsOne (held S.world S.may_leave S.rooted (system_of folder.old)) (held S.world S.may_leave S.rooted (system_of folder.new))
-        text (writer_contents W.contents out.old) (writer_contents W.contents out.new)) }
-    ensures stays { S.honest (system_of folder.old) → (text : Mailbox) → IsMailbox text →
-        Possible (I.remaining source.old) (I.remaining source.new) text.bytes →
-        IsSoundFor (text ∷ []) (held S.world S.may_leave S.rooted (system_of folder.old)) → OthersStay (text ∷ [])
-        (held S.world S.may_leave S.rooted (system_of folder.old)) (held S.world S.may_leave S.rooted (system_of folder.new)) }
+        DeliversOne result text (held S.world S.may_leave S.rooted (system_of folder.old))
+        (held S.world S.may_leave S.rooted (system_of folder.new))
+        (writer_contents W.contents out.old) (writer_contents W.contents out.new) }
 {
     deliver(alloc, folder, source, out)?;
     flush(out)
@@ -205,6 +168,12 @@ pub fn deliver<S: System, I: Read, W: Write>(
 ) -> Result<(), Fault>
     ensures end { OnOk result (IsAtEnd (I.remaining source.new)) }
     ensures budget { ReadsAtMost (I.remaining source.old) (I.remaining source.new) (2 ^ 56) }
+
+    // why it ended with a fault
+    ensures cause { IfErr result (IsOfDelivery (I.remaining source.old) (I.remaining source.new)) }
+    ensures failed_call { let f = ⟦<DiskFolder<S> as Folder>⟧ in
+        IfErr result (λ fault. (number : ℕ) → fault ≡ Fault.Run (RunFault.FolderFailed number) →
+        IsFailedCall number (f.calls folder.old) (f.calls folder.new) (f.failures folder.old) (f.failures folder.new)) }
 
     // its line is of a report that counts the calls that were made, and that is true of the run, where the system does as
     // assumed and the folder began sound for the text

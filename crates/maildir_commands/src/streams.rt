@@ -2,6 +2,7 @@
 ghost use Rattle.std.specs.Prelude.{◌≡◌, ◌⊎◌, ℕ, List, Some, [], IfErr, IfOk, OnOk};
 ghost use Rattle.std.specs.Io.Buffered.{writer_buffer, writer_contents};
 ghost use Rattle.std.specs.Io.KnownBytes.{Keeps};
+ghost use Rattle.maildir_disk.specs.declared.faults.OpenFault.{OpenFault};
 ghost use Rattle.maildir_commands.specs.Machines.{Rests};
 
 use crate::fault::Fault;
@@ -19,6 +20,10 @@ pub(crate) fn open<M: Machine>(machine: &mut M, path: &str) -> Result<M::Source,
     ensures text { M.honest machine.old → IfOk result (λ source. M.Source.remaining source ≡ Some (M.text_of machine.old path.now)) }
     ensures rests { M.honest machine.old → (word : List ℕ) → Rests (M.maildir_at machine.old word) (M.maildir_at machine.new word) }
     ensures still_open { M.honest machine.old → (word : List ℕ) → M.is_open machine.old word → M.is_open machine.new word }
+    ensures refusals { M.honest machine.old → (word : List ℕ) → M.refuses_source machine.new word → M.refuses_source machine.old word }
+    ensures maildirs { M.honest machine.old → (word : List ℕ) (fault : OpenFault) →
+        M.refuses_maildir machine.new word fault → M.refuses_maildir machine.old word fault }
+    ensures refused { M.honest machine.old → IfErr result (λ fault. fault ≡ Fault.Source → M.refuses_source machine.old path.now) }
     ensures causes { IfErr result (λ fault. (fault ≡ Fault.Source) ⊎ (fault ≡ Fault.Run RunFault.OutOfMemory)) }
 {
     match machine.open_source(path) {

@@ -1,9 +1,11 @@
 // The whole program over a machine in memory, with two Maildirs of which one is named by no row.
 use crate::mem_folder::are_named;
 use crate::runs::{ABC, folder_of};
-use maildir_commands::{Machine, MemMachine, NamedText, run};
+use crate::streams::{Cut, Narrow, Then};
+use maildir_commands::{Ending, Fault, Machine, MemMachine, NamedText, execute, run};
 use maildir_disk::{DiskFolder, MemSystem, Stamps};
-use maildir_run::{Folder, Sub};
+use maildir_run::{Folder, RunFault, Sub};
+use mbox_text::TextFault;
 use std::alloc::{AllocError, Global};
 use std::io::BufWriter;
 use std::test::Fail;
@@ -146,6 +148,146 @@ const ROWS: &[Row] = &[
     },
 ];
 
+// Words; how standard input goes on behind its bytes, and how many bytes the output and standard error take; whether the
+// Maildir is open elsewhere; how the work ends; and what was written then.
+struct Stop {
+    words: &'static [&'static str],
+    then: Then,
+    room: usize,
+    told: usize,
+    is_open: bool,
+    ending: Ending,
+    out: &'static str,
+    err: &'static str,
+    names: &'static [&'static str],
+}
+
+const ENOUGH: usize = 1000;
+
+const STOPS: &[Stop] = &[
+    Stop {
+        words: &[],
+        then: Then::Fails,
+        room: ENOUGH,
+        told: ENOUGH,
+        is_open: false,
+        ending: Ending::Stopped(Fault::Run(RunFault::ReadFault), Ok(())),
+        out: "",
+        err: "mbox2maildir: the source could not be read\n",
+        names: &[],
+    },
+    Stop {
+        words: &["list"],
+        then: Then::Fails,
+        room: ENOUGH,
+        told: ENOUGH,
+        is_open: false,
+        ending: Ending::Stopped(Fault::Run(RunFault::ReadFault), Ok(())),
+        out: "",
+        err: "mbox2maildir: the source could not be read\n",
+        names: &[],
+    },
+    Stop {
+        words: &["convert", "M"],
+        then: Then::Fails,
+        room: ENOUGH,
+        told: ENOUGH,
+        is_open: false,
+        ending: Ending::Stopped(Fault::Run(RunFault::ReadFault), Ok(())),
+        out: "",
+        err: "mbox2maildir: the source could not be read\n",
+        names: &[],
+    },
+    Stop {
+        words: &["rewrite"],
+        then: Then::Ends,
+        room: 4,
+        told: ENOUGH,
+        is_open: false,
+        ending: Ending::Stopped(Fault::Run(RunFault::OutputFault), Ok(())),
+        out: "From",
+        err: "mbox2maildir: the output could not be written\n",
+        names: &[],
+    },
+    Stop {
+        words: &["list", "one"],
+        then: Then::Ends,
+        room: 4,
+        told: ENOUGH,
+        is_open: false,
+        ending: Ending::Stopped(Fault::Run(RunFault::OutputFault), Ok(())),
+        out: "1 ba",
+        err: "mbox2maildir: the output could not be written\n",
+        names: &[],
+    },
+    Stop {
+        words: &["convert", "M", "one", "two"],
+        then: Then::Ends,
+        room: 4,
+        told: ENOUGH,
+        is_open: false,
+        ending: Ending::Stopped(Fault::Run(RunFault::OutputFault), Ok(())),
+        out: "mess",
+        err: "mbox2maildir: the output could not be written\n",
+        names: &[ABC],
+    },
+    Stop {
+        words: &["convert", "M"],
+        then: Then::Ends,
+        room: ENOUGH,
+        told: ENOUGH,
+        is_open: true,
+        ending: Ending::Stopped(Fault::Locked, Ok(())),
+        out: "",
+        err: "mbox2maildir: another converter is at work in the folder\n",
+        names: &[],
+    },
+    Stop {
+        words: &["convert", "M", "one"],
+        then: Then::Ends,
+        room: ENOUGH,
+        told: ENOUGH,
+        is_open: true,
+        ending: Ending::Stopped(Fault::Locked, Ok(())),
+        out: "",
+        err: "mbox2maildir: another converter is at work in the folder\n",
+        names: &[],
+    },
+    Stop {
+        words: &["rewrite", "absent"],
+        then: Then::Ends,
+        room: ENOUGH,
+        told: 4,
+        is_open: false,
+        ending: Ending::Stopped(Fault::Source, Err(TextFault::WriteFault)),
+        out: "",
+        err: "mbox",
+        names: &[],
+    },
+    Stop {
+        words: &["convert"],
+        then: Then::Ends,
+        room: ENOUGH,
+        told: 4,
+        is_open: false,
+        ending: Ending::WrongWords(Err(TextFault::WriteFault)),
+        out: "",
+        err: "mbox",
+        names: &[],
+    },
+    Stop {
+        words: &["list"],
+        then: Then::Ends,
+        room: ENOUGH,
+        told: 0,
+        is_open: false,
+        ending: Ending::Done,
+        out: "1 18ac3e7343f016890c510e93f935261169d9e3f565436429830faf0934f4f8e4.1 new - 1 z\n",
+        err: "",
+        names: &[],
+    },
+];
+
 fn words_of(alloc: Global, words: &[&str]) -> Result<Vec<String>, AllocError> {
     let mut all = Vec::new(alloc);
     for word in words {
@@ -214,6 +356,42 @@ fn ends_so(rt: HostRuntime, row: &Row) -> Result<bool, Fail> {
 fn whole_programs(rt: HostRuntime) -> Result<(), Fail> {
     for row in ROWS {
         assert!(rt; ends_so(rt, row)?, "{:?}", row.words);
+    }
+    Ok(())
+}
+
+// Whether the work ends so, and leaves the other Maildir as it was.
+fn stops_so(rt: HostRuntime, stop: &Stop) -> Result<bool, Fail> {
+    let alloc = rt.alloc();
+    let mut machine = machine_of(rt)?;
+    let words = words_of(alloc, stop.words)?;
+    let open = if stop.is_open {
+        machine.open_maildir("M").ok()
+    } else {
+        None
+    };
+    let mut input = Cut::new(b"From z\nd", 4, stop.then);
+    let mut out = BufWriter::with_capacity(alloc, 16, Narrow::new(alloc, stop.room, 64, true))?;
+    let mut err = Narrow::new(alloc, stop.told, 64, true);
+    let ending = execute(&mut machine, alloc, &words, &mut input, &mut out, &mut err);
+    if let Some(maildir) = open {
+        machine.close_maildir("M", maildir);
+    }
+    Ok(
+        ending == stop.ending
+            && out.get_ref().taken.as_slice() == stop.out.as_bytes()
+            && err.taken.as_slice() == stop.err.as_bytes()
+            && has_names(&mut machine, "M", Sub::New, stop.names)?
+            && has_names(&mut machine, "M", Sub::Tmp, &[])?
+            && has_names(&mut machine, "N", Sub::New, &[])?
+            && has_names(&mut machine, "N", Sub::Cur, &["u:2,"])?,
+    )
+}
+
+#[test]
+fn whole_programs_that_stop(rt: HostRuntime) -> Result<(), Fail> {
+    for stop in STOPS {
+        assert!(rt; stops_so(rt, stop)?, "{:?}", stop.words);
     }
     Ok(())
 }

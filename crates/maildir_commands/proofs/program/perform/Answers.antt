@@ -1,17 +1,18 @@
-use Rattle.std.proofs.Common.{Some, refl}
+use Rattle.std.proofs.Common.{Some, refl, inl, inr}
 use Rattle.std.specs.Io.Buffered.{writer_buffer, writer_contents}
 use Rattle.std.specs.List.{flat_map}
 use Rattle.mbox_text.specs.Spelling.{spelling}
 use Rattle.maildir_run.specs.Table.{table_of}
 use Rattle.maildir_disk.proofs.Left.Lefts.{on_ok}
 use Rattle.maildir_commands.proofs.Several.{on_err, on_ok_then}
-use Rattle.maildir_commands.proofs.Output.{all_front, each_some, handed_all, handed_each, handed_reports, some_kept}
+use Rattle.maildir_commands.proofs.Output.{all_front, all_given, each_some, handed_all, handed_each, handed_reports, some_kept}
 use Rattle.maildir_commands.proofs.program.perform.Goals as goal
 
 pub returns-in_err-answer-clause-some : goal.returns-in_err-answer-clause-some
 returns-in_err-answer-clause-some g c = λ h words maildir texts is_of these.
-    on_err _ _ (some_kept _ _ texts (writer_contents g.W.Write.contents c.args.out.now) (writer_contents g.W.Write.contents c.work-answer.new.out)
-    (writer_contents g.W.Write.contents c.flush-handed.new.out) c.flush-handed.ensures.same (c.in_err-answer.ensures.some h words maildir texts is_of these))
+    on_err _ _ (some_kept _ _ texts (writer_contents g.W.Write.contents c.args.out.now)
+    (writer_contents g.W.Write.contents c.work-answer.new.out) (writer_contents g.W.Write.contents c.flush-handed.new.out)
+    c.flush-handed.ensures.same ((c.in_err-answer.ensures.delivers h words maildir texts is_of these).some))
 
 pub returns-clause-rewritten_input : goal.returns-clause-rewritten_input
 returns-clause-rewritten_input g c = λ words is_of are.
@@ -52,14 +53,15 @@ returns-clause-printed g c = λ maildir files is_of.
     c.flush-handed.ensures.same refl none _ (c.in_ok-answer.ensures.printed maildir files is_of)) c.flush-handed.ensures.handed
 
 pub returns-clause-safe : goal.returns-clause-safe
-returns-clause-safe g c = λ h words maildir texts is_of these. on_ok _ c.flush-handed.result (c.in_ok-answer.ensures.safe h words maildir texts is_of these)
+returns-clause-safe g c = λ h words maildir texts is_of these.
+    on_ok _ c.flush-handed.result ((c.in_ok-answer.ensures.delivers h words maildir texts is_of these).safe)
 
 pub returns-clause-each : goal.returns-clause-each
 returns-clause-each g c = λ h words maildir texts is_of these.
     on_ok_then c.flush-handed.result _ _
     (λ none. handed_each (writer_contents g.W.Write.contents c.args.out.now) (writer_contents g.W.Write.contents c.work-answer.new.out)
     (writer_contents g.W.Write.contents c.flush-handed.new.out) (g.W.Write.contents c.flush-handed.new.out.inner) (writer_buffer c.flush-handed.new.out)
-    c.flush-handed.ensures.same refl none _ texts (c.in_ok-answer.ensures.each h words maildir texts is_of these)) c.flush-handed.ensures.handed
+    c.flush-handed.ensures.same refl none _ texts ((c.in_ok-answer.ensures.delivers h words maildir texts is_of these).each)) c.flush-handed.ensures.handed
 
 pub returns-clause-rewritten_front : goal.returns-clause-rewritten_front
 returns-clause-rewritten_front g c = λ h file is_of.
@@ -77,4 +79,24 @@ pub returns-clause-some : goal.returns-clause-some
 returns-clause-some g c = λ h words maildir texts is_of these.
     on_err _ _ (each_some _ _ texts (writer_contents g.W.Write.contents c.args.out.now) (writer_contents g.W.Write.contents c.work-answer.new.out)
     (writer_contents g.W.Write.contents c.flush-handed.new.out) c.flush-handed.ensures.same
-    (c.in_ok-answer.ensures.each h words maildir texts is_of these) (c.in_ok-answer.ensures.safe h words maildir texts is_of these))
+    ((c.in_ok-answer.ensures.delivers h words maildir texts is_of these).each) ((c.in_ok-answer.ensures.delivers h words maildir texts is_of these).safe))
+
+pub returns-in_err-answer-clause-stay : goal.returns-in_err-answer-clause-stay
+returns-in_err-answer-clause-stay g c = λ h words maildir texts is_of these. (c.work-answer.ensures.delivers h words maildir texts is_of these).stay
+
+pub returns-clause-stay : goal.returns-clause-stay
+returns-clause-stay g c = λ h words maildir texts is_of these. (c.work-answer.ensures.delivers h words maildir texts is_of these).stay
+
+pub returns-clause-rewritten_input_front : goal.returns-clause-rewritten_input_front
+returns-clause-rewritten_input_front g c = λ words is_of are.
+    on_err _ _ (all_given (flat_map spelling) (g.I.Read.remaining c.args.input.now)
+    (g.I.Read.remaining c.work-answer.new.input) (writer_contents g.W.Write.contents c.args.out.now)
+    (writer_contents g.W.Write.contents c.work-answer.new.out) (writer_contents g.W.Write.contents c.flush-handed.new.out) c.flush-handed.ensures.same
+    (c.in_ok-answer.ensures.end words is_of (inl are)) (c.in_ok-answer.ensures.rewritten_input words is_of are))
+
+pub returns-clause-listed_input_front : goal.returns-clause-listed_input_front
+returns-clause-listed_input_front g c = λ is_of.
+    on_err _ _
+    (all_given table_of (g.I.Read.remaining c.args.input.now) (g.I.Read.remaining c.work-answer.new.input) (writer_contents g.W.Write.contents c.args.out.now)
+    (writer_contents g.W.Write.contents c.work-answer.new.out) (writer_contents g.W.Write.contents c.flush-handed.new.out) c.flush-handed.ensures.same
+    (c.in_ok-answer.ensures.end _ is_of (inr refl)) (c.in_ok-answer.ensures.listed_input is_of))

@@ -1,34 +1,31 @@
-use Rattle.std.proofs.Common.{map, string_bytes}
-use Rattle.maildir_commands.proofs.Resting.{rest_same}
+use Rattle.std.proofs.Common.{◌≤◌, sym, subst, ◌∙◌}
+use Rattle.maildir_commands.proofs.Endings.{few_statuses, told_front}
 use Rattle.maildir_commands.proofs.program.run.Goals as goal
 
-pub returns-in_default-clause-nowhere : goal.returns-in_default-clause-nowhere
-returns-in_default-clause-nowhere g c = λ h none word. rest_same _
-
-pub returns-in-Ok-clause-safe : goal.returns-in-Ok-clause-safe
-returns-in-Ok-clause-safe g c = λ h maildir texts these status.
-    c.in-Ok.ensures.safe h (map string_bytes c.args.words.now) maildir texts c.in-Some.ensures.words these
-
-pub returns-in-Ok-clause-each : goal.returns-in-Ok-clause-each
-returns-in-Ok-clause-each g c = λ h maildir texts these status.
-    c.in-Ok.ensures.each h (map string_bytes c.args.words.now) maildir texts c.in-Some.ensures.words these
-
-pub returns-in-Err-clause-some : goal.returns-in-Err-clause-some
-returns-in-Err-clause-some g c = λ h maildir texts these status.
-    c.in-Err.ensures.some h (map string_bytes c.args.words.now) maildir texts c.in-Some.ensures.words these
-
-pub returns-in-Ok-clause-stay : goal.returns-in-Ok-clause-stay
-returns-in-Ok-clause-stay g c = λ h maildir texts these.
-    c.perform.ensures.stay h (map string_bytes c.args.words.now) maildir texts c.in-Some.ensures.words these
-
-pub returns-in-Ok-clause-elsewhere : goal.returns-in-Ok-clause-elsewhere
-returns-in-Ok-clause-elsewhere g c = λ h maildir word files are other.
-    c.perform.ensures.elsewhere h (map string_bytes c.args.words.now) maildir word files c.in-Some.ensures.words are other
-
-pub returns-in-Err-clause-stay : goal.returns-in-Err-clause-stay
-returns-in-Err-clause-stay g c = λ h maildir texts these.
-    c.perform.ensures.stay h (map string_bytes c.args.words.now) maildir texts c.in-Some.ensures.words these
-
-pub returns-in-Err-clause-elsewhere : goal.returns-in-Err-clause-elsewhere
-returns-in-Err-clause-elsewhere g c = λ h maildir word files are other.
-    c.perform.ensures.elsewhere h (map string_bytes c.args.words.now) maildir word files c.in-Some.ensures.words are other
+pub returns : goal.returns
+returns g c =
+    let is = sym c.status.ensures in
+    let does = c.execute.ensures in record {
+      few = subst (λ n. n ≤ 2) is (few_statuses c.execute.result);
+      silent = λ status. does.silent (is ∙ status);
+      rewritten_input = λ words status. does.rewritten_input words (is ∙ status);
+      rewritten = λ h file words status. does.rewritten h file words (is ∙ status);
+      listed_input = λ words status. does.listed_input words (is ∙ status);
+      listed = λ h file words status. does.listed h file words (is ∙ status);
+      printed = λ maildir files words status. does.printed maildir files words (is ∙ status);
+      safe = λ h maildir texts these status. does.safe h maildir texts these (is ∙ status);
+      each = λ h maildir texts these status. does.each h maildir texts these (is ∙ status);
+      rewritten_input_front = λ words status. does.rewritten_input_front words (is ∙ status);
+      listed_input_front = λ words status. does.listed_input_front words (is ∙ status);
+      rewritten_front = λ h file words status. does.rewritten_front h file words (is ∙ status);
+      listed_front = λ h file words status. does.listed_front h file words (is ∙ status);
+      some = λ h maildir texts these status. does.some h maildir texts these (is ∙ status);
+      wrong = (λ status. does.wrong.0 (is ∙ status), λ none. c.status.ensures ∙ does.wrong.1 none);
+      told = λ status. told_front _ _ _ c.execute.result (is ∙ status) does.told;
+      untouched = λ status. does.untouched (is ∙ status);
+      unread = λ status. does.unread (is ∙ status);
+      texts = does.texts;
+      stay = does.stay;
+      elsewhere = does.elsewhere;
+      nowhere = does.nowhere;
+    }

@@ -1,7 +1,10 @@
-use Rattle.std.proofs.Common.{inr, rules}
+use Rattle.std.proofs.Common.{Err, ap, inr, rules}
 use Rattle.maildir_run.proofs.Chains.Chains.{sound_now}
 use Rattle.maildir_disk.proofs.Kept.Others.{stays_after_run, stays_after_both}
 use Rattle.maildir_disk.proofs.Kept.Safety.{intact_after_run, intact_after_both, survive_after_run, survive_after_both, safe_after_both, reports_after_run}
+use Rattle.maildir_commands.specs.declared.fault.Fault.TheVariants.{Run}
+use Rattle.maildir_commands.specs.Causes.{IsPossibly}
+use Rattle.maildir_commands.proofs.Causes.{long_possible, of_fault, of_run}
 use Rattle.maildir_commands.proofs.Known.{both_have, of_reports}
 use Rattle.maildir_commands.proofs.Several.{on_err}
 use Rattle.maildir_commands.proofs.sources.deliver.Goals as goal
@@ -120,3 +123,11 @@ returns-in_err-print_report-clause-stopped g c = λ honest t ms small p are soun
       kept = record { home = safe.home; survive = safe.survive };
       line = c.in_err-print_report.ensures.printed;
     }))
+
+pub returns-in_err-report-clause-cause : goal.returns-in_err-report-clause-cause
+returns-in_err-report-clause-cause g c =
+    let was = g.I.Read.remaining c.args.source.now in
+    let is = g.I.Read.remaining c.convert.new.source in
+    of_fault c.from_residual.result (Run c.in_err-report.field-0.0) _ c.from_residual.ensures.1
+    (of_run (IsPossibly was is) c.in_err-report.field-0.0 (λ e t p entries. c.in_err-report.ensures.no_from_line (ap Err e) t entries p)
+    (λ e. long_possible was is (c.in_err-report.ensures.spent (ap Err e))))

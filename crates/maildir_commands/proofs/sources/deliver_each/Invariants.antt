@@ -21,3 +21,4 @@ invariant-loop-path g l =
     (held g.M.Maildir.System.world g.M.Maildir.System.may_leave g.M.Maildir.System.rooted l.folder.system)
     (writer_contents g.W.Write.contents l.fn.out) (writer_contents g.W.Write.contents l.out))
     × (g.M.Machine.honest l.fn.machine → (word : List ℕ) → g.M.Machine.is_open l.fn.machine word → g.M.Machine.is_open l.machine word)
+    × (g.M.Machine.honest l.fn.machine → (word : List ℕ) → g.M.Machine.refuses_source l.machine word → g.M.Machine.refuses_source l.fn.machine word)

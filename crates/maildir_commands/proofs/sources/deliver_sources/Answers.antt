@@ -1,125 +1,54 @@
-use Rattle.std.proofs.Common.{◌≡◌, ◌<◌, ◌≤◌, ℕ, List, ◌∷◌, length, get_or, map, Some, string_bytes, sym, subst, ◌∙◌, rules, arith}
-use Rattle.std.proofs.KnownBytes.{Keeps-refl}
-use Rattle.std.specs.Io.Buffered.{writer_contents}
+use Rattle.std.proofs.Common.{◌≡◌, ◌<◌, ℕ, List, ◌∷◌, length, get_or, map, Some, string_bytes, sym, ap, subst, ◌∙◌, rules, arith}
+use Rattle.std.proofs.lemmas.Result.{IfErr-weaker}
 use Rattle.maildir_run.specs.Runs.{Possible}
+use Rattle.maildir_commands.specs.declared.command.Command.TheVariants.{Convert}
 use Rattle.maildir_commands.specs.Machines.{Rests, bytes_of, held}
+use Rattle.maildir_commands.proofs.Causes.{files_before, holds_first, of_fault, of_files, of_input, of_maildir, refused_file}
+use Rattle.maildir_commands.proofs.Delivered.{closed, none_delivered, one_delivered}
+use Rattle.maildir_commands.proofs.Forms.{none_named}
 use Rattle.maildir_commands.proofs.Resting.{rest_then}
-use Rattle.maildir_commands.proofs.Several.{all_each, all_safe, first_up, no_text, none_printed, none_given, none_some, on_err}
-use Rattle.maildir_commands.proofs.Several.{on_err_then, on_ok_then, only_first, only_length, rest_all_safe, rest_each, rest_some}
-use Rattle.maildir_commands.proofs.Several.{rest_sound, some_given, sound_of, stay_both, stay_more, stay_none, stay_rest, then_stopped}
+use Rattle.maildir_commands.proofs.Several.{no_text, none_given, only_first, only_length, rest_sound, some_given, sound_of}
 use Rattle.maildir_commands.proofs.sources.deliver_sources.Goals as goal
 
 -- ---- nothing was opened
-pub returns-in_err-folder-clause-some : goal.returns-in_err-folder-clause-some
-returns-in_err-folder-clause-some g c = λ h texts given fit sound. on_err _ _ (none_some texts _ _ _ _ (Keeps-refl _))
+pub returns-in_err-folder-clause-delivers : goal.returns-in_err-folder-clause-delivers
+returns-in_err-folder-clause-delivers g c = λ h texts given fit sound.
+    none_delivered c.from_residual.result texts _ _ _ c.from_residual.ensures.0 (c.in_err-folder.ensures.rests h)
 
-pub returns-in_err-folder-clause-stay : goal.returns-in_err-folder-clause-stay
-returns-in_err-folder-clause-stay g c = λ h texts given fit sound. stay_rest texts _ _ (c.in_err-folder.ensures.rests h)
+pub returns-in_err-source-clause-delivers : goal.returns-in_err-source-clause-delivers
+returns-in_err-source-clause-delivers g c = λ h texts given fit sound.
+    none_delivered c.from_residual-in_err-source.result texts _ _ _ c.from_residual-in_err-source.ensures.0 (c.open.ensures.rests h c.args.maildir.now)
 
-pub returns-in_err-source-clause-some : goal.returns-in_err-source-clause-some
-returns-in_err-source-clause-some g c = λ h texts given fit sound. on_err _ _ (none_some texts _ _ _ _ (Keeps-refl _))
-
-pub returns-in_err-source-clause-stay : goal.returns-in_err-source-clause-stay
-returns-in_err-source-clause-stay g c = λ h texts given fit sound. stay_rest texts _ _ (c.open.ensures.rests h c.args.maildir.now)
+pub returns-in_err-folder-2-clause-delivers : goal.returns-in_err-folder-2-clause-delivers
+returns-in_err-folder-2-clause-delivers g c = λ h texts given fit sound.
+    none_delivered c.from_residual-in_err-folder-2.result texts _ _ _ c.from_residual-in_err-folder-2.ensures.0
+    (rest_then _ _ _ (c.open.ensures.rests h c.args.maildir.now) (c.in_err-folder-2.ensures.rests (c.open.ensures.honest h)))
 
 pub returns-in_err-folder-2-clause-elsewhere : goal.returns-in_err-folder-2-clause-elsewhere
 returns-in_err-folder-2-clause-elsewhere g c = λ h word other.
     rest_then _ _ _ (c.open.ensures.rests h word) (c.open_folder-2.ensures.others (c.open.ensures.honest h) word other)
-
-pub returns-in_err-folder-2-clause-some : goal.returns-in_err-folder-2-clause-some
-returns-in_err-folder-2-clause-some g c = λ h texts given fit sound. on_err _ _ (none_some texts _ _ _ _ (Keeps-refl _))
-
-pub returns-in_err-folder-2-clause-stay : goal.returns-in_err-folder-2-clause-stay
-returns-in_err-folder-2-clause-stay g c = λ h texts given fit sound.
-    stay_rest texts _ _ (rest_then _ _ _ (c.open.ensures.rests h c.args.maildir.now) (c.in_err-folder-2.ensures.rests (c.open.ensures.honest h)))
 
 -- ---- standard input
 pub returns-in_default-clause-elsewhere : goal.returns-in_default-clause-elsewhere
 returns-in_default-clause-elsewhere g c = λ h word other.
     rest_then _ _ _ (c.open_folder.ensures.others h word other) (c.close_maildir.ensures.others (c.open_folder.ensures.honest h) word other)
 
-pub returns-in_default-clause-safe : goal.returns-in_default-clause-safe
-returns-in_default-clause-safe g c = λ h texts given fit sound.
+pub returns-in_default-clause-delivers : goal.returns-in_default-clause-delivers
+returns-in_default-clause-delivers g c = λ h texts given fit sound.
     let system = held g.M.Maildir.System.world g.M.Maildir.System.may_leave g.M.Maildir.System.rooted in
     let one = none_given texts (g.M.Machine.text_of c.args.machine.now) string_bytes _ _ c.args.files.now given (search rules) in
-    let first = get_or texts 0 no_text in
-    let inside : 0 < length texts = omega (arith, only_length texts one.0 one.1) in
-    let most : length texts ≤ 1 = omega (arith, only_length texts one.0 one.1) in
+    let many = only_length texts one.0 one.1 in
+    let inside : 0 < length texts = omega (arith, many) in
     let possible = subst (λ text. Possible (g.I.Read.remaining c.args.input.now) (g.I.Read.remaining c.deliver_one-answer.new.source) text.bytes)
     (only_first texts one.0 one.1) one.2 in
-    let works = c.in_ok-folder.ensures.works h in
-    let ready = rest_sound texts fit.are _ _ (c.in_ok-folder.ensures.opens h) sound in
-    let this = sound_of texts _ 0 no_text inside ready in
-    let is_text = fit.are 0 no_text inside in
-    let closes = subst (λ s. Rests (system s) (g.M.Machine.maildir_at c.close_maildir.new.self c.args.maildir.now)) c.into_system.ensures
-    (c.close_maildir.ensures.closes (c.open_folder.ensures.honest h) (c.in_ok-folder.ensures.open h)) in
-    on_ok_then c.deliver_one-answer.result _ _ (λ up. rest_all_safe texts fit.are _ _ closes (all_safe 1 texts _ _ _ _ most up))
-    (first_up c.deliver_one-answer.result texts fit _ _ (writer_contents g.W.Write.contents c.args.out.now)
-    (writer_contents g.W.Write.contents c.deliver_one-answer.new.out) ready inside (c.deliver_one-answer.ensures.stays works first is_text possible this)
-    (c.deliver_one-answer.ensures.safe works first is_text possible this) (c.deliver_one-answer.ensures.line works first is_text possible this)
-    (c.deliver_one-answer.ensures.known works first is_text possible this))
-
-pub returns-in_default-clause-each : goal.returns-in_default-clause-each
-returns-in_default-clause-each g c = λ h texts given fit sound.
-    let one = none_given texts (g.M.Machine.text_of c.args.machine.now) string_bytes _ _ c.args.files.now given (search rules) in
-    let first = get_or texts 0 no_text in
-    let inside : 0 < length texts = omega (arith, only_length texts one.0 one.1) in
-    let most : length texts ≤ 1 = omega (arith, only_length texts one.0 one.1) in
-    let possible = subst (λ text. Possible (g.I.Read.remaining c.args.input.now) (g.I.Read.remaining c.deliver_one-answer.new.source) text.bytes)
-    (only_first texts one.0 one.1) one.2 in
-    let works = c.in_ok-folder.ensures.works h in
     let opens = c.in_ok-folder.ensures.opens h in
     let ready = rest_sound texts fit.are _ _ opens sound in
-    let this = sound_of texts _ 0 no_text inside ready in
-    let is_text = fit.are 0 no_text inside in
-    on_ok_then c.deliver_one-answer.result _ _ (λ up. rest_each texts fit.are _ _ _ _ opens (all_each 1 texts _ _ _ _ most up))
-    (first_up c.deliver_one-answer.result texts fit _ _ (writer_contents g.W.Write.contents c.args.out.now)
-    (writer_contents g.W.Write.contents c.deliver_one-answer.new.out) ready inside (c.deliver_one-answer.ensures.stays works first is_text possible this)
-    (c.deliver_one-answer.ensures.safe works first is_text possible this) (c.deliver_one-answer.ensures.line works first is_text possible this)
-    (c.deliver_one-answer.ensures.known works first is_text possible this))
-
-pub returns-in_default-clause-some : goal.returns-in_default-clause-some
-returns-in_default-clause-some g c = λ h texts given fit sound.
-    let system = held g.M.Maildir.System.world g.M.Maildir.System.may_leave g.M.Maildir.System.rooted in
-    let one = none_given texts (g.M.Machine.text_of c.args.machine.now) string_bytes _ _ c.args.files.now given (search rules) in
-    let first = get_or texts 0 no_text in
-    let inside : 0 < length texts = omega (arith, only_length texts one.0 one.1) in
-    let possible = subst (λ text. Possible (g.I.Read.remaining c.args.input.now) (g.I.Read.remaining c.deliver_one-answer.new.source) text.bytes)
-    (only_first texts one.0 one.1) one.2 in
-    let works = c.in_ok-folder.ensures.works h in
-    let opens = c.in_ok-folder.ensures.opens h in
-    let ready = rest_sound texts fit.are _ _ opens sound in
-    let this = sound_of texts _ 0 no_text inside ready in
-    let is_text = fit.are 0 no_text inside in
     let closes = subst (λ s. Rests (system s) (g.M.Machine.maildir_at c.close_maildir.new.self c.args.maildir.now)) c.into_system.ensures
     (c.close_maildir.ensures.closes (c.open_folder.ensures.honest h) (c.in_ok-folder.ensures.open h)) in
-    on_err_then c.deliver_one-answer.result _ _ (λ stopped. rest_some texts fit.are _ _ _ _ _ _ opens closes
-    (then_stopped texts fit 0 no_text _ _ _ _ _ _ inside (none_printed texts _ _ ready)
-    (c.deliver_one-answer.ensures.stays works first is_text possible this) stopped))
-    (c.deliver_one-answer.ensures.stopped works first is_text possible this)
-
-pub returns-in_default-clause-stay : goal.returns-in_default-clause-stay
-returns-in_default-clause-stay g c = λ h texts given fit sound.
-    let system = held g.M.Maildir.System.world g.M.Maildir.System.may_leave g.M.Maildir.System.rooted in
-    let one = none_given texts (g.M.Machine.text_of c.args.machine.now) string_bytes _ _ c.args.files.now given (search rules) in
-    let first = get_or texts 0 no_text in
-    let inside : 0 < length texts = omega (arith, only_length texts one.0 one.1) in
-    let possible = subst (λ text. Possible (g.I.Read.remaining c.args.input.now) (g.I.Read.remaining c.deliver_one-answer.new.source) text.bytes)
-    (only_first texts one.0 one.1) one.2 in
-    let works = c.in_ok-folder.ensures.works h in
-    let opens = c.in_ok-folder.ensures.opens h in
-    let ready = rest_sound texts fit.are _ _ opens sound in
-    let this = sound_of texts _ 0 no_text inside ready in
-    let is_text = fit.are 0 no_text inside in
-    let closes = subst (λ s. Rests (system s) (g.M.Machine.maildir_at c.close_maildir.new.self c.args.maildir.now)) c.into_system.ensures
-    (c.close_maildir.ensures.closes (c.open_folder.ensures.honest h) (c.in_ok-folder.ensures.open h)) in
-    let begun = system c.in_ok-folder.folder.system in
-    let done = system c.deliver_one-answer.new.folder.system in
-    let before = g.M.Machine.maildir_at c.args.machine.now c.args.maildir.now in
-    let after = g.M.Machine.maildir_at c.close_maildir.new.self c.args.maildir.now in
-    stay_both texts before done after (stay_both texts before begun done (stay_rest texts before begun opens)
-    (stay_more texts fit 0 no_text begun begun done inside (stay_none texts begun) (c.deliver_one-answer.ensures.stays works first is_text possible this)))
-    (stay_rest texts done after closes)
+    closed c.deliver_one-answer.result texts fit.are _ _ _ _ _ _ opens closes
+    (one_delivered c.deliver_one-answer.result texts fit _ _ _ _ many ready
+    (c.deliver_one-answer.ensures.delivers (c.in_ok-folder.ensures.works h) (get_or texts 0 no_text)
+    (fit.are 0 no_text inside) possible (sound_of texts _ 0 no_text inside ready)))
 
 -- ---- files
 pub returns-clause-elsewhere : goal.returns-clause-elsewhere
@@ -130,8 +59,8 @@ returns-clause-elsewhere g c = λ h word other.
     (rest_then _ _ _ (c.deliver_each-answer.ensures.elsewhere honest word)
     (c.close_maildir-2.ensures.others (c.deliver_each-answer.ensures.honest honest) word other))
 
-pub returns-clause-safe : goal.returns-clause-safe
-returns-clause-safe g c = λ h texts given fit sound.
+pub returns-clause-delivers : goal.returns-clause-delivers
+returns-clause-delivers g c = λ h texts given fit sound.
     let opened = c.open.ensures.honest h in
     let honest = c.open_folder-2.ensures.honest opened in
     let works = c.in_ok-folder-2.ensures.works opened in
@@ -148,69 +77,57 @@ returns-clause-safe g c = λ h texts given fit sound.
     let closes = subst (λ s. Rests (system s) (g.M.Machine.maildir_at c.close_maildir-2.new.self c.args.maildir.now)) c.into_system-2.ensures
     (c.close_maildir-2.ensures.closes (c.deliver_each-answer.ensures.honest honest)
     (c.deliver_each-answer.ensures.still_open honest c.args.maildir.now (c.in_ok-folder-2.ensures.open opened))) in
-    on_ok_then c.deliver_each-answer.result _ _ (λ safe. rest_all_safe texts fit.are _ _ closes safe)
-    (c.deliver_each-answer.ensures.safe honest works texts first reads these fit ready)
+    closed c.deliver_each-answer.result texts fit.are _ _ _ _ _ _ opens closes
+    (c.deliver_each-answer.ensures.delivers honest works texts first reads these fit ready)
 
-pub returns-clause-each : goal.returns-clause-each
-returns-clause-each g c = λ h texts given fit sound.
+-- ---- why it ended with a fault
+pub returns-in_err-folder-clause-cause : goal.returns-in_err-folder-clause-cause
+returns-in_err-folder-clause-cause g c = λ h.
+    of_fault c.from_residual.result _ _ c.from_residual.ensures.1
+    (of_maildir (g.M.Machine.text_of c.args.machine.now) (g.M.Machine.refuses_source c.args.machine.now) (g.M.Machine.refuses_maildir c.args.machine.now)
+    (g.I.Read.remaining c.args.input.now) (g.I.Read.remaining c.args.input.now) (Convert c.args.maildir c.args.files)
+    c.args.maildir.now (λ P is. is) _ (c.in_err-folder.ensures.refused h))
+
+pub returns-in_err-source-clause-cause : goal.returns-in_err-source-clause-cause
+returns-in_err-source-clause-cause g c = λ h.
+    let refuses = g.M.Machine.refuses_source c.args.machine.now in
+    let first = string_bytes c.in-Some.first.now in
+    of_fault c.from_residual-in_err-source.result _ _ c.from_residual-in_err-source.ensures.1
+    (of_files (g.M.Machine.text_of c.args.machine.now) refuses (g.M.Machine.refuses_maildir c.args.machine.now)
+    (g.I.Read.remaining c.args.input.now) (g.I.Read.remaining c.args.input.now) (Convert c.args.maildir c.args.files)
+    first (map string_bytes c.in-Some.rest.now) (ap (map string_bytes) c.in-Some.ensures.cases.0) tt _
+    (refused_file (g.M.Machine.text_of c.args.machine.now) refuses first _ first (holds_first first _) _ c.in_err-source.ensures.causes
+    (λ e. subst refuses c.as_str.ensures.value (c.in_err-source.ensures.refused h e))))
+
+pub returns-in_err-folder-2-clause-cause : goal.returns-in_err-folder-2-clause-cause
+returns-in_err-folder-2-clause-cause g c = λ h.
+    let told = c.in_err-folder-2.ensures.refused (c.open.ensures.honest h) in
+    of_fault c.from_residual-in_err-folder-2.result _ _ c.from_residual-in_err-folder-2.ensures.1
+    (of_maildir (g.M.Machine.text_of c.args.machine.now) (g.M.Machine.refuses_source c.args.machine.now) (g.M.Machine.refuses_maildir c.args.machine.now)
+    (g.I.Read.remaining c.args.input.now) (g.I.Read.remaining c.args.input.now) (Convert c.args.maildir c.args.files)
+    c.args.maildir.now (λ P is. is) _ (told.0, told.1, c.open.ensures.maildirs h c.args.maildir.now told.0 told.2))
+
+pub returns-in_default-clause-cause : goal.returns-in_default-clause-cause
+returns-in_default-clause-cause g c = λ h.
+    let none : length c.args.files.now ≡ 0 = search rules in
+    IfErr-weaker c.deliver_one-answer.result _ _ (λ fault is.
+    of_input (g.M.Machine.text_of c.args.machine.now) (g.M.Machine.refuses_source c.args.machine.now) (g.M.Machine.refuses_maildir c.args.machine.now)
+    (g.I.Read.remaining c.args.input.now) (g.I.Read.remaining c.deliver_one-answer.new.source) (Convert c.args.maildir c.args.files)
+    (none_named string_bytes c.args.files.now none) tt fault is) c.deliver_one-answer.ensures.cause
+
+pub returns-clause-cause : goal.returns-clause-cause
+returns-clause-cause g c = λ h.
     let opened = c.open.ensures.honest h in
     let honest = c.open_folder-2.ensures.honest opened in
-    let works = c.in_ok-folder-2.ensures.works opened in
-    let opens = rest_then _ _ _ (c.open.ensures.rests h c.args.maildir.now) (c.in_ok-folder-2.ensures.opens opened) in
-    let ready = rest_sound texts fit.are _ _ opens sound in
     let same : g.M.Machine.text_of c.open_folder-2.new.machine ≡ g.M.Machine.text_of c.args.machine.now =
     c.open_folder-2.ensures.texts opened ∙ c.open.ensures.texts h in
-    let first = g.M.Machine.text_of c.args.machine.now (string_bytes c.in-Some.first.now) in
-    let bytes = some_given texts (g.M.Machine.text_of c.args.machine.now)
-    string_bytes _ _ c.args.files.now given c.in-Some.first.now c.in-Some.rest.now c.in-Some.ensures.cases.0 in
-    let these = subst (λ (f : List ℕ → List ℕ). bytes_of texts ≡ first ∷ map (λ file. f (string_bytes file)) c.in-Some.rest.now) (sym same) bytes in
-    let reads : g.M.Source.Read.remaining c.in_ok-source.source ≡ Some first = cc (c.in_ok-source.ensures.text h, c.as_str.ensures.value) in
-    on_ok_then c.deliver_each-answer.result _ _ (λ each. rest_each texts fit.are _ _ _ _ opens each)
-    (c.deliver_each-answer.ensures.each honest works texts first reads these fit ready)
-
-pub returns-clause-some : goal.returns-clause-some
-returns-clause-some g c = λ h texts given fit sound.
-    let opened = c.open.ensures.honest h in
-    let honest = c.open_folder-2.ensures.honest opened in
-    let works = c.in_ok-folder-2.ensures.works opened in
-    let opens = rest_then _ _ _ (c.open.ensures.rests h c.args.maildir.now) (c.in_ok-folder-2.ensures.opens opened) in
-    let ready = rest_sound texts fit.are _ _ opens sound in
-    let same : g.M.Machine.text_of c.open_folder-2.new.machine ≡ g.M.Machine.text_of c.args.machine.now =
-    c.open_folder-2.ensures.texts opened ∙ c.open.ensures.texts h in
-    let first = g.M.Machine.text_of c.args.machine.now (string_bytes c.in-Some.first.now) in
-    let bytes = some_given texts (g.M.Machine.text_of c.args.machine.now)
-    string_bytes _ _ c.args.files.now given c.in-Some.first.now c.in-Some.rest.now c.in-Some.ensures.cases.0 in
-    let these = subst (λ (f : List ℕ → List ℕ). bytes_of texts ≡ first ∷ map (λ file. f (string_bytes file)) c.in-Some.rest.now) (sym same) bytes in
-    let reads : g.M.Source.Read.remaining c.in_ok-source.source ≡ Some first = cc (c.in_ok-source.ensures.text h, c.as_str.ensures.value) in
-    let system = held g.M.Maildir.System.world g.M.Maildir.System.may_leave g.M.Maildir.System.rooted in
-    let closes = subst (λ s. Rests (system s) (g.M.Machine.maildir_at c.close_maildir-2.new.self c.args.maildir.now)) c.into_system-2.ensures
-    (c.close_maildir-2.ensures.closes (c.deliver_each-answer.ensures.honest honest)
-    (c.deliver_each-answer.ensures.still_open honest c.args.maildir.now (c.in_ok-folder-2.ensures.open opened))) in
-    on_err_then c.deliver_each-answer.result _ _ (λ some. rest_some texts fit.are _ _ _ _ _ _ opens closes some)
-    (c.deliver_each-answer.ensures.some honest works texts first reads these fit ready)
-
-pub returns-clause-stay : goal.returns-clause-stay
-returns-clause-stay g c = λ h texts given fit sound.
-    let opened = c.open.ensures.honest h in
-    let honest = c.open_folder-2.ensures.honest opened in
-    let works = c.in_ok-folder-2.ensures.works opened in
-    let opens = rest_then _ _ _ (c.open.ensures.rests h c.args.maildir.now) (c.in_ok-folder-2.ensures.opens opened) in
-    let ready = rest_sound texts fit.are _ _ opens sound in
-    let same : g.M.Machine.text_of c.open_folder-2.new.machine ≡ g.M.Machine.text_of c.args.machine.now =
-    c.open_folder-2.ensures.texts opened ∙ c.open.ensures.texts h in
-    let first = g.M.Machine.text_of c.args.machine.now (string_bytes c.in-Some.first.now) in
-    let bytes = some_given texts (g.M.Machine.text_of c.args.machine.now)
-    string_bytes _ _ c.args.files.now given c.in-Some.first.now c.in-Some.rest.now c.in-Some.ensures.cases.0 in
-    let these = subst (λ (f : List ℕ → List ℕ). bytes_of texts ≡ first ∷ map (λ file. f (string_bytes file)) c.in-Some.rest.now) (sym same) bytes in
-    let reads : g.M.Source.Read.remaining c.in_ok-source.source ≡ Some first = cc (c.in_ok-source.ensures.text h, c.as_str.ensures.value) in
-    let system = held g.M.Maildir.System.world g.M.Maildir.System.may_leave g.M.Maildir.System.rooted in
-    let closes = subst (λ s. Rests (system s) (g.M.Machine.maildir_at c.close_maildir-2.new.self c.args.maildir.now)) c.into_system-2.ensures
-    (c.close_maildir-2.ensures.closes (c.deliver_each-answer.ensures.honest honest)
-    (c.deliver_each-answer.ensures.still_open honest c.args.maildir.now (c.in_ok-folder-2.ensures.open opened))) in
-    let begun = system c.in_ok-folder-2.folder.system in
-    let done = system c.deliver_each-answer.new.folder.system in
-    let before = g.M.Machine.maildir_at c.args.machine.now c.args.maildir.now in
-    let after = g.M.Machine.maildir_at c.close_maildir-2.new.self c.args.maildir.now in
-    stay_both texts before done after
-    (stay_both texts before begun done (stay_rest texts before begun opens) (c.deliver_each-answer.ensures.stay honest works texts first reads these fit ready))
-    (stay_rest texts done after closes)
+    let first = string_bytes c.in-Some.first.now in
+    let rest = map string_bytes c.in-Some.rest.now in
+    let reads : g.M.Source.Read.remaining c.in_ok-source.source ≡ Some (g.M.Machine.text_of c.open_folder-2.new.machine first) =
+    cc (c.in_ok-source.ensures.text h, c.as_str.ensures.value, same) in
+    IfErr-weaker c.deliver_each-answer.result _ _ (λ fault is.
+    of_files (g.M.Machine.text_of c.args.machine.now) (g.M.Machine.refuses_source c.args.machine.now) (g.M.Machine.refuses_maildir c.args.machine.now)
+    (g.I.Read.remaining c.args.input.now) (g.I.Read.remaining c.args.input.now) (Convert c.args.maildir c.args.files)
+    first rest (ap (map string_bytes) c.in-Some.ensures.cases.0) tt fault
+    (files_before _ _ _ _ (first ∷ rest) same (λ word refused. c.open.ensures.refusals h word (c.open_folder-2.ensures.refusals opened word refused)) fault is))
+    (c.deliver_each-answer.ensures.cause honest first reads)

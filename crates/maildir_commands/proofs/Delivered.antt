@@ -1,0 +1,82 @@
+-- What came of delivering several texts.
+use Rattle.std.proofs.Common.{◌≡◌, ◌+◌, ◌<◌, ◌≤◌, ℕ, List, [], ◌∷◌, length, get_or, All, Option, Result, Ok, Err, IsErr, ◌⊎◌, refl, arith}
+use Rattle.std.specs.Io.KnownBytes.{Keeps}
+use Rattle.std.proofs.KnownBytes.{Keeps-refl}
+use Rattle.maildir_run.specs.Several.{Mailbox, IsMailbox}
+use Rattle.maildir_commands.specs.Machines.{HeldMaildir, Rests, AreFit, IsSoundFor, OthersStay}
+use Rattle.maildir_commands.specs.Private.Report.{Delivers, DeliversOne}
+use Rattle.maildir_commands.specs.Report.{PrintsOne}
+use Rattle.maildir_commands.proofs.Several.{UpTo, all_each, all_safe, no_text, none_printed, none_some, one_more, rest_all_safe}
+use Rattle.maildir_commands.proofs.Several.{rest_each, rest_some, stay_both, stay_more, stay_rest, stopped_between, then_stopped}
+
+-- nothing was opened, or written
+pub none_delivered : {A E : Type 0} (answer : Result A E) (texts : List Mailbox) (old new : HeldMaildir) (was : Option (List ℕ))
+    → IsErr answer → Rests old new → Delivers answer texts old new was was
+none_delivered (Ok x) texts old new was failed rests = cc
+none_delivered (Err e) texts old new was failed rests =
+    record { safe = tt; each = tt; some = none_some texts old new was was (Keeps-refl was); stay = stay_rest texts old new rests }
+
+-- one text, where a fault ended its run
+pub not_delivered : {A E : Type 0} (answer : Result A E) (text : Mailbox) (old new : HeldMaildir) (was is : Option (List ℕ))
+    → IsErr answer → Keeps was is ⊎ PrintsOne old new text was is → OthersStay (text ∷ []) old new → DeliversOne answer text old new was is
+not_delivered (Ok x) text old new was is failed stopped stays = cc
+not_delivered (Err e) text old new was is failed stopped stays = record { safe = tt; line = tt; known = tt; stopped = stopped; stays = stays }
+
+-- the Maildir was opened before, and is closed
+pub closed : {A E : Type 0} (answer : Result A E) (texts : List Mailbox) → All IsMailbox texts
+    → (old ready work new : HeldMaildir) (was is : Option (List ℕ)) → Rests old ready → Rests work new
+    → Delivers answer texts ready work was is → Delivers answer texts old new was is
+closed (Ok x) texts are old ready work new was is opens closes did = record {
+  safe = rest_all_safe texts are work new closes did.safe;
+  each = rest_each texts are old ready was is opens did.each;
+  some = tt;
+  stay = stay_both texts old work new (stay_both texts old ready work (stay_rest texts old ready opens) did.stay) (stay_rest texts work new closes);
+}
+closed (Err e) texts are old ready work new was is opens closes did = record {
+  safe = tt;
+  each = tt;
+  some = rest_some texts are old ready work new was is opens closes did.some;
+  stay = stay_both texts old work new (stay_both texts old ready work (stay_rest texts old ready opens) did.stay) (stay_rest texts work new closes);
+}
+
+module _ (texts : List Mailbox) (fit : AreFit texts) (start : HeldMaildir) where
+  -- all of them
+  pub all_delivered : {A E : Type 0} (value : A) (n : ℕ) (now : HeldMaildir) (was is : Option (List ℕ))
+      → length texts ≤ n → UpTo n texts start now was is → Delivers {A = A} {E = E} (Ok value) texts start now was is
+  all_delivered value n now was is most up =
+      record { safe = all_safe n texts start now was is most up; each = all_each n texts start now was is most up; some = tt; stay = up.stay }
+
+  -- some of them, and the next could not be opened
+  pub stopped_delivered : {A E : Type 0} (answer : Result A E) (n : ℕ) (now : HeldMaildir) (was is : Option (List ℕ))
+      → IsErr answer → UpTo n texts start now was is → Delivers answer texts start now was is
+  stopped_delivered (Ok x) n now was is failed up = cc
+  stopped_delivered (Err e) n now was is failed up =
+      record { safe = tt; each = tt; some = stopped_between texts fit n start now was is up; stay = up.stay }
+
+  -- some of them, and the next ended with a fault
+  pub then_delivered : {A B E : Type 0} (answer : Result B E) (fault : E) (n : ℕ) (e : Mailbox) (old new : HeldMaildir) (was mid is : Option (List ℕ))
+      → IsErr answer → n < length texts → UpTo n texts start old was mid
+      → DeliversOne {A = A} (Err fault) (get_or texts n e) old new mid is → Delivers answer texts start new was is
+  then_delivered (Ok x) fault n e old new was mid is failed inside up one = cc
+  then_delivered (Err _) fault n e old new was mid is failed inside up one = record {
+    safe = tt;
+    each = tt;
+    some = then_stopped texts fit n e start old new was mid is inside up one.stays one.stopped;
+    stay = stay_more texts fit n e start old new inside up.stay one.stays;
+  }
+
+  -- one more of them
+  pub more_delivered : {A E : Type 0} (value : A) (n : ℕ) (e : Mailbox) (old new : HeldMaildir) (was mid is : Option (List ℕ))
+      → n < length texts → UpTo n texts start old was mid
+      → DeliversOne {A = A} {E = E} (Ok value) (get_or texts n e) old new mid is → UpTo (n + 1) texts start new was is
+  more_delivered value n e old new was mid is inside up one = one_more texts fit n e start old new was mid is inside up one.safe one.line one.known one.stays
+
+-- where one text is all
+pub one_delivered : {A E : Type 0} (answer : Result A E) (texts : List Mailbox) → AreFit texts
+    → (start now : HeldMaildir) (was is : Option (List ℕ)) → length texts ≡ 1 → IsSoundFor texts start
+    → DeliversOne answer (get_or texts 0 no_text) start now was is → Delivers answer texts start now was is
+one_delivered (Ok x) texts fit start now was is one sound did =
+    all_delivered texts fit start x 1 now was is (omega (arith, one))
+    (more_delivered texts fit start x 0 no_text start now was was is (omega (arith, one)) (none_printed texts start was sound) did)
+one_delivered (Err e) texts fit start now was is one sound did =
+    then_delivered texts fit start (Err e) e 0 no_text start now was was is refl (omega (arith, one)) (none_printed texts start was sound) did

@@ -1,0 +1,19 @@
+-- How the program's work ended.
+use Rattle.std.proofs.Common.{◌≡◌, ◌≤◌, ℕ, List, Option, Ok, Err, arith}
+use Rattle.mbox_text.specs.Writing.{AppendsFront, Writes}
+use Rattle.maildir_commands.specs.declared.ending.Ending.{Ending}
+use Rattle.maildir_commands.specs.declared.ending.Ending.TheVariants.{Done, Stopped, WrongWords}
+use Rattle.maildir_commands.specs.Endings.{IfWrongWords, status_of}
+use Rattle.maildir_commands.proofs.Several.{front_of_all}
+
+pub few_statuses : (ending : Ending) → status_of ending ≤ 2
+few_statuses Done = omega arith
+few_statuses (Stopped _ _) = omega arith
+few_statuses (WrongWords _) = omega arith
+
+pub told_front : (was is : Option (List ℕ)) (bytes : List ℕ) (ending : Ending) → status_of ending ≡ 2
+    → IfWrongWords ending (λ answer. Writes was is answer bytes) → AppendsFront was is bytes
+told_front was is bytes Done two told = cc
+told_front was is bytes (Stopped _ _) two told = cc
+told_front was is bytes (WrongWords (Ok _)) two told = front_of_all was is bytes told
+told_front was is bytes (WrongWords (Err _)) two told = told

@@ -1,0 +1,92 @@
+-- Why a command ended with a fault.
+use Rattle.std.specs.Prelude.{◌≡◌, ◌≤◌, ◌⊎◌, ℕ, ◌+◌, ◌*◌, ◌^◌, List, [], ◌∷◌, Contains, length, map, string_bytes, Option, Some, None}
+use Rattle.mbox_text.specs.declared.entry.Entry.{Entry}
+use Rattle.mbox_text.specs.Mbox.{Mbox}
+use Rattle.maildir_run.specs.declared.fault.RunFault.{RunFault}
+use Rattle.maildir_run.specs.declared.fault.RunFault.TheVariants as run
+use Rattle.maildir_run.specs.declared.report.Report.{Report}
+use Rattle.maildir_run.specs.Calls.{GoesUp}
+use Rattle.maildir_run.specs.Counting.{capped, raised}
+use Rattle.maildir_run.specs.Runs.{CountsRun, Possible}
+use Rattle.maildir_disk.specs.declared.faults.OpenFault.{OpenFault}
+use Rattle.maildir_commands.specs.declared.command.Command.{Command}
+use Rattle.maildir_commands.specs.declared.command.Command.TheVariants as command
+use Rattle.maildir_commands.specs.declared.fault.Fault.{Fault}
+use Rattle.maildir_commands.specs.declared.fault.Fault.TheVariants.{Source, Folder, Locked, Run}
+use Rattle.maildir_commands.specs.Faults.{fault_of_opening}
+use Rattle.maildir_commands.specs.Words.{IsOf}
+
+-- the text is no mbox text
+abbrev pub IsNoMbox : List ℕ → Type 0
+IsNoMbox t = (entries : List Entry) → ¬ Mbox t entries
+
+-- so many bytes as a run makes reads, each of which gives one at least
+abbrev pub IsTooLong : List ℕ → Type 0
+IsTooLong t = 2 ^ 40 ≤ length t
+
+-- each text that a source may have had is such
+abbrev pub IsPossibly : Option (List ℕ) → Option (List ℕ) → (List ℕ → Type 0) → Type 0
+IsPossibly before after P = (t : List ℕ) → Possible before after t → P t
+
+-- the text of one of the files is such; where none is named, each text that standard input may have had
+abbrev pub IsOfOne : (List ℕ → List ℕ) → Option (List ℕ) → Option (List ℕ) → List (List ℕ) → (List ℕ → Type 0) → Type 0
+IsOfOne text_of before after [] P = IsPossibly before after P
+IsOfOne text_of before after (file ∷ files) P = (name : List ℕ) × Contains (file ∷ files) name × P (text_of name)
+
+-- what is so where a run ended with this fault: what the first argument says of a text, and that folder calls are made
+abbrev pub IsOfRun : ((List ℕ → Type 0) → Type 0) → Type 0 → RunFault → Type 0
+IsOfRun one calls run.NoFromLine = one IsNoMbox
+IsOfRun one calls run.TooManyReads = one IsTooLong
+IsOfRun one calls run.FolderAbsent = calls
+IsOfRun one calls (run.FolderFailed _) = calls
+IsOfRun one calls run.ReadFault = Unit {0}
+IsOfRun one calls run.OutputFault = Unit {0}
+IsOfRun one calls run.OutOfMemory = Unit {0}
+
+-- where one source was delivered
+abbrev pub IsOfDelivery : Option (List ℕ) → Option (List ℕ) → Fault → Type 0
+IsOfDelivery before after Source = ⊥
+IsOfDelivery before after Folder = ⊥
+IsOfDelivery before after Locked = ⊥
+IsOfDelivery before after (Run fault) = IsOfRun (IsPossibly before after) (Unit {0}) fault
+
+-- the files that a command names
+abbrev pub files_of : Command → List (List ℕ)
+files_of (command.Rewrite None) = []
+files_of (command.Rewrite (Some file)) = file.now ∷ []
+files_of (command.List None) = []
+files_of (command.List (Some file)) = file.now ∷ []
+files_of (command.Convert maildir files) = map string_bytes files.now
+
+-- a Maildir that is named is such
+abbrev pub IsInto : Command → (List ℕ → Type 0) → Type 0
+IsInto (command.Rewrite file) P = ⊥
+IsInto (command.List file) P = ⊥
+IsInto (command.Convert maildir files) P = P maildir.now
+
+-- a Maildir may be refused, which is told as this fault
+abbrev pub IsToldAs : (OpenFault → Type 0) → Fault → Type 0
+IsToldAs refuses fault = (reason : OpenFault) × (fault ≡ fault_of_opening reason) × refuses reason
+
+-- What is so where a command ended with this fault: a file that is named may be refused, or the Maildir; a text is no mbox
+-- text, or too long; folder calls are made. Of reads and writes that fail, and want of memory, nothing is known.
+abbrev pub IsCauseOf : (List ℕ → List ℕ) → (List ℕ → Type 0) → (List ℕ → OpenFault → Type 0) → Option (List ℕ) → Option (List ℕ)
+    → Command → Fault → Type 0
+IsCauseOf text_of refuses_source refuses_maildir before after command Source = (name : List ℕ) × Contains (files_of command) name × refuses_source name
+IsCauseOf text_of refuses_source refuses_maildir before after command Folder = IsInto command (λ maildir. IsToldAs (refuses_maildir maildir) Folder)
+IsCauseOf text_of refuses_source refuses_maildir before after command Locked = IsInto command (λ maildir. IsToldAs (refuses_maildir maildir) Locked)
+IsCauseOf text_of refuses_source refuses_maildir before after command (Run fault) =
+    IsOfRun (IsOfOne text_of before after (files_of command)) (IsInto command (λ _. Unit {0})) fault
+
+-- and where the command with these words did
+abbrev pub HasCause : (List ℕ → List ℕ) → (List ℕ → Type 0) → (List ℕ → OpenFault → Type 0) → Option (List ℕ) → Option (List ℕ)
+    → List (List ℕ) → Fault → Type 0
+HasCause text_of refuses_source refuses_maildir before after words fault =
+    (command : Command) × IsOf command words × IsCauseOf text_of refuses_source refuses_maildir before after command fault
+
+-- The folder call of this number failed: the last that a run made, of so many, or the sync behind the calls of a run that
+-- ended.
+abbrev pub IsFailedCall : ℕ → ℕ → ℕ → ℕ → ℕ → Type 0
+IsFailedCall number calls calls' failures failures' =
+    (GoesUp failures failures' × ((n : ℕ) × (calls' ≡ raised n calls) × (number ≡ capped n)))
+    ⊎ ((report : Report) × CountsRun report calls calls' × (number ≡ capped (3 + report.swept + 2 * report.placed + 1)))
