@@ -96,11 +96,11 @@ def wrong_tests(row):
 
 
 def wrong_edits(edits, functions):
-    """An edit of no function that is there, and two of one name."""
+    """An edit that names no function, or one that is not there, and two of one name."""
     seen = {}
     for path in edits:
         *function, mistake = path.stem.split(".")
-        if function and not functions.of_call("::".join(function)):
+        if not function or not functions.of_call("::".join(function)):
             yield f"the edit {path.stem} is of no function in the sources"
         if mistake in seen:
             yield f"the edits {seen[mistake]} and {path.stem} have one name"
