@@ -12,8 +12,8 @@ macro_rules! abc {
 }
 
 #[test]
-fn converter_names(rt: HostRuntime) {
-    const ROWS: &[(&str, bool)] = &[
+fn names_and_bases(rt: HostRuntime) {
+    const NAMES: &[(&str, bool)] = &[
         (abc!(".1"), true),
         (abc!(".1:2,S"), true),
         (abc!(".1:"), true),
@@ -40,20 +40,16 @@ fn converter_names(rt: HostRuntime) {
         ),
         ("1700000000.M1.host", false),
     ];
-    for &(name, is_ours) in ROWS {
-        assert!(rt; is_converter_name(name) == is_ours, "at {name}");
-    }
-}
-
-#[test]
-fn bases(rt: HostRuntime) {
-    const ROWS: &[(&str, &str)] = &[
+    const BASES: &[(&str, &str)] = &[
         (abc!(".1:2,S:x"), abc!(".1")),
         (":x", ""),
         ("é:2,S", "é"),
         ("u", "u"),
     ];
-    for &(name, base) in ROWS {
+    for &(name, is_ours) in NAMES {
+        assert!(rt; is_converter_name(name) == is_ours, "at {name}");
+    }
+    for &(name, base) in BASES {
         assert!(rt; base_of(name) == base, "of {name}");
     }
 }

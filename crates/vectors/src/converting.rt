@@ -3,7 +3,7 @@ use crate::runs::{
     ABC, Answer, EMPTY_ONE, EMPTY_TWO, File, LIMIT, ONE_SEEN, THREE, TWO_EMPTY, UNENDED, folder_of,
     holds, run_from, run_over,
 };
-use crate::scripts::{Row, Run, go, goes};
+use crate::scripts::{Row, Run, Scene, goes, wrong_scene};
 use crate::streams::{Cut, Then};
 use maildir_run::{FolderFault, MemFolder, RunFault, Sub};
 use std::alloc::Global;
@@ -17,68 +17,149 @@ const FLAGGED: &str = "6e10782762e5fa1e91d5bfce9779c600776be9832f251fd48a19b758b
 const ALL_FLAGS: &[u8] =
     b"From a\tb@c Thu Jan  1 00:00:00 1970\nStatus: RO\nX-Status: AF\n\nhi\n\n";
 
-// A run delivers so many messages by so many calls, and a second one makes three calls and changes nothing.
-fn delivers(alloc: Global, text: &[u8], messages: u64, calls: u64, files: &[File<'_>]) -> bool {
-    let mut folder = MemFolder::new(alloc);
-    run_over(alloc, &mut folder, text) == Ok((messages, 0, messages, 0))
-        && folder.calls() == calls
-        && holds(&folder, files)
-        && run_over(alloc, &mut folder, text) == Ok((messages, messages, 0, 0))
-        && folder.calls() == calls.saturating_add(3)
-        && holds(&folder, files)
-}
-
-// In each row also second_run_changes_nothing.
-#[test]
-fn quiet_runs(rt: HostRuntime) {
-    const ROWS: &[(&str, &[u8], u64, u64, &[File<'_>])] = &[
-        ("empty_text", b"", 0, 3, &[]),
-        ("unended_line", UNENDED, 1, 5, &[(Sub::New, ABC, "abc")]),
-        (
-            "equal_empty_messages",
-            TWO_EMPTY,
-            2,
-            7,
-            &[(Sub::New, EMPTY_ONE, ""), (Sub::New, EMPTY_TWO, "")],
-        ),
-        (
-            "all_flags",
-            ALL_FLAGS,
-            1,
-            5,
-            &[(Sub::Cur, FLAGGED, "Status: RO\nX-Status: AF\n\nhi\n")],
-        ),
-    ];
-    for &(name, text, messages, calls, files) in ROWS {
-        assert!(rt;
-            delivers(rt.alloc(), text, messages, calls, files),
-            "{name}"
-        );
-    }
-}
-
-// Whether a text is refused before any call.
-fn is_refused(alloc: Global, text: &[u8]) -> bool {
-    let mut folder = MemFolder::new(alloc);
-    run_over(alloc, &mut folder, text) == Err(RunFault::NoFromLine) && folder.calls() == 0
-}
-
-#[test]
-fn no_from_line(rt: HostRuntime) {
-    const TEXTS: &[&[u8]] = &[b"Subject: x\n", b"Fro", b"\nFrom a\n"];
-    for text in TEXTS {
-        assert!(rt; is_refused(rt.alloc(), text), "{text:?}");
-    }
-}
-
 const FOREIGN: File<'_> = (Sub::Tmp, "1700000000.M1.host", "z");
 
+const ABC_ALONE: &[File<'_>] = &[(Sub::New, ABC, "abc")];
+
+const BOTH_EMPTY: &[File<'_>] = &[(Sub::New, EMPTY_ONE, ""), (Sub::New, EMPTY_TWO, "")];
+
+const ALL_SET: &[File<'_>] = &[(Sub::Cur, FLAGGED, "Status: RO\nX-Status: AF\n\nhi\n")];
+
+// No converter's names, but nearly.
+const NO_BASE: File<'_> = (Sub::Cur, ":x", "");
+
+const ZERO_FIRST: File<'_> = (
+    Sub::Cur,
+    "ba7816bf8f01cfea414140de5dae2223b00361a396177a9cb410ff61f20015ad.01",
+    "",
+);
+
+const TOO_LARGE: File<'_> = (
+    Sub::Cur,
+    "ba7816bf8f01cfea414140de5dae2223b00361a396177a9cb410ff61f20015ad.18446744073709551616:2,",
+    "",
+);
+
+const TOO_LARGE_IN_TMP: File<'_> = (
+    Sub::Tmp,
+    "ba7816bf8f01cfea414140de5dae2223b00361a396177a9cb410ff61f20015ad.18446744073709551616",
+    "",
+);
+
+const NEARLY_OURS: &[File<'_>] = &[NO_BASE, ZERO_FIRST, TOO_LARGE, TOO_LARGE_IN_TMP];
+
+// A folder that has the message, and one with two homes of its base.
+const COLON: &[File<'_>] = &[(
+    Sub::Cur,
+    "ba7816bf8f01cfea414140de5dae2223b00361a396177a9cb410ff61f20015ad.1:",
+    "abc",
+)];
+
+const TWO_HOMES: &[File<'_>] = &[
+    (Sub::New, ABC, "x"),
+    (
+        Sub::Cur,
+        "ba7816bf8f01cfea414140de5dae2223b00361a396177a9cb410ff61f20015ad.1:2,",
+        "abc",
+    ),
+];
+
+const NO_FROM_LINE: Answer = Err(RunFault::NoFromLine);
+
+// Where a text is delivered, a second run makes three calls and changes nothing; one that is no mbox text is refused before
+// any call; what is there stays.
+const SCENES: &[Scene<'_>] = &[
+    (
+        "empty_text",
+        &[],
+        &[
+            (&[], b"", Ok((0, 0, 0, 0)), 3, &[]),
+            (&[], b"", Ok((0, 0, 0, 0)), 3, &[]),
+        ],
+    ),
+    (
+        "unended_line",
+        &[],
+        &[
+            (&[], UNENDED, Ok((1, 0, 1, 0)), 5, ABC_ALONE),
+            (&[], UNENDED, Ok((1, 1, 0, 0)), 3, ABC_ALONE),
+        ],
+    ),
+    (
+        "equal_empty_messages",
+        &[],
+        &[
+            (&[], TWO_EMPTY, Ok((2, 0, 2, 0)), 7, BOTH_EMPTY),
+            (&[], TWO_EMPTY, Ok((2, 2, 0, 0)), 3, BOTH_EMPTY),
+        ],
+    ),
+    (
+        "all_flags",
+        &[],
+        &[
+            (&[], ALL_FLAGS, Ok((1, 0, 1, 0)), 5, ALL_SET),
+            (&[], ALL_FLAGS, Ok((1, 1, 0, 0)), 3, ALL_SET),
+        ],
+    ),
+    (
+        "a header line first",
+        &[],
+        &[(&[], b"Subject: x\n", NO_FROM_LINE, 0, &[])],
+    ),
+    (
+        "a part of a From_ line",
+        &[],
+        &[(&[], b"Fro", NO_FROM_LINE, 0, &[])],
+    ),
+    (
+        "an empty line first",
+        &[],
+        &[(&[], b"\nFrom a\n", NO_FROM_LINE, 0, &[])],
+    ),
+    (
+        "leftover_is_swept",
+        &[(Sub::Tmp, ABC, "a"), FOREIGN],
+        &[(
+            &[],
+            UNENDED,
+            Ok((1, 0, 1, 1)),
+            6,
+            &[FOREIGN, (Sub::New, ABC, "abc")],
+        )],
+    ),
+    (
+        "names_that_are_nearly_ours",
+        NEARLY_OURS,
+        &[(
+            &[],
+            UNENDED,
+            Ok((1, 0, 1, 0)),
+            5,
+            &[
+                NO_BASE,
+                ZERO_FIRST,
+                TOO_LARGE,
+                TOO_LARGE_IN_TMP,
+                (Sub::New, ABC, "abc"),
+            ],
+        )],
+    ),
+    (
+        "a_colon_and_no_info",
+        COLON,
+        &[(&[], UNENDED, Ok((1, 1, 0, 0)), 3, COLON)],
+    ),
+    (
+        "not_sound",
+        TWO_HOMES,
+        &[(&[], UNENDED, Ok((1, 1, 0, 0)), 3, TWO_HOMES)],
+    ),
+];
+
 #[test]
-fn leftover_is_swept(rt: HostRuntime) {
-    const BEFORE: &[File<'_>] = &[(Sub::Tmp, ABC, "a"), FOREIGN];
-    const AFTER: &[File<'_>] = &[FOREIGN, (Sub::New, ABC, "abc")];
-    const RUNS: &[Run<'_>] = &[(&[], UNENDED, Ok((1, 0, 1, 1)), 6, AFTER)];
-    assert!(rt; go(rt.alloc(), BEFORE, RUNS));
+fn quiet_runs(rt: HostRuntime) {
+    let wrong = wrong_scene(rt.alloc(), SCENES);
+    assert!(rt; wrong.is_none(), "{}", wrong.unwrap_or(""));
 }
 
 // Whether a run over a source that breaks off behind so many bytes of a text leaves these files, and the next one, over
@@ -91,43 +172,85 @@ fn goes_on(alloc: Global, bytes: usize, piece: usize, left: &[File<'_>], next: R
         && goes(alloc, &mut folder, next)
 }
 
-#[test]
-fn source_fails(rt: HostRuntime) {
-    const TEXT: &[u8] = b"From x\nabc\n\nFrom y\nhello\n";
-    const LEFT: &[File<'_>] = &[(Sub::New, ABC_LINE, "abc\n")];
-    const FILES: &[File<'_>] = &[
-        (Sub::New, ABC_LINE, "abc\n"),
-        (Sub::New, HELLO_LINE, "hello\n"),
-    ];
-    const NEXT: Run<'_> = (&[], TEXT, Ok((2, 1, 1, 0)), 5, FILES);
-    for piece in [1, 65_536] {
-        assert!(rt; goes_on(rt.alloc(), 22, piece, LEFT, NEXT), "{piece}");
-    }
-}
+// A text whose source breaks off behind each of so many bytes, in pieces of each of these sizes, and what is left then; the
+// report of the next run, its calls, and the files that it leaves.
+type Front<'a> = (
+    &'a str,
+    &'a [u8],
+    (usize, usize),
+    &'a [usize],
+    &'a [File<'a>],
+    (u64, u64, u64, u64),
+    u64,
+    &'a [File<'a>],
+);
+
+const BOTH_LINES: &[File<'_>] = &[
+    (Sub::New, ABC_LINE, "abc\n"),
+    (Sub::New, HELLO_LINE, "hello\n"),
+];
+
+const ALL_THREE: &[File<'_>] = &[
+    (Sub::New, EMPTY_ONE, ""),
+    (Sub::New, EMPTY_TWO, ""),
+    (Sub::New, ABC, "abc"),
+];
+
+const FRONTS: &[Front<'_>] = &[
+    (
+        "source_fails",
+        b"From x\nabc\n\nFrom y\nhello\n",
+        (22, 22),
+        &[1, 65_536],
+        &[(Sub::New, ABC_LINE, "abc\n")],
+        (2, 1, 1, 0),
+        5,
+        BOTH_LINES,
+    ),
+    // the first is whole with the second `From `, and the second with the third
+    (
+        "every_front_of_a_text, none whole",
+        THREE,
+        (0, 12),
+        &[1],
+        &[],
+        (3, 0, 3, 0),
+        9,
+        ALL_THREE,
+    ),
+    (
+        "every_front_of_a_text, one whole",
+        THREE,
+        (13, 20),
+        &[1],
+        &[(Sub::New, EMPTY_ONE, "")],
+        (3, 1, 2, 0),
+        7,
+        ALL_THREE,
+    ),
+    (
+        "every_front_of_a_text, two whole",
+        THREE,
+        (21, THREE.len()),
+        &[1],
+        BOTH_EMPTY,
+        (3, 2, 1, 0),
+        5,
+        ALL_THREE,
+    ),
+];
 
 #[test]
-fn every_front_of_a_text(rt: HostRuntime) {
-    const FILES: &[File<'_>] = &[
-        (Sub::New, EMPTY_ONE, ""),
-        (Sub::New, EMPTY_TWO, ""),
-        (Sub::New, ABC, "abc"),
-    ];
-    // the first is whole with the second `From `, and the second with the third
-    const ROWS: &[(usize, usize, &[File<'_>], (u64, u64, u64, u64), u64)] = &[
-        (0, 12, &[], (3, 0, 3, 0), 9),
-        (13, 20, &[(Sub::New, EMPTY_ONE, "")], (3, 1, 2, 0), 7),
-        (
-            21,
-            THREE.len(),
-            &[(Sub::New, EMPTY_ONE, ""), (Sub::New, EMPTY_TWO, "")],
-            (3, 2, 1, 0),
-            5,
-        ),
-    ];
-    for &(first, last, left, report, calls) in ROWS {
-        let next = (&[] as &[Row<'_>], THREE, Ok(report), calls, FILES);
-        for bytes in first..=last {
-            assert!(rt; goes_on(rt.alloc(), bytes, 1, left, next), "{bytes} bytes");
+fn fronts(rt: HostRuntime) {
+    for &(name, text, (first, last), pieces, left, report, calls, files) in FRONTS {
+        let next = (&[] as &[Row<'_>], text, Ok(report), calls, files);
+        for piece in pieces {
+            for bytes in first..=last {
+                assert!(rt;
+                    goes_on(rt.alloc(), bytes, *piece, left, next),
+                    "{name}, {bytes} bytes in pieces of {piece}"
+                );
+            }
         }
     }
 }
@@ -177,17 +300,15 @@ fn crowded(alloc: Global, count: u32) -> Result<MemFolder, FolderFault> {
     Ok(folder)
 }
 
-// Whether a run finds the first empty message there and delivers the second.
-fn finds_one(alloc: Global, folder: &mut MemFolder) -> bool {
-    run_over(alloc, folder, TWO_EMPTY) == Ok((2, 1, 1, 0))
-        && folder.calls() == 5
-        && folder.count(Sub::New) == 1
-        && folder.bytes_of(Sub::New, EMPTY_TWO) == Some(b"".as_slice())
-}
-
+// Whether a run finds the first empty message among so many other files, and delivers the second.
 fn finds_one_among(alloc: Global, count: u32) -> bool {
     match crowded(alloc, count) {
-        Ok(mut folder) => finds_one(alloc, &mut folder),
+        Ok(mut folder) => {
+            run_over(alloc, &mut folder, TWO_EMPTY) == Ok((2, 1, 1, 0))
+                && folder.calls() == 5
+                && folder.count(Sub::New) == 1
+                && folder.bytes_of(Sub::New, EMPTY_TWO) == Some(b"".as_slice())
+        }
         Err(_) => false,
     }
 }
@@ -195,58 +316,4 @@ fn finds_one_among(alloc: Global, count: u32) -> bool {
 #[test]
 fn many_foreign_names(rt: HostRuntime) {
     assert!(rt; finds_one_among(rt.alloc(), 1000));
-}
-
-#[test]
-fn names_that_are_nearly_ours(rt: HostRuntime) {
-    const NO_BASE: File<'_> = (Sub::Cur, ":x", "");
-    const ZERO_FIRST: File<'_> = (
-        Sub::Cur,
-        "ba7816bf8f01cfea414140de5dae2223b00361a396177a9cb410ff61f20015ad.01",
-        "",
-    );
-    const TOO_LARGE: File<'_> = (
-        Sub::Cur,
-        "ba7816bf8f01cfea414140de5dae2223b00361a396177a9cb410ff61f20015ad.18446744073709551616:2,",
-        "",
-    );
-    const TOO_LARGE_IN_TMP: File<'_> = (
-        Sub::Tmp,
-        "ba7816bf8f01cfea414140de5dae2223b00361a396177a9cb410ff61f20015ad.18446744073709551616",
-        "",
-    );
-    const BEFORE: &[File<'_>] = &[NO_BASE, ZERO_FIRST, TOO_LARGE, TOO_LARGE_IN_TMP];
-    const AFTER: &[File<'_>] = &[
-        NO_BASE,
-        ZERO_FIRST,
-        TOO_LARGE,
-        TOO_LARGE_IN_TMP,
-        (Sub::New, ABC, "abc"),
-    ];
-    const RUNS: &[Run<'_>] = &[(&[], UNENDED, Ok((1, 0, 1, 0)), 5, AFTER)];
-    assert!(rt; go(rt.alloc(), BEFORE, RUNS));
-}
-
-// A folder that has the message, or two homes of its base: what is there stays.
-#[test]
-fn what_is_there_stays(rt: HostRuntime) {
-    const COLON: &str = "ba7816bf8f01cfea414140de5dae2223b00361a396177a9cb410ff61f20015ad.1:";
-    const INFO: &str = "ba7816bf8f01cfea414140de5dae2223b00361a396177a9cb410ff61f20015ad.1:2,";
-    const ROWS: &[(&str, &[File<'_>])] = &[
-        ("a_colon_and_no_info", &[(Sub::Cur, COLON, "abc")]),
-        (
-            "not_sound",
-            &[(Sub::New, ABC, "x"), (Sub::Cur, INFO, "abc")],
-        ),
-    ];
-    for &(name, files) in ROWS {
-        assert!(rt;
-            go(
-                rt.alloc(),
-                files,
-                &[(&[], UNENDED, Ok((1, 1, 0, 0)), 3, files)]
-            ),
-            "{name}"
-        );
-    }
 }

@@ -29,7 +29,7 @@ fn writes_again<F: Folder>(folder: &mut F, rt: HostRuntime, root: &str) -> io::R
             && file_holds(rt, root, "tmp/v", "c")?
             && folder.remove("v") == Ok(())
             && folder.remove("w") == Ok(())
-            && lists(folder, Sub::Tmp, &[]),
+            && lists(folder, false, Sub::Tmp, &[]),
     )
 }
 
@@ -37,7 +37,7 @@ fn writes_again<F: Folder>(folder: &mut F, rt: HostRuntime, root: &str) -> io::R
 fn disk_folder_calls(rt: HostRuntime) -> Result<(), Fail> {
     let root = fresh_path(rt)?;
     let mut folder = DiskFolder::open_at(&rt, rt.alloc(), root.as_str())?;
-    assert!(rt; answers(&mut folder) && file_holds(rt, root.as_str(), "cur/u:2,", "ab")?);
+    assert!(rt; answers(&mut folder, false) && file_holds(rt, root.as_str(), "cur/u:2,", "ab")?);
     assert!(rt; writes_again(&mut folder, rt, root.as_str())? && folder.sync() == Ok(()));
     fs::remove_dir_all(&rt, root.as_str())?;
     Ok(())

@@ -1,6 +1,6 @@
 // Runs while a mail reader and other programs are at work.
 use crate::runs::{ABC, EMPTY_ONE, EMPTY_TWO, File, THREE, TWO_EMPTY, UNENDED, folder_of};
-use crate::scripts::{Deed, Row, Run, go, goes_under};
+use crate::scripts::{Deed, Row, Run, Scene, goes_under, wrong_scene};
 use maildir_run::{Mode, RunFault, Sub};
 use std::alloc::Global;
 
@@ -25,106 +25,113 @@ const BOTH_IN_CUR: &[File<'_>] = &[
     (Sub::Cur, TWO_SEEN, ""),
 ];
 
-#[test]
-fn moved_between_listings(rt: HostRuntime) {
-    const MOVES: &[Deed<'_>] = &[Deed::ToCur(ABC, ":2,S")];
-    const RUNS: &[Run<'_>] = &[
-        (&[], UNENDED, Ok((1, 0, 1, 0)), 5, ABC_ALONE),
-        (
-            &[(3, MOVES, Mode::Plain)],
-            UNENDED,
-            Ok((1, 1, 0, 0)),
-            3,
-            ABC_IN_CUR,
-        ),
-        (&[], UNENDED, Ok((1, 1, 0, 0)), 3, ABC_IN_CUR),
-    ];
-    assert!(rt; go(rt.alloc(), &[], RUNS));
-}
+const MOVES: &[Row<'_>] = &[(3, &[Deed::ToCur(ABC, ":2,S")], Mode::Plain)];
 
-#[test]
-fn dropped_before_it_is_placed(rt: HostRuntime) {
-    const DROPS: &[Deed<'_>] = &[Deed::DropTmp(ABC)];
-    const RUNS: &[Run<'_>] = &[
-        (
-            &[(5, DROPS, Mode::Plain)],
-            UNENDED,
-            Err(RunFault::FolderAbsent),
-            5,
-            &[],
-        ),
-        (&[], UNENDED, Ok((1, 0, 1, 0)), 5, ABC_ALONE),
-    ];
-    assert!(rt; go(rt.alloc(), &[], RUNS));
-}
+const DROPS: &[Row<'_>] = &[(5, &[Deed::DropTmp(ABC)], Mode::Plain)];
 
-// The first message is moved before the run stops, and both are given other flags before the next one lists `cur`.
-#[test]
-fn read_and_reflagged(rt: HostRuntime) {
-    const STOPS: &[Row<'_>] = &[
-        (6, &[Deed::ToCur(EMPTY_ONE, ":2,F")], Mode::Plain),
-        (7, &[], Mode::FailAfter),
-    ];
-    const MOVES: &[Row<'_>] = &[
-        (3, &[Deed::ToCur(EMPTY_TWO, ":2,S")], Mode::Plain),
-        (3, &[Deed::Reflag(EMPTY_ONE, ":2,F", ":2,FS")], Mode::Plain),
-    ];
-    const RUNS: &[Run<'_>] = &[
-        (STOPS, THREE, Err(RunFault::FolderFailed(7)), 7, ONE_IN_CUR),
-        (MOVES, THREE, Ok((3, 2, 1, 0)), 5, BOTH_IN_CUR),
-    ];
-    assert!(rt; go(rt.alloc(), &[], RUNS));
-}
+const STOPS: &[Row<'_>] = &[
+    (6, &[Deed::ToCur(EMPTY_ONE, ":2,F")], Mode::Plain),
+    (7, &[], Mode::FailAfter),
+];
 
-// Several acts in one line, and none of them has its condition.
-#[test]
-fn acts_that_do_nothing(rt: HostRuntime) {
-    const DEEDS: &[Deed<'_>] = &[
+const FLAGS: &[Row<'_>] = &[
+    (3, &[Deed::ToCur(EMPTY_TWO, ":2,S")], Mode::Plain),
+    (3, &[Deed::Reflag(EMPTY_ONE, ":2,F", ":2,FS")], Mode::Plain),
+];
+
+const DOES_NOTHING: &[Row<'_>] = &[(
+    1,
+    &[
         Deed::ToCurAs(EMPTY_ONE, TWO_SEEN),
         Deed::PutOther(Sub::Tmp, ABC),
         Deed::DropTmp("x"),
         Deed::Reflag(EMPTY_ONE, "", ":2,S"),
         Deed::DropOther(Sub::New, EMPTY_ONE),
-    ];
-    const FILES: &[File<'_>] = &[
-        (Sub::Tmp, "x", "z"),
-        (Sub::New, EMPTY_ONE, ""),
-        (Sub::New, EMPTY_TWO, ""),
-    ];
-    const RUNS: &[Run<'_>] = &[(
-        &[(1, DEEDS, Mode::Plain)],
-        TWO_EMPTY,
-        Ok((2, 2, 0, 0)),
-        3,
-        FILES,
-    )];
-    assert!(rt; go(rt.alloc(), FILES, RUNS));
-}
+    ],
+    Mode::Plain,
+)];
+
+const BOTH_AND_FOREIGN: &[File<'_>] = &[
+    (Sub::Tmp, "x", "z"),
+    (Sub::New, EMPTY_ONE, ""),
+    (Sub::New, EMPTY_TWO, ""),
+];
+
+const COMES: &[Row<'_>] = &[(4, &[Deed::PutOther(Sub::Tmp, "x")], Mode::Plain)];
+
+const TWO_LINES: &[Row<'_>] = &[
+    (1, &[Deed::PutOther(Sub::New, "y")], Mode::FailBefore),
+    (1, &[Deed::DropOther(Sub::Tmp, "x")], Mode::Plain),
+];
+
+const SCENES: &[Scene<'_>] = &[
+    (
+        "moved_between_listings",
+        &[],
+        &[
+            (&[], UNENDED, Ok((1, 0, 1, 0)), 5, ABC_ALONE),
+            (MOVES, UNENDED, Ok((1, 1, 0, 0)), 3, ABC_IN_CUR),
+            (&[], UNENDED, Ok((1, 1, 0, 0)), 3, ABC_IN_CUR),
+        ],
+    ),
+    (
+        "dropped_before_it_is_placed",
+        &[],
+        &[
+            (DROPS, UNENDED, Err(RunFault::FolderAbsent), 5, &[]),
+            (&[], UNENDED, Ok((1, 0, 1, 0)), 5, ABC_ALONE),
+        ],
+    ),
+    // the first message is moved before the run stops, and both are given other flags before the next one lists `cur`
+    (
+        "read_and_reflagged",
+        &[],
+        &[
+            (STOPS, THREE, Err(RunFault::FolderFailed(7)), 7, ONE_IN_CUR),
+            (FLAGS, THREE, Ok((3, 2, 1, 0)), 5, BOTH_IN_CUR),
+        ],
+    ),
+    // several acts in one line, and none of them has its condition
+    (
+        "acts_that_do_nothing",
+        BOTH_AND_FOREIGN,
+        &[(
+            DOES_NOTHING,
+            TWO_EMPTY,
+            Ok((2, 2, 0, 0)),
+            3,
+            BOTH_AND_FOREIGN,
+        )],
+    ),
+    (
+        "foreign_file_comes",
+        &[],
+        &[(
+            COMES,
+            UNENDED,
+            Ok((1, 0, 1, 0)),
+            5,
+            &[(Sub::Tmp, "x", "z"), (Sub::New, ABC, "abc")],
+        )],
+    ),
+    // the first one's mode applies, and the acts of both are made
+    (
+        "two_lines_for_one_call",
+        &[(Sub::Tmp, "x", "z")],
+        &[(
+            TWO_LINES,
+            UNENDED,
+            Err(RunFault::FolderFailed(1)),
+            1,
+            &[(Sub::New, "y", "z")],
+        )],
+    ),
+];
 
 #[test]
-fn foreign_file_comes(rt: HostRuntime) {
-    const COMES: &[Deed<'_>] = &[Deed::PutOther(Sub::Tmp, "x")];
-    const FILES: &[File<'_>] = &[(Sub::Tmp, "x", "z"), (Sub::New, ABC, "abc")];
-    const RUNS: &[Run<'_>] = &[(
-        &[(4, COMES, Mode::Plain)],
-        UNENDED,
-        Ok((1, 0, 1, 0)),
-        5,
-        FILES,
-    )];
-    assert!(rt; go(rt.alloc(), &[], RUNS));
-}
-
-// Of two lines for one call the first one's mode applies, and the acts of both are made.
-#[test]
-fn two_lines_for_one_call(rt: HostRuntime) {
-    const BOTH: &[Row<'_>] = &[
-        (1, &[Deed::PutOther(Sub::New, "y")], Mode::FailBefore),
-        (1, &[Deed::DropOther(Sub::Tmp, "x")], Mode::Plain),
-    ];
-    const FILES: &[File<'_>] = &[(Sub::New, "y", "z")];
-    const RUNS: &[Run<'_>] = &[(BOTH, UNENDED, Err(RunFault::FolderFailed(1)), 1, FILES)];
-    assert!(rt; go(rt.alloc(), &[(Sub::Tmp, "x", "z")], RUNS));
+fn disturbed_runs(rt: HostRuntime) {
+    let wrong = wrong_scene(rt.alloc(), SCENES);
+    assert!(rt; wrong.is_none(), "{}", wrong.unwrap_or(""));
 }
 
 // Whether a run over a folder with this file goes so, where all calls fail from the second one on.

@@ -2,8 +2,13 @@
 use mbox_text::{TextFault, build_from, is_from_line, is_quotable, rest_of, sender_of};
 use std::alloc::Global;
 
-fn builds(alloc: Global, sender: &[u8], rest: &[u8], want: &[u8]) -> bool {
-    match build_from(alloc, sender, rest) {
+/// Whether this From_ line is built. It may be tried again where a growth was refused.
+pub(crate) fn builds(alloc: Global, again: bool, sender: &[u8], rest: &[u8], want: &[u8]) -> bool {
+    let answer = match build_from(alloc, sender, rest) {
+        Err(TextFault::OutOfMemory) if again => build_from(alloc, sender, rest),
+        answer => answer,
+    };
+    match answer {
         Ok(line) => line.as_slice() == want,
         Err(_) => false,
     }
@@ -28,15 +33,15 @@ fn built_from_lines(rt: HostRuntime) {
         (b"a", b"b", b"From a b"),
     ];
     for &(sender, rest, want) in ROWS {
-        assert!(rt; builds(rt.alloc(), sender, rest, want), "{want:?}");
+        assert!(rt; builds(rt.alloc(), false, sender, rest, want), "{want:?}");
     }
     assert!(rt; is_refused(rt.alloc(), b"x\ny"));
 }
 
-// Which bytes are a From_ line, and which lines are quoted in a body.
+// Which bytes are a From_ line, and which lines are quoted in a body; the sender and the rest of a From_ line.
 #[test]
-fn lines_that_begin_with_from(rt: HostRuntime) {
-    const ROWS: &[(&[u8], bool, bool)] = &[
+fn taken_from_lines(rt: HostRuntime) {
+    const LINES: &[(&[u8], bool, bool)] = &[
         (b"From a", true, true),
         (b"From ", true, true),
         (b"From \r", true, true),
@@ -51,25 +56,20 @@ fn lines_that_begin_with_from(rt: HostRuntime) {
         (b">", false, false),
         (b"", false, false),
     ];
-    for &(line, is_one, is_quoted) in ROWS {
-        assert!(rt;
-            is_from_line(line) == is_one && is_quotable(line) == is_quoted,
-            "{line:?}"
-        );
-    }
-}
-
-// The sender and the rest of a From_ line.
-#[test]
-fn parts_of_from_lines(rt: HostRuntime) {
-    const ROWS: &[(&[u8], &[u8], &[u8])] = &[
+    const PARTS: &[(&[u8], &[u8], &[u8])] = &[
         (b"From a  b c", b"a", b"b c"),
         (b"From ", b"", b""),
         (b"From a-b-c   d", b"a-b-c", b"d"),
         (b"From a   ", b"a", b""),
         (b"From  x", b"", b"x"),
     ];
-    for &(line, sender, rest) in ROWS {
+    for &(line, is_one, is_quoted) in LINES {
+        assert!(rt;
+            is_from_line(line) == is_one && is_quotable(line) == is_quoted,
+            "{line:?}"
+        );
+    }
+    for &(line, sender, rest) in PARTS {
         assert!(rt;
             is_from_line(line) && sender_of(line) == sender && rest_of(line) == rest,
             "{line:?}"

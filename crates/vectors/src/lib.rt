@@ -29,13 +29,13 @@ mod flags;
 mod from_lines;
 mod lines;
 #[cfg(test)]
-mod listing;
-#[cfg(test)]
 mod mem_folder;
 #[cfg(test)]
 mod mem_system;
 #[cfg(test)]
 mod messages;
+#[cfg(test)]
+mod orders;
 #[cfg(test)]
 mod pieces;
 #[cfg(test)]
@@ -60,3 +60,5 @@ mod stops;
 mod streams;
 #[cfg(test)]
 mod targets;
+#[cfg(test)]
+mod written;

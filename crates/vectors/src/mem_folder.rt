@@ -14,28 +14,66 @@ pub(crate) fn are_named(names: &[String], want: &[&str]) -> bool {
     names.len() == want.len()
 }
 
-/// Whether a folder lists these names, in this order.
-pub(crate) fn lists<F: Folder>(folder: &mut F, sub: Sub, want: &[&str]) -> bool {
-    match folder.list(sub) {
+/// Whether a folder lists these names, in this order. As all calls here, it may be made again where a growth was refused.
+pub(crate) fn lists<F: Folder>(folder: &mut F, again: bool, sub: Sub, want: &[&str]) -> bool {
+    let answer = match folder.list(sub) {
+        Err(FolderFault::OutOfMemory) if again => folder.list(sub),
+        answer => answer,
+    };
+    match answer {
         Ok(names) => are_named(&names, want),
         Err(_) => false,
     }
 }
 
-/// Whether the calls of a folder that is empty answer as they are to.
-pub(crate) fn answers<F: Folder>(folder: &mut F) -> bool {
-    folder.place("u", Place::New, "u") == Err(FolderFault::Absent)
-        && folder.remove("u") == Ok(())
-        && folder.write("u", b"ab") == Ok(())
-        && lists(folder, Sub::Tmp, &["u"])
-        && folder.place("u", Place::Cur, "u:2,") == Ok(())
+fn write<F: Folder>(
+    folder: &mut F,
+    again: bool,
+    name: &str,
+    bytes: &[u8],
+) -> Result<(), FolderFault> {
+    match folder.write(name, bytes) {
+        Err(FolderFault::OutOfMemory) if again => folder.write(name, bytes),
+        answer => answer,
+    }
+}
+
+fn place<F: Folder>(
+    folder: &mut F,
+    again: bool,
+    name: &str,
+    place: Place,
+    target: &str,
+) -> Result<(), FolderFault> {
+    match folder.place(name, place, target) {
+        Err(FolderFault::OutOfMemory) if again => folder.place(name, place, target),
+        answer => answer,
+    }
+}
+
+fn remove<F: Folder>(folder: &mut F, again: bool, name: &str) -> Result<(), FolderFault> {
+    match folder.remove(name) {
+        Err(FolderFault::OutOfMemory) if again => folder.remove(name),
+        answer => answer,
+    }
+}
+
+/// Whether the calls of a folder that is empty answer as they are to: a file comes, is listed and goes to `cur`.
+pub(crate) fn answers<F: Folder>(folder: &mut F, again: bool) -> bool {
+    place(folder, again, "u", Place::New, "u") == Err(FolderFault::Absent)
+        && remove(folder, again, "u") == Ok(())
+        && write(folder, again, "u", b"ab") == Ok(())
+        && lists(folder, again, Sub::Tmp, &["u"])
+        && place(folder, again, "u", Place::Cur, "u:2,") == Ok(())
 }
 
 #[test]
 fn folder_calls(rt: HostRuntime) {
     let mut folder = MemFolder::new(rt.alloc());
     assert!(rt;
-        answers(&mut folder) && holds(&folder, &[(Sub::Cur, "u:2,", "ab")]) && folder.calls() == 5
+        answers(&mut folder, false)
+            && holds(&folder, &[(Sub::Cur, "u:2,", "ab")])
+            && folder.calls() == 5
     );
 }
 
@@ -43,7 +81,7 @@ fn folder_calls(rt: HostRuntime) {
 fn sorts(alloc: Global, files: &[File<'_>], sorted: &[File<'_>], names: &[&str]) -> bool {
     match folder_of(alloc, files) {
         Ok(mut folder) => {
-            lists(&mut folder, Sub::New, names)
+            lists(&mut folder, false, Sub::New, names)
                 && holds(&folder, sorted)
                 && folder.bytes_of(Sub::Cur, "a").is_none()
                 && folder.calls() == 1

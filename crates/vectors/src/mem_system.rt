@@ -1,22 +1,11 @@
 // A Maildir over the calls of a system in memory, where another program acts within a call.
 use crate::mem_folder::are_named;
 use crate::runs::{ABC, UNENDED, folder_of, run_over};
-use crate::scripts::{Deed, acts_of};
+use crate::scripts::{Deed, turns_of};
 use maildir_disk::{DiskFolder, MemSystem, Stamps};
-use maildir_run::{Act, Folder, Sub};
-use std::alloc::{AllocError, Global};
+use maildir_run::{Folder, Sub};
 use std::test::Fail;
 use std::time::{Duration, Instant, UNIX_EPOCH};
-
-// The turns of a program that does this at the eighth call. The last turn comes first.
-fn turns_of(alloc: Global, deeds: &[Deed<'_>]) -> Result<Vec<Vec<Act>>, AllocError> {
-    let mut turns = Vec::new(alloc);
-    turns.push(acts_of(alloc, deeds)?)?;
-    for _ in 0..7u8 {
-        turns.push(Vec::new(alloc))?;
-    }
-    Ok(turns)
-}
 
 // A folder whose `cur` has one file, which gets the flag S at the eighth call, while its names are first read.
 fn disturbed(
@@ -27,7 +16,7 @@ fn disturbed(
 ) -> Result<DiskFolder<MemSystem>, Fail> {
     let alloc = rt.alloc();
     let folder = folder_of(alloc, &[(Sub::Cur, name, "abc")])?;
-    let turns = turns_of(alloc, &[Deed::Reflag(base, ":2,", ":2,S")])?;
+    let turns = turns_of(alloc, &[Deed::Reflag(base, ":2,", ":2,S")], 8)?;
     let clock = UNIX_EPOCH + Duration::from_millis(1500);
     let instant = Instant::now(&rt)?;
     Ok(DiskFolder::new(MemSystem::new(alloc, folder, stamps, clock, instant, turns)))

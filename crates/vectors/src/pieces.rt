@@ -58,22 +58,18 @@ fn is_shown<R: Read>(alloc: Global, first: &mut R, again: &mut R) -> bool {
         && written.as_slice() == QUOTED
 }
 
-fn byte_by_byte() -> Cut<'static> {
-    Cut::new(QUOTED, 1, Then::Ends)
-}
-
-// Cut behind the first `>Fro`.
-fn in_two() -> (&'static [u8], &'static [u8]) {
-    QUOTED.split_at(11)
-}
-
 #[test]
 fn any_pieces(rt: HostRuntime) {
     const WANT: &[Message<'_>] = &[(b"From x", b"From a\n>From b\n> From c\n>From\n")];
     assert!(rt; gives(split_pieces(rt.alloc(), QUOTED, 1), WANT));
     assert!(rt; gives(split_at(rt.alloc(), QUOTED, 11), WANT));
-    assert!(rt; is_shown(rt.alloc(), &mut byte_by_byte(), &mut byte_by_byte()));
-    let (front, rest) = in_two();
+    let (mut first, mut again) = (
+        Cut::new(QUOTED, 1, Then::Ends),
+        Cut::new(QUOTED, 1, Then::Ends),
+    );
+    assert!(rt; is_shown(rt.alloc(), &mut first, &mut again));
+    // cut behind the first `>Fro`
+    let (front, rest) = QUOTED.split_at(11);
     assert!(rt; is_shown(rt.alloc(), &mut front.chain(rest), &mut front.chain(rest)));
 }
 
@@ -112,40 +108,47 @@ fn pieces_cut_every_line(rt: HostRuntime) {
     }
 }
 
-// Whether the messages are these when the pieces are fed, and these when the text is ended.
-fn ends_with(alloc: Global, pieces: &[&[u8]], fed: &[Message<'_>], ended: &[Message<'_>]) -> bool {
-    let mut out = Vec::new(alloc);
-    let mut splitter = Splitter::new(alloc);
-    for piece in pieces {
-        if splitter.feed(piece, &mut out).is_err() {
-            return false;
-        }
-    }
-    are(&out, fed) && finish_into(splitter, &mut out).is_ok() && are(&out, ended)
-}
-
-#[test]
-fn message_ends_with_the_next_from_line(rt: HostRuntime) {
-    const FIRST: Message<'_> = (b"From a", b"x\n");
-    const ROWS: &[(&[&[u8]], &[Message<'_>], &[Message<'_>])] = &[
-        (&[b"From a\nx\n"], &[], &[FIRST]),
-        (&[b"From a\nx\n", b"From"], &[], &[(b"From a", b"x\nFrom")]),
-        (
-            &[b"From a\nx\n", b"From", b" "],
-            &[FIRST],
-            &[FIRST, (b"From ", b"")],
-        ),
-    ];
-    for &(pieces, fed, ended) in ROWS {
-        assert!(rt; ends_with(rt.alloc(), pieces, fed, ended), "{pieces:?}");
-    }
-}
-
 // What a splitter answers.
 type Answer = Result<(), TextFault>;
 
-// Whether a splitter answers so to each piece, ends so, and gives no message.
-fn gives_nothing(alloc: Global, pieces: &[(&[u8], Answer)], end: Answer) -> bool {
+const NO_LINE: Answer = Err(TextFault::NoFromLine);
+
+const FAILED: Answer = Err(TextFault::Failed);
+
+// Pieces with the answer to each, the messages when they were fed, the answer at the end, and the messages then.
+type Row<'a> = (
+    &'a [(&'a [u8], Answer)],
+    &'a [Message<'a>],
+    Answer,
+    &'a [Message<'a>],
+);
+
+const FIRST: Message<'_> = (b"From a", b"x\n");
+
+const ROWS: &[Row<'_>] = &[
+    // a message ends with the next From_ line
+    (&[(b"From a\nx\n", Ok(()))], &[], Ok(()), &[FIRST]),
+    (
+        &[(b"From a\nx\n", Ok(())), (b"From", Ok(()))],
+        &[],
+        Ok(()),
+        &[(b"From a", b"x\nFrom")],
+    ),
+    (
+        &[(b"From a\nx\n", Ok(())), (b"From", Ok(())), (b" ", Ok(()))],
+        &[FIRST],
+        Ok(()),
+        &[FIRST, (b"From ", b"")],
+    ),
+    // a splitter that refused goes on refusing
+    (&[(b"Fx", NO_LINE), (b"", FAILED)], &[], FAILED, &[]),
+    (&[(b"Fro", Ok(()))], &[], NO_LINE, &[]),
+    (&[], &[], Ok(()), &[]),
+];
+
+// Whether a splitter answers so, piece after piece and at the end, and has these messages.
+fn answers(alloc: Global, row: Row<'_>) -> bool {
+    let (pieces, fed, end, ended) = row;
     let mut splitter = Splitter::new(alloc);
     let mut out = Vec::new(alloc);
     for (piece, answer) in pieces {
@@ -153,19 +156,12 @@ fn gives_nothing(alloc: Global, pieces: &[(&[u8], Answer)], end: Answer) -> bool
             return false;
         }
     }
-    finish_into(splitter, &mut out) == end && out.is_empty()
+    are(&out, fed) && finish_into(splitter, &mut out) == end && are(&out, ended)
 }
 
 #[test]
-fn refused_splitter(rt: HostRuntime) {
-    const NO_LINE: Answer = Err(TextFault::NoFromLine);
-    const FAILED: Answer = Err(TextFault::Failed);
-    const ROWS: &[(&[(&[u8], Answer)], Answer)] = &[
-        (&[(b"Fx", NO_LINE), (b"", FAILED)], FAILED),
-        (&[(b"Fro", Ok(()))], NO_LINE),
-        (&[], Ok(())),
-    ];
-    for &(pieces, end) in ROWS {
-        assert!(rt; gives_nothing(rt.alloc(), pieces, end), "{end:?}");
+fn splitter_answers(rt: HostRuntime) {
+    for row in ROWS {
+        assert!(rt; answers(rt.alloc(), *row), "{:?}", row.0);
     }
 }

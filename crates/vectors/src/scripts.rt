@@ -56,6 +56,20 @@ pub(crate) fn acts_of(alloc: Global, deeds: &[Deed<'_>]) -> Result<Vec<Act>, All
     Ok(acts)
 }
 
+/// The turns of a program that does this at the turn of this number. The last turn comes first.
+pub(crate) fn turns_of(
+    alloc: Global,
+    deeds: &[Deed<'_>],
+    turn: u8,
+) -> Result<Vec<Vec<Act>>, AllocError> {
+    let mut turns = Vec::new(alloc);
+    turns.push(acts_of(alloc, deeds)?)?;
+    for _ in 1..turn {
+        turns.push(Vec::new(alloc))?;
+    }
+    Ok(turns)
+}
+
 /// A script by rows: before this call other programs do this, and the call goes so.
 pub(crate) type Row<'a> = (u64, &'a [Deed<'a>], Mode);
 
@@ -92,8 +106,8 @@ pub(crate) fn goes(alloc: Global, folder: &mut MemFolder, run: Run<'_>) -> bool 
     goes_under(alloc, folder, run, None)
 }
 
-/// Whether runs go so one after the other, the first of them over a folder with these files.
-pub(crate) fn go(alloc: Global, files: &[File<'_>], runs: &[Run<'_>]) -> bool {
+// Whether runs go so one after the other, the first of them over a folder with these files.
+fn go(alloc: Global, files: &[File<'_>], runs: &[Run<'_>]) -> bool {
     let Ok(mut folder) = folder_of(alloc, files) else {
         return false;
     };
@@ -103,4 +117,17 @@ pub(crate) fn go(alloc: Global, files: &[File<'_>], runs: &[Run<'_>]) -> bool {
         }
     }
     true
+}
+
+/// A scene: its name, the files that are there at first, and the runs that follow one another.
+pub(crate) type Scene<'a> = (&'a str, &'a [File<'a>], &'a [Run<'a>]);
+
+/// The name of the first scene that does not go so.
+pub(crate) fn wrong_scene<'a>(alloc: Global, scenes: &[Scene<'a>]) -> Option<&'a str> {
+    for &(name, files, runs) in scenes {
+        if !go(alloc, files, runs) {
+            return Some(name);
+        }
+    }
+    None
 }

@@ -25,44 +25,102 @@ fn writes(
     }
 }
 
+// A message, how much a writer takes in all and at a time, whether it fails then, the answer, and what it has taken.
+type Row<'a> = (
+    &'a str,
+    &'a [u8],
+    &'a [u8],
+    usize,
+    &'a [usize],
+    bool,
+    Result<(), TextFault>,
+    &'a [u8],
+);
+
+const FAULT: Result<(), TextFault> = Err(TextFault::WriteFault);
+
+const ROWS: &[Row<'_>] = &[
+    (
+        "quoting",
+        b"From x",
+        b"From a\n>From b\n> From c\n>From\n",
+        1000,
+        &[1, 1000],
+        true,
+        Ok(()),
+        b"From x\n>From a\n>>From b\n> From c\n>From\n\n",
+    ),
+    (
+        "unended_line",
+        b"From x",
+        b"abc",
+        1000,
+        &[1, 1000],
+        true,
+        Ok(()),
+        b"From x\nabc\n\n",
+    ),
+    (
+        "equal_empty_messages",
+        b"From a",
+        b"",
+        1000,
+        &[1, 1000],
+        true,
+        Ok(()),
+        b"From a\n\n",
+    ),
+    (
+        "body_of_one_line_end",
+        b"From a",
+        b"\n",
+        1000,
+        &[1, 1000],
+        true,
+        Ok(()),
+        b"From a\n\n\n",
+    ),
+    (
+        "last line quoted",
+        b"From a",
+        b"x\n>>From ",
+        1000,
+        &[1, 1000],
+        true,
+        Ok(()),
+        b"From a\nx\n>>>From \n\n",
+    ),
+    (
+        "a writer that fails",
+        b"From x",
+        b"abc",
+        4,
+        &[4],
+        true,
+        FAULT,
+        b"From",
+    ),
+    (
+        "a writer that takes no more",
+        b"From x",
+        b"abc",
+        4,
+        &[4],
+        false,
+        FAULT,
+        b"From",
+    ),
+];
+
 #[test]
 fn spellings(rt: HostRuntime) {
-    const ROWS: &[(&str, &[u8], &[u8], &[u8])] = &[
-        (
-            "quoting",
-            b"From x",
-            b"From a\n>From b\n> From c\n>From\n",
-            b"From x\n>From a\n>>From b\n> From c\n>From\n\n",
-        ),
-        ("unended_line", b"From x", b"abc", b"From x\nabc\n\n"),
-        ("equal_empty_messages", b"From a", b"", b"From a\n\n"),
-        ("body_of_one_line_end", b"From a", b"\n", b"From a\n\n\n"),
-        (
-            "last line quoted",
-            b"From a",
-            b"x\n>>From ",
-            b"From a\nx\n>>>From \n\n",
-        ),
-    ];
-    for &(name, from_line, body, want) in ROWS {
-        for piece in [1, 1000] {
-            let mut narrow = Narrow::new(rt.alloc(), 1000, piece, true);
+    for &(name, from_line, body, room, pieces, fails, answer, taken) in ROWS {
+        for piece in pieces {
+            let mut narrow = Narrow::new(rt.alloc(), room, *piece, fails);
             assert!(rt;
-                writes(rt.alloc(), from_line, body, &mut narrow, Ok(()), want),
+                writes(rt.alloc(), from_line, body, &mut narrow, answer, taken),
                 "{name}, {piece} at a time"
             );
         }
-    }
-}
-
-#[test]
-fn output_fails(rt: HostRuntime) {
-    const FAULT: Result<(), TextFault> = Err(TextFault::WriteFault);
-    for fails in [true, false] {
-        let mut narrow = Narrow::new(rt.alloc(), 4, 4, fails);
-        assert!(rt;
-            writes(rt.alloc(), b"From x", b"abc", &mut narrow, FAULT, b"From"),
-            "fails: {fails}"
-        );
     }
 }

@@ -39,20 +39,16 @@ fn worked_texts(rt: HostRuntime) {
             &[(b"From \0\xff", b"\0\x80")],
         ),
     ];
+    const REFUSED: &[&[u8]] = &[b"Subject: x\n", b"Fro", b"\nFrom a\n"];
     for &(name, text, want) in ROWS {
         assert!(rt; gives(split_all(rt.alloc(), text), want), "{name}");
+    }
+    for text in REFUSED {
+        assert!(rt; is_refused(rt.alloc(), text), "{text:?}");
     }
 }
 
 /// Whether a text is refused, since no message owns its first bytes.
 pub(crate) fn is_refused(alloc: Global, text: &[u8]) -> bool {
     matches!(split_all(alloc, text), Err(TextFault::NoFromLine))
-}
-
-#[test]
-fn no_from_line(rt: HostRuntime) {
-    const TEXTS: &[&[u8]] = &[b"Subject: x\n", b"Fro", b"\nFrom a\n"];
-    for text in TEXTS {
-        assert!(rt; is_refused(rt.alloc(), text), "{text:?}");
-    }
 }

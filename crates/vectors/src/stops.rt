@@ -1,6 +1,6 @@
 // Runs that are broken off at a call of the folder, and the run after them.
-use crate::runs::{ABC, EMPTY_ONE, EMPTY_TWO, File, THREE, TWO_EMPTY, UNENDED, run_over};
-use crate::scripts::{Deed, Row, Run, go, goes, script_of};
+use crate::runs::{ABC, Answer, EMPTY_ONE, EMPTY_TWO, File, THREE, TWO_EMPTY, UNENDED, run_over};
+use crate::scripts::{Deed, Row, Run, Scene, goes, script_of, wrong_scene};
 use maildir_run::{MemFolder, Mode, RunFault, Sub};
 use std::alloc::Global;
 
@@ -114,97 +114,183 @@ const LAST_IS_MISSING: Run<'_> = (&[], THREE, Ok((3, 2, 1, 0)), 5, ALL_THREE);
 
 const LAST_IS_LEFT_OVER: Run<'_> = (&[], THREE, Ok((3, 2, 1, 1)), 6, ALL_THREE);
 
-#[test]
-fn fails_after_the_effect(rt: HostRuntime) {
-    const STOP: &[Row<'_>] = &[(7, &[], Mode::FailAfter)];
-    const RUNS: &[Run<'_>] = &[
-        (STOP, THREE, Err(RunFault::FolderFailed(7)), 7, FIRST_TWO),
-        LAST_IS_MISSING,
-    ];
-    assert!(rt; go(rt.alloc(), &[], RUNS));
-}
+const DROPS: &[Deed<'_>] = &[Deed::DropTmp(ABC)];
+
+const DROPS_LEFTOVER: &[Deed<'_>] = &[Deed::DropTmp(EMPTY_TWO)];
+
+const LEFTOVER: &[File<'_>] = &[(Sub::Tmp, EMPTY_TWO, "half")];
+
+const FIRST_ONE: &[File<'_>] = &[(Sub::New, EMPTY_ONE, "")];
+
+const ABC_ALONE: &[File<'_>] = &[(Sub::New, ABC, "abc")];
+
+const FAULT_5: Answer = Err(RunFault::FolderFailed(5));
+
+const STOPPED: &[Scene<'_>] = &[
+    (
+        "fails_after_the_effect",
+        &[],
+        &[
+            (
+                &[(7, &[], Mode::FailAfter)],
+                THREE,
+                Err(RunFault::FolderFailed(7)),
+                7,
+                FIRST_TWO,
+            ),
+            LAST_IS_MISSING,
+        ],
+    ),
+    (
+        "half_written",
+        &[],
+        &[
+            (
+                &[(8, &[], Mode::Half)],
+                THREE,
+                Err(RunFault::FolderFailed(8)),
+                8,
+                LAST_HALF_WRITTEN,
+            ),
+            LAST_IS_LEFT_OVER,
+        ],
+    ),
+    (
+        "a_stop_in_the_sweep",
+        &[],
+        &[
+            (
+                &[(8, &[], Mode::FailAfter)],
+                THREE,
+                Err(RunFault::FolderFailed(8)),
+                8,
+                LAST_WRITTEN,
+            ),
+            (
+                &[(4, &[], Mode::FailAfter)],
+                THREE,
+                Err(RunFault::FolderFailed(4)),
+                4,
+                FIRST_TWO,
+            ),
+            LAST_IS_MISSING,
+        ],
+    ),
+    // what is left over in `tmp` goes before anything is written there, and a message is written under its own base
+    (
+        "the_sweep_comes_before_the_messages",
+        LEFTOVER,
+        &[(
+            &[(5, &[], Mode::Half)],
+            UNENDED,
+            FAULT_5,
+            5,
+            &[(Sub::Tmp, ABC, "a")],
+        )],
+    ),
+    // a text whose run broke off, another one that shares a message with it, and the first again
+    (
+        "another_text_after_a_stop",
+        &[],
+        &[
+            (
+                &[(5, &[], Mode::FailAfter)],
+                TWO_EMPTY,
+                FAULT_5,
+                5,
+                FIRST_ONE,
+            ),
+            (&[], b"From c\n\n", Ok((1, 1, 0, 0)), 3, FIRST_ONE),
+            (&[], TWO_EMPTY, Ok((2, 1, 1, 0)), 5, FIRST_TWO),
+        ],
+    ),
+    // what a placement answers for a file that is not in `tmp`, by its mode
+    (
+        "nothing_to_place, Plain",
+        &[],
+        &[(
+            &[(5, DROPS, Mode::Plain)],
+            UNENDED,
+            Err(RunFault::FolderAbsent),
+            5,
+            &[],
+        )],
+    ),
+    (
+        "nothing_to_place, FailBefore",
+        &[],
+        &[(&[(5, DROPS, Mode::FailBefore)], UNENDED, FAULT_5, 5, &[])],
+    ),
+    (
+        "nothing_to_place, FailAfter",
+        &[],
+        &[(&[(5, DROPS, Mode::FailAfter)], UNENDED, FAULT_5, 5, &[])],
+    ),
+    (
+        "nothing_to_place, Half",
+        &[],
+        &[(&[(5, DROPS, Mode::Half)], UNENDED, FAULT_5, 5, &[])],
+    ),
+    (
+        "nothing_to_place, Twice",
+        &[],
+        &[(
+            &[(5, DROPS, Mode::Twice)],
+            UNENDED,
+            Err(RunFault::FolderAbsent),
+            5,
+            &[],
+        )],
+    ),
+    // `tmp` is listed before `new`: a leftover that goes before the second call was seen
+    (
+        "tmp_is_listed_first, 1",
+        LEFTOVER,
+        &[(
+            &[(1, DROPS_LEFTOVER, Mode::Plain)],
+            UNENDED,
+            Ok((1, 0, 1, 0)),
+            5,
+            ABC_ALONE,
+        )],
+    ),
+    (
+        "tmp_is_listed_first, 2",
+        LEFTOVER,
+        &[(
+            &[(2, DROPS_LEFTOVER, Mode::Plain)],
+            UNENDED,
+            Ok((1, 0, 1, 1)),
+            6,
+            ABC_ALONE,
+        )],
+    ),
+    (
+        "tmp_is_listed_first, 3",
+        LEFTOVER,
+        &[(
+            &[(3, DROPS_LEFTOVER, Mode::Plain)],
+            UNENDED,
+            Ok((1, 0, 1, 1)),
+            6,
+            ABC_ALONE,
+        )],
+    ),
+    (
+        "tmp_is_listed_first, 4",
+        LEFTOVER,
+        &[(
+            &[(4, DROPS_LEFTOVER, Mode::Plain)],
+            UNENDED,
+            Ok((1, 0, 1, 1)),
+            6,
+            ABC_ALONE,
+        )],
+    ),
+];
 
 #[test]
-fn half_written(rt: HostRuntime) {
-    const STOP: &[Row<'_>] = &[(8, &[], Mode::Half)];
-    const RUNS: &[Run<'_>] = &[
-        (
-            STOP,
-            THREE,
-            Err(RunFault::FolderFailed(8)),
-            8,
-            LAST_HALF_WRITTEN,
-        ),
-        LAST_IS_LEFT_OVER,
-    ];
-    assert!(rt; go(rt.alloc(), &[], RUNS));
-}
-
-#[test]
-fn a_stop_in_the_sweep(rt: HostRuntime) {
-    const LATE: &[Row<'_>] = &[(8, &[], Mode::FailAfter)];
-    const EARLY: &[Row<'_>] = &[(4, &[], Mode::FailAfter)];
-    const RUNS: &[Run<'_>] = &[
-        (LATE, THREE, Err(RunFault::FolderFailed(8)), 8, LAST_WRITTEN),
-        (EARLY, THREE, Err(RunFault::FolderFailed(4)), 4, FIRST_TWO),
-        LAST_IS_MISSING,
-    ];
-    assert!(rt; go(rt.alloc(), &[], RUNS));
-}
-
-// What a placement answers for a file that is not in `tmp`, by its mode.
-#[test]
-fn nothing_to_place(rt: HostRuntime) {
-    const DROPS: &[Deed<'_>] = &[Deed::DropTmp(ABC)];
-    const ROWS: &[(Mode, RunFault)] = &[
-        (Mode::Plain, RunFault::FolderAbsent),
-        (Mode::FailBefore, RunFault::FolderFailed(5)),
-        (Mode::FailAfter, RunFault::FolderFailed(5)),
-        (Mode::Half, RunFault::FolderFailed(5)),
-        (Mode::Twice, RunFault::FolderAbsent),
-    ];
-    for &(mode, fault) in ROWS {
-        let row = (5, DROPS, mode);
-        assert!(rt;
-            go(rt.alloc(), &[], &[(&[row], UNENDED, Err(fault), 5, &[])]),
-            "{mode:?}"
-        );
-    }
-}
-
-// `tmp` is listed before `new`: a leftover that goes before the second call was seen.
-#[test]
-fn tmp_is_listed_first(rt: HostRuntime) {
-    const LEFTOVER: &[File<'_>] = &[(Sub::Tmp, EMPTY_TWO, "half")];
-    const DROPS: &[Deed<'_>] = &[Deed::DropTmp(EMPTY_TWO)];
-    const FILES: &[File<'_>] = &[(Sub::New, ABC, "abc")];
-    const ROWS: &[(u64, u64, u64)] = &[(1, 0, 5), (2, 1, 6), (3, 1, 6), (4, 1, 6)];
-    for &(call, swept, calls) in ROWS {
-        let drops: &[Row<'_>] = &[(call, DROPS, Mode::Plain)];
-        let run = (drops, UNENDED, Ok((1, 0, 1, swept)), calls, FILES);
-        assert!(rt; go(rt.alloc(), LEFTOVER, &[run]), "{call}");
-    }
-}
-
-// What is left over in `tmp` goes before anything is written there, and a message is written under its own base.
-#[test]
-fn the_sweep_comes_before_the_messages(rt: HostRuntime) {
-    const LEFTOVER: &[File<'_>] = &[(Sub::Tmp, EMPTY_TWO, "half")];
-    const STOP: &[Row<'_>] = &[(5, &[], Mode::Half)];
-    const FILES: &[File<'_>] = &[(Sub::Tmp, ABC, "a")];
-    const RUNS: &[Run<'_>] = &[(STOP, UNENDED, Err(RunFault::FolderFailed(5)), 5, FILES)];
-    assert!(rt; go(rt.alloc(), LEFTOVER, RUNS));
-}
-
-// A text whose run broke off, another one that shares a message with it, and the first again.
-#[test]
-fn another_text_after_a_stop(rt: HostRuntime) {
-    const STOP: &[Row<'_>] = &[(5, &[], Mode::FailAfter)];
-    const ONE: &[File<'_>] = &[(Sub::New, EMPTY_ONE, "")];
-    const RUNS: &[Run<'_>] = &[
-        (STOP, TWO_EMPTY, Err(RunFault::FolderFailed(5)), 5, ONE),
-        (&[], b"From c\n\n", Ok((1, 1, 0, 0)), 3, ONE),
-        (&[], TWO_EMPTY, Ok((2, 1, 1, 0)), 5, FIRST_TWO),
-    ];
-    assert!(rt; go(rt.alloc(), &[], RUNS));
+fn stopped_runs(rt: HostRuntime) {
+    let wrong = wrong_scene(rt.alloc(), STOPPED);
+    assert!(rt; wrong.is_none(), "{}", wrong.unwrap_or(""));
 }

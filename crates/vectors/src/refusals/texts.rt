@@ -3,24 +3,12 @@ ghost use Rattle.std.specs.Prelude.{◌<◌};
 
 use crate::messages::{Message, are, are_first, feed_pieces, finish_into, gives};
 use crate::{from_lines, splitting};
-use mbox_text::{Splitter, TextFault, build_from, split_all};
+use mbox_text::{Splitter, TextFault, split_all};
 use std::alloc::Global;
 
 const QUOTED: &[u8] = b"From x\n>From a\n>>From b\n> From c\n>From\n\n";
 
 const UNQUOTED: &[Message<'_>] = &[(b"From x", b"From a\n>From b\n> From c\n>From\n")];
-
-// Whether this From_ line is built.
-fn builds(alloc: Global, sender: &[u8], rest: &[u8], want: &[u8]) -> bool {
-    let answer = match build_from(alloc, sender, rest) {
-        Err(TextFault::OutOfMemory) => build_from(alloc, sender, rest),
-        answer => answer,
-    };
-    match answer {
-        Ok(line) => line.as_slice() == want,
-        Err(_) => false,
-    }
-}
 
 #[test]
 fn build_from_again(rt: HostRuntime) {
@@ -33,7 +21,10 @@ fn build_from_again(rt: HostRuntime) {
         (b"a b", b"", b"From a-b"),
     ];
     for &(sender, rest, want) in ROWS {
-        assert!(rt; builds(rt.alloc(), sender, rest, want), "{want:?}");
+        assert!(rt;
+            from_lines::builds(rt.alloc(), true, sender, rest, want),
+            "{want:?}"
+        );
     }
     assert!(rt; from_lines::is_refused(rt.alloc(), b"x\ny"));
 }

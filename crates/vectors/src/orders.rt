@@ -1,0 +1,203 @@
+// The order of the steps that bring a message: each other one loses it in some case of what a power cut leaves.
+use crate::cuts::{ROOM, losing};
+use crate::runs::ABC;
+use crate::scripts::Deed;
+use maildir_disk::{MemSystem, System};
+use maildir_name::Place;
+use maildir_run::{MemFolder, Sub};
+use std::alloc::{AllocError, Global};
+use std::io;
+use std::test::Fail;
+
+// The steps that deliver a message, and what is asked to be kept between them.
+#[derive(Clone, Copy)]
+enum Step {
+    Write,
+    SyncFile,
+    Place,
+    SyncNew,
+    SyncCur,
+    SyncRoot,
+}
+
+fn make_steps(system: &mut MemSystem, steps: &[Step]) -> io::Result<()> {
+    let mut file = system.create(ABC)?;
+    for step in steps {
+        match step {
+            Step::Write => {
+                let taken = system.append(&mut file, b"abc")?;
+                let _ = system.append(&mut file, &b"abc"[taken.min(3)..])?;
+            }
+            Step::SyncFile => system.sync_file(&file)?,
+            Step::Place => system.rename(ABC, Place::New, ABC)?,
+            Step::SyncNew => system.sync_folder(Place::New)?,
+            Step::SyncCur => system.sync_folder(Place::Cur)?,
+            Step::SyncRoot => system.sync_root()?,
+        }
+    }
+    Ok(())
+}
+
+/// Whether the message is found, and nothing but its body under its names.
+pub(crate) fn is_found(alloc: Global, folder: &MemFolder) -> Result<bool, AllocError> {
+    let seen = format!(in alloc; "{ABC}:2,S")?;
+    let homes = [
+        folder.bytes_of(Sub::New, ABC),
+        folder.bytes_of(Sub::Cur, seen.as_str()),
+    ];
+    let mut is_there = false;
+    for home in homes {
+        if let Some(bytes) = home {
+            if bytes != b"abc".as_slice() {
+                return Ok(false);
+            }
+            is_there = true;
+        }
+    }
+    Ok(is_there)
+}
+
+// Whether the message is found in each case that a cut may leave after these steps, where a reader moves it to `cur` at the
+// turn of this number, and whether two files of it are found in one of them. Nothing where there are too many cases.
+fn survives(rt: HostRuntime, steps: &[Step], turn: u8) -> Result<Option<(bool, bool)>, Fail> {
+    let alloc = rt.alloc();
+    let (mut always, mut doubled) = (true, false);
+    for case in 0..ROOM {
+        let mut system = losing(rt, &[Deed::ToCur(ABC, ":2,S")], turn)?;
+        make_steps(&mut system, steps)?;
+        let cases = system.cases();
+        if cases >= ROOM {
+            return Ok(None);
+        }
+        system.cut(case);
+        let folder = system.folder();
+        always = is_found(alloc, folder)? && always;
+        doubled = doubled
+            || folder
+                .count(Sub::New)
+                .saturating_add(folder.count(Sub::Cur))
+                > 1;
+        if case.saturating_add(1) >= cases {
+            return Ok(Some((always, doubled)));
+        }
+    }
+    Ok(None)
+}
+
+const RIGHT: &[Step] = &[
+    Step::Write,
+    Step::SyncFile,
+    Step::Place,
+    Step::SyncNew,
+    Step::SyncCur,
+    Step::SyncRoot,
+];
+
+// The order of the steps is what keeps a message. A reader moves it at each turn.
+#[test]
+fn orders_of_syncs(rt: HostRuntime) -> Result<(), Fail> {
+    const WRONG: &[(&str, &[Step])] = &[
+        (
+            "no sync of the file",
+            &[
+                Step::Write,
+                Step::Place,
+                Step::SyncNew,
+                Step::SyncCur,
+                Step::SyncRoot,
+            ],
+        ),
+        (
+            "the file before the write",
+            &[
+                Step::SyncFile,
+                Step::Write,
+                Step::Place,
+                Step::SyncNew,
+                Step::SyncCur,
+                Step::SyncRoot,
+            ],
+        ),
+        (
+            "the file after the placement",
+            &[
+                Step::Write,
+                Step::Place,
+                Step::SyncFile,
+                Step::SyncNew,
+                Step::SyncCur,
+                Step::SyncRoot,
+            ],
+        ),
+        (
+            "new before the placement",
+            &[
+                Step::Write,
+                Step::SyncFile,
+                Step::SyncNew,
+                Step::Place,
+                Step::SyncCur,
+                Step::SyncRoot,
+            ],
+        ),
+        (
+            "no sync of new",
+            &[
+                Step::Write,
+                Step::SyncFile,
+                Step::Place,
+                Step::SyncCur,
+                Step::SyncRoot,
+            ],
+        ),
+        (
+            "no sync of cur",
+            &[
+                Step::Write,
+                Step::SyncFile,
+                Step::Place,
+                Step::SyncNew,
+                Step::SyncRoot,
+            ],
+        ),
+        (
+            "cur before new",
+            &[
+                Step::Write,
+                Step::SyncFile,
+                Step::Place,
+                Step::SyncCur,
+                Step::SyncNew,
+                Step::SyncRoot,
+            ],
+        ),
+        (
+            "no sync of the Maildir",
+            &[
+                Step::Write,
+                Step::SyncFile,
+                Step::Place,
+                Step::SyncNew,
+                Step::SyncCur,
+            ],
+        ),
+    ];
+    let mut doubled = false;
+    for turn in 1..12u8 {
+        let found = survives(rt, RIGHT, turn)?;
+        assert!(rt; matches!(found, Some((true, _))), "{turn}");
+        doubled = doubled || found == Some((true, true));
+    }
+    // a rename of the reader that came in half
+    assert!(rt; doubled);
+    for &(name, steps) in WRONG {
+        let mut lost = false;
+        for turn in 1..12u8 {
+            let found = survives(rt, steps, turn)?;
+            assert!(rt; found.is_some(), "{name}, {turn}");
+            lost = lost || matches!(found, Some((false, _)));
+        }
+        assert!(rt; lost, "{name}");
+    }
+    Ok(())
+}
