@@ -5,7 +5,7 @@ pub use Rattle.std.proofs.lemmas.List.Elements.{Contains-append_right, Contains-
 pub use Rattle.std.specs.FinMap.{contains_key, contains_key-keys, empty, entries, get, get-entries, get-insert, get-remove, insert, keys, remove, same_map}
 pub use Rattle.std.specs.Time.{system_time_nanos}
 pub use Rattle.std.specs.declared.io.Error.{Error}
-pub use Rattle.maildir_name.specs.Names.{base, is_converter_base, is_converter_name}
+pub use Rattle.maildir_name.specs.Names.{is_converter_base, is_converter_name}
 pub use Rattle.maildir_name.specs.declared.target.Place.{Place}
 pub use Rattle.maildir_run.proofs.Call.Cuts.{leaves_moves, left_as}
 pub use Rattle.maildir_run.proofs.Call.Homes.{absent, acted_kept, converters, equally, get-outsiders_of, held-insert_new, held-insert_other, held-remove_old}
@@ -19,10 +19,10 @@ pub use Rattle.maildir_run.specs.Calls.{Lists, Move, moved, Other, placed, Place
 pub use Rattle.maildir_run.specs.Cuts.{Came, CutMove, Doubled, doubled, Follows, IsFoundWhole, Leaves, LeavesOf, left_after, linked}
 pub use Rattle.maildir_run.specs.Delivery.{AreDistinct, AreNamed, Delivered, HasHome, is_any, is_base_of, IsHome, IsMissing, IsSoundAt, Message}
 pub use Rattle.maildir_run.specs.Files.{acted, Action, all_acted, DropTmp, FileMap, Files, has_base, held_under, homes, is_name, KeepsConverters, may_take}
-pub use Rattle.maildir_run.specs.Files.{Outside, outsiders_of, Reflag, reflag, to_cur, ToCur}
-pub use Rattle.maildir_run.specs.MemFolder.{files_of, FollowsScript, IsQuiet, next_call, SameScript}
+pub use Rattle.maildir_run.specs.Files.{Outside, outsiders_of, Reflag, ToCur}
+pub use Rattle.maildir_run.specs.MemFolder.{files_of, SameScript}
 pub use Rattle.maildir_run.specs.Runs.{IsRun, Keeps, ReportsMessages}
-pub use Rattle.maildir_run.specs.Script.{acts_at, all_performed, half_performed, performed}
+pub use Rattle.maildir_run.specs.Script.{all_performed, half_performed, performed}
 pub use Rattle.maildir_run.specs.Texts.{MessagesOf}
 pub use Rattle.maildir_run.specs.declared.fault.RunFault.{RunFault}
 pub use Rattle.maildir_run.specs.declared.folder.Sub.{Sub}
@@ -36,9 +36,9 @@ pub use Rattle.maildir_disk.specs.PowerCuts.{Acted, AreAlike, AreIntact, AreSafe
 pub use Rattle.maildir_disk.specs.PowerCuts.{IsSingle, KeepsHeld, KeepsNames, LeftByOthers, Ran, Survive, Syncs}
 pub use Rattle.maildir_disk.specs.Private.Cases.{Adds, IsAdded, KeepsCases, Loses, LosesBytes, made, nth_left}
 pub use Rattle.maildir_disk.specs.Private.Writing.{Written}
-pub use Rattle.maildir_disk.specs.Quiet.{AppendedQuietly, AreNames, SameFiles}
+pub use Rattle.maildir_disk.specs.Quiet.{AppendedQuietly, SameFiles}
 pub use Rattle.maildir_disk.specs.World.{Acts, IsOfChange, IsStampWithin, margin_of, Passes, ReadsNames, World}
-pub use Rattle.maildir_disk.specs.Writing.{Appended, changed, Comes, Created, rewritten}
+pub use Rattle.maildir_disk.specs.Writing.{Appended, changed, Comes, rewritten}
 pub use Rattle.maildir_disk.specs.declared.cases.Cases.{Cases}
 pub use Rattle.maildir_disk.specs.declared.cases.Change.{Change}
 pub use Rattle.maildir_disk.specs.declared.cases.Change.TheVariants.{Half, Hold, Make, Remove}

@@ -4,5 +4,3 @@
 pub mod CaseLists
 -- Changes of a Maildir in memory: what each leaves, and of which call it is.
 pub mod Changes
--- A placement in memory that finds no file.
-pub mod Gone

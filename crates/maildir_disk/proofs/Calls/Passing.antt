@@ -25,7 +25,7 @@ others_whole (a ∷ xs) = others_whole xs
 
 -- no other program acts, or some and then others do
 pub acts_none : {a : World} → Acts a a
-acts_none = record { actions = []; files_are = refl }
+acts_none = grind arith
 
 pub acts_on : {a b c : World} → Acts a b → Acts b c → Acts a c
 acts_on {a} p q =

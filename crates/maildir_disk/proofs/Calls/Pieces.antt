@@ -4,7 +4,7 @@ use Rattle.std.proofs.Common.{Result, Ok, Err, take, arith, rules}
 use Rattle.maildir_disk.proofs.Common.{Error, get, insert, remove, get-insert, get-remove, same_map, cases_Bool, false_from_ne_true, is_converter_name, Files}
 use Rattle.maildir_disk.proofs.Common.{FileMap, is_name, KeepsConverters, Action, ToCur, Reflag, DropTmp, Outside, outsiders_of}
 use Rattle.maildir_disk.proofs.Common.{acted, all_acted, Call, Writing, Other, Again, Torn, after, effect, IsOthers, Succeeded, AnyMoves, Called, total, same}
-use Rattle.maildir_disk.proofs.Common.{alike, is_name-true, get-insert_same, get-outsiders_of, World, Acts, Comes, rewritten, changed, Created, Appended}
+use Rattle.maildir_disk.proofs.Common.{alike, is_name-true, get-insert_same, get-outsiders_of, World, Acts, Comes, rewritten, changed, Appended}
 use Rattle.maildir_disk.proofs.Common.{Written}
 use Rattle.maildir_run.proofs.Call.Outsiders.{outside_reaches, get-outsiders_other}
 use Rattle.maildir_disk.proofs.Calls.Passing.{all_acted-append, after-others, after-append, others_whole, acts_on}
@@ -16,12 +16,12 @@ mapped true change (Some held) = Some (change held)
 mapped false change o = o
 
 not_there : {here : Bool} (change : List ℕ → List ℕ) {o : Option (List ℕ)} → (here ≡ true → o ≡ None) → o ≡ mapped here change o
-not_there {here = true} change none = none refl ∙ sym (ap (mapped true change) (none refl))
+not_there {here = true} change none = grind arith
 not_there change none = refl
 
 there : {here : Bool} (change : List ℕ → List ℕ) {held : List ℕ} {o : Option (List ℕ)}
     → (here ≡ true → o ≡ Some held) → cond here (Some (change held)) o ≡ mapped here change o
-there {here = true} change some = sym (ap (mapped true change) (some refl))
+there {here = true} change some = grind arith
 there change some = refl
 
 get-rewritten : (m : FileMap) (name : List ℕ) (change : List ℕ → List ℕ) (q : List ℕ)
@@ -39,13 +39,9 @@ acted_on (Outside files) m = outsiders_of m files.tmp
 apart : (p : List ℕ → Bool) (k q : List ℕ) → p k ≡ false → p q ≡ true → is_name q k ≡ false
 apart p k q off on = false_from_ne_true (is_name q k) (λ e. let same_test : p q ≡ p k = alike p q k e in cc)
 
-either_apart : (t : Bool) (r s : Files) (m : FileMap) → cond t (record r { tmp = m }) (record s { tmp = m }) ≡ record (cond t r s) { tmp = m }
-either_apart true r s m = refl
-either_apart false r s m = refl
-
 acted_apart : (a : Action) (s : Files) (m : FileMap) → acted a (record s { tmp = m }) ≡ record (acted a s) { tmp = acted_on a m }
-acted_apart (ToCur name target) s m = grind (arith, either_apart)
-acted_apart (Reflag name target) s m = grind (arith, either_apart)
+acted_apart (ToCur name target) s m = grind arith
+acted_apart (Reflag name target) s m = grind arith
 acted_apart (DropTmp name) s m = grind arith
 acted_apart (Outside files) s m = refl
 
@@ -257,26 +253,3 @@ pub append_failed : {name : List ℕ} (held piece : List ℕ) {bytes : List ℕ}
 append_failed {name} held piece c outcome written appended =
     let left = written_appended name held piece outcome written appended in
     write_failed left.0 left.1
-
--- ---- what a system in memory shows of its calls
-pub created_fault : {A E : Type 0} (name : List ℕ) {a b : World} (outcome : Result A E) → IsErr outcome → Acts a b → Created name a outcome b
-created_fault name (Ok _) is_err acts = cc
-created_fault name (Err _) is_err acts = inl acts
-
-pub appended_fault : (name bytes : List ℕ) {a b : World} (outcome : Result ℕ Error) → IsErr outcome → Acts a b → Appended name bytes a outcome b
-appended_fault name bytes (Ok _) is_err acts = cc
-appended_fault name bytes (Err _) is_err acts = inl acts
-
-pub not_changed : (name : List ℕ) (change : List ℕ → List ℕ) {s : Files} → get s.tmp name ≡ None → s ≡ changed name change s
-not_changed name change {s} none = search rules
-
-pub changed_by_write : (name : List ℕ) {held : List ℕ} (change : List ℕ → List ℕ) (s : Files)
-    → get s.tmp name ≡ Some held → effect (Writing name (change held)) s ≡ changed name change s
-changed_by_write name change s has = search rules
-
-pub comes_to_none : (name : List ℕ) (change : List ℕ → List ℕ) {a b : World} → Acts a b → get b.files.tmp name ≡ None → Comes (changed name change) a b
-comes_to_none name change acts none = grind (arith, not_changed)
-
-pub comes_by_write : (name : List ℕ) {held : List ℕ} (change : List ℕ → List ℕ) {a b c : World} → Acts a b
-    → get b.files.tmp name ≡ Some held → c.files ≡ effect (Writing name (change held)) b.files → Comes (changed name change) a c
-comes_by_write name change {b} acts has written = grind (arith, changed_by_write)

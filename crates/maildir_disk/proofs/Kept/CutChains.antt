@@ -1,5 +1,5 @@
 -- What runs over any of several texts, actions, syncs and power cuts leave that follow one another.
-use Rattle.std.proofs.Common.{◌≡◌, ℕ, true, List, [], ◌∷◌, ◌++◌, map, get_or, All, Any, Contains, IsTrue, IsPermutation, Result, Ok, refl, sym, ◌∙◌, ap, subst}
+use Rattle.std.proofs.Common.{◌≡◌, ℕ, true, List, [], ◌∷◌, ◌++◌, map, get_or, All, Any, Contains, IsTrue, IsPermutation, Result, Ok, refl, sym, ap, subst}
 use Rattle.std.proofs.Common.{inl, inr, arith, rules}
 use Rattle.maildir_disk.proofs.Common.{cases_Bool, All-contains, All-cons, All-head, All-nil, Contains-append_right, Contains-get_or, is_converter_base}
 use Rattle.maildir_disk.proofs.Common.{RunFault, Report, Message, HasHome, IsMissing, IsHome, IsSoundAt, Delivered, is_any, is_base_of, Sub, Files, Action}
@@ -32,7 +32,7 @@ pub record IsSafeAt (moment : FilesAndLeft) (m : Message) : Type 0 where
   pub body : HasBody moment.left m
 
 on_same : (n m : Message) (s : Files) → n.target.base ≡ m.target.base → n.body ≡ m.body → IsSoundAt s n → IsSoundAt s m
-on_same n m s base body (inl none) = inl (subst (λ b. homes s b ≡ []) base none)
+on_same n m s base body (inl none) = grind arith
 on_same n m s base body (inr home) = grind arith
 
 pub moved_sound : (m : Message) (s t : Files) → IsPermutation (homes s m.target.base) (homes t m.target.base) → IsSoundAt s m → IsSoundAt t m
@@ -41,15 +41,15 @@ moved_sound m s t kept (inr home) = inr (homes_one m.target.base m.body s t kept
 
 -- a home where there is one
 at_home : (m : Message) (s : Files) → HasHome s m → IsSoundAt s m → IsHome s m
-at_home m s has (inl none) = let off = sym has ∙ ap is_any none in cc
+at_home m s has (inl none) = grind arith
 at_home m s has (inr home) = home
 
 missing_intact : (m : Message) (s : Files) → IsMissing s m → IsIntact s m
-missing_intact m s none bytes has = absurd (none_in (subst (λ hs. Contains hs bytes) none has))
+missing_intact m s none bytes has = grind (arith, none_in)
 
 -- the message that a base is of
 found_any : (ms : List Message) {b : List ℕ} → Any (λ n. is_name n.target.base b ≡ true) ms → (n : Message) × Contains ms n × (n.target.base ≡ b)
-found_any ms {b} (k, x, below, at, holds) = (x, (k, below, at), is_name-true x.target.base b holds)
+found_any ms {b} (k, x, below, at, holds) = grind (arith, is_name-true)
 
 -- a message, of whose base no message of a run has another body
 pub kept_by_run : {ms : List Message} {old new : Files} {answer : Result Report RunFault} → Keeps ms old answer new
@@ -90,7 +90,7 @@ module _ (texts : List Mailbox) where
   -- ---- one event, and one message
   module _ (m : Message) (known : Known texts m) where
     alike_in : {text : Mailbox} → Contains texts text → All (λ n. n.target.base ≡ m.target.base → n.body ≡ m.body) text.messages
-    alike_in {text} among = grind (arith, All-contains)
+    alike_in {text} among = grind arith
 
     -- a sync of one folder
     kept_on : (P : Files → Type 0) → ((actions : List Action) (s : Files) → P s → P (all_acted actions s))
@@ -103,7 +103,7 @@ module _ (texts : List Mailbox) where
 
     synced_on : (P : Files → Type 0) → ((actions : List Action) (s : Files) → P s → P (all_acted actions s))
         → (old new : FilesAndLeft) → Syncs old.files old.left new.files new.left → P old.files → P new.files
-    synced_on P on old new synced at = kept_on P on synced.then (kept_on P on synced.first at)
+    synced_on P on old new synced at = grind (arith, kept_on)
 
     cut_holds : {old new : FilesAndLeft} → IsCut old new → SteadyAt m.target.base m.body old.left new.left
     cut_holds {old} {new} cut =

@@ -3,7 +3,7 @@ use Rattle.std.proofs.Common.{◌≡◌, ℕ, true, false, cond, zero, suc, List
 use Rattle.std.proofs.Common.{ap, subst, ◌∙◌, inl, inr, arith, Contains, rules}
 use Rattle.maildir_disk.proofs.Common.{get, insert, remove, get-insert, get-remove, same_map, cases_Bool, and_parts, Contains-push, Contains-append_left}
 use Rattle.maildir_disk.proofs.Common.{Contains-append_right, Contains-append_cases, Place, is_converter_name, is_converter_base, FileMap, Files, is_name}
-use Rattle.maildir_disk.proofs.Common.{has_base, held_under, homes, Action, ToCur, Reflag, DropTmp, Outside, may_take, acted, Call, Writing, Placing, Move}
+use Rattle.maildir_disk.proofs.Common.{has_base, held_under, homes, Action, ToCur, Reflag, DropTmp, Outside, may_take, Call, Writing, Placing, Move}
 use Rattle.maildir_disk.proofs.Common.{Other, Again, Torn, placed, moved, PlacesElsewhere, StaysOrGoes, Leaves, IsFoundWhole, Came, Doubled, linked, doubled}
 use Rattle.maildir_disk.proofs.Common.{left_after, Message, AreNamed, total, same, is_name-true, get-insert_same, absent, acted_kept, equally}
 use Rattle.maildir_disk.proofs.Common.{held-insert_other, held-insert_new, held-remove_old, after_kept, after_tmp, IsIntact, HasBody, LeftByOthers}
@@ -92,22 +92,22 @@ SteadyAt b x old new = Steady x (homes old b) (homes new b)
 
 -- a file that was written is found whole as long as nothing writes it
 whole_on : (name x : List ℕ) (s t : Files) → StaysOrGoes name s t → IsFoundWhole (Writing name x) s → IsFoundWhole (Writing name x) t
-whole_on name x s t (inl stays) whole = λ ours held has. whole ours held (sym stays ∙ has)
-whole_on name x s t (inr gone) whole = λ ours held has. let e = sym gone ∙ has in cc
+whole_on name x s t (inl stays) whole = grind arith
+whole_on name x s t (inr gone) whole = grind arith
 
 linked_tmp : (s : Files) (name target : List ℕ) (o : Option (List ℕ)) → (linked s name target o).tmp ≡ s.tmp
 linked_tmp s name target None = refl
 linked_tmp s name target (Some bytes) = grind arith
 
 doubled_tmp : (action : Action) (s : Files) → (doubled action s).tmp ≡ s.tmp
-doubled_tmp (ToCur name target) s = linked_tmp s name target (get s.new name)
-doubled_tmp (Reflag name target) s = linked_tmp s name target (get s.cur name)
+doubled_tmp (ToCur name target) s = grind (arith, linked_tmp)
+doubled_tmp (Reflag name target) s = grind (arith, linked_tmp)
 doubled_tmp (DropTmp name) s = refl
 doubled_tmp (Outside files) s = refl
 
 module _ (b x : List ℕ) where
   pub steady_same : (s : Files) → SteadyAt b x s s
-  steady_same s = record { within = λ y h. inr h; still = λ h. h }
+  steady_same s = grind arith
 
   pub steady_then : (r s t : Files) → SteadyAt b x r s → SteadyAt b x s t → SteadyAt b x r t
   steady_then r s t first then = record {
@@ -191,8 +191,8 @@ module _ (b x : List ℕ) where
     -- a call that places there what `tmp` has under a name, where these bytes were written
     module _ (name : List ℕ) (p : Place) (target : List ℕ) (ours : IsTrue (is_converter_name name)) (on : has_base b target ≡ true) where
       placing_moved : (move : Move) (s : Files) → IsFoundWhole (Writing name x) s → SteadyAt b x s (moved (Placing name p target) move s)
-      placing_moved (Other action) s whole = steady_kept s (acted action s) (acted_kept b named action s)
-      placing_moved Again s whole = placed_steady s name p target (get s.tmp name) on (whole ours)
+      placing_moved (Other action) s whole = grind (arith, steady_kept, acted_kept)
+      placing_moved Again s whole = grind (arith, placed_steady)
       placing_moved (Torn bytes) s whole = steady_same s
 
       left_placing : (kept : List cuts.CutMove) (s : Files) → IsFoundWhole (Writing name x) s → SteadyAt b x s (left_after s (Placing name p target) kept)
@@ -227,4 +227,4 @@ pub all_bodies : (ms : List Message) (s t : Files) → AllHold ms s t → All (H
 all_bodies ms s t hold bodies k d below = (hold k d below).still (bodies k d below)
 
 pub all_beside : (ms : List Message) {s t : Files} → AreNamed ms → LeftByOthers s t → AllHold ms s t
-all_beside ms named leaves k d below = others_hold (get_or ms k d) (named k d below) leaves
+all_beside ms named leaves k d below = grind (arith, others_hold)

@@ -25,7 +25,7 @@ left_of_no_tasks true e = e
 left_of_no_tasks false e = e
 
 one_done : (task : Task) (old new : Files) → LeavesTasks true (task ∷ []) old new → LeavesDone task old new
-one_done task old new (mid, done, e) = subst (LeavesDone task old) (sym e) done
+one_done task old new (mid, done, e) = grind arith
 
 one_left : (ended : Bool) (task : Task) {old new : Files} → LeavesTasks ended (task ∷ []) old new → Leaves (call_of task) old new
 one_left true task {old} {new} h = (one_done task old new h).0
@@ -52,7 +52,7 @@ module _ (b x : List ℕ) (named : IsTrue (is_converter_base b)) where
   AreSteady tasks = (ended : Bool) (old new : Files) → LeavesTasks ended tasks old new → SteadyAt b x old new
 
   none_steady : AreSteady []
-  none_steady ended old new h = subst (SteadyAt b x old) (sym (left_of_no_tasks ended h)) (steady_same b x old)
+  none_steady ended old new h = grind (arith, left_of_no_tasks, steady_same)
 
   both_steady : (xs ys : List Task) → AreSteady xs → AreSteady ys → AreSteady (xs ++ ys)
   both_steady xs ys first then ended old new h =
@@ -62,7 +62,7 @@ module _ (b x : List ℕ) (named : IsTrue (is_converter_base b)) where
       ]
 
   elsewhere_steady : (task : Task) → PlacesElsewhere b (call_of task) → AreSteady (task ∷ [])
-  elsewhere_steady task off ended old new h = leaves_elsewhere b x named off (one_left ended task h)
+  elsewhere_steady task off ended old new h = grind (arith, leaves_elsewhere, one_left)
 
   all_elsewhere : (tasks : List Task) → EachTask PlacesNone tasks → AreSteady tasks
   all_elsewhere [] off = none_steady

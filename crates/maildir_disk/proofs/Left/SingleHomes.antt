@@ -1,7 +1,7 @@
 -- What a cut leaves of a message where it leaves each file under one name.
 use Rattle.std.proofs.Common.{◌≡◌, ℕ, ◌≤◌, List, [], ◌∷◌, ◌⊎◌, length, IsTrue, ap, inl, inr, arith, refl, Contains}
 use Rattle.maildir_disk.proofs.Common.{is_converter_base, Message, IsHome, IsSoundAt, Files, homes, IsIntact, HasBody, IsSingle}
-use Rattle.maildir_disk.proofs.Left.LeftHomes.{none_in, first_in, first_or}
+use Rattle.maildir_disk.proofs.Left.LeftHomes.{none_in, first_in}
 
 only_one : {x : List ℕ} (ys : List (List ℕ)) → length ys ≤ 1 → ((y : List ℕ) → Contains ys y → y ≡ x) → (ys ≡ []) ⊎ (ys ≡ x ∷ [])
 only_one [] few all = inl refl
@@ -10,12 +10,12 @@ only_one (y ∷ z ∷ ys) few all = absurd (omega (arith, few))
 
 the_one : {x : List ℕ} (ys : List (List ℕ)) → length ys ≤ 1 → Contains ys x → ys ≡ x ∷ []
 the_one [] few has = absurd (none_in has)
-the_one (y ∷ []) few has = grind (arith, first_or, none_in)
+the_one (y ∷ []) few has = grind arith
 the_one (y ∷ z ∷ ys) few has = absurd (omega (arith, few))
 
 at_most_one : (m : Message) (s : Files) → IsSoundAt s m → length (homes s m.target.base) ≤ 1
-at_most_one m s (inl none) = let e = ap length none in omega (arith, e)
-at_most_one m s (inr one) = let e = ap length one in omega (arith, e)
+at_most_one m s (inl none) = grind arith
+at_most_one m s (inr one) = grind arith
 
 pub single_sound : (m : Message) → IsTrue (is_converter_base m.target.base)
     → (s left : Files) → IsSoundAt s m → IsIntact left m → IsSingle s left → IsSoundAt left m

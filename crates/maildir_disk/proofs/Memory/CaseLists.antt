@@ -42,7 +42,7 @@ adds_one {P} x e holds = search (rules, All-cons, All-nil)
 
 pub pushed : (folders : List MemFolder) {new : List MemFolder} (x : MemFolder)
     → new ≡ folders ++ x ∷ [] → map files_of new ≡ map files_of folders ++ files_of x ∷ []
-pushed folders x e = ap (map files_of) e ∙ map-append files_of folders (x ∷ [])
+pushed folders x e = grind (arith, map-append)
 
 pub nth_files : (cases : Cases) {at : ℕ} {x : MemFolder} → at < length cases.folders.items
     → x ≡ get_or cases.folders.items at x → files_of x ≡ nth_left at cases
@@ -130,7 +130,7 @@ module _ {X F : Type 0} (R : F → X → Bool → F → Type 0) (f : F) (v : X �
   Stays xs ys = (left : Files) → Contains (map v ys) left ↔ (Contains (map v xs) left × P left)
 
   in_turn : (bs : List Bool) (xs : List X) {p : F} (q : F) → p ≡ f → length bs ≡ length xs → ReturnsInTurn R p bs xs q → Stays xs (items_where_true bs xs)
-  in_turn [] [] q is long turns left = (λ has. absurd (none_in has), λ both. both.0)
+  in_turn [] [] q is long turns left = grind (arith, none_in)
   in_turn [] (x ∷ xs) q is long turns left = absurd (omega (arith, long))
   in_turn (b ∷ bs) [] q is long turns left = absurd turns
   in_turn (true ∷ bs) (x ∷ xs) q is long (j, first, rest) left =

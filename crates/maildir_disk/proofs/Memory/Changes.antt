@@ -2,7 +2,7 @@
 use Rattle.std.proofs.Common.{◌≡◌, ◌⊎◌, ◌↔◌, ◌+◌, ◌<◌, ◌≤◌, ℕ, List, [], ◌∷◌, ◌++◌, length, take, Contains, Option, Some, None, Result, Ok, Err, OnOk, OnErr}
 use Rattle.std.proofs.Common.{refl, sym, ◌∙◌, ap, subst, inl, inr, arith, string_bytes, take-take, rules}
 use Rattle.maildir_disk.proofs.Common.{get, keys, contains_key, contains_key-keys, Sub, Tmp, MemFolder, Call, Listing, Writing, Placing, Removing, Again, Torn}
-use Rattle.maildir_disk.proofs.Common.{Other, Called, CalledQuietly, effect, folder_of, Leaves, Follows, Came, Doubled, files_of, Files, Action, ToCur, Reflag}
+use Rattle.maildir_disk.proofs.Common.{Other, Called, folder_of, Leaves, Follows, Came, Doubled, files_of, Files, Action, ToCur, Reflag}
 use Rattle.maildir_disk.proofs.Common.{all_acted, performed, half_performed, leaves_moves, an_action, Cases, Change, Make, Hold, Remove, Half, Adds}
 use Rattle.maildir_disk.proofs.Common.{IsAdded, KeepsCases, Loses, LosesBytes, made, HasRoom, lefts_of, may_find, KeepsNames, LeftByOthers, World, changed}
 use Rattle.maildir_disk.proofs.Common.{rewritten}
@@ -68,7 +68,7 @@ module _ (change : Change) (folder then : MemFolder) (old new : Cases) (more : A
   keeps_lost room loses = search (rules, no_fewer, lost_there)
 
 pub called_leaves : {A E : Type 0} {call : Call} {a : Files} (outcome : Result A E) {b : Files} → Called call a outcome b → Leaves call a b
-called_leaves {call} {a} (Ok x) {b} h = leaves_moves call a b (h.before ++ Again ∷ h.rest) h.left
+called_leaves {call} {a} (Ok x) {b} h = grind (arith, leaves_moves)
 called_leaves {call} {a} (Err e) {b} h = leaves_moves call a b h.moves h.left
 
 -- ---- calls
@@ -156,7 +156,7 @@ pub keeps_none : (folder : MemFolder) {cases : Cases} → KeepsCases (may_find f
 keeps_none folder = search (rules, no_fewer)
 
 pub keeps_on : {a b c : Files → Type 0} {old mid new : Cases} → KeepsCases a b old mid → KeepsCases b c mid new → KeepsCases a c old new
-keeps_on {mid} first then = grind (arith, no_fewer)
+keeps_on {mid} first then = grind arith
 
 -- ---- syncs
 module _ (P : Files → Type 0) (folder : MemFolder) (old new : Cases)
@@ -199,9 +199,3 @@ names_stayed {sub} e a folder old new acts first stays left may =
             e (same_names sub left (files_of folder) name (all_stayed alike folder old new stays refl left may));
       },
     )
-
--- a call of a quiet folder
-pub effect_quietly : {A E : Type 0} (call : Call) (old : Files) (outcome : Result A E) (new : Files)
-    → CalledQuietly call old outcome new → OnOk outcome (new ≡ effect call old)
-effect_quietly call old (Ok x) new called = called.1
-effect_quietly call old (Err e) new called = tt

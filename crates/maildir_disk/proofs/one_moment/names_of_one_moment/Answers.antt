@@ -99,7 +99,7 @@ pub returns-in_err-instant-clause-quietly : goal.returns-in_err-instant-clause-q
 returns-in_err-instant-clause-quietly g c = grind arith
 
 pub returns-clause-quiet : goal.returns-clause-quiet
-returns-clause-quiet g c = grind (arith, else-loop-test, then-loop-test+in_ok-names+in-Wait+in_ok-instant+then-ge)
+returns-clause-quiet g c = grind arith
 
 pub returns-clause-quietly : goal.returns-clause-quietly
-returns-clause-quietly g c = grind (arith, else-loop-test, then-loop-test+in_ok-names+in-Wait+in_ok-instant+then-ge)
+returns-clause-quietly g c = grind arith

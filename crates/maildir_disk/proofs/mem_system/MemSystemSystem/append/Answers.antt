@@ -1,22 +1,21 @@
 use Rattle.std.proofs.Common.{◌++◌, ◌+◌, ◌-◌, ◌/◌, ◌≤◌, length, take, subst, arith, length-append, rules, ◌≡◌, ◌∙◌, []}
 use Rattle.std.proofs.Common.{length-take}
 use Rattle.maildir_disk.proofs.Common.{opened_as, HasRoom, may_find, LosesBytes, changed}
-use Rattle.maildir_disk.proofs.Calls.Pieces.{appended_fault, comes_to_none, comes_by_write}
 use Rattle.maildir_disk.proofs.Memory.Changes.{bytes_after, front_of_appended, called_leaves, left_of_bytes}
 use Rattle.maildir_disk.proofs.Left.Lefts.{if_ok, left_early, leaves_none, leaves_torn}
 use Rattle.maildir_disk.proofs.mem_system.MemSystemSystem.append.Goals as goal
 
 pub returns-in_err-pass_shortly-clause-appended : goal.returns-in_err-pass_shortly-clause-appended
-returns-in_err-pass_shortly-clause-appended c = grind (arith, appended_fault)
+returns-in_err-pass_shortly-clause-appended c = grind arith
 
 pub returns-in_err-holds-clause-appended : goal.returns-in_err-holds-clause-appended
-returns-in_err-holds-clause-appended c = grind (arith, appended_fault)
+returns-in_err-holds-clause-appended c = grind arith
 
 pub returns-in_default-clause-appended : goal.returns-in_default-clause-appended
-returns-in_default-clause-appended c = grind (arith, comes_to_none)
+returns-in_default-clause-appended c = grind arith
 
 pub returns-in-Ok-clause-appended : goal.returns-in-Ok-clause-appended
-returns-in-Ok-clause-appended c = grind (arith, comes_by_write)
+returns-in-Ok-clause-appended c = grind arith
 
 pub returns-in_err-pass_shortly-clause-left : goal.returns-in_err-pass_shortly-clause-left
 returns-in_err-pass_shortly-clause-left c = λ honest. left_early c.pass_shortly.ensures.left

@@ -1,12 +1,11 @@
 use Rattle.std.proofs.Common.{rules, arith}
 use Rattle.maildir_disk.proofs.Common.{Make, files_of, HasRoom, Loses}
-use Rattle.maildir_disk.proofs.Calls.Pieces.{created_fault}
 use Rattle.maildir_disk.proofs.Memory.Changes.{left_made, left_unmade, lost_after}
 use Rattle.maildir_disk.proofs.Left.Lefts.{if_ok, left_early, left_none}
 use Rattle.maildir_disk.proofs.mem_system.MemSystemSystem.create.Goals as goal
 
 pub returns-in_err-pass_shortly-clause-created : goal.returns-in_err-pass_shortly-clause-created
-returns-in_err-pass_shortly-clause-created c = grind (arith, created_fault)
+returns-in_err-pass_shortly-clause-created c = grind arith
 
 pub returns-in-Err-clause-created : goal.returns-in-Err-clause-created
 returns-in-Err-clause-created c = grind arith

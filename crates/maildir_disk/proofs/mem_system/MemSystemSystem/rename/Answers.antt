@@ -1,12 +1,11 @@
 use Rattle.std.proofs.Common.{arith}
-use Rattle.maildir_disk.proofs.Memory.Gone.{gone_quietly}
 use Rattle.maildir_disk.specs.declared.cases.Change.TheVariants.{Place}
 use Rattle.maildir_disk.proofs.Memory.Changes.{left_made, left_unmade}
 use Rattle.maildir_disk.proofs.Left.Lefts.{left_none}
 use Rattle.maildir_disk.proofs.mem_system.MemSystemSystem.rename.Goals as goal
 
 pub returns-in-Err-clause-gone : goal.returns-in-Err-clause-gone
-returns-in-Err-clause-gone c = grind (arith, gone_quietly)
+returns-in-Err-clause-gone c = grind arith
 
 pub returns-in_err-begin-clause-left : goal.returns-in_err-begin-clause-left
 returns-in_err-begin-clause-left c = λ honest. left_none
