@@ -83,7 +83,8 @@ change_then_act (Outside files) m name change ours = change_then_outside m files
 
 acted_then_changed : (a : Action) (name : List ℕ) (change : List ℕ → List ℕ) (s : Files)
     → is_converter_name name ≡ true → changed name change (acted a s) ≡ acted a (changed name change s)
-acted_then_changed a name change s ours = grind (arith, acted_apart a s s.tmp, change_then_act a s.tmp name change ours, acted_apart a s (rewritten s.tmp name change (get s.tmp name)))
+acted_then_changed a name change s ours =
+    grind (arith, acted_apart a s s.tmp, change_then_act a s.tmp name change ours, acted_apart a s (rewritten s.tmp name change (get s.tmp name)))
 
 all_acted_then_changed : (xs : List Action) (name : List ℕ) (change : List ℕ → List ℕ) (s : Files)
     → is_converter_name name ≡ true → changed name change (all_acted xs s) ≡ all_acted xs (changed name change s)
