@@ -28,11 +28,7 @@ pub acts_none : {a : World} → Acts a a
 acts_none = grind arith
 
 pub acts_on : {a b c : World} → Acts a b → Acts b c → Acts a c
-acts_on {a} p q =
-    record {
-      actions = p.actions ++ q.actions;
-      files_are = q.files_are ∙ (ap (all_acted q.actions) p.files_are ∙ sym (all_acted-append p.actions q.actions a.files));
-    }
+acts_on {a} p q = grind (arith, all_acted-append p.actions q.actions a.files)
 
 -- no time passes
 pub passes_none : {sub : Sub} {a : World} → Passes sub a a
@@ -57,8 +53,7 @@ watched_fault sub stamp (Err _) is_err p = p
 
 -- a listing that failed
 pub failed_listing : {sub : Sub} {a b : World} → Acts a b → AnyMoves (Listing sub) a.files b.files
-failed_listing {sub} {a} p =
-    record { moves = map Other p.actions; left = p.files_are ∙ sym (after-others p.actions (Listing sub) a.files) }
+failed_listing {sub} {a} p = grind (arith, after-others p.actions (Listing sub) a.files)
 
 pub listed_fault : {E : Type 0} (sub : Sub) {a b : World} (outcome : Result (Vec (String Global) Global) E)
     → IsErr outcome → Acts a b → Listed sub a.files outcome b.files

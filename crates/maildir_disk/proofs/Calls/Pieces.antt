@@ -84,9 +84,7 @@ change_then_act (Outside files) m name change ours = change_then_outside m files
 acted_then_changed : (a : Action) (name : List ℕ) (change : List ℕ → List ℕ) (s : Files)
     → is_converter_name name ≡ true → changed name change (acted a s) ≡ acted a (changed name change s)
 acted_then_changed a name change s ours =
-    let tmp_is : (acted a s).tmp ≡ acted_on a s.tmp = ap (λ t. t.tmp) (acted_apart a s s.tmp) in
-    ap (λ m. record (acted a s) { tmp = m }) (ap (λ m. rewritten m name change (get m name)) tmp_is ∙ change_then_act a s.tmp name change ours)
-    ∙ sym (acted_apart a s (rewritten s.tmp name change (get s.tmp name)))
+    grind (arith, acted_apart a s s.tmp, change_then_act a s.tmp name change ours, acted_apart a s (rewritten s.tmp name change (get s.tmp name)))
 
 all_acted_then_changed : (xs : List Action) (name : List ℕ) (change : List ℕ → List ℕ) (s : Files)
     → is_converter_name name ≡ true → changed name change (all_acted xs s) ≡ all_acted xs (changed name change s)
@@ -130,13 +128,7 @@ changed_leaves name change {s} theirs = record {
 
 -- and a write to it is undone by one
 undone : (name bytes : List ℕ) {s : Files} → is_converter_name name ≡ false → KeepsConverters (effect (Writing name bytes) s) s
-undone name bytes {s} theirs =
-    let leaves = writing_leaves name bytes {s = s} theirs in
-    record {
-      tmp_alike = λ q ours. sym (leaves.tmp_alike q ours);
-      new_alike = λ q ours. refl;
-      cur_alike = λ q ours. refl;
-    }
+undone name bytes {s} theirs = grind (arith, writing_leaves name bytes {s = s} theirs)
 
 comes_acts : {step : Files → Files} {a b : World} → ((s : Files) → KeepsConverters s (step s)) → Comes step a b → Acts a b
 comes_acts {step} {a} leaves comes =
@@ -220,13 +212,10 @@ with_torn : (name whole bytes : List ℕ) (xs ys : List Action) (s : Files)
 with_torn name whole bytes xs ys s = grind (arith, after-append, after-others)
 
 pub acts_failed : {call : Call} {a b : World} → Acts a b → AnyMoves call a.files b.files
-acts_failed {call} {a} acts = record { moves = map Other acts.actions; left = acts.files_are ∙ sym (after-others acts.actions call a.files) }
+acts_failed {call} {a} acts = grind (arith, after-others acts.actions call a.files)
 
 pub write_failed : {name : List ℕ} (held : List ℕ) {bytes : List ℕ} {a b : World} → Written name held a b → AnyMoves (Writing name bytes) a.files b.files
-write_failed {name} held {bytes} {a} (inl comes) = record {
-  moves = map Other comes.before ++ Torn held ∷ map Other comes.rest;
-  left = comes.left ∙ sym (with_torn name bytes held comes.before comes.rest a.files);
-}
+write_failed {name} held {bytes} {a} (inl comes) = grind (arith, with_torn name bytes held comes.before comes.rest a.files)
 write_failed held (inr other) = acts_failed other.1
 
 pub write_called : {A E : Type 0} (name bytes : List ℕ) {a b : World} (outcome : Result A E)

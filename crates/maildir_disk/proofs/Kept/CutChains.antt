@@ -162,10 +162,7 @@ module _ (texts : List Mailbox) where
         record { home = (kept_at event old new are stand (λ e. cc) happens).1 safe.home; body = (holds_at event old new are happens).still safe.body }
 
     synced_safe : {old new : FilesAndLeft} → StandsAt old m → IsHome old.files m → Syncs old.files old.left new.files new.left → IsSafeAt new m
-    synced_safe {old} {new} at home synced = record {
-      home = synced_on (λ s. IsHome s m) (still_home m known.named) old new synced home;
-      body = kept_names m known.named home at.intact synced.first synced.then;
-    }
+    synced_safe {old} {new} at home synced = grind (arith, still_home m known.named, kept_names m known.named home at.intact synced.first synced.then)
 
   -- ---- chains
   module _ (are : All IsMailbox texts) (alike : OfEach (λ m. OfEach (λ n. n.target.base ≡ m.target.base → n.body ≡ m.body) texts) texts) where

@@ -34,9 +34,7 @@ remove_inserted m k v =
 
 module _ (b : List ℕ) (m : FileMap) (k v : List ℕ) (on : has_base b k ≡ true) where
   replaced : IsPermutation (v ∷ held_under b (remove m k)) (held_under b (insert m k v))
-  replaced =
-      subst (λ n. IsPermutation (v ∷ held_under b n) (held_under b (insert m k v)))
-      (remove_inserted m k v) (held-remove_old b (insert m k v) k v on (get-insert_same m k v))
+  replaced = grind (arith, remove_inserted m k v, held-remove_old b (insert m k v) k v on (get-insert_same m k v))
 
   inserted_in : Contains (held_under b (insert m k v)) v
   inserted_in = Contains-permutation _ _ v replaced (first_in _)
@@ -168,12 +166,8 @@ module _ (b x : List ℕ) where
   placed_steady : (s : Files) (name : List ℕ) (p : Place) (target : List ℕ) (o : Option (List ℕ))
       → has_base b target ≡ true → ((held : List ℕ) → o ≡ Some held → held ≡ x) → SteadyAt b x s (placed s name p target o)
   placed_steady s name p target None on whole = steady_same s
-  placed_steady s name New target (Some held) on whole =
-      subst (λ bytes. SteadyAt b x s (placed s name New target (Some bytes)))
-      (sym (whole held refl)) (steady_left (held_under b s.cur) (inserted_steady s.new target on))
-  placed_steady s name Cur target (Some held) on whole =
-      subst (λ bytes. SteadyAt b x s (placed s name Cur target (Some bytes)))
-      (sym (whole held refl)) (steady_right (held_under b s.new) (inserted_steady s.cur target on))
+  placed_steady s name New target (Some held) on whole = grind (arith, steady_left (held_under b s.cur) (inserted_steady s.new target on))
+  placed_steady s name Cur target (Some held) on whole = grind (arith, steady_right (held_under b s.new) (inserted_steady s.cur target on))
 
   module _ (named : IsTrue (is_converter_base b)) where
     -- a call that places nothing at the base

@@ -1,7 +1,7 @@
 -- Lists of cases: what is added, and what stays.
 use Rattle.std.proofs.Common.{◌≡◌, ◌⊎◌, ◌↔◌, ℕ, ◌+◌, ◌<◌, ◌≤◌, Bool, true, false, List, [], ◌∷◌, ◌++◌, map, take, length, get_or, Contains, refl, sym, ◌∙◌, ap}
 use Rattle.std.proofs.Common.{subst, inl, inr, append_assoc, arith, length-append, rules}
-use Rattle.maildir_disk.proofs.Common.{All-append, All-cons, All-contains, All-nil, Contains-get_or, Contains-append_cases, Contains-append_left}
+use Rattle.maildir_disk.proofs.Common.{All-append, All-contains, Contains-get_or, Contains-append_cases, Contains-append_left}
 use Rattle.maildir_disk.proofs.Common.{Contains-append_right, cases_lt, MemFolder, files_of, Cases, Change, Adds, IsAdded, Loses, made, nth_left, lefts_of}
 use Rattle.maildir_disk.proofs.Common.{may_find, changed, Files}
 use Rattle.std.specs.List.{items_where_true}
@@ -12,11 +12,7 @@ use Rattle.maildir_disk.proofs.Left.LeftHomes.{none_in, first_in, first_or}
 
 -- ---- what is added
 pub adds_on : {P : Files → Type 0} {xs ys zs : List Files} → Adds P xs ys → Adds P ys zs → Adds P xs zs
-adds_on {P} {xs} first then = record {
-  more = first.more ++ then.more;
-  are = then.are ∙ ap (λ l. l ++ then.more) first.are ∙ append_assoc xs first.more then.more;
-  each = All-append P first.more then.more first.each then.each;
-}
+adds_on {P} {xs} first then = grind (arith, append_assoc xs first.more then.more, All-append P first.more then.more first.each then.each)
 
 pub adds_as : {P Q : Files → Type 0} {xs ys : List Files} → Adds P xs ys → ((x : Files) → P x → Q x) → Adds Q xs ys
 adds_as adds is = grind arith
@@ -36,9 +32,6 @@ there_or_added {P} {xs} adds {x} has =
       | inl before ↦ inl before
       | inr new ↦ inr (All-contains P adds.more x adds.each new)
     ]
-
-pub adds_one : {P : Files → Type 0} {xs ys : List Files} (x : Files) → ys ≡ xs ++ x ∷ [] → P x → Adds P xs ys
-adds_one {P} x e holds = search (rules, All-cons, All-nil)
 
 pub pushed : (folders : List MemFolder) {new : List MemFolder} (x : MemFolder)
     → new ≡ folders ++ x ∷ [] → map files_of new ≡ map files_of folders ++ files_of x ∷ []

@@ -97,10 +97,7 @@ pub lost_after : {change : Change} {before : Files → Type 0} (folder then : Me
     → Adds (IsAdded change (files_of folder) mid) (lefts_of mid) (lefts_of new) → new.room ≡ mid.room → (HasRoom new → Loses change (files_of folder) mid new)
     → files_of then ≡ made change (files_of folder) → HasRoom new → (left : Files) → before left → may_find then new left × may_find then new (made change left)
 lost_after {change} folder then {mid} {new} keeps more room loses is has left may =
-    let longer = no_fewer more in
-    let in_mid : HasRoom mid = omega (arith, has, longer, room) in
-    let there = keeps.there in_mid left may in
-    (lost_there change folder then mid new more (loses has) left there, made_there change folder then mid new more (loses has) is left there)
+    grind (arith, no_fewer more, lost_there change folder, made_there change folder)
 
 -- what a change of a file's bytes adds
 abbrev pub IsOfBytes : (name bytes : List ℕ) → Files → Cases → Files → Type 0
