@@ -8,7 +8,7 @@ use Rattle.maildir_name.proofs.BaseLemmas.{numbered-converter, numbered-digits, 
 use Rattle.maildir_run.specs.Several.{IsThere}
 use Rattle.maildir_run.proofs.Names.Maps.{is_name-true}
 use Rattle.maildir_run.proofs.Call.Moves.{homes_none, homes_one}
-use Rattle.maildir_run.proofs.Call.Homes.{none_of, home_known}
+use Rattle.maildir_run.proofs.Call.Homes.{none_of}
 use Rattle.maildir_run.proofs.Chains.BaseNumbers.{has_digest_of, with_digest, AreNumbered, select, count-front, fewer_before, few_with_digest, any_at, Gap, gap}
 
 -- a body is there so often

@@ -1,6 +1,6 @@
 -- Messages that are written one after the other.
 use Rattle.std.proofs.Common.{◌≡◌, ℕ, ◌+◌, ◌<◌, true, Option, Result, Ok, Err, is_err, List, ◌∷◌, ◌++◌, arith}
-use Rattle.std.proofs.Common.{length, get_or, take, drop, sym, ◌∙◌, ap, flat_map, take-append-drop}
+use Rattle.std.proofs.Common.{length, get_or, take, drop, sym, flat_map, take-append-drop}
 use Rattle.maildir_run.proofs.Common.{Appends, false≢true, drop_more, flat_map-append, Entry, spelling, AppendsFront, Writes, front_then}
 
 -- the first messages, one more and the others

@@ -1,5 +1,6 @@
 -- The table of messages that are listed one after the other.
-use Rattle.std.proofs.Common.{◌≡◌, ℕ, ◌+◌, ◌^◌, ◌<◌, ◌≤◌, false, eqb, Option, Result, Ok, Err, List, [], ◌∷◌, ◌++◌, length, map, take, drop, get_or, refl, arith}
+use Rattle.std.proofs.Common.{◌≡◌, ℕ, ◌+◌, ◌^◌, ◌<◌, ◌≤◌, false, eqb, Option, Result, Ok, Err, List, [], ◌∷◌, ◌++◌, length, map, take, drop, get_or}
+use Rattle.std.proofs.Common.{refl, arith}
 use Rattle.std.proofs.Common.{sym, ◌∙◌, ap, arith, append_assoc, MatchResult, IsErr, append-nil, length-append, take-append-drop, take_all, length-take-le}
 use Rattle.maildir_run.proofs.Common.{Appends, Appends-trans, Appends-nil, false≢true, length-map, map-append, take_more}
 use Rattle.maildir_run.proofs.Common.{Entry, sender, AppendsFront, Writes, front_then, Target, Counts, Named, targets}

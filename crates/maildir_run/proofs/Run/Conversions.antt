@@ -1,6 +1,6 @@
 -- A run at its exits, from its parts.
 use Rattle.std.proofs.Common.{◌≡◌, ℕ, ◌+◌, ◌-◌, ◌*◌, ◌<◌, ◌≤◌, ◌^◌, Bool, cond, Option, Some, None, List, arith}
-use Rattle.std.proofs.Common.{[], ◌∷◌, ◌++◌, length, Result, refl, sym, ap, subst, ◌∙◌, arith, IsErrAnd}
+use Rattle.std.proofs.Common.{[], ◌∷◌, ◌++◌, length, Result, refl, sym, ap, ◌∙◌, arith, IsErrAnd}
 use Rattle.maildir_run.proofs.Common.{contains_key, length-map, Entry, Counts, Named, RunFault, NoFromLine, Report, BaseSet}
 use Rattle.maildir_run.proofs.Common.{Conversion, ReportsTasks, run_tasks, Seen, Performed, DeliversMessages, sweep_of}
 use Rattle.maildir_run.proofs.Common.{messages_after, delivery_of, delivery_if, deliveries_of, IsOfFolder, Message, IsFrontOf}
@@ -8,11 +8,10 @@ use Rattle.maildir_run.proofs.Common.{SourceStopped, is_listed, IsReading, Task,
 use Rattle.std.proofs.lemmas.Result.{err_from_is_err_and}
 use Rattle.maildir_run.proofs.Run.Delivering.{delivers_then}
 use Rattle.maildir_run.proofs.Run.Batches.{all_messages}
-use Rattle.maildir_run.proofs.Tasks.Faults.{if_err, fault_is}
 use Rattle.maildir_run.proofs.Source.Givens.{refused_front}
 use Rattle.maildir_run.proofs.Chains.MessageLemmas.{length-messages_of}
 use Rattle.maildir_run.proofs.Source.PossibleMessages.{batch_bodies, batch_few}
-use Rattle.maildir_run.proofs.Tasks.Tasks.{ran_nothing, ran_then, ran_err}
+use Rattle.maildir_run.proofs.Tasks.Tasks.{ran_nothing, ran_then}
 
 -- ---- at a fault
 module _ (before now : Option (List ℕ)) (reads : ℕ) (old new : Seen) (r : Result Report RunFault) (fault : RunFault) (is : IsErrAnd r (λ e. e ≡ fault)) where
