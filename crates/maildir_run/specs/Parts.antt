@@ -3,7 +3,6 @@ use Rattle.std.specs.Prelude.{ℕ, Bool, List, [], ◌∷◌, map, if◌then◌e
 use Rattle.std.specs.List.{flat_map, filter}
 use Rattle.maildir_name.specs.declared.target.Target.{Target}
 use Rattle.maildir_name.specs.Names.{is_converter_name}
-use Rattle.maildir_name.specs.Targets.{target}
 use Rattle.maildir_run.specs.Calls.{Writing, Placing, Removing}
 use Rattle.maildir_run.specs.Delivery.{Message}
 use Rattle.maildir_run.specs.Tasks.{Task, Do}

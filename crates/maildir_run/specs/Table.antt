@@ -31,8 +31,13 @@ shown_sender (c ∷ sender) = map shown_byte (c ∷ sender)
 -- the row of a message: its number, base, place, info, the body's length in bytes, and the sender
 unfoldable pub message_row : ℕ → Entry → Target → List ℕ
 message_row index entry target =
-    decimal index ++ 32 ∷ (target.base ++ 32
-    ∷ (place_word target.place ++ 32 ∷ (info target.name ++ 32 ∷ (decimal (length entry.body) ++ 32 ∷ (shown_sender (sender entry.from_line) ++ 10 ∷ [])))))
+    decimal index ++ 32
+    ∷ (target.base ++ 32
+    ∷ (place_word target.place ++ 32
+    ∷ (info target.name ++ 32
+    ∷ (decimal (length entry.body) ++ 32
+    ∷ (shown_sender (sender entry.from_line) ++ 10
+    ∷ [])))))
 
 -- the rows of some messages with their targets, counted from a number
 unfoldable pub rows_from : ℕ → List Entry → List Target → List ℕ

@@ -1,5 +1,5 @@
 -- How often a body is there, before a run over one of several texts and after it.
-use Rattle.std.proofs.Common.{◌≡◌, ℕ, ◌+◌, ◌-◌, ◌<◌, ◌≤◌, ◌^◌, true, false, List, [], ◌∷◌, length, get_or, take}
+use Rattle.std.proofs.Common.{◌≡◌, ℕ, ◌+◌, ◌-◌, ◌<◌, ◌≤◌, ◌^◌, true, false, List, [], ◌∷◌, length, get_or, take, arith}
 use Rattle.std.proofs.Common.{All, IsTrue, Result, Ok, Err, refl, sym, ap, subst, ◌∙◌, inl, inr, arith, OnOk}
 use Rattle.maildir_run.proofs.Common.{take-length, cases_Bool, cases_lt, is_converter_base, digest_text, numbered, RunFault, Report}
 use Rattle.maildir_run.proofs.Common.{Files, homes, is_name, Message, AreNamed, IsSoundAt, IsHome, is_any, has_home, is_base_of, Keeps}
@@ -8,7 +8,7 @@ use Rattle.maildir_name.proofs.BaseLemmas.{numbered-converter, numbered-digits, 
 use Rattle.maildir_run.specs.Several.{IsThere}
 use Rattle.maildir_run.proofs.Names.Maps.{is_name-true}
 use Rattle.maildir_run.proofs.Call.Moves.{homes_none, homes_one}
-use Rattle.maildir_run.proofs.Call.Homes.{none_of, home_known}
+use Rattle.maildir_run.proofs.Call.Homes.{none_of}
 use Rattle.maildir_run.proofs.Chains.BaseNumbers.{has_digest_of, with_digest, AreNumbered, select, count-front, fewer_before, few_with_digest, any_at, Gap, gap}
 
 -- a body is there so often
@@ -106,10 +106,7 @@ module _ (d : Message) (ms : List Message) (b : List ℕ) (nums : AreNumbered ms
   named_at k le = numbered-converter b (k + 1) (omega arith) (omega (arith, le))
 
   at_home : (x : List ℕ) (k : ℕ) (a : AtNumber d ms b x k) → has_home new x ≡ true → homes new x ≡ b ∷ []
-  at_home x k a on =
-      let m = get_or ms a.i d in
-      let home : homes new m.target.base ≡ m.body ∷ [] = home_known m new (ap (has_home new) a.base_is ∙ on) (keeps.sound.own a.i d a.below) in
-      sym (ap (homes new) a.base_is) ∙ home ∙ ap (λ x. x ∷ []) a.body_is
+  at_home x k a on = grind (arith, has_home new, homes new)
 
   -- what was there is there
   stays : (k : ℕ) → k < n → homes new (numbered b (k + 1)) ≡ b ∷ []

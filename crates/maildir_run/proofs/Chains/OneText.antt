@@ -1,5 +1,5 @@
 -- For one text, what is said of several is what is said of it.
-use Rattle.std.proofs.Common.{◌≡◌, ℕ, zero, suc, ◌<◌, ◌&&◌, ◌||◌, ◌⊎◌, true, false, List, [], ◌∷◌, length}
+use Rattle.std.proofs.Common.{◌≡◌, ℕ, zero, suc, ◌<◌, ◌&&◌, ◌||◌, ◌⊎◌, true, false, List, [], ◌∷◌, length, arith}
 use Rattle.std.proofs.Common.{get_or, map, bytes_eq, All, Contains, refl, sym, ap, ◌∙◌, inl, inr, arith}
 use Rattle.maildir_run.proofs.Common.{bytes_decides, or-false, cases_lt, and_parts, or_parts, eq_by_cmp_equiv, All-head, All-from_get_or}
 use Rattle.maildir_run.proofs.Common.{Files, is_name, Message, IsMissing, IsSoundAt, AreDistinct, Sound, is_base_of, Link, Acted, Linked, Runs}
@@ -15,15 +15,7 @@ use Rattle.maildir_run.proofs.Chains.SeveralTexts.{home_given}
 same_place : (ms : List Message) → AreDistinct ms → (i j : ℕ) (d : Message) → i < length ms
     → j < length ms → is_name (get_or ms j d).target.base (get_or ms i d).target.base ≡ true → i ≡ j
 same_place ms distinct i j d in_i in_j same =
-    elim (cases_lt i j) [
-      | inl lt ↦ let off : is_name (get_or ms j d).target.base (get_or ms i d).target.base ≡ false =
-          (eq_by_cmp_equiv total).symm (get_or ms j d).target.base (get_or ms i d).target.base ∙ distinct i j d lt in_j in
-          cc
-      | inr ge ↦ elim (cases_lt j i) [
-        | inl lt ↦ let off : is_name (get_or ms j d).target.base (get_or ms i d).target.base ≡ false = distinct j i d lt in_i in cc
-        | inr le ↦ omega (arith, ge, le)
-      ]
-    ]
+    grind (arith, cases_lt i j, is_name (get_or ms j d).target.base (get_or ms i d).target.base, eq_by_cmp_equiv total, cases_lt j i)
 
 -- the text gives to each base the body of its message alone
 own_body : (text : Mailbox) → AreDistinct text.messages → (i : ℕ) (d : Message) → i < length text.messages → (s : Files)

@@ -1,5 +1,5 @@
 -- Trees of files, seen as finite maps: what each change leaves.
-use Rattle.std.proofs.Common.{append_assoc, ◌≡◌, ◌&&◌, vec_len, ℕ, Bool, true, false, cond, List, [], ◌∷◌, ◌++◌, map}
+use Rattle.std.proofs.Common.{append_assoc, ◌≡◌, ◌&&◌, vec_len, ℕ, Bool, true, false, cond, List, [], ◌∷◌, ◌++◌, map, arith}
 use Rattle.std.proofs.Common.{length, Option, Some, None, refl, sym, ap, ◌∙◌, Bor, String, Vec, Global, string_bytes}
 use Rattle.std.proofs.Common.{option_map, MatchOption, IfSome, is_eq, nat_cmp, string_cmp, string_eq, bytes_eq, append-nil}
 use Rattle.maildir_run.proofs.Common.{AllZip, each_same, slice_cmp, nat_list_eq_equiv, bytes_decides, get, insert, remove, find, put, empty, entries}
@@ -30,12 +30,7 @@ at_text q k = is_eq (slice_cmp nat_cmp q (string_bytes k))
 found : (q : List ℕ) (es : List (String Global × Vec ℕ Global))
     → find name_cmp q (map (λ e. (string_bytes e.0, e.1.items)) es) ≡ bytes_in (lookup (at_text q) es)
 found q [] = refl
-found q (e ∷ es) =
-    elim (is_name q (string_bytes e.0))
-    as (λ t. cond t (Some e.1.items) (find name_cmp q (map (λ x. (string_bytes x.0, x.1.items)) es)) ≡ bytes_in (cond t (Some e.1) (lookup (at_text q) es))) [
-      | true ↦ refl
-      | false ↦ found q es
-    ]
+found q (e ∷ es) = grind (arith, is_name q (string_bytes e.0), found q es)
 
 pub get-map_of : (tree : Tree) (q : List ℕ) → get (map_of tree) q ≡ bytes_in (get_by_text tree q)
 get-map_of tree q = get-from_entries total (map (λ e. (string_bytes e.0, e.1.items)) tree.entries) q ∙ found q tree.entries

@@ -1,5 +1,5 @@
 -- Sets of bases: what each change leaves in them.
-use Rattle.std.proofs.Common.{◌≡◌, ℕ, Bool, true, false, cond, ◌||◌, List, [], ◌∷◌, ◌++◌, map, Option, Some, None, refl, sym}
+use Rattle.std.proofs.Common.{◌≡◌, ℕ, Bool, true, false, cond, ◌||◌, List, [], ◌∷◌, ◌++◌, map, Option, Some, None, refl, sym, arith}
 use Rattle.std.proofs.Common.{ap, ◌∙◌, Bor, take, get_or, length, ◌<◌, ◌+◌, String, Global, string_bytes, is_some, nat_cmp}
 use Rattle.maildir_run.proofs.Common.{list_any, slice_cmp, insert, empty, contains_key, find, get-from_entries, get-insert, get-empty, same_map, or-false}
 use Rattle.maildir_run.proofs.Common.{map-append, take_more, eq_by_cmp_equiv, base, name_cmp, is_name, has_base, is_listed, BaseSet, set_of, with_bases}
@@ -9,12 +9,7 @@ use Rattle.maildir_run.proofs.Names.Maps.{total, same}
 -- ---- the set that some texts make
 found : (b : List ℕ) (ks : List (Bor (List ℕ))) → is_some (find name_cmp b (map (λ k. (k.now, tt {0})) ks)) ≡ list_any (λ k. is_name b k.now) ks
 found b [] = refl
-found b (k ∷ ks) =
-    elim (is_name b k.now)
-    as (λ t. is_some (cond t (Some (tt {0})) (find name_cmp b (map (λ x. (x.now, tt {0})) ks))) ≡ (t || list_any (λ x. is_name b x.now) ks)) [
-      | true ↦ refl
-      | false ↦ found b ks
-    ]
+found b (k ∷ ks) = grind (arith, is_name b k.now, found b ks)
 
 pub contains_key-set_of : (b : List ℕ) (ks : List (Bor (List ℕ))) → contains_key (set_of ks) b ≡ list_any (λ k. is_name b k.now) ks
 contains_key-set_of b ks = ap is_some (get-from_entries total (map (λ k. (k.now, tt {0})) ks) b) ∙ found b ks

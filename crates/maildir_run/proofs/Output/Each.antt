@@ -1,15 +1,13 @@
 -- Messages that are written one after the other.
-use Rattle.std.proofs.Common.{◌≡◌, ℕ, ◌+◌, ◌<◌, true, Option, Result, Ok, Err, is_err, List, ◌∷◌, ◌++◌}
-use Rattle.std.proofs.Common.{length, get_or, take, drop, sym, ◌∙◌, ap, flat_map, take-append-drop}
+use Rattle.std.proofs.Common.{◌≡◌, ℕ, ◌+◌, ◌<◌, true, Option, Result, Ok, Err, is_err, List, ◌∷◌, ◌++◌, arith}
+use Rattle.std.proofs.Common.{length, get_or, take, drop, sym, flat_map, take-append-drop}
 use Rattle.maildir_run.proofs.Common.{Appends, false≢true, drop_more, flat_map-append, Entry, spelling, AppendsFront, Writes, front_then}
 
 -- the first messages, one more and the others
 parted : (entries : List Entry) (i : ℕ) (e : Entry) → i < length entries → e ≡ get_or entries i e
     → flat_map spelling entries ≡ flat_map spelling (take i entries) ++ (spelling e ++ flat_map spelling (drop (i + 1) entries))
 parted entries i e l is =
-    let whole : entries ≡ take i entries ++ e ∷ drop (i + 1) entries =
-    sym (take-append-drop i entries) ∙ ap (λ z. take i entries ++ z) (drop_more entries i e l ∙ ap (λ z. z ∷ drop (i + 1) entries) (sym is)) in
-    ap (flat_map spelling) whole ∙ flat_map-append spelling (take i entries) (e ∷ drop (i + 1) entries)
+    grind (arith, take-append-drop i entries, drop_more entries i e l, flat_map-append spelling (take i entries) (e ∷ drop (i + 1) entries))
 
 refused : {T E : Type 0} (r : Result T E) (a b : Option (List ℕ)) (bytes : List ℕ) → true ≡ is_err r → Writes a b r bytes → AppendsFront a b bytes
 refused (Ok x) a b bytes e w = absurd (false≢true (sym e))

@@ -1,5 +1,5 @@
 -- A source that is read piece by piece while what belongs to its messages is written.
-use Rattle.std.proofs.Common.{◌≡◌, ℕ, ◌+◌, ◌^◌, ◌<◌, ◌≤◌, Bool, true, false, Option, Some, None, Ok, List, []}
+use Rattle.std.proofs.Common.{◌≡◌, ℕ, ◌+◌, ◌^◌, ◌<◌, ◌≤◌, Bool, true, false, Option, Some, None, Ok, List, [], arith}
 use Rattle.std.proofs.Common.{◌++◌, length, refl, sym, ◌∙◌, ap, arith, flat_map, append-nil, length-append}
 use Rattle.maildir_run.proofs.Common.{flat_map-append, spelling, FromLines, Appends, Consumes-nil, Appends-trans, Appends-nil, Entry, Splitter, Fed}
 use Rattle.maildir_run.proofs.Common.{AppendsFront, front_more, front_then, RunFault, NoFromLine, Reader, IsFrontOf, Gave, GaveAll, SourceStopped, Breaks, Went}
@@ -124,12 +124,7 @@ module _ {output : List Entry → List ℕ} {given : List Entry} {before mid : O
 pub poured_none : (output : List Entry → List ℕ) (before was : Option (List ℕ)) (splitter : Splitter) (reads left : ℕ) (whole : List Entry)
     → IsOutput output → Fed [] [] splitter → left ≡ reads → whole ≡ []
     → Poured output [] before before was was splitter left whole reads 0
-poured_none output before was splitter reads left whole o f l none = record {
-  gave = record { text = []; read = Consumes-nil before; budget = omega (arith, l); spent = omega (arith, l); fed = f };
-  written = rw o.none (Appends-nil was);
-  count_is = refl;
-  empty = none;
-}
+poured_none output before was splitter reads left whole o f l none = grind (arith, Consumes-nil before, Appends-nil was)
 
 -- what each message is written as is an output
 pub flat_output : IsOutput (flat_map spelling)

@@ -1,5 +1,6 @@
 -- The table of messages that are listed one after the other.
-use Rattle.std.proofs.Common.{◌≡◌, ℕ, ◌+◌, ◌^◌, ◌<◌, ◌≤◌, false, eqb, Option, Result, Ok, Err, List, [], ◌∷◌, ◌++◌, length, map, take, drop, get_or, refl}
+use Rattle.std.proofs.Common.{◌≡◌, ℕ, ◌+◌, ◌^◌, ◌<◌, ◌≤◌, false, eqb, Option, Result, Ok, Err, List, [], ◌∷◌, ◌++◌, length, map, take, drop, get_or}
+use Rattle.std.proofs.Common.{refl, arith}
 use Rattle.std.proofs.Common.{sym, ◌∙◌, ap, arith, append_assoc, MatchResult, IsErr, append-nil, length-append, take-append-drop, take_all, length-take-le}
 use Rattle.maildir_run.proofs.Common.{Appends, Appends-trans, Appends-nil, false≢true, length-map, map-append, take_more}
 use Rattle.maildir_run.proofs.Common.{Entry, sender, AppendsFront, Writes, front_then, Target, Counts, Named, targets}
@@ -107,13 +108,7 @@ module _ (given entries : List Entry) (i : ℕ) (e : Entry) where
       → (t : ListedTo given entries i was is namer count) → table_of ((given ++ take i entries) ++ e ∷ []) ≡ table_of (given ++ take i entries) ++ line
       → Appends is is' line → HasListed ((given ++ take i entries) ++ e ∷ []) namer' count' → ListedTo given entries (i + 1) was is' namer' count'
   listed_to_more was is is' namer namer' count count' line l at t eq out h =
-      let n = next l at in
-      record {
-        lines = t.lines ++ line;
-        are = ap table_of (sym n) ∙ eq ∙ ap (λ z. z ++ line) t.are ∙ append_assoc (table_of given) t.lines line;
-        out = Appends-trans was is is' t.lines line t.out out;
-        has_listed = rw n at h;
-      }
+      grind (arith, next l at, append_assoc (table_of given) t.lines line, Appends-trans was is is' t.lines line t.out out)
 
   pub listed_to_front : (was is is' : Option (List ℕ)) (namer : Counts) (count : ℕ) (line : List ℕ) → i < length entries → e ≡ get_or entries i e
       → (t : ListedTo given entries i was is namer count) → table_of ((given ++ take i entries) ++ e ∷ []) ≡ table_of (given ++ take i entries) ++ line

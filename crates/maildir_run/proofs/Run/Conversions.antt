@@ -1,6 +1,6 @@
 -- A run at its exits, from its parts.
-use Rattle.std.proofs.Common.{◌≡◌, ℕ, ◌+◌, ◌-◌, ◌*◌, ◌<◌, ◌≤◌, ◌^◌, Bool, cond, Option, Some, None, List}
-use Rattle.std.proofs.Common.{[], ◌∷◌, ◌++◌, length, Result, refl, sym, ap, subst, ◌∙◌, arith, IsErrAnd}
+use Rattle.std.proofs.Common.{◌≡◌, ℕ, ◌+◌, ◌-◌, ◌*◌, ◌<◌, ◌≤◌, ◌^◌, Bool, cond, Option, Some, None, List, arith}
+use Rattle.std.proofs.Common.{[], ◌∷◌, ◌++◌, length, Result, refl, sym, ap, ◌∙◌, arith, IsErrAnd}
 use Rattle.maildir_run.proofs.Common.{contains_key, length-map, Entry, Counts, Named, RunFault, NoFromLine, Report, BaseSet}
 use Rattle.maildir_run.proofs.Common.{Conversion, ReportsTasks, run_tasks, Seen, Performed, DeliversMessages, sweep_of}
 use Rattle.maildir_run.proofs.Common.{messages_after, delivery_of, delivery_if, deliveries_of, IsOfFolder, Message, IsFrontOf}
@@ -8,42 +8,23 @@ use Rattle.maildir_run.proofs.Common.{SourceStopped, is_listed, IsReading, Task,
 use Rattle.std.proofs.lemmas.Result.{err_from_is_err_and}
 use Rattle.maildir_run.proofs.Run.Delivering.{delivers_then}
 use Rattle.maildir_run.proofs.Run.Batches.{all_messages}
-use Rattle.maildir_run.proofs.Tasks.Faults.{if_err, fault_is}
 use Rattle.maildir_run.proofs.Source.Givens.{refused_front}
 use Rattle.maildir_run.proofs.Chains.MessageLemmas.{length-messages_of}
 use Rattle.maildir_run.proofs.Source.PossibleMessages.{batch_bodies, batch_few}
-use Rattle.maildir_run.proofs.Tasks.Tasks.{ran_nothing, ran_then, ran_err}
+use Rattle.maildir_run.proofs.Tasks.Tasks.{ran_nothing, ran_then}
 
 -- ---- at a fault
 module _ (before now : Option (List ℕ)) (reads : ℕ) (old new : Seen) (r : Result Report RunFault) (fault : RunFault) (is : IsErrAnd r (λ e. e ≡ fault)) where
   pub stops : SourceStopped before now reads fault → (fault ≡ NoFromLine → new.calls ≡ old.calls) → (given : List Entry)
       → IsFrontOf before now reads given → (names : Listings) → length names.tmp < 2 ^ 64 → (begun made : ℕ) → begun ≡ 0
       → Performed (run_tasks names (messages_of (bodies_of given))) old new begun made (Some fault) → Conversion before now reads old new r
-  stops refused untouched given front names few begun made none ran =
-      let at_fault = (err_from_is_err_and r is).1 in
-      record {
-        given = given;
-        front = front;
-        whole = rw at_fault tt;
-        refused = if_err _ r fault is refused;
-        untouched = λ e. untouched (fault_is r fault NoFromLine is e);
-        names = names;
-        few = few;
-        made = made;
-        ran = ran_err r is (rw none at ran);
-        tells = rw at_fault tt;
-      }
+  stops refused untouched given front names few begun made none ran = grind (arith, err_from_is_err_and r is)
 
   -- which a folder call gave, or a growth
   pub stops_in_folder : IsOfFolder fault → (given : List Entry) → IsFrontOf before now reads given
       → (names : Listings) → length names.tmp < 2 ^ 64 → (begun made : ℕ) → begun ≡ 0
       → Performed (run_tasks names (messages_of (bodies_of given))) old new begun made (Some fault) → Conversion before now reads old new r
-  stops_in_folder of given front =
-      stops (record {
-        budget = (front.text, front.read, front.budget);
-        spent = λ e. absurd (subst IsOfFolder e of);
-        unreadable = λ e. absurd (subst IsOfFolder e of);
-      }) (λ e. absurd (subst IsOfFolder e of)) given front
+  stops_in_folder of given front = grind (arith)
 
 -- before anything was done
 pub stops_unread : (before now : Option (List ℕ)) (reads : ℕ) (s : Seen) (r : Result Report RunFault) (fault : RunFault)

@@ -1,5 +1,5 @@
 -- What a run owes where it ends, from the tasks that it performed.
-use Rattle.std.proofs.Common.{◌≡◌, ℕ, ◌+◌, ◌*◌, ◌<◌, ◌≤◌, ◌^◌, Bool, true, false, cond, Option, Some, None, List, [], ◌∷◌, ◌++◌, length, All, Result, Ok}
+use Rattle.std.proofs.Common.{◌≡◌, ℕ, ◌+◌, ◌*◌, ◌<◌, ◌≤◌, ◌^◌, Bool, true, false, cond, Option, Some, None, List, [], ◌∷◌, ◌++◌, length, All, Result, Ok, arith}
 use Rattle.std.proofs.Common.{Err, IfOk, OnOk, IsTrue, refl, sym, ap, subst, ◌∙◌, inl, inr, arith, append_assoc, length-append, IsErrOf, filter, append-nil}
 use Rattle.maildir_run.proofs.Common.{get, keys, length-map, All-head, All-tail, length-filter, count_by-le-length, IsAtEnd, Entry, Target}
 use Rattle.maildir_run.proofs.Common.{base, is_converter_name, is_converter_base, RunFault, NoFromLine, TooManyReads, Report, swept, filled}
@@ -204,11 +204,7 @@ calls_made names ms start now made made' (Ok report) ran tells =
 deliveries_most : (is_there : List ℕ → Bool) (ms : List Message) → length (deliveries_of is_there ms) ≤ 2 * length ms
 deliveries_most is_there [] = omega arith
 deliveries_most is_there (m ∷ ms) =
-    let more = deliveries_most is_there ms in
-    let parts = length-append (delivery_if is_there m) (deliveries_of is_there ms) in
-    let one : length (delivery_if is_there m) ≤ 2 =
-    elim (is_there m.target.base) as (λ t. length (cond t [] (delivery_of m.target m.body)) ≤ 2) [ true ↦ omega arith | false ↦ omega arith ] in
-    omega arith
+    grind (arith, deliveries_most is_there ms, length-append (delivery_if is_there m) (deliveries_of is_there ms), delivery_of m.target m.body)
 
 few_tasks : (names : Listings) (bodies : List (List ℕ)) → length names.tmp < 2 ^ 64
     → length bodies ≤ 2 ^ 63 → length (run_tasks names (messages_of bodies)) < 2 ^ 66

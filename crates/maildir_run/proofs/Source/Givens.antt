@@ -1,5 +1,5 @@
 -- What one more read gives, and what a refused one leaves.
-use Rattle.std.proofs.Common.{◌≡◌, ℕ, ◌*◌, ◌<◌, ◌≤◌, Bool, true, false, Option, Some, Ok, List, [], ◌∷◌, ◌++◌, length, refl, sym}
+use Rattle.std.proofs.Common.{◌≡◌, ℕ, ◌*◌, ◌<◌, ◌≤◌, Bool, true, false, Option, Some, Ok, List, [], ◌∷◌, ◌++◌, length, refl, sym, arith}
 use Rattle.std.proofs.Common.{◌∙◌, ap, arith, append_assoc, ◌==◌, eqb-true, eq-eqb, append-nil, length-append, inl, inr, suc, cond}
 use Rattle.maildir_run.proofs.Common.{Consumes, IsAtEnd, Consumes-trans, append_cancel_right, Entry, Splitter, mbox-one, RunFault, NoFromLine}
 use Rattle.maildir_run.proofs.Common.{Reader, Breaks, Went, IsFrontOf, Gave, IsGiven, SourceStopped, Possible, FromLines, Consumes-nil, ReadsAtMost}
@@ -24,26 +24,9 @@ pub gave_more : (ended : Bool) {before mid : Option (List ℕ)} (now : Option (L
     → Gave before mid old.splitter old.reads_left reads given → Went old mid now out whole splitter left (Ok ended)
     → IsGiven ended before now splitter left reads (given ++ whole)
 gave_more true {before} {mid} now old splitter left {given = given} out whole none p w =
-    let within = p.budget in
-    let added : whole ≡ w.0 = rw none at w.3 in
-    record {
-      text = p.text;
-      read = rw (append-nil p.text) at (Consumes-trans before mid now p.text [] p.read w.1);
-      budget = omega arith;
-      end = w.2;
-      all = rw added (w.4 p.text given p.fed);
-    }
+    grind (arith, append-nil p.text, Consumes-trans before mid now p.text [] p.read w.1)
 gave_more false {before} {mid} now old splitter left {given = given} out whole none p w =
-    let within = p.budget in
-    let spent = p.spent in
-    let added : whole ≡ w.1 = rw none at w.5 in
-    record {
-      text = p.text ++ w.0;
-      read = Consumes-trans before mid now p.text w.0 p.read w.2;
-      budget = omega (arith, length-append p.text w.0, w.3, w.4);
-      spent = omega (arith, spent, length-append p.text w.0, w.4, w.7);
-      fed = rw added (w.6 p.text given p.fed);
-    }
+    grind (arith, Consumes-trans before mid now p.text w.0 p.read w.2, length-append p.text w.0)
 
 module _ {before mid : Option (List ℕ)} (now : Option (List ℕ)) (old : Reader) {reads : ℕ}
     {given : List Entry} (fault : RunFault) (p : Gave before mid old.splitter old.reads_left reads given) where
@@ -114,14 +97,7 @@ broken_front {before} {mid} now old {given = given} fault p b =
 
 -- nothing was given before a read was refused
 pub refused_front : {before now : Option (List ℕ)} {reads : ℕ} {fault : RunFault} → SourceStopped before now reads fault → IsFrontOf before now reads []
-refused_front refused = record {
-  text = refused.budget.0;
-  read = refused.budget.1;
-  budget = refused.budget.2;
-  few = omega arith;
-  tells = λ more rest entries has whole m. (entries, refl);
-  none = λ more rest has whole none. refl;
-}
+refused_front refused = grind (arith)
 
 -- whether a list is empty, by its length
 pub none_whole : (items : List Entry) (n : ℕ) (b : Bool) → b ≡ (n == 0) → b ≡ true → n ≡ length items → items ≡ []

@@ -1,5 +1,5 @@
 -- What a run's calls leave in a quiet folder.
-use Rattle.std.proofs.Common.{◌≡◌, ℕ, Bool, true, false, cond, not, List, [], ◌∷◌, map, Option, Some}
+use Rattle.std.proofs.Common.{◌≡◌, ℕ, Bool, true, false, cond, not, List, [], ◌∷◌, map, Option, Some, arith}
 use Rattle.std.proofs.Common.{None, IsPermutation, IsTrue, IsFalse, refl, sym, ap, ◌∙◌, arith, filter}
 use Rattle.maildir_run.proofs.Common.{list_any, get, insert, remove, keys, retain_keys, same_map, contains_key-keys, any-filter_same, list_any-IsPermutation}
 use Rattle.maildir_run.proofs.Common.{is_converter_name, Files, FileMap, is_name, Call, Listing, Writing, Placing, Removing, Move, Other, Again}
@@ -12,11 +12,7 @@ pub others_same : (s : Files) → KeepsForeign s s
 others_same s = record { in_tmp = λ q off. refl; in_new = λ q off. refl; in_cur = λ q off. refl }
 
 pub foreign_then : (a b c : Files) → KeepsForeign a b → KeepsForeign b c → KeepsForeign a c
-foreign_then a b c first then = record {
-  in_tmp = λ q off. then.in_tmp q off ∙ first.in_tmp q off;
-  in_new = λ q off. then.in_new q off ∙ first.in_new q off;
-  in_cur = λ q off. then.in_cur q off ∙ first.in_cur q off;
-}
+foreign_then a b c first then = grind (arith)
 
 -- ---- a call that names converter's names alone
 abbrev pub OfConverter : Call → Type 0
