@@ -47,7 +47,7 @@ before-cleaned (c ∷ s) t h = grind (arith, before-map, append-nil)
 
 pub sender-built : (s r : List ℕ) → sender (built s r) ≡ cleaned s
 unfolding sender built
-sender-built s r = before-cleaned s (behind_sender r) (before-behind r)
+sender-built s r = before-cleaned s _ (before-behind r)
 
 past-behind : (r : List ℕ) → past_spaces (behind_sender r) ≡ past_spaces r
 past-behind [] = refl
@@ -108,30 +108,30 @@ before-all (c ∷ s) h =
     let ih = before-all s (λ k lt. h (suc k) (omega arith)) in
     rw here (ap (λ z. c ∷ z) ih)
 
-pub before-found : (s : List ℕ) (n : ℕ) → IsFirstByte (is_byte 32) s (Some n) → take n s ≡ before_space s
-before-found s n h = grind (arith, before-at)
+pub before-found : (s : List ℕ) {n : ℕ} → IsFirstByte (is_byte 32) s (Some n) → take n s ≡ before_space s
+before-found s h = grind (arith, before-at)
 
-pub before-none : (s : List ℕ) → IsFirstByte (is_byte 32) s None → s ≡ before_space s
-before-none s h = before-all s (λ k l. h k (omega arith) l)
+pub before-none : {s : List ℕ} → IsFirstByte (is_byte 32) s None → s ≡ before_space s
+before-none {s} h = before-all s (λ k l. h k (omega arith) l)
 
 -- one space more
-pub past-mark : (s : List ℕ) (at : ℕ) → at < length s → get_or s at 0 ≡ 32 → past_spaces (drop at s) ≡ past_spaces (drop (at + 1) s)
-past-mark s at h e = rw (drop_more s at 0 h, e) refl
+pub past-mark : (s : List ℕ) {at : ℕ} → at < length s → get_or s at 0 ≡ 32 → past_spaces (drop at s) ≡ past_spaces (drop (at + 1) s)
+past-mark s {at} h e = rw (drop_more s at 0 h, e) refl
 
 past-plain : (s : List ℕ) → (0 < length s → get_or s 0 0 ≡ 32 → ⊥) → past_spaces s ≡ s
 past-plain [] h = refl
 past-plain (c ∷ s) h = rw (ne_eqb c 32 (h (omega arith))) refl
 
 -- no space more
-pub past-stop : (s : List ℕ) (at : ℕ) → (at < length s → get_or s at 0 ≡ 32 → ⊥) → past_spaces (drop at s) ≡ drop at s
-past-stop s at h = grind (arith, past-plain, length-drop, get_or-drop, add-zero)
+pub past-stop : (s : List ℕ) {at : ℕ} → (at < length s → get_or s at 0 ≡ 32 → ⊥) → past_spaces (drop at s) ≡ drop at s
+past-stop s h = grind (arith, past-plain, length-drop, get_or-drop, add-zero)
 
 -- the parts of a From_ line, where the first space behind `From ` has this place
 pub sender-at : (line : List ℕ) {behind : List ℕ} (n : ℕ) → behind ≡ drop 5 line → take n behind ≡ before_space behind → take n behind ≡ sender line
 unfolding sender
 sender-at line n e b = b ∙ ap (λ z. before_space z) e
 
-pub rest-at : (line : List ℕ) {behind result : List ℕ} (n : ℕ) → behind ≡ drop 5 line → n ≤ length behind → take n behind ≡ before_space behind
+pub rest-at : (line : List ℕ) {behind result : List ℕ} {n : ℕ} → behind ≡ drop 5 line → n ≤ length behind → take n behind ≡ before_space behind
     → result ≡ past_spaces (take (length behind - n) (drop n behind)) → result ≡ rest line
 unfolding rest
-rest-at line {behind} n e w b is = grind (arith, sender-at, length-take, take_rest)
+rest-at line {behind} e w b is = grind (arith, sender-at, length-take, take_rest)

@@ -25,13 +25,13 @@ unended-from : (l : List ℕ) → begins_from l ≡ true → begins_from (unende
 unfolding begins_from
 unended-from l b = begins_with-unended from_bytes l (refl, (refl, (refl, (refl, (refl, tt))))) ∙ b
 
-block-from_line : (block : List ℕ) (e : Entry) → Block block e → IsFromLine e.from_line
-block-from_line block e b = rw b.from_line (unended-from b.first b.head, unended-no_end b.first)
+block-from_line : {block : List ℕ} {e : Entry} → Block block e → IsFromLine e.from_line
+block-from_line b = rw b.from_line (unended-from b.first b.head, unended-no_end b.first)
 
 pub mbox-from_lines : (text : List ℕ) (entries : List Entry) → Mbox text entries → FromLines entries
 unfolding Mbox
 mbox-from_lines text [] h = tt
-mbox-from_lines text (e ∷ es) h = (block-from_line h.0 e h.3, mbox-from_lines h.1 es h.5)
+mbox-from_lines text (e ∷ es) h = (block-from_line h.3, mbox-from_lines h.1 es h.5)
 
 pub from_lines-behind : (front behind : List Entry) → FromLines (front ++ behind) → FromLines behind
 from_lines-behind [] behind h = h

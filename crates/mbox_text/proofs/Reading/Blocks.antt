@@ -30,14 +30,14 @@ pub body_ends : {text body : List ℕ} (n : ℕ) → Ended (take n text) → NoF
 body_ends {text} n ends none b stops is =
     let part : NoEnd (drop n text) = elim stops [ inl y ↦ absurd (both_ways (begins_from (drop n text)) b y) | inr h ↦ h ] in
     let whole : take (length text) text ≡ take n text ++ drop n text = take_all (length text) text (omega arith) ∙ sym (take-append-drop n text) in
-    let last = last_body (drop n text) ends none part b is in
+    let last = last_body _ ends none part b is in
     record { within = omega arith; none = rw whole last.none; is = rw whole last.is; next = inl refl }
 
 -- the From_ line and its body
-pub block_there : (text : List ℕ) (head len : ℕ) (e : Entry) → begins_from text ≡ true → IsFirstByte (is_byte 10) text (Some head)
+pub block_there : {text : List ℕ} {head len : ℕ} {e : Entry} → begins_from text ≡ true → IsFirstByte (is_byte 10) text (Some head)
     → IsFirstBody (drop (head + 1) text) len e.body → e.from_line ≡ take head text → IsFirstBlock text ((head + 1) + len) e
-block_there text head len e b found body from_line =
-    let h = line-there text head found in
+block_there {text} {head} {len} b found body from_line =
+    let h = line-there found in
     let others = drop (head + 1) text in
     let block : take ((head + 1) + len) text ≡ take head text ++ 10 ∷ take len others =
     take-add (head + 1) len text ∙ ap (λ z. z ++ take len others) h.is ∙ append_assoc (take head text) (10 ∷ []) (take len others) in
@@ -49,25 +49,25 @@ block_there text head len e b found body from_line =
       block = rw block (record {
         first = take head text ++ 10 ∷ [];
         others = lines (take len others);
-        is = lines-line (take head text) (take len others) h.part;
-        head = begins_from-more (take head text) (10 ∷ []) first;
+        is = lines-line _ (take len others) h.part;
+        head = begins_from-more _ (10 ∷ []) first;
         tail = body.none;
-        from_line = from_line ∙ sym (unended-push (take head text) h.part);
+        from_line = from_line ∙ sym (unended-push _ h.part);
         body = body.is;
       });
       next = elim (body.next) [
         | inl l ↦ inl (omega (arith, l, h.within, length-drop (head + 1) text))
         | inr s ↦ inr (
-          rw (block, ← append_assoc (take head text) (10 ∷ []) (take len others)) (Ended-append (take head text ++ 10 ∷ []) (inr (take head text, refl)) s.0),
+          rw (block, ← append_assoc (take head text) (10 ∷ []) (take len others)) (Ended-append (inr (take head text, refl)) s.0),
           ap begins_from (sym (drop-drop len (head + 1) text)) ∙ s.1,
         )
       ];
     }
 
 -- the From_ line is all that is there
-pub block_alone : {text : List ℕ} (e : Entry) → begins_from text ≡ true → IsFirstByte (is_byte 10) text None
+pub block_alone : {text : List ℕ} {e : Entry} → begins_from text ≡ true → IsFirstByte (is_byte 10) text None
     → e.from_line ≡ text → e.body ≡ [] → IsFirstBlock text (length text) e
-block_alone {text} e b found from_line body = grind (arith, take_all, from-block, none-there)
+block_alone {text} b found from_line body = grind (arith, take_all, from-block, none-there)
 
 -- a block is not empty
 block-some : (len : ℕ) (text : List ℕ) {e : Entry} → Block (take len text) e → 0 < len
@@ -97,4 +97,4 @@ pub first-some : {text : List ℕ} {len : ℕ} {e : Entry} → IsFirstBlock text
 first-some {text} {len} first = block-some len text first.block
 
 pub not_mbox : (text : List ℕ) → eqb (length text) 0 ≡ false → begins_from text ≡ false → (entries : List Entry) → Mbox text entries → ⊥
-not_mbox text some b entries h = grind (arith, mbox-starts text entries h)
+not_mbox text some b entries h = grind (arith, mbox-starts entries h)

@@ -25,10 +25,10 @@ chopped-behind front (a ∷ []) c t = refl
 chopped-behind front (a ∷ b ∷ x) c t = ap (λ l. a ∷ l) (chopped-behind (eqb a 10) (b ∷ x) c t)
 
 -- a line that is not empty stays
-chopped-line : (front : Bool) (c : ℕ) (x : List ℕ) → NoEnd (c ∷ x) → chopped_from front (c ∷ (x ++ 10 ∷ [])) ≡ c ∷ (x ++ 10 ∷ [])
+chopped-line : (front : Bool) {c : ℕ} (x : List ℕ) → NoEnd (c ∷ x) → chopped_from front (c ∷ (x ++ 10 ∷ [])) ≡ c ∷ (x ++ 10 ∷ [])
 unfolding chopped_from
-chopped-line front c [] h = rw h.0 refl
-chopped-line front c (d ∷ x) h = ap (λ l. c ∷ l) (chopped-line (eqb c 10) d x h.1)
+chopped-line front [] h = rw h.0 refl
+chopped-line front {c} (d ∷ x) h = ap (λ l. c ∷ l) (chopped-line (eqb c 10) x h.1)
 
 -- a line that is not empty is read as one that is not
 pub unquoted-some : (c : ℕ) (x : List ℕ) → NoEnd (c ∷ x) → (d : ℕ) × (y : List ℕ) × (unquoted (c ∷ x) ≡ d ∷ y) × NoEnd (d ∷ y)
@@ -41,12 +41,12 @@ some : (y t : List ℕ) → (c : ℕ) × (u : List ℕ) × ((y ++ 10 ∷ []) ++ 
 some [] t = (10, t, refl)
 some (c ∷ y) t = (c, (y ++ 10 ∷ []) ++ t, refl)
 
-unquoted-more : (l : List ℕ) (ls : List (List ℕ)) → Whole (l ∷ ls) → (c : ℕ) × (t : List ℕ) × (flat_map unquoted (l ∷ ls) ≡ c ∷ t)
-unquoted-more l ls w = let x = w.0.0 in rw (w.0.1, unquoted-push x) (some (unquoted x) (flat_map unquoted ls))
+unquoted-more : {l : List ℕ} (ls : List (List ℕ)) → Whole (l ∷ ls) → (c : ℕ) × (t : List ℕ) × (flat_map unquoted (l ∷ ls) ≡ c ∷ t)
+unquoted-more ls w = let x = w.0.0 in rw (w.0.1, unquoted-push x) (some (unquoted x) (flat_map unquoted ls))
 
-kept-some : (c : ℕ) (x : List ℕ) → kept (c ∷ (x ++ 10 ∷ [])) ≡ (c ∷ (x ++ 10 ∷ [])) ∷ []
-kept-some c [] = refl
-kept-some c (d ∷ x) = refl
+kept-some : {c : ℕ} (x : List ℕ) → kept (c ∷ (x ++ 10 ∷ [])) ≡ (c ∷ (x ++ 10 ∷ [])) ∷ []
+kept-some [] = refl
+kept-some (d ∷ x) = refl
 
 chopped-one : (x : List ℕ) → NoEnd x → chopped (unquoted (x ++ 10 ∷ []) ++ []) ≡ flat_map unquoted (kept (x ++ 10 ∷ []))
 unfolding chopped_from unquoted
@@ -54,19 +54,19 @@ chopped-one [] h = refl
 chopped-one (c ∷ x) h =
     let u = unquoted-some c x h in
     let p = unquoted-push (c ∷ x) in
-    rw (kept-some c x, append-nil (unquoted (c ∷ (x ++ 10 ∷ []))), p, u.2) (chopped-line true u.0 u.1 u.3)
+    rw (kept-some x, append-nil (unquoted (c ∷ (x ++ 10 ∷ []))), p, u.2) (chopped-line true u.1 u.3)
 
 pub chopped-lines : (ls : List (List ℕ)) → Whole ls → chopped (flat_map unquoted ls) ≡ flat_map unquoted (without_blank ls)
 unfolding chopped_from without_blank
 chopped-lines [] w = refl
 chopped-lines (l ∷ []) w = rw (w.0.1) (chopped-one w.0.0 w.0.2)
 chopped-lines (l ∷ m ∷ ls) w =
-    let r = unquoted-more m ls w.1 in
+    let r = unquoted-more ls w.1 in
     let ih = chopped-lines (m ∷ ls) w.1 in
     rw (w.0.1, unquoted-push w.0.0, ← ih, r.2) (chopped-behind true (unquoted w.0.0) r.0 r.1)
 
-before-whole : (c : ℕ) (first : List ℕ) (rest : List (List ℕ)) → eqb c 10 ≡ false → Whole (first ∷ rest) → Whole ((c ∷ first) ∷ rest)
-before-whole c first rest h w = ((c ∷ w.0.0, ap (λ x. c ∷ x) w.0.1, (h, w.0.2)), w.1)
+before-whole : {c : ℕ} {first : List ℕ} (rest : List (List ℕ)) → eqb c 10 ≡ false → Whole (first ∷ rest) → Whole ((c ∷ first) ∷ rest)
+before-whole {c} rest h w = ((c ∷ w.0.0, ap (λ x. c ∷ x) w.0.1, (h, w.0.2)), w.1)
 
 lines-whole-at : (front : List ℕ) → Whole (lines (front ++ 10 ∷ []))
 unfolding lines
@@ -77,7 +77,7 @@ lines-whole-at (c ∷ front) =
       | inr e ↦
           let f = lines-last front in
           let w' = rw f.2 at (lines-whole-at front) in
-          rw (e, f.2) (before-whole c f.0 f.1 e w')
+          rw (e, f.2) (before-whole f.1 e w')
     ]
 
 -- a text that ends with a `\n` has whole lines
@@ -87,7 +87,7 @@ lines-whole (inl e) = rw e tt
 lines-whole (inr e) = rw e.1 (lines-whole-at e.0)
 
 pub chopped-body : {text : List ℕ} → Ended text → chopped (flat_map unquoted (lines text)) ≡ flat_map unquoted (without_blank (lines text))
-chopped-body {text} e = chopped-lines (lines text) (lines-whole e)
+chopped-body {text} e = chopped-lines _ (lines-whole e)
 
 chop-blank : (front : Bool) (x : List ℕ) → chopped_from front (x ++ 10 ∷ 10 ∷ []) ≡ x ++ 10 ∷ []
 unfolding chopped_from
@@ -116,14 +116,14 @@ chop-other front (c ∷ d ∷ b) h h' =
     ap (λ l. c ∷ l) (chop-other (eqb c 10) (d ∷ b) (λ e is. h' [] (rw (eqb-true c 10 e, is) refl)) (λ x is. h' (c ∷ x) (ap (λ l. c ∷ l) is)))
 
 -- what the two tests of the code say
-pub only_blank : (b : List ℕ) {line : List ℕ} {r : Bool} → line ≡ 10 ∷ [] → Decides r (b ≡ line) → r ≡ true
+pub only_blank : {b line : List ℕ} {r : Bool} → line ≡ 10 ∷ [] → Decides r (b ≡ line) → r ≡ true
     → MatchBool r ((0 < length b) × (take (length b - 1) b ≡ chopped b)) (b ≡ chopped b)
-only_blank b is d t = rw t (chop_only (d.0 t ∙ is))
+only_blank is d t = rw t (chop_only (d.0 t ∙ is))
 
-pub last_blank : (b : List ℕ) {line : List ℕ} {r ends : Bool} → line ≡ 10 ∷ [] → Decides r (b ≡ line) → r ≡ false → ends ≡ ends_with eqb b (10 ∷ 10 ∷ [])
+pub last_blank : {b line : List ℕ} {r ends : Bool} → line ≡ 10 ∷ [] → Decides r (b ≡ line) → r ≡ false → ends ≡ ends_with eqb b (10 ∷ 10 ∷ [])
     → MatchBool ends ((0 < length b) × (take (length b - 1) b ≡ chopped b)) (b ≡ chopped b)
-last_blank b {ends = true} is d f h = chop_last _ ((ends_is Decides-eqb b (10 ∷ 10 ∷ []) true h).0 refl)
-last_blank b {r} {ends = false} is d f h =
+last_blank {b} {ends = true} is d f h = chop_last _ ((ends_is Decides-eqb b (10 ∷ 10 ∷ []) true h).0 refl)
+last_blank {b} {r} {ends = false} is d f h =
     chop-other true b (λ _ one. both_ways r f (d.1 (one ∙ sym is))) (λ x two. false≢true ((ends_is Decides-eqb b (10 ∷ 10 ∷ []) false h).1 x two))
 
 -- a text whose last line lacks its `\n` stays

@@ -32,7 +32,7 @@ head-byte {given} {line} c a =
             | inl b ↦ rw is (inl (inr (given, line, [], [], head-ends a b)))
             | inr b ↦
                 let s = at_start a b in
-                rw (is, s.1) (inr (begins_from-cut line [] ∙ b, begins_with-ended line from_bytes (refl, (refl, (refl, (refl, (refl, tt)))))))
+                rw (is, s.1) (inr (begins_from-cut line [] ∙ b, begins_with-ended line _ (refl, (refl, (refl, (refl, (refl, tt)))))))
           ]
       | inr e ↦
           elim (cases_Bool (begins_from (line ++ c ∷ []))) [
@@ -59,47 +59,47 @@ body-byte {given} {f} {body} {line} c a =
           elim (cases_Bool (begins_from (line ++ c ∷ []))) [
             | inl b ↦
                 let entry : Entry = record { from_line = f; body = chopped body } in
-                inl (inl (given ++ entry ∷ [], line ++ c ∷ [], body-closes (c ∷ []) entry a (e, tt) b refl refl))
+                inl (inl (given ++ entry ∷ [], line ++ c ∷ [], body-closes (c ∷ []) a (e, tt) b refl refl))
             | inr b ↦ inl (inr (given, f, body, line ++ c ∷ [], body-add (c ∷ []) a (e, tt) b))
           ]
     ]
 
-goes-byte : (text : List ℕ) (c : ℕ) → Goes text → Goes (text ++ c ∷ [])
-goes-byte text c (inl (inl h)) = head-byte c h.2
-goes-byte text c (inl (inr h)) = body-byte c h.4
-goes-byte text c (inr n) = inr (never-more text (c ∷ []) n)
+goes-byte : {text : List ℕ} (c : ℕ) → Goes text → Goes (text ++ c ∷ [])
+goes-byte c (inl (inl h)) = head-byte c h.2
+goes-byte c (inl (inr h)) = body-byte c h.4
+goes-byte {text} c (inr n) = inr (never-more text (c ∷ []) n)
 
-goes-on : (more text : List ℕ) → Goes text → Goes (text ++ more)
-goes-on [] text g = rw (append-nil text) g
-goes-on (c ∷ more) text g = rw (← append_assoc text (c ∷ []) more) (goes-on more (text ++ c ∷ []) (goes-byte text c g))
+goes-on : (more : List ℕ) {text : List ℕ} → Goes text → Goes (text ++ more)
+goes-on [] {text} g = rw (append-nil text) g
+goes-on (c ∷ more) {text} g = rw (← append_assoc text (c ∷ []) more) (goes-on more (goes-byte c g))
 
 goes : (text : List ℕ) → Goes text
-goes text = goes-on text [] (inl (inl ([], [], head_of_none refl)))
+goes text = goes-on text (inl (inl ([], [], head_of_none refl)))
 
 pub head-all : {text : List ℕ} {given : List Entry} {line : List ℕ} → AtHead text given line → AllButLast text given
 unfolding Closed
 head-all {text} {given} {line} a = elim (a.head) [
-  | inl b ↦ let m = head-last (record { from_line = line; body = [] }) a b refl refl in inl (mbox-begins-last text given _ m, (_, m))
+  | inl b ↦ let m = head-last a b refl refl in inl (mbox-begins-last text given _ m, (_, m))
   | inr g ↦ let none = rw (g.0) at a.closed in inr (rw (a.is, none) g.1, g.0)
 ]
 
 pub body-all : {text : List ℕ} {given : List Entry} {f body line : List ℕ} → InBody text given f body line → AllButLast text given
 body-all {text} {given} {f} {body} {line} a =
-    let m = body-last (record { from_line = f; body = chopped (body ++ unquoted line) }) a refl refl in inl (mbox-begins-last text given _ m, (_, m))
+    let m = body-last a refl refl in inl (mbox-begins-last text given _ m, (_, m))
 
-exists-at : (text : List ℕ) → begins_from text ≡ true → Goes text → (entries : List Entry) × Mbox text entries
-exists-at text b (inl (inl h)) =
+exists-at : {text : List ℕ} → begins_from text ≡ true → Goes text → (entries : List Entry) × Mbox text entries
+exists-at b (inl (inl h)) =
     elim (cases_Bool (begins_from h.1)) [
-      | inl y ↦ (_, head-last (record { from_line = h.1; body = [] }) h.2 y refl refl)
+      | inl y ↦ (_, head-last h.2 y refl refl)
       | inr n ↦ let s = at_start h.2 n in absurd (both_ways (begins_from h.1) n (rw s.1 at b))
     ]
-exists-at text b (inl (inr h)) = (_, body-last (record { from_line = h.1; body = chopped (h.2 ++ unquoted h.3) }) h.4 refl refl)
-exists-at text b (inr n) = absurd (both_ways (begins_from text) n.0 b)
+exists-at b (inl (inr h)) = (_, body-last h.4 refl refl)
+exists-at {text} b (inr n) = absurd (both_ways (begins_from text) n.0 b)
 
-exists : (text : List ℕ) → IsMboxText text → (entries : List Entry) × Mbox text entries
+exists : {text : List ℕ} → IsMboxText text → (entries : List Entry) × Mbox text entries
 unfolding Mbox
-exists text (inl e) = ([], e)
-exists text (inr b) = exists-at text b (goes text)
+exists (inl e) = ([], e)
+exists {text} (inr b) = exists-at b (goes text)
 
-pub read_where : (text : List ℕ) → IsMboxText text ↔ ((entries : List Entry) × Mbox text entries)
-read_where text = (exists text, λ h. mbox-starts text h.0 h.1)
+pub read_where : {text : List ℕ} → IsMboxText text ↔ ((entries : List Entry) × Mbox text entries)
+read_where {text} = (exists, λ h. mbox-starts h.0 h.1)

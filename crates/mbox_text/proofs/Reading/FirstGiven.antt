@@ -9,32 +9,32 @@ use Rattle.mbox_text.proofs.Reading.Existence.{read_where}
 use Rattle.mbox_text.proofs.Splitting.Giving.{all_stay}
 
 -- ---- a text has no more messages than bytes
-some-block : (block : List ℕ) (e : Entry) → Block block e → 0 < length block
+some-block : (block : List ℕ) {e : Entry} → Block block e → 0 < length block
 unfolding lines
-some-block [] e b = let is = b.is in absurd (cc)
-some-block (c ∷ block) e b = omega arith
+some-block [] b = let is = b.is in absurd (cc)
+some-block (c ∷ block) b = omega arith
 
 pub mbox-length : (text : List ℕ) (entries : List Entry) → Mbox text entries → length entries ≤ length text
 unfolding Mbox
 mbox-length text [] h = omega arith
 mbox-length text (e ∷ es) h =
-    let b = some-block h.0 e h.3 in
+    let b = some-block h.0 h.3 in
     let ih = mbox-length h.1 es h.5 in
     omega (arith, ap length h.2, length-append h.0 h.1)
 
 -- ---- what was given is the first of each text that may begin so
 -- there are no more messages than bytes
 pub few_given : (text : List ℕ) (given : List Entry) → AllButLast text given → length given ≤ length text
-few_given text given (inl a) = omega (arith, mbox-length text (given ++ a.1.0 ∷ []) a.1.1, length-append given (a.1.0 ∷ []))
+few_given text given (inl a) = omega (arith, mbox-length text _ a.1.1, length-append given (a.1.0 ∷ []))
 few_given text given (inr a) = rw a.1 (omega arith)
 
 pub first_of : (text more : List ℕ) (given entries : List Entry) → AllButLast text given
     → Mbox (text ++ more) entries → (rest : List Entry) × (entries ≡ given ++ rest)
-first_of text more given entries a m = elim (all_stay text given a more entries m) [
+first_of text more given entries a m = elim (all_stay text a more entries m) [
   | inl none ↦ (entries, rw none refl)
   | inr q ↦ (q.0 ∷ q.1, q.2)
 ]
 
 pub unread_none : (text more : List ℕ) (given : List Entry) → AllButLast text given → IsUnreadable (text ++ more) → given ≡ []
-unread_none text more given (inl a) none = let r = (read_where (text ++ more)).0 (inr (begins_from-more text more a.0)) in absurd (none r.0 r.1)
+unread_none text more given (inl a) none = let r = (read_where).0 (inr (begins_from-more text more a.0)) in absurd (none r.0 r.1)
 unread_none text more given (inr a) none = a.1

@@ -32,13 +32,13 @@ from-block [] h b ef eb = absurd (false≢true b)
 from-block (c ∷ l) h b ef eb = grind (arith, lines-part c l h, unended-part (c ∷ l) h)
 
 -- the last message of a text that ends in a From_ line, or behind one
-pub head-last : {text : List ℕ} {given : List Entry} {line : List ℕ} (e : Entry)
+pub head-last : {text : List ℕ} {given : List Entry} {line : List ℕ} {e : Entry}
     → AtHead text given line → begins_from line ≡ true → e.from_line ≡ line → e.body ≡ []
     → Mbox text (given ++ e ∷ [])
-head-last {given} {line} e a b ef eb = grind (arith, closed-last, from-block)
+head-last {given} {line} a b ef eb = grind (arith, closed-last, from-block)
 
-pub body-last : {text : List ℕ} {given : List Entry} {f body line : List ℕ} (e : Entry)
+pub body-last : {text : List ℕ} {given : List Entry} {f body line : List ℕ} {e : Entry}
     → InBody text given f body line → e.from_line ≡ f → e.body ≡ chopped (body ++ unquoted line)
     → Mbox text (given ++ e ∷ [])
-body-last {given} {line} e a ef eb =
-    rw a.is (closed-last a.front given a.closed (open-last line e a.opened a.part a.tail ef eb))
+body-last {given} {line} {e} a ef eb =
+    rw a.is (closed-last a.front given a.closed (open-last line a.opened a.part a.tail ef eb))

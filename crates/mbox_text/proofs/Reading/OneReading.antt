@@ -32,20 +32,20 @@ reads-headed ls [] h = rw h tt
 reads-headed ls (entry ∷ entries) h = let s = h.1 in rw s.is s.head
 
 -- lines that begin no message, up to one that does, are cut off in one way
-cut_one : (others others' rest rest' : List (List ℕ)) → NoFrom others → NoFrom others' → HeadWritten rest → HeadWritten rest'
+cut_one : (others others' : List (List ℕ)) {rest rest' : List (List ℕ)} → NoFrom others → NoFrom others' → HeadWritten rest → HeadWritten rest'
     → others ++ rest ≡ others' ++ rest' → (others ≡ others') × (rest ≡ rest')
-cut_one [] [] rest rest' n n' h h' e = (refl, e)
-cut_one [] (o ∷ os) rest rest' n n' h h' e = let b = rw e at h in absurd (both_ways (begins_from o) n'.0 b)
-cut_one (o ∷ os) [] rest rest' n n' h h' e = let b = rw (← e) at h' in absurd (both_ways (begins_from o) n.0 b)
-cut_one (o ∷ os) (o' ∷ os') rest rest' n n' h h' e =
+cut_one [] [] n n' h h' e = (refl, e)
+cut_one [] (o ∷ os) n n' h h' e = let b = rw e at h in absurd (both_ways (begins_from o) n'.0 b)
+cut_one (o ∷ os) [] n n' h h' e = let b = rw (← e) at h' in absurd (both_ways (begins_from o) n.0 b)
+cut_one (o ∷ os) (o' ∷ os') {rest} {rest'} n n' h h' e =
     let heads : o ≡ o' = cc in
     let tails : os ++ rest ≡ os' ++ rest' = cc in
-    let r = cut_one os os' rest rest' n.1 n'.1 h h' tails in
+    let r = cut_one os os' n.1 n'.1 h h' tails in
     let r0 = r.0 in
     (cc, r.1)
 
-entry-one : (e f : Entry) → e.from_line ≡ f.from_line → e.body ≡ f.body → e ≡ f
-entry-one e f a b = grind arith
+entry-one : {e f : Entry} → e.from_line ≡ f.from_line → e.body ≡ f.body → e ≡ f
+entry-one a b = grind arith
 
 -- lines that are those of these messages stand before such
 headed-append : (ls tail : List (List ℕ)) (entries : List Entry) → LinesRead ls entries → HeadWritten tail → HeadWritten (ls ++ tail)
@@ -64,9 +64,9 @@ reads-append ls tail (g ∷ gs) (e ∷ es) r b h =
     let whole' = s'.is in
     let firsts : s.first ≡ s'.first = cc in
     let tails : s.others ++ (r.0 ++ tail) ≡ s'.others ++ h.0 = cc in
-    let c = cut_one s.others s'.others (r.0 ++ tail) h.0 s.tail s'.tail (headed-append r.0 tail gs r.2 b) (reads-headed h.0 es h.2) tails in
+    let c = cut_one s.others _ s.tail s'.tail (headed-append r.0 tail gs r.2 b) (reads-headed h.0 es h.2) tails in
     let bodies : g.body ≡ e.body = s.body ∙ ap (λ o. flat_map unquoted (without_blank o)) c.0 ∙ sym s'.body in
-    let heads = entry-one g e (s.from_line ∙ ap unended firsts ∙ sym s'.from_line) bodies in
+    let heads = entry-one (s.from_line ∙ ap unended firsts ∙ sym s'.from_line) bodies in
     let ih = reads-append r.0 tail gs es r.2 b (rw c.1 h.2) in
     (ih.0, ap₂ (λ x y. x ∷ y) (sym heads) ih.1, ih.2)
 
@@ -89,5 +89,5 @@ none-left (e ∷ es) h = let is = h.1.is in absurd (cc)
 
 pub mbox-one : (text : List ℕ) (entries others : List Entry) → Mbox text entries → Mbox text others → entries ≡ others
 mbox-one text entries others h h' =
-    let r = reads-append (lines text) [] entries others (mbox-reads text entries h) tt (rw (append-nil (lines text)) (mbox-reads text others h')) in
+    let r = reads-append _ [] entries others (mbox-reads text entries h) tt (rw (append-nil (lines text)) (mbox-reads text others h')) in
     sym (r.1 ∙ rw (none-left r.0 r.2) (append-nil entries))

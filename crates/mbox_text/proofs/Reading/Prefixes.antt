@@ -12,10 +12,10 @@ use Rattle.mbox_text.proofs.Reading.OneReading.{reads-append, mbox-reads, LinesR
 use Rattle.mbox_text.proofs.Splitting.HeldLemmas.{Ended-append}
 use Rattle.mbox_text.proofs.Reading.Last.{closed-mbox}
 
-closed-ended : (front : List ℕ) (given : List Entry) → Closed front given → Ended front
+closed-ended : {front : List ℕ} (given : List Entry) → Closed front given → Ended front
 unfolding Closed
-closed-ended front [] h = inl h
-closed-ended front (g ∷ given) h = rw h.2 (Ended-append h.0 h.4 (closed-ended h.1 given h.5))
+closed-ended [] h = inl h
+closed-ended (g ∷ given) h = rw h.2 (Ended-append h.4 (closed-ended given h.5))
 
 -- a line that is left is a message's
 some-left : (l : List ℕ) (ls : List (List ℕ)) (given : List Entry) {entries : List Entry} (rest : List Entry)
@@ -24,13 +24,14 @@ some-left l ls given [] e h = let no : l ∷ ls ≡ [] = h in absurd (cc)
 some-left l ls given (next ∷ rest) e h = (next, rest, e)
 
 -- whole blocks, and then a From_ line
-pub closed-front : (front tail : List ℕ) (given entries : List Entry) → Closed front given → begins_from tail ≡ true → Mbox (front ++ tail) entries
+pub closed-front : (front tail : List ℕ) (given : List Entry) {entries : List Entry} → Closed front given → begins_from tail ≡ true
+    → Mbox (front ++ tail) entries
     → IsProperFront given entries
-closed-front front tail given entries c b m =
+closed-front front tail given {entries} c b m =
     let f = head-line tail b in
-    let e : lines (front ++ tail) ≡ lines front ++ f.0 ∷ f.1 = rw (lines-append tail (closed-ended front given c), f.2) refl in
-    let r = reads-append (lines front) (f.0 ∷ f.1) given entries
-    (mbox-reads front given (closed-mbox front given c)) f.3 (rw e at (mbox-reads (front ++ tail) entries m)) in
+    let e : lines (front ++ tail) ≡ lines front ++ f.0 ∷ f.1 = rw (lines-append tail (closed-ended given c), f.2) refl in
+    let r = reads-append _ _ given entries
+    (mbox-reads front given (closed-mbox front given c)) f.3 (rw e at (mbox-reads _ entries m)) in
     some-left f.0 f.1 given r.0 r.1 r.2
 
 -- the blocks of all messages but the last
@@ -45,11 +46,11 @@ not-nil : (given : List Entry) (last : Entry) → given ++ last ∷ [] ≡ [] �
 not-nil [] last e = absurd (cc)
 not-nil (g ∷ given) last e = absurd (cc)
 
-front-of : (text : List ℕ) (given : List Entry) (last : Entry) → Mbox text (given ++ last ∷ []) → AllButLastBlock text given last
+front-of : {text : List ℕ} (given : List Entry) {last : Entry} → Mbox text (given ++ last ∷ []) → AllButLastBlock text given last
 unfolding Mbox Closed
-front-of text [] last h = record { front = []; block = text; is = refl; closed = refl; behind = rw (h.2, h.5) (rw (append-nil h.0) h.3) }
-front-of text (g ∷ given) last h =
-    let r = front-of h.1 given last h.5 in
+front-of {text} [] h = record { front = []; block = text; is = refl; closed = refl; behind = rw (h.2, h.5) (rw (append-nil h.0) h.3) }
+front-of (g ∷ given) {last} h =
+    let r = front-of given h.5 in
     elim (h.4) [
       | inl ends ↦ record {
         front = h.0 ++ r.front;
@@ -64,6 +65,6 @@ front-of text (g ∷ given) last h =
 pub prefix_reading : (text more : List ℕ) (entries given : List Entry) (last : Entry) → Mbox text (given ++ last ∷ []) → Mbox (text ++ more) entries
     → IsProperFront given entries
 prefix_reading text more entries given last h h' =
-    let f = front-of text given last h in
+    let f = front-of given h in
     let texts : text ++ more ≡ f.front ++ (f.block ++ more) = ap (λ z. z ++ more) f.is ∙ append_assoc f.front f.block more in
-    closed-front f.front (f.block ++ more) given entries f.closed (begins_from-more f.block more (block-begins f.behind)) (rw texts at h')
+    closed-front f.front _ given f.closed (begins_from-more f.block more (block-begins f.behind)) (rw texts at h')

@@ -11,14 +11,14 @@ use Rattle.mbox_text.proofs.TextLines.Heads.{from-long, mbox-starts}
 
 -- what begins neither with `From ` nor with a front of it
 pub never_unreadable : (text : List ℕ) → NeverFrom text → IsUnreadable text
-never_unreadable text n entries h = elim (mbox-starts text entries h) [
+never_unreadable text n entries h = elim (mbox-starts entries h) [
   | inl e ↦ let f : begins_with text from_bytes ≡ true = rw e refl in both_ways (begins_with text from_bytes) n.1 f
   | inr b ↦ both_ways (begins_from text) n.0 b
 ]
 
 -- one to four bytes, and no more
 pub short_unreadable : (text : List ℕ) → IsTooShort text → IsUnreadable text
-short_unreadable text s entries h = elim (mbox-starts text entries h) [
+short_unreadable text s entries h = elim (mbox-starts entries h) [
   | inl e ↦ absurd (omega (arith, ap length e, s.0))
   | inr b ↦ absurd (omega (arith, from-long text b, s.1))
 ]

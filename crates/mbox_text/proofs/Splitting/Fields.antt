@@ -25,16 +25,16 @@ pub some_ends : {message : Option PartialMessage} {m : PartialMessage} {line lin
 some_ends e el eb el' text given h =
     rw (append-nil given, eb, el, el') (body-ends (rw e at h))
 
-pub none_ends : {message : Option PartialMessage} {line line1 : List ℕ} (f : List ℕ) {body : List ℕ} (line' : List ℕ) → message ≡ None → line1 ≡ line
+pub none_ends : {message : Option PartialMessage} {line line1 f body line' : List ℕ} → message ≡ None → line1 ≡ line
     → begins_from line1 ≡ true → f ≡ line → body ≡ [] → line' ≡ []
     → (text : List ℕ) (given : List Entry) → Held text given message line → InBody (text ++ 10 ∷ []) (given ++ []) f body line'
-none_ends f line' e el b ef eb el' text given h = grind (arith, append-nil, head-ends)
+none_ends e el b ef eb el' text given h = grind (arith, append-nil, head-ends)
 
-pub some_closes : {message message' : Option PartialMessage} {m : PartialMessage} (e : Entry) (line part : List ℕ) {line' line1 : List ℕ}
+pub some_closes : {message message' : Option PartialMessage} {m : PartialMessage} {e : Entry} (line part : List ℕ) {line' line1 : List ℕ}
     → message ≡ Some m → message' ≡ None
     → line' ≡ line ++ part → NoEnd part → line1 ≡ line' → begins_from line1 ≡ true → e.from_line ≡ m.from_line.items → e.body ≡ chopped m.body.items
     → (text : List ℕ) (given : List Entry) → Held text given message line → Held (text ++ part) (given ++ e ∷ []) message' line'
-some_closes e line part is is' el h e1 b ef eb text given held = grind (arith, body-closes)
+some_closes line part is is' el h e1 b ef eb text given held = grind (arith, body-closes)
 
 pub none_adds : {message message' : Option PartialMessage} (line part : List ℕ) {line' line1 : List ℕ} → message ≡ None → message' ≡ None
     → line' ≡ line ++ part → NoEnd part → line1 ≡ line' → begins_from line1 ≡ true
@@ -101,8 +101,8 @@ unfolding begins_from
 never-more text more h = grind arith
 
 -- the text in three parts
-pub three-parts : (text : List ℕ) (at n : ℕ) → let rest : List ℕ = take (length text - at) (drop at text) in text ≡ take at text ++ (take n rest ++ drop n rest)
-three-parts text at n = grind (arith, take-append-drop, take_rest)
+pub three-parts : {text : List ℕ} (at n : ℕ) → let rest : List ℕ = take (length text - at) (drop at text) in text ≡ take at text ++ (take n rest ++ drop n rest)
+three-parts at n = grind (arith, take-append-drop, take_rest)
 
 -- the lines that a call took
 pub lines_taken : (r : Result ℕ AllocError) {message : Option PartialMessage} {m : PartialMessage} {line : List ℕ} (body text : List ℕ)

@@ -24,22 +24,22 @@ pub ends_body : (splitter : Splitter) {m : PartialMessage} (e : Entry) (line : L
     → e.body ≡ chopped (m.body.items ++ unquoted line) → EndsWith splitter e
 ends_body splitter {m} e line is e1 ef eb text given h = grind (arith, body-last)
 
-pub ends_head : (splitter : Splitter) (e : Entry) {line : List ℕ} → splitter.message ≡ None → line ≡ splitter.line.items → begins_from line ≡ true
+pub ends_head : (splitter : Splitter) {e : Entry} {line : List ℕ} → splitter.message ≡ None → line ≡ splitter.line.items → begins_from line ≡ true
     → e.from_line ≡ splitter.line.items → e.body ≡ [] → EndsWith splitter e
-ends_head splitter e is e1 b ef eb text given h = head-last e (rw is at h) (rw (← e1) b) ef eb
+ends_head splitter {e} is e1 b ef eb text given h = head-last (rw is at h) (rw (← e1) b) ef eb
 
 -- its text is not short
 long : (splitter : Splitter) (e : Entry) → EndsWith splitter e → (text : List ℕ) (given : List Entry) → HeldIn text given splitter → 5 ≤ length text
 long splitter e ends text given h = grind (arith, from-long, mbox-begins-last)
 
-pub ends_some : (splitter : Splitter) (e : Entry) → EndsWith splitter e → GivesLast splitter (Some e)
-ends_some splitter e ends = λ text given h. (
+pub ends_some : {splitter : Splitter} (e : Entry) → EndsWith splitter e → GivesLast splitter (Some e)
+ends_some {splitter} e ends = λ text given h. (
   ends text given h.held,
   (λ t. absurd (true≢false t), λ n. absurd (omega (arith, long splitter e ends text given h.held, ap length n))),
 )
 
-not_short : (splitter : Splitter) (e : Entry) (r : Result (Option Entry) TextFault) → EndsWith splitter e → (IsErrOf r NoFromLine → ⊥) → RefusesShort splitter r
-not_short splitter e r ends n = λ text given h. (
+not_short : {splitter : Splitter} (e : Entry) (r : Result (Option Entry) TextFault) → EndsWith splitter e → (IsErrOf r NoFromLine → ⊥) → RefusesShort splitter r
+not_short {splitter} e r ends n = λ text given h. (
   λ x. absurd (n x),
   λ s. absurd (omega (arith, long splitter e ends text given h.held, s.1)),
 )
@@ -47,36 +47,36 @@ not_short splitter e r ends n = λ text given h. (
 pub not_short_body : (splitter : Splitter) {m : PartialMessage} (r : Result (Option Entry) TextFault)
     → splitter.message ≡ Some m → (IsErrOf r NoFromLine → ⊥) → RefusesShort splitter r
 not_short_body splitter {m} r is =
-    not_short splitter _ r (ends_body splitter
-    (record { from_line = m.from_line.items; body = chopped (m.body.items ++ unquoted splitter.line.items) }) splitter.line.items is refl refl refl)
+    not_short _ r (ends_body splitter
+    _ _ is refl refl refl)
 
 pub not_short_head : (splitter : Splitter) {line : List ℕ} (r : Result (Option Entry) TextFault)
     → splitter.message ≡ None → line ≡ splitter.line.items → begins_from line ≡ true
     → (IsErrOf r NoFromLine → ⊥) → RefusesShort splitter r
-not_short_head splitter r is e1 b = not_short splitter _ r (ends_head splitter (record { from_line = splitter.line.items; body = [] }) is e1 b refl refl)
+not_short_head splitter r is e1 b = not_short _ r (ends_head splitter is e1 b refl refl)
 
 -- a line that begins no message is all that has come, and then it is short
-first_line : (splitter : Splitter) {line : List ℕ} (text : List ℕ) (given : List Entry) → splitter.message ≡ None
+first_line : (splitter : Splitter) {line text : List ℕ} {given : List Entry} → splitter.message ≡ None
     → line ≡ splitter.line.items → begins_from line ≡ false → HeldIn text given splitter
     → (given ≡ []) × ((text ≡ splitter.line.items) × (length text < 5))
-first_line splitter text given is e1 b h = grind (arith, at_start, false≢true, from-short)
+first_line splitter is e1 b h = grind (arith, at_start, false≢true, from-short)
 
-pub ends_none : (splitter : Splitter) → splitter.message ≡ None → splitter.line.items ≡ [] → GivesLast splitter None
+pub ends_none : {splitter : Splitter} → splitter.message ≡ None → splitter.line.items ≡ [] → GivesLast splitter None
 unfolding Mbox begins_from
-ends_none splitter is e = λ text given h.
-    let f = first_line splitter text given is (sym e) refl h.held in
+ends_none {splitter} is e = λ text given h.
+    let f = first_line splitter is (sym e) refl h.held in
     let empty = f.1.0 ∙ e in
     (rw (f.0, empty) refl, (λ _. empty, λ _. refl))
 
-pub short_none : (splitter : Splitter) (r : Result (Option Entry) TextFault) → (IsErrOf r NoFromLine → ⊥)
+pub short_none : {splitter : Splitter} {r : Result (Option Entry) TextFault} → (IsErrOf r NoFromLine → ⊥)
     → splitter.message ≡ None → splitter.line.items ≡ [] → RefusesShort splitter r
 unfolding begins_from
-short_none splitter r n is e = λ text given h.
-    let f = first_line splitter text given is (sym e) refl h.held in
+short_none {splitter} n is e = λ text given h.
+    let f = first_line splitter is (sym e) refl h.held in
     let empty = ap length (f.1.0 ∙ e) in
     (λ x. absurd (n x), λ s. absurd (omega (arith, empty, s.0)))
 
-pub short_refused : (splitter : Splitter) {line : List ℕ} (r : Result (Option Entry) TextFault)
+pub short_refused : {splitter : Splitter} {line : List ℕ} {r : Result (Option Entry) TextFault}
     → IsErrOf r NoFromLine → splitter.message ≡ None → 0 < length splitter.line.items
     → line ≡ splitter.line.items → begins_from line ≡ false → RefusesShort splitter r
-short_refused splitter r y is some e1 b = grind (arith, first_line)
+short_refused y is some e1 b = grind (arith, first_line)

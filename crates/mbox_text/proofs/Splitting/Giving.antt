@@ -22,17 +22,17 @@ use Rattle.mbox_text.proofs.Reading.Prefixes.{prefix_reading}
 use Rattle.mbox_text.proofs.Reading.Existence.{head-all, body-all}
 use Rattle.mbox_text.proofs.Splitting.Fields.{never-more}
 
-held-all : (message : Option PartialMessage) (text : List ℕ) (given : List Entry) (line : List ℕ) → Held text given message line → AllButLast text given
-held-all None text given line a = head-all a
-held-all (Some m) text given line a = body-all a
+held-all : (message : Option PartialMessage) (text : List ℕ) {given : List Entry} (line : List ℕ) → Held text given message line → AllButLast text given
+held-all None text line a = head-all a
+held-all (Some m) text line a = body-all a
 
 pub fed_from : {splitter : Splitter} {text : List ℕ} {given : List Entry} → splitter.failed ≡ false → HeldIn text given splitter → Fed text given splitter
 fed_from {splitter} {text} {given} works h = grind (arith, held-all)
 
 -- all messages but the last stay the first ones, whatever comes behind the text
-pub all_stay : (text : List ℕ) (given : List Entry) → AllButLast text given → Stay text given
-all_stay text given (inl a) more entries h = inr (prefix_reading text more entries given a.1.0 a.1.1 h)
-all_stay text given (inr a) more entries h = inl a.1
+pub all_stay : (text : List ℕ) {given : List Entry} → AllButLast text given → Stay text given
+all_stay text {given} (inl a) more entries h = inr (prefix_reading text more entries given a.1.0 a.1.1 h)
+all_stay text (inr a) more entries h = inl a.1
 
 -- and are none where no mbox text begins so
 all_none : (text more : List ℕ) {given : List Entry} → AllButLast text given → NeverFrom (text ++ more) → given ≡ []
@@ -40,20 +40,20 @@ all_none text more (inl a) n = grind (arith, both_ways, begins_from-more)
 all_none text more (inr a) n = a.1
 
 -- one part, and then another
-pub gives_then : (old mid new : Splitter) (p q : List ℕ) (out out1 out' : List Entry)
+pub gives_then : (old mid new : Splitter) (p q : List ℕ) (out : List Entry) {out1 out' : List Entry}
     → Gives old p out out1 mid → Gives mid q out1 out' new → Gives old (p ++ q) out out' new
-gives_then old mid new p q out out1 out' a b = grind (arith, append_assoc)
+gives_then old mid new p q out a b = grind (arith, append_assoc)
 
-pub gives_none : (old new : Splitter) (part : List ℕ) (out out' : List Entry) → out' ≡ out → Moves old part [] new → Gives old part out out' new
-gives_none old new part out out' e m = ([], e ∙ sym (append-nil out), m)
+pub gives_none : (old new : Splitter) (part : List ℕ) {out out' : List Entry} → out' ≡ out → Moves old part [] new → Gives old part out out' new
+gives_none old new part {out} e m = ([], e ∙ sym (append-nil out), m)
 
-pub gives_nothing : (splitter : Splitter) (out : List Entry) → Gives splitter [] out out splitter
-gives_nothing splitter out = grind (arith, gives_none, append-nil)
+pub gives_nothing : (splitter : Splitter) {out : List Entry} → Gives splitter [] out out splitter
+gives_nothing splitter = grind (arith, gives_none, append-nil)
 
 -- the splitter refuses what comes next, and then more
 refuses_more : (fault : TextFault) (splitter : Splitter) (part more : List ℕ) → Refuses fault splitter part → Refuses fault splitter (part ++ more)
 refuses_more NoFromLine splitter part more r = λ text given h.
-    let x = r text given h in (x.0, rw (← append_assoc text part more) (never-more (text ++ part) more x.1))
+    let x = r text given h in (x.0, rw (← append_assoc text part more) (never-more _ more x.1))
 refuses_more OutOfMemory splitter part more r = tt
 refuses_more LineEndInRest splitter part more r = absurd r
 refuses_more Failed splitter part more r = absurd r
@@ -79,14 +79,14 @@ stops_behind {old} {mid} front {out} {out1} {out'} g s e = record {
   rest = s.rest;
   now = s.now;
   is = e ∙ ap (λ z. front ++ z) s.is ∙ sym (append_assoc front s.front s.rest);
-  gives = gives_then old mid s.now front s.front out out1 out' g s.gives;
+  gives = gives_then old mid s.now front s.front out g s.gives;
   refuses = s.refuses;
 }
 
 -- a fault that is handed on
-pub handed_on : {T : Type 0} (r : Result T TextFault) (e : TextFault) (P : TextFault → Type 0) → IsErr r × IsErrAnd r (λ v. v ≡ e) → P e → IfErr r P
-handed_on (Ok x) e P is h = absurd is.1
-handed_on (Err v) e P is h = rw is.1 h
+pub handed_on : {T : Type 0} (r : Result T TextFault) {e : TextFault} (P : TextFault → Type 0) → IsErr r × IsErrAnd r (λ v. v ≡ e) → P e → IfErr r P
+handed_on (Ok x) P is h = absurd is.1
+handed_on (Err v) P is h = rw is.1 h
 
 front-cut : (added all rest : List Entry) (last next : Entry) → all ++ last ∷ [] ≡ added ++ next ∷ rest → (r : List Entry) × (all ≡ added ++ r)
 front-cut [] all rest last next e = (all, refl)
@@ -104,15 +104,15 @@ only-front [] rest next e = refl
 only-front (g ∷ []) rest next e = absurd (cc)
 only-front (g ∷ h ∷ given) rest next e = absurd (cc)
 
-nil_right : (a b : List Entry) → a ++ b ≡ [] → b ≡ []
-nil_right [] b e = e
-nil_right (x ∷ a) b e = absurd (cc)
+nil_right : (a : List Entry) {b : List Entry} → a ++ b ≡ [] → b ≡ []
+nil_right [] e = e
+nil_right (x ∷ a) e = absurd (cc)
 
 from-alone : (entry : Entry) × Mbox from_bytes (entry ∷ [])
 unfolding Mbox without_blank begins_from
 from-alone =
     let entry : Entry = record { from_line = from_bytes; body = [] } in
-    (entry, (from_bytes, [], refl, from-block from_bytes (refl, (refl, (refl, (refl, (refl, tt))))) refl refl refl, inr refl, refl))
+    (entry, (from_bytes, [], refl, from-block _ (refl, (refl, (refl, (refl, (refl, tt))))) refl refl refl, inr refl, refl))
 
 -- what stays is the first of what is given where nothing is refused
 part : (text : List ℕ) (given added all : List Entry) → Stay text (given ++ added)
@@ -120,7 +120,7 @@ part : (text : List ℕ) (given added all : List Entry) → Stay text (given ++ 
 part text given added all s (inl h) =
     let texts = append-nil text in
     elim (s [] ((given ++ all) ++ h.1.0 ∷ []) (rw texts h.1.1)) [
-      | inl none ↦ let n = nil_right given added none in (all, rw n refl)
+      | inl none ↦ let n = nil_right given none in (all, rw n refl)
       | inr f ↦
           let e = append_cancel_left given (all ++ h.1.0 ∷ []) (added ++ f.0 ∷ f.1)
           (sym (append_assoc given all (h.1.0 ∷ [])) ∙ f.2 ∙ append_assoc given added (f.0 ∷ f.1)) in
@@ -129,8 +129,8 @@ part text given added all s (inl h) =
 part text given added all s (inr h) =
     let m = from-rest text h.0 in
     let e = from-alone in
-    let none : given ++ added ≡ [] = elim (s m.0 (e.0 ∷ []) (rw m.1 e.1)) [ inl none ↦ none | inr f ↦ only-front (given ++ added) f.1 f.0 f.2 ] in
-    let n = nil_right given added none in
+    let none : given ++ added ≡ [] = elim (s m.0 (e.0 ∷ []) (rw m.1 e.1)) [ inl none ↦ none | inr f ↦ only-front _ f.1 f.0 f.2 ] in
+    let n = nil_right given none in
     (all, rw n refl)
 
 -- what the three answers of a feed say
@@ -139,13 +139,13 @@ pub fed_taken : {T : Type 0} (r : Result T TextFault) (old new : Splitter) (piec
 fed_taken (Ok x) old new piece out out' works g = grind (arith, fed_from)
 fed_taken (Err e) old new piece out out' works g = tt
 
-pub fed_never : {T : Type 0} (r : Result T TextFault) (old : Splitter) (piece : List ℕ) (out out' : List Entry)
+pub fed_never : {T : Type 0} {r : Result T TextFault} {old : Splitter} (piece : List ℕ) {out out' : List Entry}
     → IfErr r (λ fault. Stops fault old piece out out') → IsErrOf r NoFromLine → NeverBegins old piece out out'
-fed_never r old piece out out' h is text given fed = grind (arith, nil_right, append-nil, append_assoc)
+fed_never piece h is text given fed = grind (arith, nil_right, append-nil, append_assoc)
 
-pub fed_part : {T : Type 0} (r : Result T TextFault) (old : Splitter) (piece : List ℕ) (out out' : List Entry)
+pub fed_part : {T : Type 0} {r : Result T TextFault} {old : Splitter} {piece : List ℕ} (out : List Entry) {out' : List Entry}
     → IfErr r (λ fault. Stops fault old piece out out') → IsErrOf r OutOfMemory → TakesPart old piece out out'
-fed_part r old piece out out' h is =
+fed_part {piece} out h is =
     let s = rw is at h in
     let g = s.gives in (
       g.0,
@@ -153,9 +153,9 @@ fed_part r old piece out out' h is =
       λ text given fed.
           let front = text ++ s.front in
           let now = given ++ g.0 in
-          let a = held-all s.now.message front now s.now.line.items (g.2 text given fed.held) in
+          let a = held-all s.now.message front s.now.line.items (g.2 text given fed.held) in
           let texts : text ++ piece ≡ front ++ s.rest = ap (λ z. text ++ z) s.is ∙ sym (append_assoc text s.front s.rest) in
           let stay : Stay (text ++ piece) now = λ more entries m.
-          all_stay front now a (s.rest ++ more) entries (rw (texts, append_assoc front s.rest more) at m) in
-          (λ all is_all. part (text ++ piece) given g.0 all stay is_all, λ n. nil_right given g.0 (all_none front s.rest a (rw texts at n))),
+          all_stay front a (s.rest ++ more) entries (rw (texts, append_assoc front s.rest more) at m) in
+          (λ all is_all. part (text ++ piece) given g.0 all stay is_all, λ n. nil_right given (all_none front s.rest a (rw texts at n))),
     )

@@ -15,9 +15,9 @@ pub NoFrom-append : (a b : List (List ℕ)) → NoFrom a → NoFrom b → NoFrom
 NoFrom-append [] b h h' = h'
 NoFrom-append (c ∷ a) b h h' = (h.0, NoFrom-append a b h.1 h')
 
-pub Ended-append : (a : List ℕ) {b : List ℕ} → Ended a → Ended b → Ended (a ++ b)
-Ended-append a h (inl e) = rw e (rw (append-nil a) h)
-Ended-append a h (inr e) = inr (a ++ e.0, rw e.1 (sym (append_assoc a e.0 (10 ∷ []))))
+pub Ended-append : {a b : List ℕ} → Ended a → Ended b → Ended (a ++ b)
+Ended-append {a} h (inl e) = rw e (rw (append-nil a) h)
+Ended-append {a} h (inr e) = inr (a ++ e.0, rw e.1 (sym (append_assoc a e.0 (10 ∷ []))))
 
 pub unended-push : (l : List ℕ) → NoEnd l → unended (l ++ 10 ∷ []) ≡ l
 unended-push [] h = refl
@@ -49,16 +49,16 @@ last_body {front} (c ∷ l) ends none part b is =
     let u = unquoted-some c l part in
     let all : lines (front ++ c ∷ l) ≡ lines front ++ (c ∷ l) ∷ [] = rw (lines-append (c ∷ l) ends, lines-part c l part) refl in
     record {
-      none = rw all (NoFrom-append (lines front) ((c ∷ l) ∷ []) none (b, tt));
+      none = rw all (NoFrom-append _ _ none (b, tt));
       is = rw (is, all, without_blank-part (lines front) c l part, flat_map-append unquoted (lines front) ((c ∷ l) ∷ []), append-nil (unquoted (c ∷ l)), u.2)
           (chopped-part true (flat_map unquoted (lines front)) u.0 u.1 u.3);
     }
 
 -- a block that ends in a line with no `\n`, or in a whole one
-pub open-last : {block f body : List ℕ} (line : List ℕ) (e : Entry) → Open block f body → NoEnd line
+pub open-last : {block f body : List ℕ} (line : List ℕ) {e : Entry} → Open block f body → NoEnd line
     → begins_from line ≡ false → e.from_line ≡ f → e.body ≡ chopped (body ++ unquoted line)
     → Block (block ++ line) e
-open-last {f} {body} line e o h b ef eb =
+open-last {f} {body} line o h b ef eb =
     let last = last_body line o.ended o.tail h b (eb ∙ ap (λ z. chopped (z ++ unquoted line)) o.as_read) in
     record {
       first = f ++ 10 ∷ [];
@@ -70,10 +70,10 @@ open-last {f} {body} line e o h b ef eb =
       body = last.is;
     }
 
-open-block : {block f body : List ℕ} (e : Entry) → Open block f body → e.from_line ≡ f → e.body ≡ chopped body → Block block e
+open-block : {block f body : List ℕ} {e : Entry} → Open block f body → e.from_line ≡ f → e.body ≡ chopped body → Block block e
 unfolding unquoted begins_from
-open-block {block} {body} e o ef eb =
-    let b = open-last [] e o tt refl ef (eb ∙ ap chopped (sym (append-nil body))) in rw (append-nil block) at b
+open-block {block} {body} {e} o ef eb =
+    let b = open-last [] o tt refl ef (eb ∙ ap chopped (sym (append-nil body))) in rw (append-nil block) at b
 
 -- more comes of a From_ line
 pub head-add : {text : List ℕ} {given : List Entry} {line : List ℕ} (part : List ℕ) → AtHead text given line → NoEnd part
@@ -86,14 +86,14 @@ pub body-add : {text : List ℕ} {given : List Entry} {f body line : List ℕ} (
 body-add {line} part a h b = grind (arith, append_assoc, NoEnd-append)
 
 -- the line begins the next message
-pub body-closes : {text : List ℕ} {given : List Entry} {f body line : List ℕ} (part : List ℕ) (e : Entry) → InBody text given f body line → NoEnd part
+pub body-closes : {text : List ℕ} {given : List Entry} {f body line : List ℕ} (part : List ℕ) {e : Entry} → InBody text given f body line → NoEnd part
     → begins_from (line ++ part) ≡ true → e.from_line ≡ f → e.body ≡ chopped body → AtHead (text ++ part) (given ++ e ∷ []) (line ++ part)
-body-closes {given} {line} part e a h b is_line is_body = grind (
+body-closes {given} {line} part {e} a h b is_line is_body = grind (
   arith,
   append_assoc a.front (a.block ++ line) part,
   append_assoc a.block line part,
   append_assoc a.front a.block (line ++ part),
-  Closed-push a.front given a.closed (open-block e a.opened is_line is_body) (open-ends a.opened),
+  Closed-push a.front given a.closed (open-block a.opened is_line is_body) (open-ends a.opened),
   NoEnd-append line part a.part h,
 )
 
@@ -104,10 +104,10 @@ unfolding lines begins_from
 head-ends {line} a b = grind (arith, append-nil (line ++ 10 ∷ []), append_assoc a.front line (10 ∷ []))
 
 -- whole lines that begin no message
-pub body-lines : {text : List ℕ} {given : List Entry} {f body : List ℕ} (part : List ℕ) → InBody text given f body [] → Ended part → NoFrom (lines part)
+pub body-lines : {text : List ℕ} {given : List Entry} {f body part : List ℕ} → InBody text given f body [] → Ended part → NoFrom (lines part)
     → InBody (text ++ part) given f (body ++ flat_map unquoted (lines part)) []
 unfolding lines begins_from
-body-lines {f} part a ends none =
+body-lines {f} {part} a ends none =
     let o = a.opened in
     record {
       front = a.front;
@@ -119,8 +119,8 @@ body-lines {f} part a ends none =
         is = rw o.is (append_assoc f (10 ∷ o.others) part);
         head = o.head;
         line = o.line;
-        ended = Ended-append o.others o.ended ends;
-        tail = rw (lines-append part o.ended) (NoFrom-append (lines o.others) (lines part) o.tail none);
+        ended = Ended-append o.ended ends;
+        tail = rw (lines-append part o.ended) (NoFrom-append _ _ o.tail none);
         as_read = rw (o.as_read, lines-append part o.ended) (sym (flat_map-append unquoted (lines o.others) (lines part)));
       };
       part = tt;
@@ -128,10 +128,10 @@ body-lines {f} part a ends none =
     }
 
 -- without the line
-body-whole : (text : List ℕ) (given : List Entry) (f body line : List ℕ) → (a : InBody text given f body line)
+body-whole : {text : List ℕ} {given : List Entry} {f body line : List ℕ} → (a : InBody text given f body line)
     → InBody (a.front ++ a.block) given f body []
 unfolding begins_from
-body-whole text given f body line a = grind (arith, append-nil a.block)
+body-whole a = grind (arith, append-nil a.block)
 
 -- a line is whole that begins no message
 pub body-ends : {text : List ℕ} {given : List Entry} {f body line : List ℕ} → InBody text given f body line
@@ -141,7 +141,7 @@ body-ends {text} {given} {f} {body} {line} a =
     let part = line ++ 10 ∷ [] in
     let one = lines-line line [] a.part in
     let none : NoFrom (lines part) = rw one (begins_from-cut line [] ∙ a.tail, tt) in
-    let whole = body-lines part (body-whole text given f body line a) (inr (line, refl)) none in
+    let whole = body-lines (body-whole a) (inr (line, refl)) none in
     let texts : (a.front ++ a.block) ++ part ≡ text ++ 10 ∷ [] = rw a.is (simp append_assoc) in
     let bodies : body ++ flat_map unquoted (lines part) ≡ (body ++ unquoted line) ++ 10 ∷ [] =
     rw (one, append-nil (unquoted part), unquoted-push line) (sym (append_assoc body (unquoted line) (10 ∷ []))) in

@@ -16,7 +16,7 @@ use Rattle.mbox_text.proofs.TextLines.LineEnds.{line-there}
 
 -- what a front begins with, the text begins with
 pub begins_from-take : (text : List ℕ) (n : ℕ) → begins_from (take n text) ≡ true → begins_from text ≡ true
-begins_from-take text n b = ap begins_from (sym (take-append-drop n text)) ∙ begins_from-more (take n text) (drop n text) b
+begins_from-take text n b = ap begins_from (sym (take-append-drop n text)) ∙ begins_from-more _ (drop n text) b
 
 pub NoneQuotable-append : (a b : List (List ℕ)) → NoneQuotable a → NoneQuotable b → NoneQuotable (a ++ b)
 NoneQuotable-append [] b h h' = h'
@@ -51,9 +51,9 @@ pub taken_none : {text before : List ℕ} → LinesTaken text before before 0
 unfolding lines
 taken_none {before} = grind (arith, append-nil before)
 
-taken_more : {text before body body' : List ℕ} {at : ℕ} (n : ℕ) → LinesTaken text before body at → n ≤ length (drop at text) → Ended (take n (drop at text))
+taken_more : {text before body body' : List ℕ} {at n : ℕ} → LinesTaken text before body at → n ≤ length (drop at text) → Ended (take n (drop at text))
     → NoFrom (lines (take n (drop at text))) → body' ≡ body ++ flat_map unquoted (lines (take n (drop at text))) → LinesTaken text before body' (at + n)
-taken_more {text} {before} {at} n t le ends none is =
+taken_more {text} {before} {at} {n} t le ends none is =
     let x = take n (drop at text) in
     let front = ap lines (take-add at n text) ∙ lines-append x t.ended in
     record {
@@ -61,49 +61,49 @@ taken_more {text} {before} {at} n t le ends none is =
       added = rw (front, flat_map-append unquoted (lines (take at text)) (lines x))
           (is ∙ ap (λ z. z ++ flat_map unquoted (lines x)) t.added
           ∙ append_assoc before (flat_map unquoted (lines (take at text))) (flat_map unquoted (lines x)));
-      ended = rw (take-add at n text) (Ended-append (take at text) t.ended ends);
-      none = rw front (NoFrom-append (lines (take at text)) (lines x) t.none none);
+      ended = rw (take-add at n text) (Ended-append t.ended ends);
+      none = rw front (NoFrom-append _ _ t.none none);
     }
 
 -- lines of which none is quotable
-taken_plain : {text before body body' : List ℕ} {at : ℕ} (n : ℕ) → LinesTaken text before body at → n ≤ length (drop at text) → Ended (take n (drop at text))
+taken_plain : {text before body body' : List ℕ} {at n : ℕ} → LinesTaken text before body at → n ≤ length (drop at text) → Ended (take n (drop at text))
     → NoneQuotable (lines (take n (drop at text))) → body' ≡ body ++ take n (drop at text) → LinesTaken text before body' (at + n)
-taken_plain {text} {body} {at} n t le ends none is =
+taken_plain {text} {body} {at} {n} t le ends none is =
     let x = take n (drop at text) in
-    let same = none-unquoted (lines x) none ∙ concat-lines x in
-    taken_more n t le ends (none-from (lines x) none) (is ∙ ap (λ z. body ++ z) (sym same))
+    let same = none-unquoted _ none ∙ concat-lines x in
+    taken_more t le ends (none-from _ none) (is ∙ ap (λ z. body ++ z) (sym same))
 
 -- the lines before the first quotable one, where a body got them as the code cuts them
-pub taken_found : {text before body body' : List ℕ} {at : ℕ} (n : ℕ) → LinesTaken text before body at → FirstQuotable (take (length text - at) (drop at text)) n
+pub taken_found : {text before body body' : List ℕ} {at n : ℕ} → LinesTaken text before body at → FirstQuotable (take (length text - at) (drop at text)) n
     → body' ≡ body ++ take ((at + n) - at) (drop at text) → LinesTaken text before body' (at + n)
-taken_found {text} {at} n t first is =
+taken_found {text} {at} {n} t first is =
     let f = rw (take_rest text at) at first in
     let size : (at + n) - at ≡ n = omega arith in
-    taken_plain n t (omega (arith, f.within)) f.ended f.none (rw size at is)
+    taken_plain t (omega (arith, f.within)) f.ended f.none (rw size at is)
 
 -- the whole lines of a rest of which no line is quotable
-pub taken_rest : {text before body body' : List ℕ} {at : ℕ} (n : ℕ) → let rest : List ℕ = take (length text - at) (drop at text) in
+pub taken_rest : {text before body body' : List ℕ} {at n : ℕ} → let rest : List ℕ = take (length text - at) (drop at text) in
     LinesTaken text before body at → n ≤ length rest → Ended (take n rest) → NoneQuotable (lines rest)
     → body' ≡ body ++ take ((at + n) - at) (drop at text) → LinesTaken text before body' (at + n)
-taken_rest {text} {at} n t le ends none is =
+taken_rest {text} {at} {n} t le ends none is =
     let D = drop at text in
     let size : (at + n) - at ≡ n = omega arith in
     let ended = rw (take_rest text at) at ends in
     let parts = ap lines (sym (take-append-drop n D)) ∙ lines-append (drop n D) ended in
     let all = rw (take_rest text at) at none in
-    taken_plain n t (rw (take_rest text at) at le) ended (none-front (lines (take n D)) (lines (drop n D)) (rw parts at all)) (rw size at is)
+    taken_plain t (rw (take_rest text at) at le) ended (none-front _ _ (rw parts at all)) (rw size at is)
 
 -- one whole line that begins no message
-pub taken_line : {text before body body' : List ℕ} {at : ℕ} (n : ℕ) → let line : List ℕ = take (length text - at) (drop at text) in
+pub taken_line : {text before body body' : List ℕ} {at n : ℕ} → let line : List ℕ = take (length text - at) (drop at text) in
     LinesTaken text before body at → IsFirstByte (is_byte 10) line (Some n) → begins_from line ≡ false
     → body' ≡ body ++ unquoted (take (n + 1) line) → LinesTaken text before body' (at + (n + 1))
 unfolding lines
-taken_line {text} {at} n t found none is =
+taken_line {text} {at} {n} t found none is =
     let D = drop at text in
     let x = take (n + 1) D in
-    let h = line-there D n (rw (take_rest text at) at found) in
-    let one : lines x ≡ x ∷ [] = rw h.is (lines-line (take n D) [] h.part) in
+    let h = line-there (rw (take_rest text at) at found) in
+    let one : lines x ≡ x ∷ [] = rw h.is (lines-line _ [] h.part) in
     let plain : begins_from x ≡ false =
     false_from_ne_true (begins_from x) (λ b. both_ways (begins_from D) (rw (take_rest text at) at none) (begins_from-take D (n + 1) b)) in
-    taken_more (n + 1) t (omega (arith, h.within)) (inr (take n D, h.is)) (rw one (plain, tt))
+    taken_more t (omega (arith, h.within)) (inr (take n D, h.is)) (rw one (plain, tt))
     (rw (take_rest text at) at is ∙ rw (one, append-nil (unquoted x)) refl)

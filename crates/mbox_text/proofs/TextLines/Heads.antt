@@ -28,7 +28,7 @@ unfolding lines
 first-begins q prefix [] n h = absurd (false≢true h)
 first-begins q [] (c ∷ text) n h =
     let a = and_parts (eqb q c) true h in
-    rw (no-end q c a.0 n.0) (before-begins q c [] (lines text) a.0 (inl refl))
+    rw (no-end q c a.0 n.0) (before-begins q c [] _ a.0 (inl refl))
 first-begins q (r ∷ prefix) (c ∷ text) n h =
     let a = and_parts (eqb q c) (begins_with (r ∷ prefix) text) h in
     rw (no-end q c a.0 n.0) (before-begins q c (r ∷ prefix) (lines text) a.0 (inr (first-begins r prefix text n.1 a.1)))
@@ -54,14 +54,14 @@ unfolding Mbox
 mbox-begins text entry entries h = rw h.2 (begins_from-more h.0 h.1 (block-begins h.3))
 
 -- and a text that has messages is empty or does
-pub mbox-starts : (text : List ℕ) (entries : List Entry) → Mbox text entries → IsMboxText text
+pub mbox-starts : {text : List ℕ} (entries : List Entry) → Mbox text entries → IsMboxText text
 unfolding Mbox
-mbox-starts text [] h = inl h
-mbox-starts text (e ∷ es) h = inr (mbox-begins text e es h)
+mbox-starts [] h = inl h
+mbox-starts {text} (e ∷ es) h = inr (mbox-begins text e es h)
 
 pub mbox-begins-last : (text : List ℕ) (given : List Entry) (last : Entry) → Mbox text (given ++ last ∷ []) → begins_from text ≡ true
 mbox-begins-last text [] last h = mbox-begins text last [] h
-mbox-begins-last text (g ∷ given) last h = mbox-begins text g (given ++ last ∷ []) h
+mbox-begins-last text (g ∷ given) last h = mbox-begins text g _ h
 
 -- how long a text is that begins so, or is a front of it
 longer : (prefix text : List ℕ) → begins_with prefix text ≡ true → length prefix ≤ length text
@@ -84,7 +84,7 @@ from-long text h = longer from_bytes text h
 
 pub from-short : (text : List ℕ) → begins_with text from_bytes ≡ true → begins_from text ≡ false → length text < 5
 unfolding begins_from
-from-short text h n = shorter from_bytes text h n
+from-short text h n = shorter _ text h n
 
 front-rest : (prefix text : List ℕ) → begins_with text prefix ≡ true → (more : List ℕ) × (text ++ more ≡ prefix)
 front-rest prefix [] h = (prefix, refl)
@@ -99,4 +99,4 @@ front-rest (p ∷ prefix) (c ∷ text) h =
 
 -- a front of `From ` can go on to it
 pub from-rest : (text : List ℕ) → begins_with text from_bytes ≡ true → (more : List ℕ) × (text ++ more ≡ from_bytes)
-from-rest text h = front-rest from_bytes text h
+from-rest text h = front-rest _ text h

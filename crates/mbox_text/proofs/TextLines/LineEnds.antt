@@ -21,7 +21,7 @@ pub NoEnd-behind : (s : List ℕ) (n : ℕ) → IsLastByte (is_byte 10) s (Some 
 NoEnd-behind s n h =
     let D = drop (n + 1) s in
     let whole : take (length D) D ≡ D = take_all (length D) D (omega arith) in
-    rw (← whole) (NoEnd-take D (length D)
+    rw (← whole) (NoEnd-take D _
     (λ k l e. h.0.after ((n + 1) + k) (omega arith) (omega (arith, l, length-drop (n + 1) s)) (ap (is_byte 10) (sym (get_or-drop (n + 1) s k 0)) ∙ e)))
 
 -- the line up to the first `\n`
@@ -30,16 +30,16 @@ pub record LineThere (s : List ℕ) (n : ℕ) : Type 0 where
   pub is : take (n + 1) s ≡ take n s ++ 10 ∷ []
   pub part : NoEnd (take n s)
 
-pub line-there : (s : List ℕ) (n : ℕ) → IsFirstByte (is_byte 10) s (Some n) → LineThere s n
-line-there s n h = grind (arith, take_more, eqb-true, NoEnd-take)
+pub line-there : {s : List ℕ} {n : ℕ} → IsFirstByte (is_byte 10) s (Some n) → LineThere s n
+line-there h = grind (arith, take_more, eqb-true, NoEnd-take)
 
 -- no `\n` is there
 pub none-there : (s : List ℕ) → IsFirstByte (is_byte 10) s None → NoEnd s
-none-there s h = rw (← take_all (length s) s (omega arith)) (NoEnd-take s (length s) (λ k l. h k (omega arith) l))
+none-there s h = rw (← take_all (length s) s (omega arith)) (NoEnd-take s _ (λ k l. h k (omega arith) l))
 
-pub line_ends : (text : List ℕ) (n : ℕ) → IsFirstByte (is_byte 10) text (Some n) → IsLine text (n + 1)
+pub line_ends : {text : List ℕ} {n : ℕ} → IsFirstByte (is_byte 10) text (Some n) → IsLine text (n + 1)
 unfolding lines
-line_ends text n found = grind (arith, line-there, lines-line)
+line_ends found = grind (arith, line-there, lines-line)
 
 pub line_alone : (text : List ℕ) → 0 < length text → IsFirstByte (is_byte 10) text None → IsLine text (length text)
 line_alone [] l found = absurd (omega arith)

@@ -106,9 +106,9 @@ unfolding begins_from
 begins_from-starts line = begins_with-starts from_bytes line
 
 -- one `>` more
-pub quotable-mark : (line : List ℕ) (at : ℕ) → at < length line → get_or line at 0 ≡ 62 → quotable (drop at line) ≡ quotable (drop (at + 1) line)
+pub quotable-mark : (line : List ℕ) {at : ℕ} → at < length line → get_or line at 0 ≡ 62 → quotable (drop at line) ≡ quotable (drop (at + 1) line)
 unfolding quotable
-quotable-mark line at h e = rw (drop_more line at 0 h, e) refl
+quotable-mark line {at} h e = rw (drop_more line at 0 h, e) refl
 
 -- no `>` more
 pub quotable-plain : (line : List ℕ) → (get_or line 0 0 ≡ 62 → ⊥) → quotable line ≡ begins_from line
@@ -131,8 +131,8 @@ unfolding unquoted quotable
 unquoted-other [] q = refl
 unquoted-other (c ∷ line) q = grind (arith, cases_Bool (eqb c 62))
 
-pub quotable-stop : (line : List ℕ) (at : ℕ) → (at < length line → get_or line at 0 ≡ 62 → ⊥) → quotable (drop at line) ≡ begins_from (drop at line)
-quotable-stop line at h = grind (arith, quotable-plain, cases_lt, get_or-drop, add-zero, drop_all)
+pub quotable-stop : (line : List ℕ) {at : ℕ} → (at < length line → get_or line at 0 ≡ 62 → ⊥) → quotable (drop at line) ≡ begins_from (drop at line)
+quotable-stop line h = grind (arith, quotable-plain, cases_lt, get_or-drop, add-zero, drop_all)
 
 pub unquoted_cases : (line : List ℕ) {b : Bool} → 0 < length line → get_or line 0 0 ≡ 62 → b ≡ quotable line
     → MatchBool b ((0 < length line) × (unquoted line ≡ drop 1 line)) (unquoted line ≡ line)

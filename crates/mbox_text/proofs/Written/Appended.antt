@@ -16,8 +16,8 @@ pub front_then : (a b c : Option (List ℕ)) (x y z all : List ℕ) → Appends 
 front_then a b c x y z all h f e = grind (arith, append_assoc, Appends-trans)
 
 -- a front of known length
-pub front_at : (bytes : List ℕ) (a b : Option (List ℕ)) (n : ℕ) → Appends a b (take n bytes) → AppendsFront a b bytes
-front_at bytes a b n h = grind (arith, take-append-drop n bytes)
+pub front_at : {bytes : List ℕ} (a b : Option (List ℕ)) (n : ℕ) → Appends a b (take n bytes) → AppendsFront a b bytes
+front_at {bytes} a b n h = grind (arith, take-append-drop n bytes)
 
 -- the next n bytes went out
 pub part_more : (bytes : List ℕ) (a b c : Option (List ℕ)) (at n : ℕ) → Appends a b (take at bytes)

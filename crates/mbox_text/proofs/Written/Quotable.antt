@@ -25,15 +25,15 @@ begins-reads (p ∷ ps) [] h j l = absurd (false≢true h)
 begins-reads (p ∷ ps) (c ∷ t) h zero l = sym (eqb-true p c (and_parts (eqb p c) (begins_with ps t) h).0)
 begins-reads (p ∷ ps) (c ∷ t) h (suc j) l = begins-reads ps t (and_parts (eqb p c) (begins_with ps t) h).1 j (omega arith)
 
-occurs : (text : List ℕ) (i : ℕ) → begins_from (drop i text) ≡ true → OccursAt text from_bytes i
+occurs : {text : List ℕ} {i : ℕ} → begins_from (drop i text) ≡ true → OccursAt text from_bytes i
 unfolding begins_from
-occurs text i h = record {
+occurs {text} {i} h = record {
   fits = omega (arith, from-long (drop i text) h, length-drop i text);
   reads = λ j l. sym (get_or-drop i text j 0) ∙ begins-reads from_bytes (drop i text) h j l;
 }
 
-no_place_found : (text : List ℕ) → FindsNeedle text from_bytes 0 None → NoPlace text
-no_place_found text h = record { none = λ i b. let o = occurs text i b in let f = o.fits in h i (omega arith) (omega (arith, f)) o }
+no_place_found : {text : List ℕ} → FindsNeedle text from_bytes 0 None → NoPlace text
+no_place_found h = record { none = λ i b. let o = occurs b in let f = o.fits in h i (omega arith) (omega (arith, f)) o }
 
 quotable-place : (line : List ℕ) → quotable line ≡ true → (i : ℕ) × (begins_from (drop i line) ≡ true)
 unfolding quotable
@@ -49,9 +49,9 @@ plain-front line rest n =
     elim (cases_Bool (quotable line)) [
       | inl q ↦
           let r = quotable-place line q in
-          let long = from-long (drop r.0 line) r.1 in
+          let long = from-long _ r.1 in
           let le : r.0 ≤ length line = omega (arith, long, length-drop r.0 line) in
-          absurd (n.none r.0 (rw (drop-append-le r.0 line rest le) (begins_from-more (drop r.0 line) rest r.1)))
+          absurd (n.none r.0 (rw (drop-append-le r.0 line rest le) (begins_from-more _ rest r.1)))
       | inr q ↦ q
     ]
 
@@ -60,20 +60,20 @@ behind line rest n = record { none = λ i b. n.none (length line + i) (rw (drop-
 
 none-quotable : (ls : List (List ℕ)) → NoPlace (concat ls) → NoneQuotable ls
 none-quotable [] n = tt
-none-quotable (l ∷ ls) n = (plain-front l (concat ls) n, none-quotable ls (behind l (concat ls) n))
+none-quotable (l ∷ ls) n = (plain-front l _ n, none-quotable ls (behind l (concat ls) n))
 
 no_lines : {text : List ℕ} → NoPlace text → NoneQuotable (lines text)
-no_lines {text} n = none-quotable (lines text) (rw (concat-lines text) n)
+no_lines {text} n = none-quotable _ (rw (concat-lines text) n)
 
 -- no `From ` ends before the first one begins
-no-place-before : (text : List ℕ) (n f : ℕ) → FindsNeedle text from_bytes 0 (Some n) → f ≤ n → NoPlace (take f text)
-no-place-before text n f h le = record {
+no-place-before : {text : List ℕ} {n f : ℕ} → FindsNeedle text from_bytes 0 (Some n) → f ≤ n → NoPlace (take f text)
+no-place-before {text} {f} h le = record {
   none = λ i b.
-      let long = from-long (drop i (take f text)) b in
+      let long = from-long _ b in
       let fits : i + 5 ≤ f = omega (arith, long, length-drop i (take f text), length-take f text) in
       let cut : f ≡ i + (f - i) = omega arith in
       let part : drop i (take f text) ≡ take (f - i) (drop i text) = ap (λ m. drop i (take m text)) cut ∙ drop-take i (f - i) text in
-      h.0.before i (omega arith) (omega arith) (occurs text i (begins_from-take (drop i text) (f - i) (ap begins_from (sym part) ∙ b)));
+      h.0.before i (omega arith) (omega arith) (occurs (begins_from-take _ (f - i) (ap begins_from (sym part) ∙ b)));
 }
 
 -- no line up to a place is quotable, and a line or the text ends there
@@ -86,22 +86,22 @@ pub plain_none : {text : List ℕ} → Plain text 0
 unfolding lines
 plain_none = grind (arith)
 
-pub plain_more : {text : List ℕ} {at : ℕ} (n : ℕ) → Plain text at → Plain (drop at text) n → Plain text (at + n)
-plain_more {text} {at} n p q = grind (arith, take-add, length-drop, Ended-append, lines-append, NoneQuotable-append)
+pub plain_more : {text : List ℕ} {at n : ℕ} → Plain text at → Plain (drop at text) n → Plain text (at + n)
+plain_more {text} {at} p q = grind (arith, take-add, length-drop, Ended-append, lines-append, NoneQuotable-append)
 
 -- the lines before a first `From `
-plain_before : {text : List ℕ} (n : ℕ) {f : ℕ} → FindsNeedle text from_bytes 0 (Some n) → f ≤ n → Ended (take f text) → Plain text f
-plain_before {text} n {f} h le ended = grind (arith, no_lines (no-place-before text n f h le))
+plain_before : {text : List ℕ} {n f : ℕ} → FindsNeedle text from_bytes 0 (Some n) → f ≤ n → Ended (take f text) → Plain text f
+plain_before {text} {n} {f} h le ended = grind (arith, no_lines (no-place-before h le))
 
 -- the same behind lines of which none is quotable, as the code cuts them
-pub plain_front : {text : List ℕ} {at : ℕ} (n f : ℕ) → let before : List ℕ = take ((at + n) - at) (drop at text) in
+pub plain_front : {text : List ℕ} {at n f : ℕ} → let before : List ℕ = take ((at + n) - at) (drop at text) in
     Plain text at → FindsNeedle (take (length text - at) (drop at text)) from_bytes 0 (Some n) → f ≤ length before → Ended (take f before) → Plain text (at + f)
-plain_front {text} {at} n f p found within ended =
+plain_front {text} {at} {n} {f} p found within ended =
     let D = drop at text in
     let size : (at + n) - at ≡ n = omega arith in
     let ends = rw size at ended in
     let le : f ≤ n = omega (arith, rw size at within, length-take n D) in
-    plain_more f p (plain_before n (rw (take_rest text at) at found) le (rw (take-take f n D le) at ends))
+    plain_more p (plain_before (rw (take_rest text at) at found) le (rw (take-take f n D le) at ends))
 
 -- and one line more that is not quotable
 pub plain_line : {text : List ℕ} {at n : ℕ} → let line : List ℕ =
@@ -110,15 +110,15 @@ pub plain_line : {text : List ℕ} {at n : ℕ} → let line : List ℕ =
 plain_line {text} {at} {n} p is not =
     let h = rw (take_rest text at) at is in
     let q = rw (take_rest text at) at not in
-    plain_more n p (record { within = h.within; ends = h.ends; none = rw h.line (quotable-line h ∙ q, tt) })
+    plain_more p (record { within = h.within; ends = h.ends; none = rw h.line (quotable-line h ∙ q, tt) })
 
-plain_rest : (text : List ℕ) → NoneQuotable (lines text) → Plain text (length text)
-plain_rest text none = grind (arith, take_all)
+plain_rest : {text : List ℕ} → NoneQuotable (lines text) → Plain text (length text)
+plain_rest none = grind (arith, take_all)
 
 pub finds_none : {text : List ℕ} {at : ℕ} → Plain text at → FindsNeedle (take (length text - at) (drop at text)) from_bytes 0 None → NoneQuotable (lines text)
 finds_none {text} {at} p found =
     let D = drop at text in
-    let all = plain_more (length D) p (plain_rest D (no_lines (no_place_found D (rw (take_rest text at) at found)))) in
+    let all = plain_more p (plain_rest (no_lines (no_place_found (rw (take_rest text at) at found)))) in
     let whole : take (at + length D) text ≡ text = take_all (at + length D) text (omega (arith, p.within, length-drop at text)) in
     rw whole at all.none
 

@@ -129,9 +129,9 @@ spelled-block e b h =
         others = qs ++ (10 ∷ []) ∷ [];
         is =
             lines-line f (flat_map quoted (lines e.body) ++ (missing_end e.body ++ 10 ∷ [])) h
-            ∙ rw (others, lines-concat (qs ++ (10 ∷ []) ∷ []) (whole-blank qs w)) refl;
+            ∙ rw (others, lines-concat _ (whole-blank qs w)) refl;
         head = begins_from-more f (10 ∷ []) b;
-        tail = NoFrom-append qs ((10 ∷ []) ∷ []) (no-from-quoted ls) (refl, tt);
+        tail = NoFrom-append qs _ (no-from-quoted ls) (refl, tt);
         from_line = sym (unended-push f h);
         body = sym (rw (blank-push qs, read-quoted ls) (concat-lines body));
       },

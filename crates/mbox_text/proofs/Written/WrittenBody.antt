@@ -24,9 +24,9 @@ quoted-marked : (line : List ℕ) → quotable line ≡ true → quoted line ≡
 unfolding quoted
 quoted-marked line q = rw q refl
 
-quoted-plain : (a : List ℕ) → quotable a ≡ false → quoted a ≡ a
+quoted-plain : {a : List ℕ} → quotable a ≡ false → quoted a ≡ a
 unfolding quoted
-quoted-plain a n = rw n refl
+quoted-plain n = rw n refl
 
 front-length : (text : List ℕ) (n : ℕ) → 0 < n → n ≤ length text → 0 < length (take n text)
 front-length [] n s l = absurd (omega arith)
@@ -55,7 +55,7 @@ pub record Part (text : List ℕ) (n : ℕ) (bytes : List ℕ) : Type 0 where
 -- lines that stay as they are
 plain : (ls : List (List ℕ)) → NoneQuotable ls → flat_map quoted ls ≡ concat ls
 plain [] n = refl
-plain (l ∷ ls) n = rw (quoted-plain l n.0, plain ls n.1) refl
+plain (l ∷ ls) n = rw (quoted-plain n.0, plain ls n.1) refl
 
 pub found_part : (body : List ℕ) (at n : ℕ) → FirstQuotable (take (length body - at) (drop at body)) n
     → Part (drop at body) n (take ((at + n) - at) (drop at body))
@@ -79,10 +79,10 @@ split-at text {n} (inr e) =
     ap (λ z. flat_map quoted (lines z)) (sym (take-append-drop n text)) ∙ ap (flat_map quoted) (lines-append (drop n text) e)
     ∙ flat_map-append quoted (lines (take n text)) (lines (drop n text))
 
-written_more : {body : List ℕ} {old mid : Option (List ℕ)} (new : Option (List ℕ)) {at n : ℕ} {bytes : List ℕ}
+written_more : {body : List ℕ} {old mid new : Option (List ℕ)} {at n : ℕ} {bytes : List ℕ}
     → WrittenTo body old mid at → at < length body → Part (drop at body) n bytes
     → Appends mid new bytes → WrittenTo body old new (at + n)
-written_more {body} {old} {mid} new {at} {n} {bytes} w lt p h =
+written_more {body} {old} {mid} {new} {at} {n} {bytes} w lt p h =
     let x = take n (drop at body) in
     let front = take-add at n body in
     let ended : Ended (take at body) = elim (w.ends) [ inl e ↦ absurd (omega (arith, e, lt)) | inr e ↦ e ] in
@@ -92,23 +92,23 @@ written_more {body} {old} {mid} new {at} {n} {bytes} w lt p h =
       within = omega (arith, w.within, p.within, length-drop at body);
       ends = elim (p.ends) [
         | inl e ↦ inl (omega (arith, e, w.within, length-drop at body))
-        | inr e ↦ inr (rw front (Ended-append (take at body) ended e))
+        | inr e ↦ inr (rw front (Ended-append ended e))
       ];
       written = rw lines_are (Appends-trans old mid new (flat_map quoted (lines (take at body))) bytes w.written h);
     }
 
-pub written_found : {body : List ℕ} {old mid : Option (List ℕ)} (new : Option (List ℕ)) {at : ℕ} (n : ℕ)
+pub written_found : {body : List ℕ} {old mid new : Option (List ℕ)} {at n : ℕ}
     → WrittenTo body old mid at → FirstQuotable (take (length body - at) (drop at body)) n
     → Appends mid new (take ((at + n) - at) (drop at body)) → WrittenTo body old new (at + n)
-written_found {body} new {at} n w found h =
-    let f = rw (take_rest body at) at found in written_more new w (omega (arith, f.within, length-drop at body)) (found_part body at n found) h
+written_found {body} {new} {at} {n} w found h =
+    let f = rw (take_rest body at) at found in written_more w (omega (arith, f.within, length-drop at body)) (found_part body at n found) h
 
-pub written_line : (body : List ℕ) (old mid new : Option (List ℕ)) (at n len : ℕ)
+pub written_line : {body : List ℕ} {old mid new : Option (List ℕ)} (at : ℕ) {n len : ℕ}
     → WrittenTo body old mid (at + n) → FirstQuotable (take (length body - at) (drop at body)) n
     → IsLine (take (length body - (at + n)) (drop (at + n) body)) len → Appends mid new (62 ∷ take (((at + n) + len) - (at + n)) (drop (at + n) body))
     → WrittenTo body old new ((at + n) + len)
-written_line body old mid new at n len w found line h =
-    let f = rw (take_rest body at) at found in written_more new w (omega (arith, f.within, length-drop at body)) (line_part body at n len found line) h
+written_line {body} {new} at {n} {len} w found line h =
+    let f = rw (take_rest body at) at found in written_more w (omega (arith, f.within, length-drop at body)) (line_part body at n len found line) h
 
 pub written_front : {body : List ℕ} {old mid : Option (List ℕ)} (new : Option (List ℕ)) {at n : ℕ} {bytes : List ℕ}
     → WrittenTo body old mid at → Part (drop at body) n bytes
@@ -117,7 +117,7 @@ written_front {body} {old} {mid} new {at} {n} {bytes} w p h =
     let D = drop at body in
     let F = flat_map quoted (lines (take at body)) in
     let R = flat_map quoted (lines (drop n D)) in
-    front_then old mid new F bytes R (flat_map quoted (lines body)) w.written h
+    front_then old mid new F bytes R _ w.written h
     (split-at body w.ends ∙ ap (λ z. F ++ z) (split-at D p.ends ∙ ap (λ z. z ++ R) p.is))
 
 -- the lines behind the last quotable one
@@ -127,7 +127,7 @@ pub written_rest : {T E : Type 0} (r : Result T E) {body : List ℕ} {old mid : 
 written_rest r {body} {old} {mid} new {at} w none h =
     let D = drop at body in
     let F = flat_map quoted (lines (take at body)) in
-    let same : flat_map quoted (lines D) ≡ D = plain (lines D) (rw (take_rest body at) at none) ∙ concat-lines D in
+    let same : flat_map quoted (lines D) ≡ D = plain _ (rw (take_rest body at) at none) ∙ concat-lines D in
     rw (split-at body w.ends, same) (wrote r old mid new F D w.written (rw (take_rest body at) at h))
 
 -- the last byte of a body tells whether it lacks its end
@@ -139,7 +139,7 @@ unfolding missing_end
 missing-empty body e = rw (nil_from_length body (eqb-true (length body) 0 e)) refl
 
 pub missing-some : (body : List ℕ) → eqb (length body) 0 ≡ false → (get_or body (length body - 1) 0 ≡ 10 → ⊥) → missing_end body ≡ 10 ∷ []
-missing-some body e h = ap missing_end (last-is e) ∙ missing-part (take (length body - 1) body) (get_or body (length body - 1) 0) [] (ne_eqb _ 10 h, tt)
+missing-some body e h = ap missing_end (last-is e) ∙ missing-part (take (length body - 1) body) _ [] (ne_eqb _ 10 h, tt)
 
 pub missing-none : (body : List ℕ) → eqb (length body) 0 ≡ false → get_or body (length body - 1) 0 ≡ 10 → missing_end body ≡ []
 missing-none body e h = grind (arith, last-is e, missing-ended (take (length body - 1) body))

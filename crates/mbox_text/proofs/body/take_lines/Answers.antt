@@ -14,8 +14,8 @@ loop-n-preserved c =
     let at = c.loop-n.at in
     let n = c.in-Some.n in
     let copied = pushed (take ((at + n) - at) (drop at text)) refl c.in_ok-extend_from_slice.was c.extend_from_slice.ensures.items in
-    let t = taken_found n c.loop-n.invariant c.in-Some.ensures copied in
-    taken_line c.in-Some-memchr.end t c.in-Some-memchr.ensures
+    let t = taken_found c.loop-n.invariant c.in-Some.ensures copied in
+    taken_line t c.in-Some-memchr.ensures
     (sym c.begins_with_from.ensures ∙ c.if-begins_with_from.false) c.in_ok-add_unquoted-in-Some-memchr.ensures
 
 pub returns-then-begins_with_from : goal.returns-then-begins_with_from
@@ -24,7 +24,7 @@ returns-then-begins_with_from c =
     let at = c.loop-n.at in
     let n = c.in-Some.n in
     let copied = pushed (take ((at + n) - at) (drop at text)) refl c.in_ok-extend_from_slice.was c.extend_from_slice.ensures.items in
-    let t = taken_found n c.loop-n.invariant c.in-Some.ensures copied in
+    let t = taken_found c.loop-n.invariant c.in-Some.ensures copied in
     let from = sym c.begins_with_from.ensures ∙ c.if-begins_with_from.true in
     record { within = t.within; added = t.added; ended = t.ended; none = t.none; stops = inl (rw (take_rest text (at + n)) at from) }
 
@@ -34,9 +34,9 @@ returns-in-None c =
     let at = c.loop-n.at in
     let n = c.in-Some.n in
     let copied = pushed (take ((at + n) - at) (drop at text)) refl c.in_ok-extend_from_slice.was c.extend_from_slice.ensures.items in
-    let t = taken_found n c.loop-n.invariant c.in-Some.ensures copied in
+    let t = taken_found c.loop-n.invariant c.in-Some.ensures copied in
     let rest = rw (take_rest text (at + n)) at c.in-None.ensures in
-    record { within = t.within; added = t.added; ended = t.ended; none = t.none; stops = inr (none-there (drop (at + n) text) rest) }
+    record { within = t.within; added = t.added; ended = t.ended; none = t.none; stops = inr (none-there _ rest) }
 
 pub returns : goal.returns
 returns c =
@@ -45,6 +45,6 @@ returns c =
     let n = c.whole_len-n.result in
     let w = c.whole_len-n.ensures in
     let copied = pushed (take ((at + n) - at) (drop at text)) refl c.in_ok-extend_from_slice-2.was c.extend_from_slice-2.ensures.items in
-    let t = taken_rest n c.loop-n.invariant w.within w.ended c.in_default.ensures copied in
+    let t = taken_rest c.loop-n.invariant w.within w.ended c.in_default.ensures copied in
     let rest = rw (take_rest text at, drop-drop) at w.rest in
     record { within = t.within; added = t.added; ended = t.ended; none = t.none; stops = inr rest }

@@ -6,8 +6,8 @@ use Rattle.mbox_text.proofs.build.add_cleaned.Goals as goal
 
 pub returns-then-is_empty : goal.returns-then-is_empty
 returns-then-is_empty c =
-    extended_by c.extend_from_slice.result c.args.line.now.items c.extend_from_slice.ensures.items
-    (cleaned-none c.args.sender.now (eqb-true _ _ (sym c.if-is_empty.ensures)))
+    extended_by _ _ c.extend_from_slice.ensures.items
+    (cleaned-none _ (eqb-true _ _ (sym c.if-is_empty.ensures)))
 
 pub returns : goal.returns
 returns c =
@@ -15,4 +15,4 @@ returns c =
     let G = λ (z : List ℕ). c.args.line.now.items ++ z in
     c.loop-byte.invariant
     ∙ ap F (take_all c.loop-byte.byte-index c.args.sender.now (omega arith))
-    ∙ ap G (sym (cleaned-some c.args.sender.now (eqb-false _ _ (sym c.if-is_empty.ensures))))
+    ∙ ap G (sym (cleaned-some _ (eqb-false _ _ (sym c.if-is_empty.ensures))))

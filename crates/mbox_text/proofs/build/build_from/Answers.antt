@@ -4,8 +4,8 @@ use Rattle.mbox_text.proofs.build.build_from.Goals as goal
 
 pub returns-clause-from_line : goal.returns-clause-from_line
 returns-clause-from_line c =
-    is-built c.args.sender.now c.args.rest.now c.memchr.result c.memchr.ensures (sym c.if-is_some.ensures) c.in_ok-join.ensures
+    is-built _ _ _ c.memchr.ensures (sym c.if-is_some.ensures) c.in_ok-join.ensures
 
 pub returns-clause-line_end_in_rest : goal.returns-clause-line_end_in_rest
 returns-clause-line_end_in_rest c =
-    (λ e. absurd (cc), λ there. absurd (not-found c.args.rest.now c.memchr.result c.memchr.ensures (sym c.if-is_some.ensures) there))
+    (λ e. absurd (cc), λ there. absurd (not-found _ _ c.memchr.ensures (sym c.if-is_some.ensures) there))

@@ -12,8 +12,8 @@ returns c =
     let was = c.in_ok-add_cleaned.ensures ∙ ap A c.in_ok-line.ensures.items in
     elim (c.if-not-is_empty.branch) [
       | then-not-is_empty+in_ok-push+in_ok-extend_from_slice w ↦
-          let spaced = pushed (32 ∷ []) was w.in_ok-push.was w.push.ensures.items in
-          rw w.line-is (pushed c.args.rest.now spaced w.in_ok-extend_from_slice.was w.extend_from_slice.ensures.items
-          ∙ built-some c.args.sender.now c.args.rest.now (eqb-false _ _ (sym w.if-not-is_empty.ensures)))
-      | else-not-is_empty w ↦ rw w.line-is (was ∙ built-none c.args.sender.now c.args.rest.now (eqb-true _ _ (sym w.if-not-is_empty.ensures)))
+          let spaced = pushed _ was w.in_ok-push.was w.push.ensures.items in
+          rw w.line-is (pushed _ spaced w.in_ok-extend_from_slice.was w.extend_from_slice.ensures.items
+          ∙ built-some c.args.sender.now _ (eqb-false _ _ (sym w.if-not-is_empty.ensures)))
+      | else-not-is_empty w ↦ rw w.line-is (was ∙ built-none c.args.sender.now _ (eqb-true _ _ (sym w.if-not-is_empty.ensures)))
     ]

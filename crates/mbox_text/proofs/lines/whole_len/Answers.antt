@@ -5,4 +5,4 @@ pub returns-in-Some-clause-rest : goal.returns-in-Some-clause-rest
 returns-in-Some-clause-rest c = NoEnd-behind c.args.text.now c.in-Some.n c.in-Some.ensures
 
 pub returns-in-None-clause-rest : goal.returns-in-None-clause-rest
-returns-in-None-clause-rest c = none-there c.args.text.now c.in-None.ensures
+returns-in-None-clause-rest c = none-there _ c.in-None.ensures

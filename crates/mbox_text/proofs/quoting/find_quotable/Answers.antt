@@ -9,7 +9,7 @@ pub returns-then-is_quotable : goal.returns-then-is_quotable
 returns-then-is_quotable c =
     let w = c.whole_len.ensures in
     finds_some
-    (plain_front c.in-Some.n c.whole_len.result c.loop-n.invariant (rw c.new-finder.ensures at c.in-Some.ensures) w.within w.ended)
+    (plain_front c.loop-n.invariant (rw c.new-finder.ensures at c.in-Some.ensures) w.within w.ended)
     (sym c.is_quotable.ensures ∙ c.if-is_quotable.true)
 
 pub loop-n-preserved : goal.loop-n-preserved
@@ -18,7 +18,7 @@ loop-n-preserved c =
     let front = c.loop-n.at + c.whole_len.result in
     let w = c.whole_len.ensures in
     plain_line
-    (plain_front c.in-Some.n c.whole_len.result c.loop-n.invariant (rw c.new-finder.ensures at c.in-Some.ensures) w.within w.ended)
+    (plain_front c.loop-n.invariant (rw c.new-finder.ensures at c.in-Some.ensures) w.within w.ended)
     c.line_len.ensures (sym c.is_quotable.ensures ∙ c.if-is_quotable.false)
 
 pub returns : goal.returns

@@ -3,7 +3,7 @@ use Rattle.mbox_text.proofs.FromLine.BuiltLines.{before-found, before-none}
 use Rattle.mbox_text.proofs.sender.first_space.Goals as goal
 
 pub returns-in-Some-clause-before : goal.returns-in-Some-clause-before
-returns-in-Some-clause-before c = before-found c.args.bytes.now c.in-Some.at c.in-Some.ensures
+returns-in-Some-clause-before c = before-found _ c.in-Some.ensures
 
 pub returns-in-None-clause-before : goal.returns-in-None-clause-before
-returns-in-None-clause-before c = take_all _ c.args.bytes.now (omega arith) ∙ before-none c.args.bytes.now c.in-None.ensures
+returns-in-None-clause-before c = take_all _ c.args.bytes.now (omega arith) ∙ before-none c.in-None.ensures

@@ -7,13 +7,13 @@ use Rattle.mbox_text.proofs.sender.without_spaces.Goals.{then-loop-at-test+else-
 pub loop-at-preserved : goal.loop-at-preserved
 loop-at-preserved c = record {
   within = omega arith;
-  same = sym (past-mark c.args.bytes.now c.loop-at.at c.loop-at-test.true c.if-bytes-at-eq32.true) ∙ c.loop-at.invariant.same;
+  same = sym (past-mark _ c.loop-at-test.true c.if-bytes-at-eq32.true) ∙ c.loop-at.invariant.same;
 }
 
 pub returns : goal.returns
 returns c =
     take_rest c.args.bytes.now c.loop-at.at
-    ∙ sym (past-stop c.args.bytes.now c.loop-at.at (λ l e. elim (c.loop-at-test.branch) [
+    ∙ sym (past-stop c.args.bytes.now (λ l e. elim (c.loop-at-test.branch) [
       | then-loop-at-test+else-bytes-at-eq32 w ↦ w.if-bytes-at-eq32.false e
       | else-loop-at-test w ↦ absurd (omega (arith, w.loop-at-test.false, l))
     ]))

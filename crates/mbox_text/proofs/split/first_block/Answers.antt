@@ -8,10 +8,10 @@ returns-in_ok-from_slice-in-Some c =
     let text = c.args.text.now in
     let head = c.in-Some.head in
     let body = rw (take_rest text (head + 1)) at c.in_ok-body-in-Some.ensures in
-    block_there text head c.in_ok-body-in-Some.body.len (record { from_line = c.new.result; body = c.new-in-Some.result }) c.requires c.in-Some.ensures
+    block_there c.requires c.in-Some.ensures
     (rw c.new-in-Some.ensures body) (c.new.ensures ∙ c.in_ok-from_slice-in-Some.ensures.items)
 
 pub returns-in_ok-from_slice-in-None : goal.returns-in_ok-from_slice-in-None
 returns-in_ok-from_slice-in-None c =
-    block_alone (record { from_line = c.new-in-None.result; body = c.new-in-None-3.result }) c.requires c.in-None.ensures
+    block_alone c.requires c.in-None.ensures
     (c.new-in-None.ensures ∙ c.in_ok-from_slice-in-None.ensures.items) (c.new-in-None-3.ensures ∙ c.new-in-None-2.ensures.items)

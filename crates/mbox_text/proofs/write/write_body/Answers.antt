@@ -7,21 +7,21 @@ loop-n-init g c = written_none
 
 pub loop-n-preserved : goal.loop-n-preserved
 loop-n-preserved g c =
-    let w = written_found _ c.in-Some.n c.loop-n.invariant c.in-Some.ensures c.in_ok-write_bytes.ensures.written in
-    written_line c.args.body.now _ _ _ c.loop-n.at c.in-Some.n c.line_len-len.result
+    let w = written_found c.loop-n.invariant c.in-Some.ensures c.in_ok-write_bytes.ensures.written in
+    written_line _
     w c.in-Some.ensures c.line_len-len.ensures c.in_ok-write_quoted.ensures.written
 
 pub returns-in_err-write_bytes-clause-written : goal.returns-in_err-write_bytes-clause-written
 returns-in_err-write_bytes-clause-written g c =
     MatchResult-from_err c.from_residual.result _ _ c.from_residual.ensures.0
-    (λ _. written_front _ c.loop-n.invariant (found_part c.args.body.now c.loop-n.at c.in-Some.n c.in-Some.ensures) c.in_err-write_bytes.ensures.written)
+    (λ _. written_front _ c.loop-n.invariant (found_part _ _ _ c.in-Some.ensures) c.in_err-write_bytes.ensures.written)
 
 pub returns-in_err-write_quoted-clause-written : goal.returns-in_err-write_quoted-clause-written
 returns-in_err-write_quoted-clause-written g c =
-    let w = written_found _ c.in-Some.n c.loop-n.invariant c.in-Some.ensures c.in_ok-write_bytes.ensures.written in
-    let part = line_part c.args.body.now c.loop-n.at c.in-Some.n c.line_len-len.result c.in-Some.ensures c.line_len-len.ensures in
+    let w = written_found c.loop-n.invariant c.in-Some.ensures c.in_ok-write_bytes.ensures.written in
+    let part = line_part _ _ _ _ c.in-Some.ensures c.line_len-len.ensures in
     MatchResult-from_err c.from_residual-in_err-write_quoted.result _ _ c.from_residual-in_err-write_quoted.ensures.0
     (λ _. written_front _ w part c.in_err-write_quoted.ensures.written)
 
 pub returns-clause-written : goal.returns-clause-written
-returns-clause-written g c = written_rest c.write_bytes-2.result _ c.loop-n.invariant c.in_default.ensures c.write_bytes-2.ensures.written
+returns-clause-written g c = written_rest _ _ c.loop-n.invariant c.in_default.ensures c.write_bytes-2.ensures.written

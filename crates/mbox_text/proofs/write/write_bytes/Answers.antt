@@ -7,10 +7,10 @@ use Rattle.mbox_text.proofs.write.write_bytes.Goals.{in-Ok, in-Err+else-ne}
 
 pub returns-in-Ok-eq0-clause-written : goal.returns-in-Ok-eq0-clause-written
 returns-in-Ok-eq0-clause-written g c =
-    front_at c.args.bytes.now _ _ _ (part_more c.args.bytes.now _ _ _ c.writes.at c.in-Ok-eq0.field-0 c.writes.invariant.written c.in-Ok-eq0.ensures.bytes)
+    front_at _ _ _ (part_more _ _ _ _ _ _ c.writes.invariant.written c.in-Ok-eq0.ensures.bytes)
 
 pub returns-then-ne-clause-written : goal.returns-then-ne-clause-written
-returns-then-ne-clause-written g c = front_at c.args.bytes.now _ _ c.writes.at (Appends-kept _ _ _ _ c.writes.invariant.written c.in-Err.ensures.bytes)
+returns-then-ne-clause-written g c = front_at _ _ _ (Appends-kept _ _ _ _ c.writes.invariant.written c.in-Err.ensures.bytes)
 
 pub writes-preserved : goal.writes-preserved
 writes-preserved g c =
@@ -19,11 +19,11 @@ writes-preserved g c =
         within =
             let bound = rw (take_rest c.args.bytes.now c.writes.at) at w.in-Ok.ensures.bound in
             omega (arith, bound, length-drop c.writes.at c.args.bytes.now, c.writes.invariant.within);
-        written = part_more c.args.bytes.now _ _ _ c.writes.at w.in-Ok.n c.writes.invariant.written w.in-Ok.ensures.bytes;
+        written = part_more _ _ _ _ _ _ c.writes.invariant.written w.in-Ok.ensures.bytes;
       })
       | in-Err+else-ne w ↦
           rw w.at-is (record { within = c.writes.invariant.within; written = Appends-kept _ _ _ _ c.writes.invariant.written w.in-Err.ensures.bytes })
     ]
 
 pub returns-clause-written : goal.returns-clause-written
-returns-clause-written g c = front_at c.args.bytes.now _ _ c.writes.at c.writes.invariant.written
+returns-clause-written g c = front_at _ _ _ c.writes.invariant.written

@@ -2,10 +2,10 @@ use Rattle.mbox_text.proofs.Splitting.Giving.{fed_taken, fed_never, fed_part}
 use Rattle.mbox_text.proofs.splitter.Splitter.feed.Goals as goal
 
 pub returns-clause-fed : goal.returns-clause-fed
-returns-clause-fed c = fed_taken c.take_piece-taken.result c.args.self.now _ c.args.piece.now _ _ c.is_err-self.ensures.value c.take_piece-taken.ensures.moved
+returns-clause-fed c = fed_taken _ _ _ _ _ _ c.is_err-self.ensures.value c.take_piece-taken.ensures.moved
 
 pub returns-clause-no_from_line : goal.returns-clause-no_from_line
-returns-clause-no_from_line c = fed_never c.take_piece-taken.result c.args.self.now c.args.piece.now _ _ c.take_piece-taken.ensures.stopped
+returns-clause-no_from_line c = fed_never c.args.piece.now c.take_piece-taken.ensures.stopped
 
 pub returns-clause-out_of_memory : goal.returns-clause-out_of_memory
-returns-clause-out_of_memory c = fed_part c.take_piece-taken.result c.args.self.now c.args.piece.now _ _ c.take_piece-taken.ensures.stopped
+returns-clause-out_of_memory c = fed_part _ c.take_piece-taken.ensures.stopped

@@ -17,18 +17,18 @@ returns-in_err-close_with-in-Some-clause-no_from_line c =
 
 pub returns-then-is_empty-clause-last : goal.returns-then-is_empty-clause-last
 returns-then-is_empty-clause-last c =
-    ends_none c.args.self c.in-None.is
+    ends_none c.in-None.is
     (nil_from_length c.args.self.line.items (omega (arith, eqb-true (vec_len c.args.self.line) 0 (sym c.if-is_empty.ensures), c.args.self.line.ok)))
 
 pub returns-then-is_empty-clause-no_from_line : goal.returns-then-is_empty-clause-no_from_line
 returns-then-is_empty-clause-no_from_line c =
-    short_none c.args.self (Ok None) (λ e. absurd (cc)) c.in-None.is
+    short_none (λ e. absurd (cc)) c.in-None.is
     (nil_from_length c.args.self.line.items (omega (arith, eqb-true (vec_len c.args.self.line) 0 (sym c.if-is_empty.ensures), c.args.self.line.ok)))
 
 pub returns-then-not-begins_with_from-clause-no_from_line : goal.returns-then-not-begins_with_from-clause-no_from_line
 returns-then-not-begins_with_from-clause-no_from_line c =
     let some = eqb-false (vec_len c.args.self.line) 0 (sym c.if-is_empty.ensures) in
-    short_refused c.args.self (Err _) refl c.in-None.is (omega (arith, some, c.args.self.line.ok))
+    short_refused refl c.in-None.is (omega (arith, some, c.args.self.line.ok))
     c.deref-in-None.ensures.value (sym c.if-not-begins_with_from.ensures)
 
 pub returns-in_ok-close_with-in-Some-clause-last : goal.returns-in_ok-close_with-in-Some-clause-last
@@ -36,7 +36,7 @@ returns-in_ok-close_with-in-Some-clause-last c =
     let F = λ (v : PartialMessage). v.from_line.items in
     let B = λ (v : PartialMessage). chopped (v.body.items ++ unquoted c.deref.result.now) in
     let e = c.in_ok-close_with-in-Some.ensures in
-    ends_some c.args.self _
+    ends_some _
     (ends_body c.args.self _ c.deref.result.now c.in-Some.is c.deref.ensures.value
     (e.from_line ∙ ap F c.in-Some.message-is) (e.body ∙ ap B c.in-Some.message-is))
 
@@ -46,8 +46,8 @@ returns-in_ok-close_with-in-Some-clause-no_from_line c =
 
 pub returns-else-not-begins_with_from-clause-last : goal.returns-else-not-begins_with_from-clause-last
 returns-else-not-begins_with_from-clause-last c =
-    ends_some c.args.self (record { from_line = c.new.result; body = c.new-in-None-2.result })
-    (ends_head c.args.self _ c.in-None.is c.deref-in-None.ensures.value (sym c.if-not-begins_with_from.ensures)
+    ends_some _
+    (ends_head c.args.self c.in-None.is c.deref-in-None.ensures.value (sym c.if-not-begins_with_from.ensures)
     c.new.ensures (c.new-in-None-2.ensures ∙ c.new-in-None.ensures.items))
 
 pub returns-else-not-begins_with_from-clause-no_from_line : goal.returns-else-not-begins_with_from-clause-no_from_line

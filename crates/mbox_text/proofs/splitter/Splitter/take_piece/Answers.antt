@@ -5,7 +5,7 @@ use Rattle.mbox_text.proofs.Splitting.Giving.{gives_nothing, gives_then, stops_b
 use Rattle.mbox_text.proofs.splitter.Splitter.take_piece.Goals as goal
 
 pub loop-at-init : goal.loop-at-init
-loop-at-init c = record { within = omega arith; same = refl; gives = gives_nothing c.args.self.now c.args.out.now.items }
+loop-at-init c = record { within = omega arith; same = refl; gives = gives_nothing c.args.self.now }
 
 pub loop-at-preserved : goal.loop-at-preserved
 loop-at-preserved c =
@@ -17,7 +17,7 @@ loop-at-preserved c =
       within = omega (arith, length-drop at piece, w, c.loop-at.invariant.within);
       same = e.same ∙ c.loop-at.invariant.same;
       gives =
-          rw (take-at piece at c.in_ok-at.field-0) (gives_then c.args.self.now c.loop-at.self c.advance.new.self _ _ _ _ _ c.loop-at.invariant.gives e.moved);
+          rw (take-at piece at c.in_ok-at.field-0) (gives_then c.args.self.now c.loop-at.self c.advance.new.self _ _ _ c.loop-at.invariant.gives e.moved);
     }
 
 pub returns-in_err-at-clause-stopped : goal.returns-in_err-at-clause-stopped
@@ -26,5 +26,5 @@ returns-in_err-at-clause-stopped c =
     let at = c.loop-at.at in
     let rest = take (length piece - at) (drop at piece) in
     let whole : piece ≡ take at piece ++ rest = rw (take_rest piece at) (sym (take-append-drop at piece)) in
-    handed_on c.from_residual.result _ _ c.from_residual.ensures
-    (stops_behind (take at piece) c.loop-at.invariant.gives c.in_err-at.ensures.stopped whole)
+    handed_on _ _ c.from_residual.ensures
+    (stops_behind _ c.loop-at.invariant.gives c.in_err-at.ensures.stopped whole)
