@@ -41,7 +41,8 @@ pub record Keeps (ms : List Message) (old : Files) (answer : Result Report RunFa
   pub in_order : AllPairs (λ m n. IsMissing old n → HasHome new n → HasHome new m) ms
   pub ends : IfOk answer (λ report. EndedWell ms old report new)
 
--- One run over a text, in a folder that is sound for the text's messages as it begins: it keeps what it owes to them, and with Ok the text is in `Mbox`.
+-- One run over a text, in a folder that is sound for the text's messages as it begins (compared with itself: each is missing, or at home):
+-- it keeps what it owes to them, and with Ok the text is in `Mbox`.
 pub record IsRun (t : List ℕ) (old : Files) (answer : Result Report RunFault) (new : Files) : Type 0 where
   pub keeps : (ms : List Message) → MessagesOf t ms → Sound ms old old → Keeps ms old answer new
   pub is_read : OnOk answer ((entries : List Entry) × Mbox t entries)

@@ -11,34 +11,34 @@ left_moves s call (move ∷ moves) = left_moves (moved call move s) call moves
 pub leaves_moves : (call : Call) (old new : Files) (moves : List Move) → new ≡ after old call moves → Leaves call old new
 leaves_moves call old new moves e = record { kept = map Came moves; are = e ∙ sym (left_moves old call moves) }
 
-found_whole : (call : Call) (old new : Files) → Succeeded call old new → IsFoundWhole call new
-found_whole (Writing name bytes) old new done = λ ours held has.
+found_whole : (call : Call) {old new : Files} → Succeeded call old new → IsFoundWhole call new
+found_whole (Writing name bytes) {old} {new} done = λ ours held has.
     elim (writing_ok name bytes ours old new done) [
       | inl is ↦ let e = sym has ∙ is in cc
       | inr gone ↦ let e = sym has ∙ gone in cc
     ]
-found_whole other old new done = tt
+found_whole other done = tt
 
 leaves_called : {A : Type 0} (call : Call) (old : Files) (r : Result A FolderFault) (new : Files) → Called call old r new → LeavesOf call old r new
-leaves_called call old (Ok x) new h = (leaves_moves call old new (h.before ++ Again ∷ h.rest) h.left, found_whole call old new h)
+leaves_called call old (Ok x) new h = (leaves_moves call old new (h.before ++ Again ∷ h.rest) h.left, found_whole call h)
 leaves_called call old (Err e) new h = leaves_moves call old new h.moves h.left
 
 leaves_listed : (sub : Sub) (old : Files) (r : Result (Vec (String Global) Global) FolderFault) (new : Files)
     → Listed sub old r new → LeavesOf (Listing sub) old r new
 leaves_listed sub old (Ok x) new h = (leaves_moves (Listing sub) old new (h.before ++ Again ∷ h.rest) h.left, tt)
-leaves_listed sub old (Err e) new h = leaves_moves (Listing sub) old new h.moves h.left
+leaves_listed sub old (Err e) new h = leaves_moves _ old new h.moves h.left
 
 -- ---- where a cut leaves what is there, and that alone
-pub all_left : (of : Files → Files → Type 0) (old new : Files) → of old new → Follows of (λ left. left ≡ old) (λ left. left ≡ new)
-all_left of old new h left e = (old, refl, subst (of old) (sym e) h)
+pub all_left : (of : Files → Files → Type 0) {old new : Files} → of old new → Follows of (λ left. left ≡ old) (λ left. left ≡ new)
+all_left of {old} h left e = (old, refl, subst (of old) (sym e) h)
 
-pub called_left : {A : Type 0} (call : Call) (old : Files) (r : Result A FolderFault) (new : Files)
+pub called_left : {A : Type 0} (call : Call) {old : Files} (r : Result A FolderFault) {new : Files}
     → Called call old r new → Follows (λ before now. LeavesOf call before r now) (λ left. left ≡ old) (λ left. left ≡ new)
-called_left call old r new h = all_left (λ before now. LeavesOf call before r now) old new (leaves_called call old r new h)
+called_left call {old} r {new} h = all_left (λ before now. LeavesOf call before r now) (leaves_called call old r new h)
 
-pub listed_left : (sub : Sub) (old : Files) (r : Result (Vec (String Global) Global) FolderFault) (new : Files)
+pub listed_left : (sub : Sub) {old : Files} (r : Result (Vec (String Global) Global) FolderFault) {new : Files}
     → Listed sub old r new → Follows (λ before now. LeavesOf (Listing sub) before r now) (λ left. left ≡ old) (λ left. left ≡ new)
-listed_left sub old r new h = all_left (λ before now. LeavesOf (Listing sub) before r now) old new (leaves_listed sub old r new h)
+listed_left sub {old} r {new} h = all_left (λ before now. LeavesOf (Listing sub) before r now) (leaves_listed sub old r new h)
 
 -- ---- from one moment to another
 pub left_as : (of other : Files → Files → Type 0) (before now : Files → Type 0)

@@ -12,17 +12,17 @@ use Rattle.maildir_run.proofs.Tasks.Progress.{any_kept}
 use Rattle.maildir_run.proofs.Call.Homes.{none_of}
 
 -- tmp gains no converter's name by a listing
-pub listed_within : (sub : Sub) (listed : List (List ℕ)) (old : Files) (names : List (List ℕ)) (new : Files)
+pub listed_within : {sub : Sub} {listed : List (List ℕ)} {old : Files} {names : List (List ℕ)} {new : Files}
     → Lists sub old names new → TmpWithin listed old → TmpWithin listed new
-listed_within sub listed old names new h =
-    within_on listed old new (λ q ours off. called_tmp q ours (Listing sub) tt old new (record { moves = h.before ++ Again ∷ h.rest; left = h.left }))
+listed_within {sub} {listed} {old} {new} h =
+    within_on (λ q ours off. called_tmp q ours tt (record { moves = h.before ++ Again ∷ h.rest; left = h.left }))
 
 -- ---- which bases have a home
 shows_none : (b : List ℕ) → IsTrue (is_converter_base b) → (sub : Sub) → ((s : Files) → homes s b ≡ [] → held_under b (folder_of sub s) ≡ [])
     → (old : Files) (names : List (List ℕ)) (new : Files) → Lists sub old names new → IsTrue (list_any (has_base b) names) → homes old b ≡ [] → ⊥
 shows_none b named sub none_held old names new listed on e =
     let mid = after old (Listing sub) listed.before in
-    not_shown b (folder_of sub mid) names listed.names_are (none_held mid (homes_none b old mid (after_kept b named (Listing sub) tt listed.before old) e)) on
+    not_shown b _ listed.names_are (none_held mid (homes_none b old mid (after_kept b named (Listing sub) tt listed.before old) e)) on
 
 two_listings : (b : List ℕ) → IsTrue (is_converter_base b) → (s t u : Files) (in_new in_cur : List (List ℕ))
     → Lists New s in_new t → Lists Cur t in_cur u → is_listed in_new in_cur b ≡ has_home s b
@@ -34,23 +34,23 @@ two_listings b named s t u in_new in_cur first second =
           elim (cases_Bool (has_home s b)) [
             | inl e ↦ on ∙ sym e
             | inr e ↦
-                let none = none_of (homes s b) e in
+                let none = none_of _ e in
                 absurd (elim (or_cases (list_any (has_base b) in_new) (list_any (has_base b) in_cur) on) [
-                  | inl shown ↦ shows_none b named New (λ x e. (both_none (held_under b x.new) (held_under b x.cur) e).0) s in_new t first shown none
-                  | inr shown ↦ shows_none b named Cur (λ x e. (both_none (held_under b x.new) (held_under b x.cur) e).1)
+                  | inl shown ↦ shows_none b named New (λ x e. (both_none _ _ e).0) s in_new t first shown none
+                  | inr shown ↦ shows_none b named Cur (λ x e. (both_none _ _ e).1)
                       t in_cur u second shown (homes_none b s t kept_first none)
                 ])
           ]
       | inr off ↦
           let parts = or_parts (list_any (has_base b) in_new) (list_any (has_base b) in_cur) off in
           let none : homes u b ≡ [] = listed_cur b named t in_cur u (listed_new b named s in_new t first parts.0) second parts.1 in
-          off ∙ sym (any_kept (homes s b) (homes u b) kept_both ∙ ap is_any none)
+          off ∙ sym (any_kept _ _ kept_both ∙ ap is_any none)
     ]
 
-pub three_listings : (b : List ℕ) → IsTrue (is_converter_base b) → (r s t u : Files) (in_tmp in_new in_cur : List (List ℕ))
+pub three_listings : (b : List ℕ) → IsTrue (is_converter_base b) → {r s t u : Files} {in_tmp in_new in_cur : List (List ℕ)}
     → Lists Tmp r in_tmp s → Lists New s in_new t → Lists Cur t in_cur u → is_listed in_new in_cur b ≡ has_home r b
-three_listings b named r s t u in_tmp in_new in_cur none first second =
-    two_listings b named s t u in_new in_cur first second ∙ sym (any_kept (homes r b) (homes s b) ((listing_keeps_homes Tmp r in_tmp s none).kept b named))
+three_listings b named {r} {s} {t} {u} {in_tmp} {in_new} {in_cur} none first second =
+    two_listings b named s t u in_new in_cur first second ∙ sym (any_kept _ _ ((listing_keeps_homes Tmp r in_tmp s none).kept b named))
 
 -- ---- how many are left over
 moved_count : (m : Move) (s : Files) → len (retain_keys (moved (Listing Tmp) m s).tmp is_converter_name) ≤ len (retain_keys s.tmp is_converter_name)
@@ -62,12 +62,12 @@ listing_count : (ms : List Move) (s : Files) → len (retain_keys (after s (List
 listing_count [] s = omega arith
 listing_count (m ∷ ms) s = let one = moved_count m s in let more = listing_count ms (moved (Listing Tmp) m s) in omega arith
 
-pub filter-length : (p : List ℕ → Bool) (xs ys : List (List ℕ)) → IsPermutation xs ys → length (filter p xs) ≡ length (filter p ys)
-filter-length p xs ys h = length-filter p xs ∙ sym (sum_by-IsPermutation (λ x. cond (p x) 1 0) xs ys h) ∙ sym (length-filter p ys)
+pub filter-length : (p : List ℕ → Bool) {xs ys : List (List ℕ)} → IsPermutation xs ys → length (filter p xs) ≡ length (filter p ys)
+filter-length p {xs} {ys} h = length-filter p xs ∙ sym (sum_by-IsPermutation (λ x. cond (p x) 1 0) xs ys h) ∙ sym (length-filter p ys)
 
-pub few_listed : (old : Files) (names : List (List ℕ)) (new : Files) → Lists Tmp old names new → length (filter is_converter_name names) ≤ leftover_count old
-few_listed old names new listed =
+pub few_listed : {old : Files} {names : List (List ℕ)} {new : Files} → Lists Tmp old names new → length (filter is_converter_name names) ≤ leftover_count old
+few_listed {old} {names} listed =
     let mid = after old (Listing Tmp) listed.before in
-    let same = filter-length is_converter_name names (keys mid.tmp) listed.names_are in
+    let same = filter-length is_converter_name listed.names_are in
     let few = listing_count listed.before old in
     rw (same, leftovers_are mid.tmp, leftovers_are old.tmp) few

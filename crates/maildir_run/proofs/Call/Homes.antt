@@ -23,12 +23,12 @@ module _ (b : List ℕ) (m : FileMap) (k : List ℕ) where
   pub held-insert_new : (v : List ℕ) → has_base b k ≡ true → get m k ≡ None → IsPermutation (v ∷ held_under b m) (held_under b (insert m k v))
   held-insert_new v h none =
       rw (under_insert (has_base b) m k v h)
-      (values-insert (retain_keys m (has_base b)) k v (get_under (has_base b) m k ∙ rw h none))
+      (values-insert _ k (get_under (has_base b) m k ∙ rw h none))
 
   pub held-remove_old : (v : List ℕ) → has_base b k ≡ true → get m k ≡ Some v → IsPermutation (v ∷ held_under b (remove m k)) (held_under b m)
   held-remove_old v h has =
       rw (under_remove (has_base b) m k h)
-      (values-remove (retain_keys m (has_base b)) k v (get_under (has_base b) m k ∙ rw h has))
+      (values-remove _ k (get_under (has_base b) m k ∙ rw h has))
 
 -- ---- the outsiders' step
 find-both : (q : List ℕ) (xs ys : List (List ℕ × List ℕ)) → find name_cmp q ys ≡ None → find name_cmp q (xs ++ ys) ≡ find name_cmp q xs
@@ -42,7 +42,7 @@ get-outsiders_of ours theirs q h =
     let other = retain_keys theirs (λ n. not (is_converter_name n)) in
     let none : find name_cmp q (entries other) ≡ None = sym (get-entries other q) ∙ get_under (λ n. not (is_converter_name n)) theirs q ∙ rw h refl in
     get-from_entries total (entries mine ++ entries other) q
-    ∙ find-both q (entries mine) (entries other) none
+    ∙ find-both q (entries mine) _ none
     ∙ sym (get-entries mine q) ∙ get_under is_converter_name ours q ∙ rw h refl
 
 -- a name that has a converter's base is a converter's
@@ -63,9 +63,9 @@ KeepsHomesOf b old new = IsPermutation (homes old b) (homes new b)
 pub equally : (b : List ℕ) (old new : Files) → homes old b ≡ homes new b → KeepsHomesOf b old new
 equally b old new e = subst (λ hs. IsPermutation (homes old b) hs) e (IsPermutation-refl _)
 
-to_cur_kept : (b : List ℕ) (s : Files) (name target bytes : List ℕ) → get s.new name ≡ Some bytes
+to_cur_kept : (b : List ℕ) (s : Files) (name target : List ℕ) {bytes : List ℕ} → get s.new name ≡ Some bytes
     → may_take s.cur name target ≡ true → KeepsHomesOf b s (record s { new = remove s.new name; cur = insert s.cur target bytes })
-to_cur_kept b s name target bytes has may =
+to_cur_kept b s name target {bytes} has may =
     let parts = and_parts _ _ may in
     let free : get s.cur target ≡ None = absent _ parts.0 in
     let alike : has_base b target ≡ has_base b name = ap (is_name b) (sym (is_name-true _ _ parts.1)) in
@@ -80,17 +80,17 @@ to_cur_kept b s name target bytes has may =
           (rw (held-remove_other b s.new name off, held-insert_other b s.cur target bytes (alike ∙ off)) refl)
     ]
 
-pub same_both : {X : Type 0} (b : Bool) (o : Option X) → o ≡ None → cond b None o ≡ None
-same_both true o e = refl
-same_both false o e = e
+pub same_both : {X : Type 0} (b : Bool) {o : Option X} → o ≡ None → cond b None o ≡ None
+same_both true e = refl
+same_both false e = e
 
-reflag_kept : (b : List ℕ) (s : Files) (name target bytes : List ℕ) → get s.cur name ≡ Some bytes
+reflag_kept : (b : List ℕ) (s : Files) (name target : List ℕ) {bytes : List ℕ} → get s.cur name ≡ Some bytes
     → may_take s.cur name target ≡ true → KeepsHomesOf b s (record s { cur = insert (remove s.cur name) target bytes })
-reflag_kept b s name target bytes has may =
+reflag_kept b s name target {bytes} has may =
     let parts = and_parts _ _ may in
     let free : get s.cur target ≡ None = absent _ parts.0 in
     let alike : has_base b target ≡ has_base b name = ap (is_name b) (sym (is_name-true _ _ parts.1)) in
-    let gone : get (remove s.cur name) target ≡ None = get-remove total s.cur name target ∙ same_both (is_name target name) _ free in
+    let gone : get (remove s.cur name) target ≡ None = get-remove total s.cur name target ∙ same_both (is_name target name) free in
     elim (cases_Bool (has_base b name)) [
       | inl on ↦
           IsPermutation-append_right (held_under b s.new) _ _
@@ -108,7 +108,7 @@ acted_kept b named (ToCur name target) s =
       | Some bytes ↦ λ has.
           elim (may_take s.cur name target)
           as (λ t. may_take s.cur name target ≡ t → KeepsHomesOf b s (cond t (record s { new = remove s.new name; cur = insert s.cur target bytes }) s)) [
-            | true ↦ λ may. to_cur_kept b s name target bytes has may
+            | true ↦ λ may. to_cur_kept b s name target has may
             | false ↦ λ may. IsPermutation-refl _
           ] refl
     ] refl
@@ -118,7 +118,7 @@ acted_kept b named (Reflag name target) s =
       | Some bytes ↦ λ has.
           elim (may_take s.cur name target)
           as (λ t. may_take s.cur name target ≡ t → KeepsHomesOf b s (cond t (record s { cur = insert (remove s.cur name) target bytes }) s)) [
-            | true ↦ λ may. reflag_kept b s name target bytes has may
+            | true ↦ λ may. reflag_kept b s name target has may
             | false ↦ λ may. IsPermutation-refl _
           ] refl
     ] refl

@@ -32,15 +32,15 @@ pub leftovers_are : (m : FileMap) → length (filter is_converter_name (keys m))
 leftovers_are m =
     keys_filter is_converter_name (entries m) ∙ sym (len-entries (retain_keys m is_converter_name) ∙ ap length (entries_under is_converter_name m))
 
-one_less : (t : Bool) (n : ℕ) → cond t (n - 1) n ≤ n
-one_less true n = omega arith
-one_less false n = omega arith
+one_less : (t : Bool) {n : ℕ} → cond t (n - 1) n ≤ n
+one_less true = omega arith
+one_less false = omega arith
 
 pub dropped_count : (m : FileMap) (name : List ℕ) → len (retain_keys (remove m name) is_converter_name) ≤ len (retain_keys m is_converter_name)
 dropped_count m name =
     elim (cases_Bool (is_converter_name name)) [
       | inl on ↦ rw (under_remove is_converter_name m name on, len-remove total (retain_keys m is_converter_name) name)
-          (one_less (contains_key (retain_keys m is_converter_name) name) _)
+          (one_less (contains_key (retain_keys m is_converter_name) name))
       | inr off ↦ rw (under_remove_other is_converter_name m name off) (omega arith)
     ]
 
@@ -51,7 +51,7 @@ acted_count (DropTmp name) s =
     elim (is_converter_name name) as (λ t. len (retain_keys (cond t (record s { tmp = remove s.tmp name }) s).tmp is_converter_name)
     ≤ len (retain_keys s.tmp is_converter_name)) [ true ↦ dropped_count s.tmp name | false ↦ omega arith ]
 acted_count (Outside files) s =
-    rw (under_same is_converter_name (outsiders_of s.tmp files.tmp) s.tmp (λ q on. get-outsiders_of s.tmp files.tmp q on)) (omega arith)
+    rw (under_same is_converter_name _ s.tmp (λ q on. get-outsiders_of s.tmp files.tmp q on)) (omega arith)
 
 pub leftovers : (action : Action) (s : Files) → leftover_count (acted action s) ≤ leftover_count s
 leftovers action s = let after = leftovers_are (acted action s).tmp in let before = leftovers_are s.tmp in omega (arith, after, before, acted_count action s)

@@ -17,14 +17,14 @@ none_alike b q on (x ∷ names) off =
       | inr e ↦ rw e (none_alike b q on names parts.1)
     ]
 
-pub unlisted : (b : List ℕ) (m : FileMap) (names : List (List ℕ)) → IsPermutation names (keys m) → IsFalse (list_any (has_base b) names) → held_under b m ≡ []
-unlisted b m names listed off =
-    held_none b m (λ q on. none_if_not_some (get m q)
+pub unlisted : (b : List ℕ) (m : FileMap) {names : List (List ℕ)} → IsPermutation names (keys m) → IsFalse (list_any (has_base b) names) → held_under b m ≡ []
+unlisted b m {names} listed off =
+    held_none b m (λ q on. none_if_not_some _
     (contains_key-keys m q ∙ none_alike b q on (keys m) (sym (list_any-IsPermutation (has_base b) names (keys m) listed) ∙ off)))
 
 -- ---- nobody brings a file of this base into `new`
 none_removed : (b : List ℕ) (m : FileMap) (name : List ℕ) → held_under b m ≡ [] → held_under b (remove m name) ≡ []
-none_removed b m name e = held_none b (remove m name) (λ q on. get-remove total m name q ∙ same_both (is_name q name) (get m q) (none_held b m e q on))
+none_removed b m name e = held_none b _ (λ q on. get-remove total m name q ∙ same_both (is_name q name) (none_held b m e q on))
 
 module _ (b : List ℕ) (s : Files) (name target : List ℕ) where
   to_cur_new : (o : Option (List ℕ)) → held_under b s.new ≡ [] → held_under b (to_cur s name target o).new ≡ []
@@ -65,14 +65,14 @@ module _ (b : List ℕ) (named : IsTrue (is_converter_base b)) where
   listed_new old names new listed off =
       let mid = after old (Listing New) listed.before in
       rw (listed.left ∙ after-append old (Listing New) listed.before (Again ∷ listed.rest))
-      (listing_new New listed.rest mid (unlisted b mid.new names listed.names_are off))
+      (listing_new New listed.rest mid (unlisted b mid.new listed.names_are off))
 
   -- and after a later listing of `cur` that does not show it either, it has no home
   pub listed_cur : (old : Files) (names : List (List ℕ)) (new : Files) → held_under b old.new ≡ []
       → Lists Cur old names new → IsFalse (list_any (has_base b) names) → homes new b ≡ []
   listed_cur old names new e listed off =
       let mid = after old (Listing Cur) listed.before in
-      let none : homes mid b ≡ [] = rw (listing_new Cur listed.before old e, unlisted b mid.cur names listed.names_are off) refl in
+      let none : homes mid b ≡ [] = rw (listing_new Cur listed.before old e, unlisted b mid.cur listed.names_are off) refl in
       rw (listed.left ∙ after-append old (Listing Cur) listed.before (Again ∷ listed.rest))
       (homes_none b mid (after mid (Listing Cur) listed.rest) (after_kept b named (Listing Cur) tt listed.rest mid) none)
 

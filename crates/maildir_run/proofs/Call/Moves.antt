@@ -101,20 +101,20 @@ module _ (q : List ℕ) (ours : IsTrue (is_converter_name q)) (call : Call) (h :
   after_tmp (m ∷ ms) s = stays_trans q s (moved call m s) (after s call (m ∷ ms)) (moved_tmp m s) (after_tmp ms (moved call m s))
 
 -- ---- small lists in any order
-pub permutation_of_none : {X : Type 0} (ys : List X) → IsPermutation [] ys → ys ≡ []
-permutation_of_none ys h = nil_from_length ys (length_permutation [] ys h)
+pub permutation_of_none : {X : Type 0} {ys : List X} → IsPermutation [] ys → ys ≡ []
+permutation_of_none {ys} h = nil_from_length ys (length_permutation [] ys h)
 
-pub permutation_of_one : {X : Type 0} (x : X) (ys : List X) → IsPermutation (x ∷ []) ys → ys ≡ x ∷ []
-permutation_of_one x [] h = absurd (omega (arith, length_permutation (x ∷ []) [] h))
-permutation_of_one x (y ∷ []) h =
+pub permutation_of_one : {X : Type 0} {x : X} (ys : List X) → IsPermutation (x ∷ []) ys → ys ≡ x ∷ []
+permutation_of_one {x} [] h = absurd (omega (arith, length_permutation (x ∷ []) [] h))
+permutation_of_one {x} (y ∷ []) h =
     ap (λ z. z ∷ []) (All-permutation (λ z. z ≡ x) (x ∷ []) (y ∷ []) h (All-cons (λ z. z ≡ x) x [] refl (All-nil _)) 0 y (omega arith))
-permutation_of_one x (y ∷ z ∷ ys) h = absurd (omega (arith, length_permutation (x ∷ []) (y ∷ z ∷ ys) h))
+permutation_of_one {x} (y ∷ z ∷ ys) h = absurd (omega (arith, length_permutation (x ∷ []) (y ∷ z ∷ ys) h))
 
 pub homes_none : (b : List ℕ) (old new : Files) → KeepsHomesOf b old new → homes old b ≡ [] → homes new b ≡ []
-homes_none b old new h e = permutation_of_none (homes new b) (rw e at h)
+homes_none b old new h e = permutation_of_none (rw e at h)
 
 pub homes_one : (b x : List ℕ) (old new : Files) → KeepsHomesOf b old new → homes old b ≡ x ∷ [] → homes new b ≡ x ∷ []
-homes_one b x old new h e = permutation_of_one x (homes new b) (rw e at h)
+homes_one b x old new h e = permutation_of_one _ (rw e at h)
 
 -- ---- no file under a base
 no_entries : (es : List (List ℕ × List ℕ)) → map (λ e. e.1) es ≡ [] → es ≡ []
@@ -125,7 +125,7 @@ pub none_held : (b : List ℕ) (m : FileMap) → held_under b m ≡ [] → (q : 
 none_held b m e q on =
     let kept = retain_keys m (has_base b) in
     let is : get kept q ≡ get m q = get_under (has_base b) m q ∙ rw on refl in
-    sym is ∙ get-entries kept q ∙ rw (no_entries (entries kept) e) refl
+    sym is ∙ get-entries kept q ∙ rw (no_entries _ e) refl
 
 no_values : (m : FileMap) → len m ≡ 0 → values m ≡ []
 no_values m e = rw (nil_from_length (entries m) (sym (len-entries m) ∙ e)) refl
@@ -133,7 +133,7 @@ no_values m e = rw (nil_from_length (entries m) (sym (len-entries m) ∙ e)) ref
 pub held_none : (b : List ℕ) (m : FileMap) → ((q : List ℕ) → has_base b q ≡ true → get m q ≡ None) → held_under b m ≡ []
 held_none b m none =
     let is : retain_keys m (has_base b) ≡ empty = same_map total same _ _ (λ q. grind (arith, get_under, none q, get-empty {X = List ℕ} name_cmp q)) in
-    no_values (retain_keys m (has_base b)) (ap len is ∙ len-empty name_cmp (List ℕ))
+    no_values _ (ap len is ∙ len-empty name_cmp (List ℕ))
 
 -- ---- a base that has no home, at which a call places
 pub both_none : {X : Type 0} (xs ys : List X) → xs ++ ys ≡ [] → (xs ≡ []) × (ys ≡ [])
@@ -152,19 +152,19 @@ pub record Arrived (b name : List ℕ) (had : Option (List ℕ)) (s : Files) : T
   pub homes_are : homes s b ≡ bytes ∷ []
   pub gone : get s.tmp name ≡ None
 
-homes_first : (xs ys : List (List ℕ)) (v : List ℕ) (zs : List (List ℕ)) → xs ++ ys ≡ [] → IsPermutation (v ∷ (xs ++ ys)) zs → zs ≡ v ∷ []
-homes_first xs ys v zs e h = permutation_of_one v zs (rw e at h)
+homes_first : (xs ys : List (List ℕ)) {v : List ℕ} {zs : List (List ℕ)} → xs ++ ys ≡ [] → IsPermutation (v ∷ (xs ++ ys)) zs → zs ≡ v ∷ []
+homes_first xs ys {v} {zs} e h = permutation_of_one zs (rw e at h)
 
 -- a base that has no home, and then the file of tmp
 placed_first : (b name : List ℕ) (p : Place) (target bytes : List ℕ) (s : Files) → has_base b target ≡ true
     → homes s b ≡ [] → homes (placed s name p target (Some bytes)) b ≡ bytes ∷ []
 placed_first b name New target bytes s on e =
-    let parts = both_none (held_under b s.new) (held_under b s.cur) e in
-    homes_first (held_under b s.new) (held_under b s.cur) bytes _ e
+    let parts = both_none _ _ e in
+    homes_first (held_under b s.new) (held_under b s.cur) e
     (IsPermutation-append_left (held_under b s.cur) _ _ (held-insert_new b s.new target bytes on (none_held b s.new parts.0 target on)))
 placed_first b name Cur target bytes s on e =
-    let parts = both_none (held_under b s.new) (held_under b s.cur) e in
-    homes_first (held_under b s.new) (held_under b s.cur) bytes _ e
+    let parts = both_none _ _ e in
+    homes_first (held_under b s.new) (held_under b s.cur) e
     (IsPermutation-trans _ _ _
     (IsPermutation-sym _ _ (IsPermutation-middle (held_under b s.new) bytes (held_under b s.cur)))
     (IsPermutation-append_right (held_under b s.new) _ _ (held-insert_new b s.cur target bytes on (none_held b s.cur parts.1 target on))))
@@ -192,9 +192,9 @@ placed_gone s name New target bytes = get-remove_same s.tmp name
 placed_gone s name Cur target bytes = get-remove_same s.tmp name
 
 -- the effect, where tmp has the file
-arrives : (b name : List ℕ) (p : Place) (target : List ℕ) (had : Option (List ℕ)) (s : Files) → has_base b target ≡ true
-    → Waits b name had s → (bytes : List ℕ) → get s.tmp name ≡ Some bytes → Arrived b name had (placed s name p target (Some bytes))
-arrives b name p target had s on w bytes has =
+arrives : {b name : List ℕ} (p : Place) (target : List ℕ) {had : Option (List ℕ)} {s : Files} → has_base b target ≡ true
+    → Waits b name had s → {bytes : List ℕ} → get s.tmp name ≡ Some bytes → Arrived b name had (placed s name p target (Some bytes))
+arrives {b} {name} p target {s} on w {bytes} has =
     record {
       bytes = bytes;
       was = elim w.waiting [ inl e ↦ sym e ∙ has | inr e ↦ cc ];
@@ -214,7 +214,7 @@ module _ (b name : List ℕ) (p : Place) (target : List ℕ) (named : IsTrue (is
   waits_again s w =
       elim (get s.tmp name) as (λ o. get s.tmp name ≡ o → Stage b name had (placed s name p target o)) [
         | None ↦ λ has. inl w
-        | Some bytes ↦ λ has. inr (arrives b name p target had s on w bytes has)
+        | Some bytes ↦ λ has. inr (arrives p target on w has)
       ] refl
 
   arrived_moved : (m : Move) (s : Files) → Arrived b name had s → Arrived b name had (moved (Placing name p target) m s)
@@ -247,7 +247,7 @@ module _ (b name : List ℕ) (p : Place) (target : List ℕ) (named : IsTrue (is
   ready s w has =
       elim (get s.tmp name) as (λ o. get s.tmp name ≡ o → IsTrue (is_some o) → Arrived b name had (placed s name p target o)) [
         | None ↦ λ is has. cc
-        | Some bytes ↦ λ is has. arrives b name p target had s on w bytes is
+        | Some bytes ↦ λ is has. arrives p target on w is
       ] refl has
 
 pub after-append : (s : Files) (call : Call) (ms ns : List Move) → after s call (ms ++ ns) ≡ after (after s call ms) call ns

@@ -19,12 +19,13 @@ get-outsiders_other ours theirs q h =
     let other = retain_keys theirs (λ n. not (is_converter_name n)) in
     let none : find name_cmp q (entries mine) ≡ None = sym (get-entries mine q) ∙ get_under is_converter_name ours q ∙ rw h refl in
     get-from_entries total (entries mine ++ entries other) q
-    ∙ find-after q (entries mine) (entries other) none
+    ∙ find-after q _ (entries other) none
     ∙ sym (get-entries other q) ∙ get_under (λ n. not (is_converter_name n)) theirs q ∙ rw h refl
 
 -- where the converter's names agree, it is the other folder
-pub outsiders_alike : (ours theirs : FileMap) → ((q : List ℕ) → is_converter_name q ≡ true → get ours q ≡ get theirs q) → outsiders_of ours theirs ≡ theirs
-outsiders_alike ours theirs alike =
+pub outsiders_alike : (ours : FileMap) {theirs : FileMap} → ((q : List ℕ) → is_converter_name q ≡ true → get ours q ≡ get theirs q)
+    → outsiders_of ours theirs ≡ theirs
+outsiders_alike ours {theirs} alike =
     same_map total same _ _ (λ q.
     elim (cases_Bool (is_converter_name q)) [
       | inl on ↦ get-outsiders_of ours theirs q on ∙ alike q on
@@ -41,7 +42,7 @@ outside_leaves files s = record {
 pub outside_reaches : (s t : Files) → KeepsConverters s t → acted (Outside t) s ≡ t
 outside_reaches s t alike =
     rw (
-      outsiders_alike s.tmp t.tmp (λ q on. sym (alike.tmp_alike q on)),
-      outsiders_alike s.new t.new (λ q on. sym (alike.new_alike q on)),
-      outsiders_alike s.cur t.cur (λ q on. sym (alike.cur_alike q on)),
+      outsiders_alike s.tmp (λ q on. sym (alike.tmp_alike q on)),
+      outsiders_alike s.new (λ q on. sym (alike.new_alike q on)),
+      outsiders_alike s.cur (λ q on. sym (alike.cur_alike q on)),
     ) refl

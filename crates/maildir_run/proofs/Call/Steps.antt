@@ -11,35 +11,35 @@ use Rattle.maildir_run.proofs.Names.Maps.{none_if_not_some, is_name-true, is_nam
 use Rattle.maildir_run.proofs.Call.Moves.{after_kept, after_tmp, after-append, homes_none, none_held, placing, placing_ok, WrittenOrGone, writing_ok}
 
 -- ---- any answer is some list of moves, which is what `AnyMoves` says
-pub ok_moves : (call : Call) (old new : Files) → Succeeded call old new → AnyMoves call old new
-ok_moves call old new h = record { moves = h.before ++ Again ∷ h.rest; left = h.left }
+pub ok_moves : {call : Call} {old new : Files} → Succeeded call old new → AnyMoves call old new
+ok_moves h = record { moves = h.before ++ Again ∷ h.rest; left = h.left }
 
-pub called_kept : (b : List ℕ) → IsTrue (is_converter_base b) → (call : Call) → PlacesElsewhere b call
-    → (old new : Files) → AnyMoves call old new → IsPermutation (homes old b) (homes new b)
-called_kept b named call h old new c =
+pub called_kept : (b : List ℕ) → IsTrue (is_converter_base b) → {call : Call} → PlacesElsewhere b call
+    → {old new : Files} → AnyMoves call old new → IsPermutation (homes old b) (homes new b)
+called_kept b named {call} h {old} c =
     rw c.left (after_kept b named call h c.moves old)
 
-pub called_tmp : (q : List ℕ) → IsTrue (is_converter_name q) → (call : Call)
-    → WritesElsewhere q call → (old new : Files) → AnyMoves call old new → StaysOrGoes q old new
-called_tmp q ours call h old new c = rw c.left (after_tmp q ours call h c.moves old)
+pub called_tmp : (q : List ℕ) → IsTrue (is_converter_name q) → {call : Call}
+    → WritesElsewhere q call → {old new : Files} → AnyMoves call old new → StaysOrGoes q old new
+called_tmp q ours {call} h {old} c = rw c.left (after_tmp q ours call h c.moves old)
 
 -- ---- tmp
-pub within_on : (names : List (List ℕ)) (old new : Files)
+pub within_on : {names : List (List ℕ)} {old new : Files}
     → ((q : List ℕ) → IsTrue (is_converter_name q) → IsFalse (list_any (is_name q) names) → StaysOrGoes q old new) → TmpWithin names old → TmpWithin names new
-within_on names old new stays within = record {
+within_on stays within = record {
   gone = λ q ours off.
       elim (stays q ours off) [ inl e ↦ e ∙ within.gone q ours off | inr e ↦ e ];
 }
 
-none_within : (names : List (List ℕ)) (s : Files) → TmpWithin [] s → TmpWithin names s
-none_within names s within = record { gone = λ q ours off. within.gone q ours refl }
+none_within : {names : List (List ℕ)} {s : Files} → TmpWithin [] s → TmpWithin names s
+none_within within = record { gone = λ q ours off. within.gone q ours refl }
 
 one_off : (q name : List ℕ) → IsFalse (list_any (is_name q) (name ∷ [])) → IsFalse (is_name q name)
 one_off q name off = (or_parts (is_name q name) false off).0
 
-pub writing_within : (name bytes : List ℕ) (old new : Files) → AnyMoves (Writing name bytes) old new → TmpWithin [] old → TmpWithin (name ∷ []) new
-writing_within name bytes old new c within =
-    within_on (name ∷ []) old new (λ q ours off. called_tmp q ours (Writing name bytes) (one_off q name off) old new c) (none_within (name ∷ []) old within)
+pub writing_within : {name bytes : List ℕ} {old new : Files} → AnyMoves (Writing name bytes) old new → TmpWithin [] old → TmpWithin (name ∷ []) new
+writing_within {name} {bytes} {old} {new} c within =
+    within_on (λ q ours off. called_tmp q ours (one_off q name off) c) (none_within within)
 
 without : (name : List ℕ) (names : List (List ℕ)) (s : Files) → get s.tmp name ≡ None → TmpWithin (name ∷ names) s → TmpWithin names s
 without name names s gone within = record {
@@ -54,27 +54,27 @@ gone_on : (name : List ℕ) (old new : Files) → StaysOrGoes name old new → g
 gone_on name old new (inl e) h = e ∙ h
 gone_on name old new (inr e) h = e
 
-removing_gone : (name : List ℕ) → IsTrue (is_converter_name name) → (old new : Files) → Succeeded (Removing name) old new → get new.tmp name ≡ None
-removing_gone name ours old new done =
+removing_gone : {name : List ℕ} → IsTrue (is_converter_name name) → {old new : Files} → Succeeded (Removing name) old new → get new.tmp name ≡ None
+removing_gone {name} ours {old} done =
     let call = Removing name in
     let mid = effect call (after old call done.before) in
     rw (done.left ∙ after-append old call done.before (Again ∷ done.rest))
     (gone_on name mid (after mid call done.rest) (after_tmp name ours call tt done.rest mid) (get-remove_same (after old call done.before).tmp name))
 
-pub removing_within : (name : List ℕ) (names : List (List ℕ)) → IsTrue (is_converter_name name)
-    → (old new : Files) → Succeeded (Removing name) old new → TmpWithin (name ∷ names) old → TmpWithin names new
-removing_within name names ours old new done within =
-    without name names new (removing_gone name ours old new done)
-    (within_on (name ∷ names) old new (λ q is off. called_tmp q is (Removing name) tt old new (ok_moves (Removing name) old new done)) within)
+pub removing_within : {name : List ℕ} {names : List (List ℕ)} → IsTrue (is_converter_name name)
+    → {old new : Files} → Succeeded (Removing name) old new → TmpWithin (name ∷ names) old → TmpWithin names new
+removing_within {name} {names} ours {old} {new} done within =
+    without name names new (removing_gone ours done)
+    (within_on (λ q is off. called_tmp q is tt (ok_moves done)) within)
 
-pub placing_within : (name : List ℕ) (p : Place) (target : List ℕ) (old new : Files)
+pub placing_within : {name : List ℕ} {p : Place} {target : List ℕ} {old new : Files}
     → Succeeded (Placing name p target) old new → get new.tmp name ≡ None → TmpWithin (name ∷ []) old → TmpWithin [] new
-placing_within name p target old new done gone within =
+placing_within {name} {p} {target} {old} {new} done gone within =
     without name [] new gone
-    (within_on (name ∷ []) old new (λ q is off. called_tmp q is (Placing name p target) tt old new (ok_moves (Placing name p target) old new done)) within)
+    (within_on (λ q is off. called_tmp q is tt (ok_moves done)) within)
 
-pub listing_within : (old : Files) (names : List (List ℕ)) (new : Files) → Lists Tmp old names new → TmpWithin names new
-listing_within old names new listed =
+pub listing_within : {old : Files} {names : List (List ℕ)} {new : Files} → Lists Tmp old names new → TmpWithin names new
+listing_within {old} {names} listed =
     let call = Listing Tmp in
     let mid = after old call listed.before in
     let here : TmpWithin names mid = record {
@@ -82,7 +82,7 @@ listing_within old names new listed =
           none_if_not_some _ (contains_key-keys mid.tmp q ∙ sym (list_any-IsPermutation (is_name q) names (keys mid.tmp) listed.names_are) ∙ off);
     } in
     subst (TmpWithin names) (sym (listed.left ∙ after-append old call listed.before (Again ∷ listed.rest)))
-    (within_on names mid (after mid call listed.rest) (λ q ours off. after_tmp q ours call tt listed.rest mid) here)
+    (within_on (λ q ours off. after_tmp q ours call tt listed.rest mid) here)
 
 -- ---- the homes
 pub listing_keeps_homes : (sub : Sub) (old : Files) (names : List (List ℕ)) (new : Files) → Lists sub old names new → KeepsHomes old new
@@ -96,11 +96,11 @@ elsewhere : (m : Message) (base target : List ℕ) → IsTrue (has_base m.target
 elsewhere m base target on off =
     false_from_ne_true (has_base base target) (λ e.
     let alike : is_name m.target.base base ≡ true =
-    subst (λ b. is_name m.target.base b ≡ true) (is_name-true m.target.base _ on ∙ sym (is_name-true base _ e)) (is_name-refl m.target.base) in cc)
+    subst (λ b. is_name m.target.base b ≡ true) (is_name-true _ _ on ∙ sym (is_name-true base _ e)) (is_name-refl m.target.base) in cc)
 
-body_of : (name : List ℕ) (body bytes : List ℕ) (s : Files) → WrittenOrGone name body s → get s.tmp name ≡ Some bytes → bytes ≡ body
-body_of name body bytes s (inl e) h = cc
-body_of name body bytes s (inr e) h = cc
+body_of : (name : List ℕ) {body bytes : List ℕ} (s : Files) → WrittenOrGone name body s → get s.tmp name ≡ Some bytes → bytes ≡ body
+body_of name s (inl e) h = cc
+body_of name s (inr e) h = cc
 
 -- ---- what a listing shows is there
 shown : (b : List ℕ) (ks : List (List ℕ)) → list_any (has_base b) ks ≡ true → (q : List ℕ) × (has_base b q ≡ true) × (list_any (is_name q) ks ≡ true)
@@ -112,27 +112,27 @@ shown b (k ∷ ks) e =
       | false ↦ λ off e. let r = shown b ks e in (r.0, r.1, rw r.2 (or-true (is_name r.0 k)))
     ] refl e
 
-pub not_shown : (b : List ℕ) (m : FileMap) (names : List (List ℕ)) → IsPermutation names (keys m)
+pub not_shown : (b : List ℕ) (m : FileMap) {names : List (List ℕ)} → IsPermutation names (keys m)
     → held_under b m ≡ [] → IsTrue (list_any (has_base b) names) → ⊥
-not_shown b m names listed e on =
+not_shown b m {names} listed e on =
     let r = shown b (keys m) (sym (list_any-IsPermutation (has_base b) names (keys m) listed) ∙ on) in
     let is : is_some (get m r.0) ≡ true = contains_key-keys m r.0 ∙ r.2 in
     let none : is_some (get m r.0) ≡ false = ap is_some (none_held b m e r.0 r.1) in
     cc
 
 -- ---- a message is written and placed
-written_leaves : (name bytes : List ℕ) (old new : Files) → AnyMoves (Writing name bytes) old new → KeepsHomes old new
-written_leaves name bytes old new c = record { kept = λ base named. called_kept base named (Writing name bytes) tt old new c }
+written_leaves : {name bytes : List ℕ} {old new : Files} → AnyMoves (Writing name bytes) old new → KeepsHomes old new
+written_leaves {name} {bytes} {old} {new} c = record { kept = λ base named. called_kept base named tt c }
 
-pub write_delivers : (m : Message) → IsTarget m.target → (old new : Files)
+pub write_delivers : {m : Message} → IsTarget m.target → {old new : Files}
     → AnyMoves (Writing m.target.base m.body) old new → IsMissing old m → DeliversMessage m old new
-write_delivers m is old new c missing =
-    let leaves = written_leaves m.target.base m.body old new c in
-    record { own = inl (homes_none m.target.base old new (leaves.kept m.target.base is.named) missing); others = λ base named off. leaves.kept base named }
+write_delivers {m} is {old} {new} c missing =
+    let leaves = written_leaves c in
+    record { own = inl (homes_none _ old new (leaves.kept m.target.base is.named) missing); others = λ base named off. leaves.kept base named }
 
 -- the base is a converter's name
 pub base_name : (m : Message) → IsTarget m.target → IsTrue (is_converter_name m.target.base)
-base_name m is = ap is_converter_base (sym (is_name-true m.target.base _ is.whole)) ∙ is.named
+base_name m is = ap is_converter_base (sym (is_name-true _ _ is.whole)) ∙ is.named
 
 pub record WrittenFirst (m : Message) (old mid : Files) : Type 0 where
   pub written : WrittenOrGone m.target.base m.body mid
@@ -140,16 +140,16 @@ pub record WrittenFirst (m : Message) (old mid : Files) : Type 0 where
   pub leaves : KeepsHomes old mid
   pub within : TmpWithin [] old → TmpWithin (m.target.base ∷ []) mid
 
-pub write_ok : (m : Message) → IsTarget m.target → (old mid : Files)
+pub write_ok : {m : Message} → IsTarget m.target → {old mid : Files}
     → Succeeded (Writing m.target.base m.body) old mid → IsMissing old m → WrittenFirst m old mid
-write_ok m is old mid done missing =
-    let moves = ok_moves (Writing m.target.base m.body) old mid done in
-    let leaves = written_leaves m.target.base m.body old mid moves in
+write_ok {m} is {old} {mid} done missing =
+    let moves = ok_moves done in
+    let leaves = written_leaves moves in
     record {
       written = writing_ok m.target.base m.body (base_name m is) old mid done;
-      missing = homes_none m.target.base old mid (leaves.kept m.target.base is.named) missing;
+      missing = homes_none _ old mid (leaves.kept m.target.base is.named) missing;
       leaves = leaves;
-      within = writing_within m.target.base m.body old mid moves;
+      within = writing_within moves;
     }
 
 module _ (m : Message) (is : IsTarget m.target) (old mid new : Files) (w : WrittenFirst m old mid) where
@@ -161,17 +161,17 @@ module _ (m : Message) (is : IsTarget m.target) (old mid new : Files) (w : Writt
       record {
         own = rw c.left (elim (placing m.target.base m.target.base m.target.place m.target.name is.named (base_name m is) is.under c.moves mid w.missing) [
           | inl waits ↦ inl waits.homes_are
-          | inr a ↦ inr (a.homes_are ∙ ap (λ x. x ∷ []) (body_of m.target.base m.body a.bytes mid w.written a.was))
+          | inr a ↦ inr (a.homes_are ∙ ap (λ x. x ∷ []) (body_of _ mid w.written a.was))
         ]);
         others = λ base named off.
-            IsPermutation-trans _ _ _ (w.leaves.kept base named) (called_kept base named put (elsewhere m base m.target.name is.under off) mid new c);
+            IsPermutation-trans _ _ _ (w.leaves.kept base named) (called_kept base named (elsewhere m base _ is.under off) c);
       }
 
   pub place_home : Succeeded put mid new → IsHome new m × (TmpWithin [] old → TmpWithin [] new)
   place_home done =
       let a = placing_ok m.target.base m.target.base m.target.place m.target.name is.named (base_name m is) is.under mid new done w.missing in (
-        a.homes_are ∙ ap (λ x. x ∷ []) (body_of m.target.base m.body a.bytes mid w.written a.was),
-        λ within. placing_within m.target.base m.target.place m.target.name mid new done a.gone (w.within within),
+        a.homes_are ∙ ap (λ x. x ∷ []) (body_of _ mid w.written a.was),
+        λ within. placing_within done a.gone (w.within within),
       )
 
 -- ---- from one moment to another

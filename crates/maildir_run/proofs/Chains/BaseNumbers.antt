@@ -39,11 +39,11 @@ messages_numbered bodies i d below =
     let m = get_or ms i d in
     let body = get_or bodies i [] in
     let front = take i bodies in
-    let are : map (λ (n : Message). n.body) ms ≡ bodies = bodies_are (targets bodies) bodies (length-targets bodies) in
+    let are : map (λ (n : Message). n.body) ms ≡ bodies = bodies_are _ bodies (length-targets bodies) in
     let body_is : body ≡ m.body = ap (λ bs. get_or bs i []) (sym are) ∙ get_or-map (λ (n : Message). n.body) ms i d [] below in
     let front_is : front ≡ map (λ (n : Message). n.body) (take i ms) = ap (take i) (sym are) ∙ take-map (λ (n : Message). n.body) i ms in
     let target_is : get_or (targets bodies) i d.target ≡ m.target =
-    ap (λ ts. get_or ts i d.target) (sym (targets_of (targets bodies) bodies (length-targets bodies)))
+    ap (λ ts. get_or ts i d.target) (sym (targets_of _ bodies (length-targets bodies)))
     ∙ get_or-map (λ (n : Message). n.target) ms i d d.target below in
     ap (λ (t : Target). t.base) (sym target_is ∙ get_or-targets bodies i d.target (omega (arith, below, length-messages_of bodies)))
     ∙ target-base front body
@@ -51,16 +51,16 @@ messages_numbered bodies i d below =
     ∙ ap (λ b. numbered b (count_by (same_digest b) front + 1)) body_is
     ∙ ap (λ n. numbered m.body (n + 1)) (ap (count_by (same_digest m.body)) front_is ∙ count-bodies (same_digest m.body) (take i ms))
 
-pub text_numbered : (t : List ℕ) (ms : List Message) → MessagesOf t ms → AreNumbered ms
-text_numbered t ms (inl (entries, is, e)) = subst AreNumbered (sym e) (messages_numbered (bodies_of entries))
-text_numbered t ms (inr (none, e)) = subst AreNumbered (sym e) (λ i d below. absurd (omega (arith, below)))
+pub text_numbered : (t : List ℕ) {ms : List Message} → MessagesOf t ms → AreNumbered ms
+text_numbered t (inl (entries, is, e)) = subst AreNumbered (sym e) (messages_numbered (bodies_of entries))
+text_numbered t (inr (none, e)) = subst AreNumbered (sym e) (λ i d below. absurd (omega (arith, below)))
 
-pub text_few : (t : List ℕ) (ms : List Message) → MessagesOf t ms → length t < 2 ^ 63 → length ms ≤ 2 ^ 63
-text_few t ms (inl (entries, is, e)) small =
+pub text_few : (t : List ℕ) {ms : List Message} → MessagesOf t ms → length t < 2 ^ 63 → length ms ≤ 2 ^ 63
+text_few t (inl (entries, is, e)) small =
     let few = few_bodies_of_text t entries is small in
     let len = length-messages_of (bodies_of entries) in
     omega (arith, ap length e, len, few)
-text_few t ms (inr (none, e)) small = omega (arith, ap length e)
+text_few t (inr (none, e)) small = omega (arith, ap length e)
 
 -- ---- the elements that pass a test, by their number
 -- the element that passes a test after k others

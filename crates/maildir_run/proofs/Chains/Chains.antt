@@ -28,9 +28,9 @@ chain_map step other f each links old new =
     chain_fold step (λ ls s. Chain other (map f ls) s new) new refl (λ link _ a b linked rest. (b, each link a b linked, rest)) links old
 
 -- each of its links leads from one moment to another
-pub chain_at : {L S : Type 0} (step : L → S → S → Type 0) (link : L) (links : List L) (old new : S)
+pub chain_at : {L S : Type 0} (step : L → S → S → Type 0) {link : L} (links : List L) (old new : S)
     → Chain step links old new → Contains links link → (a : S) × (b : S) × step link a b
-chain_at {L} {S} step link links old new =
+chain_at {L} {S} step {link} links old new =
     chain_fold step (λ ls s. Contains ls link → (a : S) × (b : S) × step link a b)
     new (λ (k, below, is). absurd (omega (arith, below))) at_first links old where
       at_first : (l : L) (ls : List L) (a b : S) → step l a b → (Contains ls link → (a : S) × (b : S) × step link a b)
@@ -47,21 +47,21 @@ chain_parts step (x ∷ xs) ys old new (next, first, then) = let r = chain_parts
 pub sound_now : (ms : List Message) (s : Files) → All (IsSoundAt s) ms → Sound ms s s
 sound_now ms s own = record { own = own; others = λ b named other. IsPermutation-refl _ }
 
-sound_trans : (ms : List Message) (a b c : Files) → Sound ms a b → Sound ms b c → Sound ms a c
-sound_trans ms a b c first then = record {
+sound_trans : {ms : List Message} {a b c : Files} → Sound ms a b → Sound ms b c → Sound ms a c
+sound_trans {b} first then = record {
   own = then.own;
   others = λ b named other. IsPermutation-trans _ _ _ (first.others b named other) (then.others b named other);
 }
 
-pub sound_at_start : (ms : List Message) (s : Files) → All (IsMissing s) ms → Sound ms s s
-sound_at_start ms s missing = sound_now ms s (λ k d h. inl (missing k d h))
+pub sound_at_start : {ms : List Message} {s : Files} → All (IsMissing s) ms → Sound ms s s
+sound_at_start {ms} {s} missing = sound_now ms s (λ k d h. inl (missing k d h))
 
 acted_sound_at : (m : Message) → IsTrue (is_converter_base m.target.base) → (action : Action) (s : Files) → IsSoundAt s m → IsSoundAt (acted action s) m
 acted_sound_at m named action s (inl none) = inl (homes_none m.target.base s (acted action s) (acted_kept m.target.base named action s) none)
 acted_sound_at m named action s (inr one) = inr (homes_one m.target.base m.body s (acted action s) (acted_kept m.target.base named action s) one)
 
-pub acted_sound : (ms : List Message) → AreNamed ms → (a s : Files) (action : Action) → Sound ms a s → Sound ms a (acted action s)
-acted_sound ms named a s action sound = record {
+pub acted_sound : {ms : List Message} → AreNamed ms → {a s : Files} (action : Action) → Sound ms a s → Sound ms a (acted action s)
+acted_sound {ms} named {s} action sound = record {
   own = λ k d h. acted_sound_at (get_or ms k d) (named k d h) action s (sound.own k d h);
   others = λ b is other. IsPermutation-trans _ _ _ (sound.others b is other) (acted_kept b is action s);
 }
@@ -69,12 +69,12 @@ acted_sound ms named a s action sound = record {
 -- ---- a chain over a text whose messages these are
 module _ (t : List ℕ) (ms : List Message) (are : MessagesOf t ms) (named : AreNamed ms) where
   linked_sound : (link : Link) (a old new : Files) → Sound ms a old → Linked t link old new → Sound ms a new
-  linked_sound (Ran answer) a old new sound run = sound_trans ms a old new sound (run.keeps ms are (sound_now ms old sound.own)).sound
-  linked_sound (Acted action) a old new sound e = subst (Sound ms a) (sym e) (acted_sound ms named a old action sound)
+  linked_sound (Ran answer) a old new sound run = sound_trans sound (run.keeps ms are (sound_now ms old sound.own)).sound
+  linked_sound (Acted action) a old new sound e = subst (Sound ms a) (sym e) (acted_sound named action sound)
 
   pub chain_sound : (links : List Link) (old new : Files) → All (IsMissing old) ms → Runs t links old new → Sound ms old new
   chain_sound links old new missing runs =
-      chain_keeps (Linked t) (Sound ms old) (λ link a b sound linked. linked_sound link old a b sound linked) links old new (sound_at_start ms old missing) runs
+      chain_keeps (Linked t) (Sound ms old) (λ link a b sound linked. linked_sound link old a b sound linked) links old new (sound_at_start missing) runs
 
   pub chain_delivered : (links : List Link) (old mid new : Files) (report : Report)
       → All (IsMissing old) ms → Runs t links old mid → IsRun t mid (Ok report) new → Delivered ms new
@@ -85,10 +85,10 @@ still_swept : (name : List ℕ) → IsTrue (is_converter_name name) → (action 
 still_swept name ours action s h =
     elim (acted_tmp name ours action s) [ inl e ↦ e ∙ h | inr e ↦ e ]
 
-pub acted_delivered : (ms : List Message) → AreNamed ms → (action : Action) (s : Files) → Delivered ms s → Delivered ms (acted action s)
-acted_delivered ms named action s d = record {
+pub acted_delivered : {ms : List Message} → AreNamed ms → (action : Action) {s : Files} → Delivered ms s → Delivered ms (acted action s)
+acted_delivered {ms} named action {s} d = record {
   homes_are = λ k e h.
       homes_one (get_or ms k e).target.base (get_or ms k e).body s (acted action s)
-      (acted_kept (get_or ms k e).target.base (named k e h) action s) (d.homes_are k e h);
+      (acted_kept _ (named k e h) action s) (d.homes_are k e h);
   swept = λ name ours. still_swept name ours action s (d.swept name ours);
 }

@@ -26,28 +26,28 @@ pub record Rise (b : List ℕ) (c n : ℕ) (answer : Result Report RunFault) (s 
   pub done : OnOk answer (c ≤ now)
 
 -- a number is that of no other
-other_number : (b x : List ℕ) (j k : ℕ) → j < k → k ≤ 2 ^ 63 → x ≡ numbered b (k + 1) → numbered b (j + 1) ≡ x → ⊥
-other_number b x j k lt few is e =
+other_number : (b : List ℕ) {x : List ℕ} {j k : ℕ} → j < k → k ≤ 2 ^ 63 → x ≡ numbered b (k + 1) → numbered b (j + 1) ≡ x → ⊥
+other_number b {j} {k} lt few is e =
     let same = same-number b b (j + 1) (k + 1) (omega (arith, lt, few)) (omega (arith, few)) (e ∙ is) in
     absurd (omega (arith, same, lt))
 
 -- a message whose number is among those that are there is at home
-pub home_level : (ms : List Message) (s : Files) → AreNumbered ms → (i : ℕ) (d : Message) → i < length ms
+pub home_level : (ms : List Message) {s : Files} → AreNumbered ms → {i : ℕ} (d : Message) → i < length ms
     → (level : Level (get_or ms i d).body s) → with_digest (get_or ms i d).body (take i ms) < level.n → IsHome s (get_or ms i d)
-home_level ms s nums i d below level lt = ap (homes s) (nums i d below) ∙ level.there.up_to (with_digest (get_or ms i d).body (take i ms)) lt
+home_level ms {s} nums {i} d below level lt = ap (homes s) (nums i d below) ∙ level.there.up_to (with_digest (get_or ms i d).body (take i ms)) lt
 
 -- a message whose body is there so often is sound
-pub sound_level : (ms : List Message) (s : Files) → AreNumbered ms → length ms ≤ 2 ^ 63 → AreNamed ms
-    → (i : ℕ) (d : Message) → i < length ms → Level (get_or ms i d).body s → IsSoundAt s (get_or ms i d)
-sound_level ms s nums few named i d below level =
+pub sound_level : (ms : List Message) {s : Files} → AreNumbered ms → length ms ≤ 2 ^ 63 → AreNamed ms
+    → {i : ℕ} (d : Message) → i < length ms → Level (get_or ms i d).body s → IsSoundAt s (get_or ms i d)
+sound_level ms {s} nums few named {i} d below level =
     let m = get_or ms i d in
     let k = with_digest m.body (take i ms) in
     let is : m.target.base ≡ numbered m.body (k + 1) = nums i d below in
     let most : k ≤ length ms = few_with_digest m.body ms i in
     elim (cases_lt k level.n) [
-      | inl lt ↦ inr (home_level ms s nums i d below level lt)
+      | inl lt ↦ inr (home_level ms nums d below level lt)
       | inr ge ↦ inl (level.there.no_other m.target.base (named i d below) (ap (take 64) is ∙ numbered-digits m.body (k + 1))
-          (λ j lt. other_number m.body m.target.base j k (omega (arith, lt, ge)) (omega (arith, most, few)) is))
+          (λ j lt. other_number m.body (omega (arith, lt, ge)) (omega (arith, most, few)) is))
     ]
 
 -- the message of a text with this body and this base, before which the body stands k times
@@ -77,14 +77,14 @@ module _ (d : Message) (ms : List Message) (b : List ℕ) (nums : AreNumbered ms
   pub at_number : (k : ℕ) → k < with_digest b ms → AtNumber d ms b (numbered b (k + 1)) k
   at_number k lt =
       let s = select (has_digest_of b) ms k lt in
-      let body_is = own s.i s.below (sym (same_digest-text b (get_or ms s.i d).body (s.hit d))) in
+      let body_is = own s.i s.below (sym (same_digest-text b _ (s.hit d))) in
       record { i = s.i; below = s.below; before = s.before; body_is = body_is; base_is = base_at s.i s.below body_is ∙ ap (λ n. numbered b (n + 1)) s.before }
 
   pub of_base : (x : List ℕ) → take 64 x ≡ digest_text b → is_base_of ms x ≡ true → OfBody d ms b x
   of_base x digits on =
       let a = any_at (λ (m : Message). is_name m.target.base x) ms d on in
       let m = get_or ms a.0 d in
-      let same : m.target.base ≡ x = is_name-true m.target.base x a.2 in
+      let same : m.target.base ≡ x = is_name-true _ x a.2 in
       let text : digest_text m.body ≡ digest_text b =
       sym (ap (take 64) (nums a.0 d a.1) ∙ numbered-digits m.body (with_digest m.body (take a.0 ms) + 1)) ∙ ap (take 64) same ∙ digits in
       let body_is = own a.0 a.1 text in
@@ -121,7 +121,7 @@ module _ (d : Message) (ms : List Message) (b : List ℕ) (nums : AreNumbered ms
       ]
 
   risen : Gap (λ k. has_home new (numbered b (k + 1))) n (n + (with_digest b ms - n))
-  risen = gap (λ k. has_home new (numbered b (k + 1))) (with_digest b ms - n) n (n + (with_digest b ms - n)) refl
+  risen = gap (λ k. has_home new (numbered b (k + 1))) _ n _ refl
 
   up_to_now : (k : ℕ) → k < risen.j → homes new (numbered b (k + 1)) ≡ b ∷ []
   up_to_now k lt =
@@ -138,15 +138,15 @@ module _ (d : Message) (ms : List Message) (b : List ℕ) (nums : AreNumbered ms
       elim (cases_lt risen.j o.k) [
         | inr le ↦ let same : o.k ≡ risen.j =
             omega (arith, ge, le) in
-            none_of (homes new x) (ap (has_home new) (o.is ∙ ap (λ z. numbered b (z + 1)) same) ∙ at_end)
+            none_of _ (ap (has_home new) (o.is ∙ ap (λ z. numbered b (z + 1)) same) ∙ at_end)
         | inl lt ↦
             let a = at_number d ms b nums own risen.j (omega (arith, lt, o.below)) in
             let before : a.i < o.at.i = fewer_before (has_digest_of b) ms a.i o.at.i (omega (arith, a.before, o.at.before, lt)) in
             let missing : homes old (get_or ms o.at.i d).target.base ≡ [] =
             ap (homes old) o.at.base_is ∙ there.no_other x named digits
-            (λ k below. other_number b x k o.k (omega (arith, below, risen.from, ge)) (omega (arith, o.below, most, few)) o.is) in
+            (λ k below. other_number b (omega (arith, below, risen.from, ge)) (omega (arith, o.below, most, few)) o.is) in
             elim (cases_Bool (has_home new x)) [
-              | inr off ↦ none_of (homes new x) off
+              | inr off ↦ none_of _ off
               | inl on ↦
                   let came : has_home new (get_or ms a.i d).target.base ≡ true =
                   keeps.in_order a.i o.at.i d before o.at.below missing (ap (has_home new) o.at.base_is ∙ on) in

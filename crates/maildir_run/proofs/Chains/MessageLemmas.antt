@@ -17,7 +17,7 @@ targets_of (t ∷ ts) (body ∷ bodies) e = ap (λ xs. t ∷ xs) (targets_of ts 
 pub length-messages_of : (bodies : List (List ℕ)) → length (messages_of bodies) ≡ length bodies
 length-messages_of bodies =
     sym (length-map (messages_of bodies) (λ (m : Message). m.target))
-    ∙ ap length (targets_of (targets bodies) bodies (length-targets bodies))
+    ∙ ap length (targets_of _ bodies (length-targets bodies))
     ∙ length-targets bodies
 
 with_bodies-push : (ts : List Target) (bodies : List (List ℕ)) (t : Target) (body : List ℕ) → length ts ≡ length bodies
@@ -32,12 +32,12 @@ module _ (bodies : List (List ℕ)) where
   pub messages_of-push : (body : List ℕ) → messages_of (bodies ++ body ∷ []) ≡ messages_of bodies ++ record { target = target bodies body; body = body } ∷ []
   messages_of-push body =
       ap (λ ts. with_bodies ts (bodies ++ body ∷ [])) (targets-push bodies body)
-      ∙ with_bodies-push (targets bodies) bodies (target bodies body) body (length-targets bodies)
+      ∙ with_bodies-push _ bodies (target bodies body) body (length-targets bodies)
 
   -- ---- their bases
   get_target : (k : ℕ) (d : Message) → k < length (messages_of bodies) → get_or (targets bodies) k d.target ≡ (get_or (messages_of bodies) k d).target
   get_target k d below =
-      ap (λ ts. get_or ts k d.target) (sym (targets_of (targets bodies) bodies (length-targets bodies)))
+      ap (λ ts. get_or ts k d.target) (sym (targets_of _ bodies (length-targets bodies)))
       ∙ get_or-map (λ (m : Message). m.target) (messages_of bodies) k d d.target below
 
   as_many : length (messages_of bodies) ≡ length (targets bodies)
@@ -47,8 +47,8 @@ module _ (bodies : List (List ℕ)) where
   messages_named few k d below =
       rw (get_target k d below) at (named-targets bodies few k d.target (omega (arith, below, as_many))).converter
 
-pub target_is : (t : Target) → IsConverterBase t.base × (base t.base ≡ t.base) × (base t.name ≡ t.base) → IsTarget t
-target_is t h = record {
+pub target_is : {t : Target} → IsConverterBase t.base × (base t.base ≡ t.base) × (base t.name ≡ t.base) → IsTarget t
+target_is {t} h = record {
   named = h.0;
   whole = ap (is_name t.base) h.1 ∙ is_name-refl t.base;
   under = ap (is_name t.base) h.2 ∙ is_name-refl t.base;
@@ -58,7 +58,7 @@ pub messages_targets : (bodies : List (List ℕ)) → length bodies ≤ 2 ^ 63 �
 messages_targets bodies few k d below =
     subst IsTarget (get_target bodies k d below)
     (let named = named-targets bodies few k d.target (omega (arith, below, as_many bodies)) in
-    target_is (get_or (targets bodies) k d.target) (named.converter, named.own_base, named.same_base))
+    target_is (named.converter, named.own_base, named.same_base))
 
 different : (a b : List ℕ) → (a ≡ b → ⊥) → IsFalse (is_name a b)
 different a b apart = false_from_ne_true (is_name a b) (λ e. apart (is_name-true a b e))
@@ -69,7 +69,7 @@ messages_distinct bodies few i j d lt below =
     ap (λ (t : Target). t.base) (get_target bodies i d (omega arith)) in
     let base_j : (get_or (targets bodies) j d.target).base ≡ (get_or (messages_of bodies) j d).target.base =
     ap (λ (t : Target). t.base) (get_target bodies j d below) in
-    different (get_or (messages_of bodies) i d).target.base (get_or (messages_of bodies) j d).target.base
+    different _ _
     (λ e. distinct-targets bodies few i j d.target lt (omega (arith, below, as_many bodies)) (base_i ∙ (e ∙ sym base_j)))
 
 -- ---- a text has no more messages than bytes
@@ -85,10 +85,10 @@ module _ (t : List ℕ) (ms : List Message) where
   text_named (inr (none, e)) small = subst AreNamed (sym e) (All-nil (λ (m : Message). IsTrue (is_converter_base m.target.base)))
 
   pub text_distinct : MessagesOf t ms → length t < 2 ^ 63 → AreDistinct ms
-  text_distinct (inl (entries, is, e)) small = subst AreDistinct (sym e) (messages_distinct (bodies_of entries) (few_bodies_of_text t entries is small))
+  text_distinct (inl (entries, is, e)) small = subst AreDistinct (sym e) (messages_distinct _ (few_bodies_of_text t entries is small))
   text_distinct (inr (none, e)) small = subst AreDistinct (sym e) (λ i j d lt below. absurd (omega arith))
 
   pub text_targets : MessagesOf t ms → length t < 2 ^ 63 → All (λ m. IsTarget m.target) ms
   text_targets (inl (entries, is, e)) small =
-      subst (All (λ m. IsTarget m.target)) (sym e) (messages_targets (bodies_of entries) (omega (arith, few_bodies_of_text t entries is small)))
+      subst (All (λ m. IsTarget m.target)) (sym e) (messages_targets _ (omega (arith, few_bodies_of_text t entries is small)))
   text_targets (inr (none, e)) small = subst (All (λ m. IsTarget m.target)) (sym e) (All-nil (λ (m : Message). IsTarget m.target))

@@ -18,10 +18,10 @@ same_place ms distinct i j d in_i in_j same =
     grind (arith, cases_lt i j, is_name (get_or ms j d).target.base (get_or ms i d).target.base, eq_by_cmp_equiv total, cases_lt j i)
 
 -- the text gives to each base the body of its message alone
-own_body : (text : Mailbox) → AreDistinct text.messages → (i : ℕ) (d : Message) → i < length text.messages → (s : Files)
+own_body : {text : Mailbox} → AreDistinct text.messages → {i : ℕ} (d : Message) → i < length text.messages → {s : Files}
     → IsMissing s (get_or text.messages i d) ⊎ HoldsGiven (text ∷ []) s (get_or text.messages i d) → IsSoundAt s (get_or text.messages i d)
-own_body text distinct i d below s (inl none) = inl none
-own_body text distinct i d below s (inr holds) =
+own_body distinct d below (inl none) = inl none
+own_body {text} distinct {i} d below (inr holds) =
     let ms = text.messages in
     let m = get_or ms i d in
     let a = any_at (λ (n : Message). is_name n.target.base m.target.base && bytes_eq n.body holds.body) ms d (sym (or-false _) ∙ holds.given) in
@@ -30,24 +30,24 @@ own_body text distinct i d below s (inr holds) =
     let body : holds.body ≡ m.body = sym ((bytes_decides (get_or ms a.0 d).body holds.body).0 parts.1) ∙ ap (λ k. (get_or ms k d).body) (sym same) in
     inr (holds.homes_are ∙ ap (λ b. b ∷ []) body)
 
-pub one_sound : (text : Mailbox) (old new : Files) → IsMailbox text → SoundForAll (text ∷ []) old new → Sound text.messages old new
-one_sound text old new is sound =
+pub one_sound : {text : Mailbox} {old new : Files} → IsMailbox text → SoundForAll (text ∷ []) old new → Sound text.messages old new
+one_sound {text} {new} is sound =
     let all = All-head (λ (x : Mailbox). All (λ (m : Message). IsMissing new m ⊎ HoldsGiven (text ∷ []) new m) x.messages) text [] sound.own in
     record {
-      own = λ i d below. own_body text (text_distinct text.bytes text.messages is.are is.small) i d below new (all i d below);
+      own = λ i d below. own_body (text_distinct text.bytes text.messages is.are is.small) d below (all i d below);
       others = λ b named off. sound.others b named (ap (λ t. t || false) off);
     }
 
-one_place : (text : Mailbox) (old new : Files) → Sound text.messages old new → (k : ℕ) → k < length (text ∷ [])
+one_place : {text : Mailbox} {old new : Files} → Sound text.messages old new → (k : ℕ) → k < length (text ∷ [])
     → All (λ (m : Message). IsMissing new m ⊎ HoldsGiven (text ∷ []) new m) (get_or (text ∷ []) k text).messages
-one_place text old new sound zero below = λ i e inside. home_given (text ∷ []) 0 text below i e inside new (sound.own i e inside)
-one_place text old new sound (suc k) below = absurd (omega (arith, below))
+one_place {text} {new} sound zero below = λ i e inside. home_given text below e inside (sound.own i e inside)
+one_place sound (suc k) below = absurd (omega (arith, below))
 
-pub sound_one : (text : Mailbox) (old new : Files) → Sound text.messages old new → SoundForAll (text ∷ []) old new
-sound_one text old new sound = record {
+pub sound_one : {text : Mailbox} {old new : Files} → Sound text.messages old new → SoundForAll (text ∷ []) old new
+sound_one {text} {new} sound = record {
   own =
       All-from_get_or (λ (x : Mailbox). All (λ (m : Message). IsMissing new m ⊎ HoldsGiven (text ∷ []) new m) x.messages)
-      (text ∷ []) text (one_place text old new sound);
+      (text ∷ []) text (one_place sound);
   others = λ b named off. sound.others b named (or_parts (is_base_of text.messages b) false off).0;
 }
 

@@ -27,19 +27,19 @@ same_test b m own =
           let on' : same_digest b m.body ≡ true = ap (same_digest b) (sym ((bytes_decides b m.body).0 on)) ∙ same_digest-refl b in cc))
     ]
 
-counts_alike : (b : List ℕ) (ms : List Message) → All (λ m. digest_text m.body ≡ digest_text b → m.body ≡ b) ms
+counts_alike : {b : List ℕ} (ms : List Message) → All (λ m. digest_text m.body ≡ digest_text b → m.body ≡ b) ms
     → with_digest b ms ≡ count_by (λ m. bytes_eq b m.body) ms
-counts_alike b [] own = refl
-counts_alike b (m ∷ ms) own =
+counts_alike [] own = refl
+counts_alike {b} (m ∷ ms) own =
     let here = All-head (λ (n : Message). digest_text n.body ≡ digest_text b → n.body ≡ b) m ms own in
-    let rest = counts_alike b ms (All-tail (λ (n : Message). digest_text n.body ≡ digest_text b → n.body ≡ b) m ms own) in
+    let rest = counts_alike ms (All-tail (λ (n : Message). digest_text n.body ≡ digest_text b → n.body ≡ b) m ms own) in
     count-cons (has_digest_of b) m ms (bytes_eq b m.body) (same_test b m here)
     ∙ ap (λ n. cond (bytes_eq b m.body) 1 0 + n) rest
     ∙ sym (count-cons (λ (n : Message). bytes_eq b n.body) m ms (bytes_eq b m.body) refl)
 
 -- a test that no text passes fails at each
-none_at : {X : Type 0} (p : X → Bool) (xs : List X) (x : X) → list_any p xs ≡ false → Contains xs x → p x ≡ false
-none_at p xs x off (k, below, is) = false_from_ne_true (p x) (λ on. let any = list_any_at p xs k x below (ap p is ∙ on) in cc)
+none_at : {X : Type 0} (p : X → Bool) (xs : List X) {x : X} → list_any p xs ≡ false → Contains xs x → p x ≡ false
+none_at p xs {x} off (k, below, is) = false_from_ne_true (p x) (λ on. let any = list_any_at p xs k x below (ap p is ∙ on) in cc)
 
 -- a message for places past a list's end
 nobody : Message
@@ -60,15 +60,15 @@ pub record Grown (links : List LinkOver) (b : List ℕ) (n : ℕ) (s : Files) : 
   pub at_least : most_delivered b links ≤ level.n
   pub at_most : level.n ≤ max n (most_tried b links)
 
-grown_ran : (text : Mailbox) (answer : Result Report RunFault) (links : List LinkOver) (b : List ℕ) (n : ℕ) (mid new : Files)
+grown_ran : {text : Mailbox} (answer : Result Report RunFault) {links : List LinkOver} {b : List ℕ} {n : ℕ} {mid new : Files}
     (r : Rise b (count_in b text) n answer mid) → Grown links b r.now new → Grown (RanOver text answer ∷ links) b n new
-grown_ran text (Ok report) links b n mid new r g = record {
+grown_ran (Ok report) r g = record {
   level = g.level;
   from = omega (arith, r.from, g.from);
   at_least = omega (arith, r.done, g.from, g.at_least);
   at_most = omega (arith, r.to, g.at_most);
 }
-grown_ran text (Err fault) links b n mid new r g = record {
+grown_ran (Err fault) r g = record {
   level = g.level;
   from = omega (arith, r.from, g.from);
   at_least = g.at_least;
@@ -76,11 +76,11 @@ grown_ran text (Err fault) links b n mid new r g = record {
 }
 
 -- the home of a message holds what a text gives to its base
-pub home_given : (texts : List Mailbox) (k : ℕ) (d : Mailbox) → k < length texts → (i : ℕ) (e : Message)
-    → i < length (get_or texts k d).messages → (s : Files) → IsSoundAt s (get_or (get_or texts k d).messages i e)
+pub home_given : {texts : List Mailbox} {k : ℕ} (d : Mailbox) → k < length texts → {i : ℕ} (e : Message)
+    → i < length (get_or texts k d).messages → {s : Files} → IsSoundAt s (get_or (get_or texts k d).messages i e)
     → IsMissing s (get_or (get_or texts k d).messages i e) ⊎ HoldsGiven texts s (get_or (get_or texts k d).messages i e)
-home_given texts k d below i e inside s (inl none) = inl none
-home_given texts k d below i e inside s (inr home) =
+home_given d below e inside (inl none) = inl none
+home_given {texts} {k} d below {i} e inside (inr home) =
     let m = get_or (get_or texts k d).messages i e in
     let hit : (is_name m.target.base m.target.base && bytes_eq m.body m.body) ≡ true = rw (is_name-refl m.target.base, nat_list_eq_equiv.refl m.body) refl in
     let inner = list_any_at (λ (n : Message). is_name n.target.base m.target.base && bytes_eq n.body m.body) (get_or texts k d).messages i e inside hit in
@@ -127,8 +127,8 @@ module _ (texts : List Mailbox) (are : All IsMailbox texts) (own : HaveOwnDigest
     level_sound_at : (s : Files) → AreLevel s → All (IsSoundAt s) text.messages
     level_sound_at s levels i d below =
         let t = text_at in
-        sound_level text.messages s (text_numbered text.bytes text.messages t.are)
-        (text_few text.bytes text.messages t.are t.small) (text_named text.bytes text.messages t.are t.small) i d below
+        sound_level text.messages (text_numbered text.bytes t.are)
+        (text_few text.bytes t.are t.small) (text_named text.bytes text.messages t.are t.small) d below
         (levels (get_or text.messages i d).body
         (record { text = text; among = among; m = get_or text.messages i d; inside = Contains-get_or text.messages i d below; is = refl }))
 
@@ -141,14 +141,14 @@ module _ (texts : List Mailbox) (are : All IsMailbox texts) (own : HaveOwnDigest
         let t = text_at in
         let keeps = run.keeps text.messages t.are (level_sound old levels) in
         let mine = own_in b is in
-        rw (counts_alike b text.messages mine) at (rise nobody text.messages b (text_numbered text.bytes text.messages t.are)
-        (λ i below. mine i nobody below) (text_few text.bytes text.messages t.are t.small) old new answer keeps l.n l.there l.small)
+        rw (counts_alike text.messages mine) at (rise nobody text.messages b (text_numbered text.bytes t.are)
+        (λ i below. mine i nobody below) (text_few text.bytes t.are t.small) old new answer keeps l.n l.there l.small)
 
     count_small : (b : List ℕ) → count_in b text ≤ 2 ^ 63
     count_small b =
         let t = text_at in
         let most = count_by-le-length (λ (m : Message). bytes_eq b m.body) text.messages in
-        let few = text_few text.bytes text.messages t.are t.small in
+        let few = text_few text.bytes t.are t.small in
         omega (arith, most, few)
 
     abbrev rise_level : (answer : Result Report RunFault) (s : Files) (b : List ℕ) (n : ℕ) → n ≤ 2 ^ 63 → Rise b (count_in b text) n answer s → Level b s
@@ -184,7 +184,7 @@ module _ (texts : List Mailbox) (are : All IsMailbox texts) (own : HaveOwnDigest
       → LinkedOver texts link old mid → Grows new links mid → Grows new (link ∷ links) old
   linked_grows new (RanOver text answer) links old mid (among, run) rest levels b is l =
       let r = ran_rise text among answer old mid levels run b is l in
-      grown_ran text answer links b l.n mid new r
+      grown_ran answer r
       (rest (ran_levels text among answer old mid levels run) b is (rise_level text among answer mid b l.n l.small r))
   linked_grows new (ActedOver action) links old mid e rest levels b is l =
       let g = subst (Grows new links) e rest (λ x at. acted_level action old x (levels x at)) b is (acted_level action old b l) in
@@ -199,7 +199,7 @@ module _ (texts : List Mailbox) (are : All IsMailbox texts) (own : HaveOwnDigest
       → AreLevel old → LinkedOver texts link old new → IsPermutation (homes old x) (homes new x)
   linked_others x named off (RanOver text answer) old new levels (among, run) =
       let keeps = run.keeps text.messages (text_at text among).are (level_sound text among old levels) in
-      keeps.sound.others x named (none_at (λ (y : Mailbox). is_base_of y.messages x) texts text off among)
+      keeps.sound.others x named (none_at (λ (y : Mailbox). is_base_of y.messages x) texts off among)
   linked_others x named off (ActedOver action) old new levels e = rw e (acted_kept x named action old)
 
   chain_others : (links : List LinkOver) (old new : Files) → AreLevel old → RunsOver texts links old new → (x : List ℕ)
@@ -247,15 +247,15 @@ module _ (texts : List Mailbox) (are : All IsMailbox texts) (own : HaveOwnDigest
   chain_whole links old new text report unknown runs ran i d below =
       let ms = text.messages in
       let b = (get_or ms i d).body in
-      let among = (chain_at (LinkedOver texts) (RanOver text (Ok report)) links old new runs ran).2.0 in
+      let among = (chain_at (LinkedOver texts) links old new runs ran).2.0 in
       let t = text_at text among in
       let is : IsBodyOf texts b = record { text = text; among = among; m = get_or ms i d; inside = Contains-get_or ms i d below; is = refl } in
       let start = levels_at_start old unknown in
       let g = chain_grown links old new runs start b is (start b is) in
       let count = delivered_count b links text report ran in
-      let alike = counts_alike b ms (own_in text among b is) in
+      let alike = counts_alike ms (own_in text among b is) in
       let before = count-front (has_digest_of b) ms i d below (same_digest-refl b) in
-      home_level ms new (text_numbered text.bytes ms t.are) i d below g.level (omega (arith, count, alike, before, g.at_least))
+      home_level ms (text_numbered _ t.are) d below g.level (omega (arith, count, alike, before, g.at_least))
 
   pub chain_sound : (links : List LinkOver) (old new : Files) → OfEach (λ m. IsUnknown old m.body) texts
       → RunsOver texts links old new → SoundForAll texts old new
@@ -264,6 +264,6 @@ module _ (texts : List Mailbox) (are : All IsMailbox texts) (own : HaveOwnDigest
       let levels : AreLevel new = λ b is. (chain_grown links old new runs start b is (start b is)).level in
       record {
         own = λ k d below i e inside.
-            home_given texts k d below i e inside new (level_sound_at (get_or texts k d) (Contains-get_or texts k d below) new levels i e inside);
+            home_given d below e inside (level_sound_at (get_or texts k d) (Contains-get_or texts k d below) new levels i e inside);
         others = λ x named off. chain_others links old new start runs x named off;
       }

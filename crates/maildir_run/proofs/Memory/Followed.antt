@@ -9,10 +9,10 @@ use Rattle.maildir_run.proofs.Memory.Scripts.{answered, called_then, cut_fails, 
 pub follows_called : {A : Type 0} (call : Call) (old new : MemFolder) (result : Result A FolderFault)
     → FollowsScript call old result new → Called call (files_of old) result (files_of new)
 follows_called call old new result (inl a) =
-    called_then call (next_acts old) (files_of old) (next_files old) (files_of new)
-    result refl (answered (next_mode old) call (next_files old) (files_of new) result a)
+    called_then call (next_acts old) (files_of old) (files_of new)
+    result refl (answered _ call _ _ result a)
 follows_called call old new (Ok x) (inr w) = cc w.0
-follows_called call old new (Err f) (inr w) = cut_fails call (next_acts old) (files_of old) (files_of new) w.1
+follows_called call old new (Err f) (inr w) = cut_fails w.1
 
 -- a listing that answered Ok has left the files as the acts left them
 listing_changes_none : {A : Type 0} (mode : Mode) (sub : Sub) (s t : Files) (x : A) → Answers mode (Listing sub) s (Ok x) t → t ≡ s
@@ -23,11 +23,11 @@ listing_changes_none other sub s t x a = cc a.0
 pub follows_listed : (sub : Sub) (old new : MemFolder) (result : Result (Vec (String Global) Global) FolderFault) → FollowsScript (Listing sub) old result new
     → IfOk result (λ names. names_of names ≡ keys (folder_of sub (files_of new))) → Listed sub (files_of old) result (files_of new)
 follows_listed sub old new (Ok names) (inl a) is =
-    listed_then sub (next_acts old) (files_of old) (files_of new) (names_of names)
-    (listing_changes_none (next_mode old) sub (next_files old) (files_of new) names a) is
+    listed_then (next_acts old)
+    (listing_changes_none _ sub _ _ names a) is
 follows_listed sub old new (Ok names) (inr w) is = cc w.0
-follows_listed sub old new (Err f) follows is = follows_called {A = Vec (String Global) Global} (Listing sub) old new (Err f) follows
+follows_listed sub old new (Err f) follows is = follows_called {A = Vec (String Global) Global} _ old new (Err f) follows
 
 -- without a line there is no act that could be refused
-pub never_cut : (m : MemFolder) (s t : Files) → IsQuiet m → IsCutShort (next_acts m) s t → ⊥
-never_cut m s t quiet cut = not_cut (next_acts m) s t (ap (acts_at (next_call m)) quiet) cut
+pub never_cut : (m : MemFolder) {s t : Files} → IsQuiet m → IsCutShort (next_acts m) s t → ⊥
+never_cut m {s} {t} quiet cut = not_cut (ap (acts_at (next_call m)) quiet) cut

@@ -48,8 +48,8 @@ pub an_action : (a : Act) (s : Files) → (action : Action) × (performed a s �
 an_action (act.ToCur name target) s = (ToCur (string_bytes name) (string_bytes target), refl)
 an_action (act.Reflag name target) s = (Reflag (string_bytes name) (string_bytes target), refl)
 an_action (act.DropTmp name) s = (DropTmp (string_bytes name), refl)
-an_action (act.PutOther sub name bytes) s = guarded_action (is_converter_name (string_bytes name)) s _ (with_leaves sub (string_bytes name) bytes.items s)
-an_action (act.DropOther sub name) s = guarded_action (is_converter_name (string_bytes name)) s _ (without_leaves sub (string_bytes name) s)
+an_action (act.PutOther sub name bytes) s = guarded_action _ s _ (with_leaves sub (string_bytes name) bytes.items s)
+an_action (act.DropOther sub name) s = guarded_action _ s _ (without_leaves sub (string_bytes name) s)
 
 actions : (acts : List Act) (s : Files) → (done : List Action) × (all_performed acts s ≡ all_acted done s)
 actions [] s = ([], refl)
@@ -66,14 +66,14 @@ free_of : (taken same : Bool) → (not taken && same) ≡ true → taken ≡ fal
 free_of true same e = cc
 free_of false same e = refl
 
-other_name : (m : FileMap) (name target bytes : List ℕ) → get m name ≡ Some bytes → contains_key m target ≡ false → is_name name target ≡ false
-other_name m name target bytes has free =
+other_name : (m : FileMap) (name target : List ℕ) {bytes : List ℕ} → get m name ≡ Some bytes → contains_key m target ≡ false → is_name name target ≡ false
+other_name m name target has free =
     false_from_ne_true (is_name name target)
     (λ e. let there : contains_key m target ≡ true = ap (contains_key m) (sym (is_name-true name target e)) ∙ ap is_some has in cc)
 
-pub free_name : (m : FileMap) (name target : List ℕ) (answer : Bool) → get m target ≡ None
+pub free_name : (m : FileMap) (name target : List ℕ) {answer : Bool} → get m target ≡ None
     → answer ≡ bytes_eq (base name) (base target) → answer ≡ may_take m name target
-free_name m name target answer none is =
+free_name m name target none is =
     is ∙ sym (is_eq-slice_cmp (base name) (base target)) ∙ ap (λ o. not (is_some o) && is_name (base name) (base target)) (sym none)
 
 pub on_err : {A E : Type 0} (result : Result A E) {P : Type 0} → P → OnErr result P
@@ -91,8 +91,8 @@ one_more acts i d s now then lt is next =
     next ∙ ap (performed (get_or acts i d)) is
     ∙ sym (ap (λ xs. all_performed xs s) (take_more acts i d lt) ∙ all_performed-append (take i acts) (get_or acts i d ∷ []) s)
 
-pub cut_at : (acts : List Act) (i : ℕ) (d : Act) (s now : Files) → i < length acts → now ≡ all_performed (take i acts) s → IsCutShort acts s now
-cut_at acts i d s now lt is = record {
+pub cut_at : {acts : List Act} {i : ℕ} (d : Act) {s now : Files} → i < length acts → now ≡ all_performed (take i acts) s → IsCutShort acts s now
+cut_at {acts} {i} d lt is = record {
   made = take i acts;
   refused = get_or acts i d;
   rest = drop (suc i) acts;
@@ -105,18 +105,19 @@ acts_at-append call [] ys = refl
 acts_at-append call (x ∷ xs) ys =
     ap (λ l. cond (x.call == call) x.acts.items [] ++ l) (acts_at-append call xs ys) ∙ sym (append_assoc _ (acts_at call xs) (acts_at call ys))
 
-pub lines_more : (call : ℕ) (lines : List ScriptLine) (i : ℕ) (d : ScriptLine) (acts : List Act) (s now then : Files) → i < length lines
+pub lines_more : (call : ℕ) (lines : List ScriptLine) {i : ℕ} (d : ScriptLine) (acts : List Act) (s now then : Files) → i < length lines
     → cond ((get_or lines i d).call == call) (get_or lines i d).acts.items [] ≡ acts → now ≡ all_performed (acts_at call (take i lines)) s
     → then ≡ all_performed acts now → then ≡ all_performed (acts_at call (take (i + 1) lines)) s
-lines_more call lines i d acts s now then lt here is next =
+lines_more call lines {i} d acts s now then lt here is next =
     next ∙ ap (all_performed acts) is
     ∙ sym (all_performed-append (acts_at call (take i lines)) acts s)
     ∙ ap (λ xs. all_performed (acts_at call (take i lines) ++ xs) s) (sym here ∙ sym (append-nil _))
     ∙ ap (λ xs. all_performed xs s) (sym (ap (acts_at call) (take_more lines i d lt) ∙ acts_at-append call (take i lines) (get_or lines i d ∷ [])))
 
-pub lines_cut : (call : ℕ) (lines : List ScriptLine) (i : ℕ) (d : ScriptLine) (s now then : Files) → i < length lines → (get_or lines i d).call == call ≡ true
+pub lines_cut : (call : ℕ) (lines : List ScriptLine) {i : ℕ} (d : ScriptLine) {s now then : Files}
+    → i < length lines → (get_or lines i d).call == call ≡ true
     → now ≡ all_performed (acts_at call (take i lines)) s → IsCutShort (get_or lines i d).acts.items now then → IsCutShort (acts_at call lines) s then
-lines_cut call lines i d s now then lt on is cut =
+lines_cut call lines {i} d {s} lt on is cut =
     let line = get_or lines i d in
     let rest = acts_at call (drop (suc i) lines) in
     let before = acts_at call (take i lines) in
@@ -133,22 +134,22 @@ lines_cut call lines i d s now then lt on is cut =
       left = cut.left ∙ ap (all_performed cut.made) is ∙ sym (all_performed-append before cut.made s);
     }
 
-pub not_cut : (acts : List Act) (s t : Files) → acts ≡ [] → IsCutShort acts s t → ⊥
-not_cut acts s t none cut = no_parts cut.made cut.refused cut.rest (sym none ∙ cut.parts)
+pub not_cut : {acts : List Act} {s t : Files} → acts ≡ [] → IsCutShort acts s t → ⊥
+not_cut none cut = no_parts cut.made _ cut.rest (sym none ∙ cut.parts)
 
 -- ---- a file under another name
-reflagged : (s : Files) (name target bytes : List ℕ) (there : FileMap) → get s.cur name ≡ Some bytes → may_take s.cur name target ≡ true
+reflagged : (s : Files) (name target : List ℕ) {bytes : List ℕ} {there : FileMap} → get s.cur name ≡ Some bytes → may_take s.cur name target ≡ true
     → there ≡ remove (insert s.cur target bytes) name → record s { cur = there } ≡ acted (Reflag name target) s
-reflagged s name target bytes there has free is =
-    let apart_names : is_name name target ≡ false = other_name s.cur name target bytes has (free_of (contains_key s.cur target) _ free) in
+reflagged s name target {bytes} has free is =
+    let apart_names : is_name name target ≡ false = other_name s.cur name target has (free_of _ _ free) in
     rw (has, free, is, remove-insert s.cur name target bytes apart_names) refl
 
 -- one that was put under another name, and is then taken from the old one
-pub unlinked : (s mid : Files) (name target : List ℕ) (o : Option (List ℕ)) → get s.cur name ≡ o → may_link s name target o ≡ true
+pub unlinked : (s : Files) {mid : Files} (name target : List ℕ) (o : Option (List ℕ)) → get s.cur name ≡ o → may_link s name target o ≡ true
     → mid ≡ linked s name target o → record mid { cur = remove mid.cur name } ≡ acted (Reflag name target) s
-unlinked s mid name target None has may is = cc
-unlinked s mid name target (Some bytes) has may is =
-    ap (λ (t : Files). record t { cur = remove t.cur name }) is ∙ rw may (reflagged s name target bytes (remove (insert s.cur target bytes) name) has may refl)
+unlinked s name target None has may is = cc
+unlinked s name target (Some bytes) has may is =
+    ap (λ (t : Files). record t { cur = remove t.cur name }) is ∙ rw may (reflagged s name target has may refl)
 
 -- ---- calls
 after_others : (done : List Action) (s : Files) (call : Call) → after s call (map Other done) ≡ all_acted done s
@@ -164,37 +165,37 @@ others_whole [] = tt
 others_whole (a ∷ more) = others_whole more
 
 -- acts and then moves are moves
-acts_then : (acts : List Act) (old mid : Files) → mid ≡ all_performed acts old → (call : Call) (ms : List Move)
+acts_then : (acts : List Act) (old : Files) {mid : Files} → mid ≡ all_performed acts old → (call : Call) (ms : List Move)
     → after mid call ms ≡ after old call (map Other (actions acts old).0 ++ ms)
-acts_then acts old mid is call ms =
+acts_then acts old is call ms =
     let done = actions acts old in
     ap (λ s. after s call ms) (is ∙ done.1 ∙ sym (after_others done.0 old call)) ∙ sym (after-append old call (map Other done.0) ms)
 
-pub called_then : {A : Type 0} (call : Call) (acts : List Act) (old mid new : Files) (result : Result A FolderFault)
+pub called_then : {A : Type 0} (call : Call) (acts : List Act) (old : Files) {mid : Files} (new : Files) (result : Result A FolderFault)
     → mid ≡ all_performed acts old → Called call mid result new → Called call old result new
-called_then call acts old mid new (Ok x) is done =
+called_then call acts old {mid} new (Ok x) is done =
     let others = map Other (actions acts old).0 in
     record {
       before = others ++ done.before;
       rest = done.rest;
-      others = others_before (actions acts old).0 done.before done.others;
-      ready = subst (IsReady call) (acts_then acts old mid is call done.before) done.ready;
+      others = others_before (actions acts old).0 _ done.others;
+      ready = subst (IsReady call) (acts_then acts old is call done.before) done.ready;
       whole = done.whole;
       left =
-          done.left ∙ acts_then acts old mid is call (done.before ++ Again ∷ done.rest)
+          done.left ∙ acts_then acts old is call (done.before ++ Again ∷ done.rest)
           ∙ ap (after old call) (sym (append_assoc others done.before (Again ∷ done.rest)));
     }
-called_then call acts old mid new (Err f) is done =
-    record { moves = map Other (actions acts old).0 ++ done.moves; left = done.left ∙ acts_then acts old mid is call done.moves }
+called_then call acts old {mid} new (Err f) is done =
+    record { moves = map Other (actions acts old).0 ++ done.moves; left = done.left ∙ acts_then acts old is call done.moves }
 
-pub cut_fails : (call : Call) (acts : List Act) (old new : Files) → IsCutShort acts old new → AnyMoves call old new
-cut_fails call acts old new cut =
+pub cut_fails : {call : Call} {acts : List Act} {old new : Files} → IsCutShort acts old new → AnyMoves call old new
+cut_fails {call} {old} cut =
     let done = actions cut.made old in
     record { moves = map Other done.0; left = cut.left ∙ done.1 ∙ sym (after_others done.0 old call) }
 
-pub listed_then : (sub : Sub) (acts : List Act) (old new : Files) (names : List (List ℕ))
+pub listed_then : {sub : Sub} (acts : List Act) {old new : Files} {names : List (List ℕ)}
     → new ≡ all_performed acts old → names ≡ keys (folder_of sub new) → Lists sub old names new
-listed_then sub acts old new names is names_are =
+listed_then {sub} acts {old} {new} {names} is names_are =
     let done = actions acts old in
     let others = map Other done.0 in
     let reached : new ≡ after old (Listing sub) others = is ∙ done.1 ∙ sym (after_others done.0 old (Listing sub)) in
@@ -207,20 +208,20 @@ listed_then sub acts old new names is names_are =
       left = reached ∙ sym (after-append old (Listing sub) others (Again ∷ []));
     }
 
-halved_moves : (call : Call) (s : Files) → (ms : List Move) × (halved call s ≡ after s call ms)
-halved_moves (Writing name bytes) s = (Torn (take (length bytes / 2) bytes) ∷ [], refl)
-halved_moves other s = ([], refl)
+halved_moves : (call : Call) {s : Files} → (ms : List Move) × (halved call s ≡ after s call ms)
+halved_moves (Writing name bytes) = (Torn (take (length bytes / 2) bytes) ∷ [], refl)
+halved_moves other = ([], refl)
 
 mode_moves : (mode : Mode) (call : Call) (s : Files) → (ms : List Move) × (done mode call s ≡ after s call ms)
 mode_moves Plain call s = (Again ∷ [], refl)
 mode_moves FailBefore call s = ([], refl)
 mode_moves FailAfter call s = (Again ∷ [], refl)
-mode_moves Half call s = halved_moves call s
+mode_moves Half call s = halved_moves call
 mode_moves Twice call s = (Again ∷ Again ∷ [], refl)
 
-part_moves : (mode : Mode) (call : Call) (old new : Files) → IsPart mode call old new → (ms : List Move) × (new ≡ after old call ms)
-part_moves mode call old new (inl same) = ([], same)
-part_moves mode call old new (inr once) = (Again ∷ [], once.1)
+part_moves : {mode : Mode} {call : Call} {old new : Files} → IsPart mode call old new → (ms : List Move) × (new ≡ after old call ms)
+part_moves (inl same) = ([], same)
+part_moves (inr once) = (Again ∷ [], once.1)
 
 pub answered : {A : Type 0} (mode : Mode) (call : Call) (old new : Files) (result : Result A FolderFault)
     → Answers mode call old result new → Called call old result new
@@ -229,7 +230,7 @@ answered Twice call old new (Ok x) a = record { before = []; rest = Again ∷ []
 answered other call old new (Ok x) a = cc (a.0)
 answered mode call old new (Err fault.Absent) a = record { moves = []; left = a.2 }
 answered mode call old new (Err fault.Failed) a = let ms = mode_moves mode call old in record { moves = ms.0; left = a.1 ∙ ms.1 }
-answered mode call old new (Err fault.OutOfMemory) a = let ms = part_moves mode call old new a.1 in record { moves = ms.0; left = ms.1 }
+answered mode call old new (Err fault.OutOfMemory) a = let ms = part_moves a.1 in record { moves = ms.0; left = ms.1 }
 
 -- ---- placements
 nothing_placed : (mode : Mode) (name : List ℕ) (p : Place) (target : List ℕ) (s : Files)

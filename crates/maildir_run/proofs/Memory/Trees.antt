@@ -49,9 +49,9 @@ updated m n k w updates q =
     ∙ ap (λ t. cond t (bytes_in w) (bytes_in (get_by_text m q))) (sym (is_eq-slice_cmp k q) ∙ (eq_by_cmp_equiv total).symm k q)
     ∙ ap (cond (is_name q k) (bytes_in w)) (sym (get-map_of m q))
 
-pub map_of-insert : (m n : Tree) (k : List ℕ) (v : Vec ℕ Global)
+pub map_of-insert : (m n : Tree) (k : List ℕ) {v : Vec ℕ Global}
     → UpdatesBy string_cmp (λ x. slice_cmp nat_cmp k (string_bytes x)) m n (Some v) → map_of n ≡ insert (map_of m) k v.items
-map_of-insert m n k v updates = same_map total same _ _ (λ q. updated m n k (Some v) updates q ∙ sym (get-insert total (map_of m) k v.items q))
+map_of-insert m n k {v} updates = same_map total same _ _ (λ q. updated m n k (Some v) updates q ∙ sym (get-insert total (map_of m) k v.items q))
 
 pub map_of-remove : (m n : Tree) (k : List ℕ) → UpdatesBy string_cmp (λ x. slice_cmp nat_cmp k (string_bytes x)) m n None → map_of n ≡ remove (map_of m) k
 map_of-remove m n k updates = same_map total same _ _ (λ q. updated m n k None updates q ∙ sym (get-remove total (map_of m) k q))
@@ -83,25 +83,25 @@ names_in_order [] = refl
 names_in_order (e ∷ es) = ap (λ xs. string_bytes e.0 ∷ xs) (names_in_order es)
 
 pub keys-map_of : (m : Tree) → IsOrdered string_cmp m → keys (map_of m) ≡ map string_bytes (tree.keys m)
-keys-map_of m ordered = ap (map (λ e. e.0)) (ordered_entries m.entries ordered) ∙ names_in_order m.entries
+keys-map_of m ordered = ap (map (λ e. e.0)) (ordered_entries _ ordered) ∙ names_in_order m.entries
 
 pub len-map_of : (m : Tree) → IsOrdered string_cmp m → len (map_of m) ≡ length m.entries
-len-map_of m ordered = len-entries (map_of m) ∙ ap length (ordered_entries m.entries ordered) ∙ length-map m.entries (λ e. (string_bytes e.0, e.1.items))
+len-map_of m ordered = len-entries (map_of m) ∙ ap length (ordered_entries _ ordered) ∙ length-map m.entries (λ e. (string_bytes e.0, e.1.items))
 
 -- ---- the loop over the names
-pub one_listed : (listed rest after : List (String Global)) (name copy : String Global) (all : List (List ℕ))
+pub one_listed : (listed : List (String Global)) {rest after : List (String Global)} {name : String Global} (copy : String Global) {all : List (List ℕ)}
     → map string_bytes listed ++ map string_bytes rest ≡ all → rest ≡ name ∷ after
     → string_bytes copy ≡ string_bytes name → map string_bytes (listed ++ copy ∷ []) ++ map string_bytes after ≡ all
-one_listed listed rest after name copy all so_far left same_bytes =
+one_listed listed {after} copy so_far left same_bytes =
     ap (λ xs. xs ++ map string_bytes after) (map-append string_bytes listed (copy ∷ []))
     ∙ append_assoc (map string_bytes listed) (string_bytes copy ∷ []) (map string_bytes after)
     ∙ ap (λ b. map string_bytes listed ++ b ∷ map string_bytes after) same_bytes
     ∙ ap (λ xs. map string_bytes listed ++ map string_bytes xs) (sym left)
     ∙ so_far
 
-pub all_listed : (listed rest : List (String Global)) (all : List (List ℕ))
+pub all_listed : (listed : List (String Global)) {rest : List (String Global)} {all : List (List ℕ)}
     → map string_bytes listed ++ map string_bytes rest ≡ all → rest ≡ [] → map string_bytes listed ≡ all
-all_listed listed rest all so_far left =
+all_listed listed so_far left =
     sym (append-nil (map string_bytes listed)) ∙ ap (λ xs. map string_bytes listed ++ map string_bytes xs) (sym left) ∙ so_far
 
 -- ---- a copy of a tree
@@ -117,8 +117,8 @@ copied_pairs (e ∷ es) (f ∷ fs) h =
     ∙ ap (λ ps. (string_bytes e.0, e.1.items) ∷ ps) (copied_pairs es fs h.1)
 
 -- ---- two trees
-bytes_alike : (xs ys : List ℕ) → xs ≡ ys → bytes_eq xs ys ≡ true
-bytes_alike xs ys e = ap (bytes_eq xs) (sym e) ∙ nat_list_eq_equiv.refl xs
+bytes_alike : {xs ys : List ℕ} → xs ≡ ys → bytes_eq xs ys ≡ true
+bytes_alike {xs} e = ap (bytes_eq xs) (sym e) ∙ nat_list_eq_equiv.refl xs
 
 abbrev same_pair : String Global × Vec ℕ Global → String Global × Vec ℕ Global → Bool
 same_pair e f = string_eq e.0 f.0 && bytes_eq e.1.items f.1.items
@@ -144,14 +144,14 @@ pairs_alike (e ∷ es) [] alike = cc
 pairs_alike (e ∷ es) (f ∷ fs) alike =
     let here : pair e ≡ pair f = cc in
     let rest : pairs es ≡ pairs fs = cc in
-    rw (bytes_alike _ _ (ap (λ p. p.0) here), bytes_alike _ _ (ap (λ p. p.1) here)) (pairs_alike es fs rest)
+    rw (bytes_alike (ap (λ p. p.0) here), bytes_alike (ap (λ p. p.1) here)) (pairs_alike es fs rest)
 
 pub trees_alike : (m n : Tree) → pointwise same_pair m.entries n.entries ≡ true → map_of m ≡ map_of n
-trees_alike m n same = ap from_entries (alike_pairs m.entries n.entries same)
+trees_alike m n same = ap from_entries (alike_pairs _ _ same)
 
 pub alike_trees : (m n : Tree) → IsOrdered string_cmp m → IsOrdered string_cmp n → map_of m ≡ map_of n → pointwise same_pair m.entries n.entries ≡ true
 alike_trees m n m_ordered n_ordered same =
-    pairs_alike m.entries n.entries (sym (ordered_entries m.entries m_ordered) ∙ ap entries same ∙ ordered_entries n.entries n_ordered)
+    pairs_alike _ _ (sym (ordered_entries _ m_ordered) ∙ ap entries same ∙ ordered_entries _ n_ordered)
 
 -- ---- the names of two trees, one after the other
 abbrev Step : List (String Global) → Option (Bor (String Global)) → List (String Global) → Type 0
@@ -163,31 +163,31 @@ Last o p r = MatchOption o (MatchOption p (r ≡ true) (λ _. r ≡ false)) (λ 
 abbrev TellsSame : Bool → List (String Global) → List (String Global) → Type 0
 TellsSame r s t = (r ≡ true → map string_bytes s ≡ map string_bytes t) × (map string_bytes s ≡ map string_bytes t → r ≡ true)
 
-last_names : (s t u v : List (String Global)) (o p : Option (Bor (String Global))) (r : Bool) → Step s o u → Step t p v → Last o p r → TellsSame r s t
-last_names s t u v None None r first then last = (λ _. ap (map string_bytes) (first.0 ∙ sym then.0), λ _. last)
-last_names s t u v None (Some y) r first then last = (λ on. cc, λ names. let a = ap (map string_bytes) first.0 in let b = ap (map string_bytes) then in cc)
-last_names s t u v (Some x) None r first then last =
+last_names : (s t u v : List (String Global)) (o p : Option (Bor (String Global))) {r : Bool} → Step s o u → Step t p v → Last o p r → TellsSame r s t
+last_names s t u v None None first then last = (λ _. ap (map string_bytes) (first.0 ∙ sym then.0), λ _. last)
+last_names s t u v None (Some y) first then last = (λ on. cc, λ names. let a = ap (map string_bytes) first.0 in let b = ap (map string_bytes) then in cc)
+last_names s t u v (Some x) None first then last =
     (λ on. let off = last.0 in cc, λ names. let a = ap (map string_bytes) first in let b = ap (map string_bytes) then.0 in cc)
-last_names s t u v (Some x) (Some y) r first then last = (
+last_names s t u v (Some x) (Some y) first then last = (
   λ on. let off = last.0 in cc,
   λ names.
       let a = ap (map string_bytes) first in
       let b = ap (map string_bytes) then in
       let name : string_bytes x.now ≡ string_bytes y.now = cc in
-      let on = bytes_alike _ _ name in
+      let on = bytes_alike name in
       let off = last.1 in
       cc,
 )
 
-pub names_compared : (s t s' t' u v : List (String Global)) (xs ys : List (Bor (String Global))) (o p : Option (Bor (String Global))) (r : Bool)
+pub names_compared : (s t s' t' u v : List (String Global)) (xs ys : List (Bor (String Global))) (o p : Option (Bor (String Global))) {r : Bool}
     → Yields Step s xs s' → Step s' o u → Yields Step t ys t' → Step t' p v
     → AllZip (λ (x y : Bor (String Global)). string_eq x.now y.now ≡ true) xs ys → Last o p r → TellsSame r s t
-names_compared s t s' t' u v [] [] o p r from_s ends_s from_t ends_t same last =
-    last_names s t u v o p r (rw from_s ends_s) (rw from_t ends_t) last
-names_compared s t s' t' u v [] (y ∷ ys) o p r from_s ends_s from_t ends_t same last = absurd same
-names_compared s t s' t' u v (x ∷ xs) [] o p r from_s ends_s from_t ends_t same last = absurd same
-names_compared s t s' t' u v (x ∷ xs) (y ∷ ys) o p r (j, first_s, from_s) ends_s (k, first_t, from_t) ends_t same last =
-    let rest = names_compared j k s' t' u v xs ys o p r from_s ends_s from_t ends_t same.1 last in
+names_compared s t s' t' u v [] [] o p {r} from_s ends_s from_t ends_t same last =
+    last_names s t u v o p (rw from_s ends_s) (rw from_t ends_t) last
+names_compared s t s' t' u v [] (y ∷ ys) o p from_s ends_s from_t ends_t same last = absurd same
+names_compared s t s' t' u v (x ∷ xs) [] o p from_s ends_s from_t ends_t same last = absurd same
+names_compared s t s' t' u v (x ∷ xs) (y ∷ ys) o p {r} (j, first_s, from_s) ends_s (k, first_t, from_t) ends_t same last =
+    let rest = names_compared j k s' t' u v xs ys o p from_s ends_s from_t ends_t same.1 last in
     let a = ap (map string_bytes) first_s in
     let b = ap (map string_bytes) first_t in
     let name : string_bytes x.now ≡ string_bytes y.now = (bytes_decides (string_bytes x.now) (string_bytes y.now)).0 same.0 in

@@ -19,7 +19,7 @@ equal_of Equal e = refl
 equal_of other e = cc
 
 pub is_name-true : (a b : List ℕ) → is_name a b ≡ true → a ≡ b
-is_name-true a b e = same a b (equal_of (name_cmp a b) e)
+is_name-true a b e = same a b (equal_of _ e)
 
 pub is_name-refl : (a : List ℕ) → is_name a a ≡ true
 is_name-refl a = (eq_by_cmp_equiv total).refl a
@@ -65,11 +65,11 @@ get-insert_same m k v = rw (get_inserted m k v k, is_name-refl k) refl
 pub get-remove_same : (m : FileMap) (k : List ℕ) → get (remove m k) k ≡ None
 get-remove_same m k = rw (get_removed m k k, is_name-refl k) refl
 
-pub put_back : (m : FileMap) (k v : List ℕ) → get m k ≡ Some v → m ≡ insert (remove m k) k v
-put_back m k v has = same_map total same _ _ (λ q. grind (arith, get_removed, get_inserted, is_name-true))
+pub put_back : {m : FileMap} (k : List ℕ) {v : List ℕ} → get m k ≡ Some v → m ≡ insert (remove m k) k v
+put_back k has = same_map total same _ _ (λ q. grind (arith, get_removed, get_inserted, is_name-true))
 
-pub put_away : (m : FileMap) (k v : List ℕ) → get m k ≡ None → remove (insert m k v) k ≡ m
-put_away m k v none = same_map total same _ _ (λ q. grind (arith, get_removed, get_inserted, is_name-true))
+pub put_away : {m : FileMap} (k v : List ℕ) → get m k ≡ None → remove (insert m k v) k ≡ m
+put_away k v none = same_map total same _ _ (λ q. grind (arith, get_removed, get_inserted, is_name-true))
 
 pub remove-insert : (m : FileMap) (name target bytes : List ℕ) → is_name name target ≡ false
     → remove (insert m target bytes) name ≡ insert (remove m name) target bytes
@@ -79,20 +79,21 @@ remove-insert m name target bytes differ = same_map total same _ _ (λ q. grind 
 abbrev the_values : List (List ℕ × List ℕ) → List (List ℕ)
 the_values es = map (λ e. e.1) es
 
-put_new : (k v : List ℕ) (es : List (List ℕ × List ℕ)) → find name_cmp k es ≡ None → IsPermutation (v ∷ the_values es) (the_values (put name_cmp k v es))
-put_new k v [] none = IsPermutation-refl _
-put_new k v (e ∷ es) none =
+put_new : (k : List ℕ) {v : List ℕ} (es : List (List ℕ × List ℕ)) → find name_cmp k es ≡ None
+    → IsPermutation (v ∷ the_values es) (the_values (put name_cmp k v es))
+put_new k [] none = IsPermutation-refl _
+put_new k {v} (e ∷ es) none =
     elim (name_cmp k e.0) as (λ r. cond (is_eq r) (Some e.1) (find name_cmp k es) ≡ None
     → IsPermutation (v ∷ e.1 ∷ the_values es) (the_values (by_order r ((k, v) ∷ e ∷ es) ((e.0, v) ∷ es) (e ∷ put name_cmp k v es)))) [
       | Less ↦ λ none. IsPermutation-refl _
       | Equal ↦ λ none. cc
       | Greater ↦ λ none. IsPermutation-trans _ _ _ (IsPermutation-sym _ _ (IsPermutation-middle (e.1 ∷ []) v (the_values es)))
-          (IsPermutation-cons e.1 _ _ (put_new k v es none))
+          (IsPermutation-cons e.1 _ _ (put_new k es none))
     ] none
 
-pub values-insert : (m : FileMap) (k v : List ℕ) → get m k ≡ None → IsPermutation (v ∷ values m) (values (insert m k v))
-values-insert m k v none = rw (entries-insert total m k v) (put_new k v (entries m) (sym (get-entries m k) ∙ none))
+pub values-insert : (m : FileMap) (k : List ℕ) {v : List ℕ} → get m k ≡ None → IsPermutation (v ∷ values m) (values (insert m k v))
+values-insert m k {v} none = rw (entries-insert total m k v) (put_new k _ (sym (get-entries m k) ∙ none))
 
-pub values-remove : (m : FileMap) (k v : List ℕ) → get m k ≡ Some v → IsPermutation (v ∷ values (remove m k)) (values m)
-values-remove m k v has =
-    subst (λ n. IsPermutation (v ∷ values (remove m k)) (values n)) (sym (put_back m k v has)) (values-insert (remove m k) k v (get-remove_same m k))
+pub values-remove : (m : FileMap) (k : List ℕ) {v : List ℕ} → get m k ≡ Some v → IsPermutation (v ∷ values (remove m k)) (values m)
+values-remove m k {v} has =
+    subst (λ n. IsPermutation (v ∷ values (remove m k)) (values n)) (sym (put_back k has)) (values-insert _ k (get-remove_same m k))

@@ -71,10 +71,10 @@ with_bases-push s [] name = refl
 with_bases-push s (x ∷ names) name = with_bases-push (insert s (base x) (tt {0})) names name
 
 -- one more name of a list
-pub with_bases-more : (names : List (String Global)) (i : ℕ) (d : String Global) (old s now : BaseSet)
+pub with_bases-more : (names : List (String Global)) {i : ℕ} (d : String Global) (old : BaseSet) {s now : BaseSet}
     → i < length names → s ≡ with_bases old (map string_bytes (take i names))
     → now ≡ insert s (base (string_bytes (get_or names i d))) (tt {0}) → now ≡ with_bases old (map string_bytes (take (i + 1) names))
-with_bases-more names i d old s now h is added =
+with_bases-more names {i} d old h is added =
     added
     ∙ ap (λ x. insert x (base (string_bytes (get_or names i d))) (tt {0})) is
     ∙ sym (with_bases-push old (map string_bytes (take i names)) (string_bytes (get_or names i d)))

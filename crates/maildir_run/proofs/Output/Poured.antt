@@ -18,7 +18,7 @@ gives_front {output} {before} {now} was is {given = given} o f h t entries p m =
     let e : t ≡ f.text ++ p.more = rw (← read_is before now f.text t f.read p) p.front in
     let r = f.tells p.more p.left entries p.has p.whole (rw e at m) in
     let z = o.front given r.0 in
-    front_more was is (output given) z.0 (output entries) h (ap output r.1 ∙ z.1)
+    front_more was is _ z.0 _ h (ap output r.1 ∙ z.1)
 
 appends_nothing : (was is : Option (List ℕ)) → Appends was is [] → Keeps was is
 appends_nothing None is h = tt
@@ -39,14 +39,14 @@ pub record Broken (output : List Entry → List ℕ) (before now was is : Option
   pub nothing : fault ≡ NoFromLine → GivesNothing before now was is
   pub refused : SourceStopped before now reads fault
 
-pub read_broken : {output : List Entry → List ℕ} {given : List Entry} {before mid : Option (List ℕ)} (now : Option (List ℕ))
-    {was is : Option (List ℕ)} (messages : Reader) {whole : List Entry} {reads count : ℕ} (fault : RunFault)
+pub read_broken : {output : List Entry → List ℕ} {given : List Entry} {before mid now : Option (List ℕ)}
+    {was is : Option (List ℕ)} (messages : Reader) {whole : List Entry} {reads count : ℕ} {fault : RunFault}
     → IsOutput output → Poured output given before mid was is messages.splitter messages.reads_left whole reads count
     → Breaks messages mid now fault → Broken output before now was is reads fault
-read_broken {output} {given} now {was} {is} messages fault o p b =
+read_broken {output} {given} {now} {was} {is} messages {fault} o p b =
     let refused = gave_refused now messages fault p.gave b in
     record {
-      front = gives_front was is o (broken_front now messages fault p.gave b) (output given, [], sym (append-nil (output given)), p.written);
+      front = gives_front was is o (broken_front messages p.gave b) (output given, [], sym (append-nil (output given)), p.written);
       nothing = λ e.
           let out : output given ≡ [] = ap output (b.3 e p.gave.text given p.gave.fed).0 ∙ o.none in
           (appends_nothing was is (rw out at p.written), refused.unreadable e);
@@ -60,14 +60,14 @@ pub record Batch (output : List Entry → List ℕ) (given : List Entry) (before
   pub count_is : count ≡ length given
   pub from_lines : FromLines whole
 
-pub batch : {output : List Entry → List ℕ} {given : List Entry} {before mid : Option (List ℕ)} (now : Option (List ℕ)) {was is : Option (List ℕ)}
-    (messages : Reader) (splitter : Splitter) (left : ℕ) {old : List Entry} (whole : List Entry) {reads count : ℕ} (ended : Bool)
+pub batch : {output : List Entry → List ℕ} {given : List Entry} {before mid now was is : Option (List ℕ)}
+    (messages : Reader) (splitter : Splitter) (left : ℕ) {old whole : List Entry} {reads count : ℕ} (ended : Bool)
     → Poured output given before mid was is messages.splitter messages.reads_left old reads count
     → Went messages mid now old whole splitter left (Ok ended) → Batch output given before now was is whole reads count
-batch {given = given} {before} now messages splitter left {old} whole {reads} ended p w =
+batch {given = given} {before} {now} messages splitter left {old} {whole} {reads} ended p w =
     let more = gave_more ended now messages splitter left old whole p.empty p.gave w in
     record {
-      front = given_front ended before now splitter left reads (given ++ whole) more;
+      front = given_front ended before now splitter left reads _ more;
       written = p.written;
       count_is = p.count_is;
       from_lines = given-from_lines ended before now splitter left reads given whole more;
@@ -88,7 +88,7 @@ module _ {output : List Entry → List ℕ} {given : List Entry} {before now was
       → output (given ++ whole) ≡ output given ++ bytes → AppendsFront is is' bytes → GivesFront output before now was is'
   batch_broken is' bytes o e h =
       gives_front was is' o b.front
-      (front_then was is is' (output given) bytes [] (output (given ++ whole)) b.written h (e ∙ ap (λ z. output given ++ z) (sym (append-nil bytes))))
+      (front_then was is is' _ bytes [] _ b.written h (e ∙ ap (λ z. output given ++ z) (sym (append-nil bytes))))
 
 -- nothing is left of the source
 all_given : (output : List Entry → List ℕ) (before now was is : Option (List ℕ)) {reads : ℕ} (all : List Entry) {count : ℕ}
@@ -112,7 +112,7 @@ module _ {output : List Entry → List ℕ} {given : List Entry} {before mid : O
 
   -- and the source is at its end
   pub poured_all : Went messages mid now old whole splitter left (Ok true) → GivesAll output before was is' (count + length whole)
-  poured_all w = all_given output before now was is' (given ++ whole) (gave_more true now messages splitter left old whole p.empty p.gave w) total written
+  poured_all w = all_given output before now was is' _ (gave_more true now messages splitter left old whole p.empty p.gave w) total written
 
   -- and more is to come
   pub poured_more : (after : List Entry) → Went messages mid now old whole splitter left (Ok false) → after ≡ []
@@ -121,15 +121,16 @@ module _ {output : List Entry → List ℕ} {given : List Entry} {before mid : O
       record { gave = gave_more false now messages splitter left old whole p.empty p.gave w; written = written; count_is = total; empty = none }
 
 -- nothing was read
-pub poured_none : (output : List Entry → List ℕ) (before was : Option (List ℕ)) (splitter : Splitter) (reads left : ℕ) (whole : List Entry)
+pub poured_none : (output : List Entry → List ℕ) {before was : Option (List ℕ)} {splitter : Splitter} {reads left : ℕ} {whole : List Entry}
     → IsOutput output → Fed [] [] splitter → left ≡ reads → whole ≡ []
     → Poured output [] before before was was splitter left whole reads 0
-poured_none output before was splitter reads left whole o f l none = grind (arith, Consumes-nil before, Appends-nil was)
+poured_none output {before} {was} o f l none = grind (arith, Consumes-nil before, Appends-nil was)
 
 -- what each message is written as is an output
 pub flat_output : IsOutput (flat_map spelling)
 flat_output = record { none = refl; front = λ a b. (flat_map spelling b, flat_map-append spelling a b) }
 
 -- what went out of a batch
-pub flat_more : (given whole entries : List Entry) → entries ≡ whole → flat_map spelling (given ++ whole) ≡ flat_map spelling given ++ flat_map spelling entries
-flat_more given whole entries e = flat_map-append spelling given whole ∙ ap (λ z. flat_map spelling given ++ flat_map spelling z) (sym e)
+pub flat_more : (given : List Entry) {whole entries : List Entry} → entries ≡ whole
+    → flat_map spelling (given ++ whole) ≡ flat_map spelling given ++ flat_map spelling entries
+flat_more given {whole} e = flat_map-append spelling given whole ∙ ap (λ z. flat_map spelling given ++ flat_map spelling z) (sym e)

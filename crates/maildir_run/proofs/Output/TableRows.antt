@@ -41,7 +41,7 @@ listing_output = record {
   front = λ a b. (
     rows_from (1 + length a) b (drop (length (bodies a)) (targets (bodies (a ++ b)))),
     ap (λ ts. rows_from 1 (a ++ b) ts) (targets-parts a b)
-        ∙ rows-append 1 a b (targets (bodies a)) (drop (length (bodies a)) (targets (bodies (a ++ b)))) (many a),
+        ∙ rows-append 1 a b _ (drop (length (bodies a)) (targets (bodies (a ++ b)))) (many a),
   );
 }
 
@@ -53,7 +53,7 @@ table-push given e target is =
     let all : bodies (given ++ e ∷ []) ≡ bodies given ++ e.body ∷ [] = map-append (λ entry. entry.body) given (e ∷ []) in
     let n : 1 + length given ≡ length given + 1 = omega arith in
     ap (λ bs. rows_from 1 (given ++ e ∷ []) (targets bs)) all ∙ ap (λ ts. rows_from 1 (given ++ e ∷ []) ts) is
-    ∙ rows-append 1 given (e ∷ []) (targets (bodies given)) (target ∷ []) (many given)
+    ∙ rows-append 1 given (e ∷ []) _ (target ∷ []) (many given)
     ∙ ap (λ z. rows_from 1 given (targets (bodies given)) ++ z) (append-nil (message_row (1 + length given) e target) ∙ ap (λ k. message_row k e target) n)
 
 -- a sender that is not empty
@@ -72,10 +72,10 @@ lists_err (Ok x) given entries was P e = absurd (false≢true e)
 lists_err (Err x) given entries was P e = let n = lists_none given entries was in (n.0, n.1, n.2, tt)
 
 -- one more message was listed
-pub listed_more : (given : List Entry) (namer namer' : Counts) (count count' : ℕ) (e : Entry) (body : List ℕ)
+pub listed_more : {given : List Entry} {namer namer' : Counts} {count count' : ℕ} (e : Entry) {body : List ℕ}
     → HasListed given namer count → body ≡ e.body → Named (bodies given ++ body ∷ []) namer' → count' ≡ length given + 1
     → HasListed (given ++ e ∷ []) namer' count'
-listed_more given namer namer' count count' e body h is named count_goes =
+listed_more {given} e h is named count_goes =
     let all : bodies (given ++ e ∷ []) ≡ bodies given ++ e.body ∷ [] = map-append (λ entry. entry.body) given (e ∷ []) in
     record {
       named = rw (all, ← is) named;
@@ -89,9 +89,9 @@ pub record ListedTo (given entries : List Entry) (i : ℕ) (was is : Option (Lis
   pub out : Appends was is lines
   pub has_listed : HasListed (given ++ take i entries) namer count
 
-pub listed_to_none : (given entries : List Entry) (was : Option (List ℕ)) (namer : Counts) (count : ℕ)
+pub listed_to_none : {given entries : List Entry} {was : Option (List ℕ)} {namer : Counts} {count : ℕ}
     → HasListed given namer count → ListedTo given entries 0 was was namer count
-listed_to_none given entries was namer count h =
+listed_to_none {given} {was} h =
     record { lines = []; are = ap table_of (append-nil given) ∙ sym (append-nil (table_of given)); out = Appends-nil was; has_listed = rw (append-nil given) h }
 
 module _ (given entries : List Entry) (i : ℕ) (e : Entry) where
@@ -120,13 +120,13 @@ module _ (given entries : List Entry) (i : ℕ) (e : Entry) where
         ap table_of b ∙ f.1 ∙ ap (λ z. z ++ f.0) (eq ∙ ap (λ z. z ++ line) t.are ∙ append_assoc (table_of given) t.lines line)
             ∙ append_assoc (table_of given) (t.lines ++ line) f.0
             ∙ ap (λ z. table_of given ++ z) (append_assoc t.lines line f.0),
-        front_then was is is' t.lines line f.0 (t.lines ++ (line ++ f.0)) t.out out refl,
+        front_then was is is' t.lines line f.0 _ t.out out refl,
       )
 
-pub listed_to_all : (given entries : List Entry) (i : ℕ) (was is : Option (List ℕ)) (namer : Counts) (count : ℕ)
+pub listed_to_all : {given entries : List Entry} {i : ℕ} {was is : Option (List ℕ)} {namer : Counts} {count : ℕ}
     → length entries ≤ i → ListedTo given entries i was is namer count
     → (lines : List ℕ) × (table_of (given ++ entries) ≡ table_of given ++ lines) × Appends was is lines × HasListed (given ++ entries) namer count
-listed_to_all given entries i was is namer count l t =
+listed_to_all {entries} {i} l t =
     let whole : take i entries ≡ entries = take_all i entries l in
     (t.lines, rw whole at t.are, t.out, rw whole at t.has_listed)
 

@@ -43,9 +43,9 @@ module _ (entries : List Entry) (i : ℕ) (entry : Entry) (h : i < length entrie
 
 -- ---- the numbers of a run
 -- one more batch
-pub batch_fits : (messages reads : ℕ) (given whole entries : List Entry) → messages ≡ length given
+pub batch_fits : {messages reads : ℕ} (given : List Entry) {whole entries : List Entry} → messages ≡ length given
     → length (given ++ whole) ≤ 65536 * reads → reads ≤ 2 ^ 40 → entries ≡ whole → messages + length entries < 2 ^ 63
-batch_fits messages reads given whole entries count few most e = omega (arith, length-append given whole, ap length e)
+batch_fits given {whole} count few most e = omega (arith, length-append given whole, ap length e)
 
 pub batch_count : (messages all : ℕ) (given whole entries : List Entry) → messages ≡ length given
     → all ≡ messages + length entries → entries ≡ whole → all ≡ length (given ++ whole)

@@ -27,12 +27,12 @@ module _ (before now : Option (List ℕ)) (reads : ℕ) (old new : Seen) (r : Re
   stops_in_folder of given front = grind (arith)
 
 -- before anything was done
-pub stops_unread : (before now : Option (List ℕ)) (reads : ℕ) (s : Seen) (r : Result Report RunFault) (fault : RunFault)
+pub stops_unread : {before now : Option (List ℕ)} {reads : ℕ} {s : Seen} {r : Result Report RunFault} {fault : RunFault}
     → IsErrAnd r (λ e. e ≡ fault) → IsReading fault → SourceStopped before now reads fault → Conversion before now reads s s r
-stops_unread before now reads s r fault is reading refused =
+stops_unread {before} {now} {reads} {s} {r} {fault} is reading refused =
     let names : Listings = record { tmp = []; new = []; cur = [] } in
     stops before now reads s s r fault is refused (λ e. refl) [] (refused_front refused) names (omega arith) 0 0 refl
-    (ran_nothing fault reading _ s 0)
+    (ran_nothing reading)
 
 -- ---- the set of bases tells what was listed
 same_deliveries : (f g : List ℕ → Bool) → ((b : List ℕ) → f b ≡ g b) → (ms : List Message) → deliveries_of f ms ≡ deliveries_of g ms
@@ -64,8 +64,8 @@ pub one_batch : {there there' : BaseSet} {a b c : Seen} {made mid made' p q n : 
     → length bodies + length entries ≤ 2 ^ 63 → DeliversMessages (contains_key there') bodies (bodies_of entries) b c mid made' q n namer' fault)
     → DeliversMessages (contains_key there) [] (bodies_of (given ++ whole)) a c made made' p n namer' fault
 one_batch {there} {there'} {a} {b} {c} {made} {mid} {made'} {p} {q} {n} {namer} {namer'} {fault} given whole entries reads same e few most first then =
-    rw (batch_bodies given whole entries e) at (delivers_then first
-    (rw same at (then (bodies_of given) (first.named refl) (batch_few given whole entries reads e few most))))
+    rw (batch_bodies given e) at (delivers_then first
+    (rw same at (then (bodies_of given) (first.named refl) (batch_few given e few most))))
 
 pub report_tells : (names : Listings) (all : List Entry) (report : Report) (tasks : List Task) (messages placed before : ℕ)
     → tasks ≡ deliveries_of (is_listed names.new names.cur) (messages_of (bodies_of all)) → messages ≡ length all

@@ -5,9 +5,9 @@ use Rattle.maildir_run.proofs.Common.{flat_map-append, Target, Counts, Named, ta
 use Rattle.maildir_run.proofs.Common.{message_at, Seen, Performed, DeliversMessages, messages_after, delivery_of, delivery_if, deliveries_of}
 use Rattle.maildir_run.proofs.Tasks.Tasks.{ran_none, ran_nothing, ran_then, ran_before}
 
-pub last_is : (ts : List Target) (a b : Target) → ts ++ a ∷ [] ≡ ts ++ b ∷ [] → a ≡ b
-last_is [] a b e = cc
-last_is (t ∷ ts) a b e = let inner : ts ++ a ∷ [] ≡ ts ++ b ∷ [] = cc in last_is ts a b inner
+pub last_is : (ts : List Target) {a b : Target} → ts ++ a ∷ [] ≡ ts ++ b ∷ [] → a ≡ b
+last_is [] e = cc
+last_is (t ∷ ts) {a} {b} e = let inner : ts ++ a ∷ [] ≡ ts ++ b ∷ [] = cc in last_is ts inner
 
 -- ---- messages that follow one another
 messages_after-append : (before xs ys : List (List ℕ)) → messages_after before (xs ++ ys) ≡ messages_after before xs ++ messages_after (before ++ xs) ys
@@ -24,26 +24,27 @@ parts is_there before xs ys =
     ∙ flat_map-append (delivery_if is_there) (messages_after before xs) (messages_after (before ++ xs) ys)
 
 -- none
-pub delivers_none : (is_there : List ℕ → Bool) (before : List (List ℕ)) (s : Seen) (made placed : ℕ) (namer : Counts)
+pub delivers_none : (is_there : List ℕ → Bool) {before : List (List ℕ)} {s : Seen} {made placed : ℕ} {namer : Counts}
     → Named before namer → DeliversMessages is_there before [] s s made made placed placed namer None
-delivers_none is_there before s made placed namer named = record {
-  ran = ran_none s made;
+delivers_none is_there {before} {s} {made} named = record {
+  ran = ran_none;
   named = λ e. rw (append-nil before) named;
   placed_are = λ e. omega arith;
 }
 
 -- memory was refused before the first
-pub delivers_refused : {A : Type 0} (answer : Result A RunFault) (is_there : List ℕ → Bool) (before more : List (List ℕ)) (s : Seen) (made placed : ℕ)
-    (namer : Counts) → IsErrAnd answer (λ e. e ≡ OutOfMemory) → DeliversMessages is_there before more s s made made placed placed namer (fault_of answer)
-delivers_refused (Ok x) is_there before more s made placed namer is = absurd is
-delivers_refused (Err e) is_there before more s made placed namer is = record {
-  ran = ran_nothing e (inr (inr (inr is))) _ s made;
+pub delivers_refused : {A : Type 0} (answer : Result A RunFault) (is_there : List ℕ → Bool)
+    {before more : List (List ℕ)} {s : Seen} {made placed : ℕ}
+    {namer : Counts} → IsErrAnd answer (λ e. e ≡ OutOfMemory) → DeliversMessages is_there before more s s made made placed placed namer (fault_of answer)
+delivers_refused (Ok x) is_there is = absurd is
+delivers_refused (Err e) is_there {s} {made} is = record {
+  ran = ran_nothing (inr (inr (inr is)));
   named = λ e. cc;
   placed_are = λ e. cc;
 }
 
 -- some, and more
-pub delivers_then : {is_there : List ℕ → Bool} {before : List (List ℕ)} {xs ys : List (List ℕ)} {a b c : Seen} {made mid made' p q r : ℕ}
+pub delivers_then : {is_there : List ℕ → Bool} {before xs ys : List (List ℕ)} {a b c : Seen} {made mid made' p q r : ℕ}
     {first_namer namer : Counts} {fault : Option RunFault} → DeliversMessages is_there before xs a b made mid p q first_namer None
     → DeliversMessages is_there (before ++ xs) ys b c mid made' q r namer fault → DeliversMessages is_there before (xs ++ ys) a c made made' p r namer fault
 delivers_then {is_there} {before} {xs} {ys} {a} {b} {c} {made} {mid} {made'} {p} {q} {r} {first_namer} {namer} {fault} first then =
@@ -61,11 +62,12 @@ delivers_then {is_there} {before} {xs} {ys} {a} {b} {c} {made} {mid} {made'} {p}
     }
 
 -- refused before the others
-pub delivers_before : {A : Type 0} {fault : RunFault} (answer : Result A RunFault) (is_there : List ℕ → Bool) (before xs ys : List (List ℕ)) (a b : Seen)
-    (made made' p q : ℕ) (namer : Counts) → IsErrAnd answer (λ e. e ≡ fault) → DeliversMessages is_there before xs a b made made' p q namer (Some fault)
+pub delivers_before : {A : Type 0} {fault : RunFault} (answer : Result A RunFault) (is_there : List ℕ → Bool)
+    {before xs : List (List ℕ)} (ys : List (List ℕ)) {a b : Seen}
+    {made made' p q : ℕ} {namer : Counts} → IsErrAnd answer (λ e. e ≡ fault) → DeliversMessages is_there before xs a b made made' p q namer (Some fault)
     → DeliversMessages is_there before (xs ++ ys) a b made made' p q namer (fault_of answer)
-delivers_before (Ok x) is_there before xs ys a b made made' p q namer is h = absurd is
-delivers_before (Err e) is_there before xs ys a b made made' p q namer is h = record {
+delivers_before (Ok x) is_there ys is h = absurd is
+delivers_before (Err e) is_there {before} {xs} ys is h = record {
   ran = rw (parts is_there before xs ys) (rw is (ran_before _ h.ran));
   named = λ e. cc;
   placed_are = λ e. cc;
@@ -75,7 +77,7 @@ delivers_before (Err e) is_there before xs ys a b made made' p q namer is h = re
 module _ (is_there : List ℕ → Bool) (before : List (List ℕ)) (body : List ℕ)
     (t : Target) (next : targets (before ++ body ∷ []) ≡ targets before ++ t ∷ []) where
   target_is_next : target before body ≡ t
-  target_is_next = last_is (targets before) (target before body) t (sym (targets-push before body) ∙ next)
+  target_is_next = last_is _ (sym (targets-push before body) ∙ next)
 
   one_delivery : (shown : Bool) → is_there t.base ≡ shown → deliveries_of is_there (messages_after before (body ∷ [])) ≡ cond shown [] (delivery_of t body)
   one_delivery shown is =
@@ -94,7 +96,7 @@ module _ (is_there : List ℕ → Bool) (before : List (List ℕ)) (body : List 
   pub delivers_nothing : (a : Seen) (made p : ℕ) (namer : Counts) → is_there t.base ≡ true
       → Named (before ++ body ∷ []) namer → DeliversMessages is_there before (body ∷ []) a a made made p p namer None
   delivers_nothing a made p namer on named = record {
-    ran = rw (one_delivery true on) (ran_none a made);
+    ran = rw (one_delivery true on) (ran_none);
     named = λ e. named;
     placed_are = λ e. omega (arith, ap length (one_delivery true on));
   }

@@ -27,18 +27,18 @@ use Rattle.maildir_run.proofs.Tasks.TaskEffects.{known_by_listings, listed_quiet
 use Rattle.maildir_run.proofs.Tasks.TaskEffects.{sweep_places_none, all_progress, stopped_came, CameTo, all_filled, done_others}
 
 -- ---- tasks that name converter's names alone
-delivery_ours : (t : Target) (body : List ℕ) → IsTarget t → EachTask IsOurs (delivery_of t body)
-delivery_ours t body is =
-    let own : IsTrue (is_converter_name t.base) = ap is_converter_base (sym (is_name-true t.base (base t.base) is.whole)) ∙ is.named in
-    let name : IsTrue (is_converter_name t.name) = ap is_converter_base (sym (is_name-true t.base (base t.name) is.under)) ∙ is.named in
+delivery_ours : {t : Target} (body : List ℕ) → IsTarget t → EachTask IsOurs (delivery_of t body)
+delivery_ours {t} body is =
+    let own : IsTrue (is_converter_name t.base) = ap is_converter_base (sym (is_name-true t.base _ is.whole)) ∙ is.named in
+    let name : IsTrue (is_converter_name t.name) = ap is_converter_base (sym (is_name-true t.base _ is.under)) ∙ is.named in
     (own, ((own, name), tt))
 
 deliveries_ours : (is_there : List ℕ → Bool) (ms : List Message) → All (λ m. IsTarget m.target) ms → EachTask IsOurs (deliveries_of is_there ms)
 deliveries_ours is_there [] are = tt
 deliveries_ours is_there (m ∷ ms) are =
-    each_of_both IsOurs (delivery_if is_there m) (deliveries_of is_there ms)
+    each_of_both IsOurs _ _
     (elim (is_there m.target.base) as (λ t. EachTask IsOurs
-    (cond t [] (delivery_of m.target m.body))) [ true ↦ tt | false ↦ delivery_ours m.target m.body (All-head (λ (x : Message). IsTarget x.target) m ms are) ])
+    (cond t [] (delivery_of m.target m.body))) [ true ↦ tt | false ↦ delivery_ours m.body (All-head (λ (x : Message). IsTarget x.target) m ms are) ])
     (deliveries_ours is_there ms (All-tail (λ (x : Message). IsTarget x.target) m ms are))
 
 -- ---- how many they are
@@ -62,9 +62,9 @@ pub sweep_count : (names : List (List ℕ)) → length (sweep_of names) ≡ leng
 sweep_count names = length-map (filter is_converter_name names) (λ name. Do (Removing name))
 
 -- ---- the answers' numbers
-pub ran_numbers : {A : Type 0} (tasks : List Task) (start now : Seen) (made made' : ℕ) (r : Result A RunFault)
+pub ran_numbers : {A : Type 0} {tasks : List Task} {start now : Seen} {made made' : ℕ} {r : Result A RunFault}
     → Performed tasks start now made made' (fault_of r) → made ≡ 0 → length tasks < 2 ^ 66 → CallNumber r start.calls now.calls
-ran_numbers tasks start now made made' r ran e few =
+ran_numbers {r} ran e few =
     let most = ran.most in
     record {
       n = ran.n;
@@ -84,7 +84,7 @@ run_ours names ms are = (
     tt,
     (
       tt,
-      each_of_both IsOurs (sweep_of names.tmp) (deliveries_of (is_listed names.new names.cur) ms)
+      each_of_both IsOurs _ _
           (sweep_ours names.tmp) (deliveries_ours (is_listed names.new names.cur) ms are),
     ),
   ),
@@ -94,9 +94,9 @@ module _ (names : Listings) (ms : List Message) (distinct : AreDistinct ms) (are
   began : (mid now : Files) → AllDone honestly (listing_tasks names) start mid
       → AllDone honestly (sweep_of names.tmp) mid now → Progress [] start now × TmpWithin [] now
   began mid now first then = (
-    none_done start now (leaves_trans start mid now (done_leaves None (listing_tasks names) (listings_place_none names) start mid first)
+    none_done (leaves_trans start mid now (done_leaves None (listing_tasks names) (listings_place_none names) start mid first)
         (done_leaves None (sweep_of names.tmp) (sweep_places_none names.tmp) mid now then)),
-    all_swept names.tmp mid now (known_by_listings names start mid first).within then,
+    all_swept (known_by_listings first).within then,
   )
 
   come_to : (fault : RunFault) (now : Files) → Stopped honestly (run_tasks names ms) start now → All (IsSoundAt start) ms → CameTo ms start now
@@ -105,18 +105,18 @@ module _ (names : Listings) (ms : List Message) (distinct : AreDistinct ms) (are
       let last = deliveries_of (is_listed names.new names.cur) ms in
       elim (stopped_parts honestly early last start now
       (subst (λ ts. Stopped honestly ts start now) (sym (append_assoc (listing_tasks names) (sweep_of names.tmp) last)) h)) as (λ _. CameTo ms start now) [
-        | inl s ↦ record { done = []; rest = ms; is = refl; progress = none_done start now (done_leaves (Some fault) early (early_none names) start now s) }
+        | inl s ↦ record { done = []; rest = ms; is = refl; progress = none_done (done_leaves (Some fault) early (early_none names) start now s) }
         | inr (mid, first, more) ↦
             let parts = all_parts honestly (listing_tasks names) (sweep_of names.tmp) start mid first in
             let b = began parts.0 mid parts.1 parts.2 in
             stopped_came start (is_listed names.new names.cur)
-            (known_by_listings names start parts.0 parts.1).knows ms distinct are sound [] ms mid now refl b.0 b.1 more
+            (known_by_listings parts.1).knows ms distinct are sound [] ms mid now refl b.0 b.1 more
       ]
 
   stands : (now : Files) → Stopped honestly (run_tasks names ms) start now → Sound ms start start → (fault : RunFault) → Keeps ms start (Err fault) now
   stands now h sound fault =
       let came = come_to fault now h sound.own in
-      stands_keeps ms start now fault (front_stands ms came.done came.rest start now (λ k d lt. (are k d lt).named) distinct sound came.is came.progress)
+      stands_keeps (front_stands came.rest (λ k d lt. (are k d lt).named) distinct sound came.is came.progress)
 
   pub keeps : (now : Files) (r : Result Report RunFault) → Performs honestly (run_tasks names ms) start r now
       → IfOk r (ReportsTasks names ms) → Sound ms start start → Keeps ms start r now
@@ -125,9 +125,9 @@ module _ (names : Listings) (ms : List Message) (distinct : AreDistinct ms) (are
       let one = all_parts honestly (listing_tasks names) (sweep_of names.tmp ++ deliveries_of (is_listed names.new names.cur) ms) start now h in
       let two = all_parts honestly (sweep_of names.tmp) (deliveries_of (is_listed names.new names.cur) ms) one.0 now one.2 in
       let b = began one.0 two.0 one.1 two.1 in
-      let look = known_by_listings names start one.0 one.1 in
+      let look = known_by_listings one.1 in
       let end = all_progress start (is_listed names.new names.cur) look.knows ms distinct are sound.own [] ms two.0 now refl b.0 b.1 two.2 in
-      let s = front_stands ms ms [] start now (λ k d lt. (are k d lt).named) distinct sound (sym (append-nil ms)) end.0 in
+      let s = front_stands [] (λ k d lt. (are k d lt).named) distinct sound (sym (append-nil ms)) end.0 in
       let count = deliveries_count start (is_listed names.new names.cur) look.knows ms are in
       let messages = tells.messages in
       let placed = tells.placed in
@@ -151,25 +151,25 @@ module _ (names : Listings) (ms : List Message) (distinct : AreDistinct ms) (are
       → IfOk r (λ report. (now ≡ alone ms start) × (report.swept ≡ leftover_count start))
   filled_all now (Err fault) performed h tells = tt
   filled_all now (Ok report) performed h tells =
-      let look = known_by_listings names start _
+      let look = known_by_listings
       (all_parts honestly (listing_tasks names) (sweep_of names.tmp ++ deliveries_of (is_listed names.new names.cur) ms) start now performed).1 in
       let one = all_parts quietly (listing_tasks names) (sweep_of names.tmp ++ deliveries_of (is_listed names.new names.cur) ms) start now h in
       let two = all_parts quietly (sweep_of names.tmp) (deliveries_of (is_listed names.new names.cur) ms) one.0 now one.2 in
-      let l = listed_quietly names start one.0 one.1 in
-      let clean : two.0 ≡ swept start = swept_exact names.tmp one.0 two.0 (rw l.0 l.1) two.1 ∙ ap swept l.0 in (
+      let l = listed_quietly one.1 in
+      let clean : two.0 ≡ swept start = swept_exact one.0 (rw l.0 l.1) two.1 ∙ ap swept l.0 in (
         all_filled start (is_listed names.new names.cur) look.knows ms are two.0 now
             (λ name ours. ap (λ s. get s.tmp name) clean ∙ swept_free start name ours) two.2 ∙ ap (filled start ms) clean,
-        tells.swept ∙ sweep_count names.tmp ∙ filter-length is_converter_name names.tmp (keys start.tmp) l.1,
+        tells.swept ∙ sweep_count names.tmp ∙ filter-length is_converter_name l.1,
       )
 
 -- a run after other runs
-restarted : (r : Result Report RunFault) (t : List ℕ) (ms : List Message) (links : List Link) (first start now : Files) → length t < 2 ^ 63
+restarted : (r : Result Report RunFault) {t : List ℕ} {ms : List Message} (links : List Link) (first : Files) {start now : Files} → length t < 2 ^ 63
     → MessagesOf t ms → All (IsMissing first) ms → Runs t links first start → IsRun t start r now → OnOk r (Delivered ms now)
-restarted (Ok report) t ms links first start now small of missing before run =
+restarted (Ok report) {t} {ms} links first {start} {now} small of missing before run =
     chain_delivered t ms of (text_named t ms of small) links first start now report missing before run
-restarted (Err fault) t ms links first start now small of missing before run = tt
+restarted (Err fault) links first small of missing before run = tt
 
-both_ok : {A E : Type 0} {P : Type 0} {Q R : A → Type 0} (r : Result A E) → (P → (x : A) → Q x → R x) → OnOk r P → IfOk r Q → IfOk r R
+both_ok : {A E P : Type 0} {Q R : A → Type 0} (r : Result A E) → (P → (x : A) → Q x → R x) → OnOk r P → IfOk r Q → IfOk r R
 both_ok (Ok x) f p q = f p x q
 both_ok (Err e) f p q = tt
 
@@ -190,15 +190,15 @@ module _ (names : Listings) (these more ms : List Message) (e : ms ≡ these ++ 
       (stopped_before w still (run_tasks names these) (deliveries_of (is_listed names.new names.cur) more) start now h)
 
 -- the calls are those of the report
-calls_made : (names : Listings) (ms : List Message) (start now : Seen) (made made' : ℕ) (r : Result Report RunFault)
+calls_made : {names : Listings} (ms : List Message) {start now : Seen} {made made' : ℕ} (r : Result Report RunFault)
     → Performed (run_tasks names ms) start now made made' (fault_of r)
     → IfOk r (ReportsTasks names ms) → IfOk r (λ report. CountsRun report start.calls now.calls)
-calls_made names ms start now made made' (Err fault) ran tells = tt
-calls_made names ms start now made made' (Ok report) ran tells =
+calls_made ms (Err fault) ran tells = tt
+calls_made {names} ms {start} {now} {made} {made'} (Ok report) ran tells =
     let placed = tells.placed in
     let all_made : ran.n ≡ 3 + length (sweep_of names.tmp) + 2 * report.placed =
     ran.all refl ∙ (omega (arith, placed, length-append (sweep_of names.tmp) (deliveries_of (is_listed names.new names.cur) ms))) in
-    run_counts report (length (sweep_of names.tmp)) report.placed made made' start.calls now.calls tells.swept refl (rw all_made at ran.makes)
+    run_counts report tells.swept refl (rw all_made at ran.makes)
 
 -- ---- how many the tasks are
 deliveries_most : (is_there : List ℕ → Bool) (ms : List Message) → length (deliveries_of is_there ms) ≤ 2 * length ms
@@ -230,7 +230,7 @@ module _ {before after : Option (List ℕ)} {reads : ℕ} {start now : Seen} {r 
 
   given_here : (t : List ℕ) (ms : List Message) → Possible before after t → MessagesOf t ms
       → (more : List Message) × (ms ≡ messages_of (bodies_of run.given) ++ more) × OnOk r (ms ≡ messages_of (bodies_of run.given))
-  given_here = given_of r before after reads run.given run.front run.whole
+  given_here = given_of r run.front run.whole
 
   module _ (h : start.honest) (t : List ℕ) (ms : List Message) (p : Possible before after t) (of : MessagesOf t ms) where
     performs_here : Performs honestly (planned_tasks run.names ms) start.files r now.files
@@ -254,12 +254,12 @@ module _ {before after : Option (List ℕ)} {reads : ℕ} {start now : Seen} {r 
         keeps run.names ms (text_distinct t ms of small) (text_targets t ms of small)
         start.files now.files r (rw (planned_are run.names ms) at (performs_here h t ms p of))
         (both_ok r (λ (same : ms ≡ messages_of (bodies_of run.given)) report tells. rw same tells) (given_here t ms p of).2 run.tells) sound;
-    is_read = on_ok_weaker r (λ (w : GaveAll before after reads run.given). (run.given, whole_text w t p)) run.whole;
+    is_read = on_ok_weaker r (λ (w : GaveAll before after reads run.given). (run.given, whole_text w p)) run.whole;
   }
 
   pub owes_restart : start.honest → (t : List ℕ) (ms : List Message) (links : List Link) (first : Files) → length t < 2 ^ 63
       → Possible before after t → MessagesOf t ms → All (IsMissing first) ms → Runs t links first start.files → OnOk r (Delivered ms now.files)
-  owes_restart h t ms links first small p of missing before = restarted r t ms links first start.files now.files small of missing before (owes_run h t small p)
+  owes_restart h t ms links first small p of missing before = restarted r links first small of missing before (owes_run h t small p)
 
   pub owes_alone : (start.quiet → start.honest) → start.quiet → (t : List ℕ) (ms : List Message) → Possible before after t
       → MessagesOf t ms → IfOk r (λ report. (now.files ≡ alone ms start.files) × (report.swept ≡ leftover_count start.files))
@@ -273,14 +273,14 @@ module _ {before after : Option (List ℕ)} {reads : ℕ} {start now : Seen} {r 
   pub owes_others : start.quiet → KeepsForeign start.files now.files
   owes_others q =
       done_others (fault_of r) (run_tasks run.names (messages_of (bodies_of run.given)))
-      (run_ours run.names (messages_of (bodies_of run.given)) (messages_targets (bodies_of run.given) few_bodies))
+      (run_ours run.names _ (messages_targets _ few_bodies))
       start.files now.files (run.ran.done_quietly q)
 
   pub owes_calls : IfOk r (λ report. CountsRun report start.calls now.calls)
-  owes_calls = calls_made run.names (messages_of (bodies_of run.given)) start now 0 run.made r run.ran run.tells
+  owes_calls = calls_made _ r run.ran run.tells
 
   pub owes_numbers : CallNumber r start.calls now.calls
-  owes_numbers = ran_numbers _ start now 0 run.made r run.ran refl (few_tasks run.names (bodies_of run.given) run.few few_bodies)
+  owes_numbers = ran_numbers run.ran refl (few_tasks _ _ run.few few_bodies)
 
   -- ---- and of its source
   pub owes_end : OnOk r (IsAtEnd after)

@@ -7,8 +7,9 @@ use Rattle.mbox_text.proofs.Reading.FirstGiven.{few_given, first_of, unread_none
 use Rattle.mbox_text.proofs.FromLine.FromLines.{from_lines-before, from_lines-behind, mbox-from_lines}
 
 -- ---- what was read
-consumed : (before now : Option (List ℕ)) (had left text : List ℕ) → before ≡ Some had → now ≡ Some left → Consumes before now text → had ≡ text ++ left
-consumed before now had left text e f read =
+consumed : {before now : Option (List ℕ)} {had left : List ℕ} (text : List ℕ) → before ≡ Some had → now ≡ Some left
+    → Consumes before now text → had ≡ text ++ left
+consumed {now} {had} {left} text e f read =
     let at_start : Consumes (Some had) now text = rw e at read in
     let at_end : Consumes (Some had) (Some left) text = rw f at at_start in
     at_end
@@ -16,7 +17,7 @@ consumed before now had left text e f read =
 -- what was read is the front of each possible text
 pub read_is : (before now : Option (List ℕ)) (text t : List ℕ) → Consumes before now text → (p : Possible before now t) → p.read ≡ text
 read_is before now text t read p =
-    append_cancel_right p.read text p.left (consumed before now (p.read ++ p.left) p.left text p.had p.has read)
+    append_cancel_right p.read text p.left (consumed text p.had p.has read)
 
 -- one more read, with what became whole by it
 pub gave_more : (ended : Bool) {before mid : Option (List ℕ)} (now : Option (List ℕ)) (old : Reader)
@@ -40,7 +41,7 @@ module _ {before mid : Option (List ℕ)} (now : Option (List ℕ)) (old : Reade
         spent = λ e. (p.text ++ b.0, read, omega (arith, spent, length-append p.text b.0, b.4 e));
         unreadable = λ e t entries q m.
             let never = (b.3 e p.text given p.fed).1 in
-            let is : t ≡ p.text ++ b.0 ++ q.more = rw (← read_is before now (p.text ++ b.0) t read q) q.front in
+            let is : t ≡ p.text ++ b.0 ++ q.more = rw (← read_is before now _ t read q) q.front in
             never q.more q.left q.has q.whole entries (rw is at m);
       }
 
@@ -48,12 +49,12 @@ module _ {before mid : Option (List ℕ)} (now : Option (List ℕ)) (old : Reade
   pub never_again : 0 < length given → Breaks old mid now fault → fault ≡ NoFromLine → ⊥
   never_again some b e = let none = (b.3 e p.text given p.fed).0 in absurd (omega (arith, some, ap length none))
 
-pub read_nothing : (source : Option (List ℕ)) (most : ℕ) → ReadsAtMost source source most
-read_nothing source most = ([], Consumes-nil source, omega arith)
+pub read_nothing : (source : Option (List ℕ)) {most : ℕ} → ReadsAtMost source source most
+read_nothing source = ([], Consumes-nil source, omega arith)
 
 -- ---- what was given is the first of each text that may begin so
-at_end_same : (text more left : List ℕ) (now : Option (List ℕ)) → IsAtEnd now → now ≡ Some left → (left ≡ [] → more ≡ []) → text ++ more ≡ text
-at_end_same text more left now end has whole = let none : left ≡ [] = rw has at end in rw (whole none) (append-nil text)
+at_end_same : {text more left : List ℕ} {now : Option (List ℕ)} → IsAtEnd now → now ≡ Some left → (left ≡ [] → more ≡ []) → text ++ more ≡ text
+at_end_same {text} {left} end has whole = let none : left ≡ [] = rw has at end in rw (whole none) (append-nil text)
 
 pub given_front : (ended : Bool) (before now : Option (List ℕ)) (splitter : Splitter) (left reads : ℕ) (given : List Entry)
     → IsGiven ended before now splitter left reads given → IsFrontOf before now reads given
@@ -73,17 +74,17 @@ given_front true before now splitter left reads given p = record {
   budget = p.budget;
   few = mbox-length p.text given p.all;
   tells = λ more rest entries has whole m.
-      ([], mbox-one p.text entries given (rw (at_end_same p.text more rest now p.end has whole) at m) p.all ∙ sym (append-nil given));
-  none = λ more rest has whole none. absurd (none given (rw (at_end_same p.text more rest now p.end has whole) p.all));
+      ([], mbox-one p.text entries given (rw (at_end_same p.end has whole) at m) p.all ∙ sym (append-nil given));
+  none = λ more rest has whole none. absurd (none given (rw (at_end_same p.end has whole) p.all));
 }
 
 pub front_few : {before now : Option (List ℕ)} {reads : ℕ} {given : List Entry} → IsFrontOf before now reads given → length given ≤ 65536 * reads
 front_few front = omega (arith, front.few, front.budget)
 
 -- a read was refused behind these messages
-pub broken_front : {before mid : Option (List ℕ)} (now : Option (List ℕ)) (old : Reader) {reads : ℕ} {given : List Entry} (fault : RunFault)
+pub broken_front : {before mid now : Option (List ℕ)} (old : Reader) {reads : ℕ} {given : List Entry} {fault : RunFault}
     → Gave before mid old.splitter old.reads_left reads given → Breaks old mid now fault → IsFrontOf before now reads given
-broken_front {before} {mid} now old {given = given} fault p b =
+broken_front {before} {mid} {now} old {given = given} p b =
     let within = p.budget in
     let few = few_given p.text given p.fed.given_are in
     record {
@@ -91,8 +92,8 @@ broken_front {before} {mid} now old {given = given} fault p b =
       read = Consumes-trans before mid now p.text b.0 p.read b.1;
       budget = omega (arith, length-append p.text b.0, b.2);
       few = omega (arith, length-append p.text b.0);
-      tells = λ more rest entries has whole m. first_of p.text (b.0 ++ more) given entries p.fed.given_are (rw append_assoc at m);
-      none = λ more rest has whole none. unread_none p.text (b.0 ++ more) given p.fed.given_are (rw append_assoc at none);
+      tells = λ more rest entries has whole m. first_of p.text _ given entries p.fed.given_are (rw append_assoc at m);
+      none = λ more rest has whole none. unread_none p.text _ given p.fed.given_are (rw append_assoc at none);
     }
 
 -- nothing was given before a read was refused
@@ -100,13 +101,13 @@ pub refused_front : {before now : Option (List ℕ)} {reads : ℕ} {fault : RunF
 refused_front refused = grind (arith)
 
 -- whether a list is empty, by its length
-pub none_whole : (items : List Entry) (n : ℕ) (b : Bool) → b ≡ (n == 0) → b ≡ true → n ≡ length items → items ≡ []
-none_whole [] n b is on e = refl
-none_whole (x ∷ xs) n b is on e = let none = eqb-true n 0 (sym is ∙ on) in absurd (omega arith)
+pub none_whole : (items : List Entry) {n : ℕ} {b : Bool} → b ≡ (n == 0) → b ≡ true → n ≡ length items → items ≡ []
+none_whole [] is on e = refl
+none_whole (x ∷ xs) {n} is on e = let none = eqb-true n 0 (sym is ∙ on) in absurd (omega arith)
 
-pub some_left : (items : List Entry) (n : ℕ) (b : Bool) → b ≡ (n == 0) → b ≡ false → n ≡ length items → 0 < length items
-some_left [] n b is off e = let f = eq-eqb n 0 e in let g : b ≡ true = is ∙ f in cc
-some_left (x ∷ xs) n b is off e = omega arith
+pub some_left : (items : List Entry) {n : ℕ} {b : Bool} → b ≡ (n == 0) → b ≡ false → n ≡ length items → 0 < length items
+some_left [] {n} {b} is off e = let f = eq-eqb n 0 e in let g : b ≡ true = is ∙ f in cc
+some_left (x ∷ xs) is off e = omega arith
 
 none_behind : (given whole : List Entry) → given ++ whole ≡ [] → FromLines whole
 none_behind [] whole e = rw e tt
@@ -114,9 +115,9 @@ none_behind (g ∷ given) whole e = absurd (cc)
 
 pub given-from_lines : (ended : Bool) (before now : Option (List ℕ)) (splitter : Splitter) (left reads : ℕ) (given whole : List Entry)
     → IsGiven ended before now splitter left reads (given ++ whole) → FromLines whole
-given-from_lines true before now splitter left reads given whole p = from_lines-behind given whole (mbox-from_lines p.text (given ++ whole) p.all)
+given-from_lines true before now splitter left reads given whole p = from_lines-behind given whole (mbox-from_lines p.text _ p.all)
 given-from_lines false before now splitter left reads given whole p = elim p.fed.given_are [
-  | inl a ↦ from_lines-behind given whole (from_lines-before (given ++ whole) (a.1.0 ∷ []) (mbox-from_lines p.text ((given ++ whole) ++ a.1.0 ∷ []) a.1.1))
+  | inl a ↦ from_lines-behind given whole (from_lines-before _ _ (mbox-from_lines p.text _ a.1.1))
   | inr a ↦ none_behind given whole a.1
 ]
 

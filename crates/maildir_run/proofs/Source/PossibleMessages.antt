@@ -7,16 +7,16 @@ use Rattle.maildir_run.proofs.Tasks.Progress.{KeptSoFar, progress_stands}
 use Rattle.maildir_run.proofs.Run.Batches.{after_these, no_messages}
 use Rattle.maildir_run.proofs.Source.Givens.{read_is}
 
-pub none_done : (start now : Files) → KeepsHomes start now → Progress [] start now
-none_done start now leaves = record { homes_are = All-nil (IsHome now); kept = λ b named off. leaves.kept b named }
+pub none_done : {start now : Files} → KeepsHomes start now → Progress [] start now
+none_done {now} leaves = record { homes_are = All-nil (IsHome now); kept = λ b named off. leaves.kept b named }
 
-pub stands_keeps : (ms : List Message) (start now : Files) (fault : RunFault) → KeptSoFar ms start now → Keeps ms start (Err fault) now
-stands_keeps ms start now fault s = record { sound = s.sound; still = s.still; in_order = s.in_order; ends = tt }
+pub stands_keeps : {ms : List Message} {start now : Files} {fault : RunFault} → KeptSoFar ms start now → Keeps ms start (Err fault) now
+stands_keeps s = record { sound = s.sound; still = s.still; in_order = s.in_order; ends = tt }
 
 -- messages of which the first are done
-pub front_stands : (ms done more : List Message) (start now : Files) → AreNamed ms → AreDistinct ms
+pub front_stands : {ms done : List Message} (more : List Message) {start now : Files} → AreNamed ms → AreDistinct ms
     → Sound ms start start → ms ≡ done ++ more → Progress done start now → KeptSoFar ms start now
-front_stands ms done more start now named distinct sound e p =
+front_stands {done} more {start} {now} named distinct sound e p =
     rw e (progress_stands done more start now (subst AreNamed e named) (subst AreDistinct e distinct) (rw e at sound) p)
 
 bodies_parts : (all rest : List Entry) → bodies_of (all ++ rest) ≡ bodies_of all ++ bodies_of rest
@@ -24,9 +24,9 @@ bodies_parts all rest = map-append (λ (e : Entry). e.body) all rest
 
 -- ---- the messages of each text that a source may have had
 -- those that were given are the first of them
-front_of_text : (before after : Option (List ℕ)) (reads : ℕ) (given : List Entry) → IsFrontOf before after reads given → (t : List ℕ) (ms : List Message)
+front_of_text : {before after : Option (List ℕ)} {reads : ℕ} {given : List Entry} → IsFrontOf before after reads given → {t : List ℕ} {ms : List Message}
     → Possible before after t → MessagesOf t ms → (more : List Message) × (ms ≡ messages_of (bodies_of given) ++ more)
-front_of_text before after reads given f t ms p of =
+front_of_text {before} {after} {given} f {t} p of =
     let is : t ≡ f.text ++ p.more = rw (← read_is before after f.text t f.read p) p.front in
     elim of [
       | inl (entries, m, e) ↦
@@ -43,29 +43,29 @@ front_of_text before after reads given f t ms p of =
 
 -- and with Ok all of them
 pub whole_text : {before after : Option (List ℕ)} {reads : ℕ} {all : List Entry}
-    → GaveAll before after reads all → (t : List ℕ) → Possible before after t → Mbox t all
-whole_text {before} {after} gave t p =
+    → GaveAll before after reads all → {t : List ℕ} → Possible before after t → Mbox t all
+whole_text {before} {after} gave {t} p =
     let at_end : p.left ≡ [] = rw p.has at gave.end in
-    let is : t ≡ gave.text = rw (← read_is before after gave.text t gave.read p) p.front ∙ ap (λ xs. gave.text ++ xs) (p.whole at_end) ∙ append-nil gave.text in
+    let is : t ≡ gave.text = rw (← read_is before after _ t gave.read p) p.front ∙ ap (λ xs. gave.text ++ xs) (p.whole at_end) ∙ append-nil gave.text in
     rw is gave.all
 
-pub whole_messages : (t : List ℕ) (all : List Entry) → Mbox t all → (ms : List Message) → MessagesOf t ms → ms ≡ messages_of (bodies_of all)
-whole_messages t all whole ms (inl (entries, m, e)) = e ∙ ap (λ es. messages_of (bodies_of es)) (mbox-one t entries all m whole)
-whole_messages t all whole ms (inr (none, e)) = absurd (none all whole)
+pub whole_messages : (t : List ℕ) (all : List Entry) → Mbox t all → {ms : List Message} → MessagesOf t ms → ms ≡ messages_of (bodies_of all)
+whole_messages t all whole (inl (entries, m, e)) = e ∙ ap (λ es. messages_of (bodies_of es)) (mbox-one t entries all m whole)
+whole_messages t all whole (inr (none, e)) = absurd (none all whole)
 
 -- the messages that were given, and those that were not; with Ok there are no others
-pub given_of : {A E : Type 0} (r : Result A E) (before after : Option (List ℕ)) (reads : ℕ) (given : List Entry) → IsFrontOf before after reads given
+pub given_of : {A E : Type 0} (r : Result A E) {before after : Option (List ℕ)} {reads : ℕ} {given : List Entry} → IsFrontOf before after reads given
     → OnOk r (GaveAll before after reads given) → (t : List ℕ) (ms : List Message) → Possible before after t → MessagesOf t ms
     → (more : List Message) × (ms ≡ messages_of (bodies_of given) ++ more) × OnOk r (ms ≡ messages_of (bodies_of given))
-given_of (Ok x) before after reads given front whole t ms p of =
-    let same = whole_messages t given (whole_text whole t p) ms of in
+given_of (Ok x) {given} front whole t ms p of =
+    let same = whole_messages t given (whole_text whole p) of in
     ([], same ∙ sym (append-nil (messages_of (bodies_of given))), same)
-given_of (Err e) before after reads given front whole t ms p of = let f = front_of_text before after reads given front t ms p of in (f.0, f.1, tt)
+given_of (Err e) {before} {after} {reads} {given} front whole t ms p of = let f = front_of_text front p of in (f.0, f.1, tt)
 
 -- ---- a batch
-pub batch_bodies : (given whole entries : List Entry) → entries ≡ whole → bodies_of given ++ bodies_of entries ≡ bodies_of (given ++ whole)
-batch_bodies given whole entries e = ap (λ es. bodies_of given ++ bodies_of es) e ∙ sym (bodies_parts given whole)
+pub batch_bodies : (given : List Entry) {whole entries : List Entry} → entries ≡ whole → bodies_of given ++ bodies_of entries ≡ bodies_of (given ++ whole)
+batch_bodies given {whole} e = ap (λ es. bodies_of given ++ bodies_of es) e ∙ sym (bodies_parts given whole)
 
-pub batch_few : (given whole entries : List Entry) (reads : ℕ) → entries ≡ whole
+pub batch_few : (given : List Entry) {whole entries : List Entry} {reads : ℕ} → entries ≡ whole
     → length (given ++ whole) ≤ 65536 * reads → reads ≤ 2 ^ 40 → length (bodies_of given) + length entries ≤ 2 ^ 63
-batch_few given whole entries reads e few most = omega (arith, ap length e, length-append given whole, length-map given (λ (x : Entry). x.body))
+batch_few given {whole} e few most = omega (arith, ap length e, length-append given whole, length-map given (λ (x : Entry). x.body))

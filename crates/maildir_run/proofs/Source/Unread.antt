@@ -6,49 +6,49 @@ use Rattle.mbox_text.specs.Fed.{Fed}
 use Rattle.mbox_text.proofs.Splitting.Fields.{never-more}
 use Rattle.mbox_text.proofs.Reading.Unreadable.{never_given, never_unreadable, short_given, short_unreadable}
 
-pub never_reads : (text : List ℕ) (after : Option (List ℕ)) → NeverFrom text → NeverReads text after
-never_reads text after n more left has whole = never_unreadable (text ++ more) (never-more text more n)
+pub never_reads : (text : List ℕ) {after : Option (List ℕ)} → NeverFrom text → NeverReads text after
+never_reads text n more left has whole = never_unreadable _ (never-more text more n)
 
-pub short_reads : (text : List ℕ) (after : Option (List ℕ)) → IsTooShort text → IsAtEnd after → NeverReads (text ++ []) after
-short_reads text after s end more left has whole entries h =
+pub short_reads : (text : List ℕ) {after : Option (List ℕ)} → IsTooShort text → IsAtEnd after → NeverReads (text ++ []) after
+short_reads text s end more left has whole entries h =
     let none : left ≡ [] = rw has at end in
     let all : (text ++ []) ++ more ≡ text = rw (whole none, append-nil text) (append-nil text) in
     short_unreadable text s entries (rw all at h)
 
 -- a read that is refused
-pub breaks_went : (old : Reader) (before after : Option (List ℕ)) (out out' : List Entry) (splitter : Splitter)
-    (reads : ℕ) (r : Result Bool RunFault) (fault : RunFault) → IsErr r → IsErrAnd r (λ e. e ≡ fault)
+pub breaks_went : (old : Reader) (before : Option (List ℕ)) {after : Option (List ℕ)} (out out' : List Entry) (splitter : Splitter)
+    (reads : ℕ) (r : Result Bool RunFault) {fault : RunFault} → IsErr r → IsErrAnd r (λ e. e ≡ fault)
     → Breaks old before after fault → Went old before after out out' splitter reads r
-breaks_went old before after out out' splitter reads (Ok b) fault is e h = absurd (false≢true is)
-breaks_went old before after out out' splitter reads (Err f) fault is e h = rw e h
+breaks_went old before out out' splitter reads (Ok b) is e h = absurd (false≢true is)
+breaks_went old before out out' splitter reads (Err f) is e h = rw e h
 
 -- a splitter's refusal says nothing of the reads
-unspent : (left : ℕ) (fault : RunFault) → (fault ≡ NoFromLine) ⊎ (fault ≡ OutOfMemory) → fault ≡ TooManyReads → left ≡ 0
-unspent left fault (inl e) is = cc
-unspent left fault (inr e) is = cc
+unspent : {left : ℕ} {fault : RunFault} → (fault ≡ NoFromLine) ⊎ (fault ≡ OutOfMemory) → fault ≡ TooManyReads → left ≡ 0
+unspent (inl e) is = cc
+unspent (inr e) is = cc
 
 -- the last message could not be told
-pub finish_breaks : (old : Reader) (before after : Option (List ℕ)) (fault : RunFault)
+pub finish_breaks : (old : Reader) (before : Option (List ℕ)) {after : Option (List ℕ)} {fault : RunFault}
     → (fault ≡ NoFromLine) ⊎ (fault ≡ OutOfMemory) → Consumes before after [] → IsAtEnd after
     → (fault ≡ NoFromLine → (text : List ℕ) (given : List Entry) → Fed text given old.splitter → IsTooShort text) → Breaks old before after fault
-finish_breaks old before after fault cause read end short = (
+finish_breaks old before {after} {fault} cause read end short = (
   [],
   read,
   omega arith,
-  λ e text given taken. let s = short e text given taken in (short_given text given s taken.given_are, short_reads text after s end),
-  unspent old.reads_left fault cause,
+  λ e text given taken. let s = short e text given taken in (short_given text given s taken.given_are, short_reads text s end),
+  unspent cause,
 )
 
 -- what was read can't begin a text
-pub feed_breaks : (old : Reader) (before after : Option (List ℕ)) (piece : List ℕ) (out out' : List Entry) (fault : RunFault)
+pub feed_breaks : (old : Reader) (before : Option (List ℕ)) {after : Option (List ℕ)} {piece : List ℕ} (out out' : List Entry) {fault : RunFault}
     → (fault ≡ NoFromLine) ⊎ (fault ≡ OutOfMemory) → Consumes before after piece → length piece ≤ 65536 * old.reads_left
     → (fault ≡ NoFromLine → NeverBegins old.splitter piece out out') → Breaks old before after fault
-feed_breaks old before after piece out out' fault cause read size never = (
+feed_breaks old before {after} {piece} out out' {fault} cause read size never = (
   piece,
   read,
   size,
   λ e text given taken.
       let n = (never e text given taken).1 in
-      (never_given text piece given n taken.given_are, never_reads (text ++ piece) after n),
-  unspent old.reads_left fault cause,
+      (never_given text piece given n taken.given_are, never_reads _ n),
+  unspent cause,
 )

@@ -7,21 +7,21 @@ use Rattle.maildir_run.proofs.Call.Leftovers.{leftovers_are}
 use Rattle.maildir_run.proofs.Chains.BaseNumbers.{count-cons}
 use Rattle.maildir_run.proofs.Names.Maps.{total, same, get_under}
 
-all_kept : (m : FileMap) → ((name : List ℕ) → IsTrue (is_converter_name name) → get m name ≡ None) → retain_keys m (λ name. not (is_converter_name name)) ≡ m
-all_kept m gone = same_map total same _ _ (λ q. grind (arith, get_under, gone q))
+all_kept : {m : FileMap} → ((name : List ℕ) → IsTrue (is_converter_name name) → get m name ≡ None) → retain_keys m (λ name. not (is_converter_name name)) ≡ m
+all_kept gone = same_map total same _ _ (λ q. grind (arith, get_under, gone q))
 
-nothing_swept : (s : Files) → IsSwept s → swept s ≡ s
-nothing_swept s gone = ap (λ m. record s { tmp = m }) (all_kept s.tmp gone)
+nothing_swept : {s : Files} → IsSwept s → swept s ≡ s
+nothing_swept {s} gone = ap (λ m. record s { tmp = m }) (all_kept gone)
 
-nothing_filled : (start : Files) (ms : List Message) (s : Files) → All (IsHome start) ms → filled start ms s ≡ s
-nothing_filled start [] s there = refl
-nothing_filled start (m ∷ ms) s there =
+nothing_filled : (start : Files) (ms : List Message) {s : Files} → All (IsHome start) ms → filled start ms s ≡ s
+nothing_filled start [] there = refl
+nothing_filled start (m ∷ ms) {s} there =
     let has : has_home start m.target.base ≡ true = ap is_any (All-head (IsHome start) m ms there) in
     ap (λ t. filled start ms (cond t s (added s m.target.place m.target.name m.body))) has
-    ∙ nothing_filled start ms s (All-tail (IsHome start) m ms there)
+    ∙ nothing_filled start ms (All-tail (IsHome start) m ms there)
 
-pub alone-delivered : (ms : List Message) (s : Files) → Delivered ms s → alone ms s ≡ s
-alone-delivered ms s d = nothing_filled s ms (swept s) d.homes_are ∙ nothing_swept s d.swept
+pub alone-delivered : {ms : List Message} {s : Files} → Delivered ms s → alone ms s ≡ s
+alone-delivered {ms} {s} d = nothing_filled s ms d.homes_are ∙ nothing_swept d.swept
 
 no_converter_kept : (m : FileMap) → ((name : List ℕ) → IsTrue (is_converter_name name) → get m name ≡ None) → retain_keys m is_converter_name ≡ empty
 no_converter_kept m gone = same_map total same _ _ (λ q. grind (arith, get_under, gone q, get-empty {X = List ℕ} name_cmp q))

@@ -12,17 +12,17 @@ is_fault (Ok x) is e = let off : false ≡ true = is in cc
 is_fault (Err e) is none = cc
 
 -- the fault of a refused call, and of an answer
-pub if_err : {A E : Type 0} (P : E → Type 0) (r : Result A E) (fault : E) → IsErrAnd r (λ e. e ≡ fault) → P fault → IfErr r P
-if_err P (Ok x) fault is p = tt
-if_err P (Err e) fault is p = subst P (sym is) p
+pub if_err : {A E : Type 0} (P : E → Type 0) (r : Result A E) {fault : E} → IsErrAnd r (λ e. e ≡ fault) → P fault → IfErr r P
+if_err P (Ok x) is p = tt
+if_err P (Err e) is p = subst P (sym is) p
 
-pub fault_is : {T : Type 0} (r : Result T RunFault) (fault named : RunFault) → IsErrAnd r (λ e. e ≡ fault) → r ≡ Err named → fault ≡ named
-fault_is (Ok x) fault named h e = absurd (cc)
-fault_is (Err x) fault named h e = let same : x ≡ named = cc in sym h ∙ same
+pub fault_is : {T : Type 0} (r : Result T RunFault) {fault named : RunFault} → IsErrAnd r (λ e. e ≡ fault) → r ≡ Err named → fault ≡ named
+fault_is (Ok x) h e = absurd (cc)
+fault_is (Err x) {named} h e = let same : x ≡ named = cc in sym h ∙ same
 
 -- ---- the fault of a read, or of a growth
-pub at_reading : (P : RunFault → Type 0) → P NoFromLine → P ReadFault → P TooManyReads → P OutOfMemory → (fault : RunFault) → IsReading fault → P fault
-at_reading P a b c d fault (inl e) = subst P (sym e) a
-at_reading P a b c d fault (inr (inl e)) = subst P (sym e) b
-at_reading P a b c d fault (inr (inr (inl e))) = subst P (sym e) c
-at_reading P a b c d fault (inr (inr (inr e))) = subst P (sym e) d
+pub at_reading : (P : RunFault → Type 0) → P NoFromLine → P ReadFault → P TooManyReads → P OutOfMemory → {fault : RunFault} → IsReading fault → P fault
+at_reading P a b c d (inl e) = subst P (sym e) a
+at_reading P a b c d (inr (inl e)) = subst P (sym e) b
+at_reading P a b c d (inr (inr (inl e))) = subst P (sym e) c
+at_reading P a b c d (inr (inr (inr e))) = subst P (sym e) d

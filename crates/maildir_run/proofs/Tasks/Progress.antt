@@ -9,8 +9,8 @@ use Rattle.maildir_run.proofs.Names.Maps.{is_name-true, total}
 use Rattle.maildir_run.proofs.Call.Moves.{homes_none, homes_one, permutation_of_none}
 
 -- a call that leaves the homes
-pub progress_on : (done : List Message) (old mid now : Files) → AreNamed done → KeepsHomes mid now → Progress done old mid → Progress done old now
-progress_on done old mid now named leaves p = record {
+pub progress_on : {done : List Message} {old mid now : Files} → AreNamed done → KeepsHomes mid now → Progress done old mid → Progress done old now
+progress_on {mid} {now} named leaves p = record {
   homes_are = λ k d h. homes_one _ _ mid now (leaves.kept _ (named k d h)) (p.homes_are k d h);
   kept = λ base is other. IsPermutation-trans _ _ _ (p.kept base is other) (leaves.kept base is);
 }
@@ -22,23 +22,23 @@ not_before done m base off =
     (parts.0, (or_parts (is_name m.target.base base) false parts.1).0)
 
 -- one more message that is there
-pub progress_home : (done : List Message) (m : Message) (old now : Files) → IsHome now m → Progress done old now → Progress (done ++ m ∷ []) old now
-progress_home done m old now home p = record {
+pub progress_home : {done : List Message} (m : Message) {old now : Files} → IsHome now m → Progress done old now → Progress (done ++ m ∷ []) old now
+progress_home {done} m {now} home p = record {
   homes_are = All-push (IsHome now) done m p.homes_are home;
   kept = λ base is other. p.kept base is (not_before done m base other).0;
 }
 
 -- the messages so far keep their homes as another is delivered
-delivers_done : (done : List Message) (m : Message) (mid now : Files) → AreNamed done
+delivers_done : (done : List Message) {m : Message} {mid now : Files} → AreNamed done
     → All (λ n. IsFalse (is_name m.target.base n.target.base)) done → DeliversMessage m mid now → All (IsHome mid) done → All (IsHome now) done
-delivers_done done m mid now named apart delivers all =
+delivers_done done {mid} {now} named apart delivers all =
     λ k d h. homes_one _ _ mid now (delivers.others _ (named k d h) (apart k d h)) (all k d h)
 
-pub progress_delivered : (done : List Message) (m : Message) (old mid now : Files) → AreNamed done
+pub progress_delivered : {done : List Message} {m : Message} {old mid now : Files} → AreNamed done
     → All (λ n. IsFalse (is_name m.target.base n.target.base)) done → DeliversMessage m mid now
     → IsHome now m → Progress done old mid → Progress (done ++ m ∷ []) old now
-progress_delivered done m old mid now named apart delivers home p = record {
-  homes_are = All-push (IsHome now) done m (delivers_done done m mid now named apart delivers p.homes_are) home;
+progress_delivered {done} {m} {mid} {now} named apart delivers home p = record {
+  homes_are = All-push (IsHome now) done m (delivers_done done named apart delivers p.homes_are) home;
   kept = λ base is other.
       let off = not_before done m base other in
       IsPermutation-trans _ _ _ (p.kept base is off.0) (delivers.others base is off.1);
@@ -46,8 +46,8 @@ progress_delivered done m old mid now named apart delivers home p = record {
 
 -- ---- whether there is a home
 pub any_kept : (xs ys : List (List ℕ)) → IsPermutation xs ys → is_any xs ≡ is_any ys
-any_kept [] ys h = rw (permutation_of_none ys h) refl
-any_kept (x ∷ xs) [] h = let e = permutation_of_none (x ∷ xs) (IsPermutation-sym _ _ h) in cc
+any_kept [] ys h = rw (permutation_of_none h) refl
+any_kept (x ∷ xs) [] h = let e = permutation_of_none (IsPermutation-sym _ _ h) in cc
 any_kept (x ∷ xs) (y ∷ ys) h = refl
 
 pub home_there : (m : Message) (s : Files) → IsHome s m → HasHome s m
@@ -63,8 +63,8 @@ pub record KeptSoFar (ms : List Message) (old now : Files) : Type 0 where
   pub still : All (λ m. HasHome old m → HasHome now m) ms
   pub in_order : AllPairs (λ m n. IsMissing old n → HasHome now n → HasHome now m) ms
 
-at_done : (P : Message → Type 0) (done rest : List Message) (k : ℕ) (d : Message) → k < length done → P (get_or done k d) → P (get_or (done ++ rest) k d)
-at_done P done rest k d lt h = subst P (sym (get_or_append_left done rest d k lt)) h
+at_done : (P : Message → Type 0) (done rest : List Message) {k : ℕ} (d : Message) → k < length done → P (get_or done k d) → P (get_or (done ++ rest) k d)
+at_done P done rest {k} d lt h = subst P (sym (get_or_append_left done rest d k lt)) h
 
 module _ (done rest : List Message) (old now : Files) (named : AreNamed (done ++ rest))
     (distinct : AreDistinct (done ++ rest)) (sound : Sound (done ++ rest) old old) (p : Progress done old now) where
@@ -84,14 +84,14 @@ module _ (done rest : List Message) (old now : Files) (named : AreNamed (done ++
   sound_now : (k : ℕ) (d : Message) → k < length (done ++ rest) → IsSoundAt now (get_or (done ++ rest) k d)
   sound_now k d h =
       elim (cases_lt k (length done)) [
-        | inl lt ↦ at_done (IsSoundAt now) done rest k d lt (inr (p.homes_are k d lt))
+        | inl lt ↦ at_done (IsSoundAt now) done rest d lt (inr (p.homes_are k d lt))
         | inr ge ↦ sound_at (get_or (done ++ rest) k d) (kept_at k d ge h) (sound.own k d h)
       ]
 
   still_now : (k : ℕ) (d : Message) → k < length (done ++ rest) → HasHome old (get_or (done ++ rest) k d) → HasHome now (get_or (done ++ rest) k d)
   still_now k d h there =
       elim (cases_lt k (length done)) [
-        | inl lt ↦ at_done (HasHome now) done rest k d lt (home_there (get_or done k d) now (p.homes_are k d lt))
+        | inl lt ↦ at_done (HasHome now) done rest d lt (home_there (get_or done k d) now (p.homes_are k d lt))
         | inr ge ↦ sym (any_kept _ _ (kept_at k d ge h)) ∙ there
       ]
 
@@ -101,7 +101,7 @@ module _ (done rest : List Message) (old now : Files) (named : AreNamed (done ++
       elim (cases_lt j (length done)) [
         | inl lt_done ↦ let before : i < length done =
             omega arith in
-            at_done (HasHome now) done rest i d before (home_there (get_or done i d) now (p.homes_are i d before))
+            at_done (HasHome now) done rest d before (home_there (get_or done i d) now (p.homes_are i d before))
         | inr ge ↦
             absurd (missing_there (get_or (done ++ rest) j d) now (homes_none (get_or (done ++ rest) j d).target.base old now (kept_at j d ge h) missing) there)
       ]
@@ -117,22 +117,22 @@ module _ (done rest : List Message) (old now : Files) (named : AreNamed (done ++
   }
 
 -- where a message that was missing is missing yet, nothing happened
-nothing_delivered : (m : Message) (mid now : Files) → IsMissing mid m → IsMissing now m → DeliversMessage m mid now → KeepsHomes mid now
-nothing_delivered m mid now was is delivers = record {
+nothing_delivered : {m : Message} {mid now : Files} → IsMissing mid m → IsMissing now m → DeliversMessage m mid now → KeepsHomes mid now
+nothing_delivered {m} {mid} {now} was is delivers = record {
   kept = λ base named.
       elim (cases_Bool (is_name m.target.base base)) as (λ _. IsPermutation (homes mid base) (homes now base)) [
-        | inl e ↦ subst (λ b. IsPermutation (homes mid b) (homes now b)) (is_name-true m.target.base base e) (rw (was, is) (IsPermutation-refl _))
+        | inl e ↦ subst (λ b. IsPermutation (homes mid b) (homes now b)) (is_name-true _ base e) (rw (was, is) (IsPermutation-refl _))
         | inr e ↦ delivers.others base named e
       ];
 }
 
 -- a message that was missing was delivered, or is missing yet
-pub progress_or_more : (done : List Message) (m : Message) (old mid now : Files) → AreNamed done → All (λ n. IsFalse (is_name m.target.base n.target.base)) done
+pub progress_or_more : {done : List Message} {m : Message} {old mid now : Files} → AreNamed done → All (λ n. IsFalse (is_name m.target.base n.target.base)) done
     → IsMissing mid m → DeliversMessage m mid now → Progress done old mid → Progress done old now ⊎ Progress (done ++ m ∷ []) old now
-progress_or_more done m old mid now named apart was delivers p =
+progress_or_more {done} {m} {old} {mid} {now} named apart was delivers p =
     elim delivers.own [
-      | inl is ↦ inl (progress_on done old mid now named (nothing_delivered m mid now was is delivers) p)
-      | inr home ↦ inr (progress_delivered done m old mid now named apart delivers home p)
+      | inl is ↦ inl (progress_on named (nothing_delivered was is delivers) p)
+      | inr home ↦ inr (progress_delivered named apart delivers home p)
     ]
 
 -- ---- messages that were done
@@ -155,7 +155,7 @@ not_done done m apart =
 module _ (done : List Message) (m : Message) (old now : Files) (named : IsTrue (is_converter_base m.target.base))
     (apart : All (λ n. IsFalse (is_name m.target.base n.target.base)) done) (p : Progress done old now) where
   pub still_missing : IsMissing old m → IsMissing now m
-  still_missing h = homes_none m.target.base old now (p.kept m.target.base named (not_done done m apart)) h
+  still_missing h = homes_none _ old now (p.kept m.target.base named (not_done done m apart)) h
 
   pub still_there : IsHome old m → IsHome now m
-  still_there h = homes_one m.target.base m.body old now (p.kept m.target.base named (not_done done m apart)) h
+  still_there h = homes_one _ m.body old now (p.kept m.target.base named (not_done done m apart)) h

@@ -38,23 +38,23 @@ placed_others s name New target (Some bytes) ours theirs =
 placed_others s name Cur target (Some bytes) ours theirs =
     record { in_tmp = λ q off. remove_other s.tmp q name ours off; in_new = λ q off. refl; in_cur = λ q off. insert_other s.cur q target bytes theirs off }
 
-pub effect_others : (call : Call) → OfConverter call → (s : Files) → KeepsForeign s (effect call s)
-effect_others (Listing sub) h s = others_same s
-effect_others (Writing name bytes) h s = wrote s name bytes h
-effect_others (Placing name p target) h s = placed_others s name p target (get s.tmp name) h.0 h.1
-effect_others (Removing name) h s = record { in_tmp = λ q off. remove_other s.tmp q name h off; in_new = λ q off. refl; in_cur = λ q off. refl }
+pub effect_others : (call : Call) → OfConverter call → {s : Files} → KeepsForeign s (effect call s)
+effect_others (Listing sub) h {s} = others_same s
+effect_others (Writing name bytes) h {s} = wrote s name bytes h
+effect_others (Placing name p target) h {s} = placed_others s name p target (get s.tmp name) h.0 h.1
+effect_others (Removing name) h {s} = record { in_tmp = λ q off. remove_other s.tmp q name h off; in_new = λ q off. refl; in_cur = λ q off. refl }
 
-torn_others : (call : Call) → OfConverter call → (bytes : List ℕ) (s : Files) → KeepsForeign s (torn call bytes s)
-torn_others (Writing name _) h bytes s = wrote s name bytes h
-torn_others other h bytes s = others_same s
+torn_others : (call : Call) → OfConverter call → (bytes : List ℕ) {s : Files} → KeepsForeign s (torn call bytes s)
+torn_others (Writing name _) h bytes {s} = wrote s name bytes h
+torn_others other h bytes {s} = others_same s
 
-pub own_others : (call : Call) → OfConverter call → (ms : List Move) (s : Files) → IsOwn ms → KeepsForeign s (after s call ms)
-own_others call h [] s own = others_same s
-own_others call h (Other action ∷ ms) s own = absurd own
-own_others call h (Again ∷ ms) s own =
-    foreign_then s (effect call s) (after s call (Again ∷ ms)) (effect_others call h s) (own_others call h ms (effect call s) own)
-own_others call h (Torn bytes ∷ ms) s own =
-    foreign_then s (torn call bytes s) (after s call (Torn bytes ∷ ms)) (torn_others call h bytes s) (own_others call h ms (torn call bytes s) own)
+pub own_others : (call : Call) → OfConverter call → (ms : List Move) {s : Files} → IsOwn ms → KeepsForeign s (after s call ms)
+own_others call h [] {s} own = others_same s
+own_others call h (Other action ∷ ms) own = absurd own
+own_others call h (Again ∷ ms) {s} own =
+    foreign_then s _ _ (effect_others call h) (own_others call h ms own)
+own_others call h (Torn bytes ∷ ms) {s} own =
+    foreign_then s _ _ (torn_others call h bytes) (own_others call h ms own)
 
 -- ---- the sweep
 -- these names are out of `tmp`, and nothing else has changed
@@ -68,9 +68,9 @@ all_removed (x ∷ names) old new (mid, one, more) =
       r.2 ∙ ap (λ s. s.cur) one.1,
     )
 
-pub swept_exact : (names : List (List ℕ)) (start now : Files) → IsPermutation names (keys start.tmp)
+pub swept_exact : {names : List (List ℕ)} (start : Files) {now : Files} → IsPermutation names (keys start.tmp)
     → AllDone quietly (sweep_of names) start now → now ≡ swept start
-swept_exact names start now listed done =
+swept_exact {names} start {now} listed done =
     let r = all_removed (filter is_converter_name names) start now done in
     let tmp : now.tmp ≡ retain_keys start.tmp (λ name. not (is_converter_name name)) = same_map total same _ _ (λ q.
     r.0 q
@@ -86,12 +86,12 @@ swept_exact names start now listed done =
 -- ---- a message
 placed_exact : (old : Files) (b body : List ℕ) (p : Place) (name : List ℕ) → get old.tmp b ≡ None
     → placed (record old { tmp = insert old.tmp b body }) b p name (Some body) ≡ added old p name body
-placed_exact old b body New name none = ap (λ m. record { tmp = m; new = insert old.new name body; cur = old.cur }) (put_away old.tmp b body none)
-placed_exact old b body Cur name none = ap (λ m. record { tmp = m; new = old.new; cur = insert old.cur name body }) (put_away old.tmp b body none)
+placed_exact old b body New name none = ap (λ m. record { tmp = m; new = insert old.new name body; cur = old.cur }) (put_away b body none)
+placed_exact old b body Cur name none = ap (λ m. record { tmp = m; new = old.new; cur = insert old.cur name body }) (put_away b body none)
 
-pub delivers_exact : (old mid new : Files) (b body : List ℕ) (p : Place) (name : List ℕ) → mid ≡ effect (Writing b body) old
+pub delivers_exact : (old : Files) {mid new : Files} (b body : List ℕ) (p : Place) (name : List ℕ) → mid ≡ effect (Writing b body) old
     → new ≡ effect (Placing b p name) mid → get old.tmp b ≡ None → new ≡ added old p name body
-delivers_exact old mid new b body p name wrote put none =
+delivers_exact old b body p name wrote put none =
     put ∙ ap (effect (Placing b p name)) wrote
     ∙ ap (placed (record old { tmp = insert old.tmp b body }) b p name) (get-insert_same old.tmp b body)
     ∙ placed_exact old b body p name none

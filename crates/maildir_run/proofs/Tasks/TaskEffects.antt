@@ -32,9 +32,9 @@ stopped_parts w (x ∷ xs) ys a c (inr (mid, one, more)) =
     ]
 
 -- ---- a base at which nothing is placed
-done_moves : (task : Task) (old new : Files) → Done task old new → AnyMoves (call_of task) old new
-done_moves (Ask sub names) old new h = record { moves = h.before ++ Again ∷ h.rest; left = h.left }
-done_moves (Do call) old new h = ok_moves call old new h
+done_moves : (task : Task) {old new : Files} → Done task old new → AnyMoves (call_of task) old new
+done_moves (Ask sub names) h = record { moves = h.before ++ Again ∷ h.rest; left = h.left }
+done_moves (Do call) {old} {new} h = ok_moves h
 
 -- each of the tasks is so
 abbrev pub EachTask : (Task → Type 0) → List Task → Type 0
@@ -62,7 +62,7 @@ module _ (w : Way) (R : Files → Files → Type 0) (same : (s : Files) → R s 
 
 one_leaves : (task : Task) → PlacesNone task → (old new : Files) → Done task old new ⊎ TaskRefused task old new → KeepsHomes old new
 one_leaves task off old new h = record {
-  kept = λ b named. called_kept b named (call_of task) (off b) old new (elim h [ inl done ↦ done_moves task old new done | inr refused ↦ refused ]);
+  kept = λ b named. called_kept b named (off b) (elim h [ inl done ↦ done_moves task done | inr refused ↦ refused ]);
 }
 
 pub done_leaves : (fault : Option RunFault) (tasks : List Task) → EachTask PlacesNone tasks
@@ -85,17 +85,17 @@ pub record KnownByListings (names : Listings) (old new : Files) : Type 0 where
   pub few : length (filter is_converter_name names.tmp) ≤ leftover_count old
   pub knows : Knows (is_listed names.new names.cur) old
 
-pub known_by_listings : (names : Listings) (old new : Files) → AllDone honestly (listing_tasks names) old new → KnownByListings names old new
-known_by_listings names old new (a, first, (b, second, (c, third, e))) = record {
+pub known_by_listings : {names : Listings} {old new : Files} → AllDone honestly (listing_tasks names) old new → KnownByListings names old new
+known_by_listings {names} {old} (a, first, (b, second, (c, third, e))) = record {
   within =
       subst (TmpWithin names.tmp) (sym e)
-      (listed_within Cur names.tmp b names.cur c third (listed_within New names.tmp a names.new b second (listing_within old names.tmp a first)));
-  few = few_listed old names.tmp a first;
-  knows = λ base named. three_listings base named old a b c names.tmp names.new names.cur first second third;
+      (listed_within third (listed_within second (listing_within first)));
+  few = few_listed first;
+  knows = λ base named. three_listings base named first second third;
 }
 
-pub listed_quietly : (names : Listings) (old new : Files) → AllDone quietly (listing_tasks names) old new → (new ≡ old) × IsPermutation names.tmp (keys old.tmp)
-listed_quietly names old new (a, first, (b, second, (c, third, e))) = (e ∙ third.0 ∙ second.0 ∙ first.0, first.1)
+pub listed_quietly : {names : Listings} {old new : Files} → AllDone quietly (listing_tasks names) old new → (new ≡ old) × IsPermutation names.tmp (keys old.tmp)
+listed_quietly (a, first, (b, second, (c, third, e))) = (e ∙ third.0 ∙ second.0 ∙ first.0, first.1)
 
 -- ---- the sweep
 -- the task names converter's names alone
@@ -111,14 +111,14 @@ sweep_ours (name ∷ names) =
       | false ↦ λ e. sweep_ours names
     ] refl
 
-each_swept : (names : List (List ℕ)) → EachTask IsOurs (map (λ name. Do (Removing name)) names) → (old new : Files)
+each_swept : (names : List (List ℕ)) → EachTask IsOurs (map (λ name. Do (Removing name)) names) → {old new : Files}
     → TmpWithin names old → AllDone honestly (map (λ name. Do (Removing name)) names) old new → TmpWithin [] new
-each_swept [] ours old new within e = subst (TmpWithin []) (sym e) within
-each_swept (name ∷ names) ours old new within (mid, one, more) = each_swept names ours.1 mid new (removing_within name names ours.0 old mid one within) more
+each_swept [] ours within e = subst (TmpWithin []) (sym e) within
+each_swept (name ∷ names) ours {new} within (mid, one, more) = each_swept names ours.1 (removing_within ours.0 one within) more
 
-pub all_swept : (names : List (List ℕ)) (old new : Files) → TmpWithin names old → AllDone honestly (sweep_of names) old new → TmpWithin [] new
-all_swept names old new within =
-    each_swept (filter is_converter_name names) (sweep_ours names) old new (record {
+pub all_swept : {names : List (List ℕ)} {old new : Files} → TmpWithin names old → AllDone honestly (sweep_of names) old new → TmpWithin [] new
+all_swept {names} {old} {new} within =
+    each_swept (filter is_converter_name names) (sweep_ours names) (record {
       gone = λ q ours off.
           within.gone q ours
           (sym (any-filter_same (is_name q) is_converter_name true (λ k e. ap is_converter_name (sym (is_name-true q k e)) ∙ ours) names) ∙ off);
@@ -134,17 +134,17 @@ module _ (m : Message) (is : IsTarget m.target) (old new : Files) (missing : IsM
   pub delivered : AllDone honestly (delivery_of m.target m.body) old new → DeliveredMessage m old new
   delivered (mid, wrote, (end, put, e)) =
       let t = m.target in
-      let w = write_ok m is old mid wrote missing in
+      let w = write_ok is wrote missing in
       let home = place_home m is old mid end w put in
       subst (DeliveredMessage m old) (sym e) (record {
-        delivers = place_delivers m is old mid end w (ok_moves (Placing t.base t.place t.name) mid end put);
+        delivers = place_delivers m is old mid end w (ok_moves put);
         home = home.0;
         within = home.1;
       })
 
   pub stopped_delivers : Stopped honestly (delivery_of m.target m.body) old new → DeliversMessage m old new
-  stopped_delivers (inl h) = write_delivers m is old new h missing
-  stopped_delivers (inr (mid, wrote, inl h)) = place_delivers m is old mid new (write_ok m is old mid wrote missing) h
+  stopped_delivers (inl h) = write_delivers is h missing
+  stopped_delivers (inr (mid, wrote, inl h)) = place_delivers m is old mid new (write_ok is wrote missing) h
   stopped_delivers (inr (mid, wrote, inr (end, put, e))) = (delivered (mid, wrote, (end, put, e))).delivers
 
 -- ---- messages, in order
@@ -178,7 +178,7 @@ module _ (start : Files) (is_there : List ℕ → Bool) (knows : Knows is_there 
       missing_here : (now : Files) → all ≡ done ++ m ∷ ms → is_there m.target.base ≡ false → Progress done start now → IsMissing now m
       missing_here now e off p =
           let is = at (λ m. IsTarget m.target) are done ms m e in
-          still_missing done m start now is.named (apart done ms m e) p (none_of (homes start m.target.base) (home_is m.target false is off))
+          still_missing done m start now is.named (apart done ms m e) p (none_of _ (home_is m.target false is off))
 
       home_here : (now : Files) → all ≡ done ++ m ∷ ms → is_there m.target.base ≡ true → Progress done start now → IsHome now m
       home_here now e on p =
@@ -196,20 +196,20 @@ module _ (start : Files) (is_there : List ℕ → Bool) (knows : Knows is_there 
           elim (cases_Bool (is_there m.target.base)) [
             | inl on ↦
                 let same : new ≡ old = as_shown honestly m true old new on h in (
-                  subst (Progress (done ++ m ∷ []) start) (sym same) (progress_home done m start old (home_here old e on p) p),
+                  subst (Progress (done ++ m ∷ []) start) (sym same) (progress_home m (home_here old e on p) p),
                   subst (TmpWithin []) (sym same) within,
                 )
             | inr off ↦
                 let d =
                 delivered m (at (λ m. IsTarget m.target) are done ms m e) old new (missing_here old e off p) (as_shown honestly m false old new off h) in
-                (progress_delivered done m start old new (done_named done (m ∷ ms) e) (apart done ms m e) d.delivers d.home p, d.within within)
+                (progress_delivered (done_named done (m ∷ ms) e) (apart done ms m e) d.delivers d.home p, d.within within)
           ]
 
     pub all_progress : (done ms : List Message) (old new : Files) → all ≡ done ++ ms → Progress done start old
         → TmpWithin [] old → AllDone honestly (deliveries_of is_there ms) old new → Progress all start new × TmpWithin [] new
     all_progress done [] old new e p within h = (rw (e ∙ append-nil done) (subst (Progress done start) (sym h) p), subst (TmpWithin []) (sym h) within)
     all_progress done (m ∷ ms) old new e p within h =
-        let r = all_parts honestly (delivery_if is_there m) (deliveries_of is_there ms) old new h in
+        let r = all_parts honestly _ _ old new h in
         let one = one_done done ms m old r.0 e p within r.1 in
         all_progress (done ++ m ∷ []) ms r.0 new (next done ms m e) one.0 one.1 r.2
 
@@ -224,7 +224,7 @@ module _ (start : Files) (is_there : List ℕ → Bool) (knows : Knows is_there 
           | inr off ↦
               let missing = missing_here done ms m old e off p in
               let delivers = stopped_delivers m (at (λ m. IsTarget m.target) are done ms m e) old new missing (rw off at h) in
-              elim (progress_or_more done m start old new (done_named done (m ∷ ms) e) (apart done ms m e) missing delivers p) [
+              elim (progress_or_more (done_named done (m ∷ ms) e) (apart done ms m e) missing delivers p) [
                 | inl q ↦ record { done = done; rest = m ∷ ms; is = e; progress = q }
                 | inr q ↦ record { done = done ++ m ∷ []; rest = ms; is = next done ms m e; progress = q }
               ]
@@ -234,7 +234,7 @@ module _ (start : Files) (is_there : List ℕ → Bool) (knows : Knows is_there 
         → TmpWithin [] old → Stopped honestly (deliveries_of is_there ms) old new → CameTo all start new
     stopped_came done [] old new e p within h = record { done = done; rest = []; is = e; progress = subst (Progress done start) (sym h) p }
     stopped_came done (m ∷ ms) old new e p within h =
-        elim (stopped_parts honestly (delivery_if is_there m) (deliveries_of is_there ms) old new h) [
+        elim (stopped_parts honestly _ _ old new h) [
           | inl s ↦ one_stopped done ms m old new e p s
           | inr (mid, first, then) ↦
               let one = one_done done ms m old mid e p within first in
@@ -249,14 +249,14 @@ module _ (start : Files) (is_there : List ℕ → Bool) (knows : Knows is_there 
       let is = All-head (λ (x : Message). IsTarget x.target) m ms are in
       let more = All-tail (λ (x : Message). IsTarget x.target) m ms are in
       let t = m.target in
-      let r = all_parts quietly (delivery_if is_there m) (deliveries_of is_there ms) old new h in
+      let r = all_parts quietly _ _ old new h in
       let step : r.0 ≡ cond (has_home start t.base) old (added old t.place t.name m.body) =
       elim (cases_Bool (is_there t.base)) [
         | inl on ↦ as_shown quietly m true old r.0 on r.1 ∙ ap (λ b. cond b old (added old t.place t.name m.body)) (sym (home_is t true is on))
         | inr off ↦
             let d = as_shown quietly m false old r.0 off r.1 in
             let end = d.2 in
-            (end.2 ∙ delivers_exact old d.0 end.0 t.base m.body t.place t.name d.1.1 end.1.1 (free t.base (base_name m is)))
+            (end.2 ∙ delivers_exact old t.base m.body t.place t.name d.1.1 end.1.1 (free t.base (base_name m is)))
             ∙ ap (λ b. cond b old (added old t.place t.name m.body)) (sym (home_is t false is off))
       ] in
       all_filled ms more r.0 new
@@ -266,8 +266,8 @@ module _ (start : Files) (is_there : List ℕ → Bool) (knows : Knows is_there 
 -- ---- other files
 one_others : (task : Task) → IsOurs task → (old new : Files) → quietly.done task old new ⊎ quietly.refused task old new → KeepsForeign old new
 one_others (Ask sub names) ours old new (inl h) = subst (KeepsForeign old) (sym h.0) (others_same old)
-one_others (Do call) ours old new (inl h) = subst (KeepsForeign old) (sym h.1) (effect_others call ours old)
-one_others task ours old new (inr h) = subst (KeepsForeign old) (sym h.2) (own_others (call_of task) ours h.0 old h.1)
+one_others (Do call) ours old new (inl h) = subst (KeepsForeign old) (sym h.1) (effect_others call ours)
+one_others task ours old new (inr h) = subst (KeepsForeign old) (sym h.2) (own_others _ ours h.0 h.1)
 
 pub done_others : (fault : Option RunFault) (tasks : List Task) → EachTask IsOurs tasks
     → (old new : Files) → DoneUntil quietly tasks old fault new → KeepsForeign old new

@@ -47,8 +47,8 @@ stopped_before w still (x ∷ xs) ys a b (inl h) = inl h
 stopped_before w still (x ∷ xs) ys a b (inr (mid, one, more)) = inr (mid, one, stopped_before w still xs ys mid b more)
 
 -- ---- runs after one another
-pub ran_none : (s : Seen) (made : ℕ) → Performed [] s s made made None
-ran_none s made = record {
+pub ran_none : {s : Seen} {made : ℕ} → Performed [] s s made made None
+ran_none {s} {made} = record {
   honest = λ h. h;
   done_honestly = λ h. refl;
   left = λ h new may. (new, may, refl);
@@ -57,7 +57,7 @@ ran_none s made = record {
   n = 0;
   most = omega arith;
   all = λ e. refl;
-  makes = no_call made s.calls;
+  makes = no_call;
   cause = refl;
   call_number = tt;
 }
@@ -77,7 +77,7 @@ ran_then {xs} {ys} {a} {b} {c} {made} {mid} {made'} {fault} first then =
       n = first.n + then.n;
       most = omega (arith, length-append xs ys);
       all = λ e. omega (arith, length-append xs ys, first.all refl, then.all e);
-      makes = more_calls first.n then.n _ _ _ _ _ _ first.makes then.makes;
+      makes = more_calls first.makes then.makes;
       cause = rw first.cause at then.cause;
       call_number = then.call_number;
     }
@@ -102,9 +102,9 @@ ran_before {xs} {a} {b} ys h =
     }
 
 -- all, and then the run stops for want of something else
-pub ran_stop : {xs : List Task} {a b : Seen} {made made' : ℕ} (fault : RunFault) → IsReading fault
+pub ran_stop : {xs : List Task} {a b : Seen} {made made' : ℕ} {fault : RunFault} → IsReading fault
     → Performed xs a b made made' None → Performed xs a b made made' (Some fault)
-ran_stop {xs} {a} {b} {made} {made'} fault reading h = record {
+ran_stop {xs} {a} {b} {made} {made'} reading h = record {
   honest = h.honest;
   done_honestly = λ q. all_stopped honestly xs a.files b.files (h.done_honestly q);
   left = λ q. left_as _ _ a.may_leave b.may_leave (all_stopped leaving xs) (h.left q);
@@ -114,13 +114,13 @@ ran_stop {xs} {a} {b} {made} {made'} fault reading h = record {
   most = h.most;
   all = λ e. cc;
   makes = h.makes;
-  cause = at_reading (λ f. GoesUpWith (Some f) a.failures b.failures) h.cause h.cause h.cause h.cause fault reading;
-  call_number = at_reading (λ f. HasCallNumber (Some f) made') tt tt tt tt fault reading;
+  cause = at_reading (λ f. GoesUpWith (Some f) a.failures b.failures) h.cause h.cause h.cause h.cause reading;
+  call_number = at_reading (λ f. HasCallNumber (Some f) made') tt tt tt tt reading;
 }
 
 -- nothing, for want of something else
-pub ran_nothing : (fault : RunFault) → IsReading fault → (tasks : List Task) (s : Seen) (made : ℕ) → Performed tasks s s made made (Some fault)
-ran_nothing fault reading tasks s made = ran_before tasks (ran_stop fault reading (ran_none s made))
+pub ran_nothing : {fault : RunFault} → IsReading fault → {tasks : List Task} {s : Seen} {made : ℕ} → Performed tasks s s made made (Some fault)
+ran_nothing {fault} reading {tasks} {s} {made} = ran_before tasks (ran_stop reading (ran_none))
 
 -- the fault of a refused call, as that of the answer of the function that made it
 pub ran_err : {B : Type 0} {xs : List Task} {a b : Seen} {made made' : ℕ} {fault : RunFault} (r : Result B RunFault)
@@ -147,12 +147,12 @@ told_names : (r : Result (Vec (String Global) Global) FolderFault) (number : ℕ
 told_names (Ok v) number = refl
 told_names (Err e) number = refl
 
-ran_one : {A : Type 0} (task : Task) (old new : Seen) (made made' : ℕ) (r : Result A FolderFault) (answer : Result A RunFault) → made' ≡ capped (made + 1)
+ran_one : {A : Type 0} {task : Task} {old new : Seen} {made made' : ℕ} (r : Result A FolderFault) {answer : Result A RunFault} → made' ≡ capped (made + 1)
     → answer ≡ run_answer made' r → (old.honest → new.honest) → (old.honest → Performs honestly (task ∷ []) old.files r new.files)
     → (old.honest → Follows (λ before now. Performs leaving (task ∷ []) before r now) old.may_leave new.may_leave)
     → (old.quiet → new.quiet) → (old.quiet → Performs quietly (task ∷ []) old.files r new.files) → GoesUp old.calls new.calls
     → CountsFailure r old.failures new.failures → Performed (task ∷ []) old new made made' (fault_of answer)
-ran_one task old new made made' r answer up is honest called left quiet alone counted cause =
+ran_one {task} {old} {new} {made} {made'} r up is honest called left quiet alone counted cause =
     subst (λ x. Performed (task ∷ []) old new made made' (fault_of x)) (sym is) (record {
       honest = honest;
       done_honestly = λ h. run_performs honestly (task ∷ []) old.files r new.files made' (called h);
@@ -162,7 +162,7 @@ ran_one task old new made made' r answer up is honest called left quiet alone co
       n = 1;
       most = omega arith;
       all = λ e. refl;
-      makes = one_call _ _ _ _ up counted;
+      makes = one_call up counted;
       cause = told_cause r made' _ _ cause;
       call_number = told_number r made';
     })
@@ -203,20 +203,20 @@ pub ran_do : {A : Type 0} (call : Call) (old new : Seen) (made made' : ℕ) (r :
     → (old.quiet → new.quiet) → (old.quiet → CalledQuietly call old.files r new.files) → GoesUp old.calls new.calls
     → CountsFailure r old.failures new.failures → Performed (Do call ∷ []) old new made made' (fault_of answer)
 ran_do call old new made made' r answer up is honest called left quiet alone =
-    ran_one (Do call) old new made made' r answer up is honest (λ h. do_honestly call old.files r new.files (called h))
+    ran_one r up is honest (λ h. do_honestly call _ r _ (called h))
     (λ h. left_as _ _ old.may_leave new.may_leave (do_leaving call r) (left h))
-    quiet (λ q. do_quietly call old.files r new.files (alone q))
+    quiet (λ q. do_quietly call _ r _ (alone q))
 
 -- a listing
-pub ran_ask : (sub : Sub) (old new : Seen) (made made' : ℕ) (r : Result (Vec (String Global) Global) FolderFault) (answer : Result (Vec (String Global) Global)
-    RunFault) → made' ≡ capped (made + 1) → answer ≡ run_answer made' r → (old.honest → new.honest) → (old.honest → Listed sub old.files r new.files)
+pub ran_ask : {sub : Sub} {old new : Seen} {made made' : ℕ} (r : Result (Vec (String Global) Global) FolderFault) {answer : Result (Vec (String Global) Global)
+    RunFault} → made' ≡ capped (made + 1) → answer ≡ run_answer made' r → (old.honest → new.honest) → (old.honest → Listed sub old.files r new.files)
     → (old.honest → Follows (λ before now. LeavesOf (Listing sub) before r now) old.may_leave new.may_leave) → (old.quiet → new.quiet)
     → (old.quiet → CalledQuietly (Listing sub) old.files r new.files) → (old.quiet → IfOk r (λ v. IsPermutation (names_of v) (keys (folder_of sub old.files))))
     → GoesUp old.calls new.calls → CountsFailure r old.failures new.failures → Performed (Ask sub (names_in answer) ∷ []) old new made made' (fault_of answer)
-ran_ask sub old new made made' r answer up is honest called left quiet alone names counted cause =
-    rw (ap names_in is ∙ told_names r made') (ran_one (Ask sub (names_in r)) old new made made' r answer up is honest
-    (λ h. ask_honestly sub old.files r new.files (called h)) (λ h. left_as _ _ old.may_leave new.may_leave (ask_leaving sub r) (left h))
-    quiet (λ q. ask_quietly sub old.files r new.files (alone q) (names q)) counted cause)
+ran_ask {sub} {old} {new} {made} {made'} r {answer} up is honest called left quiet alone names counted cause =
+    rw (ap names_in is ∙ told_names r made') (ran_one r up is honest
+    (λ h. ask_honestly sub _ r _ (called h)) (λ h. left_as _ _ old.may_leave new.may_leave (ask_leaving sub r) (left h))
+    quiet (λ q. ask_quietly sub _ r _ (alone q) (names q)) counted cause)
 
 -- one more step of a plan, which has these tasks
 module _ {X : Type 0} (f : X → List Task) (xs : List X) (i : ℕ) (x : X) (h : i < length xs)

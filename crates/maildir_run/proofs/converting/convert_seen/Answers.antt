@@ -10,13 +10,13 @@ use Rattle.maildir_run.proofs.converting.convert_seen.Goals as goal
 pub returns-in_err-reader-clause-is : goal.returns-in_err-reader-clause-is
 returns-in_err-reader-clause-is g c =
     let at = seen g.F.Folder in
-    stops_unread _ _ _ (at c.args.folder.now) _ OutOfMemory c.from_residual.ensures.1 (inr (inr (inr refl)))
-    (record { budget = read_nothing (g.R.Read.remaining c.args.source.now) (65536 * c.args.reads); spent = λ e. absurd (cc); unreadable = λ e. absurd (cc) })
+    stops_unread c.from_residual.ensures.1 (inr (inr (inr refl)))
+    (record { budget = read_nothing (g.R.Read.remaining c.args.source.now); spent = λ e. absurd (cc); unreadable = λ e. absurd (cc) })
 
 pub returns-in_err-ended-clause-is : goal.returns-in_err-ended-clause-is
 returns-in_err-ended-clause-is g c =
     let at = seen g.F.Folder in
-    stops_unread _ _ _ (at c.args.folder.now) _ _ c.from_residual-in_err-ended.ensures.1 c.in_err-ended.ensures.causes
+    stops_unread c.from_residual-in_err-ended.ensures.1 c.in_err-ended.ensures.causes
     (rw c.in_ok-reader.ensures.1 at c.in_err-ended.ensures.refused)
 
 pub returns-in_err-listings-clause-is : goal.returns-in_err-listings-clause-is
@@ -25,7 +25,7 @@ returns-in_err-listings-clause-is g c =
     let begins = rw c.in_ok-reader.ensures.1 at c.in_ok-ended.ensures.begins in
     let look = c.in_err-listings.ensures.ran in
     stops_in_folder _ _ _ _ _ _ _ is c.in_err-listings.ensures.causes _
-    (given_front c.in_ok-ended.ended _ _ _ _ _ _ begins.gave) look.0 look.1 _ _ c.new-calls.ensures
+    (given_front _ _ _ _ _ _ _ begins.gave) look.0 look.1 _ _ c.new-calls.ensures
     (ran_before _ look.2)
 
 pub returns-in_err-engine-clause-is : goal.returns-in_err-engine-clause-is
@@ -35,7 +35,7 @@ returns-in_err-engine-clause-is g c =
     let look = c.in_ok-listings.ensures.ran in
     let sweep = rw look.3.0 at c.in_err-engine.ensures.ran.1 in
     stops_in_folder _ _ _ _ _ _ _ is c.in_err-engine.ensures.causes _
-    (given_front c.in_ok-ended.ended _ _ _ _ _ _ begins.gave) look.0 look.1 _ _ c.new-calls.ensures
+    (given_front _ _ _ _ _ _ _ begins.gave) look.0 look.1 _ _ c.new-calls.ensures
     (ran_then look.2 (ran_before _ sweep))
 
 pub pieces-init : goal.pieces-init
@@ -48,14 +48,14 @@ pieces-init g c =
       count = c.in_ok-engine.ensures.counts.0;
       there = refl;
       swept = refl;
-      delivers = delivers_none _ [] _ _ _ _ c.in_ok-engine.ensures.namer;
+      delivers = delivers_none _ c.in_ok-engine.ensures.namer;
     }
 
 pub deliver_entries-requires : goal.deliver_entries-requires
 deliver_entries-requires g c =
     let i = c.pieces.invariant in
-    let few = front_few (given_front c.pieces.ended _ _ _ _ _ _ i.gave) in
-    batch_fits c.pieces.engine.messages c.args.reads i.given c.pieces.whole.items c.deref.result.now i.count few c.requires c.deref.ensures.value
+    let few = front_few (given_front _ _ _ _ _ _ _ i.gave) in
+    batch_fits i.given i.count few c.requires c.deref.ensures.value
 
 pub pieces-preserved : goal.pieces-preserved
 pieces-preserved g c =
@@ -63,17 +63,17 @@ pieces-preserved g c =
     let whole = c.pieces.whole.items in
     let entries = c.deref.result.now in
     let is = c.deref.ensures.value in
-    let few = front_few (given_front c.pieces.ended _ _ _ _ _ _ i.gave) in
+    let few = front_few (given_front _ _ _ _ _ _ _ i.gave) in
     record {
       given = i.given ++ whole;
       gave =
           gave_more c.in_ok-ended-2.ended _ c.pieces.reader _ _ c.clear.new.self.items c.read.new.out.items c.clear.ensures.items
           (rw c.if-ended.false at i.gave) c.in_ok-ended-2.ensures.went;
-      begun = λ e. batch_begun (i.given ++ whole) c.read.new.out.items (i.begun c.if-ended.false);
-      count = batch_count c.pieces.engine.messages c.deliver_entries.new.self.messages i.given whole entries i.count c.in_ok-deliver_entries.ensures.all is;
+      begun = λ e. batch_begun _ c.read.new.out.items (i.begun c.if-ended.false);
+      count = batch_count _ _ i.given whole entries i.count c.in_ok-deliver_entries.ensures.all is;
       there = c.in_ok-deliver_entries.ensures.there ∙ i.there;
       swept = c.in_ok-deliver_entries.ensures.swept ∙ i.swept;
-      delivers = one_batch i.given whole entries c.args.reads i.there is few c.requires i.delivers c.in_ok-deliver_entries.ensures.delivers;
+      delivers = one_batch i.given whole entries _ i.there is few c.requires i.delivers c.in_ok-deliver_entries.ensures.delivers;
     }
 
 pub returns-in_err-deliver_entries-clause-is : goal.returns-in_err-deliver_entries-clause-is
@@ -83,10 +83,10 @@ returns-in_err-deliver_entries-clause-is g c =
     let given = i.given ++ c.pieces.whole.items in
     let look = c.in_ok-listings.ensures.ran in
     let begin = c.in_ok-engine.ensures.ran in
-    let front = given_front c.pieces.ended _ _ _ _ _ given i.gave in
+    let front = given_front _ _ _ _ _ _ given i.gave in
     let few = front_few front in
-    let listed = tells_listed c.in_ok-engine.engine.there _ _ look.0 (bodies_of given) c.in_ok-engine.ensures.there look.3.1 look.3.2 in
-    let delivers = one_batch i.given c.pieces.whole.items c.deref.result.now c.args.reads i.there
+    let listed = tells_listed _ _ _ look.0 (bodies_of given) c.in_ok-engine.ensures.there look.3.1 look.3.2 in
+    let delivers = one_batch i.given _ _ _ i.there
     c.deref.ensures.value few c.requires i.delivers c.in_err-deliver_entries.ensures.delivers in
     stops_in_folder _ _ _ _ _ _ _ is c.in_err-deliver_entries.ensures.causes given front look.0 look.1 _ _ refl
     (all_ran look.0 _ c.new-calls.ensures look.3.0 begin.2 listed look.2 begin.1 delivers.ran)
@@ -99,17 +99,17 @@ returns-in_err-ended-2-clause-is g c =
     let given = i.given ++ c.pieces.whole.items in
     let look = c.in_ok-listings.ensures.ran in
     let begin = c.in_ok-engine.ensures.ran in
-    let front = given_front c.pieces.ended _ _ _ _ _ given i.gave in
+    let front = given_front _ _ _ _ _ _ given i.gave in
     let few = front_few front in
-    let listed = tells_listed c.in_ok-engine.engine.there _ _ look.0 (bodies_of given) c.in_ok-engine.ensures.there look.3.1 look.3.2 in
-    let delivers = one_batch i.given c.pieces.whole.items c.deref.result.now c.args.reads i.there
+    let listed = tells_listed _ _ _ look.0 (bodies_of given) c.in_ok-engine.ensures.there look.3.1 look.3.2 in
+    let delivers = one_batch i.given _ _ _ i.there
     c.deref.ensures.value few c.requires i.delivers c.in_ok-deliver_entries.ensures.delivers in
     let gave = rw c.if-ended.false at i.gave in
     let went = c.in_err-ended-2.ensures.went in
     stops _ _ _ _ _ _ fault is (gave_refused _ c.pieces.reader fault gave went)
     (λ e. absurd (never_again _ c.pieces.reader fault gave (i.begun c.if-ended.false) went e))
-    given (broken_front _ c.pieces.reader fault gave went) look.0 look.1 _ _ refl
-    (ran_stop fault c.in_err-ended-2.ensures.causes (all_ran look.0 _ c.new-calls.ensures look.3.0 begin.2 listed look.2 begin.1 delivers.ran))
+    given (broken_front c.pieces.reader gave went) look.0 look.1 _ _ refl
+    (ran_stop c.in_err-ended-2.ensures.causes (all_ran look.0 _ c.new-calls.ensures look.3.0 begin.2 listed look.2 begin.1 delivers.ran))
 
 pub returns-then-ended-clause-is : goal.returns-then-ended-clause-is
 returns-then-ended-clause-is g c =
@@ -119,13 +119,13 @@ returns-then-ended-clause-is g c =
     let look = c.in_ok-listings.ensures.ran in
     let begin = c.in_ok-engine.ensures.ran in
     let counts = c.in_ok-engine.ensures.counts in
-    let front = given_front c.pieces.ended _ _ _ _ _ given i.gave in
+    let front = given_front _ _ _ _ _ _ given i.gave in
     let few = front_few front in
-    let listed = tells_listed c.in_ok-engine.engine.there _ _ look.0 (bodies_of given) c.in_ok-engine.ensures.there look.3.1 look.3.2 in
-    let delivers = one_batch i.given c.pieces.whole.items entries c.args.reads i.there
+    let listed = tells_listed _ _ _ look.0 (bodies_of given) c.in_ok-engine.ensures.there look.3.1 look.3.2 in
+    let delivers = one_batch i.given _ entries _ i.there
     c.deref.ensures.value few c.requires i.delivers c.in_ok-deliver_entries.ensures.delivers in
-    let count = batch_count c.pieces.engine.messages c.deliver_entries.new.self.messages i.given
-    c.pieces.whole.items entries i.count c.in_ok-deliver_entries.ensures.all c.deref.ensures.value in
+    let count = batch_count _ _ i.given
+    _ entries i.count c.in_ok-deliver_entries.ensures.all c.deref.ensures.value in
     record {
       given = given;
       front = front;
@@ -137,7 +137,7 @@ returns-then-ended-clause-is g c =
       made = c.deliver_entries.new.self.calls.made;
       ran = all_ran look.0 _ c.new-calls.ensures look.3.0 begin.2 listed look.2 begin.1 delivers.ran;
       tells =
-          report_tells look.0 given c.report.result _ _ _ _ listed count counts.1 (delivers.placed_are refl)
+          report_tells look.0 given _ _ _ _ _ listed count counts.1 (delivers.placed_are refl)
           c.report.ensures.messages c.report.ensures.there c.report.ensures.placed
           (c.report.ensures.swept ∙ c.in_ok-deliver_entries.ensures.swept ∙ i.swept ∙ rw look.3.0 at counts.2);
     }

@@ -7,7 +7,7 @@ use Rattle.maildir_run.proofs.converting.read_first.Goals as goal
 pub returns-in_err-ended-clause-refused : goal.returns-in_err-ended-clause-refused
 returns-in_err-ended-clause-refused g c =
     let i = c.pieces.invariant in
-    if_err _ c.from_residual.result c.in_err-ended.field-0.0 c.from_residual.ensures.1
+    if_err _ _ c.from_residual.ensures.1
     (gave_refused _ c.pieces.reader c.in_err-ended.field-0.0 i.gave c.in_err-ended.ensures.went)
 
 pub returns-then-ended-clause-begins : goal.returns-then-ended-clause-begins
@@ -19,7 +19,7 @@ returns-then-ended-clause-begins g c =
           elim c.then-ended.branch [
             | then-ended-via-then-ended w ↦ let on = w.if-ended.true in cc
             | then-ended-via-else-ended+then-not-is_empty w ↦
-                some_left c.read.new.out.items _ w.is_empty.result w.is_empty.ensures w.if-not-is_empty.true (omega (arith, c.read.new.out.ok.0))
+                some_left _ w.is_empty.ensures w.if-not-is_empty.true (omega (arith, c.read.new.out.ok.0))
           ];
     }
 
@@ -28,5 +28,5 @@ pieces-preserved g c =
     let i = c.pieces.invariant in
     let more = gave_more c.in_ok-ended.ended _ c.pieces.reader _ _ c.pieces.whole.items c.read.new.out.items i.empty i.gave c.in_ok-ended.ensures.went in
     let none : c.read.new.out.items ≡ [] =
-    none_whole c.read.new.out.items _ c.is_empty.result c.is_empty.ensures c.if-not-is_empty.false (omega (arith, c.read.new.out.ok.0)) in
+    none_whole _ c.is_empty.ensures c.if-not-is_empty.false (omega (arith, c.read.new.out.ok.0)) in
     record { gave = rw (c.if-ended.false, none) at more; empty = none }

@@ -10,35 +10,35 @@ pub returns-in_err-ended : goal.returns-in_err-ended
 returns-in_err-ended g c =
     let r = c.from_residual-in_err-ended in
     let fault = c.in_err-ended.field-0.0 in
-    let b = read_broken _ c.pieces.reader fault flat_output c.pieces.invariant.1 c.in_err-ended.ensures.went in
+    let b = read_broken c.pieces.reader flat_output c.pieces.invariant.1 c.in_err-ended.ensures.went in
     record {
       all = unless_ok _ r.result r.ensures.0;
       end = unless_ok _ r.result r.ensures.0;
       front = on_err r.result b.front;
-      no_from_line = λ e. b.nothing (fault_is r.result fault _ r.ensures.1 e);
-      spent = λ e. b.refused.spent (fault_is r.result fault _ r.ensures.1 e);
-      causes = if_err _ r.result fault r.ensures.1 (inl c.in_err-ended.ensures.causes);
+      no_from_line = λ e. b.nothing (fault_is r.result r.ensures.1 e);
+      spent = λ e. b.refused.spent (fault_is r.result r.ensures.1 e);
+      causes = if_err _ r.result r.ensures.1 (inl c.in_err-ended.ensures.causes);
       budget = b.refused.budget;
     }
 
 pub returns-in_err-write_entries-clause-front : goal.returns-in_err-write_entries-clause-front
 returns-in_err-write_entries-clause-front g c =
-    let b = batch _ c.pieces.reader c.read.new.self.splitter c.read.new.self.reads_left
-    c.read.new.out.items c.in_ok-ended.ended c.pieces.invariant.1 c.in_ok-ended.ensures.went in
+    let b = batch c.pieces.reader c.read.new.self.splitter c.read.new.self.reads_left
+    _ c.pieces.invariant.1 c.in_ok-ended.ensures.went in
     on_err c.from_residual-in_err-write_entries.result
     (batch_broken b _ (flat_map spelling c.deref.result.now) flat_output
-    (flat_more c.pieces.invariant.0 c.read.new.out.items c.deref.result.now c.deref.ensures.value) c.in_err-write_entries.ensures.written)
+    (flat_more c.pieces.invariant.0 c.deref.ensures.value) c.in_err-write_entries.ensures.written)
 
 pub returns-in_err-write_entries-clause-budget : goal.returns-in_err-write_entries-clause-budget
 returns-in_err-write_entries-clause-budget g c =
-    let b = batch _ c.pieces.reader c.read.new.self.splitter c.read.new.self.reads_left
-    c.read.new.out.items c.in_ok-ended.ended c.pieces.invariant.1 c.in_ok-ended.ensures.went in
+    let b = batch c.pieces.reader c.read.new.self.splitter c.read.new.self.reads_left
+    _ c.pieces.invariant.1 c.in_ok-ended.ensures.went in
     (b.front.text, b.front.read, b.front.budget)
 
 pub overflow_add-count : goal.overflow_add-count
 overflow_add-count g c =
-    let b = batch _ c.pieces.reader c.read.new.self.splitter c.read.new.self.reads_left
-    c.read.new.out.items c.in_ok-ended.ended c.pieces.invariant.1 c.in_ok-ended.ensures.went in
+    let b = batch c.pieces.reader c.read.new.self.splitter c.read.new.self.reads_left
+    _ c.pieces.invariant.1 c.in_ok-ended.ensures.went in
     let fits = count_fits b c.requires in
     let len : c.len.result ≡ length c.read.new.out.items = omega (arith, c.len.ensures, c.read.new.out.ok.0) in
     omega (arith, fits, len)
@@ -47,7 +47,7 @@ pub returns-then-ended-clause-all : goal.returns-then-ended-clause-all
 returns-then-ended-clause-all g c =
     let p = c.pieces.invariant.1 in
     let all = poured_all _ _ c.pieces.reader c.read.new.self.splitter c.read.new.self.reads_left c.read.new.out.items (flat_map spelling c.deref.result.now)
-    p (flat_more c.pieces.invariant.0 c.read.new.out.items c.deref.result.now c.deref.ensures.value) c.in_ok-write_entries.ensures.written
+    p (flat_more c.pieces.invariant.0 c.deref.ensures.value) c.in_ok-write_entries.ensures.written
     (rw c.if-ended.true at c.in_ok-ended.ensures.went) in
     let len : c.len.result ≡ length c.read.new.out.items = omega (arith, c.len.ensures, c.read.new.out.ok.0) in
     rw len all
@@ -56,7 +56,7 @@ pub pieces-preserved : goal.pieces-preserved
 pieces-preserved g c =
     let p = c.pieces.invariant.1 in
     let more = poured_more _ _ c.pieces.reader c.read.new.self.splitter c.read.new.self.reads_left c.read.new.out.items (flat_map spelling c.deref.result.now)
-    p (flat_more c.pieces.invariant.0 c.read.new.out.items c.deref.result.now c.deref.ensures.value) c.in_ok-write_entries.ensures.written
+    p (flat_more c.pieces.invariant.0 c.deref.ensures.value) c.in_ok-write_entries.ensures.written
     c.clear.new.self.items (rw c.if-ended.false at c.in_ok-ended.ensures.went) c.clear.ensures.items in
     let len : c.len.result ≡ length c.read.new.out.items = omega (arith, c.len.ensures, c.read.new.out.ok.0) in
     (c.pieces.invariant.0 ++ c.read.new.out.items, rw len more)

@@ -7,4 +7,4 @@ pub returns : goal.returns
 returns c =
     let whole : take c.loop-byte.byte-index c.args.sender.now ≡ c.args.sender.now = take_all c.loop-byte.byte-index c.args.sender.now c.loop-byte-test.false in
     c.loop-byte.invariant ∙ ap (λ s. c.args.line.now.items ++ map shown_byte s) whole
-    ∙ ap (λ s. c.args.line.now.items ++ s) (sym (sender-some c.args.sender.now (sym c.if-is_empty.ensures)))
+    ∙ ap (λ s. c.args.line.now.items ++ s) (sym (sender-some _ (sym c.if-is_empty.ensures)))

@@ -5,8 +5,8 @@ use Rattle.maildir_run.proofs.row.row_of.Goals as goal
 
 pub returns : goal.returns
 returns c =
-    row-is c.args.index _ c.args.entry.now c.args.target.now _ c.sender_of.result.now
-    c.in_ok-row.row.items c.add_sender.new.line.items c.push.new.self.items c.in_ok-front.ensures
+    row-is _ _ _ _ _ _
+    _ _ _ c.in_ok-front.ensures
     (ap length c.as_slice.ensures) (c.in_ok-row.ensures.items ∙ c.as_bytes.ensures.value)
     (c.sender_of.ensures ∙ ap sender c.as_slice-2.ensures) c.in_ok-add_sender.ensures
     c.in_ok-push.ensures.items

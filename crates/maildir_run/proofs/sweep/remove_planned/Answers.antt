@@ -11,7 +11,7 @@ none_removed (Place i) other =
     ap (λ (ms : List Message). map (λ (m : Message). Do (Placing m.target.base m.target.place m.target.name)) (take 1 ms)) (drop-nil i)
 
 pub loop-step-init : goal.loop-step-init
-loop-step-init g c = record { ran = ran_none _ _; count = refl; few = omega arith }
+loop-step-init g c = record { ran = ran_none; count = refl; few = omega arith }
 
 pub returns-clause-ran : goal.returns-clause-ran
 returns-clause-ran g c = rw (take_all _ _ c.loop-step-test.false) at c.loop-step.invariant.ran

@@ -11,9 +11,9 @@ returns-in_err-steps g c =
     let fault = c.in_err-steps.field-0.0 in
     let at = seen g.F.Folder in
     record {
-      ran = ran_err _ r.ensures.1 (ran_nothing fault (inr (inr (inr c.in_err-steps.ensures.refused))) _ (at c.args.folder.now) c.args.calls.now.made);
+      ran = ran_err _ r.ensures.1 (ran_nothing (inr (inr (inr c.in_err-steps.ensures.refused))));
       count = unless_ok _ r.result r.ensures.0;
-      causes = if_err _ r.result fault r.ensures.1 (subst IsOfFolder (sym c.in_err-steps.ensures.refused) tt);
+      causes = if_err _ r.result r.ensures.1 (subst IsOfFolder (sym c.in_err-steps.ensures.refused) tt);
     }
 
 pub returns : goal.returns

@@ -11,8 +11,8 @@ pub pieces-init : goal.pieces-init
 pieces-init g c =
     let none = c.new-lister.ensures in (
       [],
-      rw none.count_is (poured_none table_of _ _ c.in_ok-reader.reader.splitter c.args.reads c.in_ok-reader.reader.reads_left
-          c.new-whole.result.items listing_output c.in_ok-reader.ensures.0 c.in_ok-reader.ensures.1 c.new-whole.ensures.items),
+      rw none.count_is (poured_none table_of
+          listing_output c.in_ok-reader.ensures.0 c.in_ok-reader.ensures.1 c.new-whole.ensures.items),
       none,
     )
 
@@ -20,43 +20,43 @@ pub returns-in_err-ended : goal.returns-in_err-ended
 returns-in_err-ended g c =
     let r = c.from_residual-in_err-ended in
     let fault = c.in_err-ended.field-0.0 in
-    let b = read_broken _ c.pieces.reader fault listing_output c.pieces.invariant.1 c.in_err-ended.ensures.went in
+    let b = read_broken c.pieces.reader listing_output c.pieces.invariant.1 c.in_err-ended.ensures.went in
     record {
       all = unless_ok _ r.result r.ensures.0;
       end = unless_ok _ r.result r.ensures.0;
       front = on_err r.result b.front;
-      no_from_line = λ e. b.nothing (fault_is r.result fault _ r.ensures.1 e);
-      spent = λ e. b.refused.spent (fault_is r.result fault _ r.ensures.1 e);
-      causes = if_err _ r.result fault r.ensures.1 (inl c.in_err-ended.ensures.causes);
+      no_from_line = λ e. b.nothing (fault_is r.result r.ensures.1 e);
+      spent = λ e. b.refused.spent (fault_is r.result r.ensures.1 e);
+      causes = if_err _ r.result r.ensures.1 (inl c.in_err-ended.ensures.causes);
       budget = b.refused.budget;
     }
 
 pub list-requires : goal.list-requires
 list-requires g c =
-    let b = batch _ c.pieces.reader c.read.new.self.splitter c.read.new.self.reads_left
-    c.read.new.out.items c.in_ok-ended.ended c.pieces.invariant.1 c.in_ok-ended.ensures.went in
+    let b = batch c.pieces.reader c.read.new.self.splitter c.read.new.self.reads_left
+    _ c.pieces.invariant.1 c.in_ok-ended.ensures.went in
     rw c.deref.ensures.value b.from_lines
 
 pub returns-in_err-list-clause-front : goal.returns-in_err-list-clause-front
 returns-in_err-list-clause-front g c =
     let given : List Entry = c.pieces.invariant.0 in
-    let b = batch _ c.pieces.reader c.read.new.self.splitter c.read.new.self.reads_left
-    c.read.new.out.items c.in_ok-ended.ended c.pieces.invariant.1 c.in_ok-ended.ensures.went in
+    let b = batch c.pieces.reader c.read.new.self.splitter c.read.new.self.reads_left
+    _ c.pieces.invariant.1 c.in_ok-ended.ensures.went in
     let fit = names_fit b c.requires in
     let s = rw c.deref.ensures.value at (c.in_err-list.ensures.lists given c.pieces.invariant.2 (rw c.deref.ensures.value fit)) in
     on_err c.from_residual-in_err-list.result (batch_broken b _ s.0 listing_output s.1 s.2)
 
 pub returns-in_err-list-clause-budget : goal.returns-in_err-list-clause-budget
 returns-in_err-list-clause-budget g c =
-    let b = batch _ c.pieces.reader c.read.new.self.splitter c.read.new.self.reads_left
-    c.read.new.out.items c.in_ok-ended.ended c.pieces.invariant.1 c.in_ok-ended.ensures.went in
+    let b = batch c.pieces.reader c.read.new.self.splitter c.read.new.self.reads_left
+    _ c.pieces.invariant.1 c.in_ok-ended.ensures.went in
     (b.front.text, b.front.read, b.front.budget)
 
 pub returns-then-ended-clause-all : goal.returns-then-ended-clause-all
 returns-then-ended-clause-all g c =
     let given : List Entry = c.pieces.invariant.0 in
-    let b = batch _ c.pieces.reader c.read.new.self.splitter c.read.new.self.reads_left
-    c.read.new.out.items c.in_ok-ended.ended c.pieces.invariant.1 c.in_ok-ended.ensures.went in
+    let b = batch c.pieces.reader c.read.new.self.splitter c.read.new.self.reads_left
+    _ c.pieces.invariant.1 c.in_ok-ended.ensures.went in
     let fit = names_fit b c.requires in
     let s = rw c.deref.ensures.value at (c.in_ok-list.ensures.lists given c.pieces.invariant.2 (rw c.deref.ensures.value fit)) in
     let all = poured_all _ _ c.pieces.reader c.read.new.self.splitter c.read.new.self.reads_left c.read.new.out.items s.0 c.pieces.invariant.1 s.1 s.2
@@ -68,8 +68,8 @@ returns-then-ended-clause-all g c =
 pub pieces-preserved : goal.pieces-preserved
 pieces-preserved g c =
     let given : List Entry = c.pieces.invariant.0 in
-    let b = batch _ c.pieces.reader c.read.new.self.splitter c.read.new.self.reads_left
-    c.read.new.out.items c.in_ok-ended.ended c.pieces.invariant.1 c.in_ok-ended.ensures.went in
+    let b = batch c.pieces.reader c.read.new.self.splitter c.read.new.self.reads_left
+    _ c.pieces.invariant.1 c.in_ok-ended.ensures.went in
     let fit = names_fit b c.requires in
     let s = rw c.deref.ensures.value at (c.in_ok-list.ensures.lists given c.pieces.invariant.2 (rw c.deref.ensures.value fit)) in
     let more = poured_more _ _ c.pieces.reader c.read.new.self.splitter c.read.new.self.reads_left c.read.new.out.items s.0

@@ -5,5 +5,5 @@ use Rattle.maildir_run.proofs.bases.Bases.add.Goals as goal
 
 pub returns : goal.returns
 returns c =
-    set_of-insert c.self.inside.bases c.insert.new.self c.args.base.now c.in_ok-insert.ensures.updates
+    set_of-insert _ _ _ c.in_ok-insert.ensures.updates
     ∙ ap (λ s. insert s c.args.base.now tt) c.self.view_is

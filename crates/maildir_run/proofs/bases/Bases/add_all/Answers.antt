@@ -7,7 +7,7 @@ pub loop-name-preserved : goal.loop-name-preserved
 loop-name-preserved c =
     let added : c.add.new.self ≡ insert c.loop-name.self (base (string_bytes (get_or c.args.names.now c.loop-name.name-index c.name-item.result))) (tt {0}) =
     cc (c.in_ok-add.ensures) in
-    with_bases-more c.args.names.now c.loop-name.name-index c.name-item.result c.args.self.now c.loop-name.self c.add.new.self
+    with_bases-more _ _ _
     c.loop-name-test.true c.loop-name.invariant added
 
 pub returns : goal.returns

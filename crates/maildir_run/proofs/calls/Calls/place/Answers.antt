@@ -5,5 +5,5 @@ use Rattle.maildir_run.proofs.calls.Calls.place.Goals as goal
 pub returns-clause-ran : goal.returns-clause-ran
 returns-clause-ran g c =
     let says = c.place-answer.ensures in
-    ran_do (Placing c.args.name.now c.args.place c.args.target.now)
-    _ _ _ _ c.place-answer.result _ c.answer.ensures.made c.answer.ensures.is says.honest says.called says.left says.quiet says.quietly says.counted says.cause
+    ran_do _
+    _ _ _ _ _ _ c.answer.ensures.made c.answer.ensures.is says.honest says.called says.left says.quiet says.quietly says.counted says.cause

@@ -13,7 +13,7 @@ pub returns-in_err-there-clause-ran : goal.returns-in_err-there-clause-ran
 returns-in_err-there-clause-ran g c =
     let r = c.from_residual-in_err-there in (
       c.sweep.new.calls.made,
-      ran_err _ r.ensures.1 (ran_stop OutOfMemory (inr (inr (inr refl))) (rw c.deref.ensures.value at c.in_ok-swept.ensures.ran)),
+      ran_err _ r.ensures.1 (ran_stop (inr (inr (inr refl))) (rw c.deref.ensures.value at c.in_ok-swept.ensures.ran)),
       unless_ok _ r.result r.ensures.0,
     )
 

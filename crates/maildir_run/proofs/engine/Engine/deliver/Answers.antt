@@ -7,7 +7,7 @@ use Rattle.maildir_run.proofs.engine.Engine.deliver.Goals.{then-not-contains+in_
 use Rattle.maildir_run.proofs.engine.Engine.deliver.Goals as goal
 
 pub returns-in_err-target-clause-delivers : goal.returns-in_err-target-clause-delivers
-returns-in_err-target-clause-delivers g c = λ bodies named few. delivers_refused c.from_residual.result _ bodies _ _ _ _ _ c.from_residual.ensures.1
+returns-in_err-target-clause-delivers g c = λ bodies named few. delivers_refused _ _ c.from_residual.ensures.1
 
 pub returns-in_err-deliver_message-clause-delivers : goal.returns-in_err-deliver_message-clause-delivers
 returns-in_err-deliver_message-clause-delivers g c = λ bodies named few.
@@ -17,7 +17,7 @@ returns-in_err-deliver_message-clause-delivers g c = λ bodies named few.
     let off : is_there t.base ≡ false = ap is_there (sym c.as_str.ensures) ∙ sym c.contains.ensures ∙ c.if-not-contains.true in
     delivers_one is_there bodies c.args.body.now t told.0 _ _ _ off
     (ran_err _ c.from_residual-in_err-deliver_message.ensures.1 c.in_err-deliver_message.ensures.ran) told.1
-    (λ e. absurd (is_fault c.from_residual-in_err-deliver_message.result c.from_residual-in_err-deliver_message.ensures.0 e))
+    (λ e. absurd (is_fault _ c.from_residual-in_err-deliver_message.ensures.0 e))
 
 pub returns-clause-delivers : goal.returns-clause-delivers
 returns-clause-delivers g c = λ bodies named few.

@@ -6,7 +6,7 @@ use Rattle.maildir_run.proofs.engine.Engine.deliver_entries.Goals as goal
 
 pub loop-entry-init : goal.loop-entry-init
 loop-entry-init g c = record {
-  delivers = λ bodies named few. delivers_none _ bodies _ _ _ _ named;
+  delivers = λ bodies named few. delivers_none _ named;
   there = refl;
   swept = refl;
   count = omega arith;
@@ -23,7 +23,7 @@ returns-in_err-deliver-clause-delivers g c = λ bodies named few.
     let then = rw (before.there, c.as_slice.ensures) at (c.in_err-deliver.ensures.delivers (bodies ++ bodies_of (take i entries))
     (first.named refl) (few_next entries i entry lt c.entry-item.is bodies few)) in
     rw (bodies_split entries i entry lt c.entry-item.is [])
-    (delivers_before c.from_residual.result _ bodies _ (bodies_of (drop (i + 1) entries)) _ _ _ _ _ _ _ c.from_residual.ensures.1 (delivers_then first then))
+    (delivers_before _ _ (bodies_of (drop (i + 1) entries)) c.from_residual.ensures.1 (delivers_then first then))
 
 pub loop-entry-preserved : goal.loop-entry-preserved
 loop-entry-preserved g c =

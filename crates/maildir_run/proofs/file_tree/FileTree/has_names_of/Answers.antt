@@ -7,7 +7,7 @@ pub returns : goal.returns
 returns c =
     let run = c.eq.ensures.ran in
     let told =
-    names_compared c.keys.result run.0 run.8.0 run.9.0 run.5 run.6 run.1 run.2 run.3 run.4 c.eq.result run.8.1 run.8.2 run.9.1 run.9.2 run.10 run.11 in
+    names_compared _ run.0 run.8.0 run.9.0 run.5 run.6 run.1 run.2 run.3 run.4 run.8.1 run.8.2 run.9.1 run.9.2 run.10 run.11 in
     let own : map string_bytes c.keys.result ≡ keys c.args.self.now =
     ap (map string_bytes) c.keys.ensures.rest ∙ sym (keys-map_of c.self.inside.files c.keys.ensures.ordered) ∙ ap keys c.self.view_is in
     let others : map string_bytes run.0 ≡ keys c.args.other.now =

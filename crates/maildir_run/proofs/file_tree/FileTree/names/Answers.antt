@@ -15,12 +15,12 @@ loop-name-init c =
 pub loop-name-preserved : goal.loop-name-preserved
 loop-name-preserved c =
     ap (λ xs. map string_bytes xs ++ map string_bytes c.next.new.self) c.in_ok-push.ensures.items
-    ∙ one_listed c.loop-name.names.items c.loop-name.name-iterator c.next.new.self c.in-Some.name.now c.in_ok-clone.field-0 (keys c.args.self.now)
+    ∙ one_listed _ _
     c.loop-name.invariant
     (rest_more deref c.loop-name.name-iterator c.next.new.self c.next.result c.in-Some.name c.in-Some.is c.next.ensures.steps)
     c.in_ok-clone.ensures.cases
 
 pub returns : goal.returns
 returns c =
-    all_listed c.loop-name.names.items c.loop-name.name-iterator (keys c.args.self.now) c.loop-name.invariant
+    all_listed _ c.loop-name.invariant
     (rest_all deref c.loop-name.name-iterator c.next.new.self c.next.result c.in-None.is c.next.ensures.steps)

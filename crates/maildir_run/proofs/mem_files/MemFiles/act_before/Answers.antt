@@ -11,15 +11,15 @@ returns-in_err-perform_all-clause-err c =
     let same : line.call ≡ c.args.call = ap (λ l. l.call) (sym c.line-item.is) ∙ c.if-line-call.true in
     let on : line.call == c.args.call ≡ true = eq-eqb line.call c.args.call same in
     on_err c.from_residual.result
-    (lines_cut c.args.call c.args.lines.now i c.line-item.result (files_in c.args.self.now)
-    (files_in c.loop-line.self) (files_in c.perform_all.new.self) c.loop-line-test.true on c.loop-line.invariant
+    (lines_cut _ _ _
+    c.loop-line-test.true on c.loop-line.invariant
     (rw (c.deref.ensures.value ∙ ap (λ l. l.acts.items) c.line-item.is) at c.in_err-perform_all.ensures.err))
 
 pub loop-line-preserved : goal.loop-line-preserved
 loop-line-preserved c =
     let i = c.loop-line.line-index in
     let line = get_or c.args.lines.now i c.line-item.result in
-    let more = lines_more c.args.call c.args.lines.now i c.line-item.result in
+    let more = lines_more c.args.call c.args.lines.now c.line-item.result in
     let same : line.call ≡ c.line-item.result.call = ap (λ l. l.call) (sym c.line-item.is) in
     elim c.if-line-call.branch [
       | then-line-call+in_ok-perform_all w ↦

@@ -6,8 +6,8 @@ use Rattle.maildir_run.proofs.mem_files.MemFiles.perform_all.Goals as goal
 pub returns-in_err-perform-clause-err : goal.returns-in_err-perform-clause-err
 returns-in_err-perform-clause-err c =
     on_err c.from_residual.result
-    (cut_at c.args.acts.now c.loop-act.act-index c.act-item.result (files_in c.args.self.now)
-    (files_in c.perform.new.self) c.loop-act-test.true (c.in_err-perform.ensures.err ∙ c.loop-act.invariant))
+    (cut_at c.act-item.result
+    c.loop-act-test.true (c.in_err-perform.ensures.err ∙ c.loop-act.invariant))
 
 pub loop-act-preserved : goal.loop-act-preserved
 loop-act-preserved c =

@@ -10,7 +10,7 @@ returns-in_ok-rename-in-Plain c =
     let there = c.in_ok-rename-in-Plain.ensures in
     let old = files_in c.args.self.now in
     let new = files_in c.rename.new.self in
-    rw c.in-Plain.is (placed_in Plain name c.args.place target old new c.found.result c.in_ok-rename-in-Plain.field-0
+    rw c.in-Plain.is (placed_in Plain name _ target old new _ _
     refl there.found there.absent c.found.ensures.there c.found.ensures.gone there.done)
 
 pub returns-in_ok-rename-in-Twice : goal.returns-in_ok-rename-in-Twice
@@ -20,6 +20,6 @@ returns-in_ok-rename-in-Twice c =
     let there = c.in_ok-was_there-in-Twice.ensures in
     let old = files_in c.args.self.now in
     let new = files_in c.rename-in-Twice-2.new.self in
-    rw c.in-Twice.is (placed_in Twice name c.args.place target old new c.found-in-Twice.result
-    c.in_ok-was_there-in-Twice.was_there refl there.found there.absent c.found-in-Twice.ensures.there c.found-in-Twice.ensures.gone
+    rw c.in-Twice.is (placed_in Twice name _ target old new _
+    _ refl there.found there.absent c.found-in-Twice.ensures.there c.found-in-Twice.ensures.gone
     (c.in_ok-rename-in-Twice.ensures.done ∙ ap (effect (Placing name c.args.place target)) there.done))

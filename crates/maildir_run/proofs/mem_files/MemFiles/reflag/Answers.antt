@@ -7,5 +7,5 @@ pub returns-then-branch-clause-ok : goal.returns-then-branch-clause-ok
 returns-then-branch-clause-ok c =
     let s = files_in c.args.self.now in
     ap (λ (there : FileMap). record (files_in c.link.new.self) { cur = there }) c.remove.ensures
-    ∙ unlinked s (files_in c.link.new.self) c.args.name.now c.args.target.now (get s.cur c.args.name.now)
+    ∙ unlinked s _ _ _
     refl (sym c.in_ok-link.ensures.may ∙ c.if-branch.true) c.in_ok-link.ensures.ok

@@ -14,16 +14,16 @@ returns-clause-called c =
 
 pub returns-in_err-mode-clause-left : goal.returns-in_err-mode-clause-left
 returns-in_err-mode-clause-left c =
-    called_left (Placing c.args.name.now c.args.place c.args.target.now) _ c.from_residual.result _ (returns-in_err-mode-clause-called c)
+    called_left _ _ (returns-in_err-mode-clause-called c)
 
 pub returns-clause-left : goal.returns-clause-left
-returns-clause-left c = called_left (Placing c.args.name.now c.args.place c.args.target.now) _ c.count_call.result _ (returns-clause-called c)
+returns-clause-left c = called_left _ _ (returns-clause-called c)
 
 pub returns-in_err-mode-clause-quietly : goal.returns-in_err-mode-clause-quietly
-returns-in_err-mode-clause-quietly c = λ quiet. absurd (never_cut c.args.self.now _ _ quiet c.in_err-mode.ensures.err)
+returns-in_err-mode-clause-quietly c = λ quiet. absurd (never_cut c.args.self.now quiet c.in_err-mode.ensures.err)
 
 pub returns-in_err-mode-clause-err : goal.returns-in_err-mode-clause-err
-returns-in_err-mode-clause-err c = λ quiet. absurd (never_cut c.args.self.now _ _ quiet c.in_err-mode.ensures.err)
+returns-in_err-mode-clause-err c = λ quiet. absurd (never_cut c.args.self.now quiet c.in_err-mode.ensures.err)
 
 pub returns-in_err-mode-clause-absent : goal.returns-in_err-mode-clause-absent
-returns-in_err-mode-clause-absent c = λ u. absurd (never_cut c.args.self.now _ _ u.quiet c.in_err-mode.ensures.err)
+returns-in_err-mode-clause-absent c = λ u. absurd (never_cut c.args.self.now u.quiet c.in_err-mode.ensures.err)

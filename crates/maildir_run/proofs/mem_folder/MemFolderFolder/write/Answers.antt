@@ -13,13 +13,13 @@ returns-clause-called c =
     follows_called (Writing c.args.name.now c.args.bytes.now) c.args.self.now c.count_call.new.self c.count_call.result (search rules)
 
 pub returns-in_err-mode-clause-left : goal.returns-in_err-mode-clause-left
-returns-in_err-mode-clause-left c = called_left (Writing c.args.name.now c.args.bytes.now) _ c.from_residual.result _ (returns-in_err-mode-clause-called c)
+returns-in_err-mode-clause-left c = called_left _ _ (returns-in_err-mode-clause-called c)
 
 pub returns-clause-left : goal.returns-clause-left
-returns-clause-left c = called_left (Writing c.args.name.now c.args.bytes.now) _ c.count_call.result _ (returns-clause-called c)
+returns-clause-left c = called_left _ _ (returns-clause-called c)
 
 pub returns-in_err-mode-clause-quietly : goal.returns-in_err-mode-clause-quietly
-returns-in_err-mode-clause-quietly c = λ quiet. absurd (never_cut c.args.self.now _ _ quiet c.in_err-mode.ensures.err)
+returns-in_err-mode-clause-quietly c = λ quiet. absurd (never_cut c.args.self.now quiet c.in_err-mode.ensures.err)
 
 pub returns-in_err-mode-clause-err : goal.returns-in_err-mode-clause-err
-returns-in_err-mode-clause-err c = λ quiet. absurd (never_cut c.args.self.now _ _ quiet c.in_err-mode.ensures.err)
+returns-in_err-mode-clause-err c = λ quiet. absurd (never_cut c.args.self.now quiet c.in_err-mode.ensures.err)

@@ -6,9 +6,9 @@ use Rattle.maildir_run.proofs.reader.Reader.read.Goals as goal
 pub returns-in_err-finish-clause-went : goal.returns-in_err-finish-clause-went
 returns-in_err-finish-clause-went g c =
     let gave = c.in_ok-n.ensures.gave in
-    breaks_went c.args.self.now _ _ _ _ _ _ c.from_residual-in_err-finish.result c.in_err-finish.field-0.0
+    breaks_went c.args.self.now _ _ _ _ _ c.from_residual-in_err-finish.result
     c.from_residual-in_err-finish.ensures.0 c.from_residual-in_err-finish.ensures.1
-    (finish_breaks c.args.self.now _ _ c.in_err-finish.field-0.0 c.in_err-finish.ensures.causes (rw c.if-n-eq0.true at gave.1) (gave.2 c.if-n-eq0.true)
+    (finish_breaks c.args.self.now _ c.in_err-finish.ensures.causes (rw c.if-n-eq0.true at gave.1) (gave.2 c.if-n-eq0.true)
     (λ e text given taken. c.in_err-finish.ensures.no_from_line (ap Err e) text given (rw c.replace-splitter.ensures.value taken)))
 
 pub returns-in_err-feed-clause-went : goal.returns-in_err-feed-clause-went
@@ -18,10 +18,10 @@ returns-in_err-feed-clause-went g c =
     let whole = with_items_is c.args.self.now.buffer c.read_piece.new.buffer kept in
     let size : length (take c.in_ok-n.n c.read_piece.new.buffer) ≡ c.in_ok-n.n = length-take-le c.in_ok-n.n c.read_piece.new.buffer gave.0 in
     let roomy = c.args.self.now.roomy in
-    breaks_went c.args.self.now _ _ _ _ _ _ c.from_residual-in_err-feed.result c.in_err-feed.field-0.0
+    breaks_went c.args.self.now _ _ _ _ _ c.from_residual-in_err-feed.result
     c.from_residual-in_err-feed.ensures.0 c.from_residual-in_err-feed.ensures.1
-    (feed_breaks c.args.self.now _ _ (take c.in_ok-n.n c.read_piece.new.buffer)
-    c.args.out.now.items c.feed.new.out.items c.in_err-feed.field-0.0 c.in_err-feed.ensures.causes gave.1
+    (feed_breaks c.args.self.now _
+    c.args.out.now.items c.feed.new.out.items c.in_err-feed.ensures.causes gave.1
     (omega (arith, size, kept, roomy, gave.0, c.in_ok-spend.ensures.spent))
     (λ e. rw whole at (rw c.deref.ensures.value at (c.in_err-feed.ensures.no_from_line (ap Err e)))))
 

@@ -8,7 +8,7 @@ returns-in_default-clause-lists g c = λ given h l. let n = lists_none given (c.
 
 pub returns-in_err-row-clause-lists : goal.returns-in_err-row-clause-lists
 returns-in_err-row-clause-lists g c = λ given h l.
-    lists_err c.from_residual.result given (c.args.entry.now ∷ []) (g.W.Write.contents c.args.out.now) _ c.from_residual.ensures.0
+    lists_err _ given (c.args.entry.now ∷ []) (g.W.Write.contents c.args.out.now) _ c.from_residual.ensures.0
 
 pub returns-in-Ok-write_bytes-clause-lists : goal.returns-in-Ok-write_bytes-clause-lists
 returns-in-Ok-write_bytes-clause-lists g c = λ given h l.
@@ -20,9 +20,9 @@ returns-in-Ok-write_bytes-clause-lists g c = λ given h l.
     let line : c.deref.result.now ≡ message_row (length given + 1) entry c.in-Ok.target =
     c.deref.ensures.value ∙ c.in_ok-row.ensures ∙ ap (λ k. message_row k entry c.in-Ok.target) count in (
       message_row (length given + 1) entry c.in-Ok.target,
-      table-push given entry c.in-Ok.target (rw c.as_slice.ensures at next.0),
+      table-push given entry _ (rw c.as_slice.ensures at next.0),
       rw line at c.in-Ok-write_bytes.ensures.written,
-      listed_more given _ _ _ _ entry c.as_slice.result.now h c.as_slice.ensures next.1 count,
+      listed_more entry h c.as_slice.ensures next.1 count,
     )
 
 pub returns-clause-lists : goal.returns-clause-lists
@@ -35,7 +35,7 @@ returns-clause-lists g c = λ given h l.
     let line : c.deref.result.now ≡ message_row (length given + 1) entry c.in-Ok.target =
     c.deref.ensures.value ∙ c.in_ok-row.ensures ∙ ap (λ k. message_row k entry c.in-Ok.target) count in (
       message_row (length given + 1) entry c.in-Ok.target,
-      table-push given entry c.in-Ok.target (rw c.as_slice.ensures at next.0),
+      table-push given entry _ (rw c.as_slice.ensures at next.0),
       rw line at c.in-Err.ensures.written,
       tt,
     )
