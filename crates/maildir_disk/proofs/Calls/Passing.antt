@@ -94,7 +94,7 @@ lists_later {sub} {a} {names} p lists =
     record {
       before = others ++ lists.before;
       rest = lists.rest;
-      whole_before = others_then_whole p.actions lists.before lists.whole_before;
+      whole_before = others_then_whole p.actions _ lists.whole_before;
       whole = lists.whole;
       names_are =
           subst (λ s. IsPermutation names (keys (folder_of sub s))) (sym (others_first p.actions call lists.before a.files p.files_are)) lists.names_are;

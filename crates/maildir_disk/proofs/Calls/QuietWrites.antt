@@ -27,8 +27,9 @@ after_torn name whole bytes (Torn held ∷ ms) s own = after_torn name whole byt
 abbrev pub WriteEndedEarly : List ℕ → List ℕ → Files → Files → Type 0
 WriteEndedEarly name bytes old new = (moves : List Move) × IsOwn moves × (new ≡ after old (Writing name bytes) moves)
 
-pub torn_quietly : (name held bytes : List ℕ) (old : Files) {new : Files} → new ≡ effect (Writing name held) old → WriteEndedEarly name bytes old new
-torn_quietly name held bytes old left = (Torn held ∷ [], tt, left)
+pub torn_quietly : {name : List ℕ} (held : List ℕ) {bytes : List ℕ} {old new : Files} → new ≡ effect (Writing name held) old
+    → WriteEndedEarly name bytes old new
+torn_quietly held left = (Torn held ∷ [], tt, left)
 
 pub not_created_quietly : {A E : Type 0} (name bytes : List ℕ) (old new : Files) (outcome : Result A E)
     → IsErr outcome → WriteEndedEarly name [] old new → CalledQuietly (Writing name bytes) old outcome new
@@ -39,15 +40,15 @@ not_created_quietly name bytes old new (Err _) is_err made =
 pub written_quietly : {A E : Type 0} (name bytes : List ℕ) (old : Files) {new : Files} (outcome : Result A E)
     → new ≡ effect (Writing name bytes) old → CalledQuietly (Writing name bytes) old outcome new
 written_quietly name bytes old (Ok _) left = (tt, left)
-written_quietly name bytes old (Err _) left = torn_quietly name bytes bytes old left
+written_quietly name bytes old (Err _) left = torn_quietly bytes left
 
 pub grown_quietly : (name held : List ℕ) (change : List ℕ → List ℕ) (old : Files) {mid new : Files}
     → mid ≡ effect (Writing name held) old → new ≡ changed name change mid → new ≡ effect (Writing name (change held)) old
 grown_quietly name held change old had made = search (rules, changed_again)
 
-pub appended_quietly : (name held piece bytes : List ℕ) (old : Files) {mid : Files} (new : Files) (outcome : Result ℕ Error)
+pub appended_quietly : {name : List ℕ} (held piece : List ℕ) {bytes : List ℕ} {old mid new : Files} (outcome : Result ℕ Error)
     → mid ≡ effect (Writing name held) old → AppendedQuietly name piece mid outcome new → WriteEndedEarly name bytes old new
-appended_quietly name held piece bytes old new (Ok n) had made = torn_quietly name _ bytes old (grown_quietly name held (λ h. h ++ take n piece) old had made)
-appended_quietly name held piece bytes old new (Err error) had (inl same) = torn_quietly name held bytes old (same ∙ had)
-appended_quietly name held piece bytes old new (Err error) had (inr other) =
-    torn_quietly name other.1 bytes old (grown_quietly name held (λ _. other.1) old had other.2)
+appended_quietly {name} held piece {bytes} {old} (Ok n) had made = torn_quietly _ (grown_quietly name held (λ h. h ++ take n piece) old had made)
+appended_quietly {name} held piece {bytes} {old} (Err error) had (inl same) = torn_quietly held (same ∙ had)
+appended_quietly {name} held piece {bytes} {old} (Err error) had (inr other) =
+    torn_quietly other.1 (grown_quietly name held (λ _. other.1) old had other.2)

@@ -36,8 +36,8 @@ on_same n m s base body (inl none) = grind arith
 on_same n m s base body (inr home) = grind arith
 
 pub moved_sound : (m : Message) (s t : Files) → IsPermutation (homes s m.target.base) (homes t m.target.base) → IsSoundAt s m → IsSoundAt t m
-moved_sound m s t kept (inl none) = inl (homes_none m.target.base s t kept none)
-moved_sound m s t kept (inr home) = inr (homes_one m.target.base m.body s t kept home)
+moved_sound m s t kept (inl none) = inl (homes_none _ s t kept none)
+moved_sound m s t kept (inr home) = inr (homes_one _ m.body s t kept home)
 
 -- a home where there is one
 at_home : (m : Message) (s : Files) → HasHome s m → IsSoundAt s m → IsHome s m
@@ -78,7 +78,7 @@ pub still_sound : (m : Message) → IsTrue (is_converter_base m.target.base)
     → (actions : List Action) (s : Files) → IsSoundAt s m → IsSoundAt (all_acted actions s) m
 still_sound m named [] s at = at
 still_sound m named (action ∷ actions) s at =
-    still_sound m named actions (acted action s) (moved_sound m s (acted action s) (acted_kept m.target.base named action s) at)
+    still_sound m named actions _ (moved_sound m s (acted action s) (acted_kept _ named action s) at)
 
 module _ (texts : List Mailbox) where
   abbrev pub Stand : FilesAndLeft → Type 0
@@ -198,7 +198,7 @@ module _ (texts : List Mailbox) where
           → ((m : Message) (moment : FilesAndLeft) → Stand moment → Contains ms m → StandsAt moment m) → Stand old → ¬ Contains between CutOver
           → HappenOver texts (between ++ (SyncedOver ∷ rest)) old new → All (IsHome old.files) ms → All (IsSafeAt new) ms
       home_synced between rest old new inside stand uncut happen home =
-          let parts = chain_parts (HappensOver texts) between (SyncedOver ∷ rest) old new happen in
+          let parts = chain_parts (HappensOver texts) between _ old new happen in
           let mid = parts.0 in
           let stand_mid = stand_then between old mid stand parts.1 in
           let home_mid = home_then between old mid stand uncut parts.1 home in
@@ -217,7 +217,7 @@ module _ (texts : List Mailbox) where
         → Stand old → HappenOver texts (before ++ (RanOver text (Ok report) ∷ (between ++ (SyncedOver ∷ rest)))) old new
         → ¬ Contains between CutOver → All (IsSafeAt new) text.messages
     kept_then text report before between rest old new stand happen uncut =
-        let parts = chain_parts (HappensOver texts) before (RanOver text (Ok report) ∷ (between ++ (SyncedOver ∷ rest))) old new happen in
+        let parts = chain_parts (HappensOver texts) before _ old new happen in
         let mid = parts.0 in
         let stand_mid = stand_then before old mid stand parts.1 in
         let ran = parts.2 in
@@ -243,24 +243,24 @@ happen_over : (text : Mailbox) (events : List Event) (old new : FilesAndLeft)
     → Happen text.bytes events old new → HappenOver (text ∷ []) (map (event_over text) events) old new
 happen_over text = grind (arith, chain_map, happens_over)
 
-only_text : (text : Mailbox) (P : Mailbox → Type 0) → P text → All P (text ∷ [])
-only_text text P h = All-cons P text [] h (All-nil P)
+only_text : {text : Mailbox} (P : Mailbox → Type 0) → P text → All P (text ∷ [])
+only_text {text} P h = All-cons P text [] h (All-nil P)
 
 one_new : {text : Mailbox} {old : FilesAndLeft} → IsMailbox text → All (IsMissing old.files) text.messages
     → All (IsMissing old.left) text.messages → AreNew (text ∷ []) old
 one_new {text} {old} is none none_left = record {
-  are = only_text text IsMailbox is;
+  are = only_text IsMailbox is;
   alike =
-      only_text text (λ t. All (λ m. OfEach (λ n. n.target.base ≡ m.target.base → n.body ≡ m.body) (text ∷ [])) t.messages) (λ k d below. only_text text
+      only_text (λ t. All (λ m. OfEach (λ n. n.target.base ≡ m.target.base → n.body ≡ m.body) (text ∷ [])) t.messages) (λ k d below. only_text
       (λ t. All (λ n. n.target.base ≡ (get_or text.messages k d).target.base → n.body ≡ (get_or text.messages k d).body) t.messages)
-      (own_bodies text.messages (text_distinct text.bytes text.messages is.are is.small) k d below));
-  missing = only_text text (λ t. All (IsMissing old.files) t.messages) none;
-  none_left = only_text text (λ t. All (IsMissing old.left) t.messages) none_left;
+      (own_bodies _ (text_distinct text.bytes text.messages is.are is.small) k d below));
+  missing = only_text (λ t. All (IsMissing old.files) t.messages) none;
+  none_left = only_text (λ t. All (IsMissing old.left) t.messages) none_left;
 }
 
-pub cuts_stand : {text : Mailbox} (events : List Event) (old new : FilesAndLeft) → IsMailbox text → All (IsMissing old.files) text.messages
+pub cuts_stand : {text : Mailbox} (events : List Event) (old : FilesAndLeft) {new : FilesAndLeft} → IsMailbox text → All (IsMissing old.files) text.messages
     → All (IsMissing old.left) text.messages → Happen text.bytes events old new → All (StandsAt new) text.messages
-cuts_stand {text} events old new is none none_left happen =
+cuts_stand {text} events old {new} is none none_left happen =
     let fresh = one_new is none none_left in
     All-head (λ (t : Mailbox). All (StandsAt new) t.messages) text []
     (stand_then (text ∷ []) fresh.are fresh.alike (map (event_over text) events) old new (stand_new fresh) (happen_over text events old new happen))

@@ -58,5 +58,5 @@ module _ (t : List ℕ) (ms : List Message) (are : MessagesOf t ms) (small : len
       → All (IsSoundAt old) ms → Follows (λ old new. (names : Listings) × Performs leaving (planned_tasks names ms) old answer new) before between
       → Acts mid new → Follows LeftByOthers between now → Stays others old before new.files now
   stays_after_both old mid new before between now answer run sound left acts others_left =
-      stays_then others old before mid.files between new.files now
+      stays_then others old before _ between _ now
       (stays_after_run old mid.files before between answer run sound left) (stays_beside named acts others_left)

@@ -61,6 +61,6 @@ module _ (t : List ℕ) (ms : List Message) (are : MessagesOf t ms) (small : len
       let home = home_after_run run sound in
       record {
         home = home_after_others acts home;
-        survive = survive_synced mid.files new.files (if_ok synced _ ok syncs) home (intact_after_run before between (Ok report) left intact);
-        found = if_ok synced _ ok found;
+        survive = survive_synced mid.files new.files (if_ok synced ok syncs) home (intact_after_run before between (Ok report) left intact);
+        found = if_ok synced ok found;
       }

@@ -89,9 +89,9 @@ abbrev pub SteadyAt : (b x : List ℕ) (old new : Files) → Type 0
 SteadyAt b x old new = Steady x (homes old b) (homes new b)
 
 -- a file that was written is found whole as long as nothing writes it
-whole_on : (name x : List ℕ) (s t : Files) → StaysOrGoes name s t → IsFoundWhole (Writing name x) s → IsFoundWhole (Writing name x) t
-whole_on name x s t (inl stays) whole = grind arith
-whole_on name x s t (inr gone) whole = grind arith
+whole_on : (name : List ℕ) {x : List ℕ} (s t : Files) → StaysOrGoes name s t → IsFoundWhole (Writing name x) s → IsFoundWhole (Writing name x) t
+whole_on name s t (inl stays) whole = grind arith
+whole_on name s t (inr gone) whole = grind arith
 
 linked_tmp : (s : Files) (name target : List ℕ) (o : Option (List ℕ)) → (linked s name target o).tmp ≡ s.tmp
 linked_tmp s name target None = refl
@@ -194,11 +194,11 @@ module _ (b x : List ℕ) where
       left_placing (Came move ∷ kept) s whole =
           let t = moved (Placing name p target) move s in
           steady_then s t (left_after s (Placing name p target) (Came move ∷ kept)) (placing_moved move s whole)
-          (left_placing kept t (whole_on name x s t (after_tmp name ours (Placing name p target) tt (move ∷ []) s) whole))
+          (left_placing kept t (whole_on name s t (after_tmp name ours (Placing name p target) tt (move ∷ []) s) whole))
       left_placing (Doubled action ∷ kept) s whole =
           let t = doubled action s in
           steady_then s t (left_after s (Placing name p target) (Doubled action ∷ kept)) (doubled_steady action s)
-          (left_placing kept t (whole_on name x s t (inl (ap (λ m. get m name) (doubled_tmp action s))) whole))
+          (left_placing kept t (whole_on name s t (inl (ap (λ m. get m name) (doubled_tmp action s))) whole))
 
       pub leaves_placing : {s t : Files} → IsFoundWhole (Writing name x) s → Leaves (Placing name p target) s t → SteadyAt b x s t
       leaves_placing {s} whole leaves = search (rules, left_placing)

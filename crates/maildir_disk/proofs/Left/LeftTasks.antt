@@ -40,10 +40,10 @@ parts_left : (ended : Bool) (xs ys : List Task) (old new : Files) → LeavesTask
 parts_left true xs ys old new h = inr (all_parts leaving xs ys old new h)
 parts_left false xs ys old new h = stopped_parts leaving xs ys old new h
 
-performs_left : {A E : Type 0} (tasks : List Task) (old new : Files) (r : Result A E)
+performs_left : {A E : Type 0} {tasks : List Task} {old new : Files} (r : Result A E)
     → Performs leaving tasks old r new → (ended : Bool) × LeavesTasks ended tasks old new
-performs_left tasks old new (Ok _) h = (true, h)
-performs_left tasks old new (Err _) h = (false, h)
+performs_left (Ok _) h = (true, h)
+performs_left (Err _) h = (false, h)
 
 -- ---- a base of which no message has another body than these bytes
 module _ (b x : List ℕ) (named : IsTrue (is_converter_base b)) where
@@ -79,7 +79,7 @@ module _ (b x : List ℕ) (named : IsTrue (is_converter_base b)) where
   own_steady t ours on ended old new h =
       let write = Do (Writing t.base x) in
       let place = Do (Placing t.base t.place t.name) in
-      elim (parts_left ended (write ∷ []) (place ∷ []) old new h) [
+      elim (parts_left ended _ _ old new h) [
         | inl front ↦ elsewhere_steady write tt ended old new front
         | inr (mid, wrote, put) ↦
             steady_then b x old mid new (elsewhere_steady write tt true old mid wrote)
@@ -115,7 +115,7 @@ module _ (b x : List ℕ) (named : IsTrue (is_converter_base b)) where
   run_holds : {A E : Type 0} (names : Listings) (ms : List Message) → All (λ m. IsTarget m.target) ms → All (λ m. m.target.base ≡ b → m.body ≡ x) ms
       → (old : Files) (r : Result A E) (new : Files) → Performs leaving (planned_tasks names ms) old r new → SteadyAt b x old new
   run_holds names ms are bodies old r new h =
-      let left = performs_left (planned_tasks names ms) old new r h in
+      let left = performs_left r h in
       planned_steady names ms are bodies left.0 old new left.1
 
 -- ---- no two messages of a text have the same base

@@ -28,4 +28,4 @@ pub single_home : (m : Message) → IsTrue (is_converter_base m.target.base) →
 single_home m named s left home has single =
     let few = at_most_one m s (inr home) in
     let no_more = single m.target.base named in
-    the_one (homes left m.target.base) (omega (arith, few, no_more)) has
+    the_one _ (omega (arith, few, no_more)) has

@@ -129,11 +129,11 @@ module _ {X F : Type 0} (R : F → X → Bool → F → Type 0) (f : F) (v : X �
   in_turn (true ∷ bs) (x ∷ xs) q is long (j, first, rest) left =
       let told = says x true j (subst (λ g. R g x true j) is first) in
       let others = in_turn bs xs q told.1 (omega (arith, long)) rest left in (
-        λ has. elim (first_or (map v (items_where_true bs xs)) has) [
+        λ has. elim (first_or _ has) [
           | inl e ↦ (subst (Contains (map v (x ∷ xs))) (sym e) (first_in (map v xs)), subst P (sym e) (told.0.0 refl))
           | inr after ↦ let both = others.0 after in (Contains-append_right (v x ∷ []) (map v xs) left both.0, both.1)
         ],
-        λ both. elim (first_or (map v xs) both.0) [
+        λ both. elim (first_or _ both.0) [
           | inl e ↦ subst (Contains (map v (x ∷ items_where_true bs xs))) (sym e) (first_in (map v (items_where_true bs xs)))
           | inr after ↦ Contains-append_right (v x ∷ []) (map v (items_where_true bs xs)) left (others.1 (after, both.1))
         ],
@@ -142,7 +142,7 @@ module _ {X F : Type 0} (R : F → X → Bool → F → Type 0) (f : F) (v : X �
       let told = says x false j (subst (λ g. R g x false j) is first) in
       let others = in_turn bs xs q told.1 (omega (arith, long)) rest left in (
         λ has. let both = others.0 has in (Contains-append_right (v x ∷ []) (map v xs) left both.0, both.1),
-        λ both. elim (first_or (map v xs) both.0) [
+        λ both. elim (first_or _ both.0) [
           | inl e ↦ let on = told.0.1 (subst P e both.1) in cc
           | inr after ↦ others.1 (after, both.1)
         ],

@@ -145,9 +145,9 @@ pub acted_leaves : {E : Type 0} (a : Act) {old : Files} (outcome : Result (Unit 
 acted_leaves a {old} (Ok x) ok err = let action = an_action a old in record { kept = Came (Other action.0) ∷ []; are = ok ∙ action.1 }
 acted_leaves a (Err e) ok err = record { kept = []; are = err }
 
-pub actions_then : (a : Files) {b c : Files} → (actions : List Action) × (b ≡ all_acted actions a)
+pub actions_then : {a b c : Files} → (actions : List Action) × (b ≡ all_acted actions a)
     → (actions : List Action) × (c ≡ all_acted actions b) → (actions : List Action) × (c ≡ all_acted actions a)
-actions_then a first then = (first.0 ++ then.0, then.1 ∙ (ap (all_acted then.0) first.1 ∙ sym (all_acted-append first.0 then.0 a)))
+actions_then {a} first then = (first.0 ++ then.0, then.1 ∙ (ap (all_acted then.0) first.1 ∙ sym (all_acted-append first.0 then.0 a)))
 
 pub keeps_none : (folder : MemFolder) {cases : Cases} → KeepsCases (may_find folder cases) (may_find folder cases) cases cases
 keeps_none folder = search (rules, no_fewer)
@@ -193,6 +193,6 @@ names_stayed {sub} e a folder old new acts first stays left may =
         later = leaves_none;
         names_are = λ name ours.
             subst (λ of. contains_key (folder_of of left) name ≡ contains_key (folder_of of (files_of folder)) name)
-            e (same_names sub left (files_of folder) name (all_stayed alike folder old new stays refl left may));
+            e (same_names sub left _ name (all_stayed alike folder old new stays refl left may));
       },
     )

@@ -4,10 +4,10 @@ use Rattle.maildir_disk.proofs.cuts.after_any_cuts.Goals as goal
 
 pub returns-clause-sound : goal.returns-clause-sound
 returns-clause-sound c = λ t ms events old new are small none none_left happen.
-    let stands = cuts_stand events old new (record { are = are; small = small }) none none_left happen in
+    let stands = cuts_stand events old (record { are = are; small = small }) none none_left happen in
     (λ k d below. (stands k d below).sound, λ k d below. (stands k d below).intact)
 
 pub returns-clause-delivered : goal.returns-clause-delivered
 returns-clause-delivered c = λ t ms events old mid new report are small none none_left happen run.
-    let stands = cuts_stand events old mid (record { are = are; small = small }) none none_left happen in
+    let stands = cuts_stand events old (record { are = are; small = small }) none none_left happen in
     (run.keeps ms are (sound_now ms mid.files (λ k d below. (stands k d below).sound))).ends.delivered

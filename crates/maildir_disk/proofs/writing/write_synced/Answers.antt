@@ -41,7 +41,7 @@ loop-preserved g c =
                   current = c.append.ensures.current kept.honest kept.current;
                   holds =
                       rw (w.at-is, ← taken bytes at n)
-                      (written_changed c.args.name.now (take at bytes) more kept.holds (rw kept.named at (w.in-Ok.ensures.appended kept.honest kept.current)));
+                      (written_changed _ _ more kept.holds (rw kept.named at (w.in-Ok.ensures.appended kept.honest kept.current)));
                   left = left_both kept.left (rw kept.named at (c.append.ensures.left kept.honest));
                 };
             quietly = λ quiet.
@@ -51,7 +51,7 @@ loop-preserved g c =
                   quiet = c.append.ensures.quiet kept.quiet;
                   holds =
                       rw (w.at-is, ← taken bytes at n)
-                      (grown_quietly c.args.name.now (take at bytes) more _ kept.holds (rw was.named at (w.in-Ok.ensures.quietly kept.quiet was.current)));
+                      (grown_quietly _ _ more _ kept.holds (rw was.named at (w.in-Ok.ensures.quietly kept.quiet was.current)));
                 };
           }
       | in-Err+else-ne w ↦ record {
@@ -89,17 +89,17 @@ pub returns-then-at-bytes-clause-called : goal.returns-then-at-bytes-clause-call
 returns-then-at-bytes-clause-called g c = λ honest.
     let kept = c.loop.invariant.written honest in
     let all = rw (take_all c.loop.at c.args.bytes.now (search rules)) at kept.holds in
-    write_called c.args.name.now c.args.bytes.now c.sync_file.result (written_on c.args.name.now c.args.bytes.now all (c.sync_file.ensures.acts kept.honest))
+    write_called _ _ c.sync_file.result (written_on c.args.name.now c.args.bytes.now all (c.sync_file.ensures.acts kept.honest))
 
 pub returns-in-Ok-eq0-clause-called : goal.returns-in-Ok-eq0-clause-called
 returns-in-Ok-eq0-clause-called g c = λ honest.
     let kept = c.loop.invariant.written honest in
-    append_failed _ _ _ c.append.result kept.holds (rw kept.named at (c.append.ensures.appended kept.honest kept.current))
+    append_failed _ _ _ _ kept.holds (rw kept.named at (c.append.ensures.appended kept.honest kept.current))
 
 pub returns-then-ne-clause-called : goal.returns-then-ne-clause-called
 returns-then-ne-clause-called g c = λ honest.
     let kept = c.loop.invariant.written honest in
-    append_failed _ _ _ c.append.result kept.holds (rw kept.named at (c.append.ensures.appended kept.honest kept.current))
+    append_failed _ _ _ _ kept.holds (rw kept.named at (c.append.ensures.appended kept.honest kept.current))
 
 pub returns-clause-called : goal.returns-clause-called
 returns-clause-called g c = λ honest. write_failed _ (c.loop.invariant.written honest).holds
@@ -114,7 +114,7 @@ returns-then-at-bytes-clause-left g c = λ honest.
     let bytes = c.args.bytes.now in
     let kept = c.loop.invariant.written honest in
     let all = rw (take_all c.loop.at bytes (search rules)) at kept.holds in
-    left_written c.sync_file.result (write_succeeded (written_on name bytes all (c.sync_file.ensures.acts kept.honest)))
+    left_written _ (write_succeeded (written_on name bytes all (c.sync_file.ensures.acts kept.honest)))
     (rw kept.named at (c.sync_file.ensures.kept kept.honest kept.current)) (left_torn (left_more kept.left (c.sync_file.ensures.left kept.honest)))
 
 pub returns-in-Ok-eq0-clause-left : goal.returns-in-Ok-eq0-clause-left
@@ -141,13 +141,13 @@ pub returns-in-Ok-eq0-clause-quietly : goal.returns-in-Ok-eq0-clause-quietly
 returns-in-Ok-eq0-clause-quietly g c = λ quiet.
     let kept = c.loop.invariant.quietly quiet in
     let was = c.loop.invariant.written (g.met.S.System.quiet_is_honest _ quiet) in
-    appended_quietly c.args.name.now _ _ c.args.bytes.now _ _ c.append.result kept.holds (rw was.named at (c.append.ensures.quietly kept.quiet was.current))
+    appended_quietly _ _ _ kept.holds (rw was.named at (c.append.ensures.quietly kept.quiet was.current))
 
 pub returns-then-ne-clause-quietly : goal.returns-then-ne-clause-quietly
 returns-then-ne-clause-quietly g c = λ quiet.
     let kept = c.loop.invariant.quietly quiet in
     let was = c.loop.invariant.written (g.met.S.System.quiet_is_honest _ quiet) in
-    appended_quietly c.args.name.now _ _ c.args.bytes.now _ _ c.append.result kept.holds (rw was.named at (c.append.ensures.quietly kept.quiet was.current))
+    appended_quietly _ _ _ kept.holds (rw was.named at (c.append.ensures.quietly kept.quiet was.current))
 
 pub returns-clause-quietly : goal.returns-clause-quietly
-returns-clause-quietly g c = λ quiet. torn_quietly c.args.name.now _ c.args.bytes.now _ (c.loop.invariant.quietly quiet).holds
+returns-clause-quietly g c = λ quiet. torn_quietly _ (c.loop.invariant.quietly quiet).holds

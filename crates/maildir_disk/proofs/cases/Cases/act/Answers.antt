@@ -14,7 +14,7 @@ loop-act-init c = record {
 }
 
 pub returns-in_err-act_once-clause-acts : goal.returns-in_err-act_once-clause-acts
-returns-in_err-act_once-clause-acts c = actions_then (files_of c.args.folder.now) c.loop-act.invariant.acts c.act_once.ensures.acts
+returns-in_err-act_once-clause-acts c = actions_then c.loop-act.invariant.acts c.act_once.ensures.acts
 
 pub returns-in_err-act_once-clause-left : goal.returns-in_err-act_once-clause-left
 returns-in_err-act_once-clause-left c =
@@ -26,7 +26,7 @@ loop-act-preserved c = record {
     lines = c.act_once.ensures.script.lines ∙ c.loop-act.invariant.script.lines;
     fail_from = c.act_once.ensures.script.fail_from ∙ c.loop-act.invariant.script.fail_from;
   };
-  acts = actions_then (files_of c.args.folder.now) c.loop-act.invariant.acts c.act_once.ensures.acts;
+  acts = actions_then c.loop-act.invariant.acts c.act_once.ensures.acts;
   done =
       one_more c.args.acts.now c.loop-act.act-index c.act-item.result (files_of c.args.folder.now)
       (files_of c.loop-act.folder) (files_of c.act_once.new.folder) c.loop-act-test.true c.loop-act.invariant.done

@@ -25,7 +25,7 @@ returns-clause-left c =
     left_by_others_then
     (left_by_change (Half c.args.act) folder folder c.args.self.now c.may_lose.new.self c.may_lose.ensures.more leaves_none)
     (left_by_change (Other c.args.act) folder c.act.new.self c.may_lose.new.self c.may_lose-2.new.self c.may_lose-2.ensures.more
-    (acted_leaves c.args.act.now c.act.result c.act.ensures.ok c.act.ensures.err))
+    (acted_leaves _ _ c.act.ensures.ok c.act.ensures.err))
 
 pub returns-clause-keeps : goal.returns-clause-keeps
 returns-clause-keeps c =

@@ -3,4 +3,4 @@ use Rattle.maildir_disk.proofs.Memory.CaseLists.{pushed}
 use Rattle.maildir_disk.proofs.cases.Cases.add.Goals as goal
 
 pub returns-in_ok-push-clause-one : goal.returns-in_ok-push-clause-one
-returns-in_ok-push-clause-one c = grind (arith, pushed c.args.self.now.folders.items c.args.folder c.in_ok-push.ensures.items)
+returns-in_ok-push-clause-one c = grind (arith, pushed _ _ c.in_ok-push.ensures.items)

@@ -40,7 +40,7 @@ returns-clause-loses c =
     let new = c.add.new.self in
     let x = files_of c.in_ok-copy.field-0 in
     let count : c.loop-at.at ≡ length (lefts_of old) = omega (arith, c.loop-at-test.false, c.loop-at.auto.at-end, c.len-at-end.ensures, as_many old) in
-    ok_then (HasRoom new → Contains (lefts_of new) x) (HasRoom new → Loses c.args.change.now (files_of c.args.folder.now) old new) c.add.result (λ there room.
+    ok_then c.add.result (λ there room.
     let longer = no_fewer c.add.ensures.one in
     let before : HasRoom mid = omega (arith, room, longer, c.add.ensures.room) in
     all_lost c.args.change.now old mid c.in_ok-copy.ensures.files count c.loop-at.invariant.more c.add.ensures.one

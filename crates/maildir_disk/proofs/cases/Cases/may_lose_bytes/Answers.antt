@@ -16,7 +16,7 @@ loop-end-init c = record {
 
 pub returns-in_err-may_lose-clause-left : goal.returns-in_err-may_lose-clause-left
 returns-in_err-may_lose-clause-left c =
-    left_by_bytes (take c.loop-end.end c.args.holds.now)
+    left_by_bytes _
     c.args.folder.now c.args.self.now c.loop-end.self c.may_lose.new.self c.loop-end.invariant.left c.may_lose.ensures.more
 
 pub loop-end-preserved : goal.loop-end-preserved

@@ -6,7 +6,7 @@ use Rattle.maildir_disk.proofs.disk_folder.DiskFolderFolder.write.Goals as goal
 pub returns-clause-left : goal.returns-clause-left
 returns-clause-left g c = λ honest.
     rw (c.count_call.ensures.system, c.count_call.ensures.same)
-    (left_answered (Writing c.args.name.now c.args.bytes.now) c.write_synced.result _ c.answer_of-answer.ensures.err (c.write_synced.ensures.left honest))
+    (left_answered _ _ _ c.answer_of-answer.ensures.err (c.write_synced.ensures.left honest))
 
 pub returns-clause-called : goal.returns-clause-called
 returns-clause-called g c = search rules

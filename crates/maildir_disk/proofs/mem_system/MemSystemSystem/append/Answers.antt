@@ -35,14 +35,14 @@ returns-in_err-map_err-clause-left c = λ honest.
 pub returns-in-Ok-clause-left : goal.returns-in-Ok-clause-left
 returns-in-Ok-clause-left c = λ honest.
     let mid = c.pass_shortly.new.self in
-    let written = rw (c.as_str-3.ensures.value) at (leaves_torn {bytes = []} (called_leaves c.write.result c.write.ensures.called)) in
+    let written = rw (c.as_str-3.ensures.value) at (leaves_torn {bytes = []} (called_leaves _ c.write.ensures.called)) in
     let bytes = rw (c.as_str-2.ensures.value) at c.may_lose_bytes.ensures.left in
     left_of_bytes mid.folder c.write.new.self mid.cases c.may_lose_bytes.new.self c.pass_shortly.ensures.left bytes written
 
 pub returns-clause-left : goal.returns-clause-left
 returns-clause-left c = λ honest.
     let mid = c.pass_shortly.new.self in
-    let written = rw (c.as_str-3.ensures.value) at (leaves_torn {bytes = []} (called_leaves c.write.result c.write.ensures.called)) in
+    let written = rw (c.as_str-3.ensures.value) at (leaves_torn {bytes = []} (called_leaves _ c.write.ensures.called)) in
     let bytes = rw (c.as_str-2.ensures.value) at c.may_lose_bytes.ensures.left in
     left_of_bytes mid.folder c.write.new.self mid.cases c.may_lose_bytes.new.self c.pass_shortly.ensures.left bytes written
 
@@ -55,7 +55,7 @@ returns-in-Ok-clause-loses c = λ honest has there.
     let bytes = c.args.bytes.now in
     let n = length bytes - length bytes / 2 in
     let holds : c.deref.result.now ≡ held ++ take n bytes = c.deref.ensures.value ∙ c.in_ok-holds.ensures in
-    let told = if_ok c.may_lose_bytes.result (HasRoom new → LosesBytes c.as_str-2.result.now c.deref.result.now (length held) mid.folder mid.cases new)
+    let told = if_ok c.may_lose_bytes.result
     (search rules) c.may_lose_bytes.ensures.loses in
     let loses = subst (λ all. HasRoom new → LosesBytes name all (length held) mid.folder mid.cases new) holds
     (subst (λ by. HasRoom new → LosesBytes by c.deref.result.now (length held) mid.folder mid.cases new) c.as_str-2.ensures.value told) in

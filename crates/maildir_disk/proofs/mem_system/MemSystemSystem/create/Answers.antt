@@ -40,7 +40,7 @@ pub returns-in-Ok-clause-loses : goal.returns-in-Ok-clause-loses
 returns-in-Ok-clause-loses c = λ honest has.
     let mid = c.pass_shortly.new.self in
     let written = (rw c.in-Ok.is at (c.write.ensures.quietly (c.pass_shortly.ensures.honest honest))).1 in
-    let loses = if_ok c.may_lose.result (HasRoom c.may_lose.new.self → Loses (Make c.args.name) (files_of mid.folder) mid.cases c.may_lose.new.self)
+    let loses = if_ok c.may_lose.result
     (search rules) c.may_lose.ensures.loses in
     let there = lost_after mid.folder c.write.new.self c.in_ok-pass_shortly.ensures.keeps c.may_lose.ensures.more c.may_lose.ensures.room loses written has in
     record { without = λ left may. (there left may).0; also = λ left may. (there left may).1 }

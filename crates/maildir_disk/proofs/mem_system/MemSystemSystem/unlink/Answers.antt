@@ -28,7 +28,7 @@ pub returns-in-Ok-clause-loses : goal.returns-in-Ok-clause-loses
 returns-in-Ok-clause-loses c = λ honest has.
     let old = c.args.self.now in
     let removed = (rw c.in-Ok.is at (c.remove.ensures.quietly honest)).1 in
-    let loses = if_ok c.may_lose.result (HasRoom c.may_lose.new.self → Loses (Remove c.args.name) (files_of old.folder) old.cases c.may_lose.new.self)
+    let loses = if_ok c.may_lose.result
     (search rules) c.may_lose.ensures.loses in
     let there = lost_after old.folder c.remove.new.self (keeps_none old.folder) c.may_lose.ensures.more c.may_lose.ensures.room loses removed has in
     record { without = λ left may. (there left may).0; also = λ left may. (there left may).1 }
