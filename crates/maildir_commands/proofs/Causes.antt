@@ -20,9 +20,9 @@ use Rattle.maildir_commands.specs.Faults.{fault_of_opening}
 use Rattle.maildir_commands.proofs.Several.{possible_whole}
 
 -- where `?` returned this fault
-pub of_fault : {T E : Type 0} (answer : Result T E) (fault : E) (P : E → Type 0) → IsErrAnd answer (λ given. given ≡ fault) → P fault → IfErr answer P
-of_fault (Ok x) fault P given is = tt
-of_fault (Err e) fault P given is = subst P (sym given) is
+pub of_fault : {T E : Type 0} (answer : Result T E) {fault : E} (P : E → Type 0) → IsErrAnd answer (λ given. given ≡ fault) → P fault → IfErr answer P
+of_fault (Ok x) P given is = tt
+of_fault (Err e) P given is = subst P (sym given) is
 
 -- ---- a run
 pub of_run : (one : (List ℕ → Type 0) → Type 0) (fault : RunFault) → (fault ≡ run.NoFromLine → one IsNoMbox)
@@ -55,24 +55,24 @@ of_text one (run.FolderFailed _) (inl (inr (inr (inr e)))) none long = cc
 of_text one (run.FolderFailed _) (inr e) none long = cc
 
 -- where what is said of a text is said of another
-run_weaker : (one other : (List ℕ → Type 0) → Type 0) (calls calls' : Type 0) → ((P : List ℕ → Type 0) → one P → other P) → (calls → calls')
+run_weaker : {one other : (List ℕ → Type 0) → Type 0} {calls calls' : Type 0} → ((P : List ℕ → Type 0) → one P → other P) → (calls → calls')
     → (fault : RunFault) → IsOfRun one calls fault → IsOfRun other calls' fault
-run_weaker one other calls calls' f g run.NoFromLine h = f IsNoMbox h
-run_weaker one other calls calls' f g run.TooManyReads h = f IsTooLong h
-run_weaker one other calls calls' f g run.FolderAbsent h = g h
-run_weaker one other calls calls' f g (run.FolderFailed _) h = g h
-run_weaker one other calls calls' f g run.ReadFault h = tt
-run_weaker one other calls calls' f g run.OutputFault h = tt
-run_weaker one other calls calls' f g run.OutOfMemory h = tt
+run_weaker f g run.NoFromLine h = f IsNoMbox h
+run_weaker f g run.TooManyReads h = f IsTooLong h
+run_weaker f g run.FolderAbsent h = g h
+run_weaker f g (run.FolderFailed _) h = g h
+run_weaker f g run.ReadFault h = tt
+run_weaker f g run.OutputFault h = tt
+run_weaker f g run.OutOfMemory h = tt
 
 -- ---- a source
-none_possible : (before after was is : Option (List ℕ)) → GivesNothing before after was is → IsPossibly before after IsNoMbox
-none_possible before after was is nothing = λ t possible entries. nothing.1 t entries possible
+none_possible : {before after : Option (List ℕ)} (was is : Option (List ℕ)) → GivesNothing before after was is → IsPossibly before after IsNoMbox
+none_possible was is nothing = λ t possible entries. nothing.1 t entries possible
 
-long_enough : (before after : Option (List ℕ)) (n : ℕ) → ReadsAtLeast before after n → (t : List ℕ) → Possible before after t → n ≤ length t
-long_enough None after n reads t p = let had = p.had in cc
-long_enough (Some xs) None n reads t p = absurd reads.1
-long_enough (Some xs) (Some ys) n reads t p =
+long_enough : (before after : Option (List ℕ)) {n : ℕ} → ReadsAtLeast before after n → {t : List ℕ} → Possible before after t → n ≤ length t
+long_enough None after reads p = let had = p.had in cc
+long_enough (Some xs) None reads p = absurd reads.1
+long_enough (Some xs) (Some ys) reads p =
     let had : xs ≡ p.read ++ p.left = let h = p.had in cc in
     let has : ys ≡ p.left = let h = p.has in cc in
     let split = length-append p.read p.left in
@@ -85,22 +85,22 @@ long_enough (Some xs) (Some ys) n reads t p =
     let most = reads.2 in
     omega (arith, split, taken, whole, a, b, d, e, most)
 
-pub long_possible : (before after : Option (List ℕ)) → ReadsAtLeast before after (2 ^ 40) → IsPossibly before after IsTooLong
-long_possible before after reads = λ t possible. long_enough before after (2 ^ 40) reads t possible
+pub long_possible : {before after : Option (List ℕ)} → ReadsAtLeast before after (2 ^ 40) → IsPossibly before after IsTooLong
+long_possible {before} {after} reads = λ t possible. long_enough before after reads possible
 
 -- a run that reads a text, and makes no folder calls
-pub of_reads : (before after was is : Option (List ℕ)) (fault : RunFault) → IsReading fault ⊎ (fault ≡ run.OutputFault)
+pub of_reads : {before after : Option (List ℕ)} (was is : Option (List ℕ)) {fault : RunFault} → IsReading fault ⊎ (fault ≡ run.OutputFault)
     → (fault ≡ run.NoFromLine → GivesNothing before after was is) → (fault ≡ run.TooManyReads → ReadsAtLeast before after (2 ^ 40))
     → IsOfRun (IsPossibly before after) ⊥ fault
-of_reads before after was is fault causes none long =
-    of_text (IsPossibly before after) fault causes (λ e. none_possible before after was is (none e)) (λ e. long_possible before after (long e))
+of_reads {before} {after} was is {fault} causes none long =
+    of_text (IsPossibly before after) fault causes (λ e. none_possible was is (none e)) (λ e. long_possible (long e))
 
-pub holds_first : (file : List ℕ) (files : List (List ℕ)) → Contains (file ∷ files) file
-holds_first file files = (0, omega arith, refl)
+pub holds_first : {file : List ℕ} (files : List (List ℕ)) → Contains (file ∷ files) file
+holds_first files = (0, omega arith, refl)
 
-pub holds_behind : {X : Type 0} (f : X → List ℕ) (xs : List X) (file : List ℕ) (i : ℕ) (x : X)
+pub holds_behind : {X : Type 0} (f : X → List ℕ) (xs : List X) {file : List ℕ} {i : ℕ} {x : X}
     → i < length xs → get_or xs i x ≡ x → Contains (file ∷ map f xs) (f x)
-holds_behind f xs file i x below is =
+holds_behind f xs {i} {x} below is =
     let same = length-map xs f in
     (i + 1, omega (arith, same, below), rw add-one (get_or-map f xs i x (f x) below ∙ ap f is))
 
@@ -110,7 +110,7 @@ module _ (text_of : List ℕ → List ℕ) (refuses : List ℕ → Type 0) (file
       → Contains (file ∷ files) name → b ≡ Some (text_of name) → ReadsAtMost b a most
       → (P : List ℕ → Type 0) → IsPossibly b a P → IsOfOne text_of before after (file ∷ files) P
   of_one_file before after b a most name named reads budget P possibly =
-      (name, named, possibly (text_of name) (possible_whole b a most (text_of name) reads budget))
+      (name, named, possibly (text_of name) (possible_whole b a reads budget))
 
   pub delivered_file : (b a : Option (List ℕ)) (most : ℕ) (name : List ℕ) → Contains (file ∷ files) name → b ≡ Some (text_of name) → ReadsAtMost b a most
       → (fault : Fault) → IsOfDelivery b a fault → IsOfFiles text_of refuses (file ∷ files) fault
@@ -118,7 +118,7 @@ module _ (text_of : List ℕ → List ℕ) (refuses : List ℕ → Type 0) (file
   delivered_file b a most name named reads budget Folder is = absurd is
   delivered_file b a most name named reads budget Locked is = absurd is
   delivered_file b a most name named reads budget (Run fault) is =
-      run_weaker (IsPossibly b a) (IsOfOne text_of None None (file ∷ files)) (Unit {0}) (Unit {0})
+      run_weaker
       (of_one_file None None b a most name named reads budget) (λ h. h) fault is
 
   -- a file that was not opened
@@ -129,16 +129,16 @@ module _ (text_of : List ℕ → List ℕ) (refuses : List ℕ → Type 0) (file
   refused_file name named fault (inr e) refused = subst (IsOfFiles text_of refuses (file ∷ files)) (sym e) tt
 
 -- of the texts and refusals at an earlier moment
-pub files_before : (text_of text_of' : List ℕ → List ℕ) (refuses refuses' : List ℕ → Type 0) (files : List (List ℕ))
+pub files_before : {text_of text_of' : List ℕ → List ℕ} {refuses refuses' : List ℕ → Type 0} (files : List (List ℕ))
     → text_of ≡ text_of' → ((word : List ℕ) → refuses word → refuses' word)
     → (fault : Fault) → IsOfFiles text_of refuses files fault → IsOfFiles text_of' refuses' files fault
-files_before text_of text_of' refuses refuses' files same earlier Source (name, named, refused) = (name, named, earlier name refused)
-files_before text_of text_of' refuses refuses' files same earlier Folder is = absurd is
-files_before text_of text_of' refuses refuses' files same earlier Locked is = absurd is
-files_before text_of text_of' refuses refuses' files same earlier (Run fault) is = subst (λ f. IsOfRun (IsOfOne f None None files) (Unit {0}) fault) same is
+files_before files same earlier Source (name, named, refused) = (name, named, earlier name refused)
+files_before files same earlier Folder is = absurd is
+files_before files same earlier Locked is = absurd is
+files_before files same earlier (Run fault) is = subst (λ f. IsOfRun (IsOfOne f None None files) (Unit {0}) fault) same is
 
-pub of_output : (before after : Option (List ℕ)) (fault : Fault) → fault ≡ Run run.OutputFault → IsOfDelivery before after fault
-of_output before after fault is = subst (IsOfDelivery before after) (sym is) tt
+pub of_output : (before after : Option (List ℕ)) {fault : Fault} → fault ≡ Run run.OutputFault → IsOfDelivery before after fault
+of_output before after is = subst (IsOfDelivery before after) (sym is) tt
 
 -- ---- a command
 module _ (text_of : List ℕ → List ℕ) (refuses : List ℕ → Type 0)
@@ -149,7 +149,7 @@ module _ (text_of : List ℕ → List ℕ) (refuses : List ℕ → Type 0)
   of_files file files are into Folder is = absurd is
   of_files file files are into Locked is = absurd is
   of_files file files are into (Run fault) is =
-      run_weaker (IsOfOne text_of None None (file ∷ files)) (IsOfOne text_of before after (files_of command)) (Unit {0}) (IsInto command (λ _. Unit {0}))
+      run_weaker
       (λ P h. subst (λ names. IsOfOne text_of before after names P) (sym are) h) (λ _. into) fault is
 
   pub of_input : files_of command ≡ [] → IsInto command (λ _. Unit {0}) → (fault : Fault) → IsOfDelivery before after fault
@@ -158,23 +158,23 @@ module _ (text_of : List ℕ → List ℕ) (refuses : List ℕ → Type 0)
   of_input none into Folder is = absurd is
   of_input none into Locked is = absurd is
   of_input none into (Run fault) is =
-      run_weaker (IsPossibly before after) (IsOfOne text_of before after (files_of command)) (Unit {0}) (IsInto command (λ _. Unit {0}))
+      run_weaker
       (λ P h. subst (λ names. IsOfOne text_of before after names P) (sym none) h) (λ _. into) fault is
 
   -- a text was read, and nothing else was done
   pub of_read_input : files_of command ≡ [] → (fault : RunFault) → IsOfRun (IsPossibly before after) ⊥ fault
       → IsCauseOf text_of refuses refuses_maildir before after command (Run fault)
   of_read_input none fault is =
-      run_weaker (IsPossibly before after) (IsOfOne text_of before after (files_of command)) ⊥ (IsInto command (λ _. Unit {0}))
+      run_weaker
       (λ P h. subst (λ names. IsOfOne text_of before after names P) (sym none) h) (λ e. absurd e) fault is
 
   pub of_read_file : (file : List ℕ) → files_of command ≡ file ∷ [] → (b a : Option (List ℕ)) (most : ℕ)
       → b ≡ Some (text_of file) → ReadsAtMost b a most → (fault : RunFault) → IsOfRun (IsPossibly b a) ⊥ fault
       → IsCauseOf text_of refuses refuses_maildir before after command (Run fault)
   of_read_file file are b a most reads budget fault is =
-      run_weaker (IsPossibly b a) (IsOfOne text_of before after (files_of command)) ⊥ (IsInto command (λ _. Unit {0}))
+      run_weaker
       (λ P h. subst (λ names. IsOfOne text_of before after names P) (sym are)
-      (of_one_file text_of refuses file [] before after b a most file (holds_first file []) reads budget P h)) (λ e. absurd e) fault is
+      (of_one_file text_of refuses file [] before after b a most file (holds_first []) reads budget P h)) (λ e. absurd e) fault is
 
   by_reason : (maildir : List ℕ) → ((P : List ℕ → Type 0) → P maildir → IsInto command P) → (reason : OpenFault) → refuses_maildir maildir reason
       → IsCauseOf text_of refuses refuses_maildir before after command (fault_of_opening reason)

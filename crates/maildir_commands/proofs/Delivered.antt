@@ -10,17 +10,17 @@ use Rattle.maildir_commands.proofs.Several.{UpTo, all_each, all_safe, no_text, n
 use Rattle.maildir_commands.proofs.Several.{rest_each, rest_some, stay_both, stay_more, stay_rest, stopped_between, then_stopped}
 
 -- nothing was opened, or written
-pub none_delivered : {A E : Type 0} (answer : Result A E) (texts : List Mailbox) (old new : HeldMaildir) (was : Option (List ℕ))
+pub none_delivered : {A E : Type 0} (answer : Result A E) {texts : List Mailbox} {old new : HeldMaildir} {was : Option (List ℕ)}
     → IsErr answer → Rests old new → Delivers answer texts old new was was
-none_delivered (Ok x) texts old new was failed rests = cc
-none_delivered (Err e) texts old new was failed rests =
-    record { safe = tt; each = tt; some = none_some texts old new was was (Keeps-refl was); stay = stay_rest texts old new rests }
+none_delivered (Ok x) failed rests = cc
+none_delivered (Err e) {texts} {old} {new} {was} failed rests =
+    record { safe = tt; each = tt; some = none_some (Keeps-refl was); stay = stay_rest texts rests }
 
 -- one text, where a fault ended its run
-pub not_delivered : {A E : Type 0} (answer : Result A E) (text : Mailbox) (old new : HeldMaildir) (was is : Option (List ℕ))
+pub not_delivered : {A E : Type 0} (answer : Result A E) {text : Mailbox} {old new : HeldMaildir} {was is : Option (List ℕ)}
     → IsErr answer → Keeps was is ⊎ PrintsOne old new text was is → OthersStay (text ∷ []) old new → DeliversOne answer text old new was is
-not_delivered (Ok x) text old new was is failed stopped stays = cc
-not_delivered (Err e) text old new was is failed stopped stays = record { safe = tt; line = tt; known = tt; stopped = stopped; stays = stays }
+not_delivered (Ok x) failed stopped stays = cc
+not_delivered (Err e) failed stopped stays = record { safe = tt; line = tt; known = tt; stopped = stopped; stays = stays }
 
 -- the Maildir was opened before, and is closed
 pub closed : {A E : Type 0} (answer : Result A E) (texts : List Mailbox) → All IsMailbox texts
@@ -28,15 +28,15 @@ pub closed : {A E : Type 0} (answer : Result A E) (texts : List Mailbox) → All
     → Delivers answer texts ready work was is → Delivers answer texts old new was is
 closed (Ok x) texts are old ready work new was is opens closes did = record {
   safe = rest_all_safe texts are work new closes did.safe;
-  each = rest_each texts are old ready was is opens did.each;
+  each = rest_each are opens did.each;
   some = tt;
-  stay = stay_both texts old work new (stay_both texts old ready work (stay_rest texts old ready opens) did.stay) (stay_rest texts work new closes);
+  stay = stay_both texts old work new (stay_both texts old ready work (stay_rest texts opens) did.stay) (stay_rest texts closes);
 }
 closed (Err e) texts are old ready work new was is opens closes did = record {
   safe = tt;
   each = tt;
-  some = rest_some texts are old ready work new was is opens closes did.some;
-  stay = stay_both texts old work new (stay_both texts old ready work (stay_rest texts old ready opens) did.stay) (stay_rest texts work new closes);
+  some = rest_some are opens closes did.some;
+  stay = stay_both texts old work new (stay_both texts old ready work (stay_rest texts opens) did.stay) (stay_rest texts closes);
 }
 
 module _ (texts : List Mailbox) (fit : AreFit texts) (start : HeldMaildir) where
@@ -44,7 +44,7 @@ module _ (texts : List Mailbox) (fit : AreFit texts) (start : HeldMaildir) where
   pub all_delivered : {A E : Type 0} (value : A) (n : ℕ) (now : HeldMaildir) (was is : Option (List ℕ))
       → length texts ≤ n → UpTo n texts start now was is → Delivers {A = A} {E = E} (Ok value) texts start now was is
   all_delivered value n now was is most up =
-      record { safe = all_safe n texts start now was is most up; each = all_each n texts start now was is most up; some = tt; stay = up.stay }
+      record { safe = all_safe most up; each = all_each most up; some = tt; stay = up.stay }
 
   -- some of them, and the next could not be opened
   pub stopped_delivered : {A E : Type 0} (answer : Result A E) (n : ℕ) (now : HeldMaildir) (was is : Option (List ℕ))
@@ -72,11 +72,11 @@ module _ (texts : List Mailbox) (fit : AreFit texts) (start : HeldMaildir) where
   more_delivered value n e old new was mid is inside up one = one_more texts fit n e start old new was mid is inside up one.safe one.line one.known one.stays
 
 -- where one text is all
-pub one_delivered : {A E : Type 0} (answer : Result A E) (texts : List Mailbox) → AreFit texts
-    → (start now : HeldMaildir) (was is : Option (List ℕ)) → length texts ≡ 1 → IsSoundFor texts start
+pub one_delivered : {A E : Type 0} (answer : Result A E) {texts : List Mailbox} → AreFit texts
+    → {start now : HeldMaildir} {was is : Option (List ℕ)} → length texts ≡ 1 → IsSoundFor texts start
     → DeliversOne answer (get_or texts 0 no_text) start now was is → Delivers answer texts start now was is
-one_delivered (Ok x) texts fit start now was is one sound did =
+one_delivered (Ok x) {texts} fit {start} {now} {was} {is} one sound did =
     all_delivered texts fit start x 1 now was is (omega (arith, one))
-    (more_delivered texts fit start x 0 no_text start now was was is (omega (arith, one)) (none_printed texts start was sound) did)
-one_delivered (Err e) texts fit start now was is one sound did =
-    then_delivered texts fit start (Err e) e 0 no_text start now was was is refl (omega (arith, one)) (none_printed texts start was sound) did
+    (more_delivered texts fit start x 0 no_text start now was was is (omega (arith, one)) (none_printed sound) did)
+one_delivered (Err e) {texts} fit {start} {now} {was} {is} one sound did =
+    then_delivered texts fit start (Err e) e 0 no_text start now was was is refl (omega (arith, one)) (none_printed sound) did

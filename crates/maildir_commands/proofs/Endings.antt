@@ -11,9 +11,9 @@ few_statuses Done = omega arith
 few_statuses (Stopped _ _) = omega arith
 few_statuses (WrongWords _) = omega arith
 
-pub told_front : (was is : Option (List ℕ)) (bytes : List ℕ) (ending : Ending) → status_of ending ≡ 2
+pub told_front : (was is : Option (List ℕ)) {bytes : List ℕ} (ending : Ending) → status_of ending ≡ 2
     → IfWrongWords ending (λ answer. Writes was is answer bytes) → AppendsFront was is bytes
-told_front was is bytes Done two told = cc
-told_front was is bytes (Stopped _ _) two told = cc
-told_front was is bytes (WrongWords (Ok _)) two told = front_of_all was is bytes told
-told_front was is bytes (WrongWords (Err _)) two told = told
+told_front was is Done two told = cc
+told_front was is (Stopped _ _) two told = cc
+told_front was is {bytes} (WrongWords (Ok _)) two told = front_of_all was is told
+told_front was is (WrongWords (Err _)) two told = told

@@ -26,43 +26,43 @@ acted_has b named (action ∷ actions) s = acted_has b named actions (acted acti
 abbrev pub Agree : (List ℕ → Bool) → (List ℕ → Bool) → Type 0
 Agree has had = (b : List ℕ) → IsTrue (is_converter_base b) → has b ≡ had b
 
-pub rests_has : (old new : HeldMaildir) → Rests old new → Agree (has_home new.files) (has_home old.files)
-rests_has old new rests b named = ap (λ s. has_home s b) rests.files_are ∙ acted_has b named rests.actions old.files
+pub rests_has : {old new : HeldMaildir} → Rests old new → Agree (has_home new.files) (has_home old.files)
+rests_has {old} rests b named = ap (λ s. has_home s b) rests.files_are ∙ acted_has b named rests.actions old.files
 
 -- ---- a run, and a sync
-run_has : (ms : List Message) (old new : Files) (report : Report) → Keeps ms old (Ok report) new → HasAlso ms old new
-run_has ms old new report keeps b named =
+run_has : {ms : List Message} {old new : Files} {report : Report} → Keeps ms old (Ok report) new → HasAlso ms old new
+run_has {ms} {old} {new} keeps b named =
     elim (cases_Bool (is_base_of ms b)) as (λ _. has_home new b ≡ (is_base_of ms b || has_home old b)) [
       | inr off ↦ sym (any_kept _ _ (keeps.sound.others b named off)) ∙ ap (λ x. x || has_home old b) (sym off)
       | inl on ↦
           let found = Any-from_list_any (λ (n : Message). is_name n.target.base b) ms on in
           let home = subst (IsHome new) found.3 (keeps.ends.delivered.homes_are found.0 found.1 found.2) in
-          ap (has_home new) (sym (is_name-true found.1.target.base b found.4)) ∙ (ap is_any home ∙ ap (λ x. x || has_home old b) (sym on))
+          ap (has_home new) (sym (is_name-true _ b found.4)) ∙ (ap is_any home ∙ ap (λ x. x || has_home old b) (sym on))
     ]
 
-pub both_have : (ms : List Message) (old : Files) (mid new : World) (report : Report)
+pub both_have : {ms : List Message} {old : Files} {mid new : World} {report : Report}
     → Keeps ms old (Ok report) mid.files → Acts mid new → HasAlso ms old new.files
-both_have ms old mid new report keeps acts b named =
-    (ap (λ s. has_home s b) acts.files_are ∙ acted_has b named acts.actions mid.files) ∙ run_has ms old mid.files report keeps b named
+both_have {ms} {old} {mid} {report} keeps acts b named =
+    (ap (λ s. has_home s b) acts.files_are ∙ acted_has b named acts.actions mid.files) ∙ run_has keeps b named
 
 -- ---- reports
-pub of_reports : (text : Mailbox) (old : Files) (report : Report) → ReportsMessages text.messages old report → IsReportOf (has_home old) text report
-of_reports text old report true_of = record { messages = true_of.messages; there = true_of.there; placed = true_of.placed }
+pub of_reports : {text : Mailbox} {old : Files} {report : Report} → ReportsMessages text.messages old report → IsReportOf (has_home old) text report
+of_reports true_of = record { messages = true_of.messages; there = true_of.there; placed = true_of.placed }
 
-count_agree : (has had : List ℕ → Bool) → Agree has had → (ms : List Message) → AreNamed ms
+count_agree : {has had : List ℕ → Bool} → Agree has had → (ms : List Message) → AreNamed ms
     → count_by (λ (m : Message). has m.target.base) ms ≡ count_by (λ (m : Message). had m.target.base) ms
-count_agree has had agree [] named = refl
-count_agree has had agree (m ∷ ms) named =
+count_agree agree [] named = refl
+count_agree {has} {had} agree (m ∷ ms) named =
     let first : IsTrue (is_converter_base m.target.base) = All-head (λ (n : Message). IsTrue (is_converter_base n.target.base)) m ms named in
     let rest = All-tail (λ (n : Message). IsTrue (is_converter_base n.target.base)) m ms named in
     count-cons (λ (n : Message). has n.target.base) m ms (had m.target.base) (agree m.target.base first)
-    ∙ (ap (λ k. cond (had m.target.base) 1 0 + k) (count_agree has had agree ms rest)
+    ∙ (ap (λ k. cond (had m.target.base) 1 0 + k) (count_agree agree ms rest)
     ∙ sym (count-cons (λ (n : Message). had n.target.base) m ms (had m.target.base) refl))
 
-pub report_agree : (has had : List ℕ → Bool) → Agree has had → (text : Mailbox) → AreNamed text.messages
-    → (report : Report) → IsReportOf had text report → IsReportOf has text report
-report_agree has had agree text named report is =
-    let same = count_agree has had agree text.messages named in
+pub report_agree : {has had : List ℕ → Bool} → Agree has had → {text : Mailbox} → AreNamed text.messages
+    → {report : Report} → IsReportOf had text report → IsReportOf has text report
+report_agree {has} {had} agree {text} named {report} is =
+    let same = count_agree agree _ named in
     record {
       messages = is.messages;
       there = subst (λ k. report.there ≡ k) (sym same) is.there;
@@ -78,7 +78,7 @@ reports_agree has had agree [] named [] is = tt
 reports_agree has had agree [] named (report ∷ reports) is = absurd is
 reports_agree has had agree (text ∷ texts) named [] is = absurd is
 reports_agree has had agree (text ∷ texts) named (report ∷ reports) (first, rest) = (
-  report_agree has had agree text (All-head (λ (t : Mailbox). AreNamed t.messages) text texts named) report first,
+  report_agree agree (All-head (λ (t : Mailbox). AreNamed t.messages) text texts named) first,
   reports_agree (also has text) (also had text) (also_agree has had agree text) texts
       (All-tail (λ (t : Mailbox). AreNamed t.messages) text texts named) reports rest,
 )
@@ -92,9 +92,9 @@ pub also_all-last : (has : List ℕ → Bool) (texts : List Mailbox) (text : Mai
 also_all-last has [] text = refl
 also_all-last has (first ∷ texts) text = also_all-last (also has first) texts text
 
-pub reports_more : (has : List ℕ → Bool) (texts : List Mailbox) (reports : List Report) (text : Mailbox) (report : Report)
+pub reports_more : (has : List ℕ → Bool) (texts : List Mailbox) (reports : List Report) {text : Mailbox} {report : Report}
     → AreReportsOf has texts reports → IsReportOf (also_all has texts) text report → AreReportsOf has (texts ++ text ∷ []) (reports ++ report ∷ [])
-reports_more has [] [] text report before is = (is, tt)
-reports_more has [] (other ∷ reports) text report before is = absurd before
-reports_more has (first ∷ texts) [] text report before is = absurd before
-reports_more has (first ∷ texts) (other ∷ reports) text report (one, rest) is = (one, reports_more (also has first) texts reports text report rest is)
+reports_more has [] [] before is = (is, tt)
+reports_more has [] (other ∷ reports) before is = absurd before
+reports_more has (first ∷ texts) [] before is = absurd before
+reports_more has (first ∷ texts) (other ∷ reports) {text} {report} (one, rest) is = (one, reports_more (also has first) texts reports rest is)

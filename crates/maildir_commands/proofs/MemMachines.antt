@@ -26,10 +26,10 @@ module _ {X : Type 0} (old new : BTreeMap (String X) (Option MemSystem)) (path :
   at_path = on_path path (search (rules, bytes_eq-Decides))
 
   pub others_rest : (word : List ℕ) → ¬ IsTrue (bytes_eq path word) → Rests (held_under_word old word) (held_under_word new word)
-  others_rest word other = subst (λ found. Rests (held_under_word old word) (held_at found)) (sym (off_path word other)) (rest_same (held_under_word old word))
+  others_rest word other = subst (λ found. Rests (held_under_word old word) (held_at found)) (sym (off_path word other)) (rest_same)
 
   pub path_rests : Rests (held_at (Some slot)) (held_under_word new path)
-  path_rests = subst (λ found. Rests (held_at (Some slot)) (held_at found)) (sym at_path) (rest_same (held_at (Some slot)))
+  path_rests = subst (λ found. Rests (held_at (Some slot)) (held_at found)) (sym at_path) (rest_same)
 
   pub still_quiet : AreQuiet old → slot ≡ None → AreQuiet new
   still_quiet quiet none word system is = elim (cases_Bool (bytes_eq path word)) as (λ _. IsQuiet system.folder) [
@@ -37,11 +37,11 @@ module _ {X : Type 0} (old new : BTreeMap (String X) (Option MemSystem)) (path :
     | inr off ↦ quiet word system (sym (looked word ∙ ap (λ t. cond t (Some slot) (get_by_text old word)) off) ∙ is)
   ]
 
-pub same_rests : {X : Type 0} (old new : BTreeMap (String X) (Option MemSystem)) → new ≡ old
+pub same_rests : {X : Type 0} {old new : BTreeMap (String X) (Option MemSystem)} → new ≡ old
     → (word : List ℕ) → Rests (held_under_word old word) (held_under_word new word)
-same_rests old new same word =
-    subst (λ maildirs. Rests (held_under_word old word) (held_under_word maildirs word)) (sym same) (rest_same (held_under_word old word))
+same_rests {old} same word =
+    subst (λ maildirs. Rests (held_under_word old word) (held_under_word maildirs word)) (sym same) (rest_same)
 
-pub found_rests : {X : Type 0} (old : BTreeMap (String X) (Option MemSystem)) (path : List ℕ) (system : MemSystem)
+pub found_rests : {X : Type 0} (old : BTreeMap (String X) (Option MemSystem)) (path : List ℕ) {system : MemSystem}
     → get_by_text old path ≡ Some (Some system) → Rests (held_under_word old path) (held_at (Some (Some system)))
-found_rests old path system is = subst (λ found. Rests (held_at found) (held_at (Some (Some system)))) (sym is) (rest_same (held_at (Some (Some system))))
+found_rests old path {system} is = subst (λ found. Rests (held_at found) (held_at (Some (Some system)))) (sym is) (rest_same)

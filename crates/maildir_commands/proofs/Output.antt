@@ -31,7 +31,7 @@ module _ (was given kept inner : Option (List ℕ)) (pending : List ℕ) (keeps 
   pub handed_all : (output : List Entry → List ℕ) (source : Option (List ℕ)) → WritesAll output source was given → WritesAll output source was inner
   handed_all output None (count, all) = (count, all)
   handed_all output (Some t) (count, (entries, mbox, many, grown)) =
-      (count, (entries, mbox, many, handed was given kept inner pending (output entries) grown keeps is none))
+      (count, (entries, mbox, many, handed was given kept inner pending _ grown keeps is none))
 
   pub handed_reports : (runs : ℕ) → PrintsReports was given runs → PrintsReports was inner runs
   handed_reports runs (reports, many, grown) = (reports, many, handed was given kept inner pending _ grown keeps is none)
@@ -43,7 +43,7 @@ module _ (was given kept inner : Option (List ℕ)) (pending : List ℕ) (keeps 
 pub all_front : (output : List Entry → List ℕ) (t : List ℕ) (was given kept : Option (List ℕ))
     → Keeps given kept → WritesAll output (Some t) was given → WritesFront output t was kept
 all_front output t was given kept keeps (count, (these, mbox, many, grown)) entries is =
-    front_of_all was kept (output entries)
+    front_of_all was kept
     (Appends-kept was given kept (output entries) (subst (λ es. Appends was given (output es)) (mbox-one t these entries mbox is) grown) keeps)
 
 -- and so of a source that was read to its end
@@ -68,14 +68,14 @@ some_kept old new texts was given kept keeps some =
       lines = (lines.0, lines.1, lines.2, Appends-kept was given kept lines.0 lines.3 keeps);
     }
 
-pub each_some : (old new : HeldMaildir) (texts : List Mailbox) (was given kept : Option (List ℕ))
+pub each_some : {old new : HeldMaildir} {texts : List Mailbox} {was given kept : Option (List ℕ)}
     → Keeps given kept → PrintsEach old texts was given → AreAllSafe texts new → PrintsSome old new texts was kept
-each_some old new texts was given kept keeps each safe =
+each_some {old} {new} {texts} {was} {given} {kept} keeps each safe =
     let whole : take (length texts) texts ≡ texts = take-length texts in
     record {
       n = length texts;
       reports = each.reports;
       true_of = subst (λ ts. AreReportsOf (has_home old.files) ts each.reports) (sym whole) each.true_of;
       kept = subst (λ ts. AreAllKept ts new) (sym whole) (λ k d below. let one = safe k d below in record { home = one.home; survive = one.survive });
-      lines = front_of_all was kept (flat_map report_line each.reports) (Appends-kept was given kept (flat_map report_line each.reports) each.lines keeps);
+      lines = front_of_all was kept (Appends-kept was given kept (flat_map report_line each.reports) each.lines keeps);
     }

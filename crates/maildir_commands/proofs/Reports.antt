@@ -9,18 +9,18 @@ use Rattle.maildir_run.specs.declared.report.Report.{Report}
 use Rattle.maildir_commands.specs.Report.{PrintsReport, PrintsReports, report_line}
 
 -- one line
-pub one_report : (was is : Option (List ℕ)) (as_said : Report → Type 0) → PrintsReport was is as_said → PrintsReports was is 1
-one_report was is as_said printed =
+pub one_report : {was is : Option (List ℕ)} (as_said : Report → Type 0) → PrintsReport was is as_said → PrintsReports was is 1
+one_report {was} {is} as_said printed =
     (printed.report ∷ [], refl, subst (Appends was is) (sym (append-nil (report_line printed.report))) printed.line)
 
 pub one_answered : {A E : Type 0} (was is : Option (List ℕ)) (as_said : Report → Type 0) (runs : ℕ) (outcome : Result A E)
     → runs ≡ 1 → OnOk outcome (PrintsReport was is as_said) → OnOk outcome (PrintsReports was is runs)
-one_answered was is as_said runs (Ok _) one printed = subst (PrintsReports was is) (sym one) (one_report was is as_said printed)
+one_answered was is as_said runs (Ok _) one printed = subst (PrintsReports was is) (sym one) (one_report as_said printed)
 one_answered was is as_said runs (Err _) one printed = tt
 
 -- so many lines, and more behind them
-pub more_reports : (was mid is : Option (List ℕ)) (n m : ℕ) → PrintsReports was mid n → PrintsReports mid is m → PrintsReports was is (n + m)
-more_reports was mid is n m (first, many, printed) (second, more, printed') = (
+pub more_reports : (was mid is : Option (List ℕ)) {n m : ℕ} → PrintsReports was mid n → PrintsReports mid is m → PrintsReports was is (n + m)
+more_reports was mid is {n} (first, many, printed) (second, more, printed') = (
   first ++ second,
   length-append first second ∙ (ap (λ k. k + length second) many ∙ ap (λ k. n + k) more),
   subst (Appends was is) (sym (flat_map-append report_line first second))

@@ -4,15 +4,15 @@ use Rattle.maildir_run.specs.Files.{Files, Action, acted, all_acted}
 use Rattle.maildir_disk.proofs.Left.Lefts.{left_none, left_by_others_then}
 use Rattle.maildir_commands.specs.Machines.{HeldMaildir, Rests}
 
-pub rest_same : (maildir : HeldMaildir) → Rests maildir maildir
-rest_same maildir = record { actions = []; files_are = refl; left = left_none; found = λ h. h }
+pub rest_same : {maildir : HeldMaildir} → Rests maildir maildir
+rest_same = record { actions = []; files_are = refl; left = left_none; found = λ h. h }
 
 acted-both : (xs ys : List Action) (s : Files) → all_acted (xs ++ ys) s ≡ all_acted ys (all_acted xs s)
 acted-both [] ys s = refl
 acted-both (x ∷ xs) ys s = acted-both xs ys (acted x s)
 
-pub rest_then : (a b c : HeldMaildir) → Rests a b → Rests b c → Rests a c
-rest_then a b c first then = record {
+pub rest_then : {a b c : HeldMaildir} → Rests a b → Rests b c → Rests a c
+rest_then {a} first then = record {
   actions = first.actions ++ then.actions;
   files_are = then.files_are ∙ (ap (all_acted then.actions) first.files_are ∙ sym (acted-both first.actions then.actions a.files));
   left = left_by_others_then first.left then.left;

@@ -25,11 +25,16 @@ use Rattle.maildir_commands.proofs.Forms.{map_both, none_named}
 use Rattle.maildir_commands.proofs.Known.{Agree, also_agree, also_all, also_all-last, report_agree, reports_agree, reports_more, rests_has}
 
 -- ---- a source that is read
+-- what is read of an opened file is its text, under its own word and as it was at first
+pub text_read : {reads : Option (List ℕ)} {now was : List ℕ → List ℕ} {word file : List ℕ}
+    → reads ≡ Some (now word) → now ≡ was → word ≡ file → reads ≡ Some (was file)
+text_read {reads} {now} {was} {word} {file} is same named = is ∙ ap Some (ap (λ text_of. text_of word) same ∙ ap was named)
+
 -- the text of a source is possible, however far it was read
-pub possible_whole : (before after : Option (List ℕ)) (most : ℕ) (t : List ℕ) → before ≡ Some t → ReadsAtMost before after most → Possible before after t
-possible_whole None after most t e reads = cc
-possible_whole (Some xs) None most t e reads = absurd reads.1
-possible_whole (Some xs) (Some left) most t e reads =
+pub possible_whole : (before after : Option (List ℕ)) {most : ℕ} {t : List ℕ} → before ≡ Some t → ReadsAtMost before after most → Possible before after t
+possible_whole None after e reads = cc
+possible_whole (Some xs) None e reads = absurd reads.1
+possible_whole (Some xs) (Some left) {t} e reads =
     let same : xs ≡ t = cc in
     record {
       read = reads.0;
@@ -42,14 +47,14 @@ possible_whole (Some xs) (Some left) most t e reads =
     }
 
 -- ---- other messages
-no_stay : (others : List Message) (s : Files) (left : Files → Type 0) → Stays others s left s left
-no_stay others s left = record { sound = λ h. h; intact = λ h. h; home = λ h. h; survive = λ h. h }
+no_stay : {others : List Message} {s : Files} {left : Files → Type 0} → Stays others s left s left
+no_stay = record { sound = λ h. h; intact = λ h. h; home = λ h. h; survive = λ h. h }
 
 pub stay_none : (texts : List Mailbox) (maildir : HeldMaildir) → OthersStay texts maildir maildir
-stay_none texts maildir = λ others named alike. no_stay others maildir.files maildir.may_leave
+stay_none texts maildir = λ others named alike. no_stay
 
-pub stay_rest : (texts : List Mailbox) (old new : HeldMaildir) → Rests old new → OthersStay texts old new
-stay_rest texts old new rests = λ others named alike.
+pub stay_rest : (texts : List Mailbox) {old new : HeldMaildir} → Rests old new → OthersStay texts old new
+stay_rest texts {old} {new} rests = λ others named alike.
     stays_acted others named rests.actions old.files new.files old.may_leave new.may_leave rests.files_are rests.left
 
 pub stay_both : (texts : List Mailbox) (a b c : HeldMaildir) → OthersStay texts a b → OthersStay texts b c → OthersStay texts a c
@@ -59,11 +64,11 @@ stay_both texts a b c first then = λ others named alike.
 kept_stay : (ms : List Message) (old new : HeldMaildir) → Stays ms old.files old.may_leave new.files new.may_leave → AreKept ms old → AreKept ms new
 kept_stay ms old new stays kept = record { home = stays.home kept.home; survive = stays.survive kept.survive }
 
-named_of : (text : Mailbox) → IsMailbox text → AreNamed text.messages
-named_of text is = text_named text.bytes text.messages is.are is.small
+named_of : {text : Mailbox} → IsMailbox text → AreNamed text.messages
+named_of {text} is = text_named text.bytes text.messages is.are is.small
 
 named_all : (texts : List Mailbox) → All IsMailbox texts → All (λ text. AreNamed text.messages) texts
-named_all texts are k d below = named_of (get_or texts k d) (are k d below)
+named_all texts are k d below = named_of (are k d below)
 
 -- ---- while nothing is done
 module _ (texts : List Mailbox) (are : All IsMailbox texts) where
@@ -86,36 +91,36 @@ module _ (texts : List Mailbox) (are : All IsMailbox texts) where
       record { home = stays.home was.home; survive = stays.survive was.survive; found = rests.found was.found }
 
   pub rest_all_kept : (old new : HeldMaildir) → Rests old new → AreAllKept texts old → AreAllKept texts new
-  rest_all_kept old new rests kept k d below = kept_stay (get_or texts k d).messages old new (rest_stays old new rests k d below) (kept k d below)
+  rest_all_kept old new rests kept k d below = kept_stay _ old new (rest_stays old new rests k d below) (kept k d below)
 
 -- a Maildir that rests before the texts are delivered, and behind it
-pub rest_each : (texts : List Mailbox) → All IsMailbox texts → (old new : HeldMaildir) (was is : Option (List ℕ))
+pub rest_each : {texts : List Mailbox} → All IsMailbox texts → {old new : HeldMaildir} {was is : Option (List ℕ)}
     → Rests old new → PrintsEach new texts was is → PrintsEach old texts was is
-rest_each texts are old new was is rests prints = record {
+rest_each {texts} are {old} {new} rests prints = record {
   reports = prints.reports;
   true_of =
-      reports_agree (has_home old.files) (has_home new.files) (λ b named. sym (rests_has old new rests b named))
-      texts (named_all texts are) prints.reports prints.true_of;
+      reports_agree (has_home old.files) (has_home new.files) (λ b named. sym (rests_has rests b named))
+      texts (named_all texts are) _ prints.true_of;
   lines = prints.lines;
 }
 
-pub rest_some : (texts : List Mailbox) → All IsMailbox texts → (old ready work new : HeldMaildir) (was is : Option (List ℕ))
+pub rest_some : {texts : List Mailbox} → All IsMailbox texts → {old ready work new : HeldMaildir} {was is : Option (List ℕ)}
     → Rests old ready → Rests work new → PrintsSome ready work texts was is → PrintsSome old new texts was is
-rest_some texts are old ready work new was is rests closes prints =
+rest_some {texts} are {old} {ready} {work} {new} rests closes prints =
     let first = All-take IsMailbox prints.n texts are in
     record {
       n = prints.n;
       reports = prints.reports;
       true_of =
-          reports_agree (has_home old.files) (has_home ready.files) (λ b named. sym (rests_has old ready rests b named))
-          (take prints.n texts) (named_all (take prints.n texts) first) prints.reports prints.true_of;
+          reports_agree (has_home old.files) (has_home ready.files) (λ b named. sym (rests_has rests b named))
+          _ (named_all (take prints.n texts) first) _ prints.true_of;
       kept = rest_all_kept (take prints.n texts) first work new closes prints.kept;
       lines = prints.lines;
     }
 
 -- ---- nothing was delivered
-pub none_some : (texts : List Mailbox) (old new : HeldMaildir) (was is : Option (List ℕ)) → Keeps was is → PrintsSome old new texts was is
-none_some texts old new was is keeps = record {
+pub none_some : {texts : List Mailbox} {old new : HeldMaildir} {was is : Option (List ℕ)} → Keeps was is → PrintsSome old new texts was is
+none_some {new} {was} {is} keeps = record {
   n = 0;
   reports = [];
   true_of = tt;
@@ -134,8 +139,8 @@ pub record UpTo (n : ℕ) (texts : List Mailbox) (start now : HeldMaildir) (was 
   pub lines : Appends was is (flat_map report_line reports)
   pub stay : OthersStay texts start now
 
-pub none_printed : (texts : List Mailbox) (start : HeldMaildir) (was : Option (List ℕ)) → IsSoundFor texts start → UpTo 0 texts start start was was
-none_printed texts start was sound = record {
+pub none_printed : {texts : List Mailbox} {start : HeldMaildir} {was : Option (List ℕ)} → IsSoundFor texts start → UpTo 0 texts start start was was
+none_printed {texts} {start} {was} sound = record {
   sound = sound;
   safe = λ k d lt below. absurd (omega (arith, lt));
   has = λ b named. refl;
@@ -145,8 +150,8 @@ none_printed texts start was sound = record {
   stay = stay_none texts start;
 }
 
-last_or : (k n : ℕ) → k < n + 1 → (k < n) ⊎ (k ≡ n)
-last_or k n lt = elim (cases_order k n) as (λ _. (k < n) ⊎ (k ≡ n)) [
+last_or : {k n : ℕ} → k < n + 1 → (k < n) ⊎ (k ≡ n)
+last_or {k} {n} lt = elim (cases_order k n) as (λ _. (k < n) ⊎ (k ≡ n)) [
   | inl same ↦ inr same
   | inr (inl before) ↦ inl before
   | inr (inr after) ↦ absurd (omega arith)
@@ -160,8 +165,8 @@ more_lines was mid is reports report before line =
     (Appends-trans was mid is (flat_map report_line reports) (flat_map report_line (report ∷ []))
     before (subst (Appends mid is) (sym (append-nil (report_line report))) line))
 
-pub front_of_all : (was is : Option (List ℕ)) (bytes : List ℕ) → Appends was is bytes → AppendsFront was is bytes
-front_of_all was is bytes all = (bytes, [], sym (append-nil bytes), all)
+pub front_of_all : (was is : Option (List ℕ)) {bytes : List ℕ} → Appends was is bytes → AppendsFront was is bytes
+front_of_all was is {bytes} all = (bytes, [], sym (append-nil bytes), all)
 
 more_front : (was mid is : Option (List ℕ)) (reports : List Report) (report : Report) → Appends was mid (flat_map report_line reports)
     → AppendsFront mid is (report_line report) → AppendsFront was is (flat_map report_line (reports ++ report ∷ []))
@@ -214,7 +219,7 @@ module _ (texts : List Mailbox) (fit : AreFit texts) where
       let lt : k < n + 1 = omega (arith, below, most) in
       let here : k < length texts = omega (arith, below, most) in
       subst (λ (text : Mailbox). AreKept text.messages maildir) (sym (get_or-take (n + 1) texts k d lt))
-      (elim (last_or k n lt) as (λ _. AreKept (get_or texts k d).messages maildir) [
+      (elim (last_or lt) as (λ _. AreKept (get_or texts k d).messages maildir) [
         | inl less ↦
             subst (λ (text : Mailbox). AreKept text.messages maildir) (get_or-take n texts k d less) (before k d (omega (arith, less, here, most_before)))
         | inr same ↦ subst (λ (text : Mailbox). AreKept text.messages maildir) (at_same k n d e same here) last
@@ -234,7 +239,7 @@ module _ (texts : List Mailbox) (fit : AreFit texts) where
           sound = λ k d below. (stays k d below).sound (up.sound.sound k d below);
           intact = λ k d below. (stays k d below).intact (up.sound.intact k d below);
         };
-        safe = λ k d lt below. elim (last_or k n lt) as (λ _. AreSafe (get_or texts k d).messages new.files new.may_leave new.rooted) [
+        safe = λ k d lt below. elim (last_or lt) as (λ _. AreSafe (get_or texts k d).messages new.files new.may_leave new.rooted) [
           | inl before ↦
               let was_safe = up.safe k d before below in
               record { home = (stays k d below).home was_safe.home; survive = (stays k d below).survive was_safe.survive; found = safe.found }
@@ -245,10 +250,10 @@ module _ (texts : List Mailbox) (fit : AreFit texts) where
             ∙ (ap (λ f. f b) (sym (also_all-last first (take n texts) text)) ∙ ap (λ ts. also_all first ts b) (sym more)));
         reports = up.reports ++ line.report ∷ [];
         true_of = subst (λ ts. AreReportsOf first ts (up.reports ++ line.report ∷ [])) (sym more)
-            (reports_more first (take n texts) up.reports text line.report up.true_of
-            (report_agree (also_all first (take n texts)) (has_home old.files)
-            (λ b named. sym (up.has b named)) text (named_all texts fit.are n e inside) line.report line.said));
-        lines = more_lines was mid is up.reports line.report up.lines line.line;
+            (reports_more first _ _ up.true_of
+            (report_agree
+            (λ b named. sym (up.has b named)) (named_all texts fit.are n e inside) line.said));
+        lines = more_lines was mid is _ _ up.lines line.line;
         stay = stay_more n e start old new inside up.stay stay;
       }
 
@@ -260,7 +265,7 @@ module _ (texts : List Mailbox) (fit : AreFit texts) where
     reports = up.reports;
     true_of = up.true_of;
     kept = kept_some n old new up.safe (others_at n e old new inside stay);
-    lines = front_of_all was is (flat_map report_line up.reports) (Appends-kept was mid is (flat_map report_line up.reports) up.lines keeps);
+    lines = front_of_all was is (Appends-kept was mid is (flat_map report_line up.reports) up.lines keeps);
   }
   then_stopped n e start old new was mid is inside up stay (inr one) =
       let text = get_or texts n e in
@@ -270,11 +275,11 @@ module _ (texts : List Mailbox) (fit : AreFit texts) where
         n = n + 1;
         reports = up.reports ++ one.report ∷ [];
         true_of = subst (λ ts. AreReportsOf first ts (up.reports ++ one.report ∷ [])) (sym more)
-            (reports_more first (take n texts) up.reports text one.report up.true_of
-            (report_agree (also_all first (take n texts)) (has_home old.files) (λ b named. sym (up.has b named))
-            text (named_all texts fit.are n e inside) one.report one.true_of));
+            (reports_more first _ _ up.true_of
+            (report_agree (λ b named. sym (up.has b named))
+            (named_all texts fit.are n e inside) one.true_of));
         kept = kept_more n e new inside (kept_some n old new up.safe (others_at n e old new inside stay)) one.kept;
-        lines = more_front was mid is up.reports one.report up.lines one.line;
+        lines = more_front was mid is _ _ up.lines one.line;
       }
 
   -- the next text could not be opened
@@ -283,30 +288,30 @@ module _ (texts : List Mailbox) (fit : AreFit texts) where
     n = n;
     reports = up.reports;
     true_of = up.true_of;
-    kept = kept_some n now now up.safe (λ k d below. no_stay (get_or texts k d).messages now.files now.may_leave);
-    lines = front_of_all was is (flat_map report_line up.reports) up.lines;
+    kept = kept_some n now now up.safe (λ k d below. no_stay);
+    lines = front_of_all was is up.lines;
   }
 
 -- ---- at the end
-pub all_safe : (n : ℕ) (texts : List Mailbox) (start now : HeldMaildir) (was is : Option (List ℕ))
+pub all_safe : {n : ℕ} {texts : List Mailbox} {start now : HeldMaildir} {was is : Option (List ℕ)}
     → length texts ≤ n → UpTo n texts start now was is → AreAllSafe texts now
-all_safe n texts start now was is most up k d below = up.safe k d (omega (arith, below, most)) below
+all_safe most up k d below = up.safe k d (omega (arith, below, most)) below
 
-pub all_each : (n : ℕ) (texts : List Mailbox) (start now : HeldMaildir) (was is : Option (List ℕ))
+pub all_each : {n : ℕ} {texts : List Mailbox} {start now : HeldMaildir} {was is : Option (List ℕ)}
     → length texts ≤ n → UpTo n texts start now was is → PrintsEach start texts was is
-all_each n texts start now was is most up = record {
+all_each {n} {texts} {start} most up = record {
   reports = up.reports;
   true_of = subst (λ ts. AreReportsOf (has_home start.files) ts up.reports) (take_all n texts most) up.true_of;
   lines = up.lines;
 }
 
 -- ---- the bytes of texts
-pub bytes_length : (texts : List Mailbox) (all : List (List ℕ)) → bytes_of texts ≡ all → length texts ≡ length all
-bytes_length texts all e = sym (length-map texts (λ (text : Mailbox). text.bytes)) ∙ ap length e
+pub bytes_length : (texts : List Mailbox) {all : List (List ℕ)} → bytes_of texts ≡ all → length texts ≡ length all
+bytes_length texts e = sym (length-map texts (λ (text : Mailbox). text.bytes)) ∙ ap length e
 
-pub bytes_at : (texts : List Mailbox) (all : List (List ℕ)) → bytes_of texts ≡ all
-    → (n : ℕ) (d : Mailbox) (x : List ℕ) → n < length texts → (get_or texts n d).bytes ≡ get_or all n x
-bytes_at texts all e n d x inside = sym (get_or-map (λ (text : Mailbox). text.bytes) texts n d x inside) ∙ ap (λ xs. get_or xs n x) e
+pub bytes_at : (texts : List Mailbox) {all : List (List ℕ)} → bytes_of texts ≡ all
+    → {n : ℕ} (d : Mailbox) (x : List ℕ) → n < length texts → (get_or texts n d).bytes ≡ get_or all n x
+bytes_at texts e {n} d x inside = sym (get_or-map (λ (text : Mailbox). text.bytes) texts n d x inside) ∙ ap (λ xs. get_or xs n x) e
 
 -- a text for places past a list's end
 pub no_text : Mailbox
@@ -315,20 +320,20 @@ no_text = record { bytes = []; messages = [] }
 -- the first text, and those behind it
 module _ {X : Type 0} (texts : List Mailbox) (text : List ℕ) (f : X → List ℕ) (rest : List X) (are : bytes_of texts ≡ text ∷ map f rest) where
   pub behind_length : length texts ≡ length rest + 1
-  behind_length = bytes_length texts (text ∷ map f rest) are ∙ (ap suc (length-map rest f) ∙ sym (add-one _))
+  behind_length = bytes_length texts are ∙ (ap suc (length-map rest f) ∙ sym (add-one _))
 
   pub first_text : Some text ≡ Some (get_or texts 0 no_text).bytes
-  first_text = ap Some (sym (bytes_at texts (text ∷ map f rest) are 0 no_text text (omega (arith, behind_length))))
+  first_text = ap Some (sym (bytes_at texts are no_text text (omega (arith, behind_length))))
 
   pub text_behind : (i : ℕ) (x : X) → i < length rest → f (get_or rest i x) ≡ (get_or texts (i + 1) no_text).bytes
   text_behind i x below =
       let inside : i + 1 < length texts = omega (arith, behind_length, below) in
-      sym (bytes_at texts (text ∷ map f rest) are (i + 1) no_text (f x) inside ∙ rw add-one (get_or-map f rest i x (f x) below))
+      sym (bytes_at texts are no_text (f x) inside ∙ rw add-one (get_or-map f rest i x (f x) below))
 
 -- what follows from what an answer says
-pub on_ok_then : {A E : Type 0} (answer : Result A E) (P Q : Type 0) → (P → Q) → OnOk answer P → OnOk answer Q
-on_ok_then (Ok x) P Q f h = f h
-on_ok_then (Err e) P Q f h = tt
+pub on_ok_then : {A E : Type 0} (answer : Result A E) {P Q : Type 0} → (P → Q) → OnOk answer P → OnOk answer Q
+on_ok_then (Ok x) f h = f h
+on_ok_then (Err e) f h = tt
 
 pub on_err_then : {A E : Type 0} (answer : Result A E) (P Q : Type 0) → (P → Q) → OnErr answer P → OnErr answer Q
 on_err_then (Ok x) P Q f h = tt
@@ -339,9 +344,9 @@ on_err P (Ok x) h = tt
 on_err P (Err e) h = h
 
 -- ---- one text of them
-pub sound_of : (texts : List Mailbox) (maildir : HeldMaildir) (n : ℕ) (e : Mailbox)
+pub sound_of : {texts : List Mailbox} {maildir : HeldMaildir} {n : ℕ} (e : Mailbox)
     → n < length texts → IsSoundFor texts maildir → IsSoundFor (get_or texts n e ∷ []) maildir
-sound_of texts maildir n e inside is = record {
+sound_of {texts} {maildir} {n} e inside is = record {
   sound =
       All-cons (λ (t : Mailbox). All (IsSoundAt maildir.files) t.messages) (get_or texts n e) []
       (is.sound n e inside) (All-nil (λ (t : Mailbox). All (IsSoundAt maildir.files) t.messages));
@@ -350,18 +355,18 @@ sound_of texts maildir n e inside is = record {
       (is.intact n e inside) (All-nil (λ (t : Mailbox). AreIntact t.messages maildir.may_leave));
 }
 
-pub sound_of_one : (text : Mailbox) (maildir : HeldMaildir) → IsSoundFor (text ∷ []) maildir → All (IsSoundAt maildir.files) text.messages
-sound_of_one text maildir is = All-head (λ (t : Mailbox). All (IsSoundAt maildir.files) t.messages) text [] is.sound
+pub sound_of_one : {text : Mailbox} {maildir : HeldMaildir} → IsSoundFor (text ∷ []) maildir → All (IsSoundAt maildir.files) text.messages
+sound_of_one {text} {maildir} is = All-head (λ (t : Mailbox). All (IsSoundAt maildir.files) t.messages) text [] is.sound
 
-pub intact_of_one : (text : Mailbox) (maildir : HeldMaildir) → IsSoundFor (text ∷ []) maildir → AreIntact text.messages maildir.may_leave
-intact_of_one text maildir is = All-head (λ (t : Mailbox). AreIntact t.messages maildir.may_leave) text [] is.intact
+pub intact_of_one : {text : Mailbox} {maildir : HeldMaildir} → IsSoundFor (text ∷ []) maildir → AreIntact text.messages maildir.may_leave
+intact_of_one {text} {maildir} is = All-head (λ (t : Mailbox). AreIntact t.messages maildir.may_leave) text [] is.intact
 
 -- ---- where one text is all
-pub only_first : (texts : List Mailbox) (text : Mailbox) → texts ≡ text ∷ [] → text ≡ get_or texts 0 no_text
-only_first texts text is = sym (ap (λ ts. get_or ts 0 no_text) is)
+pub only_first : {texts : List Mailbox} {text : Mailbox} → texts ≡ text ∷ [] → text ≡ get_or texts 0 no_text
+only_first is = sym (ap (λ ts. get_or ts 0 no_text) is)
 
-pub only_length : (texts : List Mailbox) (text : Mailbox) → texts ≡ text ∷ [] → length texts ≡ 1
-only_length texts text is = ap length is
+pub only_length : {texts : List Mailbox} {text : Mailbox} → texts ≡ text ∷ [] → length texts ≡ 1
+only_length is = ap length is
 
 -- ---- the texts of files
 module _ {X : Type 0} (texts : List Mailbox) (text_of : List ℕ → List ℕ) (name_of : X → List ℕ)

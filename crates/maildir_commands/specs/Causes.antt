@@ -20,7 +20,7 @@ use Rattle.maildir_commands.specs.Words.{IsOf}
 abbrev pub IsNoMbox : List ℕ → Type 0
 IsNoMbox t = (entries : List Entry) → ¬ Mbox t entries
 
--- so many bytes as a run makes reads, each of which gives one at least
+-- at least as many bytes as the reads that a run may make, each of which gives one at least
 abbrev pub IsTooLong : List ℕ → Type 0
 IsTooLong t = 2 ^ 40 ≤ length t
 
@@ -33,7 +33,7 @@ abbrev pub IsOfOne : (List ℕ → List ℕ) → Option (List ℕ) → Option (L
 IsOfOne text_of before after [] P = IsPossibly before after P
 IsOfOne text_of before after (file ∷ files) P = (name : List ℕ) × Contains (file ∷ files) name × P (text_of name)
 
--- what is so where a run ended with this fault: what the first argument says of a text, and that folder calls are made
+-- what is so where a run ended with this fault; `one P` says P of the source's text, and `calls` that folder calls are made
 abbrev pub IsOfRun : ((List ℕ → Type 0) → Type 0) → Type 0 → RunFault → Type 0
 IsOfRun one calls run.NoFromLine = one IsNoMbox
 IsOfRun one calls run.TooManyReads = one IsTooLong

@@ -4,7 +4,7 @@ use Rattle.maildir_commands.proofs.Resting.{rest_same}
 use Rattle.maildir_commands.proofs.program.execute.Goals as goal
 
 pub returns-in_default-clause-nowhere : goal.returns-in_default-clause-nowhere
-returns-in_default-clause-nowhere g c = λ h none word. rest_same _
+returns-in_default-clause-nowhere g c = λ h none word. rest_same
 
 pub returns-in-Ok-clause-safe : goal.returns-in-Ok-clause-safe
 returns-in-Ok-clause-safe g c = λ h maildir texts these status.

@@ -10,13 +10,13 @@ use Rattle.maildir_commands.proofs.program.perform.Goals as goal
 
 pub returns-in_err-answer-clause-some : goal.returns-in_err-answer-clause-some
 returns-in_err-answer-clause-some g c = λ h words maildir texts is_of these.
-    on_err _ _ (some_kept _ _ texts (writer_contents g.W.Write.contents c.args.out.now)
-    (writer_contents g.W.Write.contents c.work-answer.new.out) (writer_contents g.W.Write.contents c.flush-handed.new.out)
+    on_err _ _ (some_kept _ _ texts _
+    _ _
     c.flush-handed.ensures.same ((c.in_err-answer.ensures.delivers h words maildir texts is_of these).some))
 
 pub returns-clause-rewritten_input : goal.returns-clause-rewritten_input
 returns-clause-rewritten_input g c = λ words is_of are.
-    on_ok_then c.flush-handed.result _ _
+    on_ok_then _
     (λ none. handed_all (writer_contents g.W.Write.contents c.args.out.now) (writer_contents g.W.Write.contents c.work-answer.new.out)
     (writer_contents g.W.Write.contents c.flush-handed.new.out) (g.W.Write.contents c.flush-handed.new.out.inner) (writer_buffer c.flush-handed.new.out)
     c.flush-handed.ensures.same refl none (flat_map spelling) (g.I.Read.remaining c.args.input.now) (c.in_ok-answer.ensures.rewritten_input words is_of are))
@@ -24,14 +24,14 @@ returns-clause-rewritten_input g c = λ words is_of are.
 
 pub returns-clause-rewritten : goal.returns-clause-rewritten
 returns-clause-rewritten g c = λ h file is_of.
-    on_ok_then c.flush-handed.result _ _ (λ none. handed_all (writer_contents g.W.Write.contents c.args.out.now)
+    on_ok_then _ (λ none. handed_all (writer_contents g.W.Write.contents c.args.out.now)
     (writer_contents g.W.Write.contents c.work-answer.new.out) (writer_contents g.W.Write.contents c.flush-handed.new.out)
     (g.W.Write.contents c.flush-handed.new.out.inner) (writer_buffer c.flush-handed.new.out) c.flush-handed.ensures.same refl none (flat_map spelling)
     (Some (g.M.Machine.text_of c.args.machine.now file)) (c.in_ok-answer.ensures.rewritten h file is_of)) c.flush-handed.ensures.handed
 
 pub returns-clause-listed_input : goal.returns-clause-listed_input
 returns-clause-listed_input g c = λ is_of.
-    on_ok_then c.flush-handed.result _ _
+    on_ok_then _
     (λ none. handed_all (writer_contents g.W.Write.contents c.args.out.now) (writer_contents g.W.Write.contents c.work-answer.new.out)
     (writer_contents g.W.Write.contents c.flush-handed.new.out) (g.W.Write.contents c.flush-handed.new.out.inner) (writer_buffer c.flush-handed.new.out)
     c.flush-handed.ensures.same refl none table_of (g.I.Read.remaining c.args.input.now) (c.in_ok-answer.ensures.listed_input is_of))
@@ -39,7 +39,7 @@ returns-clause-listed_input g c = λ is_of.
 
 pub returns-clause-listed : goal.returns-clause-listed
 returns-clause-listed g c = λ h file is_of.
-    on_ok_then c.flush-handed.result _ _
+    on_ok_then _
     (λ none. handed_all (writer_contents g.W.Write.contents c.args.out.now) (writer_contents g.W.Write.contents c.work-answer.new.out)
     (writer_contents g.W.Write.contents c.flush-handed.new.out) (g.W.Write.contents c.flush-handed.new.out.inner) (writer_buffer c.flush-handed.new.out)
     c.flush-handed.ensures.same refl none table_of (Some (g.M.Machine.text_of c.args.machine.now file)) (c.in_ok-answer.ensures.listed h file is_of))
@@ -47,7 +47,7 @@ returns-clause-listed g c = λ h file is_of.
 
 pub returns-clause-printed : goal.returns-clause-printed
 returns-clause-printed g c = λ maildir files is_of.
-    on_ok_then c.flush-handed.result _ _
+    on_ok_then _
     (λ none. handed_reports (writer_contents g.W.Write.contents c.args.out.now) (writer_contents g.W.Write.contents c.work-answer.new.out)
     (writer_contents g.W.Write.contents c.flush-handed.new.out) (g.W.Write.contents c.flush-handed.new.out.inner) (writer_buffer c.flush-handed.new.out)
     c.flush-handed.ensures.same refl none _ (c.in_ok-answer.ensures.printed maildir files is_of)) c.flush-handed.ensures.handed
@@ -58,27 +58,27 @@ returns-clause-safe g c = λ h words maildir texts is_of these.
 
 pub returns-clause-each : goal.returns-clause-each
 returns-clause-each g c = λ h words maildir texts is_of these.
-    on_ok_then c.flush-handed.result _ _
+    on_ok_then _
     (λ none. handed_each (writer_contents g.W.Write.contents c.args.out.now) (writer_contents g.W.Write.contents c.work-answer.new.out)
     (writer_contents g.W.Write.contents c.flush-handed.new.out) (g.W.Write.contents c.flush-handed.new.out.inner) (writer_buffer c.flush-handed.new.out)
     c.flush-handed.ensures.same refl none _ texts ((c.in_ok-answer.ensures.delivers h words maildir texts is_of these).each)) c.flush-handed.ensures.handed
 
 pub returns-clause-rewritten_front : goal.returns-clause-rewritten_front
 returns-clause-rewritten_front g c = λ h file is_of.
-    on_err _ _ (all_front (flat_map spelling) (g.M.Machine.text_of c.args.machine.now file)
-    (writer_contents g.W.Write.contents c.args.out.now) (writer_contents g.W.Write.contents c.work-answer.new.out)
-    (writer_contents g.W.Write.contents c.flush-handed.new.out) c.flush-handed.ensures.same (c.in_ok-answer.ensures.rewritten h file is_of))
+    on_err _ _ (all_front (flat_map spelling) _
+    _ _
+    _ c.flush-handed.ensures.same (c.in_ok-answer.ensures.rewritten h file is_of))
 
 pub returns-clause-listed_front : goal.returns-clause-listed_front
 returns-clause-listed_front g c = λ h file is_of.
-    on_err _ _ (all_front table_of (g.M.Machine.text_of c.args.machine.now file)
-    (writer_contents g.W.Write.contents c.args.out.now) (writer_contents g.W.Write.contents c.work-answer.new.out)
-    (writer_contents g.W.Write.contents c.flush-handed.new.out) c.flush-handed.ensures.same (c.in_ok-answer.ensures.listed h file is_of))
+    on_err _ _ (all_front table_of _
+    _ _
+    _ c.flush-handed.ensures.same (c.in_ok-answer.ensures.listed h file is_of))
 
 pub returns-clause-some : goal.returns-clause-some
 returns-clause-some g c = λ h words maildir texts is_of these.
-    on_err _ _ (each_some _ _ texts (writer_contents g.W.Write.contents c.args.out.now) (writer_contents g.W.Write.contents c.work-answer.new.out)
-    (writer_contents g.W.Write.contents c.flush-handed.new.out) c.flush-handed.ensures.same
+    on_err _ _ (each_some
+    c.flush-handed.ensures.same
     ((c.in_ok-answer.ensures.delivers h words maildir texts is_of these).each) ((c.in_ok-answer.ensures.delivers h words maildir texts is_of these).safe))
 
 pub returns-in_err-answer-clause-stay : goal.returns-in_err-answer-clause-stay
@@ -89,14 +89,14 @@ returns-clause-stay g c = λ h words maildir texts is_of these. (c.work-answer.e
 
 pub returns-clause-rewritten_input_front : goal.returns-clause-rewritten_input_front
 returns-clause-rewritten_input_front g c = λ words is_of are.
-    on_err _ _ (all_given (flat_map spelling) (g.I.Read.remaining c.args.input.now)
-    (g.I.Read.remaining c.work-answer.new.input) (writer_contents g.W.Write.contents c.args.out.now)
-    (writer_contents g.W.Write.contents c.work-answer.new.out) (writer_contents g.W.Write.contents c.flush-handed.new.out) c.flush-handed.ensures.same
+    on_err _ _ (all_given (flat_map spelling) _
+    _ _
+    _ _ c.flush-handed.ensures.same
     (c.in_ok-answer.ensures.end words is_of (inl are)) (c.in_ok-answer.ensures.rewritten_input words is_of are))
 
 pub returns-clause-listed_input_front : goal.returns-clause-listed_input_front
 returns-clause-listed_input_front g c = λ is_of.
     on_err _ _
-    (all_given table_of (g.I.Read.remaining c.args.input.now) (g.I.Read.remaining c.work-answer.new.input) (writer_contents g.W.Write.contents c.args.out.now)
-    (writer_contents g.W.Write.contents c.work-answer.new.out) (writer_contents g.W.Write.contents c.flush-handed.new.out) c.flush-handed.ensures.same
+    (all_given table_of _ _ _
+    _ _ c.flush-handed.ensures.same
     (c.in_ok-answer.ensures.end _ is_of (inr refl)) (c.in_ok-answer.ensures.listed_input is_of))

@@ -10,7 +10,7 @@ pub returns-in-Convert-clause-delivers : goal.returns-in-Convert-clause-delivers
 returns-in-Convert-clause-delivers g c = λ h words maildir texts is_of these.
     let named : words ≡ convert_words c.in-Convert.maildir.now (map string_bytes c.in-Convert.files.now) =
     subst (λ command. IsOf command words) c.in-Convert.is is_of in
-    let same = same_words maildir c.in-Convert.maildir.now these.files (map string_bytes c.in-Convert.files.now) (sym these.words_are ∙ named) in
+    let same = same_words (sym these.words_are ∙ named) in
     let is = writer_contents g.W.Write.contents c.deliver_sources.new.out in
     subst (λ m. Delivers c.deliver_sources.result texts (g.M.Machine.maildir_at c.args.machine.now m)
     (g.M.Machine.maildir_at c.deliver_sources.new.machine m) (writer_contents g.W.Write.contents c.args.out.now) is)

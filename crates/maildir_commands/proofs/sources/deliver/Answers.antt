@@ -105,7 +105,7 @@ returns-clause-stays g c = λ honest t ms others small p are sound named alike.
 
 pub returns-clause-known : goal.returns-clause-known
 returns-clause-known g c = λ honest t ms small p are sound.
-    both_have ms _ _ _ c.in_ok-report.report ((c.in_ok-report.ensures.owes honest t small p).keeps ms are (sound_now ms _ sound))
+    both_have ((c.in_ok-report.ensures.owes honest t small p).keeps ms are (sound_now ms _ sound))
     (c.sync.ensures.acts (c.convert.ensures.honest honest))
 
 pub returns-in_err-print_report-clause-stopped : goal.returns-in_err-print_report-clause-stopped
@@ -118,7 +118,7 @@ returns-in_err-print_report-clause-stopped g c = λ honest t ms small p are soun
     on_err _ _ (inr (record {
       report = report;
       true_of =
-          of_reports (record { bytes = t; messages = ms }) _ report
+          of_reports
           (reports_after_run t ms are small _ _ report (c.in_ok-report.ensures.owes honest t small p) sound);
       kept = record { home = safe.home; survive = safe.survive };
       line = c.in_err-print_report.ensures.printed;
@@ -128,6 +128,6 @@ pub returns-in_err-report-clause-cause : goal.returns-in_err-report-clause-cause
 returns-in_err-report-clause-cause g c =
     let was = g.I.Read.remaining c.args.source.now in
     let is = g.I.Read.remaining c.convert.new.source in
-    of_fault c.from_residual.result (Run c.in_err-report.field-0.0) _ c.from_residual.ensures.1
-    (of_run (IsPossibly was is) c.in_err-report.field-0.0 (λ e t p entries. c.in_err-report.ensures.no_from_line (ap Err e) t entries p)
-    (λ e. long_possible was is (c.in_err-report.ensures.spent (ap Err e))))
+    of_fault _ _ c.from_residual.ensures.1
+    (of_run (IsPossibly was is) _ (λ e t p entries. c.in_err-report.ensures.no_from_line (ap Err e) t entries p)
+    (λ e. long_possible (c.in_err-report.ensures.spent (ap Err e))))

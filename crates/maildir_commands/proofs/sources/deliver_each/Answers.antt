@@ -1,23 +1,23 @@
-use Rattle.std.proofs.Common.{◌≡◌, ◌+◌, ◌<◌, length, get_or, Some, string_bytes, refl, sym, subst, ◌∙◌, arith}
+use Rattle.std.proofs.Common.{◌≡◌, ◌+◌, ◌<◌, length, get_or, Some, string_bytes, refl, ap, sym, subst, ◌∙◌, arith}
 use Rattle.std.specs.Io.Buffered.{writer_contents}
 use Rattle.maildir_commands.specs.Report.{PrintsReports}
 use Rattle.maildir_commands.proofs.Causes.{delivered_file, holds_behind, holds_first, of_fault, refused_file}
 use Rattle.maildir_commands.proofs.Delivered.{all_delivered, more_delivered, stopped_delivered, then_delivered}
 use Rattle.maildir_commands.proofs.Resting.{rest_same, rest_then}
 use Rattle.maildir_commands.proofs.Reports.{more_reports}
-use Rattle.maildir_commands.proofs.Several.{behind_length, first_text, no_text, none_printed, possible_whole, sound_of, text_behind}
+use Rattle.maildir_commands.proofs.Several.{behind_length, first_text, no_text, none_printed, possible_whole, sound_of, text_behind, text_read}
 use Rattle.maildir_commands.proofs.sources.deliver_each.Goals as goal
 
 -- where the first text is not delivered
 pub returns-in_err-deliver_one-clause-elsewhere : goal.returns-in_err-deliver_one-clause-elsewhere
-returns-in_err-deliver_one-clause-elsewhere g c = λ h word. rest_same _
+returns-in_err-deliver_one-clause-elsewhere g c = λ h word. rest_same
 
 pub returns-in_err-deliver_one-clause-delivers : goal.returns-in_err-deliver_one-clause-delivers
 returns-in_err-deliver_one-clause-delivers g c = λ h s texts text is are fit sound.
     let inside : 0 < length texts = omega (arith, behind_length texts text _ _ are) in
-    let possible = possible_whole _ _ _ _ (is ∙ first_text texts text _ _ are) c.deliver_one.ensures.budget in
-    then_delivered texts fit _ c.from_residual.result _ 0 no_text _ _ _ _ _ c.from_residual.ensures.0 inside (none_printed texts _ _ sound)
-    (c.in_err-deliver_one.ensures.delivers s (get_or texts 0 no_text) (fit.are 0 no_text inside) possible (sound_of texts _ 0 no_text inside sound))
+    let possible = possible_whole _ _ (is ∙ first_text texts text _ _ are) c.deliver_one.ensures.budget in
+    then_delivered texts fit _ c.from_residual.result _ 0 no_text _ _ _ _ _ c.from_residual.ensures.0 inside (none_printed sound)
+    (c.in_err-deliver_one.ensures.delivers s (get_or texts 0 no_text) (fit.are 0 no_text inside) possible (sound_of no_text inside sound))
 
 -- the first text
 pub loop-path-init : goal.loop-path-init
@@ -25,15 +25,15 @@ loop-path-init g c = (
   c.in_ok-deliver_one.ensures.printed,
   λ h. h,
   λ h. refl,
-  λ h word. rest_same _,
+  λ h word. rest_same,
   λ h s. c.in_ok-deliver_one.ensures.honest s,
   λ h s texts text is are fit sound.
       let inside : 0 < length texts = omega (arith, behind_length texts text _ _ are) in
       let first = get_or texts 0 no_text in
-      let possible = possible_whole _ _ _ _ (is ∙ first_text texts text _ _ are) c.deliver_one.ensures.budget in
-      let one = sound_of texts _ 0 no_text inside sound in
+      let possible = possible_whole _ _ (is ∙ first_text texts text _ _ are) c.deliver_one.ensures.budget in
+      let one = sound_of no_text inside sound in
       let is_text = fit.are 0 no_text inside in
-      more_delivered texts fit _ _ 0 no_text _ _ _ _ _ inside (none_printed texts _ _ sound)
+      more_delivered texts fit _ _ 0 no_text _ _ _ _ _ inside (none_printed sound)
       (c.in_ok-deliver_one.ensures.delivers s first is_text possible one),
   λ h word is_open. is_open,
   λ h word refuses. refuses,
@@ -48,25 +48,24 @@ loop-path-preserved g c =
     let kept = c.loop-path.invariant in
     let count : (1 + i) + 1 ≡ 1 + (i + 1) = omega arith in (
       subst (PrintsReports was is) count
-          (more_reports was (writer_contents g.W.Write.contents c.loop-path.out) is (1 + i) 1 kept.0 c.in_ok-deliver_one-2.ensures.printed),
+          (more_reports was _ is kept.0 c.in_ok-deliver_one-2.ensures.printed),
       λ h. c.open.ensures.honest (kept.1 h),
       λ h. c.open.ensures.texts (kept.1 h) ∙ kept.2 h,
-      λ h word. rest_then _ _ _ (kept.3 h word) (c.open.ensures.rests (kept.1 h) word),
+      λ h word. rest_then (kept.3 h word) (c.open.ensures.rests (kept.1 h) word),
       λ h s. c.in_ok-deliver_one-2.ensures.honest (kept.4 h s),
       λ h s texts text is are fit sound.
           let now = kept.4 h s in
           let below : i < length c.args.rest.now = c.loop-path-test.true in
           let many = behind_length texts text _ _ are in
           let at = text_behind texts text _ _ are i c.path-item.result below in
-          let reads = c.in_ok-source.ensures.text (kept.1 h) in
           let inside : i + 1 < length texts = omega (arith, many, below) in
-          let this : g.M.Source.Read.remaining c.in_ok-source.source ≡ Some (get_or texts (i + 1) no_text).bytes =
-          cc (reads, at, kept.2 h, c.as_str.ensures.value, c.path-item.is) in
+          let this = text_read (c.in_ok-source.ensures.text (kept.1 h)) (kept.2 h) c.as_str.ensures.value
+              ∙ ap (λ file. Some (g.M.Machine.text_of c.args.machine.now (string_bytes file))) c.path-item.is ∙ ap Some at in
           let so_far = kept.5 h s texts text is are fit sound in
           let next = get_or texts (i + 1) no_text in
           let is_text = fit.are (i + 1) no_text inside in
-          let possible = possible_whole _ _ _ _ this c.deliver_one-in-loop-path.ensures.budget in
-          let one = sound_of texts _ (i + 1) no_text inside so_far.sound in
+          let possible = possible_whole _ _ this c.deliver_one-in-loop-path.ensures.budget in
+          let one = sound_of no_text inside so_far.sound in
           more_delivered texts fit _ _ (i + 1) no_text _ _ _ _ _ inside so_far (c.in_ok-deliver_one-2.ensures.delivers now next is_text possible one),
       λ h word is_open. c.open.ensures.still_open (kept.1 h) word (kept.6 h word is_open),
       λ h word refuses. kept.7 h word (c.open.ensures.refusals (kept.1 h) word refuses),
@@ -79,24 +78,23 @@ returns-in_err-deliver_one-2-clause-delivers g c = λ h s texts text is are fit 
     let below : i < length c.args.rest.now = c.loop-path-test.true in
     let many = behind_length texts text _ _ are in
     let at = text_behind texts text _ _ are i c.path-item.result below in
-    let reads = c.in_ok-source.ensures.text (kept.1 h) in
     let inside : i + 1 < length texts = omega (arith, many, below) in
-    let this : g.M.Source.Read.remaining c.in_ok-source.source ≡ Some (get_or texts (i + 1) no_text).bytes =
-    cc (reads, at, kept.2 h, c.as_str.ensures.value, c.path-item.is) in
+    let this = text_read (c.in_ok-source.ensures.text (kept.1 h)) (kept.2 h) c.as_str.ensures.value
+        ∙ ap (λ file. Some (g.M.Machine.text_of c.args.machine.now (string_bytes file))) c.path-item.is ∙ ap Some at in
     let so_far = kept.5 h s texts text is are fit sound in
-    let possible = possible_whole _ _ _ _ this c.deliver_one-in-loop-path.ensures.budget in
+    let possible = possible_whole _ _ this c.deliver_one-in-loop-path.ensures.budget in
     then_delivered texts fit _ c.from_residual-in_err-deliver_one-2.result _ (i + 1) no_text _ _ _ _ _
     c.from_residual-in_err-deliver_one-2.ensures.0 inside so_far
     (c.in_err-deliver_one-2.ensures.delivers (kept.4 h s) (get_or texts (i + 1) no_text)
-    (fit.are (i + 1) no_text inside) possible (sound_of texts _ (i + 1) no_text inside so_far.sound))
+    (fit.are (i + 1) no_text inside) possible (sound_of no_text inside so_far.sound))
 
 pub returns-in_err-deliver_one-2-clause-elsewhere : goal.returns-in_err-deliver_one-2-clause-elsewhere
 returns-in_err-deliver_one-2-clause-elsewhere g c = λ h word.
-    rest_then _ _ _ (c.loop-path.invariant.3 h word) (c.open.ensures.rests (c.loop-path.invariant.1 h) word)
+    rest_then (c.loop-path.invariant.3 h word) (c.open.ensures.rests (c.loop-path.invariant.1 h) word)
 
 -- a file that could not be opened
 pub returns-in_err-source-clause-elsewhere : goal.returns-in_err-source-clause-elsewhere
-returns-in_err-source-clause-elsewhere g c = λ h word. rest_then _ _ _ (c.loop-path.invariant.3 h word) (c.open.ensures.rests (c.loop-path.invariant.1 h) word)
+returns-in_err-source-clause-elsewhere g c = λ h word. rest_then (c.loop-path.invariant.3 h word) (c.open.ensures.rests (c.loop-path.invariant.1 h) word)
 
 pub returns-in_err-source-clause-delivers : goal.returns-in_err-source-clause-delivers
 returns-in_err-source-clause-delivers g c = λ h s texts text is are fit sound.
@@ -120,24 +118,23 @@ returns-in_err-source-clause-still_open g c = λ h word is_open.
 -- why it ended with a fault
 pub returns-in_err-deliver_one-clause-cause : goal.returns-in_err-deliver_one-clause-cause
 returns-in_err-deliver_one-clause-cause g c = λ h name is.
-    of_fault c.from_residual.result _ _ c.from_residual.ensures.1
-    (delivered_file (g.M.Machine.text_of c.args.machine.now) (g.M.Machine.refuses_source c.args.machine.now) name _ _ _ _ name (holds_first name _) is
+    of_fault _ _ c.from_residual.ensures.1
+    (delivered_file (g.M.Machine.text_of c.args.machine.now) (g.M.Machine.refuses_source c.args.machine.now) name _ _ _ _ name (holds_first _) is
     c.deliver_one.ensures.budget _ c.in_err-deliver_one.ensures.cause)
 
 pub returns-in_err-deliver_one-2-clause-cause : goal.returns-in_err-deliver_one-2-clause-cause
 returns-in_err-deliver_one-2-clause-cause g c = λ h name is.
     let kept = c.loop-path.invariant in
-    let text = g.M.Machine.text_of c.args.machine.now (string_bytes c.path-item.result) in
-    let reads : g.M.Source.Read.remaining c.in_ok-source.source ≡ Some text = cc (c.in_ok-source.ensures.text (kept.1 h), kept.2 h, c.as_str.ensures.value) in
-    of_fault c.from_residual-in_err-deliver_one-2.result _ _ c.from_residual-in_err-deliver_one-2.ensures.1
+    let reads = text_read (c.in_ok-source.ensures.text (kept.1 h)) (kept.2 h) c.as_str.ensures.value in
+    of_fault _ _ c.from_residual-in_err-deliver_one-2.ensures.1
     (delivered_file (g.M.Machine.text_of c.args.machine.now) (g.M.Machine.refuses_source c.args.machine.now) name _ _ _ _ (string_bytes c.path-item.result)
-    (holds_behind string_bytes _ name c.loop-path.path-index c.path-item.result c.loop-path-test.true (sym c.path-item.is)) reads
+    (holds_behind string_bytes _ c.loop-path-test.true (sym c.path-item.is)) reads
     c.deliver_one-in-loop-path.ensures.budget _ c.in_err-deliver_one-2.ensures.cause)
 
 pub returns-in_err-source-clause-cause : goal.returns-in_err-source-clause-cause
 returns-in_err-source-clause-cause g c = λ h name is.
     let kept = c.loop-path.invariant in
-    of_fault c.from_residual-in_err-source.result _ _ c.from_residual-in_err-source.ensures.1
+    of_fault _ _ c.from_residual-in_err-source.ensures.1
     (refused_file (g.M.Machine.text_of c.args.machine.now) (g.M.Machine.refuses_source c.args.machine.now) name _ (string_bytes c.path-item.result)
-    (holds_behind string_bytes _ name c.loop-path.path-index c.path-item.result c.loop-path-test.true (sym c.path-item.is)) _ c.in_err-source.ensures.causes
+    (holds_behind string_bytes _ c.loop-path-test.true (sym c.path-item.is)) _ c.in_err-source.ensures.causes
     (λ e. kept.7 h _ (subst (g.M.Machine.refuses_source c.loop-path.machine) c.as_str.ensures.value (c.in_err-source.ensures.refused (kept.1 h) e))))

@@ -15,37 +15,37 @@ use Rattle.maildir_commands.proofs.sources.deliver_one.Goals as goal
 
 pub returns-in_err-deliver-clause-delivers : goal.returns-in_err-deliver-clause-delivers
 returns-in_err-deliver-clause-delivers g c = λ honest text is p sound.
-    not_delivered c.from_residual.result text _ _ _ _ c.from_residual.ensures.0
-    (c.in_err-deliver.ensures.stopped honest text.bytes text.messages is.small p is.are (sound_of_one text _ sound) (intact_of_one text _ sound))
+    not_delivered _ c.from_residual.ensures.0
+    (c.in_err-deliver.ensures.stopped honest text.bytes text.messages is.small p is.are (sound_of_one sound) (intact_of_one sound))
     (λ others named alike. c.deliver.ensures.stays honest text.bytes text.messages others is.small p is.are
-    (sound_of_one text _ sound) named (All-head (λ (t : Mailbox). AreAlike others t.messages) text [] alike))
+    (sound_of_one sound) named (All-head (λ (t : Mailbox). AreAlike others t.messages) text [] alike))
 
 pub returns-clause-printed : goal.returns-clause-printed
 returns-clause-printed g c =
     let printed = c.in_ok-deliver.ensures.printed in
-    on_ok _ c.flush.result (one_report _ _ (λ _. Unit {0})
+    on_ok _ c.flush.result (one_report (λ _. Unit {0})
     (record { report = printed.report; line = Appends-kept _ _ _ (report_line printed.report) printed.line c.flush.ensures.same; said = tt }))
 
 pub returns-clause-delivers : goal.returns-clause-delivers
 returns-clause-delivers g c = λ honest text is p sound.
     let printed = c.in_ok-deliver.ensures.printed in
-    let true_of = of_reports text _ printed.report (printed.said.1 honest text.bytes text.messages is.small p is.are (sound_of_one text _ sound)) in
+    let true_of = of_reports (printed.said.1 honest text.bytes text.messages is.small p is.are (sound_of_one sound)) in
     let line = Appends-kept _ _ _ (report_line printed.report) printed.line c.flush.ensures.same in
-    let safe = c.in_ok-deliver.ensures.safe honest text.bytes text.messages is.small p is.are (sound_of_one text _ sound) (intact_of_one text _ sound) in
+    let safe = c.in_ok-deliver.ensures.safe honest text.bytes text.messages is.small p is.are (sound_of_one sound) (intact_of_one sound) in
     record {
       safe = on_ok _ c.flush.result safe;
       line = on_ok _ c.flush.result (record { report = printed.report; line = line; said = true_of });
-      known = on_ok _ c.flush.result (c.in_ok-deliver.ensures.known honest text.bytes text.messages is.small p is.are (sound_of_one text _ sound));
+      known = on_ok _ c.flush.result (c.in_ok-deliver.ensures.known honest text.bytes text.messages is.small p is.are (sound_of_one sound));
       stopped = on_err _ c.flush.result (inr (record {
         report = printed.report;
         true_of = true_of;
         kept = record { home = safe.home; survive = safe.survive };
-        line = front_of_all _ _ (report_line printed.report) line;
+        line = front_of_all _ _ line;
       }));
       stays = λ others named alike.
           c.deliver.ensures.stays honest text.bytes text.messages others is.small p is.are
-          (sound_of_one text _ sound) named (All-head (λ (t : Mailbox). AreAlike others t.messages) text [] alike);
+          (sound_of_one sound) named (All-head (λ (t : Mailbox). AreAlike others t.messages) text [] alike);
     }
 
 pub returns-clause-cause : goal.returns-clause-cause
-returns-clause-cause g c = IfErr-weaker c.flush.result _ _ (λ fault is. of_output _ _ fault is) c.flush.ensures.causes
+returns-clause-cause g c = IfErr-weaker c.flush.result _ _ (λ fault is. of_output _ _ is) c.flush.ensures.causes

@@ -18,4 +18,4 @@ returns-in-Some-clause-others c = λ h word other.
     (Some slot) ((c.get_mut.follows.holds slot).3 (search rules))) word other
 
 pub returns-in_default-clause-others : goal.returns-in_default-clause-others
-returns-in_default-clause-others c = λ h word other. same_rests _ _ c.get_mut.follows.holds-at-none word
+returns-in_default-clause-others c = λ h word other. same_rests c.get_mut.follows.holds-at-none word

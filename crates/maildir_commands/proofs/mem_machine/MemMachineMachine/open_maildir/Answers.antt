@@ -4,7 +4,7 @@ use Rattle.maildir_commands.proofs.MemMachines.{found_rests, others_rest, same_r
 use Rattle.maildir_commands.proofs.mem_machine.MemMachineMachine.open_maildir.Goals as goal
 
 pub returns-in_default-clause-others : goal.returns-in_default-clause-others
-returns-in_default-clause-others c = λ h word other. same_rests _ _ c.get_mut.follows.holds-at-none word
+returns-in_default-clause-others c = λ h word other. same_rests c.get_mut.follows.holds-at-none word
 
 pub returns-in-Some-take-clause-honest : goal.returns-in-Some-take-clause-honest
 returns-in-Some-take-clause-honest c = λ h.
@@ -36,5 +36,5 @@ returns-in-Some-take-clause-works c = λ h.
 
 pub returns-in-Some-take-clause-opens : goal.returns-in-Some-take-clause-opens
 returns-in-Some-take-clause-opens c = λ h.
-    found_rests c.args.self.now.maildirs c.args.path.now c.in-Some-take.maildir
+    found_rests c.args.self.now.maildirs c.args.path.now
     (sym c.in-Some.ensures.value ∙ ap Some (sym c.take.ensures.value ∙ c.in-Some-take.is))
