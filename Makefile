@@ -42,6 +42,7 @@ LANES := $(if $(filter 2,$(shell nproc)),RT_JOBS=3)
 
 # The lines and the documents, the gate, and then the tests that run what it has built.
 test:
+	tests/layout
 	tests/lines
 	tests/promises.py
 	tests/rooms.py

@@ -60,7 +60,7 @@ loop-path-preserved g c =
           let at = text_behind texts text _ _ are i c.path-item.result below in
           let inside : i + 1 < length texts = omega (arith, many, below) in
           let this = text_read (c.in_ok-source.ensures.text (kept.1 h)) (kept.2 h) c.as_str.ensures.value
-              ∙ ap (λ file. Some (g.M.Machine.text_of c.args.machine.now (string_bytes file))) c.path-item.is ∙ ap Some at in
+          ∙ ap (λ file. Some (g.M.Machine.text_of c.args.machine.now (string_bytes file))) c.path-item.is ∙ ap Some at in
           let so_far = kept.5 h s texts text is are fit sound in
           let next = get_or texts (i + 1) no_text in
           let is_text = fit.are (i + 1) no_text inside in
@@ -80,7 +80,7 @@ returns-in_err-deliver_one-2-clause-delivers g c = λ h s texts text is are fit 
     let at = text_behind texts text _ _ are i c.path-item.result below in
     let inside : i + 1 < length texts = omega (arith, many, below) in
     let this = text_read (c.in_ok-source.ensures.text (kept.1 h)) (kept.2 h) c.as_str.ensures.value
-        ∙ ap (λ file. Some (g.M.Machine.text_of c.args.machine.now (string_bytes file))) c.path-item.is ∙ ap Some at in
+    ∙ ap (λ file. Some (g.M.Machine.text_of c.args.machine.now (string_bytes file))) c.path-item.is ∙ ap Some at in
     let so_far = kept.5 h s texts text is are fit sound in
     let possible = possible_whole _ _ this c.deliver_one-in-loop-path.ensures.budget in
     then_delivered texts fit _ c.from_residual-in_err-deliver_one-2.result _ (i + 1) no_text _ _ _ _ _
