@@ -18,9 +18,11 @@ none_delivered (Err e) {texts} {old} {new} {was} failed rests =
 
 -- one text, where a fault ended its run
 pub not_delivered : {A E : Type 0} (answer : Result A E) {text : Mailbox} {old new : HeldMaildir} {was is : Option (List ℕ)}
-    → IsErr answer → Keeps was is ⊎ PrintsOne old new text was is → OthersStay (text ∷ []) old new → DeliversOne answer text old new was is
-not_delivered (Ok x) failed stopped stays = cc
-not_delivered (Err e) failed stopped stays = record { safe = tt; line = tt; known = tt; stopped = stopped; stays = stays }
+    → IsErr answer → Keeps was is ⊎ PrintsOne old new text was is → OthersStay (text ∷ []) old new → (old.rooted → new.rooted)
+    → DeliversOne answer text old new was is
+not_delivered (Ok x) failed stopped stays rooted = cc
+not_delivered (Err e) failed stopped stays rooted =
+    record { safe = tt; line = tt; known = tt; stopped = stopped; stays = stays; still_rooted = rooted }
 
 -- the Maildir was opened before, and is closed
 pub closed : {A E : Type 0} (answer : Result A E) (texts : List Mailbox) → All IsMailbox texts
@@ -61,7 +63,7 @@ module _ (texts : List Mailbox) (fit : AreFit texts) (start : HeldMaildir) where
   then_delivered (Err _) fault n e old new was mid is failed inside up one = record {
     safe = tt;
     each = tt;
-    some = then_stopped texts fit n e start old new was mid is inside up one.stays one.stopped;
+    some = then_stopped texts fit n e start old new was mid is inside up one.still_rooted one.stays one.stopped;
     stay = stay_more texts fit n e start old new inside up.stay one.stays;
   }
 
@@ -69,7 +71,8 @@ module _ (texts : List Mailbox) (fit : AreFit texts) (start : HeldMaildir) where
   pub more_delivered : {A E : Type 0} (value : A) (n : ℕ) (e : Mailbox) (old new : HeldMaildir) (was mid is : Option (List ℕ))
       → n < length texts → UpTo n texts start old was mid
       → DeliversOne {A = A} {E = E} (Ok value) (get_or texts n e) old new mid is → UpTo (n + 1) texts start new was is
-  more_delivered value n e old new was mid is inside up one = one_more texts fit n e start old new was mid is inside up one.safe one.line one.known one.stays
+  more_delivered value n e old new was mid is inside up one =
+      one_more texts fit n e start old new was mid is inside up one.still_rooted one.safe one.line one.known one.stays
 
 -- where one text is all
 pub one_delivered : {A E : Type 0} (answer : Result A E) {texts : List Mailbox} → AreFit texts

@@ -14,7 +14,7 @@ pub mod Several
 pub mod Reports
 -- What a buffer is given, and what it hands on.
 pub mod Output
--- A Maildir that rests.
+-- A Maildir that rests, or in which no other program acts.
 pub mod Resting
 -- Maildirs in memory under their words, where one of them is taken or put back.
 pub mod MemMachines

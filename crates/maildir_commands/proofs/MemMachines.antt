@@ -5,10 +5,9 @@ use Rattle.std.proofs.lemmas.Slice.Eq.{bytes_eq-Decides}
 use Rattle.std.specs.BTreeMap.{BTreeMap, get_by_text}
 use Rattle.std.specs.Map.{update}
 use Rattle.std.specs.Str.{bytes_eq}
-use Rattle.maildir_run.specs.MemFolder.{IsQuiet}
 use Rattle.maildir_disk.specs.declared.mem_system.MemSystem.{MemSystem}
 use Rattle.maildir_commands.specs.Machines.{Rests}
-use Rattle.maildir_commands.specs.MemMachines.{AreQuiet, held_at, held_under_word}
+use Rattle.maildir_commands.specs.MemMachines.{AreAll, held_at, held_under_word}
 use Rattle.maildir_commands.proofs.Resting.{rest_same}
 
 module _ {X : Type 0} (old new : BTreeMap (String X) (Option MemSystem)) (path : List ℕ) (slot : Option MemSystem)
@@ -31,11 +30,14 @@ module _ {X : Type 0} (old new : BTreeMap (String X) (Option MemSystem)) (path :
   pub path_rests : Rests (held_at (Some slot)) (held_under_word new path)
   path_rests = subst (λ found. Rests (held_at (Some slot)) (held_at found)) (sym at_path) (rest_same)
 
-  pub still_quiet : AreQuiet old → slot ≡ None → AreQuiet new
-  still_quiet quiet none word system is = elim (cases_Bool (bytes_eq path word)) as (λ _. IsQuiet system.folder) [
+  pub still_all : {P : MemSystem → Type 0} → AreAll P old → slot ≡ None → AreAll P new
+  still_all {P} all none word system is = elim (cases_Bool (bytes_eq path word)) as (λ _. P system) [
     | inl on ↦ let off = sym (on_path word on ∙ ap Some none) ∙ is in cc
-    | inr off ↦ quiet word system (sym (looked word ∙ ap (λ t. cond t (Some slot) (get_by_text old word)) off) ∙ is)
+    | inr off ↦ all word system (sym (looked word ∙ ap (λ t. cond t (Some slot) (get_by_text old word)) off) ∙ is)
   ]
+
+  pub path_files : (held_under_word new path).files ≡ (held_at (Some slot)).files
+  path_files = ap (λ found. (held_at found).files) at_path
 
 pub same_rests : {X : Type 0} {old new : BTreeMap (String X) (Option MemSystem)} → new ≡ old
     → (word : List ℕ) → Rests (held_under_word old word) (held_under_word new word)
@@ -45,3 +47,7 @@ same_rests {old} same word =
 pub found_rests : {X : Type 0} (old : BTreeMap (String X) (Option MemSystem)) (path : List ℕ) {system : MemSystem}
     → get_by_text old path ≡ Some (Some system) → Rests (held_under_word old path) (held_at (Some (Some system)))
 found_rests old path {system} is = subst (λ found. Rests (held_at found) (held_at (Some (Some system)))) (sym is) (rest_same)
+
+pub found_files : {X : Type 0} (old : BTreeMap (String X) (Option MemSystem)) (path : List ℕ) {system : MemSystem}
+    → get_by_text old path ≡ Some (Some system) → (held_at (Some (Some system))).files ≡ (held_under_word old path).files
+found_files old path is = sym (ap (λ found. (held_at found).files) is)

@@ -10,34 +10,34 @@ use Rattle.maildir_run.specs.Delivery.{has_home}
 use Rattle.maildir_run.specs.Output.{GivesFront}
 use Rattle.maildir_commands.specs.Report.{AreReportsOf, PrintsEach, PrintsReports, PrintsSome, report_line}
 use Rattle.maildir_commands.specs.Output.{WritesAll, WritesFront}
-use Rattle.maildir_commands.specs.Machines.{AreAllKept, AreAllSafe, HeldMaildir}
+use Rattle.maildir_commands.specs.Machines.{AreAllSafe, HeldMaildir}
 use Rattle.maildir_run.specs.Several.{Mailbox}
 use Rattle.maildir_commands.proofs.Several.{front_of_all}
 
 -- what was given to a buffer that was handed on whole
-pub handed : (was given kept inner : Option (List ℕ)) (pending bytes : List ℕ) → Appends was given bytes
-    → Keeps given kept → kept ≡ append_known inner pending → pending ≡ [] → Appends was inner bytes
-handed None given kept inner pending bytes grown keeps is none = tt
-handed (Some x) None kept inner pending bytes grown keeps is none = absurd grown
-handed (Some x) (Some y) None inner pending bytes grown keeps is none = absurd keeps
-handed (Some x) (Some y) (Some z) None pending bytes grown keeps is none = cc
-handed (Some x) (Some y) (Some z) (Some i) pending bytes grown keeps is none =
+pub handed_on : (given kept inner : Option (List ℕ)) (pending : List ℕ) → Keeps given kept → kept ≡ append_known inner pending → pending ≡ []
+    → Keeps given inner
+handed_on None kept inner pending keeps is none = tt
+handed_on (Some y) None inner pending keeps is none = absurd keeps
+handed_on (Some y) (Some z) None pending keeps is none = cc
+handed_on (Some y) (Some z) (Some i) pending keeps is none =
     let same : Some z ≡ Some i = is ∙ ap Some (ap (λ p. i ++ p) none ∙ append-nil i) in
     let inner_is : z ≡ i = cc in
-    sym inner_is ∙ (keeps ∙ grown)
+    sym inner_is ∙ keeps
 
-module _ (was given kept inner : Option (List ℕ)) (pending : List ℕ) (keeps : Keeps given kept)
-    (is : kept ≡ append_known inner pending) (none : pending ≡ []) where
-  pub handed_all : (output : List Entry → List ℕ) (source : Option (List ℕ)) → WritesAll output source was given → WritesAll output source was inner
-  handed_all output None (count, all) = (count, all)
-  handed_all output (Some t) (count, (entries, mbox, many, grown)) =
-      (count, (entries, mbox, many, handed was given kept inner pending _ grown keeps is none))
+pub handed_all : (output : List Entry → List ℕ) (source was given inner : Option (List ℕ))
+    → WritesAll output source was given → Keeps given inner → WritesAll output source was inner
+handed_all output None was given inner (count, all) keeps = (count, all)
+handed_all output (Some t) was given inner (count, (entries, mbox, many, grown)) keeps =
+    (count, (entries, mbox, many, Appends-kept was given inner _ grown keeps))
 
-  pub handed_reports : (runs : ℕ) → PrintsReports was given runs → PrintsReports was inner runs
-  handed_reports runs (reports, many, grown) = (reports, many, handed was given kept inner pending _ grown keeps is none)
+pub handed_reports : (runs : ℕ) (was given inner : Option (List ℕ)) → PrintsReports was given runs → Keeps given inner → PrintsReports was inner runs
+handed_reports runs was given inner (reports, many, grown) keeps = (reports, many, Appends-kept was given inner _ grown keeps)
 
-  pub handed_each : (old : HeldMaildir) (texts : List Mailbox) → PrintsEach old texts was given → PrintsEach old texts was inner
-  handed_each old texts each = record { reports = each.reports; true_of = each.true_of; lines = handed was given kept inner pending _ each.lines keeps is none }
+pub handed_each : (old : HeldMaildir) (texts : List Mailbox) (was given inner : Option (List ℕ))
+    → PrintsEach old texts was given → Keeps given inner → PrintsEach old texts was inner
+handed_each old texts was given inner each keeps =
+    record { reports = each.reports; true_of = each.true_of; lines = Appends-kept was given inner _ each.lines keeps }
 
 -- what was written whole, and then not handed on
 pub all_front : (output : List Entry → List ℕ) (t : List ℕ) (was given kept : Option (List ℕ))
@@ -64,7 +64,7 @@ some_kept old new texts was given kept keeps some =
       n = some.n;
       reports = some.reports;
       true_of = some.true_of;
-      kept = some.kept;
+      safe = some.safe;
       lines = (lines.0, lines.1, lines.2, Appends-kept was given kept lines.0 lines.3 keeps);
     }
 
@@ -76,6 +76,6 @@ each_some {old} {new} {texts} {was} {given} {kept} keeps each safe =
       n = length texts;
       reports = each.reports;
       true_of = subst (λ ts. AreReportsOf (has_home old.files) ts each.reports) (sym whole) each.true_of;
-      kept = subst (λ ts. AreAllKept ts new) (sym whole) (λ k d below. let one = safe k d below in record { home = one.home; survive = one.survive });
+      safe = subst (λ ts. AreAllSafe ts new) (sym whole) safe;
       lines = front_of_all was kept (Appends-kept was given kept (flat_map report_line each.reports) each.lines keeps);
     }

@@ -1,6 +1,8 @@
--- A Maildir that rests.
-use Rattle.std.proofs.Common.{[], ◌∷◌, ◌++◌, ◌≡◌, List, refl, sym, ap, ◌∙◌}
+-- A Maildir that rests, or in which no other program acts.
+use Rattle.std.proofs.Common.{[], ◌∷◌, ◌++◌, ◌≡◌, List, refl, sym, ap, subst, ◌∙◌}
 use Rattle.maildir_run.specs.Files.{Files, Action, acted, all_acted}
+use Rattle.maildir_run.specs.Foreign.{KeepsForeign}
+use Rattle.maildir_run.proofs.Tasks.QuietRuns.{others_same}
 use Rattle.maildir_disk.proofs.Left.Lefts.{left_none, left_by_others_then}
 use Rattle.maildir_commands.specs.Machines.{HeldMaildir, Rests}
 
@@ -18,3 +20,11 @@ rest_then {a} first then = record {
   left = left_by_others_then first.left then.left;
   found = λ h. then.found (first.found h);
 }
+
+-- ---- where no other program acts
+-- opened from these files and closed with those
+pub foreign_within : {old ready work new : Files} → ready ≡ old → KeepsForeign ready work → new ≡ work → KeepsForeign old new
+foreign_within {ready} {new} opens keeps closes = subst (λ s. KeepsForeign s new) opens (subst (KeepsForeign ready) (sym closes) keeps)
+
+pub foreign_same : {old mid new : Files} → mid ≡ old → new ≡ mid → KeepsForeign old new
+foreign_same {old} opens rests = subst (KeepsForeign old) (sym (rests ∙ opens)) (others_same old)

@@ -19,7 +19,7 @@ use Rattle.maildir_run.proofs.Chains.MessageLemmas.{text_named}
 use Rattle.maildir_disk.specs.Others.{Stays}
 use Rattle.maildir_disk.specs.PowerCuts.{AreAlike, AreIntact, AreSafe}
 use Rattle.maildir_disk.proofs.Kept.Others.{stays_acted, stays_then}
-use Rattle.maildir_commands.specs.Machines.{HeldMaildir, Rests, AreFit, IsSoundFor, AreAllSafe, AreAllKept, AreKept, GivesTexts, HasAlso, OthersStay, bytes_of}
+use Rattle.maildir_commands.specs.Machines.{HeldMaildir, Rests, AreFit, IsSafeIn, IsSoundFor, AreAllSafe, GivesTexts, HasAlso, OthersStay, bytes_of}
 use Rattle.maildir_commands.specs.Report.{AreReportsOf, IsReportOf, PrintsEach, PrintsOne, PrintsReport, PrintsSome, report_line}
 use Rattle.maildir_commands.proofs.Forms.{map_both, none_named}
 use Rattle.maildir_commands.proofs.Known.{Agree, also_agree, also_all, also_all-last, report_agree, reports_agree, reports_more, rests_has}
@@ -61,8 +61,10 @@ pub stay_both : (texts : List Mailbox) (a b c : HeldMaildir) → OthersStay text
 stay_both texts a b c first then = λ others named alike.
     stays_then others a.files a.may_leave b.files b.may_leave c.files c.may_leave (first others named alike) (then others named alike)
 
-kept_stay : (ms : List Message) (old new : HeldMaildir) → Stays ms old.files old.may_leave new.files new.may_leave → AreKept ms old → AreKept ms new
-kept_stay ms old new stays kept = record { home = stays.home kept.home; survive = stays.survive kept.survive }
+-- safe messages stay so
+safe_stay : {ms : List Message} {old new : HeldMaildir} → Stays ms old.files old.may_leave new.files new.may_leave → (old.rooted → new.rooted)
+    → AreSafe ms old.files old.may_leave old.rooted → AreSafe ms new.files new.may_leave new.rooted
+safe_stay stays rooted was = record { home = stays.home was.home; survive = stays.survive was.survive; found = rooted was.found }
 
 named_of : {text : Mailbox} → IsMailbox text → AreNamed text.messages
 named_of {text} is = text_named text.bytes text.messages is.are is.small
@@ -85,13 +87,7 @@ module _ (texts : List Mailbox) (are : All IsMailbox texts) where
   }
 
   pub rest_all_safe : (old new : HeldMaildir) → Rests old new → AreAllSafe texts old → AreAllSafe texts new
-  rest_all_safe old new rests safe k d below =
-      let was = safe k d below in
-      let stays = rest_stays old new rests k d below in
-      record { home = stays.home was.home; survive = stays.survive was.survive; found = rests.found was.found }
-
-  pub rest_all_kept : (old new : HeldMaildir) → Rests old new → AreAllKept texts old → AreAllKept texts new
-  rest_all_kept old new rests kept k d below = kept_stay _ old new (rest_stays old new rests k d below) (kept k d below)
+  rest_all_safe old new rests safe k d below = safe_stay (rest_stays old new rests k d below) rests.found (safe k d below)
 
 -- a Maildir that rests before the texts are delivered, and behind it
 pub rest_each : {texts : List Mailbox} → All IsMailbox texts → {old new : HeldMaildir} {was is : Option (List ℕ)}
@@ -114,7 +110,7 @@ rest_some {texts} are {old} {ready} {work} {new} rests closes prints =
       true_of =
           reports_agree (has_home old.files) (has_home ready.files) (λ b named. sym (rests_has rests b named))
           _ (named_all (take prints.n texts) first) _ prints.true_of;
-      kept = rest_all_kept (take prints.n texts) first work new closes prints.kept;
+      safe = rest_all_safe (take prints.n texts) first work new closes prints.safe;
       lines = prints.lines;
     }
 
@@ -124,7 +120,7 @@ none_some {new} {was} {is} keeps = record {
   n = 0;
   reports = [];
   true_of = tt;
-  kept = All-nil (λ (text : Mailbox). AreKept text.messages new);
+  safe = All-nil (IsSafeIn new);
   lines = ([], [], refl, Appends-kept was was is [] (Appends-nil was) keeps);
 }
 
@@ -132,7 +128,7 @@ none_some {new} {was} {is} keeps = record {
 -- The Maildir is sound for all of them, so many are safe, and their lines were written.
 pub record UpTo (n : ℕ) (texts : List Mailbox) (start now : HeldMaildir) (was is : Option (List ℕ)) : Type 0 where
   pub sound : IsSoundFor texts now
-  pub safe : (k : ℕ) (d : Mailbox) → k < n → k < length texts → AreSafe (get_or texts k d).messages now.files now.may_leave now.rooted
+  pub safe : (k : ℕ) (d : Mailbox) → k < n → k < length texts → IsSafeIn now (get_or texts k d)
   pub has : Agree (has_home now.files) (also_all (has_home start.files) (take n texts))
   pub reports : List Report
   pub true_of : AreReportsOf (has_home start.files) (take n texts) reports
@@ -198,38 +194,33 @@ module _ (texts : List Mailbox) (fit : AreFit texts) where
       (then others named
       (All-cons (λ (t : Mailbox). AreAlike others t.messages) (get_or texts n e) [] (alike n e inside) (All-nil (λ (t : Mailbox). AreAlike others t.messages))))
 
-  -- those that were safe are kept, whatever comes of the next
-  kept_some : (n : ℕ) (old new : HeldMaildir)
-      → ((k : ℕ) (d : Mailbox) → k < n → k < length texts → AreSafe (get_or texts k d).messages old.files old.may_leave old.rooted)
-      → ((k : ℕ) (d : Mailbox) → k < length texts → Stays (get_or texts k d).messages old.files old.may_leave new.files new.may_leave)
-      → AreAllKept (take n texts) new
-  kept_some n old new safe stays k d below =
+  -- those that are safe, and one more
+  safe_more : (n : ℕ) (e : Mailbox) (now : HeldMaildir)
+      → ((k : ℕ) (d : Mailbox) → k < n → k < length texts → IsSafeIn now (get_or texts k d))
+      → IsSafeIn now (get_or texts n e)
+      → (k : ℕ) (d : Mailbox) → k < n + 1 → k < length texts → IsSafeIn now (get_or texts k d)
+  safe_more n e now before last k d lt below =
+      elim (last_or lt) as (λ _. IsSafeIn now (get_or texts k d)) [
+        | inl less ↦ before k d less below
+        | inr same ↦ subst (IsSafeIn now) (at_same k n d e same below) last
+      ]
+
+  -- of the first texts
+  first_safe : (n : ℕ) (now : HeldMaildir)
+      → ((k : ℕ) (d : Mailbox) → k < n → k < length texts → IsSafeIn now (get_or texts k d))
+      → AreAllSafe (take n texts) now
+  first_safe n now safe k d below =
       let most = length-take n texts in
       let lt : k < n = omega (arith, below, most) in
-      let inside : k < length texts = omega (arith, below, most) in
-      let was = safe k d lt inside in
-      subst (λ (text : Mailbox). AreKept text.messages new) (sym (get_or-take n texts k d lt))
-      (record { home = (stays k d inside).home was.home; survive = (stays k d inside).survive was.survive })
-
-  kept_more : (n : ℕ) (e : Mailbox) (maildir : HeldMaildir) → n < length texts → AreAllKept (take n texts) maildir
-      → AreKept (get_or texts n e).messages maildir → AreAllKept (take (n + 1) texts) maildir
-  kept_more n e maildir inside before last k d below =
-      let most = length-take (n + 1) texts in
-      let most_before = length-take n texts in
-      let lt : k < n + 1 = omega (arith, below, most) in
-      let here : k < length texts = omega (arith, below, most) in
-      subst (λ (text : Mailbox). AreKept text.messages maildir) (sym (get_or-take (n + 1) texts k d lt))
-      (elim (last_or lt) as (λ _. AreKept (get_or texts k d).messages maildir) [
-        | inl less ↦
-            subst (λ (text : Mailbox). AreKept text.messages maildir) (get_or-take n texts k d less) (before k d (omega (arith, less, here, most_before)))
-        | inr same ↦ subst (λ (text : Mailbox). AreKept text.messages maildir) (at_same k n d e same here) last
-      ])
+      subst (IsSafeIn now) (sym (get_or-take n texts k d lt))
+      (safe k d lt (omega (arith, below, most)))
 
   -- one text more
   pub one_more : (n : ℕ) (e : Mailbox) (start old new : HeldMaildir) (was mid is : Option (List ℕ)) → n < length texts → UpTo n texts start old was mid
-      → AreSafe (get_or texts n e).messages new.files new.may_leave new.rooted → PrintsReport mid is (IsReportOf (has_home old.files) (get_or texts n e))
+      → (old.rooted → new.rooted) → IsSafeIn new (get_or texts n e)
+      → PrintsReport mid is (IsReportOf (has_home old.files) (get_or texts n e))
       → HasAlso (get_or texts n e).messages old.files new.files → OthersStay (get_or texts n e ∷ []) old new → UpTo (n + 1) texts start new was is
-  one_more n e start old new was mid is inside up safe line known stay =
+  one_more n e start old new was mid is inside up rooted safe line known stay =
       let text = get_or texts n e in
       let stays = others_at n e old new inside stay in
       let more : take (n + 1) texts ≡ take n texts ++ text ∷ [] = take_more texts n e inside in
@@ -239,12 +230,7 @@ module _ (texts : List Mailbox) (fit : AreFit texts) where
           sound = λ k d below. (stays k d below).sound (up.sound.sound k d below);
           intact = λ k d below. (stays k d below).intact (up.sound.intact k d below);
         };
-        safe = λ k d lt below. elim (last_or lt) as (λ _. AreSafe (get_or texts k d).messages new.files new.may_leave new.rooted) [
-          | inl before ↦
-              let was_safe = up.safe k d before below in
-              record { home = (stays k d below).home was_safe.home; survive = (stays k d below).survive was_safe.survive; found = safe.found }
-          | inr same ↦ subst (λ (t : Mailbox). AreSafe t.messages new.files new.may_leave new.rooted) (at_same k n d e same below) safe
-        ];
+        safe = safe_more n e new (λ k d less below. safe_stay (stays k d below) rooted (up.safe k d less below)) safe;
         has = λ b named.
             known b named ∙ (also_agree (has_home old.files) (also_all first (take n texts)) up.has text b named
             ∙ (ap (λ f. f b) (sym (also_all-last first (take n texts) text)) ∙ ap (λ ts. also_all first ts b) (sym more)));
@@ -259,15 +245,16 @@ module _ (texts : List Mailbox) (fit : AreFit texts) where
 
   -- and then a text that is not delivered, or whose line was not written whole
   pub then_stopped : (n : ℕ) (e : Mailbox) (start old new : HeldMaildir) (was mid is : Option (List ℕ)) → n < length texts → UpTo n texts start old was mid
-      → OthersStay (get_or texts n e ∷ []) old new → Keeps mid is ⊎ PrintsOne old new (get_or texts n e) mid is → PrintsSome start new texts was is
-  then_stopped n e start old new was mid is inside up stay (inl keeps) = record {
+      → (old.rooted → new.rooted) → OthersStay (get_or texts n e ∷ []) old new → Keeps mid is ⊎ PrintsOne old new (get_or texts n e) mid is
+      → PrintsSome start new texts was is
+  then_stopped n e start old new was mid is inside up rooted stay (inl keeps) = record {
     n = n;
     reports = up.reports;
     true_of = up.true_of;
-    kept = kept_some n old new up.safe (others_at n e old new inside stay);
+    safe = first_safe n new (λ k d less below. safe_stay (others_at n e old new inside stay k d below) rooted (up.safe k d less below));
     lines = front_of_all was is (Appends-kept was mid is (flat_map report_line up.reports) up.lines keeps);
   }
-  then_stopped n e start old new was mid is inside up stay (inr one) =
+  then_stopped n e start old new was mid is inside up rooted stay (inr one) =
       let text = get_or texts n e in
       let more : take (n + 1) texts ≡ take n texts ++ text ∷ [] = take_more texts n e inside in
       let first = has_home start.files in
@@ -278,7 +265,8 @@ module _ (texts : List Mailbox) (fit : AreFit texts) where
             (reports_more first _ _ up.true_of
             (report_agree (λ b named. sym (up.has b named))
             (named_all texts fit.are n e inside) one.true_of));
-        kept = kept_more n e new inside (kept_some n old new up.safe (others_at n e old new inside stay)) one.kept;
+        safe = first_safe (n + 1) new (safe_more n e new
+            (λ k d less below. safe_stay (others_at n e old new inside stay k d below) rooted (up.safe k d less below)) one.safe);
         lines = more_front was mid is _ _ up.lines one.line;
       }
 
@@ -288,7 +276,7 @@ module _ (texts : List Mailbox) (fit : AreFit texts) where
     n = n;
     reports = up.reports;
     true_of = up.true_of;
-    kept = kept_some n now now up.safe (λ k d below. no_stay);
+    safe = first_safe n now up.safe;
     lines = front_of_all was is up.lines;
   }
 

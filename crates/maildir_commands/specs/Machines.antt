@@ -3,13 +3,13 @@ use Rattle.std.specs.Prelude.{◌≡◌, ℕ, List, [], ◌∷◌, All, Option, 
 use Rattle.std.specs.FinMap.{empty}
 use Rattle.maildir_name.specs.Names.{is_converter_base}
 use Rattle.maildir_run.specs.Cuts.{Follows}
-use Rattle.maildir_run.specs.Delivery.{Message, AreNamed, IsHome, IsSoundAt, has_home, is_base_of}
+use Rattle.maildir_run.specs.Delivery.{Message, AreNamed, IsSoundAt, has_home, is_base_of}
 use Rattle.maildir_run.specs.Files.{Files, Action, all_acted}
 use Rattle.maildir_run.specs.Runs.{Possible}
 use Rattle.maildir_run.specs.Several.{Mailbox, IsMailbox, OfEach}
-use Rattle.maildir_disk.specs.World.{World}
+use Rattle.maildir_disk.specs.declared.system.System.{Ghosts}
 use Rattle.maildir_disk.specs.Others.{Stays}
-use Rattle.maildir_disk.specs.PowerCuts.{AreAlike, AreIntact, AreSafe, LeftByOthers, Survive}
+use Rattle.maildir_disk.specs.PowerCuts.{AreAlike, AreIntact, AreSafe, LeftByOthers}
 use Rattle.maildir_commands.specs.Words.{convert_words}
 
 -- a Maildir at one moment: its files, what a power cut may leave of it, and that one leaves it and its three folders
@@ -19,8 +19,8 @@ pub record HeldMaildir : Type 1 where
   pub rooted : Type 0
 
 -- what these say of a Maildir
-abbrev pub held : {S : Type 0} → (S → World) → (S → Files → Type 0) → (S → Type 0) → S → HeldMaildir
-held world may_leave rooted s = record { files = (world s).files; may_leave = may_leave s; rooted = rooted s }
+abbrev pub held : {S File : Type 0} → Ghosts S File → S → HeldMaildir
+held f s = record { files = (f.world s).files; may_leave = f.may_leave s; rooted = f.rooted s }
 
 -- no Maildir
 abbrev pub nothing_held : HeldMaildir
@@ -43,18 +43,13 @@ pub record IsSoundFor (texts : List Mailbox) (maildir : HeldMaildir) : Type 0 wh
   pub sound : OfEach (IsSoundAt maildir.files) texts
   pub intact : All (λ text. AreIntact text.messages maildir.may_leave) texts
 
--- each of the texts is in the Maildir, and survives a power cut
+-- the text is in the Maildir, and survives a power cut
+abbrev pub IsSafeIn : HeldMaildir → Mailbox → Type 0
+IsSafeIn maildir text = AreSafe text.messages maildir.files maildir.may_leave maildir.rooted
+
+-- each of the texts is and does
 abbrev pub AreAllSafe : List Mailbox → HeldMaildir → Type 0
-AreAllSafe texts maildir = All (λ text. AreSafe text.messages maildir.files maildir.may_leave maildir.rooted) texts
-
--- The messages are at home, and in whatever a power cut leaves of the Maildir's files.
-pub record AreKept (ms : List Message) (maildir : HeldMaildir) : Type 0 where
-  pub home : All (IsHome maildir.files) ms
-  pub survive : Survive ms maildir.may_leave
-
--- and so it is with the messages of each of the texts
-abbrev pub AreAllKept : List Mailbox → HeldMaildir → Type 0
-AreAllKept texts maildir = All (λ text. AreKept text.messages maildir) texts
+AreAllSafe texts maildir = All (IsSafeIn maildir) texts
 
 -- messages of other texts stay, where those that have the base of a message of these texts have its body
 abbrev pub OthersStay : List Mailbox → HeldMaildir → HeldMaildir → Type 0

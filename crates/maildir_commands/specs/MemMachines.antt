@@ -3,13 +3,12 @@ use Rattle.std.specs.Prelude.{◌≡◌, ℕ, Bool, true, false, List, [], ◌�
 use Rattle.std.specs.BTreeMap.{BTreeMap, get_by_text}
 use Rattle.std.specs.Str.{bytes_eq}
 use Rattle.maildir_run.specs.declared.folder.FolderFault.TheVariants.{Failed}
-use Rattle.maildir_run.specs.MemFolder.{IsQuiet}
 use Rattle.maildir_disk.specs.declared.faults.OpenFault.{OpenFault}
 use Rattle.maildir_disk.specs.declared.faults.OpenFault.TheVariants.{Folder, Locked}
 use Rattle.maildir_disk.specs.declared.mem_system.MemSystem.{MemSystem}
 use Rattle.maildir_disk.specs.MemSystem.{may_be_left, world_of}
 use Rattle.maildir_commands.specs.declared.mem_machine.NamedText.{NamedText}
-use Rattle.maildir_commands.specs.Machines.{HeldMaildir, held, nothing_held}
+use Rattle.maildir_commands.specs.Machines.{HeldMaildir, nothing_held}
 
 -- the first text of this name, and none where no text has it
 abbrev pub text_under : List NamedText → List ℕ → List ℕ
@@ -31,12 +30,12 @@ IsRefusedAt (Some (Some _)) fault = ⊥
 abbrev pub held_at : Option (Option MemSystem) → HeldMaildir
 held_at None = nothing_held
 held_at (Some None) = nothing_held
-held_at (Some (Some system)) = held world_of may_be_left (λ s. IsTrue s.is_rooted) system
+held_at (Some (Some system)) = record { files = (world_of system).files; may_leave = may_be_left system; rooted = IsTrue system.is_rooted }
 
 -- the Maildir under this word
 abbrev pub held_under_word : {X : Type 0} → BTreeMap (String X) (Option MemSystem) → List ℕ → HeldMaildir
 held_under_word maildirs word = held_at (get_by_text maildirs word)
 
--- none of the Maildirs follows a script
-abbrev pub AreQuiet : {X : Type 0} → BTreeMap (String X) (Option MemSystem) → Type 0
-AreQuiet maildirs = (word : List ℕ) (system : MemSystem) → get_by_text maildirs word ≡ Some (Some system) → IsQuiet system.folder
+-- all of the Maildirs that are not open are so
+abbrev pub AreAll : {X : Type 0} → (MemSystem → Type 0) → BTreeMap (String X) (Option MemSystem) → Type 0
+AreAll P maildirs = (word : List ℕ) (system : MemSystem) → get_by_text maildirs word ≡ Some (Some system) → P system

@@ -7,7 +7,7 @@ use Rattle.mbox_text.specs.Writing.{AppendsFront}
 use Rattle.maildir_run.specs.Delivery.{is_base_of, has_home}
 use Rattle.maildir_run.specs.declared.report.Report.{Report}
 use Rattle.maildir_run.specs.Several.{Mailbox}
-use Rattle.maildir_commands.specs.Machines.{HeldMaildir, AreAllKept, AreKept}
+use Rattle.maildir_commands.specs.Machines.{HeldMaildir, AreAllSafe, IsSafeIn}
 
 -- the line with the counts of a run
 abbrev pub report_line : Report → List ℕ
@@ -51,17 +51,17 @@ pub record PrintsEach (old : HeldMaildir) (texts : List Mailbox) (was is : Optio
   pub true_of : AreReportsOf (has_home old.files) texts reports
   pub lines : Appends was is (flat_map report_line reports)
 
--- A front was written of the lines of true reports of some first texts, and these texts are in the Maildir.
+-- A front was written of the lines of true reports of some first texts, and each of these texts is in the Maildir, and survives a power cut.
 pub record PrintsSome (old new : HeldMaildir) (texts : List Mailbox) (was is : Option (List ℕ)) : Type 0 where
   pub n : ℕ
   pub reports : List Report
   pub true_of : AreReportsOf (has_home old.files) (take n texts) reports
-  pub kept : AreAllKept (take n texts) new
+  pub safe : AreAllSafe (take n texts) new
   pub lines : AppendsFront was is (flat_map report_line reports)
 
--- The line of a true report of the text was written, or a front of it, and the text is in the Maildir.
+-- The line of a true report of the text was written, or a front of it, and the text is in the Maildir, and survives a power cut.
 pub record PrintsOne (old new : HeldMaildir) (text : Mailbox) (was is : Option (List ℕ)) : Type 0 where
   pub report : Report
   pub true_of : IsReportOf (has_home old.files) text report
-  pub kept : AreKept text.messages new
+  pub safe : IsSafeIn new text
   pub line : AppendsFront was is (report_line report)

@@ -47,6 +47,10 @@ impl<'a, R: Files<File = File> + Clock> Machine for Computer<'a, R> {
 
     ghost honest = { λ _. ⊥ };
 
+    ghost quiet = { λ _. ⊥ };
+
+    ghost quiet_is_honest = { λ _ quiet. quiet };
+
     fn open_source(&mut self, path: &str) -> io::Result<File> {
         fs::open(self.rt, path)
     }

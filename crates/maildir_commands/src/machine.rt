@@ -38,6 +38,9 @@ pub trait Machine {
     /// Its calls do what their contracts say.
     ghost honest: { Self → Type 0 };
 
+    /// Its calls do what their contracts say, and no other program acts on its Maildirs.
+    ghost quiet: { Self → Type 0 };
+
     /// Opens a source.
     fn open_source(&mut self, path: &str) -> io::Result<Self::Source>
         ensures honest { honest self.old → honest self.new }
@@ -48,7 +51,9 @@ pub trait Machine {
         ensures refused { honest self.old → IfErr result (λ error. ¬ IsRefusedGrowth error → refuses_source self.old path.now) }
         ensures text { honest self.old → IfOk result (λ source. Self.Source.remaining source ≡ Some (text_of self.old path.now)) }
         ensures rests { honest self.old → (word : List ℕ) → Rests (maildir_at self.old word) (maildir_at self.new word) }
-        ensures still_open { honest self.old → (word : List ℕ) → is_open self.old word → is_open self.new word };
+        ensures still_open { honest self.old → (word : List ℕ) → is_open self.old word → is_open self.new word }
+        ensures quiet { quiet self.old → quiet self.new }
+        ensures quietly { quiet self.old → (word : List ℕ) → (maildir_at self.new word).files ≡ (maildir_at self.old word).files };
 
     /// Opens a Maildir, which is made where it is missing.
     fn open_maildir(&mut self, path: &str) -> Result<Self::Maildir, OpenFault>
@@ -59,17 +64,27 @@ pub trait Machine {
         ensures open { honest self.old → OnOk result (is_open self.new path.now) }
         ensures works { honest self.old → IfOk result Self.Maildir.honest }
         ensures opens { honest self.old → IfOk result (λ maildir. Rests (maildir_at self.old path.now)
-            (held Self.Maildir.world Self.Maildir.may_leave Self.Maildir.rooted maildir)) }
+            (held Self.Maildir.System maildir)) }
         ensures rests { honest self.old → OnErr result (Rests (maildir_at self.old path.now) (maildir_at self.new path.now)) }
         ensures others { honest self.old → (word : List ℕ) → ¬ same path.now word →
-            Rests (maildir_at self.old word) (maildir_at self.new word) };
+            Rests (maildir_at self.old word) (maildir_at self.new word) }
+        ensures quiet { quiet self.old → quiet self.new }
+        ensures works_quietly { quiet self.old → IfOk result Self.Maildir.quiet }
+        ensures opens_quietly { quiet self.old →
+            IfOk result (λ maildir. (Self.Maildir.world maildir).files ≡ (maildir_at self.old path.now).files) }
+        ensures rests_quietly { quiet self.old →
+            OnErr result ((maildir_at self.new path.now).files ≡ (maildir_at self.old path.now).files) };
 
     /// Closes a Maildir, which was opened by this word.
     fn close_maildir(&mut self, path: &str, maildir: Self::Maildir)
         ensures texts { honest self.old → text_of self.new ≡ text_of self.old }
         ensures closes { honest self.old → is_open self.old path.now → Rests
-            (held Self.Maildir.world Self.Maildir.may_leave Self.Maildir.rooted maildir)
+            (held Self.Maildir.System maildir)
             (maildir_at self.new path.now) }
         ensures others { honest self.old → (word : List ℕ) → ¬ same path.now word →
-            Rests (maildir_at self.old word) (maildir_at self.new word) };
+            Rests (maildir_at self.old word) (maildir_at self.new word) }
+        ensures closes_quietly { quiet self.old → is_open self.old path.now →
+            (maildir_at self.new path.now).files ≡ (Self.Maildir.world maildir).files };
+
+    ghost quiet_is_honest: { (machine : Self) → quiet machine → honest machine };
 }

@@ -2,6 +2,8 @@
 ghost use Rattle.std.specs.Prelude.{◌≡◌, ℕ, List, false, None, Some, IfSome, IsSome, IsTrue, OnOk, string_bytes};
 ghost use Rattle.std.specs.BTreeMap.{get_by_text};
 ghost use Rattle.std.specs.Str.{bytes_eq};
+ghost use Rattle.maildir_run.specs.MemFolder.{IsQuiet};
+ghost use Rattle.maildir_disk.specs.MemSystem.{HasNoTurns};
 
 use crate::machine::Machine;
 use maildir_disk::{MemSystem, OpenFault};
@@ -65,7 +67,7 @@ impl<'a> MemMachine<'a> {
 }
 
 impl<'a> Machine for MemMachine<'a> {
-    ghost use Rattle.maildir_commands.specs.MemMachines.{AreQuiet, IsRefusedAt, has_text, held_under_word, text_under};
+    ghost use Rattle.maildir_commands.specs.MemMachines.{AreAll, IsRefusedAt, has_text, held_under_word, text_under};
 
     type Source = &'a [u8];
 
@@ -83,7 +85,11 @@ impl<'a> Machine for MemMachine<'a> {
 
     ghost same = { λ word other. IsTrue (bytes_eq word other) };
 
-    ghost honest = { λ machine. AreQuiet machine.maildirs };
+    ghost honest = { λ machine. AreAll (λ system. IsQuiet system.folder) machine.maildirs };
+
+    ghost quiet = { λ machine. AreAll HasNoTurns machine.maildirs };
+
+    ghost quiet_is_honest = { λ _ quiet word system is. (quiet word system is).no_script };
 
     fn open_source(&mut self, path: &str) -> io::Result<&'a [u8]> {
         let texts = self.texts;

@@ -7,6 +7,7 @@ ghost use Rattle.std.specs.List.{flat_map};
 ghost use Rattle.mbox_text.specs.Spelling.{spelling};
 ghost use Rattle.mbox_text.specs.Writing.{AppendsFront, Writes};
 ghost use Rattle.maildir_run.specs.Table.{table_of};
+ghost use Rattle.maildir_run.specs.Foreign.{KeepsForeign};
 ghost use Rattle.maildir_run.specs.Output.{GivesFront};
 ghost use Rattle.maildir_run.specs.Several.{Mailbox};
 ghost use Rattle.maildir_commands.specs.Causes.{HasCause, IsCauseOf};
@@ -96,6 +97,9 @@ pub fn run<M: Machine, I: Read, W: Write + Drop, E: Write>(
         Converts (map string_bytes words.now) (M.text_of machine.old)
         (I.remaining input.old) (I.remaining input.new) maildir texts (M.maildir_at machine.old maildir) →
         OthersStay texts (M.maildir_at machine.old maildir) (M.maildir_at machine.new maildir) }
+    ensures others { M.quiet machine.old → (maildir : List ℕ) (files : List (List ℕ)) →
+        map string_bytes words.now ≡ convert_words maildir files →
+        KeepsForeign (M.maildir_at machine.old maildir).files (M.maildir_at machine.new maildir).files }
     ensures elsewhere { M.honest machine.old → (maildir word : List ℕ) (files : List (List ℕ)) →
         map string_bytes words.now ≡ convert_words maildir files → ¬ M.same maildir word →
         Rests (M.maildir_at machine.old word) (M.maildir_at machine.new word) }
@@ -177,6 +181,9 @@ pub fn execute<M: Machine, I: Read, W: Write + Drop, E: Write>(
         Converts (map string_bytes words.now) (M.text_of machine.old)
         (I.remaining input.old) (I.remaining input.new) maildir texts (M.maildir_at machine.old maildir) →
         OthersStay texts (M.maildir_at machine.old maildir) (M.maildir_at machine.new maildir) }
+    ensures others { M.quiet machine.old → (maildir : List ℕ) (files : List (List ℕ)) →
+        map string_bytes words.now ≡ convert_words maildir files →
+        KeepsForeign (M.maildir_at machine.old maildir).files (M.maildir_at machine.new maildir).files }
     ensures elsewhere { M.honest machine.old → (maildir word : List ℕ) (files : List (List ℕ)) →
         map string_bytes words.now ≡ convert_words maildir files → ¬ M.same maildir word →
         Rests (M.maildir_at machine.old word) (M.maildir_at machine.new word) }
@@ -248,6 +255,9 @@ fn perform<M: Machine, I: Read, W: Write + Drop>(
     ensures stay { M.honest machine.old → (words : List (List ℕ)) (maildir : List ℕ) (texts : List Mailbox) → IsOf command.entry words →
         Converts words (M.text_of machine.old) (I.remaining input.old) (I.remaining input.new) maildir texts
         (M.maildir_at machine.old maildir) → OthersStay texts (M.maildir_at machine.old maildir) (M.maildir_at machine.new maildir) }
+    ensures others { M.quiet machine.old → (words : List (List ℕ)) (maildir : List ℕ) (files : List (List ℕ)) →
+        IsOf command.entry words → words ≡ convert_words maildir files →
+        KeepsForeign (M.maildir_at machine.old maildir).files (M.maildir_at machine.new maildir).files }
     ensures elsewhere { M.honest machine.old → (words : List (List ℕ)) (maildir word : List ℕ) (files : List (List ℕ)) →
         IsOf command.entry words → words ≡ convert_words maildir files → ¬ M.same maildir word →
         Rests (M.maildir_at machine.old word) (M.maildir_at machine.new word) }
@@ -304,6 +314,9 @@ fn work<M: Machine, I: Read, W: Write + Drop>(
         IfErr result (IsCauseOf (M.text_of machine.old) (M.refuses_source machine.old) (M.refuses_maildir machine.old)
         (I.remaining input.old) (I.remaining input.new) command.entry) }
     ensures texts { M.honest machine.old → M.text_of machine.new ≡ M.text_of machine.old }
+    ensures others { M.quiet machine.old → (words : List (List ℕ)) (maildir : List ℕ) (files : List (List ℕ)) →
+        IsOf command.entry words → words ≡ convert_words maildir files →
+        KeepsForeign (M.maildir_at machine.old maildir).files (M.maildir_at machine.new maildir).files }
     ensures elsewhere { M.honest machine.old → (words : List (List ℕ)) (maildir word : List ℕ) (files : List (List ℕ)) →
         IsOf command.entry words → words ≡ convert_words maildir files → ¬ M.same maildir word →
         Rests (M.maildir_at machine.old word) (M.maildir_at machine.new word) }

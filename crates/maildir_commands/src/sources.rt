@@ -43,11 +43,17 @@ fn open_folder<M: Machine>(machine: &mut M, maildir: &str) -> Result<DiskFolder<
     ensures open { M.honest machine.old → OnOk result (M.is_open machine.new maildir.now) }
     ensures works { M.honest machine.old → IfOk result (λ folder. M.Maildir.honest (system_of folder)) }
     ensures opens { M.honest machine.old → IfOk result (λ folder. Rests (M.maildir_at machine.old maildir.now)
-        (held M.Maildir.world M.Maildir.may_leave M.Maildir.rooted (system_of folder))) }
+        (held M.Maildir.System (system_of folder))) }
     ensures rests { M.honest machine.old →
         OnErr result (Rests (M.maildir_at machine.old maildir.now) (M.maildir_at machine.new maildir.now)) }
     ensures others { M.honest machine.old → (word : List ℕ) → ¬ M.same maildir.now word →
         Rests (M.maildir_at machine.old word) (M.maildir_at machine.new word) }
+    ensures quiet { M.quiet machine.old → M.quiet machine.new }
+    ensures works_quietly { M.quiet machine.old → IfOk result (λ folder. M.Maildir.quiet (system_of folder)) }
+    ensures opens_quietly { M.quiet machine.old →
+        IfOk result (λ folder. (M.Maildir.world (system_of folder)).files ≡ (M.maildir_at machine.old maildir.now).files) }
+    ensures rests_quietly { M.quiet machine.old →
+        OnErr result ((M.maildir_at machine.new maildir.now).files ≡ (M.maildir_at machine.old maildir.now).files) }
     ensures causes { IfErr result (λ fault. (fault ≡ Fault.Folder) ⊎ (fault ≡ Fault.Locked) ⊎ (fault ≡ Fault.Run RunFault.OutOfMemory)) }
 {
     match machine.open_maildir(maildir) {
@@ -78,6 +84,8 @@ pub(crate) fn deliver_sources<M: Machine, I: Read, W: Write + Drop>(
     ensures texts { M.honest machine.old → M.text_of machine.new ≡ M.text_of machine.old }
     ensures elsewhere { M.honest machine.old → (word : List ℕ) → ¬ M.same maildir.now word →
         Rests (M.maildir_at machine.old word) (M.maildir_at machine.new word) }
+    ensures others { M.quiet machine.old →
+        KeepsForeign (M.maildir_at machine.old maildir.now).files (M.maildir_at machine.new maildir.now).files }
 
     // and where the texts can go into the Maildir
     ensures delivers { M.honest machine.old → (texts : List Mailbox) →
@@ -114,14 +122,17 @@ fn deliver_each<M: Machine, W: Write + Drop>(
         IfErr result (IsOfFiles (M.text_of machine.old) (M.refuses_source machine.old) (name ∷ map string_bytes rest.now)) }
     ensures elsewhere { M.honest machine.old → (word : List ℕ) → Rests (M.maildir_at machine.old word) (M.maildir_at machine.new word) }
     ensures still_open { M.honest machine.old → (word : List ℕ) → M.is_open machine.old word → M.is_open machine.new word }
+    ensures quiet { M.quiet machine.old → M.quiet machine.new }
+    ensures others { M.Maildir.quiet (system_of folder.old) →
+        KeepsForeign (M.Maildir.world (system_of folder.old)).files (M.Maildir.world (system_of folder.new)).files }
     ensures printed { OnOk result
         (PrintsReports (writer_contents W.contents out.old) (writer_contents W.contents out.new) (1 + length rest.now)) }
     ensures delivers { M.honest machine.old → M.Maildir.honest (system_of folder.old) →
         (texts : List Mailbox) (text : List ℕ) → M.Source.remaining first.old ≡ Some text →
         bytes_of texts ≡ text ∷ map (λ file. M.text_of machine.old (string_bytes file)) rest.now → AreFit texts →
-        IsSoundFor texts (held M.Maildir.world M.Maildir.may_leave M.Maildir.rooted (system_of folder.old)) →
-        Delivers result texts (held M.Maildir.world M.Maildir.may_leave M.Maildir.rooted (system_of folder.old))
-        (held M.Maildir.world M.Maildir.may_leave M.Maildir.rooted (system_of folder.new))
+        IsSoundFor texts (held M.Maildir.System (system_of folder.old)) →
+        Delivers result texts (held M.Maildir.System (system_of folder.old))
+        (held M.Maildir.System (system_of folder.new))
         (writer_contents W.contents out.old) (writer_contents W.contents out.new) }
 {
     deliver_one(alloc, folder, first, out)?;
@@ -145,11 +156,14 @@ fn deliver_one<S: System, I: Read, W: Write + Drop>(
     ensures end { OnOk result (IsAtEnd (I.remaining source.new)) }
     ensures budget { ReadsAtMost (I.remaining source.old) (I.remaining source.new) (2 ^ 56) }
     ensures honest { S.honest (system_of folder.old) → OnOk result (S.honest (system_of folder.new)) }
+    ensures quiet { S.quiet (system_of folder.old) → OnOk result (S.quiet (system_of folder.new)) }
+    ensures others { S.quiet (system_of folder.old) →
+        KeepsForeign (S.world (system_of folder.old)).files (S.world (system_of folder.new)).files }
     ensures delivers { S.honest (system_of folder.old) → (text : Mailbox) → IsMailbox text →
         Possible (I.remaining source.old) (I.remaining source.new) text.bytes →
-        IsSoundFor (text ∷ []) (held S.world S.may_leave S.rooted (system_of folder.old)) →
-        DeliversOne result text (held S.world S.may_leave S.rooted (system_of folder.old))
-        (held S.world S.may_leave S.rooted (system_of folder.new))
+        IsSoundFor (text ∷ []) (held S.System (system_of folder.old)) →
+        DeliversOne result text (held S.System (system_of folder.old))
+        (held S.System (system_of folder.new))
         (writer_contents W.contents out.old) (writer_contents W.contents out.new) }
 {
     deliver(alloc, folder, source, out)?;
@@ -185,6 +199,7 @@ pub fn deliver<S: System, I: Read, W: Write>(
 
     // where the system does as assumed, and the folder began sound for the text
     ensures honest { ⟦<DiskFolder<S> as Folder>⟧.honest folder.old → OnOk result (⟦<DiskFolder<S> as Folder>⟧.honest folder.new) }
+    ensures still_rooted { let f = ⟦<DiskFolder<S> as Folder>⟧ in f.honest folder.old → f.rooted folder.old → f.rooted folder.new }
     ensures intact { let f = ⟦<DiskFolder<S> as Folder>⟧ in f.honest folder.old → (t : List ℕ) (ms : List Message) → length t < 2 ^ 63 →
         Possible (I.remaining source.old) (I.remaining source.new) t → MessagesOf t ms →
         AreIntact ms (f.may_leave folder.old) → AreIntact ms (f.may_leave folder.new) }
@@ -206,7 +221,7 @@ pub fn deliver<S: System, I: Read, W: Write>(
         Possible (I.remaining source.old) (I.remaining source.new) t → MessagesOf t ms →
         All (IsSoundAt (f.files folder.old)) ms → AreIntact ms (f.may_leave folder.old) →
         OnErr result (Keeps (W.contents out.old) (W.contents out.new)
-        ⊎ PrintsOne (held S.world S.may_leave S.rooted (system_of folder.old)) (held S.world S.may_leave S.rooted (system_of folder.new))
+        ⊎ PrintsOne (held S.System (system_of folder.old)) (held S.System (system_of folder.new))
         (record { bytes = t; messages = ms }) (W.contents out.old) (W.contents out.new)) }
 
     // what it leaves of other messages, and which bases have a home behind it

@@ -1,6 +1,6 @@
 // Sources that are opened, and output that is handed on.
 ghost use Rattle.std.specs.Prelude.{◌≡◌, ◌⊎◌, ℕ, List, Some, [], IfErr, IfOk, OnOk};
-ghost use Rattle.std.specs.Io.Buffered.{writer_buffer, writer_contents};
+ghost use Rattle.std.specs.Io.Buffered.{writer_buffer, writer_contents, writer_inner};
 ghost use Rattle.std.specs.Io.KnownBytes.{Keeps};
 ghost use Rattle.maildir_disk.specs.declared.faults.OpenFault.{OpenFault};
 ghost use Rattle.maildir_commands.specs.Machines.{Rests};
@@ -20,6 +20,9 @@ pub(crate) fn open<M: Machine>(machine: &mut M, path: &str) -> Result<M::Source,
     ensures text { M.honest machine.old → IfOk result (λ source. M.Source.remaining source ≡ Some (M.text_of machine.old path.now)) }
     ensures rests { M.honest machine.old → (word : List ℕ) → Rests (M.maildir_at machine.old word) (M.maildir_at machine.new word) }
     ensures still_open { M.honest machine.old → (word : List ℕ) → M.is_open machine.old word → M.is_open machine.new word }
+    ensures quiet { M.quiet machine.old → M.quiet machine.new }
+    ensures quietly { M.quiet machine.old → (word : List ℕ) →
+        (M.maildir_at machine.new word).files ≡ (M.maildir_at machine.old word).files }
     ensures refusals { M.honest machine.old → (word : List ℕ) → M.refuses_source machine.new word → M.refuses_source machine.old word }
     ensures maildirs { M.honest machine.old → (word : List ℕ) (fault : OpenFault) →
         M.refuses_maildir machine.new word fault → M.refuses_maildir machine.old word fault }
@@ -36,6 +39,7 @@ pub(crate) fn open<M: Machine>(machine: &mut M, path: &str) -> Result<M::Source,
 pub(crate) fn flush<W: Write + Drop>(out: &mut BufWriter<W>) -> Result<(), Fault>
     ensures same { Keeps (writer_contents W.contents out.old) (writer_contents W.contents out.new) }
     ensures handed { OnOk result (writer_buffer out.new ≡ []) }
+    ensures whole { OnOk result (Keeps (writer_contents W.contents out.old) (W.contents (writer_inner out.new))) }
     ensures causes { IfErr result (λ fault. fault ≡ Fault.Run RunFault.OutputFault) }
 {
     out.flush().map_err(|_| RunFault::OutputFault)?;

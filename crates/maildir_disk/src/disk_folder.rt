@@ -58,6 +58,7 @@ impl<S: System> DiskFolder<S> {
         ensures acts { S.honest self.old.system → Acts (S.world self.old.system) (S.world self.new.system) }
         ensures left { S.honest self.old.system → Follows LeftByOthers (S.may_leave self.old.system) (S.may_leave self.new.system) }
         ensures rooted { S.honest self.old.system → OnOk result (S.rooted self.new.system) }
+        ensures still_rooted { S.honest self.old.system → S.rooted self.old.system → S.rooted self.new.system }
         ensures synced { S.honest self.old.system →
             OnOk result (Follows (λ before left. Syncs (S.world self.old.system).files before (S.world self.new.system).files left)
             (S.may_leave self.old.system) (S.may_leave self.new.system)) }
@@ -75,6 +76,7 @@ impl<S: System> DiskFolder<S> {
         ensures acts { S.honest self.old.system → Acts (S.world self.old.system) (S.world self.new.system) }
         ensures left { S.honest self.old.system → Follows LeftByOthers (S.may_leave self.old.system) (S.may_leave self.new.system) }
         ensures rooted { S.honest self.old.system → OnOk result (S.rooted self.new.system) }
+        ensures still_rooted { S.honest self.old.system → S.rooted self.old.system → S.rooted self.new.system }
         ensures synced { S.honest self.old.system →
             OnOk result (Follows (λ before left. Syncs (S.world self.old.system).files before (S.world self.new.system).files left)
             (S.may_leave self.old.system) (S.may_leave self.new.system)) }
@@ -108,6 +110,8 @@ impl<S: System> Folder for DiskFolder<S> {
 
     ghost may_leave = { λ folder. S.may_leave folder.system };
 
+    ghost rooted = { λ folder. S.rooted folder.system };
+
     ghost honest = { λ folder. S.honest folder.system };
 
     ghost quiet = { λ folder. S.quiet folder.system };
@@ -127,6 +131,7 @@ impl<S: System> Folder for DiskFolder<S> {
             (S.world self.old.system).files result (S.world self.new.system).files }
         ensures left { S.honest self.old.system → Follows (λ before now. LeavesOf (Writing name.now bytes.now) before result now)
             (S.may_leave self.old.system) (S.may_leave self.new.system) }
+        ensures still_rooted { S.honest self.old.system → S.rooted self.old.system → S.rooted self.new.system }
         ensures quiet { S.quiet self.old.system → S.quiet self.new.system }
         ensures quietly { S.quiet self.old.system → CalledQuietly (Writing name.now bytes.now)
             (S.world self.old.system).files result (S.world self.new.system).files }
@@ -146,6 +151,7 @@ impl<S: System> Folder for DiskFolder<S> {
             WasGone name.now (Placing name.now place target.now) (S.world self.old.system).files (S.world self.new.system).files }
         ensures left { S.honest self.old.system → Follows (λ before now. LeavesOf (Placing name.now place target.now) before result now)
             (S.may_leave self.old.system) (S.may_leave self.new.system) }
+        ensures still_rooted { S.honest self.old.system → S.rooted self.old.system → S.rooted self.new.system }
         ensures quiet { S.quiet self.old.system → S.quiet self.new.system }
         ensures quietly { S.quiet self.old.system → CalledQuietly (Placing name.now place target.now)
             (S.world self.old.system).files result (S.world self.new.system).files }

@@ -209,6 +209,7 @@ impl System for MemSystem {
         ensures current { IsQuiet self.old.folder → IfOk result (λ file. Unit {0}) }
         ensures created { IsQuiet self.old.folder → Created name.now (world_of self.old) result (world_of self.new) }
         ensures left { IsQuiet self.old.folder → Follows (Leaves (Writing name.now [])) (may_be_left self.old) (may_be_left self.new) }
+        ensures still_rooted { IsQuiet self.old.folder → IsTrue self.old.is_rooted → IsTrue self.new.is_rooted }
         ensures quiet { HasNoTurns self.old → HasNoTurns self.new }
         ensures quietly { HasNoTurns self.old →
             CalledQuietly (Writing name.now []) (files_of self.old.folder) result (files_of self.new.folder) }
@@ -238,6 +239,7 @@ impl System for MemSystem {
             Appended (opened_as file.old) bytes.now (world_of self.old) result (world_of self.new) }
         ensures left { IsQuiet self.old.folder →
             Follows (Leaves (Writing (opened_as file.old) [])) (may_be_left self.old) (may_be_left self.new) }
+        ensures still_rooted { IsQuiet self.old.folder → IsTrue self.old.is_rooted → IsTrue self.new.is_rooted }
         ensures quiet { HasNoTurns self.old → HasNoTurns self.new }
         ensures quietly { HasNoTurns self.old → Unit {0} →
             AppendedQuietly (opened_as file.old) bytes.now (files_of self.old.folder) result (files_of self.new.folder) }
@@ -275,6 +277,7 @@ impl System for MemSystem {
             WasGone name.now (Placing name.now place target.now) (files_of self.old.folder) (files_of self.new.folder)) }
         ensures left { IsQuiet self.old.folder →
             Follows (Leaves (Placing name.now place target.now)) (may_be_left self.old) (may_be_left self.new) }
+        ensures still_rooted { IsQuiet self.old.folder → IsTrue self.old.is_rooted → IsTrue self.new.is_rooted }
         ensures quiet { HasNoTurns self.old → HasNoTurns self.new }
         ensures quietly { HasNoTurns self.old →
             CalledQuietly (Placing name.now place target.now) (files_of self.old.folder) result (files_of self.new.folder) }
@@ -297,6 +300,7 @@ impl System for MemSystem {
         ensures called { IsQuiet self.old.folder →
             Called (Removing name.now) (files_of self.old.folder) result (files_of self.new.folder) }
         ensures left { IsQuiet self.old.folder → Follows (Leaves (Removing name.now)) (may_be_left self.old) (may_be_left self.new) }
+        ensures still_rooted { IsQuiet self.old.folder → IsTrue self.old.is_rooted → IsTrue self.new.is_rooted }
         ensures quiet { HasNoTurns self.old → HasNoTurns self.new }
         ensures quietly { HasNoTurns self.old →
             CalledQuietly (Removing name.now) (files_of self.old.folder) result (files_of self.new.folder) }

@@ -37,6 +37,7 @@ pub(crate) fn names_of_one_moment<S: System>(system: &mut S, sub: Sub) -> io::Re
     ensures listed { S.honest system.old →
         Listed sub (S.world system.old).files result (S.world system.new).files }
     ensures left { S.honest system.old → Follows LeftByOthers (S.may_leave system.old) (S.may_leave system.new) }
+    ensures still_rooted { S.honest system.old → S.rooted system.old → S.rooted system.new }
     ensures quiet { S.quiet system.old → S.quiet system.new }
     ensures quietly { S.quiet system.old → SameFiles (S.world system.old) (S.world system.new) }
     ensures exact { S.quiet system.old → IfOk result (AreNames sub (S.world system.old).files) }
@@ -69,6 +70,7 @@ fn take_names<S: System>(system: &mut S, sub: Sub) -> io::Result<Look>
     ensures honest { S.honest system.old → S.honest system.new }
     ensures looked { S.honest system.old → LookGives sub (S.world system.old) result (S.world system.new) }
     ensures left { S.honest system.old → Follows LeftByOthers (S.may_leave system.old) (S.may_leave system.new) }
+    ensures still_rooted { S.honest system.old → S.rooted system.old → S.rooted system.new }
     ensures quiet { S.quiet system.old → S.quiet system.new }
     ensures quietly { S.quiet system.old → SameFiles (S.world system.old) (S.world system.new) }
     ensures exact { S.quiet system.old → IfOk result (LookGivesQuietly sub (S.world system.old).files) }
@@ -103,6 +105,7 @@ fn watched_names<S: System>(
     ensures watched { S.honest system.old →
         WatchedOr sub (system_time_nanos stamp) (S.world system.old) result (S.world system.new) }
     ensures left { S.honest system.old → Follows LeftByOthers (S.may_leave system.old) (S.may_leave system.new) }
+    ensures still_rooted { S.honest system.old → S.rooted system.old → S.rooted system.new }
     ensures quiet { S.quiet system.old → S.quiet system.new }
     ensures quietly { S.quiet system.old → SameFiles (S.world system.old) (S.world system.new) }
     ensures exact { S.quiet system.old → IfOk result (FoundNames sub (S.world system.old).files) }

@@ -55,6 +55,7 @@ pub trait System {
         ensures names { honest self.old →
             IfOk result (λ names. ReadsNames sub (world self.old) (names_of names) (world self.new)) }
         ensures left { honest self.old → Follows LeftByOthers (may_leave self.old) (may_leave self.new) }
+        ensures still_rooted { honest self.old → rooted self.old → rooted self.new }
         ensures quiet { quiet self.old → quiet self.new }
         ensures quietly { quiet self.old → SameFiles (world self.old) (world self.new) }
         ensures exact { quiet self.old → IfOk result (AreNames sub (world self.old).files) };
@@ -66,6 +67,7 @@ pub trait System {
         ensures stamp { honest self.old →
             IfOk result (λ stamp. IsStampWithin sub (world self.old) (system_time_nanos stamp) (world self.new)) }
         ensures left { honest self.old → Follows LeftByOthers (may_leave self.old) (may_leave self.new) }
+        ensures still_rooted { honest self.old → rooted self.old → rooted self.new }
         ensures quiet { quiet self.old → quiet self.new }
         ensures quietly { quiet self.old → SameFiles (world self.old) (world self.new) };
 
@@ -76,6 +78,7 @@ pub trait System {
         ensures now { honest self.old →
             IfOk result (λ now. IsTimeOf (world self.old) (system_time_nanos now) (world self.new)) }
         ensures left { honest self.old → Follows LeftByOthers (may_leave self.old) (may_leave self.new) }
+        ensures still_rooted { honest self.old → rooted self.old → rooted self.new }
         ensures quiet { quiet self.old → quiet self.new }
         ensures quietly { quiet self.old → SameFiles (world self.old) (world self.new) };
 
@@ -84,6 +87,7 @@ pub trait System {
         ensures honest { honest self.old → honest self.new }
         ensures acts { honest self.old → Acts (world self.old) (world self.new) }
         ensures left { honest self.old → Follows LeftByOthers (may_leave self.old) (may_leave self.new) }
+        ensures still_rooted { honest self.old → rooted self.old → rooted self.new }
         ensures quiet { quiet self.old → quiet self.new }
         ensures quietly { quiet self.old → SameFiles (world self.old) (world self.new) };
 
@@ -92,6 +96,7 @@ pub trait System {
         ensures honest { honest self.old → honest self.new }
         ensures acts { honest self.old → Acts (world self.old) (world self.new) }
         ensures left { honest self.old → Follows LeftByOthers (may_leave self.old) (may_leave self.new) }
+        ensures still_rooted { honest self.old → rooted self.old → rooted self.new }
         ensures quiet { quiet self.old → quiet self.new }
         ensures quietly { quiet self.old → SameFiles (world self.old) (world self.new) };
 
@@ -102,6 +107,7 @@ pub trait System {
         ensures current { honest self.old → IfOk result (λ file. is_current self.new file) }
         ensures created { honest self.old → Created name.now (world self.old) result (world self.new) }
         ensures left { honest self.old → Follows (Leaves (Writing name.now [])) (may_leave self.old) (may_leave self.new) }
+        ensures still_rooted { honest self.old → rooted self.old → rooted self.new }
         ensures quiet { quiet self.old → quiet self.new }
         ensures quietly { quiet self.old →
             CalledQuietly (Writing name.now []) (world self.old).files result (world self.new).files };
@@ -115,6 +121,7 @@ pub trait System {
         ensures appended { honest self.old → is_current self.old file.old →
             Appended (name_of file.old) bytes.now (world self.old) result (world self.new) }
         ensures left { honest self.old → Follows (Leaves (Writing (name_of file.old) [])) (may_leave self.old) (may_leave self.new) }
+        ensures still_rooted { honest self.old → rooted self.old → rooted self.new }
         ensures quiet { quiet self.old → quiet self.new }
         ensures quietly { quiet self.old → is_current self.old file.old →
             AppendedQuietly (name_of file.old) bytes.now (world self.old).files result (world self.new).files };
@@ -126,6 +133,7 @@ pub trait System {
         ensures kept { honest self.old → is_current self.old file.now →
             OnOk result (KeepsHeld (name_of file.now) (world self.new).files (may_leave self.new)) }
         ensures left { honest self.old → Follows LeftByOthers (may_leave self.old) (may_leave self.new) }
+        ensures still_rooted { honest self.old → rooted self.old → rooted self.new }
         ensures quiet { quiet self.old → quiet self.new }
         ensures quietly { quiet self.old → SameFiles (world self.old) (world self.new) };
 
@@ -137,6 +145,7 @@ pub trait System {
         ensures gone { honest self.old → IfErr result (λ error. error_kind error ≡ NotFound →
             WasGone name.now (Placing name.now place target.now) (world self.old).files (world self.new).files) }
         ensures left { honest self.old → Follows (Leaves (Placing name.now place target.now)) (may_leave self.old) (may_leave self.new) }
+        ensures still_rooted { honest self.old → rooted self.old → rooted self.new }
         ensures quiet { quiet self.old → quiet self.new }
         ensures quietly { quiet self.old →
             CalledQuietly (Placing name.now place target.now) (world self.old).files result (world self.new).files };
@@ -147,6 +156,7 @@ pub trait System {
         ensures called { honest self.old →
             Called (Removing name.now) (world self.old).files result (world self.new).files }
         ensures left { honest self.old → Follows (Leaves (Removing name.now)) (may_leave self.old) (may_leave self.new) }
+        ensures still_rooted { honest self.old → rooted self.old → rooted self.new }
         ensures quiet { quiet self.old → quiet self.new }
         ensures quietly { quiet self.old →
             CalledQuietly (Removing name.now) (world self.old).files result (world self.new).files };
@@ -157,6 +167,7 @@ pub trait System {
         ensures honest { honest self.old → OnOk result (honest self.new) }
         ensures acts { honest self.old → Acts (world self.old) (world self.new) }
         ensures left { honest self.old → Follows LeftByOthers (may_leave self.old) (may_leave self.new) }
+        ensures still_rooted { honest self.old → rooted self.old → rooted self.new }
         ensures names { honest self.old → OnOk result
             (Follows (λ before left. KeepsNames (folder_of_place place) (world self.old).files before (world self.new).files left)
             (may_leave self.old) (may_leave self.new)) }
@@ -168,6 +179,7 @@ pub trait System {
         ensures honest { honest self.old → OnOk result (honest self.new) }
         ensures acts { honest self.old → Acts (world self.old) (world self.new) }
         ensures left { honest self.old → Follows LeftByOthers (may_leave self.old) (may_leave self.new) }
+        ensures still_rooted { honest self.old → rooted self.old → rooted self.new }
         ensures rooted { honest self.old → OnOk result (rooted self.new) }
         ensures quiet { quiet self.old → OnOk result (quiet self.new) }
         ensures quietly { quiet self.old → SameFiles (world self.old) (world self.new) };

@@ -15,6 +15,7 @@ pub(crate) fn write_synced<S: System>(system: &mut S, name: &str, bytes: &[u8]) 
         Called (Writing name.now bytes.now) (S.world system.old).files result (S.world system.new).files }
     ensures left { S.honest system.old → Follows (λ before now. LeavesOf (Writing name.now bytes.now) before result now)
         (S.may_leave system.old) (S.may_leave system.new) }
+    ensures still_rooted { S.honest system.old → S.rooted system.old → S.rooted system.new }
     ensures quiet { S.quiet system.old → S.quiet system.new }
     ensures quietly { S.quiet system.old →
         CalledQuietly (Writing name.now bytes.now) (S.world system.old).files result (S.world system.new).files }

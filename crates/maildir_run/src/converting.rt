@@ -52,6 +52,7 @@ pub fn convert<F: Folder, R: Read>(
         Possible (R.remaining source.old) (R.remaining source.new) t → MessagesOf t ms →
         Follows (λ before now. (names : Listings) × Performs leaving (planned_tasks names ms) before result now)
         (F.may_leave folder.old) (F.may_leave folder.new) }
+    ensures still_rooted { F.honest folder.old → F.rooted folder.old → F.rooted folder.new }
     ensures owes { F.honest folder.old → (t : List ℕ) → length t < 2 ^ 63 →
         Possible (R.remaining source.old) (R.remaining source.new) t → IsRun t (F.files folder.old) result (F.files folder.new) }
     ensures restartable { F.honest folder.old → (t : List ℕ) (ms : List Message) (links : List Link) (start : Files) → length t < 2 ^ 63 →

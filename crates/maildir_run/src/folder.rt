@@ -61,6 +61,9 @@ pub trait Folder {
     /// are found then, and of `tmp` what each file that is there now would be found to hold, wherever it is found.
     ghost may_leave: { Self → Files → Type 0 };
 
+    /// A power cut leaves the Maildir and its three folders.
+    ghost rooted: { Self → Type 0 };
+
     /// It takes effect as reported.
     ghost honest: { Self → Type 0 };
 
@@ -83,6 +86,7 @@ pub trait Folder {
         ensures called { honest self.old → Listed sub (files self.old) result (files self.new) }
         ensures left { honest self.old → Follows (λ before now. LeavesOf (Listing sub) before result now)
             (may_leave self.old) (may_leave self.new) }
+        ensures still_rooted { honest self.old → rooted self.old → rooted self.new }
 
         ensures quiet { quiet self.old → quiet self.new }
         ensures quietly { quiet self.old →
@@ -105,6 +109,7 @@ pub trait Folder {
             Called (Writing name.now bytes.now) (files self.old) result (files self.new) }
         ensures left { honest self.old → Follows (λ before now. LeavesOf (Writing name.now bytes.now) before result now)
             (may_leave self.old) (may_leave self.new) }
+        ensures still_rooted { honest self.old → rooted self.old → rooted self.new }
 
         ensures quiet { quiet self.old → quiet self.new }
         ensures quietly { quiet self.old →
@@ -125,6 +130,7 @@ pub trait Folder {
             Called (Placing name.now place target.now) (files self.old) result (files self.new) }
         ensures left { honest self.old → Follows (λ before now. LeavesOf (Placing name.now place target.now) before result now)
             (may_leave self.old) (may_leave self.new) }
+        ensures still_rooted { honest self.old → rooted self.old → rooted self.new }
 
         ensures quiet { quiet self.old → quiet self.new }
         ensures quietly { quiet self.old →
@@ -144,6 +150,7 @@ pub trait Folder {
             Called (Removing name.now) (files self.old) result (files self.new) }
         ensures left { honest self.old → Follows (λ before now. LeavesOf (Removing name.now) before result now)
             (may_leave self.old) (may_leave self.new) }
+        ensures still_rooted { honest self.old → rooted self.old → rooted self.new }
 
         ensures quiet { quiet self.old → quiet self.new }
         ensures quietly { quiet self.old →

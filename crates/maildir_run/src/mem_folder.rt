@@ -209,6 +209,8 @@ impl Folder for MemFolder {
 
     ghost may_leave = { λ folder left. left ≡ files_of folder };
 
+    ghost rooted = { λ _. Unit {0} };
+
     ghost honest = { λ _. Unit {0} };
 
     ghost quiet = { IsQuiet };

@@ -3,8 +3,7 @@ use Rattle.std.specs.Prelude.{◌⊎◌, ℕ, List, [], ◌∷◌, OnErr, OnOk, 
 use Rattle.std.specs.Io.KnownBytes.{Keeps}
 use Rattle.maildir_run.specs.Delivery.{has_home}
 use Rattle.maildir_run.specs.Several.{Mailbox}
-use Rattle.maildir_disk.specs.PowerCuts.{AreSafe}
-use Rattle.maildir_commands.specs.Machines.{HeldMaildir, AreAllSafe, HasAlso, OthersStay}
+use Rattle.maildir_commands.specs.Machines.{HeldMaildir, AreAllSafe, HasAlso, IsSafeIn, OthersStay}
 use Rattle.maildir_commands.specs.Report.{IsReportOf, PrintsEach, PrintsOne, PrintsReport, PrintsSome}
 
 -- What came of delivering the texts: with Ok they are safe and each has its line, and
@@ -17,8 +16,9 @@ pub record Delivers {A E : Type 0} (answer : Result A E) (texts : List Mailbox) 
 
 -- What came of delivering one of them.
 pub record DeliversOne {A E : Type 0} (answer : Result A E) (text : Mailbox) (old new : HeldMaildir) (was is : Option (List ℕ)) : Type 0 where
-  pub safe : OnOk answer (AreSafe text.messages new.files new.may_leave new.rooted)
+  pub safe : OnOk answer (IsSafeIn new text)
   pub line : OnOk answer (PrintsReport was is (IsReportOf (has_home old.files) text))
   pub known : OnOk answer (HasAlso text.messages old.files new.files)
   pub stopped : OnErr answer (Keeps was is ⊎ PrintsOne old new text was is)
   pub stays : OthersStay (text ∷ []) old new
+  pub still_rooted : old.rooted → new.rooted

@@ -52,6 +52,7 @@ ran_none {s} {made} = record {
   honest = λ h. h;
   done_honestly = λ h. refl;
   left = λ h new may. (new, may, refl);
+  still_rooted = λ h r. r;
   quiet = λ q. q;
   done_quietly = λ q. refl;
   n = 0;
@@ -72,6 +73,7 @@ ran_then {xs} {ys} {a} {b} {c} {made} {mid} {made'} {fault} first then =
       done_honestly = λ h. done_then honestly xs ys a.files b.files c.files fault (first.done_honestly h) (then.done_honestly (first.honest h));
       left = λ h.
           left_then _ _ _ a.may_leave b.may_leave c.may_leave (λ x y z. done_then leaving xs ys x y z fault) (first.left h) (then.left (first.honest h));
+      still_rooted = λ h r. then.still_rooted (first.honest h) (first.still_rooted h r);
       quiet = λ q. then.quiet (first.quiet q);
       done_quietly = λ q. done_then quietly xs ys a.files b.files c.files fault (first.done_quietly q) (then.done_quietly (first.quiet q));
       n = first.n + then.n;
@@ -91,6 +93,7 @@ ran_before {xs} {a} {b} ys h =
       honest = h.honest;
       done_honestly = λ q. stopped_before honestly honestly_stops xs ys a.files b.files (h.done_honestly q);
       left = λ q. left_as _ _ a.may_leave b.may_leave (stopped_before leaving leaving_stops xs ys) (h.left q);
+      still_rooted = h.still_rooted;
       quiet = h.quiet;
       done_quietly = λ q. stopped_before quietly quietly_stops xs ys a.files b.files (h.done_quietly q);
       n = h.n;
@@ -108,6 +111,7 @@ ran_stop {xs} {a} {b} {made} {made'} reading h = record {
   honest = h.honest;
   done_honestly = λ q. all_stopped honestly xs a.files b.files (h.done_honestly q);
   left = λ q. left_as _ _ a.may_leave b.may_leave (all_stopped leaving xs) (h.left q);
+  still_rooted = h.still_rooted;
   quiet = h.quiet;
   done_quietly = λ q. all_stopped quietly xs a.files b.files (h.done_quietly q);
   n = h.n;
@@ -150,13 +154,14 @@ told_names (Err e) number = refl
 ran_one : {A : Type 0} {task : Task} {old new : Seen} {made made' : ℕ} (r : Result A FolderFault) {answer : Result A RunFault} → made' ≡ capped (made + 1)
     → answer ≡ run_answer made' r → (old.honest → new.honest) → (old.honest → Performs honestly (task ∷ []) old.files r new.files)
     → (old.honest → Follows (λ before now. Performs leaving (task ∷ []) before r now) old.may_leave new.may_leave)
-    → (old.quiet → new.quiet) → (old.quiet → Performs quietly (task ∷ []) old.files r new.files) → GoesUp old.calls new.calls
-    → CountsFailure r old.failures new.failures → Performed (task ∷ []) old new made made' (fault_of answer)
-ran_one {task} {old} {new} {made} {made'} r up is honest called left quiet alone counted cause =
+    → (old.honest → old.rooted → new.rooted) → (old.quiet → new.quiet) → (old.quiet → Performs quietly (task ∷ []) old.files r new.files)
+    → GoesUp old.calls new.calls → CountsFailure r old.failures new.failures → Performed (task ∷ []) old new made made' (fault_of answer)
+ran_one {task} {old} {new} {made} {made'} r up is honest called left rooted quiet alone counted cause =
     subst (λ x. Performed (task ∷ []) old new made made' (fault_of x)) (sym is) (record {
       honest = honest;
       done_honestly = λ h. run_performs honestly (task ∷ []) old.files r new.files made' (called h);
       left = λ h. left_as _ _ old.may_leave new.may_leave (λ before now. run_performs leaving (task ∷ []) before r now made') (left h);
+      still_rooted = rooted;
       quiet = quiet;
       done_quietly = λ q. run_performs quietly (task ∷ []) old.files r new.files made' (alone q);
       n = 1;
@@ -200,23 +205,24 @@ ask_quietly sub old (Err e) new h names = inl h
 pub ran_do : {A : Type 0} (call : Call) (old new : Seen) (made made' : ℕ) (r : Result A FolderFault) (answer : Result A RunFault)
     → made' ≡ capped (made + 1) → answer ≡ run_answer made' r → (old.honest → new.honest) → (old.honest → Called call old.files r new.files)
     → (old.honest → Follows (λ before now. LeavesOf call before r now) old.may_leave new.may_leave)
-    → (old.quiet → new.quiet) → (old.quiet → CalledQuietly call old.files r new.files) → GoesUp old.calls new.calls
+    → (old.honest → old.rooted → new.rooted) → (old.quiet → new.quiet) → (old.quiet → CalledQuietly call old.files r new.files) → GoesUp old.calls new.calls
     → CountsFailure r old.failures new.failures → Performed (Do call ∷ []) old new made made' (fault_of answer)
-ran_do call old new made made' r answer up is honest called left quiet alone =
+ran_do call old new made made' r answer up is honest called left rooted quiet alone =
     ran_one r up is honest (λ h. do_honestly call _ r _ (called h))
     (λ h. left_as _ _ old.may_leave new.may_leave (do_leaving call r) (left h))
-    quiet (λ q. do_quietly call _ r _ (alone q))
+    rooted quiet (λ q. do_quietly call _ r _ (alone q))
 
 -- a listing
 pub ran_ask : {sub : Sub} {old new : Seen} {made made' : ℕ} (r : Result (Vec (String Global) Global) FolderFault) {answer : Result (Vec (String Global) Global)
     RunFault} → made' ≡ capped (made + 1) → answer ≡ run_answer made' r → (old.honest → new.honest) → (old.honest → Listed sub old.files r new.files)
-    → (old.honest → Follows (λ before now. LeavesOf (Listing sub) before r now) old.may_leave new.may_leave) → (old.quiet → new.quiet)
+    → (old.honest → Follows (λ before now. LeavesOf (Listing sub) before r now) old.may_leave new.may_leave)
+    → (old.honest → old.rooted → new.rooted) → (old.quiet → new.quiet)
     → (old.quiet → CalledQuietly (Listing sub) old.files r new.files) → (old.quiet → IfOk r (λ v. IsPermutation (names_of v) (keys (folder_of sub old.files))))
     → GoesUp old.calls new.calls → CountsFailure r old.failures new.failures → Performed (Ask sub (names_in answer) ∷ []) old new made made' (fault_of answer)
-ran_ask {sub} {old} {new} {made} {made'} r {answer} up is honest called left quiet alone names counted cause =
+ran_ask {sub} {old} {new} {made} {made'} r {answer} up is honest called left rooted quiet alone names counted cause =
     rw (ap names_in is ∙ told_names r made') (ran_one r up is honest
     (λ h. ask_honestly sub _ r _ (called h)) (λ h. left_as _ _ old.may_leave new.may_leave (ask_leaving sub r) (left h))
-    quiet (λ q. ask_quietly sub _ r _ (alone q) (names q)) counted cause)
+    rooted quiet (λ q. ask_quietly sub _ r _ (alone q) (names q)) counted cause)
 
 -- one more step of a plan, which has these tasks
 module _ {X : Type 0} (f : X → List Task) (xs : List X) (i : ℕ) (x : X) (h : i < length xs)

@@ -31,18 +31,28 @@ pub record Seen : Type 1 where
   pub quiet : Type 0
   pub files : Files
   pub may_leave : Files → Type 0
+  pub rooted : Type 0
   pub calls : ℕ
   pub failures : ℕ
 
 -- what these say of a folder
 abbrev pub seen : {S : Type 0} → Ghosts S → S → Seen
-seen f s = record { honest = f.honest s; quiet = f.quiet s; files = f.files s; may_leave = f.may_leave s; calls = f.calls s; failures = f.failures s }
+seen f s = record {
+  honest = f.honest s;
+  quiet = f.quiet s;
+  files = f.files s;
+  may_leave = f.may_leave s;
+  rooted = f.rooted s;
+  calls = f.calls s;
+  failures = f.failures s;
+}
 
 -- A run that had made so many calls performed these tasks: all of them with no fault, and with one up to the one that was refused.
 pub record Performed (tasks : List Task) (old new : Seen) (made made' : ℕ) (fault : Option RunFault) : Type 0 where
   pub honest : old.honest → new.honest
   pub done_honestly : old.honest → DoneUntil honestly tasks old.files fault new.files
   pub left : old.honest → Follows (λ before now. DoneUntil leaving tasks before fault now) old.may_leave new.may_leave
+  pub still_rooted : old.honest → old.rooted → new.rooted
   pub quiet : old.quiet → new.quiet
   pub done_quietly : old.quiet → DoneUntil quietly tasks old.files fault new.files
   pub n : ℕ

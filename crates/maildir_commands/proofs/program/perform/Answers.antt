@@ -16,41 +16,25 @@ returns-in_err-answer-clause-some g c = λ h words maildir texts is_of these.
 
 pub returns-clause-rewritten_input : goal.returns-clause-rewritten_input
 returns-clause-rewritten_input g c = λ words is_of are.
-    on_ok_then _
-    (λ none. handed_all (writer_contents g.W.Write.contents c.args.out.now) (writer_contents g.W.Write.contents c.work-answer.new.out)
-    (writer_contents g.W.Write.contents c.flush-handed.new.out) (g.W.Write.contents c.flush-handed.new.out.inner) (writer_buffer c.flush-handed.new.out)
-    c.flush-handed.ensures.same refl none (flat_map spelling) (g.I.Read.remaining c.args.input.now) (c.in_ok-answer.ensures.rewritten_input words is_of are))
-    c.flush-handed.ensures.handed
+    on_ok_then _ (handed_all (flat_map spelling) _ _ _ _ (c.in_ok-answer.ensures.rewritten_input words is_of are)) c.flush-handed.ensures.whole
 
 pub returns-clause-rewritten : goal.returns-clause-rewritten
 returns-clause-rewritten g c = λ h file is_of.
-    on_ok_then _ (λ none. handed_all (writer_contents g.W.Write.contents c.args.out.now)
-    (writer_contents g.W.Write.contents c.work-answer.new.out) (writer_contents g.W.Write.contents c.flush-handed.new.out)
-    (g.W.Write.contents c.flush-handed.new.out.inner) (writer_buffer c.flush-handed.new.out) c.flush-handed.ensures.same refl none (flat_map spelling)
-    (Some (g.M.Machine.text_of c.args.machine.now file)) (c.in_ok-answer.ensures.rewritten h file is_of)) c.flush-handed.ensures.handed
+    let text = Some (g.M.Machine.text_of c.args.machine.now file) in
+    on_ok_then _ (handed_all (flat_map spelling) text _ _ _ (c.in_ok-answer.ensures.rewritten h file is_of)) c.flush-handed.ensures.whole
 
 pub returns-clause-listed_input : goal.returns-clause-listed_input
 returns-clause-listed_input g c = λ is_of.
-    on_ok_then _
-    (λ none. handed_all (writer_contents g.W.Write.contents c.args.out.now) (writer_contents g.W.Write.contents c.work-answer.new.out)
-    (writer_contents g.W.Write.contents c.flush-handed.new.out) (g.W.Write.contents c.flush-handed.new.out.inner) (writer_buffer c.flush-handed.new.out)
-    c.flush-handed.ensures.same refl none table_of (g.I.Read.remaining c.args.input.now) (c.in_ok-answer.ensures.listed_input is_of))
-    c.flush-handed.ensures.handed
+    on_ok_then _ (handed_all table_of _ _ _ _ (c.in_ok-answer.ensures.listed_input is_of)) c.flush-handed.ensures.whole
 
 pub returns-clause-listed : goal.returns-clause-listed
 returns-clause-listed g c = λ h file is_of.
-    on_ok_then _
-    (λ none. handed_all (writer_contents g.W.Write.contents c.args.out.now) (writer_contents g.W.Write.contents c.work-answer.new.out)
-    (writer_contents g.W.Write.contents c.flush-handed.new.out) (g.W.Write.contents c.flush-handed.new.out.inner) (writer_buffer c.flush-handed.new.out)
-    c.flush-handed.ensures.same refl none table_of (Some (g.M.Machine.text_of c.args.machine.now file)) (c.in_ok-answer.ensures.listed h file is_of))
-    c.flush-handed.ensures.handed
+    let text = Some (g.M.Machine.text_of c.args.machine.now file) in
+    on_ok_then _ (handed_all table_of text _ _ _ (c.in_ok-answer.ensures.listed h file is_of)) c.flush-handed.ensures.whole
 
 pub returns-clause-printed : goal.returns-clause-printed
 returns-clause-printed g c = λ maildir files is_of.
-    on_ok_then _
-    (λ none. handed_reports (writer_contents g.W.Write.contents c.args.out.now) (writer_contents g.W.Write.contents c.work-answer.new.out)
-    (writer_contents g.W.Write.contents c.flush-handed.new.out) (g.W.Write.contents c.flush-handed.new.out.inner) (writer_buffer c.flush-handed.new.out)
-    c.flush-handed.ensures.same refl none _ (c.in_ok-answer.ensures.printed maildir files is_of)) c.flush-handed.ensures.handed
+    on_ok_then _ (handed_reports _ _ _ _ (c.in_ok-answer.ensures.printed maildir files is_of)) c.flush-handed.ensures.whole
 
 pub returns-clause-safe : goal.returns-clause-safe
 returns-clause-safe g c = λ h words maildir texts is_of these.
@@ -58,10 +42,7 @@ returns-clause-safe g c = λ h words maildir texts is_of these.
 
 pub returns-clause-each : goal.returns-clause-each
 returns-clause-each g c = λ h words maildir texts is_of these.
-    on_ok_then _
-    (λ none. handed_each (writer_contents g.W.Write.contents c.args.out.now) (writer_contents g.W.Write.contents c.work-answer.new.out)
-    (writer_contents g.W.Write.contents c.flush-handed.new.out) (g.W.Write.contents c.flush-handed.new.out.inner) (writer_buffer c.flush-handed.new.out)
-    c.flush-handed.ensures.same refl none _ texts ((c.in_ok-answer.ensures.delivers h words maildir texts is_of these).each)) c.flush-handed.ensures.handed
+    on_ok_then _ (handed_each _ texts _ _ _ (c.in_ok-answer.ensures.delivers h words maildir texts is_of these).each) c.flush-handed.ensures.whole
 
 pub returns-clause-rewritten_front : goal.returns-clause-rewritten_front
 returns-clause-rewritten_front g c = λ h file is_of.

@@ -26,6 +26,7 @@ returns g c =
       unread = λ status. does.unread (is ∙ status);
       texts = does.texts;
       stay = does.stay;
+      others = does.others;
       elsewhere = does.elsewhere;
       nowhere = does.nowhere;
     }

@@ -120,7 +120,7 @@ returns-in_err-print_report-clause-stopped g c = λ honest t ms small p are soun
       true_of =
           of_reports
           (reports_after_run t ms are small _ _ report (c.in_ok-report.ensures.owes honest t small p) sound);
-      kept = record { home = safe.home; survive = safe.survive };
+      safe = safe;
       line = c.in_err-print_report.ensures.printed;
     }))
 

@@ -1,5 +1,6 @@
 use Rattle.std.proofs.Common.{◌≡◌, ◌+◌, ◌<◌, length, get_or, Some, string_bytes, refl, ap, sym, subst, ◌∙◌, arith}
 use Rattle.std.specs.Io.Buffered.{writer_contents}
+use Rattle.maildir_run.proofs.Tasks.QuietRuns.{foreign_then}
 use Rattle.maildir_commands.specs.Report.{PrintsReports}
 use Rattle.maildir_commands.proofs.Causes.{delivered_file, holds_behind, holds_first, of_fault, refused_file}
 use Rattle.maildir_commands.proofs.Delivered.{all_delivered, more_delivered, stopped_delivered, then_delivered}
@@ -37,6 +38,8 @@ loop-path-init g c = (
       (c.in_ok-deliver_one.ensures.delivers s first is_text possible one),
   λ h word is_open. is_open,
   λ h word refuses. refuses,
+  λ q. q,
+  λ q. (c.in_ok-deliver_one.ensures.quiet q, c.deliver_one.ensures.others q),
 )
 
 -- the next one
@@ -69,7 +72,23 @@ loop-path-preserved g c =
           more_delivered texts fit _ _ (i + 1) no_text _ _ _ _ _ inside so_far (c.in_ok-deliver_one-2.ensures.delivers now next is_text possible one),
       λ h word is_open. c.open.ensures.still_open (kept.1 h) word (kept.6 h word is_open),
       λ h word refuses. kept.7 h word (c.open.ensures.refusals (kept.1 h) word refuses),
+      λ q. c.open.ensures.quiet (kept.8 q),
+      λ q.
+          let so_far = kept.9 q in
+          (c.in_ok-deliver_one-2.ensures.quiet so_far.0, foreign_then _ _ _ so_far.1 (c.deliver_one-in-loop-path.ensures.others so_far.0)),
     )
+
+-- what is kept of other programs' files
+pub returns-in_err-deliver_one-2-clause-others : goal.returns-in_err-deliver_one-2-clause-others
+returns-in_err-deliver_one-2-clause-others g c = λ q.
+    let so_far = c.loop-path.invariant.9 q in
+    foreign_then _ _ _ so_far.1 (c.deliver_one-in-loop-path.ensures.others so_far.0)
+
+pub returns-in_err-source-clause-others : goal.returns-in_err-source-clause-others
+returns-in_err-source-clause-others g c = λ q. (c.loop-path.invariant.9 q).1
+
+pub returns-clause-others : goal.returns-clause-others
+returns-clause-others g c = λ q. (c.loop-path.invariant.9 q).1
 
 pub returns-in_err-deliver_one-2-clause-delivers : goal.returns-in_err-deliver_one-2-clause-delivers
 returns-in_err-deliver_one-2-clause-delivers g c = λ h s texts text is are fit sound.

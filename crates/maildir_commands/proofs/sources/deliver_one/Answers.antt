@@ -19,6 +19,7 @@ returns-in_err-deliver-clause-delivers g c = λ honest text is p sound.
     (c.in_err-deliver.ensures.stopped honest text.bytes text.messages is.small p is.are (sound_of_one sound) (intact_of_one sound))
     (λ others named alike. c.deliver.ensures.stays honest text.bytes text.messages others is.small p is.are
     (sound_of_one sound) named (All-head (λ (t : Mailbox). AreAlike others t.messages) text [] alike))
+    (c.deliver.ensures.still_rooted honest)
 
 pub returns-clause-printed : goal.returns-clause-printed
 returns-clause-printed g c =
@@ -39,12 +40,13 @@ returns-clause-delivers g c = λ honest text is p sound.
       stopped = on_err _ c.flush.result (inr (record {
         report = printed.report;
         true_of = true_of;
-        kept = record { home = safe.home; survive = safe.survive };
+        safe = safe;
         line = front_of_all _ _ line;
       }));
       stays = λ others named alike.
           c.deliver.ensures.stays honest text.bytes text.messages others is.small p is.are
           (sound_of_one sound) named (All-head (λ (t : Mailbox). AreAlike others t.messages) text [] alike);
+      still_rooted = c.deliver.ensures.still_rooted honest;
     }
 
 pub returns-clause-cause : goal.returns-clause-cause

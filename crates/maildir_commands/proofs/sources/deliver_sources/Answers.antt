@@ -6,7 +6,7 @@ use Rattle.maildir_commands.specs.Machines.{Rests, bytes_of, held}
 use Rattle.maildir_commands.proofs.Causes.{files_before, holds_first, of_fault, of_files, of_input, of_maildir, refused_file}
 use Rattle.maildir_commands.proofs.Delivered.{closed, none_delivered, one_delivered}
 use Rattle.maildir_commands.proofs.Forms.{none_named}
-use Rattle.maildir_commands.proofs.Resting.{rest_then}
+use Rattle.maildir_commands.proofs.Resting.{foreign_same, foreign_within, rest_then}
 use Rattle.maildir_commands.proofs.Several.{no_text, none_given, only_first, only_length, rest_sound, some_given, sound_of, text_read}
 use Rattle.maildir_commands.proofs.sources.deliver_sources.Goals as goal
 
@@ -35,7 +35,7 @@ returns-in_default-clause-elsewhere g c = λ h word other.
 
 pub returns-in_default-clause-delivers : goal.returns-in_default-clause-delivers
 returns-in_default-clause-delivers g c = λ h texts given fit sound.
-    let system = held g.M.Maildir.System.world g.M.Maildir.System.may_leave g.M.Maildir.System.rooted in
+    let system = held g.M.Maildir.System in
     let one = none_given texts (g.M.Machine.text_of c.args.machine.now) string_bytes _ _ c.args.files.now given (search rules) in
     let many = only_length one.1 in
     let inside : 0 < length texts = omega (arith, many) in
@@ -73,12 +73,41 @@ returns-clause-delivers g c = λ h texts given fit sound.
     string_bytes _ _ c.args.files.now given c.in-Some.first.now c.in-Some.rest.now c.in-Some.ensures.cases.0 in
     let these = subst (λ (f : List ℕ → List ℕ). bytes_of texts ≡ first ∷ map (λ file. f (string_bytes file)) c.in-Some.rest.now) (sym same) bytes in
     let reads = text_read {now = g.M.Machine.text_of c.args.machine.now} (c.in_ok-source.ensures.text h) refl c.as_str.ensures.value in
-    let system = held g.M.Maildir.System.world g.M.Maildir.System.may_leave g.M.Maildir.System.rooted in
+    let system = held g.M.Maildir.System in
     let closes = subst (λ s. Rests (system s) (g.M.Machine.maildir_at c.close_maildir-2.new.self c.args.maildir.now)) c.into_system-2.ensures
     (c.close_maildir-2.ensures.closes (c.deliver_each-answer.ensures.honest honest)
     (c.deliver_each-answer.ensures.still_open honest c.args.maildir.now (c.in_ok-folder-2.ensures.open opened))) in
     closed c.deliver_each-answer.result texts fit.are _ _ _ _ _ _ opens closes
     (c.deliver_each-answer.ensures.delivers honest works texts first reads these fit ready)
+
+-- ---- what is kept of other programs' files
+pub returns-in_err-folder-clause-others : goal.returns-in_err-folder-clause-others
+returns-in_err-folder-clause-others g c = λ q. foreign_same refl (c.in_err-folder.ensures.rests_quietly q)
+
+pub returns-in_err-source-clause-others : goal.returns-in_err-source-clause-others
+returns-in_err-source-clause-others g c = λ q. foreign_same refl (c.open.ensures.quietly q c.args.maildir.now)
+
+pub returns-in_err-folder-2-clause-others : goal.returns-in_err-folder-2-clause-others
+returns-in_err-folder-2-clause-others g c = λ q.
+    foreign_same (c.open.ensures.quietly q c.args.maildir.now) (c.in_err-folder-2.ensures.rests_quietly (c.open.ensures.quiet q))
+
+pub returns-in_default-clause-others : goal.returns-in_default-clause-others
+returns-in_default-clause-others g c = λ q.
+    let opened = c.open_folder.ensures.quiet q in
+    foreign_within (c.in_ok-folder.ensures.opens_quietly q) (c.deliver_one-answer.ensures.others (c.in_ok-folder.ensures.works_quietly q))
+    (c.close_maildir.ensures.closes_quietly opened
+    (c.in_ok-folder.ensures.open (g.met.M.Machine.quiet_is_honest _ q)) ∙ ap (λ s. (g.M.Maildir.System.world s).files) c.into_system.ensures)
+
+pub returns-clause-others : goal.returns-clause-others
+returns-clause-others g c = λ q.
+    let named = c.open.ensures.quiet q in
+    let opened = c.open_folder-2.ensures.quiet named in
+    let honest = g.met.M.Machine.quiet_is_honest _ opened in
+    foreign_within (c.in_ok-folder-2.ensures.opens_quietly named ∙ c.open.ensures.quietly q c.args.maildir.now)
+    (c.deliver_each-answer.ensures.others (c.in_ok-folder-2.ensures.works_quietly named))
+    (c.close_maildir-2.ensures.closes_quietly (c.deliver_each-answer.ensures.quiet opened)
+    (c.deliver_each-answer.ensures.still_open honest c.args.maildir.now
+    (c.in_ok-folder-2.ensures.open (g.met.M.Machine.quiet_is_honest _ named))) ∙ ap (λ s. (g.M.Maildir.System.world s).files) c.into_system-2.ensures)
 
 -- ---- why it ended with a fault
 pub returns-in_err-folder-clause-cause : goal.returns-in_err-folder-clause-cause

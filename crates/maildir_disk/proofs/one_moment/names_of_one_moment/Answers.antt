@@ -6,7 +6,12 @@ use Rattle.maildir_disk.proofs.one_moment.names_of_one_moment.Goals as goal
 
 pub loop-init : goal.loop-init
 loop-init g c = record {
-  acted = λ honest. record { honest = c.instant.ensures.honest honest; acts = c.instant.ensures.acts honest; left = c.instant.ensures.left honest };
+  acted = λ honest. record {
+    honest = c.instant.ensures.honest honest;
+    acts = c.instant.ensures.acts honest;
+    left = c.instant.ensures.left honest;
+    still_rooted = c.instant.ensures.still_rooted honest;
+  };
   quietly = λ quiet. (c.instant.ensures.quiet quiet, c.instant.ensures.quietly quiet);
 }
 
@@ -23,6 +28,9 @@ loop-preserved g c = record {
         left =
             left_by_others_then (left_by_others_then kept.left (c.take_names.ensures.left kept.honest))
             (left_by_others_then (c.instant-in-loop.ensures.left still) (c.sleep.ensures.left timed));
+        still_rooted = λ rooted.
+            c.sleep.ensures.still_rooted timed
+            (c.instant-in-loop.ensures.still_rooted still (c.take_names.ensures.still_rooted kept.honest (kept.still_rooted rooted)));
       };
   quietly = λ quiet.
       let kept = c.loop.invariant.quietly quiet in

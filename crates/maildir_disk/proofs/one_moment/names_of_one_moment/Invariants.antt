@@ -8,6 +8,7 @@ invariant-loop g l = record {
     honest : g.S.System.honest l.system;
     acts : Acts (g.S.System.world l.fn.system) (g.S.System.world l.system);
     left : Follows LeftByOthers (g.S.System.may_leave l.fn.system) (g.S.System.may_leave l.system);
+    still_rooted : g.S.System.rooted l.fn.system → g.S.System.rooted l.system;
   };
   quietly : g.S.System.quiet l.fn.system → g.S.System.quiet l.system × SameFiles (g.S.System.world l.fn.system) (g.S.System.world l.system);
 }

@@ -25,6 +25,9 @@ returns-in_default-2 g c = record {
       let told = c.stamp.ensures.honest honest in
       left_by_others_then (left_by_others_then (c.stamp.ensures.left honest) (c.now.ensures.left told))
       (c.watched_names.ensures.left (c.now.ensures.honest told));
+  still_rooted = λ honest rooted.
+      let told = c.stamp.ensures.honest honest in
+      c.watched_names.ensures.still_rooted (c.now.ensures.honest told) (c.now.ensures.still_rooted told (c.stamp.ensures.still_rooted honest rooted));
   quiet = λ quiet. c.watched_names.ensures.quiet (c.now.ensures.quiet (c.stamp.ensures.quiet quiet));
   quietly = λ quiet.
       let told = c.stamp.ensures.quiet quiet in
@@ -77,6 +80,11 @@ returns-in_default-of g c = record {
       let timed = c.now.ensures.honest told in
       let so_far = left_by_others_then (left_by_others_then (c.stamp.ensures.left honest) (c.now.ensures.left told)) (c.watched_names.ensures.left timed) in
       left_by_others_then so_far (c.now-2.ensures.left (c.watched_names.ensures.honest timed));
+  still_rooted = λ honest rooted.
+      let told = c.stamp.ensures.honest honest in
+      let timed = c.now.ensures.honest told in
+      let so_far = c.now.ensures.still_rooted told (c.stamp.ensures.still_rooted honest rooted) in
+      c.now-2.ensures.still_rooted (c.watched_names.ensures.honest timed) (c.watched_names.ensures.still_rooted timed so_far);
   quiet = λ quiet. c.now-2.ensures.quiet (c.watched_names.ensures.quiet (c.now.ensures.quiet (c.stamp.ensures.quiet quiet)));
   quietly = λ quiet.
       let told = c.stamp.ensures.quiet quiet in

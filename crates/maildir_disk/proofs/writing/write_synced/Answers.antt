@@ -19,6 +19,7 @@ loop-init g c = record {
     current = c.in_ok-file.ensures.current honest;
     holds = inl (c.in_ok-file.ensures.created honest);
     left = c.create.ensures.left honest;
+    still_rooted = c.create.ensures.still_rooted honest;
   };
   quietly = λ quiet. record { quiet = c.create.ensures.quiet quiet; holds = (c.in_ok-file.ensures.quietly quiet).1 };
 }
@@ -43,6 +44,7 @@ loop-preserved g c =
                       rw (w.at-is, ← taken bytes at n)
                       (written_changed _ _ more kept.holds (rw kept.named at (w.in-Ok.ensures.appended kept.honest kept.current)));
                   left = left_both kept.left (rw kept.named at (c.append.ensures.left kept.honest));
+                  still_rooted = λ rooted. c.append.ensures.still_rooted kept.honest (kept.still_rooted rooted);
                 };
             quietly = λ quiet.
                 let kept = c.loop.invariant.quietly quiet in
@@ -67,6 +69,7 @@ loop-preserved g c =
                 | inr other ↦ absurd (other.0 (search rules))
               ];
               left = left_both kept.left (rw kept.named at (c.append.ensures.left kept.honest));
+              still_rooted = λ rooted. c.append.ensures.still_rooted kept.honest (kept.still_rooted rooted);
             };
         quietly = λ quiet.
             let kept = c.loop.invariant.quietly quiet in

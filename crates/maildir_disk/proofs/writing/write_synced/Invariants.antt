@@ -12,6 +12,7 @@ invariant-loop g l = record {
     current : g.S.System.is_current l.system l.file;
     holds : Written l.name (take l.at l.bytes) (g.S.System.world l.fn.system) (g.S.System.world l.system);
     left : Follows (Leaves (Writing l.name [])) (g.S.System.may_leave l.fn.system) (g.S.System.may_leave l.system);
+    still_rooted : g.S.System.rooted l.fn.system → g.S.System.rooted l.system;
   };
   quietly : g.S.System.quiet l.fn.system → record {
     quiet : g.S.System.quiet l.system;

@@ -10,6 +10,7 @@ returns g c =
       honest = run.ran.honest;
       as_planned = owes_planned run c.requires;
       left = owes_left run c.requires;
+      still_rooted = run.ran.still_rooted;
       owes = owes_run run c.requires;
       restartable = owes_restart run c.requires;
       end = owes_end run c.requires;

@@ -1,6 +1,6 @@
 use Rattle.std.proofs.Common.{Some, sym, ap, rules, ◌∙◌}
 use Rattle.std.proofs.lemmas.Map.Text.{btree_map_updates_text}
-use Rattle.maildir_commands.proofs.MemMachines.{found_rests, others_rest, same_rests, still_quiet}
+use Rattle.maildir_commands.proofs.MemMachines.{found_files, found_rests, others_rest, same_rests, still_all}
 use Rattle.maildir_commands.proofs.mem_machine.MemMachineMachine.open_maildir.Goals as goal
 
 pub returns-in_default-clause-others : goal.returns-in_default-clause-others
@@ -8,7 +8,7 @@ returns-in_default-clause-others c = λ h word other. same_rests c.get_mut.follo
 
 pub returns-in-Some-take-clause-honest : goal.returns-in-Some-take-clause-honest
 returns-in-Some-take-clause-honest c = λ h.
-    still_quiet c.args.self.now.maildirs (c.get_mut.follows.lender c.take.new.self) c.args.path.now c.take.new.self
+    still_all c.args.self.now.maildirs (c.get_mut.follows.lender c.take.new.self) c.args.path.now c.take.new.self
     (btree_map_updates_text c.args.path.now c.args.self.now.maildirs (c.get_mut.follows.lender c.take.new.self)
     (Some c.take.new.self) ((c.get_mut.follows.holds c.take.new.self).3 (search rules))) h c.take.ensures.after
 
@@ -20,7 +20,7 @@ returns-in-Some-take-clause-others c = λ h word other.
 
 pub returns-in-None-clause-honest : goal.returns-in-None-clause-honest
 returns-in-None-clause-honest c = λ h.
-    still_quiet c.args.self.now.maildirs (c.get_mut.follows.lender c.take.new.self) c.args.path.now c.take.new.self
+    still_all c.args.self.now.maildirs (c.get_mut.follows.lender c.take.new.self) c.args.path.now c.take.new.self
     (btree_map_updates_text c.args.path.now c.args.self.now.maildirs (c.get_mut.follows.lender c.take.new.self)
     (Some c.take.new.self) ((c.get_mut.follows.holds c.take.new.self).3 (search rules))) h c.take.ensures.after
 
@@ -37,4 +37,26 @@ returns-in-Some-take-clause-works c = λ h.
 pub returns-in-Some-take-clause-opens : goal.returns-in-Some-take-clause-opens
 returns-in-Some-take-clause-opens c = λ h.
     found_rests c.args.self.now.maildirs c.args.path.now
+    (sym c.in-Some.ensures.value ∙ ap Some (sym c.take.ensures.value ∙ c.in-Some-take.is))
+
+-- ---- where no other program acts
+pub returns-in-Some-take-clause-quiet : goal.returns-in-Some-take-clause-quiet
+returns-in-Some-take-clause-quiet c = λ h.
+    still_all c.args.self.now.maildirs (c.get_mut.follows.lender c.take.new.self) c.args.path.now c.take.new.self
+    (btree_map_updates_text c.args.path.now c.args.self.now.maildirs (c.get_mut.follows.lender c.take.new.self)
+    (Some c.take.new.self) ((c.get_mut.follows.holds c.take.new.self).3 (search rules))) h c.take.ensures.after
+
+pub returns-in-None-clause-quiet : goal.returns-in-None-clause-quiet
+returns-in-None-clause-quiet c = λ h.
+    still_all c.args.self.now.maildirs (c.get_mut.follows.lender c.take.new.self) c.args.path.now c.take.new.self
+    (btree_map_updates_text c.args.path.now c.args.self.now.maildirs (c.get_mut.follows.lender c.take.new.self)
+    (Some c.take.new.self) ((c.get_mut.follows.holds c.take.new.self).3 (search rules))) h c.take.ensures.after
+
+pub returns-in-Some-take-clause-works_quietly : goal.returns-in-Some-take-clause-works_quietly
+returns-in-Some-take-clause-works_quietly c = λ h.
+    h c.args.path.now c.in-Some-take.maildir (sym c.in-Some.ensures.value ∙ ap Some (sym c.take.ensures.value ∙ c.in-Some-take.is))
+
+pub returns-in-Some-take-clause-opens_quietly : goal.returns-in-Some-take-clause-opens_quietly
+returns-in-Some-take-clause-opens_quietly c = λ h.
+    found_files c.args.self.now.maildirs c.args.path.now
     (sym c.in-Some.ensures.value ∙ ap Some (sym c.take.ensures.value ∙ c.in-Some-take.is))

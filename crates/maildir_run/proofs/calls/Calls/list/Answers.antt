@@ -5,4 +5,4 @@ pub returns-clause-ran : goal.returns-clause-ran
 returns-clause-ran g c =
     let says = c.list-answer.ensures in
     ran_ask _ c.answer.ensures.made c.answer.ensures.is
-    says.honest says.called says.left says.quiet says.quietly says.names says.counted says.cause
+    says.honest says.called says.left says.still_rooted says.quiet says.quietly says.names says.counted says.cause

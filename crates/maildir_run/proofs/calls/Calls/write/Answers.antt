@@ -6,4 +6,4 @@ pub returns-clause-ran : goal.returns-clause-ran
 returns-clause-ran g c =
     let says = c.write-answer.ensures in
     ran_do _
-    _ _ _ _ _ _ c.answer.ensures.made c.answer.ensures.is says.honest says.called says.left says.quiet says.quietly says.counted says.cause
+    _ _ _ _ _ _ c.answer.ensures.made c.answer.ensures.is says.honest says.called says.left says.still_rooted says.quiet says.quietly says.counted says.cause
