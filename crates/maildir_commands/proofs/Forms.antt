@@ -13,7 +13,3 @@ map_both f g (x ∷ xs) = ap (λ ys. f (g x) ∷ ys) (map_both f g xs)
 pub none_named : {X : Type 0} (g : X → List ℕ) (xs : List X) → length xs ≡ 0 → map g xs ≡ []
 none_named g [] e = refl
 none_named g (x ∷ xs) e = cc
-
-pub named_none : {X : Type 0} (g : X → List ℕ) (xs : List X) → [] ≡ map g xs → length xs ≡ 0
-named_none g [] e = refl
-named_none g (x ∷ xs) e = cc

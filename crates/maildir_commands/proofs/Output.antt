@@ -2,7 +2,7 @@
 use Rattle.std.proofs.Common.{◌≡◌, ℕ, List, [], ◌++◌, length, take, Option, Some, None, sym, ap, subst, ◌∙◌, append-nil}
 use Rattle.std.proofs.KnownBytes.{Appends-kept}
 use Rattle.std.proofs.Math.Seq.{take-length}
-use Rattle.std.specs.Io.KnownBytes.{Appends, IsAtEnd, Keeps, append_known}
+use Rattle.std.specs.Io.KnownBytes.{Appends, IsAtEnd, Keeps}
 use Rattle.std.specs.List.{flat_map}
 use Rattle.mbox_text.specs.declared.entry.Entry.{Entry}
 use Rattle.mbox_text.proofs.Reading.OneReading.{mbox-one}
@@ -15,16 +15,6 @@ use Rattle.maildir_run.specs.Several.{Mailbox}
 use Rattle.maildir_commands.proofs.Several.{front_of_all}
 
 -- what was given to a buffer that was handed on whole
-pub handed_on : (given kept inner : Option (List ℕ)) (pending : List ℕ) → Keeps given kept → kept ≡ append_known inner pending → pending ≡ []
-    → Keeps given inner
-handed_on None kept inner pending keeps is none = tt
-handed_on (Some y) None inner pending keeps is none = absurd keeps
-handed_on (Some y) (Some z) None pending keeps is none = cc
-handed_on (Some y) (Some z) (Some i) pending keeps is none =
-    let same : Some z ≡ Some i = is ∙ ap Some (ap (λ p. i ++ p) none ∙ append-nil i) in
-    let inner_is : z ≡ i = cc in
-    sym inner_is ∙ keeps
-
 pub handed_all : (output : List Entry → List ℕ) (source was given inner : Option (List ℕ))
     → WritesAll output source was given → Keeps given inner → WritesAll output source was inner
 handed_all output None was given inner (count, all) keeps = (count, all)

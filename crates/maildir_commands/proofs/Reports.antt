@@ -1,5 +1,5 @@
 -- Lines of runs that are printed one after the other.
-use Rattle.std.proofs.Common.{◌≡◌, OnOk, Result, Ok, Err, ℕ, ◌+◌, Option, List, [], ◌∷◌, ◌++◌, length, refl, sym, ◌∙◌, ap, subst, append-nil}
+use Rattle.std.proofs.Common.{ℕ, ◌+◌, Option, List, [], ◌∷◌, ◌++◌, length, refl, sym, ◌∙◌, ap, subst, append-nil}
 use Rattle.std.proofs.KnownBytes.{Appends-trans}
 use Rattle.std.proofs.lemmas.List.{length-append}
 use Rattle.std.proofs.lemmas.List.Concat.{flat_map-append}
@@ -12,11 +12,6 @@ use Rattle.maildir_commands.specs.Report.{PrintsReport, PrintsReports, report_li
 pub one_report : {was is : Option (List ℕ)} (as_said : Report → Type 0) → PrintsReport was is as_said → PrintsReports was is 1
 one_report {was} {is} as_said printed =
     (printed.report ∷ [], refl, subst (Appends was is) (sym (append-nil (report_line printed.report))) printed.line)
-
-pub one_answered : {A E : Type 0} (was is : Option (List ℕ)) (as_said : Report → Type 0) (runs : ℕ) (outcome : Result A E)
-    → runs ≡ 1 → OnOk outcome (PrintsReport was is as_said) → OnOk outcome (PrintsReports was is runs)
-one_answered was is as_said runs (Ok _) one printed = subst (PrintsReports was is) (sym one) (one_report as_said printed)
-one_answered was is as_said runs (Err _) one printed = tt
 
 -- so many lines, and more behind them
 pub more_reports : (was mid is : Option (List ℕ)) {n m : ℕ} → PrintsReports was mid n → PrintsReports mid is m → PrintsReports was is (n + m)

@@ -323,10 +323,6 @@ pub on_ok_then : {A E : Type 0} (answer : Result A E) {P Q : Type 0} → (P → 
 on_ok_then (Ok x) f h = f h
 on_ok_then (Err e) f h = tt
 
-pub on_err_then : {A E : Type 0} (answer : Result A E) (P Q : Type 0) → (P → Q) → OnErr answer P → OnErr answer Q
-on_err_then (Ok x) P Q f h = tt
-on_err_then (Err e) P Q f h = f h
-
 pub on_err : {A E : Type 0} (P : Type 0) (answer : Result A E) → P → OnErr answer P
 on_err P (Ok x) h = tt
 on_err P (Err e) h = h

@@ -1,5 +1,4 @@
 use Rattle.std.proofs.Common.{Some, refl, inl, inr}
-use Rattle.std.specs.Io.Buffered.{writer_buffer, writer_contents}
 use Rattle.std.specs.List.{flat_map}
 use Rattle.mbox_text.specs.Spelling.{spelling}
 use Rattle.maildir_run.specs.Table.{table_of}

@@ -1,6 +1,5 @@
 use Rattle.std.proofs.Common.{Err, ap}
 use Rattle.maildir_commands.specs.declared.command.Command.TheVariants as command
-use Rattle.maildir_commands.specs.declared.fault.Fault.TheVariants.{Run}
 use Rattle.maildir_commands.specs.Causes.{files_of}
 use Rattle.maildir_commands.proofs.Causes.{of_fault, of_read_file, of_read_input, of_reads}
 use Rattle.maildir_commands.proofs.Resting.{rest_same}

@@ -2,7 +2,6 @@ use Rattle.std.proofs.Common.{Err, ap, inr, rules}
 use Rattle.maildir_run.proofs.Chains.Chains.{sound_now}
 use Rattle.maildir_disk.proofs.Kept.Others.{stays_after_run, stays_after_both}
 use Rattle.maildir_disk.proofs.Kept.Safety.{intact_after_run, intact_after_both, survive_after_run, survive_after_both, safe_after_both, reports_after_run}
-use Rattle.maildir_commands.specs.declared.fault.Fault.TheVariants.{Run}
 use Rattle.maildir_commands.specs.Causes.{IsPossibly}
 use Rattle.maildir_commands.proofs.Causes.{long_possible, of_fault, of_run}
 use Rattle.maildir_commands.proofs.Known.{both_have, of_reports}
