@@ -1,5 +1,5 @@
 // A machine in memory.
-ghost use Rattle.std.specs.Prelude.{◌≡◌, ℕ, List, false, None, Some, IfSome, IsSome, IsTrue, OnOk, string_bytes};
+ghost use Rattle.std.specs.Prelude.{◌≡◌, ℕ, List, false, None, Some, IfSome, IsNone, IsSome, IsTrue, OnOk, string_bytes};
 ghost use Rattle.std.specs.BTreeMap.{get_by_text};
 ghost use Rattle.std.specs.Str.{bytes_eq};
 ghost use Rattle.maildir_run.specs.MemFolder.{IsQuiet};
@@ -57,7 +57,8 @@ impl<'a> MemMachine<'a> {
 
     /// The Maildir under a word.
     pub fn maildir(&self, word: &str) -> Option<&MemSystem>
-        ensures { IfSome result (λ maildir. get_by_text self.now.maildirs word.now ≡ Some (Some maildir.now)) }
+        ensures there { IfSome result (λ maildir. get_by_text self.now.maildirs word.now ≡ Some (Some maildir.now)) }
+        ensures none { IsNone result → (maildir : MemSystem) → ¬ (get_by_text self.now.maildirs word.now ≡ Some (Some maildir)) }
     {
         match self.maildirs.get(word) {
             Some(Some(maildir)) => Some(maildir),

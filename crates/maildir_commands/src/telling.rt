@@ -1,5 +1,5 @@
 // The line on standard error.
-ghost use Rattle.std.specs.Prelude.{◌≡◌, IfSome};
+ghost use Rattle.std.specs.Prelude.{◌≡◌, IfErr, IfSome};
 ghost use Rattle.mbox_text.specs.Writing.{Writes};
 ghost use Rattle.maildir_commands.specs.Faults.{told};
 
@@ -13,7 +13,8 @@ const LINE_BYTES: usize = 128;
 
 /// Writes the line of a fault to standard error, in one piece.
 pub fn tell<D: Display + Drop, E: Write>(fault: D, err: &mut E) -> Result<(), TextFault>
-    ensures { IfSome (D.output fault) (λ text. Writes (E.contents err.old) (E.contents err.new) result (told text)) }
+    ensures told { IfSome (D.output fault) (λ text. Writes (E.contents err.old) (E.contents err.new) result (told text)) }
+    ensures causes { IfErr result (λ fault. fault ≡ TextFault.WriteFault) }
 {
     let mut line = ArrayVec::<u8, LINE_BYTES>::new();
     match writeln!(line, "mbox2maildir: {fault}") {

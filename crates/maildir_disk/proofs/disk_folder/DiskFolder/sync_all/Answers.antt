@@ -35,7 +35,7 @@ returns-clause-synced g c = λ honest.
       one.0,
       one.1,
       record {
-        mid = record { files = (g.S.System.world c.sync_folder.new.self).files; left = two.0 };
+        mid = record { files = _; left = two.0 };
         first = one.2;
         then = kept_later two.2 (c.sync_root.ensures.acts second) three.2;
       },
