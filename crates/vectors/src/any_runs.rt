@@ -11,7 +11,7 @@ use std::test::Fail;
 pub(crate) type Due<'a> = (&'a str, &'a [u8]);
 
 /// A text, and its messages in order.
-pub(crate) type Text<'a> = (&'a [u8], &'a [Due<'a>]);
+pub(crate) type Mailbox<'a> = (&'a [u8], &'a [Due<'a>]);
 
 // Numbers that look random: a linear congruential generator (Knuth's, for 64 bits).
 #[derive(Drop)]
@@ -177,7 +177,7 @@ fn run_disturbed(
     alloc: Global,
     dice: &mut Dice,
     folder: &mut MemFolder,
-    (text, messages): Text<'_>,
+    (text, messages): Mailbox<'_>,
 ) -> Result<Answer, AllocError> {
     let lines = any_script(alloc, dice, messages)?;
     let fail_from = match dice.below(3) {
@@ -193,11 +193,11 @@ fn are_disturbed(
     alloc: Global,
     dice: &mut Dice,
     folder: &mut MemFolder,
-    text: Text<'_>,
+    mailbox: Mailbox<'_>,
     stops: &mut Stops,
 ) -> Result<bool, AllocError> {
     for _ in 0..dice.below(7) {
-        if !stops.count(run_disturbed(alloc, dice, folder, text)?) {
+        if !stops.count(run_disturbed(alloc, dice, folder, mailbox)?) {
             return Ok(false);
         }
     }
@@ -208,7 +208,7 @@ fn are_disturbed(
 fn is_repaired(
     alloc: Global,
     folder: &mut MemFolder,
-    (text, messages): Text<'_>,
+    (text, messages): Mailbox<'_>,
 ) -> Result<bool, FolderFault> {
     folder.script(Vec::new(alloc), None);
     if run_over(alloc, folder, text).is_err() {
@@ -221,18 +221,18 @@ fn is_repaired(
 fn ends_delivered(
     alloc: Global,
     seed: u64,
-    text: Text<'_>,
+    mailbox: Mailbox<'_>,
     stops: &mut Stops,
 ) -> Result<bool, Fail> {
     let mut dice = Dice { state: seed };
     let mut folder = MemFolder::new(alloc);
     Ok(
-        are_disturbed(alloc, &mut dice, &mut folder, text, stops)?
-            && is_repaired(alloc, &mut folder, text)?,
+        are_disturbed(alloc, &mut dice, &mut folder, mailbox, stops)?
+            && is_repaired(alloc, &mut folder, mailbox)?,
     )
 }
 
-const TEXTS: &[Text<'_>; 4] = &[
+const MAILBOXES: &[Mailbox<'_>; 4] = &[
     (THREE, &[(EMPTY_ONE, b""), (EMPTY_TWO, b""), (ABC, b"abc")]),
     (
         b"From a\nx\n\nFrom b\nx\n\nFrom c\n>From y\n\n",
@@ -295,9 +295,9 @@ fn any_broken_and_disturbed_runs(rt: HostRuntime) -> Result<(), Fail> {
         absent: 0,
     };
     for seed in 0..500u64 {
-        let text = TEXTS[(seed % 4) as usize];
+        let mailbox = MAILBOXES[(seed % 4) as usize];
         assert!(rt;
-            ends_delivered(rt.alloc(), seed, text, &mut stops)?,
+            ends_delivered(rt.alloc(), seed, mailbox, &mut stops)?,
             "seed {seed}"
         );
     }

@@ -1,6 +1,6 @@
 // Lists of texts in any order, with broken and disturbed runs between: they share the messages that are equal. The bases
 // are another program's.
-use crate::any_runs::{Dice, Due, Text, any_script, is_delivered, ours};
+use crate::any_runs::{Dice, Due, Mailbox, any_script, is_delivered, ours};
 use crate::runs::{ABC, EMPTY_ONE, EMPTY_TWO, THREE, TWO_EMPTY, run_over};
 use maildir_run::{MemFolder, Sub};
 use std::alloc::{AllocError, Global};
@@ -12,7 +12,7 @@ fn disturb(
     alloc: Global,
     dice: &mut Dice,
     folder: &mut MemFolder,
-    (text, messages): Text<'_>,
+    (text, messages): Mailbox<'_>,
 ) -> Result<(), AllocError> {
     let lines = any_script(alloc, dice, messages)?;
     folder.script(lines, Some(1 + dice.below(12) as u64));
@@ -26,10 +26,10 @@ fn run_over_all(
     alloc: Global,
     dice: &mut Dice,
     folder: &mut MemFolder,
-    texts: &[Text<'_>],
+    mailboxes: &[Mailbox<'_>],
 ) -> Result<bool, AllocError> {
-    for (text, _) in texts {
-        for other in texts {
+    for (text, _) in mailboxes {
+        for other in mailboxes {
             if dice.below(2) == 0 {
                 disturb(alloc, dice, folder, *other)?;
             }
@@ -49,9 +49,13 @@ fn add_bases<'a>(messages: &[Due<'a>], bases: &mut BTreeSet<&'a str>) -> Result<
 }
 
 // Whether each message of each text is there once, and no other name is ours.
-fn are_shared(alloc: Global, folder: &mut MemFolder, texts: &[Text<'_>]) -> Result<bool, Fail> {
+fn are_shared(
+    alloc: Global,
+    folder: &mut MemFolder,
+    mailboxes: &[Mailbox<'_>],
+) -> Result<bool, Fail> {
     let mut bases = BTreeSet::new(alloc);
-    for (_, messages) in texts {
+    for (_, messages) in mailboxes {
         add_bases(messages, &mut bases)?;
         if !is_delivered(folder, messages)? {
             return Ok(false);
@@ -79,7 +83,7 @@ const QUOTED: Due<'_> = (
     b"From r\n",
 );
 
-const TEXTS: &[Text<'_>; 6] = &[
+const MAILBOXES: &[Mailbox<'_>; 6] = &[
     (TWO_EMPTY, &[(EMPTY_ONE, b""), (EMPTY_TWO, b"")]),
     (b"From c\n\n", &[(EMPTY_ONE, b"")]),
     (
@@ -97,27 +101,30 @@ const TEXTS: &[Text<'_>; 6] = &[
     ),
 ];
 
-fn any_text(dice: &mut Dice) -> Text<'static> {
-    TEXTS[dice.below(6)]
+fn any_mailbox(dice: &mut Dice) -> Mailbox<'static> {
+    MAILBOXES[dice.below(6)]
 }
 
 // Runs over texts: whether each message is there once then.
-fn are_delivered(alloc: Global, dice: &mut Dice, texts: &[Text<'_>]) -> Result<bool, Fail> {
+fn are_delivered(alloc: Global, dice: &mut Dice, mailboxes: &[Mailbox<'_>]) -> Result<bool, Fail> {
     let mut folder = MemFolder::new(alloc);
-    Ok(run_over_all(alloc, dice, &mut folder, texts)? && are_shared(alloc, &mut folder, texts)?)
+    Ok(
+        run_over_all(alloc, dice, &mut folder, mailboxes)?
+            && are_shared(alloc, &mut folder, mailboxes)?,
+    )
 }
 
 // Runs over a list of some of the texts: whether each message is there once then.
 fn end_shared(alloc: Global, seed: u64) -> Result<bool, Fail> {
     let mut dice = Dice { state: seed };
-    let texts = [
-        any_text(&mut dice),
-        any_text(&mut dice),
-        any_text(&mut dice),
-        any_text(&mut dice),
+    let mailboxes = [
+        any_mailbox(&mut dice),
+        any_mailbox(&mut dice),
+        any_mailbox(&mut dice),
+        any_mailbox(&mut dice),
     ];
     let count = 1 + dice.below(4);
-    are_delivered(alloc, &mut dice, &texts[..count])
+    are_delivered(alloc, &mut dice, &mailboxes[..count])
 }
 
 #[test]
