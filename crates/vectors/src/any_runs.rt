@@ -43,15 +43,27 @@ fn any_base<'a>(dice: &mut Dice, messages: &[Due<'a>]) -> &'a str {
     }
 }
 
+fn any_sub(dice: &mut Dice) -> Sub {
+    [Sub::Tmp, Sub::New, Sub::Cur][dice.below(3)]
+}
+
+fn any_info(dice: &mut Dice) -> &'static str {
+    INFOS[dice.below(5)]
+}
+
+fn any_other(dice: &mut Dice) -> &'static str {
+    OTHERS[dice.below(3)]
+}
+
 fn any_deed<'a>(dice: &mut Dice, messages: &[Due<'a>]) -> Deed<'a> {
     let base = any_base(dice, messages);
-    let sub = [Sub::Tmp, Sub::New, Sub::Cur][dice.below(3)];
+    let sub = any_sub(dice);
     match dice.below(8) {
-        0 | 1 | 2 => Deed::ToCur(base, INFOS[dice.below(5)]),
-        3 | 4 => Deed::Reflag(base, INFOS[dice.below(5)], INFOS[dice.below(5)]),
+        0 | 1 | 2 => Deed::ToCur(base, any_info(dice)),
+        3 | 4 => Deed::Reflag(base, any_info(dice), any_info(dice)),
         5 => Deed::DropTmp(base),
-        6 => Deed::PutOther(sub, OTHERS[dice.below(3)]),
-        _ => Deed::DropOther(sub, OTHERS[dice.below(3)]),
+        6 => Deed::PutOther(sub, any_other(dice)),
+        _ => Deed::DropOther(sub, any_other(dice)),
     }
 }
 

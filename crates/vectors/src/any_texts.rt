@@ -101,8 +101,13 @@ const MAILBOXES: &[Mailbox<'_>; 6] = &[
     ),
 ];
 
-fn any_mailbox(dice: &mut Dice) -> Mailbox<'static> {
-    MAILBOXES[dice.below(6)]
+// Up to four of the texts, of which some may be the same.
+fn any_mailboxes(alloc: Global, dice: &mut Dice) -> Result<Vec<Mailbox<'static>>, AllocError> {
+    let mut mailboxes = Vec::new(alloc);
+    for _ in 0..1 + dice.below(4) {
+        mailboxes.push(MAILBOXES[dice.below(6)])?;
+    }
+    Ok(mailboxes)
 }
 
 // Runs over texts: whether each message is there once then.
@@ -117,14 +122,8 @@ fn are_delivered(alloc: Global, dice: &mut Dice, mailboxes: &[Mailbox<'_>]) -> R
 // Runs over a list of some of the texts: whether each message is there once then.
 fn end_shared(alloc: Global, seed: u64) -> Result<bool, Fail> {
     let mut dice = Dice { state: seed };
-    let mailboxes = [
-        any_mailbox(&mut dice),
-        any_mailbox(&mut dice),
-        any_mailbox(&mut dice),
-        any_mailbox(&mut dice),
-    ];
-    let count = 1 + dice.below(4);
-    are_delivered(alloc, &mut dice, &mailboxes[..count])
+    let mailboxes = any_mailboxes(alloc, &mut dice)?;
+    are_delivered(alloc, &mut dice, &mailboxes)
 }
 
 #[test]
