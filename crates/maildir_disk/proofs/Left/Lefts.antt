@@ -1,5 +1,5 @@
 -- What a cut leaves, from one moment of a call to the next.
-use Rattle.std.proofs.Common.{◌≡◌, inl, inr, ℕ, List, [], ◌∷◌, ◌++◌, refl, sym, ◌∙◌, IsErr, IsOk, OnErr, OnOk, Result, Ok, Err, rules, arith}
+use Rattle.std.proofs.Common.{◌≡◌, inl, inr, ℕ, List, [], ◌∷◌, ◌++◌, refl, ap, sym, ◌∙◌, IsErr, IsOk, OnErr, OnOk, Result, Ok, Err}
 use Rattle.maildir_disk.proofs.Common.{Tmp, Call, Listing, Writing, Other, Again, Torn, Succeeded, moved, CutMove, Came, Doubled, Leaves, LeavesOf}
 use Rattle.maildir_disk.proofs.Common.{IsFoundWhole, Follows, left_after, doubled, Files, left_as, writing_ok, LeftByOthers, KeepsHeld}
 
@@ -13,7 +13,10 @@ pub leaves_none : {call : Call} {s : Files} → Leaves call s s
 leaves_none = record { kept = []; are = refl }
 
 pub leaves_then : {call : Call} {a b c : Files} → Leaves call a b → Leaves call b c → Leaves call a c
-leaves_then {call} {a} first then = grind (arith, left_after-append call first.kept then.kept a)
+leaves_then {call} {a} first then = record {
+  kept = first.kept ++ then.kept;
+  are = then.are ∙ (ap (λ s. left_after s call then.kept) first.are ∙ sym (left_after-append call first.kept then.kept a));
+}
 
 -- ---- what others do within any call
 of_others : List CutMove → List CutMove
@@ -94,7 +97,7 @@ left_fault (Err e) is_err h = h
 -- nothing is to be found whole
 pub left_always : {A E : Type 0} {call : Call} (outcome : Result A E) {a b : Files → Type 0} → ((s : Files) → IsFoundWhole call s)
     → Follows (Leaves call) a b → Follows (λ before now. LeavesOf call before outcome now) a b
-left_always {call} (Ok x) {a} {b} whole h = search (rules, left_as)
+left_always {call} (Ok x) {a} {b} whole h = left_as (Leaves call) _ a b (λ old new leaves. (leaves, whole new)) h
 left_always (Err e) whole h = h
 
 -- the answer of a folder for that of the system

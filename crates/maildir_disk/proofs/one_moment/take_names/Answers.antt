@@ -1,17 +1,22 @@
-use Rattle.std.proofs.Common.{◌∙◌, arith}
+use Rattle.std.proofs.Common.{◌∙◌}
 use Rattle.maildir_disk.proofs.Common.{system_time_nanos, IsSettled, IsFarAhead}
 use Rattle.maildir_disk.proofs.Calls.Passing.{acts_on, looked_fault, lists_at, exact_if_settled, exact_if_ahead}
 use Rattle.maildir_disk.proofs.Left.Lefts.{left_by_others_then}
 use Rattle.maildir_disk.proofs.one_moment.take_names.Goals as goal
 
 pub returns-in_err-now-clause-looked : goal.returns-in_err-now-clause-looked
-returns-in_err-now-clause-looked g c = grind (arith, looked_fault, acts_on)
+returns-in_err-now-clause-looked g c = λ honest.
+    looked_fault c.args.sub _ c.from_residual-in_err-now.ensures.0
+    (acts_on (c.stamp.ensures.passes honest).acts (c.now.ensures.acts (c.stamp.ensures.honest honest)))
 
 pub returns-in-Young-clause-looked : goal.returns-in-Young-clause-looked
-returns-in-Young-clause-looked g c = grind (arith, acts_on)
+returns-in-Young-clause-looked g c = λ honest. acts_on (c.stamp.ensures.passes honest).acts (c.now.ensures.acts (c.stamp.ensures.honest honest))
 
 pub returns-in_err-names-clause-looked : goal.returns-in_err-names-clause-looked
-returns-in_err-names-clause-looked g c = grind (arith, looked_fault, acts_on)
+returns-in_err-names-clause-looked g c = λ honest.
+    let told = c.stamp.ensures.honest honest in
+    looked_fault c.args.sub _ c.from_residual-in_err-names.ensures.0
+    (acts_on (acts_on (c.stamp.ensures.passes honest).acts (c.now.ensures.acts told)) (c.in_err-names.ensures.watched (c.now.ensures.honest told)))
 
 pub returns-in_default-2 : goal.returns-in_default-2
 returns-in_default-2 g c = record {

@@ -86,7 +86,8 @@ loop-preserved g c =
 
 -- ---- what is reported
 pub returns-in_err-file-clause-called : goal.returns-in_err-file-clause-called
-returns-in_err-file-clause-called g c = grind (arith, not_created)
+returns-in_err-file-clause-called g c = λ honest.
+    not_created _ _ _ c.from_residual.ensures.0 (c.in_err-file.ensures.created honest)
 
 pub returns-then-at-bytes-clause-called : goal.returns-then-at-bytes-clause-called
 returns-then-at-bytes-clause-called g c = λ honest.
@@ -135,10 +136,14 @@ returns-clause-left g c = λ honest. left_torn (c.loop.invariant.written honest)
 
 -- ---- in a quiet system
 pub returns-in_err-file-clause-quietly : goal.returns-in_err-file-clause-quietly
-returns-in_err-file-clause-quietly g c = grind (arith, not_created_quietly)
+returns-in_err-file-clause-quietly g c = λ quiet.
+    not_created_quietly _ _ _ _ _ c.from_residual.ensures.0 (c.in_err-file.ensures.quietly quiet)
 
 pub returns-then-at-bytes-clause-quietly : goal.returns-then-at-bytes-clause-quietly
-returns-then-at-bytes-clause-quietly g c = grind (arith, take_all, written_quietly)
+returns-then-at-bytes-clause-quietly g c = λ quiet.
+    let kept = c.loop.invariant.quietly quiet in
+    let all = rw (take_all c.loop.at c.args.bytes.now (search rules)) at kept.holds in
+    written_quietly _ _ _ c.sync_file.result ((c.sync_file.ensures.quietly kept.quiet) ∙ all)
 
 pub returns-in-Ok-eq0-clause-quietly : goal.returns-in-Ok-eq0-clause-quietly
 returns-in-Ok-eq0-clause-quietly g c = λ quiet.

@@ -1,4 +1,5 @@
-use Rattle.std.proofs.Common.{◌*◌, [], ◌++◌, refl, ◌∙◌, inr}
+use Rattle.std.proofs.Common.{◌*◌, [], ◌++◌, refl, ◌∙◌, inl, inr}
+use Rattle.maildir_run.proofs.Tasks.Faults.{if_err}
 use Rattle.maildir_run.proofs.Common.{OutOfMemory, seen, bodies_of}
 use Rattle.maildir_run.proofs.Run.Delivering.{delivers_none}
 use Rattle.maildir_run.proofs.Run.Conversions.{stops, stops_in_folder, stops_unread, all_ran, tells_listed, one_batch, report_tells}
@@ -144,3 +145,23 @@ returns-then-ended-clause-is g c =
 
 pub pieces-smaller : goal.pieces-smaller
 pieces-smaller g c = went_down c.pieces.ended c.in_ok-ended-2.ended _ _ c.pieces.reader _ _ _ _ c.if-ended.false c.in_ok-ended-2.ensures.went
+
+-- ---- which faults there are
+pub returns-in_err-reader-clause-causes : goal.returns-in_err-reader-clause-causes
+returns-in_err-reader-clause-causes g c = if_err _ _ c.from_residual.ensures.1 (inl (inr (inr (inr refl))))
+
+pub returns-in_err-ended-clause-causes : goal.returns-in_err-ended-clause-causes
+returns-in_err-ended-clause-causes g c = if_err _ _ c.from_residual-in_err-ended.ensures.1 (inl c.in_err-ended.ensures.causes)
+
+pub returns-in_err-listings-clause-causes : goal.returns-in_err-listings-clause-causes
+returns-in_err-listings-clause-causes g c = if_err _ _ c.from_residual-in_err-listings.ensures.1 (inr c.in_err-listings.ensures.causes)
+
+pub returns-in_err-engine-clause-causes : goal.returns-in_err-engine-clause-causes
+returns-in_err-engine-clause-causes g c = if_err _ _ c.from_residual-in_err-engine.ensures.1 (inr c.in_err-engine.ensures.causes)
+
+pub returns-in_err-deliver_entries-clause-causes : goal.returns-in_err-deliver_entries-clause-causes
+returns-in_err-deliver_entries-clause-causes g c =
+    if_err _ _ c.from_residual-in_err-deliver_entries.ensures.1 (inr c.in_err-deliver_entries.ensures.causes)
+
+pub returns-in_err-ended-2-clause-causes : goal.returns-in_err-ended-2-clause-causes
+returns-in_err-ended-2-clause-causes g c = if_err _ _ c.from_residual-in_err-ended-2.ensures.1 (inl c.in_err-ended-2.ensures.causes)
