@@ -1,12 +1,12 @@
 // Power cuts of a system in memory that loses what was not synced: at each call, each case of what is left.
+use crate::mem_system::system_of;
 use crate::orders::is_found;
 use crate::runs::{ABC, EMPTY_ONE, EMPTY_TWO, TWO_EMPTY, UNENDED, run_over};
-use crate::scripts::{Deed, turns_of};
+use crate::scripts::Deed;
 use maildir_disk::{DiskFolder, MemSystem, Stamps};
 use maildir_run::{MemFolder, Sub};
 use std::alloc::Global;
 use std::test::Fail;
-use std::time::{Duration, Instant, UNIX_EPOCH};
 
 // A text, and each of its messages by base and body. The digests are those of another program. What has one byte is written
 // in one step.
@@ -38,14 +38,12 @@ const MAILBOXES: &[Mailbox<'_>] = &[
 /// No test makes so many cases.
 pub(crate) const ROOM: usize = 1_000;
 
+/// A reader moves the message to `cur`.
+pub(crate) const MOVES: &[Deed<'_>] = &[Deed::ToCur(ABC, ":2,S")];
+
 /// An empty Maildir that was not synced yet, and a program that does this.
 pub(crate) fn losing(rt: HostRuntime, deeds: &[Deed<'_>], turn: u8) -> Result<MemSystem, Fail> {
-    let alloc = rt.alloc();
-    let clock = UNIX_EPOCH + Duration::from_millis(1500);
-    let instant = Instant::now(&rt)?;
-    let turns = turns_of(alloc, deeds, turn)?;
-    let folder = MemFolder::new(alloc);
-    let mut system = MemSystem::new(alloc, folder, Stamps::Fine, clock, instant, turns);
+    let mut system = system_of(rt, Stamps::Fine, &[], deeds, turn)?;
     system.lose(ROOM);
     Ok(system)
 }
@@ -179,21 +177,45 @@ fn each_call_and_each_case(rt: HostRuntime) -> Result<(), Fail> {
     Ok(())
 }
 
+/// What a cut leaves of a message: how many cases there are of it, whether the message is found in this one, and under how
+/// many names.
+#[derive(Clone, Copy)]
+pub(crate) struct Left {
+    pub(crate) cases: usize,
+    pub(crate) found: bool,
+    pub(crate) names: usize,
+}
+
+impl Left {
+    /// What a cut leaves in this case.
+    pub(crate) fn of(system: MemSystem, case: usize) -> Left {
+        let mut system = system;
+        let cases = system.cases();
+        system.cut(case);
+        let folder = system.folder();
+        Left {
+            cases,
+            found: is_found(folder),
+            names: folder
+                .count(Sub::New)
+                .saturating_add(folder.count(Sub::Cur)),
+        }
+    }
+}
+
 // Whether a run and its sync answer Ok, and the message is found whatever a cut leaves, where a reader moves it to `cur` at
 // the turn of this number. Then also whether the reader did.
 fn is_kept(rt: HostRuntime, turn: u8) -> Result<(bool, bool), Fail> {
-    let alloc = rt.alloc();
     for case in 0..ROOM {
-        let mut folder = DiskFolder::new(losing(rt, &[Deed::ToCur(ABC, ":2,S")], turn)?);
-        let done = delivers(alloc, &mut folder, UNENDED);
-        let mut system = folder.into_system();
+        let mut folder = DiskFolder::new(losing(rt, MOVES, turn)?);
+        let done = delivers(rt.alloc(), &mut folder, UNENDED);
+        let system = folder.into_system();
         let moved = system.folder().count(Sub::Cur) == 1;
-        let cases = system.cases();
-        system.cut(case);
-        if !done || cases >= ROOM || !is_found(alloc, system.folder())? {
+        let left = Left::of(system, case);
+        if !done || left.cases >= ROOM || !left.found {
             return Ok((false, moved));
         }
-        if case.saturating_add(1) >= cases {
+        if case.saturating_add(1) >= left.cases {
             return Ok((true, moved));
         }
     }
@@ -223,26 +245,41 @@ fn equal_ones(folder: &MemFolder) -> (bool, bool) {
     )
 }
 
+// What a cut leaves in this case of two equal messages that a run placed, if there is such a case.
+fn two_placed(rt: HostRuntime, case: usize) -> Result<Option<MemSystem>, Fail> {
+    let mut folder = DiskFolder::new(losing(rt, &[], 1)?);
+    let answer = run_over(rt.alloc(), &mut folder, TWO_EMPTY);
+    let mut system = folder.into_system();
+    if answer != Ok((2, 0, 2, 0)) || case >= system.cases() {
+        return Ok(None);
+    }
+    system.cut(case);
+    Ok(Some(system))
+}
+
+// Whether a run finds one of the two and places the other, and its sync keeps both.
+fn finds_one(alloc: Global, system: MemSystem) -> bool {
+    let mut folder = DiskFolder::new(system);
+    let answer = run_over(alloc, &mut folder, TWO_EMPTY);
+    let synced = folder.sync();
+    let system = folder.into_system();
+    matches!(answer, Ok((2, 1, 1, _)))
+        && synced == Ok(())
+        && equal_ones(system.folder()) == (true, true)
+}
+
 // A cut may leave the second of two equal messages and lose the first. The next run delivers the first again.
 #[test]
 fn second_of_two_equal_messages(rt: HostRuntime) -> Result<(), Fail> {
-    let alloc = rt.alloc();
     for case in 0..ROOM {
-        let mut folder = DiskFolder::new(losing(rt, &[], 1)?);
-        assert!(rt; run_over(alloc, &mut folder, TWO_EMPTY) == Ok((2, 0, 2, 0)));
-        let mut system = folder.into_system();
-        assert!(rt; case < system.cases(), "never");
-        system.cut(case);
-        if equal_ones(system.folder()) != (false, true) {
-            continue;
+        let Some(system) = two_placed(rt, case)? else {
+            break;
+        };
+        if equal_ones(system.folder()) == (false, true) {
+            assert!(rt; finds_one(rt.alloc(), system));
+            return Ok(());
         }
-        let mut folder = DiskFolder::new(system);
-        assert!(rt; matches!(run_over(alloc, &mut folder, TWO_EMPTY), Ok((2, 1, 1, _))));
-        assert!(rt; folder.sync() == Ok(()));
-        let system = folder.into_system();
-        assert!(rt; equal_ones(system.folder()) == (true, true));
-        return Ok(());
     }
-    assert!(rt; false, "too many cases");
+    assert!(rt; false, "never");
     Ok(())
 }

@@ -33,12 +33,22 @@ fn writes_again<F: Folder>(folder: &mut F, rt: HostRuntime, root: &str) -> io::R
     )
 }
 
+// Whether the calls of a folder below this path answer as they are to, and leave these files.
+fn are_right(rt: HostRuntime, root: &str) -> Result<bool, Fail> {
+    let mut folder = DiskFolder::open_at(&rt, rt.alloc(), root)?;
+    Ok(
+        answers(&mut folder, false)
+            && file_holds(rt, root, "cur/u:2,", "ab")?
+            && writes_again(&mut folder, rt, root)?
+            && folder.sync() == Ok(()),
+    )
+}
+
 #[test]
 fn disk_folder_calls(rt: HostRuntime) -> Result<(), Fail> {
     let root = fresh_path(rt)?;
-    let mut folder = DiskFolder::open_at(&rt, rt.alloc(), root.as_str())?;
-    assert!(rt; answers(&mut folder, false) && file_holds(rt, root.as_str(), "cur/u:2,", "ab")?);
-    assert!(rt; writes_again(&mut folder, rt, root.as_str())? && folder.sync() == Ok(()));
+    let right = are_right(rt, root.as_str())?;
     fs::remove_dir_all(&rt, root.as_str())?;
+    assert!(rt; right);
     Ok(())
 }

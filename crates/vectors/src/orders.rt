@@ -1,11 +1,9 @@
 // The order of the steps that bring a message: each other one loses it in some case of what a power cut leaves.
-use crate::cuts::{ROOM, losing};
+use crate::cuts::{Left, MOVES, ROOM, losing};
 use crate::runs::ABC;
-use crate::scripts::Deed;
 use maildir_disk::{MemSystem, System};
 use maildir_name::Place;
 use maildir_run::{MemFolder, Sub};
-use std::alloc::{AllocError, Global};
 use std::io;
 use std::test::Fail;
 
@@ -39,45 +37,34 @@ fn make_steps(system: &mut MemSystem, steps: &[Step]) -> io::Result<()> {
 }
 
 /// Whether the message is found, and nothing but its body under its names.
-pub(crate) fn is_found(alloc: Global, folder: &MemFolder) -> Result<bool, AllocError> {
-    let seen = format!(in alloc; "{ABC}:2,S")?;
-    let homes = [
+pub(crate) fn is_found(folder: &MemFolder) -> bool {
+    const SEEN: &str = "ba7816bf8f01cfea414140de5dae2223b00361a396177a9cb410ff61f20015ad.1:2,S";
+    let body = Some(b"abc".as_slice());
+    match (
         folder.bytes_of(Sub::New, ABC),
-        folder.bytes_of(Sub::Cur, seen.as_str()),
-    ];
-    let mut is_there = false;
-    for home in homes {
-        if let Some(bytes) = home {
-            if bytes != b"abc".as_slice() {
-                return Ok(false);
-            }
-            is_there = true;
-        }
+        folder.bytes_of(Sub::Cur, SEEN),
+    ) {
+        (None, None) => false,
+        (None, seen) => seen == body,
+        (new, None) => new == body,
+        (new, seen) => new == body && seen == body,
     }
-    Ok(is_there)
 }
 
 // Whether the message is found in each case that a cut may leave after these steps, where a reader moves it to `cur` at the
 // turn of this number, and whether two files of it are found in one of them. Nothing where there are too many cases.
 fn survives(rt: HostRuntime, steps: &[Step], turn: u8) -> Result<Option<(bool, bool)>, Fail> {
-    let alloc = rt.alloc();
     let (mut always, mut doubled) = (true, false);
     for case in 0..ROOM {
-        let mut system = losing(rt, &[Deed::ToCur(ABC, ":2,S")], turn)?;
+        let mut system = losing(rt, MOVES, turn)?;
         make_steps(&mut system, steps)?;
-        let cases = system.cases();
-        if cases >= ROOM {
+        let left = Left::of(system, case);
+        if left.cases >= ROOM {
             return Ok(None);
         }
-        system.cut(case);
-        let folder = system.folder();
-        always = is_found(alloc, folder)? && always;
-        doubled = doubled
-            || folder
-                .count(Sub::New)
-                .saturating_add(folder.count(Sub::Cur))
-                > 1;
-        if case.saturating_add(1) >= cases {
+        always = always && left.found;
+        doubled = doubled || left.names > 1;
+        if case.saturating_add(1) >= left.cases {
             return Ok(Some((always, doubled)));
         }
     }

@@ -30,8 +30,8 @@ fn are_wanted(steps: &[Step], wants: &[Want<'_>]) -> bool {
     steps.len() == wants.len()
 }
 
-// The names of a list.
-fn names(alloc: Global, texts: &[&str]) -> Result<Vec<String>, AllocError> {
+/// The texts of a list.
+pub(crate) fn names(alloc: Global, texts: &[&str]) -> Result<Vec<String>, AllocError> {
     let mut names = Vec::new(alloc);
     for text in texts {
         names.push(String::from_str(alloc, text)?)?;

@@ -1,15 +1,14 @@
 // The whole program over a machine in memory, with two Maildirs of which one is named by no row.
-use crate::mem_folder::are_named;
-use crate::runs::{ABC, folder_of};
+use crate::mem_system::system_of;
+use crate::planning::names;
+use crate::runs::{ABC, File, holds};
 use crate::streams::{Cut, Narrow, Then};
 use maildir_commands::{Ending, Fault, Machine, MemMachine, NamedText, execute, run};
-use maildir_disk::{DiskFolder, MemSystem, Stamps};
-use maildir_run::{Folder, RunFault, Sub};
+use maildir_disk::Stamps;
+use maildir_run::{RunFault, Sub};
 use mbox_text::TextFault;
-use std::alloc::{AllocError, Global};
 use std::io::BufWriter;
 use std::test::Fail;
-use std::time::{Duration, Instant, UNIX_EPOCH};
 
 const TEXTS: &[NamedText<'static>] = &[
     NamedText {
@@ -26,329 +25,384 @@ const TEXTS: &[NamedText<'static>] = &[
     },
 ];
 
-const D: &str = "18ac3e7343f016890c510e93f935261169d9e3f565436429830faf0934f4f8e4.1";
+const D: File<'_> = (
+    Sub::New,
+    "18ac3e7343f016890c510e93f935261169d9e3f565436429830faf0934f4f8e4.1",
+    "d",
+);
 
-const ABC_END: &str = "edeaaff3f1774ad2888673770c6d64097e391bc362d7d6fb34982ddf0efd18cb.1";
+const ABC_ALONE: File<'_> = (Sub::New, ABC, "abc");
 
-// Words; the status that they end with; what is written to the output and to standard error; and what `new` of the
-// Maildir holds then.
+const ABC_LINE: File<'_> = (
+    Sub::New,
+    "edeaaff3f1774ad2888673770c6d64097e391bc362d7d6fb34982ddf0efd18cb.1",
+    "abc\n",
+);
+
+const OTHER: &[File<'_>] = &[(Sub::Cur, "u:2,", "abc")];
+
+// How standard input goes on behind its bytes, how many bytes the output and standard error take, and whether the Maildir is
+// open elsewhere.
+#[derive(Clone, Copy)]
+struct Setting {
+    then: Then,
+    room: usize,
+    told: usize,
+    is_open: bool,
+}
+
+const ENOUGH: usize = 1000;
+
+const QUIET: Setting = Setting {
+    then: Then::Ends,
+    room: ENOUGH,
+    told: ENOUGH,
+    is_open: false,
+};
+
+// The status that `run` ends with, or how `execute` ends.
+#[derive(Clone, Copy)]
+enum End {
+    Status(u8),
+    Ending(Ending),
+}
+
+// Words; how they end in this setting; what is written to the output and to standard error; and what the Maildir holds then.
 struct Row {
     words: &'static [&'static str],
-    status: u8,
+    end: End,
+    setting: Setting,
     out: &'static str,
     err: &'static str,
-    names: &'static [&'static str],
+    files: &'static [File<'static>],
 }
 
 const ROWS: &[Row] = &[
     Row {
         words: &[],
-        status: 0,
+        end: End::Status(0),
+        setting: QUIET,
         out: "From z\nd\n\n",
         err: "",
-        names: &[],
+        files: &[],
     },
     Row {
         words: &["rewrite"],
-        status: 0,
+        end: End::Status(0),
+        setting: QUIET,
         out: "From z\nd\n\n",
         err: "",
-        names: &[],
+        files: &[],
     },
     Row {
         words: &["rewrite", "one"],
-        status: 0,
+        end: End::Status(0),
+        setting: QUIET,
         out: "From x\nabc\n\n",
         err: "",
-        names: &[],
+        files: &[],
     },
     Row {
         words: &["list"],
-        status: 0,
+        end: End::Status(0),
+        setting: QUIET,
         out: "1 18ac3e7343f016890c510e93f935261169d9e3f565436429830faf0934f4f8e4.1 new - 1 z\n",
         err: "",
-        names: &[],
+        files: &[],
     },
     Row {
         words: &["list", "one"],
-        status: 0,
+        end: End::Status(0),
+        setting: QUIET,
         out: "1 ba7816bf8f01cfea414140de5dae2223b00361a396177a9cb410ff61f20015ad.1 new - 3 x\n",
         err: "",
-        names: &[],
+        files: &[],
     },
     Row {
         words: &["convert", "M"],
-        status: 0,
+        end: End::Status(0),
+        setting: QUIET,
         out: "messages 1, there 0, placed 1, swept 0\n",
         err: "",
-        names: &[D],
+        files: &[D],
     },
     Row {
         words: &["convert", "M", "one"],
-        status: 0,
+        end: End::Status(0),
+        setting: QUIET,
         out: "messages 1, there 0, placed 1, swept 0\n",
         err: "",
-        names: &[ABC],
+        files: &[ABC_ALONE],
     },
     Row {
         words: &["convert", "M", "one", "two"],
-        status: 0,
+        end: End::Status(0),
+        setting: QUIET,
         out: "messages 1, there 0, placed 1, swept 0\nmessages 2, there 1, placed 1, swept 0\n",
         err: "",
-        names: &[ABC, ABC_END],
+        files: &[ABC_ALONE, ABC_LINE],
     },
     Row {
         words: &["convert", "M", "one", "none"],
-        status: 1,
+        end: End::Status(1),
+        setting: QUIET,
         out: "messages 1, there 0, placed 1, swept 0\n",
         err: "mbox2maildir: no From line at the start\n",
-        names: &[ABC],
+        files: &[ABC_ALONE],
     },
     Row {
         words: &["convert", "M", "one", "absent", "two"],
-        status: 1,
+        end: End::Status(1),
+        setting: QUIET,
         out: "messages 1, there 0, placed 1, swept 0\n",
         err: "mbox2maildir: cannot open the source\n",
-        names: &[ABC],
+        files: &[ABC_ALONE],
     },
     Row {
         words: &["convert", "X", "one"],
-        status: 1,
+        end: End::Status(1),
+        setting: QUIET,
         out: "",
         err: "mbox2maildir: cannot open the folder\n",
-        names: &[],
+        files: &[],
     },
     Row {
         words: &["list", "none"],
-        status: 1,
+        end: End::Status(1),
+        setting: QUIET,
         out: "",
         err: "mbox2maildir: no From line at the start\n",
-        names: &[],
+        files: &[],
     },
     Row {
         words: &["rewrite", "absent"],
-        status: 1,
+        end: End::Status(1),
+        setting: QUIET,
         out: "",
         err: "mbox2maildir: cannot open the source\n",
-        names: &[],
+        files: &[],
     },
     Row {
         words: &["convert"],
-        status: 2,
+        end: End::Status(2),
+        setting: QUIET,
         out: "",
         err: "mbox2maildir: wrong words\n",
-        names: &[],
+        files: &[],
     },
     Row {
         words: &["list", "one", "two"],
-        status: 2,
+        end: End::Status(2),
+        setting: QUIET,
         out: "",
         err: "mbox2maildir: wrong words\n",
-        names: &[],
+        files: &[],
     },
 ];
 
-// Words; how standard input goes on behind its bytes, and how many bytes the output and standard error take; whether the
-// Maildir is open elsewhere; how the work ends; and what was written then.
-struct Stop {
-    words: &'static [&'static str],
-    then: Then,
-    room: usize,
-    told: usize,
-    is_open: bool,
-    ending: Ending,
-    out: &'static str,
-    err: &'static str,
-    names: &'static [&'static str],
-}
-
-const ENOUGH: usize = 1000;
-
-const STOPS: &[Stop] = &[
-    Stop {
+const STOPS: &[Row] = &[
+    Row {
         words: &[],
-        then: Then::Fails,
-        room: ENOUGH,
-        told: ENOUGH,
-        is_open: false,
-        ending: Ending::Stopped(Fault::Run(RunFault::ReadFault), Ok(())),
+        end: End::Ending(Ending::Stopped(Fault::Run(RunFault::ReadFault), Ok(()))),
+        setting: Setting {
+            then: Then::Fails,
+            room: ENOUGH,
+            told: ENOUGH,
+            is_open: false,
+        },
         out: "",
         err: "mbox2maildir: the source could not be read\n",
-        names: &[],
+        files: &[],
     },
-    Stop {
+    Row {
         words: &["list"],
-        then: Then::Fails,
-        room: ENOUGH,
-        told: ENOUGH,
-        is_open: false,
-        ending: Ending::Stopped(Fault::Run(RunFault::ReadFault), Ok(())),
+        end: End::Ending(Ending::Stopped(Fault::Run(RunFault::ReadFault), Ok(()))),
+        setting: Setting {
+            then: Then::Fails,
+            room: ENOUGH,
+            told: ENOUGH,
+            is_open: false,
+        },
         out: "",
         err: "mbox2maildir: the source could not be read\n",
-        names: &[],
+        files: &[],
     },
-    Stop {
+    Row {
         words: &["convert", "M"],
-        then: Then::Fails,
-        room: ENOUGH,
-        told: ENOUGH,
-        is_open: false,
-        ending: Ending::Stopped(Fault::Run(RunFault::ReadFault), Ok(())),
+        end: End::Ending(Ending::Stopped(Fault::Run(RunFault::ReadFault), Ok(()))),
+        setting: Setting {
+            then: Then::Fails,
+            room: ENOUGH,
+            told: ENOUGH,
+            is_open: false,
+        },
         out: "",
         err: "mbox2maildir: the source could not be read\n",
-        names: &[],
+        files: &[],
     },
-    Stop {
+    Row {
         words: &["rewrite"],
-        then: Then::Ends,
-        room: 4,
-        told: ENOUGH,
-        is_open: false,
-        ending: Ending::Stopped(Fault::Run(RunFault::OutputFault), Ok(())),
+        end: End::Ending(Ending::Stopped(Fault::Run(RunFault::OutputFault), Ok(()))),
+        setting: Setting {
+            then: Then::Ends,
+            room: 4,
+            told: ENOUGH,
+            is_open: false,
+        },
         out: "From",
         err: "mbox2maildir: the output could not be written\n",
-        names: &[],
+        files: &[],
     },
-    Stop {
+    Row {
         words: &["list", "one"],
-        then: Then::Ends,
-        room: 4,
-        told: ENOUGH,
-        is_open: false,
-        ending: Ending::Stopped(Fault::Run(RunFault::OutputFault), Ok(())),
+        end: End::Ending(Ending::Stopped(Fault::Run(RunFault::OutputFault), Ok(()))),
+        setting: Setting {
+            then: Then::Ends,
+            room: 4,
+            told: ENOUGH,
+            is_open: false,
+        },
         out: "1 ba",
         err: "mbox2maildir: the output could not be written\n",
-        names: &[],
+        files: &[],
     },
-    Stop {
+    Row {
         words: &["convert", "M", "one", "two"],
-        then: Then::Ends,
-        room: 4,
-        told: ENOUGH,
-        is_open: false,
-        ending: Ending::Stopped(Fault::Run(RunFault::OutputFault), Ok(())),
+        end: End::Ending(Ending::Stopped(Fault::Run(RunFault::OutputFault), Ok(()))),
+        setting: Setting {
+            then: Then::Ends,
+            room: 4,
+            told: ENOUGH,
+            is_open: false,
+        },
         out: "mess",
         err: "mbox2maildir: the output could not be written\n",
-        names: &[ABC],
+        files: &[ABC_ALONE],
     },
-    Stop {
+    Row {
         words: &["convert", "M"],
-        then: Then::Ends,
-        room: ENOUGH,
-        told: ENOUGH,
-        is_open: true,
-        ending: Ending::Stopped(Fault::Locked, Ok(())),
+        end: End::Ending(Ending::Stopped(Fault::Locked, Ok(()))),
+        setting: Setting {
+            then: Then::Ends,
+            room: ENOUGH,
+            told: ENOUGH,
+            is_open: true,
+        },
         out: "",
         err: "mbox2maildir: another converter is at work in the folder\n",
-        names: &[],
+        files: &[],
     },
-    Stop {
+    Row {
         words: &["convert", "M", "one"],
-        then: Then::Ends,
-        room: ENOUGH,
-        told: ENOUGH,
-        is_open: true,
-        ending: Ending::Stopped(Fault::Locked, Ok(())),
+        end: End::Ending(Ending::Stopped(Fault::Locked, Ok(()))),
+        setting: Setting {
+            then: Then::Ends,
+            room: ENOUGH,
+            told: ENOUGH,
+            is_open: true,
+        },
         out: "",
         err: "mbox2maildir: another converter is at work in the folder\n",
-        names: &[],
+        files: &[],
     },
-    Stop {
+    Row {
         words: &["rewrite", "absent"],
-        then: Then::Ends,
-        room: ENOUGH,
-        told: 4,
-        is_open: false,
-        ending: Ending::Stopped(Fault::Source, Err(TextFault::WriteFault)),
+        end: End::Ending(Ending::Stopped(Fault::Source, Err(TextFault::WriteFault))),
+        setting: Setting {
+            then: Then::Ends,
+            room: ENOUGH,
+            told: 4,
+            is_open: false,
+        },
         out: "",
         err: "mbox",
-        names: &[],
+        files: &[],
     },
-    Stop {
+    Row {
         words: &["convert"],
-        then: Then::Ends,
-        room: ENOUGH,
-        told: 4,
-        is_open: false,
-        ending: Ending::WrongWords(Err(TextFault::WriteFault)),
+        end: End::Ending(Ending::WrongWords(Err(TextFault::WriteFault))),
+        setting: Setting {
+            then: Then::Ends,
+            room: ENOUGH,
+            told: 4,
+            is_open: false,
+        },
         out: "",
         err: "mbox",
-        names: &[],
+        files: &[],
     },
-    Stop {
+    Row {
         words: &["list"],
-        then: Then::Ends,
-        room: ENOUGH,
-        told: 0,
-        is_open: false,
-        ending: Ending::Done,
+        end: End::Ending(Ending::Done),
+        setting: Setting {
+            then: Then::Ends,
+            room: ENOUGH,
+            told: 0,
+            is_open: false,
+        },
         out: "1 18ac3e7343f016890c510e93f935261169d9e3f565436429830faf0934f4f8e4.1 new - 1 z\n",
         err: "",
-        names: &[],
+        files: &[],
     },
 ];
 
-fn words_of(alloc: Global, words: &[&str]) -> Result<Vec<String>, AllocError> {
-    let mut all = Vec::new(alloc);
-    for word in words {
-        all.push(String::from_str(alloc, word)?)?;
-    }
-    Ok(all)
-}
-
-// A Maildir that nobody else is at.
-fn maildir_of(rt: HostRuntime, files: &[(Sub, &str, &str)]) -> Result<MemSystem, Fail> {
-    let alloc = rt.alloc();
-    let clock = UNIX_EPOCH + Duration::from_millis(1500);
-    let instant = Instant::now(&rt)?;
-    let folder = folder_of(alloc, files)?;
-    Ok(MemSystem::new(alloc, folder, Stamps::Fine, clock, instant, Vec::new(alloc)))
-}
-
+// A machine whose Maildirs nobody else is at.
 fn machine_of(rt: HostRuntime) -> Result<MemMachine<'static>, Fail> {
+    const MAILDIRS: &[(&str, &[File<'_>])] = &[("M", &[]), ("N", OTHER)];
     let alloc = rt.alloc();
     let mut machine = MemMachine::new(alloc, TEXTS);
-    machine.put(String::from_str(alloc, "M")?, maildir_of(rt, &[])?)?;
-    machine.put(
-        String::from_str(alloc, "N")?,
-        maildir_of(rt, &[(Sub::Cur, "u:2,", "abc")])?,
-    )?;
+    for &(word, files) in MAILDIRS {
+        let system = system_of(rt, Stamps::Fine, files, &[], 1)?;
+        machine.put(String::from_str(alloc, word)?, system)?;
+    }
     Ok(machine)
 }
 
-// Whether a folder of the Maildir that a word names has these names.
-fn has_names(
-    machine: &mut MemMachine<'static>,
-    word: &str,
-    sub: Sub,
-    names: &[&str],
-) -> Result<bool, Fail> {
-    let Ok(system) = machine.open_maildir(word) else {
-        return Ok(false);
-    };
-    let mut folder = DiskFolder::new(system);
-    let found = folder.list(sub)?;
-    machine.close_maildir(word, folder.into_system());
-    Ok(are_named(&found, names))
+// Whether both Maildirs are closed, the one holds these files, and the other is as it was.
+fn leaves(machine: &MemMachine<'static>, files: &[File<'_>]) -> bool {
+    match (machine.maildir("M"), machine.maildir("N")) {
+        (Some(maildir), Some(other)) => {
+            holds(maildir.folder(), files) && holds(other.folder(), OTHER)
+        }
+        _ => false,
+    }
 }
 
-// Whether the program ends so on these words, and leaves the other Maildir as it was.
+// Whether the program ends so on these words, and leaves the Maildirs so.
 fn ends_so(rt: HostRuntime, row: &Row) -> Result<bool, Fail> {
     let alloc = rt.alloc();
+    let Setting {
+        then,
+        room,
+        told,
+        is_open,
+    } = row.setting;
+    let words = names(alloc, row.words)?;
     let mut machine = machine_of(rt)?;
-    let words = words_of(alloc, row.words)?;
-    let mut input: &[u8] = b"From z\nd";
-    let mut out = BufWriter::with_capacity(alloc, 16, Vec::new(alloc))?;
-    let mut err = Vec::new(alloc);
-    let status = run(&mut machine, alloc, &words, &mut input, &mut out, &mut err);
+    let open = if is_open {
+        machine.open_maildir("M").ok()
+    } else {
+        None
+    };
+    let mut input = Cut::new(b"From z\nd", 4, then);
+    let mut out = BufWriter::with_capacity(alloc, 16, Narrow::new(alloc, room, 64, true))?;
+    let mut err = Narrow::new(alloc, told, 64, true);
+    let ended = match row.end {
+        End::Status(status) => {
+            run(&mut machine, alloc, &words, &mut input, &mut out, &mut err) == status
+        }
+        End::Ending(ending) => {
+            execute(&mut machine, alloc, &words, &mut input, &mut out, &mut err) == ending
+        }
+    };
+    if let Some(maildir) = open {
+        machine.close_maildir("M", maildir);
+    }
     Ok(
-        status == row.status
-            && out.get_ref().as_slice() == row.out.as_bytes()
-            && err.as_slice() == row.err.as_bytes()
-            && has_names(&mut machine, "M", Sub::New, row.names)?
-            && has_names(&mut machine, "M", Sub::Tmp, &[])?
-            && has_names(&mut machine, "N", Sub::New, &[])?
-            && has_names(&mut machine, "N", Sub::Cur, &["u:2,"])?,
+        ended
+            && out.get_ref().taken.as_slice() == row.out.as_bytes()
+            && err.taken.as_slice() == row.err.as_bytes()
+            && leaves(&machine, row.files),
     )
 }
 
@@ -360,38 +414,10 @@ fn whole_programs(rt: HostRuntime) -> Result<(), Fail> {
     Ok(())
 }
 
-// Whether the work ends so, and leaves the other Maildir as it was.
-fn stops_so(rt: HostRuntime, stop: &Stop) -> Result<bool, Fail> {
-    let alloc = rt.alloc();
-    let mut machine = machine_of(rt)?;
-    let words = words_of(alloc, stop.words)?;
-    let open = if stop.is_open {
-        machine.open_maildir("M").ok()
-    } else {
-        None
-    };
-    let mut input = Cut::new(b"From z\nd", 4, stop.then);
-    let mut out = BufWriter::with_capacity(alloc, 16, Narrow::new(alloc, stop.room, 64, true))?;
-    let mut err = Narrow::new(alloc, stop.told, 64, true);
-    let ending = execute(&mut machine, alloc, &words, &mut input, &mut out, &mut err);
-    if let Some(maildir) = open {
-        machine.close_maildir("M", maildir);
-    }
-    Ok(
-        ending == stop.ending
-            && out.get_ref().taken.as_slice() == stop.out.as_bytes()
-            && err.taken.as_slice() == stop.err.as_bytes()
-            && has_names(&mut machine, "M", Sub::New, stop.names)?
-            && has_names(&mut machine, "M", Sub::Tmp, &[])?
-            && has_names(&mut machine, "N", Sub::New, &[])?
-            && has_names(&mut machine, "N", Sub::Cur, &["u:2,"])?,
-    )
-}
-
 #[test]
 fn whole_programs_that_stop(rt: HostRuntime) -> Result<(), Fail> {
-    for stop in STOPS {
-        assert!(rt; stops_so(rt, stop)?, "{:?}", stop.words);
+    for row in STOPS {
+        assert!(rt; ends_so(rt, row)?, "{:?}", row.words);
     }
     Ok(())
 }
