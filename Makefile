@@ -37,11 +37,8 @@ run: $(PROGRAM)
 	cd $(MAILDIR) && ls -l new cur
 	$(PROGRAM) convert $(MAILDIR) $(MAILBOXES)
 
-# As many checks go on at a time as there are processors, each by one job: one with more takes a third more of a
-# processor's time, and beside others it ends no sooner. Where there are two, three go on: else one is idle while the last
-# edits are tried. Where there are more than four, the memory may not do for so many, and rt decides.
-PROCESSORS := $(shell nproc)
-LANES := $(if $(filter 2 3,$(PROCESSORS)),RT_JOBS=3,$(if $(filter 4,$(PROCESSORS)),RT_JOBS=4))
+# Where there are two processors, three checks go on at a time: else one is idle while the last edits are tried.
+LANES := $(if $(filter 2,$(shell nproc)),RT_JOBS=3)
 
 # The lines and the documents, the gate, and then the tests that run what it has built.
 test:
