@@ -161,6 +161,14 @@ module _ (text_of : List ℕ → List ℕ) (refuses : List ℕ → Type 0)
       run_weaker
       (λ P h. subst (λ names. IsOfOne text_of before after names P) (sym none) h) (λ _. into) fault is
 
+  -- the file was not opened
+  pub of_opening : (file : List ℕ) → files_of command ≡ file ∷ [] → {fault : Fault} → (fault ≡ Source) ⊎ (fault ≡ Run run.OutOfMemory)
+      → (fault ≡ Source → refuses file) → IsCauseOf text_of refuses refuses_maildir before after command fault
+  of_opening file are (inl e) refused =
+      subst (IsCauseOf text_of refuses refuses_maildir before after command) (sym e)
+      (file, subst (λ names. Contains names file) (sym are) (holds_first []), refused e)
+  of_opening file are (inr e) refused = subst (IsCauseOf text_of refuses refuses_maildir before after command) (sym e) tt
+
   -- a text was read, and nothing else was done
   pub of_read_input : files_of command ≡ [] → (fault : RunFault) → IsOfRun (IsPossibly before after) ⊥ fault
       → IsCauseOf text_of refuses refuses_maildir before after command (Run fault)

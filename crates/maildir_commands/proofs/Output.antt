@@ -1,6 +1,6 @@
 -- What a buffer is given, and what it hands on.
-use Rattle.std.proofs.Common.{◌≡◌, ℕ, List, [], ◌++◌, length, take, Option, Some, None, sym, ap, subst, ◌∙◌, append-nil}
-use Rattle.std.proofs.KnownBytes.{Appends-kept}
+use Rattle.std.proofs.Common.{◌≡◌, ℕ, List, [], ◌++◌, length, take, Option, Some, None, Result, Ok, Err, IsErrAnd, OnOk, refl, sym, ap, subst, ◌∙◌, append-nil}
+use Rattle.std.proofs.KnownBytes.{Appends-kept, Appends-nil}
 use Rattle.std.proofs.Math.Seq.{take-length}
 use Rattle.std.specs.Io.KnownBytes.{Appends, IsAtEnd, Keeps}
 use Rattle.std.specs.List.{flat_map}
@@ -69,3 +69,12 @@ each_some {old} {new} {texts} {was} {given} {kept} keeps each safe =
       safe = subst (λ ts. AreAllSafe ts new) (sym whole) safe;
       lines = front_of_all was kept (Appends-kept was given kept (flat_map report_line each.reports) each.lines keeps);
     }
+
+-- where nothing was written
+pub nothing_front : (output : List Entry → List ℕ) (t : List ℕ) (was : Option (List ℕ)) → WritesFront output t was was
+nothing_front output t was entries mbox = ([], output entries, refl, Appends-nil was)
+
+-- `?` answers a fault
+pub no_ok : {A E : Type 0} (answer : Result A E) (P : E → Type 0) (Q : Type 0) → IsErrAnd answer P → OnOk answer Q
+no_ok (Ok x) P Q is = absurd is
+no_ok (Err e) P Q is = tt
