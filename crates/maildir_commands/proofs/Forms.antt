@@ -1,7 +1,7 @@
 -- The words of a conversion.
 use Rattle.std.proofs.Common.{◌≡◌, ◌≤◌, ℕ, List, [], ◌∷◌, length, map, get_or, codes, Option, Some, None, IsNone, IsSome, IfSome, refl, sym, ap, subst, ◌∙◌, inl, inr, arith}
 use Rattle.maildir_commands.specs.declared.command.Command.TheVariants as command
-use Rattle.maildir_commands.specs.Words.{AreRewrite, IsOf, convert_words}
+use Rattle.maildir_commands.specs.Words.{AreOfAForm, AreRewrite, IsOf, convert_words}
 use denote.Ref.{Bor}
 
 pub same_words : {maildir other : List ℕ} {files others : List (List ℕ)}
@@ -86,3 +86,6 @@ not_named none some = cc
 
 pub not_none : {X : Type 0} {file : Option X} {path : X} → file ≡ Some path → ¬ IsNone file
 not_none some none = cc
+
+pub convert_form : {words : List (List ℕ)} {maildir : List ℕ} {files : List (List ℕ)} → words ≡ convert_words maildir files → AreOfAForm words
+convert_form is = subst AreOfAForm (sym is) (inr (inr (refl, omega arith)))
