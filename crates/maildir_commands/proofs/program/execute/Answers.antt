@@ -54,6 +54,10 @@ returns-in-Ok-clause-listed_input g c = λ are e. c.in-Ok.ensures.listed_input (
 pub returns-in-Ok-clause-listed : goal.returns-in-Ok-clause-listed
 returns-in-Ok-clause-listed g c = λ h file are e. c.in-Ok.ensures.listed h file (subst (IsOf c.in-Some.command) are c.in-Some.ensures.words)
 
+pub returns-in-Ok-clause-printed : goal.returns-in-Ok-clause-printed
+returns-in-Ok-clause-printed g c = λ maildir files are e.
+    c.in-Ok.ensures.printed maildir files (subst (IsOf c.in-Some.command) are c.in-Some.ensures.words)
+
 pub returns-in-Ok-clause-safe : goal.returns-in-Ok-clause-safe
 returns-in-Ok-clause-safe g c = λ h maildir texts these e. c.in-Ok.ensures.safe h _ maildir texts c.in-Some.ensures.words these
 
