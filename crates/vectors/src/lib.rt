@@ -41,6 +41,8 @@ mod pieces;
 #[cfg(test)]
 mod planning;
 #[cfg(test)]
+mod program_rows;
+#[cfg(test)]
 mod programs;
 #[cfg(test)]
 mod refusals;
