@@ -1,5 +1,6 @@
 -- The words of a conversion.
-use Rattle.std.proofs.Common.{◌≡◌, ◌≤◌, ℕ, List, [], ◌∷◌, length, map, get_or, codes, Option, Some, None, IsNone, IsSome, IfSome, refl, sym, ap, subst, ◌∙◌, inl, inr, arith}
+use Rattle.std.proofs.Common.{◌≡◌, ◌≤◌, ℕ, List, [], ◌∷◌, length, map, get_or, codes, Option, Some}
+use Rattle.std.proofs.Common.{None, IsNone, IsSome, IfSome, refl, sym, ap, subst, ◌∙◌, inl, inr, arith}
 use Rattle.maildir_commands.specs.declared.command.Command.TheVariants as command
 use Rattle.maildir_commands.specs.Words.{AreOfAForm, AreRewrite, IsOf, convert_words}
 use denote.Ref.{Bor}

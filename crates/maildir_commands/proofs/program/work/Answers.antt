@@ -13,7 +13,9 @@ use Rattle.maildir_commands.specs.Output.{WritesAll, WritesFront}
 use Rattle.maildir_commands.specs.Report.{PrintsReports}
 use Rattle.maildir_commands.specs.Private.Report.{Delivers}
 use Rattle.maildir_commands.specs.Words.{AreRewrite, IsOf, convert_words}
-use Rattle.maildir_commands.proofs.Forms.{same_words, rewrite_input, rewrite_named, rewrite_no_list, rewrite_no_convert, list_input, list_named, list_no_rewrite, list_no_convert, list_no_input, convert_no_input, convert_no_list, other_words}
+use Rattle.maildir_commands.proofs.Forms.{list_input, list_named, list_no_rewrite, list_no_convert, list_no_input}
+use Rattle.maildir_commands.proofs.Forms.{rewrite_input, rewrite_named, rewrite_no_list, rewrite_no_convert}
+use Rattle.maildir_commands.proofs.Forms.{same_words, convert_no_input, convert_no_list, other_words}
 use Rattle.maildir_commands.proofs.program.work.Goals as goal
 
 pub returns-in-Rewrite : goal.returns-in-Rewrite

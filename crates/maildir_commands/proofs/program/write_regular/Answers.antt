@@ -76,6 +76,8 @@ returns-in_err-rewrite-in-Some g c =
     let input = g.I.Read.remaining c.args.input.now in
     let opened = c.in_ok-open-in-Some in
     let stopped = c.in_err-rewrite-in-Some in
+    let was = g.W.Write.contents c.args.out.now in
+    let is = g.W.Write.contents c.rewrite-in-Some.new.out in
     record {
       all = λ none. absurd (not_none c.in-Some.is none);
       end = λ none. absurd (not_none c.in-Some.is none);
@@ -83,8 +85,9 @@ returns-in_err-rewrite-in-Some g c =
       unread = λ named. refl;
       named = λ h. if_named _ c.in-Some.is (no_ok c.from_residual-in_err-rewrite-in-Some.result _ _ c.from_residual-in_err-rewrite-in-Some.ensures.1);
       front_named = λ h. if_named _ c.in-Some.is (on_err
-          (WritesFront (flat_map spelling) (g.M.Machine.text_of machine c.in-Some.path.now) (g.W.Write.contents c.args.out.now) (g.W.Write.contents c.rewrite-in-Some.new.out))
-          c.from_residual-in_err-rewrite-in-Some.result (λ entries mbox. stopped.ensures.front _ entries (possible_whole _ _ (opened.ensures.text h) stopped.ensures.budget) mbox));
+          (WritesFront (flat_map spelling) (g.M.Machine.text_of machine c.in-Some.path.now) was is)
+          c.from_residual-in_err-rewrite-in-Some.result (λ entries mbox.
+          stopped.ensures.front _ entries (possible_whole _ _ (opened.ensures.text h) stopped.ensures.budget) mbox));
       cause = λ h. of_fault _ _ c.from_residual-in_err-rewrite-in-Some.ensures.1
           (of_read_file (g.M.Machine.text_of machine) (g.M.Machine.refuses_source machine) (g.M.Machine.refuses_maildir machine) input input
           (command.Rewrite c.args.file) c.in-Some.path.now (ap (λ file. files_of (command.Rewrite file)) c.in-Some.is) _ _ _
