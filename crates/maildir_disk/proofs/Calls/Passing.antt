@@ -1,10 +1,10 @@
 -- What follows from what is assumed of a system.
 use Rattle.std.proofs.Common.{◌≡◌, inl, inr, ℕ, ◌+◌, ◌≤◌, ◌<◌, List, [], ◌∷◌, ◌++◌, map, append_assoc, refl, sym, ◌∙◌, ap}
-use Rattle.std.proofs.Common.{subst, arith, IsPermutation, Result, Ok, Err, IsErr, Option, Vec, String, Global, rules}
+use Rattle.std.proofs.Common.{subst, arith, IsPermutation, Result, Ok, Err, IsErr, IfOk, Option, Vec, String, Global, rules}
 use Rattle.maildir_disk.proofs.Common.{keys, Sub, Files, Action, acted, all_acted, Call, Listing, Move, Other, Again, moved, after, folder_of, IsWhole, Lists}
 use Rattle.maildir_disk.proofs.Common.{Listed, AnyMoves, IsSettled, IsFarAhead, World, margin_of, IsOfChange, Acts, Passes, IsStampWithin, ReadsNames}
 use Rattle.maildir_disk.specs.declared.one_moment.Look.{Look}
-use Rattle.maildir_disk.specs.Private.Look.{LookGives, Watched, WatchedOr}
+use Rattle.maildir_disk.specs.Private.Look.{LookGives, LookGivesQuietly, Watched, WatchedOr}
 
 pub all_acted-append : (xs ys : List Action) (s : Files) → all_acted (xs ++ ys) s ≡ all_acted ys (all_acted xs s)
 all_acted-append [] ys s = refl
@@ -45,6 +45,10 @@ passes_on {a} {c} p q = grind (arith, acts_on, longer)
 pub looked_fault : {E : Type 0} (sub : Sub) {a b : World} (outcome : Result Look E) → IsErr outcome → Acts a b → LookGives sub a outcome b
 looked_fault sub (Ok _) is_err p = cc
 looked_fault sub (Err _) is_err p = p
+
+pub exact_fault : {E : Type 0} (sub : Sub) (a : Files) (outcome : Result Look E) → IsErr outcome → IfOk outcome (LookGivesQuietly sub a)
+exact_fault sub a (Ok _) is_err = cc
+exact_fault sub a (Err _) is_err = tt
 
 pub watched_fault : {E : Type 0} (sub : Sub) (stamp : ℕ) {a b : World} (outcome : Result (Option (Vec (String Global) Global)) E)
     → IsErr outcome → Acts a b → WatchedOr sub stamp a outcome b

@@ -1,5 +1,5 @@
-use Rattle.std.proofs.Common.{◌≡◌, ◌<◌, ◌∙◌, Contains, length, arith}
-use Rattle.maildir_disk.proofs.Common.{files_of, HasRoom, lefts_of, Loses}
+use Rattle.std.proofs.Common.{◌≡◌, ◌<◌, ◌∙◌, length, arith}
+use Rattle.maildir_disk.proofs.Common.{files_of, HasRoom, lefts_of}
 use Rattle.maildir_disk.proofs.Memory.CaseLists.{all_lost, all_more, as_many, no_fewer, one_more, one_more_with, with_more}
 use Rattle.maildir_disk.proofs.Left.Lefts.{ok_then}
 use Rattle.maildir_disk.proofs.cases.Cases.may_lose.Goals as goal

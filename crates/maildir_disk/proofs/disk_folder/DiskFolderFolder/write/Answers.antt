@@ -1,5 +1,4 @@
 use Rattle.std.proofs.Common.{rules}
-use Rattle.maildir_disk.proofs.Common.{Writing}
 use Rattle.maildir_disk.proofs.Left.Lefts.{left_answered}
 use Rattle.maildir_disk.proofs.disk_folder.DiskFolderFolder.write.Goals as goal
 

@@ -1,5 +1,5 @@
 use Rattle.std.proofs.Common.{rules, arith}
-use Rattle.maildir_disk.proofs.Common.{Make, files_of, HasRoom, Loses}
+use Rattle.maildir_disk.proofs.Common.{Make}
 use Rattle.maildir_disk.proofs.Memory.Changes.{left_made, left_unmade, lost_after}
 use Rattle.maildir_disk.proofs.Left.Lefts.{if_ok, left_early, left_none}
 use Rattle.maildir_disk.proofs.mem_system.MemSystemSystem.create.Goals as goal

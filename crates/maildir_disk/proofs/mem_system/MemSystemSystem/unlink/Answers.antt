@@ -1,5 +1,5 @@
 use Rattle.std.proofs.Common.{rules}
-use Rattle.maildir_disk.proofs.Common.{Remove, files_of, HasRoom, Loses}
+use Rattle.maildir_disk.proofs.Common.{Remove}
 use Rattle.maildir_disk.proofs.Memory.Changes.{left_made, left_unmade, lost_after, keeps_none}
 use Rattle.maildir_disk.proofs.Left.Lefts.{if_ok, left_none}
 use Rattle.maildir_disk.proofs.mem_system.MemSystemSystem.unlink.Goals as goal
