@@ -9,3 +9,12 @@ returns-clause-left g c = λ honest.
 
 pub returns-clause-not_absent : goal.returns-clause-not_absent
 returns-clause-not_absent g c = search rules
+
+pub returns-clause-called : goal.returns-clause-called
+returns-clause-called g c = search rules
+
+pub returns-clause-quietly : goal.returns-clause-quietly
+returns-clause-quietly g c = search rules
+
+pub returns-clause-names : goal.returns-clause-names
+returns-clause-names g c = search rules

@@ -7,3 +7,6 @@ returns-clause-left g c = λ honest. rw c.count_call.ensures.system (left_always
 
 pub returns-clause-called : goal.returns-clause-called
 returns-clause-called g c = search rules
+
+pub returns-clause-gone : goal.returns-clause-gone
+returns-clause-gone g c = search rules

@@ -6,3 +6,6 @@ returns-clause-path g c = search rules
 
 pub returns-clause-calls : goal.returns-clause-calls
 returns-clause-calls g c = search rules
+
+pub returns-clause-failures : goal.returns-clause-failures
+returns-clause-failures g c = search rules
