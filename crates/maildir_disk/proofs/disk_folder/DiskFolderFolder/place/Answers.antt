@@ -1,12 +1,35 @@
-use Rattle.std.proofs.Common.{rules}
+use Rattle.std.proofs.Common.{◌≡◌, Ok, IfOk, IsErr, OnErr, rules}
+use Rattle.maildir_disk.proofs.Common.{Placing}
 use Rattle.maildir_disk.proofs.Left.Lefts.{left_always}
+use Rattle.maildir_disk.proofs.Calls.Answered.{called_answered, quietly_answered}
 use Rattle.maildir_disk.proofs.disk_folder.DiskFolderFolder.place.Goals as goal
 
 pub returns-clause-left : goal.returns-clause-left
 returns-clause-left g c = λ honest. rw c.count_call.ensures.system (left_always _ (λ s. tt) (c.rename.ensures.left honest))
 
 pub returns-clause-called : goal.returns-clause-called
-returns-clause-called g c = search rules
+returns-clause-called g c = λ honest.
+    let ok : IfOk c.rename.result (λ value. c.match-rename.answer ≡ Ok value) = search rules in
+    let err : OnErr c.rename.result (IsErr c.match-rename.answer) = search rules in
+    let call = Placing c.args.name.now c.args.place c.args.target.now in
+    rw (c.count_call.ensures.system, c.count_call.ensures.same)
+    (called_answered call (g.S.System.world c.args.self.now.system).files (g.S.System.world c.rename.new.self).files
+    _ _ ok err (c.rename.ensures.called honest))
+
+pub returns-clause-quietly : goal.returns-clause-quietly
+returns-clause-quietly g c = λ quiet.
+    let ok : IfOk c.rename.result (λ value. c.match-rename.answer ≡ Ok value) = search rules in
+    let err : OnErr c.rename.result (IsErr c.match-rename.answer) = search rules in
+    let call = Placing c.args.name.now c.args.place c.args.target.now in
+    rw (c.count_call.ensures.system, c.count_call.ensures.same)
+    (quietly_answered call (g.S.System.world c.args.self.now.system).files (g.S.System.world c.rename.new.self).files
+    _ _ ok err (c.rename.ensures.quietly quiet))
 
 pub returns-clause-gone : goal.returns-clause-gone
 returns-clause-gone g c = search rules
+
+pub returns-clause-honest : goal.returns-clause-honest
+returns-clause-honest g c = λ honest. rw c.count_call.ensures.system (c.rename.ensures.honest honest)
+
+pub returns-clause-quiet : goal.returns-clause-quiet
+returns-clause-quiet g c = λ quiet. rw c.count_call.ensures.system (c.rename.ensures.quiet quiet)
