@@ -2,16 +2,18 @@
 use Rattle.std.proofs.Common.{◌≡◌, Result, Ok, Err, IfOk, IsErr, OnErr}
 use Rattle.maildir_disk.proofs.Common.{Files, Call, Called, CalledQuietly}
 
-pub called_answered : {A E F : Type 0} (call : Call) (a b : Files) (outcome : Result A E) (answer : Result A F)
-    → IfOk outcome (λ value. answer ≡ Ok value) → OnErr outcome (IsErr answer) → Called call a outcome b → Called call a answer b
-called_answered call a b (Ok x) (Ok y) ok err h = h
-called_answered call a b (Ok x) (Err f) ok err h = cc
-called_answered call a b (Err e) (Ok y) ok err h = cc
-called_answered call a b (Err e) (Err f) ok err h = h
+pub called_answered : {S A E F : Type 0} {s t : S} (call : Call) (files_of : S → Files) (a : Files) (outcome : Result A E) (answer : Result A F)
+    → t ≡ s → IfOk outcome (λ value. answer ≡ Ok value) → OnErr outcome (IsErr answer)
+    → Called call a outcome (files_of s) → Called call a answer (files_of t)
+called_answered call files_of a (Ok x) (Ok y) e ok err h = rw e h
+called_answered call files_of a (Ok x) (Err f) e ok err h = cc
+called_answered call files_of a (Err e) (Ok y) e' ok err h = cc
+called_answered call files_of a (Err e) (Err f) e' ok err h = rw e' h
 
-pub quietly_answered : {A E F : Type 0} (call : Call) (a b : Files) (outcome : Result A E) (answer : Result A F)
-    → IfOk outcome (λ value. answer ≡ Ok value) → OnErr outcome (IsErr answer) → CalledQuietly call a outcome b → CalledQuietly call a answer b
-quietly_answered call a b (Ok x) (Ok y) ok err h = h
-quietly_answered call a b (Ok x) (Err f) ok err h = cc
-quietly_answered call a b (Err e) (Ok y) ok err h = cc
-quietly_answered call a b (Err e) (Err f) ok err h = h
+pub quietly_answered : {S A E F : Type 0} {s t : S} (call : Call) (files_of : S → Files) (a : Files) (outcome : Result A E) (answer : Result A F)
+    → t ≡ s → IfOk outcome (λ value. answer ≡ Ok value) → OnErr outcome (IsErr answer)
+    → CalledQuietly call a outcome (files_of s) → CalledQuietly call a answer (files_of t)
+quietly_answered call files_of a (Ok x) (Ok y) e ok err h = rw e h
+quietly_answered call files_of a (Ok x) (Err f) e ok err h = cc
+quietly_answered call files_of a (Err e) (Ok y) e' ok err h = cc
+quietly_answered call files_of a (Err e) (Err f) e' ok err h = rw e' h

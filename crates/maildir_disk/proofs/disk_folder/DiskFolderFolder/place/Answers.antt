@@ -12,18 +12,18 @@ returns-clause-called g c = λ honest.
     let ok : IfOk c.rename.result (λ value. c.match-rename.answer ≡ Ok value) = search rules in
     let err : OnErr c.rename.result (IsErr c.match-rename.answer) = search rules in
     let call = Placing c.args.name.now c.args.place c.args.target.now in
-    rw (c.count_call.ensures.system, c.count_call.ensures.same)
-    (called_answered call (g.S.System.world c.args.self.now.system).files (g.S.System.world c.rename.new.self).files
-    _ _ ok err (c.rename.ensures.called honest))
+    rw c.count_call.ensures.same
+    (called_answered call (λ system. (g.S.System.world system).files)
+    (g.S.System.world c.args.self.now.system).files _ _ c.count_call.ensures.system ok err (c.rename.ensures.called honest))
 
 pub returns-clause-quietly : goal.returns-clause-quietly
 returns-clause-quietly g c = λ quiet.
     let ok : IfOk c.rename.result (λ value. c.match-rename.answer ≡ Ok value) = search rules in
     let err : OnErr c.rename.result (IsErr c.match-rename.answer) = search rules in
     let call = Placing c.args.name.now c.args.place c.args.target.now in
-    rw (c.count_call.ensures.system, c.count_call.ensures.same)
-    (quietly_answered call (g.S.System.world c.args.self.now.system).files (g.S.System.world c.rename.new.self).files
-    _ _ ok err (c.rename.ensures.quietly quiet))
+    rw c.count_call.ensures.same
+    (quietly_answered call (λ system. (g.S.System.world system).files)
+    (g.S.System.world c.args.self.now.system).files _ _ c.count_call.ensures.system ok err (c.rename.ensures.quietly quiet))
 
 pub returns-clause-gone : goal.returns-clause-gone
 returns-clause-gone g c = search rules

@@ -9,15 +9,17 @@ returns-clause-left g c = λ honest. rw c.count_call.ensures.system (left_always
 
 pub returns-clause-called : goal.returns-clause-called
 returns-clause-called g c = λ honest.
-    rw (c.count_call.ensures.system, c.count_call.ensures.same)
-    (called_answered (Removing c.args.name.now) (g.S.System.world c.args.self.now.system).files (g.S.System.world c.unlink.new.self).files
-    _ _ c.answer_of-answer.ensures.ok c.answer_of-answer.ensures.err (c.unlink.ensures.called honest))
+    rw c.count_call.ensures.same
+    (called_answered (Removing c.args.name.now) (λ system. (g.S.System.world system).files)
+    (g.S.System.world c.args.self.now.system).files _ _ c.count_call.ensures.system
+    c.answer_of-answer.ensures.ok c.answer_of-answer.ensures.err (c.unlink.ensures.called honest))
 
 pub returns-clause-cause : goal.returns-clause-cause
 returns-clause-cause g c = search rules
 
 pub returns-clause-quietly : goal.returns-clause-quietly
 returns-clause-quietly g c = λ quiet.
-    rw (c.count_call.ensures.system, c.count_call.ensures.same)
-    (quietly_answered (Removing c.args.name.now) (g.S.System.world c.args.self.now.system).files (g.S.System.world c.unlink.new.self).files
-    _ _ c.answer_of-answer.ensures.ok c.answer_of-answer.ensures.err (c.unlink.ensures.quietly quiet))
+    rw c.count_call.ensures.same
+    (quietly_answered (Removing c.args.name.now) (λ system. (g.S.System.world system).files)
+    (g.S.System.world c.args.self.now.system).files _ _ c.count_call.ensures.system
+    c.answer_of-answer.ensures.ok c.answer_of-answer.ensures.err (c.unlink.ensures.quietly quiet))

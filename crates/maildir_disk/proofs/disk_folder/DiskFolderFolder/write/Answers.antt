@@ -11,10 +11,10 @@ returns-clause-left g c = λ honest.
 
 pub returns-clause-called : goal.returns-clause-called
 returns-clause-called g c = λ honest.
-    rw (c.count_call.ensures.system, c.count_call.ensures.same)
-    (called_answered (Writing c.args.name.now c.args.bytes.now) (g.S.System.world c.args.self.now.system).files
-    (g.S.System.world c.write_synced.new.system).files
-    _ _ c.answer_of-answer.ensures.ok c.answer_of-answer.ensures.err (c.write_synced.ensures.called honest))
+    rw c.count_call.ensures.same
+    (called_answered (Writing c.args.name.now c.args.bytes.now) (λ system. (g.S.System.world system).files)
+    (g.S.System.world c.args.self.now.system).files _ _ c.count_call.ensures.system
+    c.answer_of-answer.ensures.ok c.answer_of-answer.ensures.err (c.write_synced.ensures.called honest))
 
 pub returns-clause-counted : goal.returns-clause-counted
 returns-clause-counted g c = search rules
@@ -24,7 +24,7 @@ returns-clause-cause g c = search rules
 
 pub returns-clause-quietly : goal.returns-clause-quietly
 returns-clause-quietly g c = λ quiet.
-    rw (c.count_call.ensures.system, c.count_call.ensures.same)
-    (quietly_answered (Writing c.args.name.now c.args.bytes.now) (g.S.System.world c.args.self.now.system).files
-    (g.S.System.world c.write_synced.new.system).files
-    _ _ c.answer_of-answer.ensures.ok c.answer_of-answer.ensures.err (c.write_synced.ensures.quietly quiet))
+    rw c.count_call.ensures.same
+    (quietly_answered (Writing c.args.name.now c.args.bytes.now) (λ system. (g.S.System.world system).files)
+    (g.S.System.world c.args.self.now.system).files _ _ c.count_call.ensures.system
+    c.answer_of-answer.ensures.ok c.answer_of-answer.ensures.err (c.write_synced.ensures.quietly quiet))
