@@ -11,6 +11,13 @@ returns-in_err-finish-clause-went g c =
     (finish_breaks c.args.self.now _ c.in_err-finish.ensures.causes (rw c.if-n-eq0.true at gave.1) (gave.2 c.if-n-eq0.true)
     (λ e text given taken. c.in_err-finish.ensures.no_from_line (ap Err e) text given (rw c.replace-splitter.ensures.value taken)))
 
+pub returns-then-n-eq0-clause-went : goal.returns-then-n-eq0-clause-went
+returns-then-n-eq0-clause-went g c =
+    let gave = c.in_ok-n.ensures.gave in
+    let last = c.in_ok-finish.ensures.last in
+    let none = c.if-n-eq0.true in
+    (_, rw none at gave.1, gave.2 none, last.1, λ text given taken. (last.2 text given (rw c.replace-splitter.ensures.value taken)).0)
+
 pub returns-in_err-feed-clause-went : goal.returns-in_err-feed-clause-went
 returns-in_err-feed-clause-went g c =
     let gave = c.in_ok-n.ensures.gave in
