@@ -4,6 +4,7 @@ use crate::runs::{ABC, File, UNENDED, folder_of, run_over};
 use crate::scripts::{Deed, turns_of};
 use maildir_disk::{DiskFolder, MemSystem, Stamps};
 use maildir_run::Sub;
+use std::alloc::Global;
 use std::test::Fail;
 use std::time::{Duration, Instant, UNIX_EPOCH};
 
@@ -31,13 +32,18 @@ fn flag_while_listed(rt: HostRuntime) -> Result<(), Fail> {
     const FILES: &[File<'_>] = &[(Sub::Cur, "u:2,", "abc")];
     const DEEDS: &[Deed<'_>] = &[Deed::Reflag("u", ":2,", ":2,S")];
     for stamps in STAMPS {
-        let mut folder = DiskFolder::new(system_of(rt, *stamps, FILES, DEEDS, 8)?);
-        assert!(rt;
-            lists(&mut folder, false, Sub::Cur, &["u:2,S"]),
-            "{stamps:?}"
-        );
+        let system = system_of(rt, *stamps, FILES, DEEDS, 8)?;
+        let listed = lists(&mut DiskFolder::new(system), false, Sub::Cur, &["u:2,S"]);
+        assert!(rt; listed, "{stamps:?}");
     }
     Ok(())
+}
+
+// Whether a message is found there, and two others are placed by the next run.
+fn finds_and_places(alloc: Global, system: MemSystem) -> bool {
+    let mut folder = DiskFolder::new(system);
+    run_over(alloc, &mut folder, UNENDED) == Ok((1, 1, 0, 0))
+        && run_over(alloc, &mut folder, b"From x\nd\nFrom x\n") == Ok((2, 0, 2, 0))
 }
 
 // A message is found whose file gets a flag meanwhile, and others are placed by the next run.
@@ -50,12 +56,8 @@ fn conversions_in_memory(rt: HostRuntime) -> Result<(), Fail> {
     )];
     const DEEDS: &[Deed<'_>] = &[Deed::Reflag(ABC, ":2,", ":2,S")];
     for stamps in STAMPS {
-        let mut folder = DiskFolder::new(system_of(rt, *stamps, THERE, DEEDS, 8)?);
-        assert!(rt;
-            run_over(rt.alloc(), &mut folder, UNENDED) == Ok((1, 1, 0, 0))
-                && run_over(rt.alloc(), &mut folder, b"From x\nd\nFrom x\n") == Ok((2, 0, 2, 0)),
-            "{stamps:?}"
-        );
+        let system = system_of(rt, *stamps, THERE, DEEDS, 8)?;
+        assert!(rt; finds_and_places(rt.alloc(), system), "{stamps:?}");
     }
     Ok(())
 }

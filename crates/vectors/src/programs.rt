@@ -7,7 +7,8 @@ use crate::streams::{Cut, Narrow};
 use maildir_commands::{Machine, MemMachine, NamedText, execute, run};
 use maildir_disk::Stamps;
 use maildir_run::Sub;
-use std::io::BufWriter;
+use std::alloc::Global;
+use std::io::{self, BufWriter};
 use std::test::Fail;
 
 const TEXTS: &[NamedText<'static>] = &[
@@ -27,16 +28,16 @@ const TEXTS: &[NamedText<'static>] = &[
 
 const OTHER: &[File<'_>] = &[(Sub::Cur, "u:2,", "abc")];
 
-// A machine whose Maildirs nobody else is at.
-fn machine_of(rt: HostRuntime) -> Result<MemMachine<'static>, Fail> {
-    const MAILDIRS: &[(&str, &[File<'_>])] = &[("M", &[]), ("N", OTHER)];
-    let alloc = rt.alloc();
-    let mut machine = MemMachine::new(alloc, TEXTS);
-    for &(word, files) in MAILDIRS {
-        let system = system_of(rt, Stamps::Fine, files, &[], 1)?;
-        machine.put(String::from_str(alloc, word)?, system)?;
-    }
-    Ok(machine)
+// Sets the Maildir of this word, at which nobody else is.
+fn put_maildir(
+    rt: HostRuntime,
+    machine: &mut MemMachine<'static>,
+    word: &str,
+    files: &[File<'_>],
+) -> Result<(), Fail> {
+    let word = String::from_str(rt.alloc(), word)?;
+    machine.put(word, system_of(rt, Stamps::Fine, files, &[], 1)?)?;
+    Ok(())
 }
 
 // Whether both Maildirs are closed, the one holds these files, and the other is as it was.
@@ -49,31 +50,31 @@ fn leaves(machine: &MemMachine<'static>, files: &[File<'_>]) -> bool {
     }
 }
 
-// Whether the program ends so on these words, and leaves the Maildirs so.
-fn ends_so(rt: HostRuntime, row: &Row) -> Result<bool, Fail> {
-    let alloc = rt.alloc();
+// Whether the program ends so on these words.
+fn ends_on(
+    alloc: Global,
+    machine: &mut MemMachine<'static>,
+    words: &[String],
+    row: &Row,
+) -> io::Result<bool> {
     let Setting {
         then,
         room,
         told,
         is_open,
     } = row.setting;
-    let words = names(alloc, row.words)?;
-    let mut machine = machine_of(rt)?;
+    let mut out = BufWriter::with_capacity(alloc, 16, Narrow::new(alloc, room, 64, true))?;
+    let mut err = Narrow::new(alloc, told, 64, true);
+    let mut input = Cut::new(b"From z\nd", 4, then);
     let open = if is_open {
         machine.open_maildir("M").ok()
     } else {
         None
     };
-    let mut input = Cut::new(b"From z\nd", 4, then);
-    let mut out = BufWriter::with_capacity(alloc, 16, Narrow::new(alloc, room, 64, true))?;
-    let mut err = Narrow::new(alloc, told, 64, true);
     let ended = match row.end {
-        End::Status(status) => {
-            run(&mut machine, alloc, &words, &mut input, &mut out, &mut err) == status
-        }
+        End::Status(status) => run(machine, alloc, words, &mut input, &mut out, &mut err) == status,
         End::Ending(ending) => {
-            execute(&mut machine, alloc, &words, &mut input, &mut out, &mut err) == ending
+            execute(machine, alloc, words, &mut input, &mut out, &mut err) == ending
         }
     };
     if let Some(maildir) = open {
@@ -82,9 +83,17 @@ fn ends_so(rt: HostRuntime, row: &Row) -> Result<bool, Fail> {
     Ok(
         ended
             && out.get_ref().taken.as_slice() == row.out.as_bytes()
-            && err.taken.as_slice() == row.err.as_bytes()
-            && leaves(&machine, row.files),
+            && err.taken.as_slice() == row.err.as_bytes(),
     )
+}
+
+// Whether the program ends so on these words, and leaves the Maildirs so.
+fn ends_so(rt: HostRuntime, row: &Row) -> Result<bool, Fail> {
+    let words = names(rt.alloc(), row.words)?;
+    let mut machine = MemMachine::new(rt.alloc(), TEXTS);
+    put_maildir(rt, &mut machine, "M", &[])?;
+    put_maildir(rt, &mut machine, "N", OTHER)?;
+    Ok(ends_on(rt.alloc(), &mut machine, &words, row)? && leaves(&machine, row.files))
 }
 
 #[test]
