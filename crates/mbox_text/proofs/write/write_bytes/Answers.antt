@@ -1,4 +1,4 @@
-use Rattle.std.proofs.Common.{arith}
+use Rattle.std.proofs.Common.{arith, rules}
 use Rattle.std.proofs.KnownBytes.{Appends-kept}
 use Rattle.std.proofs.lemmas.List.{take_rest, length-drop}
 use Rattle.mbox_text.proofs.Written.Appended.{front_at, part_more}
@@ -27,3 +27,6 @@ writes-preserved g c =
 
 pub returns-clause-written : goal.returns-clause-written
 returns-clause-written g c = front_at _ _ _ c.writes.invariant.written
+
+pub returns-then-is_empty-clause-empty : goal.returns-then-is_empty-clause-empty
+returns-then-is_empty-clause-empty g c = search rules

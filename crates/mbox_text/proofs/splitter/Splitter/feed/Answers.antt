@@ -1,11 +1,15 @@
+use Rattle.std.proofs.Common.{rules}
 use Rattle.mbox_text.proofs.Splitting.Giving.{fed_taken, fed_never, fed_part}
 use Rattle.mbox_text.proofs.splitter.Splitter.feed.Goals as goal
 
 pub returns-clause-fed : goal.returns-clause-fed
-returns-clause-fed c = fed_taken _ _ _ _ _ _ c.is_err-self.ensures.value c.take_piece-taken.ensures.moved
+returns-clause-fed c = search (rules, fed_taken)
 
 pub returns-clause-no_from_line : goal.returns-clause-no_from_line
 returns-clause-no_from_line c = fed_never c.args.piece.now c.take_piece-taken.ensures.stopped
 
 pub returns-clause-out_of_memory : goal.returns-clause-out_of_memory
 returns-clause-out_of_memory c = fed_part _ c.take_piece-taken.ensures.stopped
+
+pub returns-clause-state : goal.returns-clause-state
+returns-clause-state c = search rules

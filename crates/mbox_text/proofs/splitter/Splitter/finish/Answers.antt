@@ -1,4 +1,4 @@
-use Rattle.std.proofs.Common.{◌++◌, vec_len, ap, sym, refl, ◌∙◌, arith, Ok, Err, Some, None}
+use Rattle.std.proofs.Common.{◌++◌, vec_len, ap, sym, refl, ◌∙◌, arith, Ok, Some}
 use Rattle.std.proofs.lemmas.Bool.{eqb-true, eqb-false}
 use Rattle.std.proofs.lemmas.List.{nil_from_length}
 use Rattle.std.proofs.lemmas.Result.{err_from_is_err_and}
@@ -54,3 +54,6 @@ pub returns-else-not-begins_with_from-clause-no_from_line : goal.returns-else-no
 returns-else-not-begins_with_from-clause-no_from_line c =
     not_short_head c.args.self (Ok (Some (record { from_line = c.new.result; body = c.new-in-None-2.result }))) c.in-None.is c.deref-in-None.ensures.value
     (sym c.if-not-begins_with_from.ensures) (λ e. absurd (cc))
+
+pub returns-then-not-begins_with_from-clause-last : goal.returns-then-not-begins_with_from-clause-last
+returns-then-not-begins_with_from-clause-last c = tt
