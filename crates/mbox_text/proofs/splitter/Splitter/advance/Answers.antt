@@ -1,4 +1,4 @@
-use Rattle.std.proofs.Common.{◌≡◌, ℕ, ◌+◌, ◌-◌, ◌++◌, List, [], ◌∷◌, length, take, drop, arith, ap, ◌∙◌, sym, append_assoc, refl}
+use Rattle.std.proofs.Common.{◌≡◌, ℕ, ◌+◌, ◌-◌, ◌++◌, List, [], ◌∷◌, length, take, drop, arith, ap, ◌∙◌, sym, append_assoc, take_all, refl}
 use Rattle.std.proofs.lemmas.List.{append-nil, take_rest, take-append-drop}
 use Rattle.mbox_text.specs.declared.fault.TextFault.TheVariants.{OutOfMemory}
 use Rattle.mbox_text.proofs.TextLines.LineEnds.{line-there, none-there}
@@ -68,3 +68,13 @@ returns-in_err-add_part-in-None-clause-stopped c =
     let g = gives_none c.args.self.now c.take_body_lines.new.self (take at text) c.in_err-add_part-in-None.ensures.kept c.in_ok-at.ensures.held in
     handed_on _ _ c.from_residual-in_err-add_part-in-None.ensures
     (stops_at _ _ _ _ rest [] _ _ g c.in_err-add_part-in-None.ensures.stopped is)
+
+pub returns-in_ok-add_part-in-None-clause-moved : goal.returns-in_ok-add_part-in-None-clause-moved
+returns-in_ok-add_part-in-None-clause-moved c =
+    let text = c.args.text.now in
+    let at = c.in_ok-at.at in
+    let rest = take (length text - at) (drop at text) in
+    let is : take at text ++ rest ≡ text = rw (take_rest text at) (take-append-drop at text) in
+    let g = gives_then c.args.self.now c.take_body_lines.new.self c.add_part-in-None.new.self _ _ _
+    (gives_none c.args.self.now c.take_body_lines.new.self (take at text) refl c.in_ok-at.ensures.held) c.in_ok-add_part-in-None.ensures.moved in
+    rw (take_all (length text) text (omega arith)) (rw is at g)
