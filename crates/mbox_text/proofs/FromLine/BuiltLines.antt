@@ -1,6 +1,6 @@
 -- From_ lines that are taken apart and built.
 use Rattle.std.proofs.Common.{◌≡◌, ℕ, zero, suc, add-zero, ◌+◌, ◌-◌, ◌<◌, ◌≤◌, true, false, Option, Some, None, Result, Ok, Err, cond, eqb, List, []}
-use Rattle.std.proofs.Common.{◌∷◌, ◌++◌, get_or, length, take, drop, map, refl, sym, ◌∙◌, ap, arith, append_assoc, Contains, OnOk, IsErrOf, codes, is_ok, is_some}
+use Rattle.std.proofs.Common.{◌∷◌, ◌++◌, get_or, length, take, drop, map, refl, sym, ◌∙◌, ap, arith, append_assoc, Contains, OnOk, codes, is_ok, is_some}
 use Rattle.std.proofs.lemmas.Bool.{ne_eqb, false_from_ne_true, false≢true}
 use Rattle.std.proofs.lemmas.List.{append-nil, drop_at, drop_more, get_or-drop, length-drop, length-take, take_rest}
 use Rattle.memchr.specs.Find.{IsFirstByte, is_byte}
@@ -77,9 +77,6 @@ built-line s r h = grind (arith, NoEnd-append, NoEnd-cleaned, NoEnd-behind)
 pub is-built : {line : List ℕ} (s r : List ℕ) (found : Option ℕ) → IsFirstByte (is_byte 10) r found → is_some found ≡ false → line ≡ built s r → IsFromLine line
 is-built s r None h e is = rw is (built-line s r (none-there r h))
 is-built s r (Some n) h e is = absurd (false≢true (sym e))
-
-pub ok_no_err : {T E : Type 0} (x : T) (e : E) → IsErrOf (Ok x) e → ⊥
-ok_no_err x e is = cc
 
 pub not-found : (r : List ℕ) (found : Option ℕ) → IsFirstByte (is_byte 10) r found → is_some found ≡ false → Contains r 10 → ⊥
 not-found r None h e there = grind (arith, NoEnd-at r there.0 10 (none-there r h) there.1)

@@ -1,7 +1,7 @@
 use Rattle.std.proofs.Common.{rules, sym, inl, inr}
 use Rattle.std.proofs.lemmas.Bool.{eqb-true}
 use Rattle.std.proofs.lemmas.List.{nil_from_length}
-use Rattle.std.proofs.lemmas.Result.{err_from_is_err_and}
+use Rattle.mbox_text.proofs.Faults.{ok_no_err, memory_no_line}
 use Rattle.mbox_text.proofs.Reading.Blocks.{not_mbox}
 use Rattle.mbox_text.proofs.split.split_all.Goals as goal
 use Rattle.mbox_text.proofs.split.split_all.Goals.{else-not-is_empty-via-then-not-is_empty+else-not-begins_with_from, else-not-is_empty-via-else-not-is_empty}
@@ -21,7 +21,7 @@ returns-clause-entries c = search rules
 
 pub returns-clause-no_from_line : goal.returns-clause-no_from_line
 returns-clause-no_from_line c = (
-  λ e. absurd (cc),
+  λ e. absurd (ok_no_err _ _ e),
   λ no. absurd (no (elim c.else-not-is_empty.branch [
     | else-not-is_empty-via-then-not-is_empty+else-not-begins_with_from w ↦ inr (sym w.if-not-begins_with_from.ensures)
     | else-not-is_empty-via-else-not-is_empty w ↦ inl (nil_from_length _ (eqb-true _ _ (sym w.if-not-is_empty.ensures)))
@@ -29,13 +29,10 @@ returns-clause-no_from_line c = (
 )
 
 pub returns-in_err-split_blocks-clause-no_from_line : goal.returns-in_err-split_blocks-clause-no_from_line
-returns-in_err-split_blocks-clause-no_from_line c =
-    let p = err_from_is_err_and c.from_residual.result c.from_residual.ensures.1 in
-    let p1 = p.1 in
-    let p2 = p.2 in (
-      λ e. absurd (cc (p1, p2)),
-      λ no. absurd (no (elim c.else-not-is_empty.branch [
-        | else-not-is_empty-via-then-not-is_empty+else-not-begins_with_from w ↦ inr (sym w.if-not-begins_with_from.ensures)
-        | else-not-is_empty-via-else-not-is_empty w ↦ inl (nil_from_length _ (eqb-true _ _ (sym w.if-not-is_empty.ensures)))
-      ])),
-    )
+returns-in_err-split_blocks-clause-no_from_line c = (
+  λ e. absurd (memory_no_line _ c.from_residual.ensures.1 e),
+  λ no. absurd (no (elim c.else-not-is_empty.branch [
+    | else-not-is_empty-via-then-not-is_empty+else-not-begins_with_from w ↦ inr (sym w.if-not-begins_with_from.ensures)
+    | else-not-is_empty-via-else-not-is_empty w ↦ inl (nil_from_length _ (eqb-true _ _ (sym w.if-not-is_empty.ensures)))
+  ])),
+)
