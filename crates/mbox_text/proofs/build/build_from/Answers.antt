@@ -12,6 +12,7 @@ returns-clause-line_end_in_rest c =
     (λ e. absurd (ok_no_err _ _ e), λ there. absurd (not-found _ _ c.memchr.ensures (sym c.if-is_some.ensures) there))
 
 pub returns-in_err-join-clause-line_end_in_rest : goal.returns-in_err-join-clause-line_end_in_rest
-returns-in_err-join-clause-line_end_in_rest c =
-    (λ e. absurd (memory_no_line_end _ c.from_residual.ensures.1 e),
-    λ there. absurd (not-found _ _ c.memchr.ensures (sym c.if-is_some.ensures) there))
+returns-in_err-join-clause-line_end_in_rest c = (
+  λ e. absurd (memory_no_line_end _ c.from_residual.ensures.1 e),
+  λ there. absurd (not-found _ _ c.memchr.ensures (sym c.if-is_some.ensures) there),
+)

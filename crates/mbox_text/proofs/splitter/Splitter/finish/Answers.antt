@@ -1,19 +1,16 @@
 use Rattle.std.proofs.Common.{◌++◌, vec_len, ap, sym, refl, ◌∙◌, arith, Ok, Some}
 use Rattle.std.proofs.lemmas.Bool.{eqb-true, eqb-false}
 use Rattle.std.proofs.lemmas.List.{nil_from_length}
-use Rattle.std.proofs.lemmas.Result.{err_from_is_err_and}
 use Rattle.mbox_text.specs.declared.partial_message.PartialMessage.{PartialMessage}
 use Rattle.mbox_text.specs.Private.Moved.{chopped}
 use Rattle.mbox_text.specs.Quoting.{unquoted}
+use Rattle.mbox_text.proofs.Faults.{ok_no_err, memory_no_line}
 use Rattle.mbox_text.proofs.Splitting.Finishing.{ends_body, ends_head, ends_none, ends_some, not_short_body, not_short_head, short_none, short_refused}
 use Rattle.mbox_text.proofs.splitter.Splitter.finish.Goals as goal
 
 pub returns-in_err-close_with-in-Some-clause-no_from_line : goal.returns-in_err-close_with-in-Some-clause-no_from_line
 returns-in_err-close_with-in-Some-clause-no_from_line c =
-    let p = err_from_is_err_and c.from_residual.result c.from_residual.ensures.1 in
-    let p1 = p.1 in
-    let p2 = p.2 in
-    not_short_body c.args.self c.from_residual.result c.in-Some.is (λ e. absurd (cc (p1, p2)))
+    not_short_body c.args.self c.from_residual.result c.in-Some.is (memory_no_line _ c.from_residual.ensures.1)
 
 pub returns-then-is_empty-clause-last : goal.returns-then-is_empty-clause-last
 returns-then-is_empty-clause-last c =
@@ -22,7 +19,7 @@ returns-then-is_empty-clause-last c =
 
 pub returns-then-is_empty-clause-no_from_line : goal.returns-then-is_empty-clause-no_from_line
 returns-then-is_empty-clause-no_from_line c =
-    short_none (λ e. absurd (cc)) c.in-None.is
+    short_none (ok_no_err _ _) c.in-None.is
     (nil_from_length c.args.self.line.items (omega (arith, eqb-true (vec_len c.args.self.line) 0 (sym c.if-is_empty.ensures), c.args.self.line.ok)))
 
 pub returns-then-not-begins_with_from-clause-no_from_line : goal.returns-then-not-begins_with_from-clause-no_from_line
@@ -42,7 +39,7 @@ returns-in_ok-close_with-in-Some-clause-last c =
 
 pub returns-in_ok-close_with-in-Some-clause-no_from_line : goal.returns-in_ok-close_with-in-Some-clause-no_from_line
 returns-in_ok-close_with-in-Some-clause-no_from_line c =
-    not_short_body c.args.self (Ok (Some c.in_ok-close_with-in-Some.field-0)) c.in-Some.is (λ e. absurd (cc))
+    not_short_body c.args.self (Ok (Some c.in_ok-close_with-in-Some.field-0)) c.in-Some.is (ok_no_err _ _)
 
 pub returns-else-not-begins_with_from-clause-last : goal.returns-else-not-begins_with_from-clause-last
 returns-else-not-begins_with_from-clause-last c =
@@ -53,7 +50,7 @@ returns-else-not-begins_with_from-clause-last c =
 pub returns-else-not-begins_with_from-clause-no_from_line : goal.returns-else-not-begins_with_from-clause-no_from_line
 returns-else-not-begins_with_from-clause-no_from_line c =
     not_short_head c.args.self (Ok (Some (record { from_line = c.new.result; body = c.new-in-None-2.result }))) c.in-None.is c.deref-in-None.ensures.value
-    (sym c.if-not-begins_with_from.ensures) (λ e. absurd (cc))
+    (sym c.if-not-begins_with_from.ensures) (ok_no_err _ _)
 
 pub returns-then-not-begins_with_from-clause-last : goal.returns-then-not-begins_with_from-clause-last
 returns-then-not-begins_with_from-clause-last c = tt
