@@ -1,4 +1,4 @@
-use Rattle.std.proofs.Common.{◌∙◌, arith}
+use Rattle.std.proofs.Common.{◌∙◌}
 use Rattle.maildir_disk.proofs.Calls.Passing.{acts_on, listed_fault, failed_listing, lists_later}
 use Rattle.maildir_disk.proofs.Left.Lefts.{left_by_others_then}
 use Rattle.maildir_disk.proofs.one_moment.names_of_one_moment.Goals.{else-loop-test, then-loop-test+in_ok-names+in-Wait+in_ok-instant+then-ge}
@@ -41,13 +41,18 @@ loop-preserved g c = record {
 
 -- ---- what is listed
 pub returns-in_err-start-clause-listed : goal.returns-in_err-start-clause-listed
-returns-in_err-start-clause-listed g c = grind (arith, listed_fault)
+returns-in_err-start-clause-listed g c = λ honest.
+    listed_fault c.args.sub _ c.from_residual.ensures.0 (c.instant.ensures.acts honest)
 
 pub returns-in_err-names-clause-listed : goal.returns-in_err-names-clause-listed
-returns-in_err-names-clause-listed g c = grind (arith, listed_fault, acts_on)
+returns-in_err-names-clause-listed g c = λ honest.
+    let kept = c.loop.invariant.acted honest in
+    listed_fault c.args.sub _ c.from_residual-in_err-names.ensures.0 (acts_on kept.acts (c.in_err-names.ensures.looked kept.honest))
 
 pub returns-in-Taken-clause-listed : goal.returns-in-Taken-clause-listed
-returns-in-Taken-clause-listed g c = grind (arith, lists_later)
+returns-in-Taken-clause-listed g c = λ honest.
+    let kept = c.loop.invariant.acted honest in
+    lists_later kept.acts (rw c.in-Taken.is at (c.in_ok-names.ensures.looked kept.honest))
 
 pub returns-in_err-instant-clause-listed : goal.returns-in_err-instant-clause-listed
 returns-in_err-instant-clause-listed g c = λ honest.
@@ -95,19 +100,38 @@ returns-clause-left g c = λ honest.
 
 -- ---- in a quiet system
 pub returns-in_err-names-clause-quietly : goal.returns-in_err-names-clause-quietly
-returns-in_err-names-clause-quietly g c = grind arith
+returns-in_err-names-clause-quietly g c = λ quiet.
+    let kept = c.loop.invariant.quietly quiet in
+    c.take_names.ensures.quietly kept.0 ∙ kept.1
 
 pub returns-in-Taken-clause-quietly : goal.returns-in-Taken-clause-quietly
-returns-in-Taken-clause-quietly g c = grind arith
+returns-in-Taken-clause-quietly g c = λ quiet.
+    let kept = c.loop.invariant.quietly quiet in
+    c.take_names.ensures.quietly kept.0 ∙ kept.1
 
 pub returns-in-Taken-clause-exact : goal.returns-in-Taken-clause-exact
-returns-in-Taken-clause-exact g c = grind arith
+returns-in-Taken-clause-exact g c = λ quiet.
+    let kept = c.loop.invariant.quietly quiet in
+    rw kept.1 at (rw c.in-Taken.is at (c.in_ok-names.ensures.exact kept.0))
 
 pub returns-in_err-instant-clause-quietly : goal.returns-in_err-instant-clause-quietly
-returns-in_err-instant-clause-quietly g c = grind arith
+returns-in_err-instant-clause-quietly g c = λ quiet.
+    let kept = c.loop.invariant.quietly quiet in
+    c.instant-in-loop.ensures.quietly (c.take_names.ensures.quiet kept.0) ∙ (c.take_names.ensures.quietly kept.0 ∙ kept.1)
 
 pub returns-clause-quiet : goal.returns-clause-quiet
-returns-clause-quiet g c = grind arith
+returns-clause-quiet g c = λ quiet.
+    let kept = c.loop.invariant.quietly quiet in
+    elim c.loop-test.branch [
+      | else-loop-test w ↦ rw w.system-is kept.0
+      | then-loop-test+in_ok-names+in-Wait+in_ok-instant+then-ge w ↦ rw w.system-is (w.instant-in-loop.ensures.quiet (w.take_names.ensures.quiet kept.0))
+    ]
 
 pub returns-clause-quietly : goal.returns-clause-quietly
-returns-clause-quietly g c = grind arith
+returns-clause-quietly g c = λ quiet.
+    let kept = c.loop.invariant.quietly quiet in
+    elim c.loop-test.branch [
+      | else-loop-test w ↦ rw w.system-is kept.1
+      | then-loop-test+in_ok-names+in-Wait+in_ok-instant+then-ge w ↦
+          rw w.system-is (w.instant-in-loop.ensures.quietly (w.take_names.ensures.quiet kept.0) ∙ (w.take_names.ensures.quietly kept.0 ∙ kept.1))
+    ]
