@@ -1,6 +1,5 @@
 -- What a call of the folder did, by what the call of the system did that it answers.
-use Rattle.std.proofs.Common.{◌≡◌, Result, Ok, Err, IfOk, IsErr, OnErr}
-use Rattle.std.specs.Prelude.{IfErr, IsErrOf}
+use Rattle.std.proofs.Common.{◌≡◌, Result, Ok, Err, IfOk, IfErr, IsErr, IsErrOf, OnErr}
 use Rattle.maildir_disk.proofs.Common.{Files, Call, Called, CalledQuietly}
 
 pub called_answered : {S A E F : Type 0} {s t : S} (call : Call) (files_of : S → Files) (a : Files) (outcome : Result A E) (answer : Result A F)

@@ -1,5 +1,4 @@
-use Rattle.std.proofs.Common.{◌≡◌, Ok, IfOk, IsErr, OnErr, rules}
-use Rattle.std.specs.Prelude.{IfErr, IsErrOf}
+use Rattle.std.proofs.Common.{◌≡◌, Ok, IfOk, IfErr, IsErr, IsErrOf, OnErr, rules}
 use Rattle.std.specs.IoError.{error_kind}
 use Rattle.std.specs.declared.io.ErrorKind.TheVariants.{NotFound}
 use Rattle.maildir_run.specs.declared.folder.FolderFault.TheVariants.{Absent}
