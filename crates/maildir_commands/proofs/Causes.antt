@@ -6,6 +6,8 @@ use Rattle.std.specs.List.{Contains}
 use Rattle.maildir_run.specs.declared.fault.RunFault.{RunFault}
 use Rattle.maildir_run.specs.declared.fault.RunFault.TheVariants as run
 use Rattle.maildir_run.specs.declared.folder.FolderFault.TheVariants as folder
+use Rattle.maildir_run.specs.Counting.{CallNumber, GoesUpWith}
+use Rattle.maildir_run.specs.declared.report.Report.{Report}
 use Rattle.maildir_run.specs.Output.{GivesNothing}
 use Rattle.maildir_run.specs.Reading.{IsReading, ReadsAtLeast, ReadsAtMost}
 use Rattle.maildir_run.specs.Runs.{Possible}
@@ -14,7 +16,7 @@ use Rattle.maildir_disk.specs.declared.faults.OpenFault.TheVariants as opening
 use Rattle.maildir_commands.specs.declared.command.Command.{Command}
 use Rattle.maildir_commands.specs.declared.fault.Fault.{Fault}
 use Rattle.maildir_commands.specs.declared.fault.Fault.TheVariants.{Source, Folder, Locked, Run}
-use Rattle.maildir_commands.specs.Causes.{IsCauseOf, IsInto, IsNoMbox, IsOfDelivery, IsOfOne, IsOfRun, IsPossibly, IsToldAs, IsTooLong, files_of}
+use Rattle.maildir_commands.specs.Causes.{IsCauseOf, IsFailedCall, IsInto, IsNoMbox, IsOfDelivery, IsOfOne, IsOfRun, IsPossibly, IsToldAs, IsTooLong, files_of}
 use Rattle.maildir_commands.specs.Private.Causes.{IsOfFiles}
 use Rattle.maildir_commands.specs.Faults.{fault_of_opening}
 use Rattle.maildir_commands.proofs.Several.{possible_whole}
@@ -34,6 +36,20 @@ of_run one (run.FolderFailed _) none long = tt
 of_run one run.ReadFault none long = tt
 of_run one run.OutputFault none long = tt
 of_run one run.OutOfMemory none long = tt
+
+-- the call that it ended with is told
+pub failed_in_run : (calls calls' failures failures' : ℕ) (fault : RunFault) → GoesUpWith (Some fault) failures failures'
+    → CallNumber {A = Report} (Err fault) calls calls' → (number : ℕ) → Run fault ≡ Run (run.FolderFailed number)
+    → IsFailedCall number calls calls' failures failures'
+failed_in_run calls calls' failures failures' run.NoFromLine goes count number e = cc
+failed_in_run calls calls' failures failures' run.TooManyReads goes count number e = cc
+failed_in_run calls calls' failures failures' run.FolderAbsent goes count number e = cc
+failed_in_run calls calls' failures failures' (run.FolderFailed n) goes count number e =
+    let same : n ≡ number = cc in
+    inl (goes, (count.n, count.count_is, sym same ∙ count.call_number))
+failed_in_run calls calls' failures failures' run.ReadFault goes count number e = cc
+failed_in_run calls calls' failures failures' run.OutputFault goes count number e = cc
+failed_in_run calls calls' failures failures' run.OutOfMemory goes count number e = cc
 
 -- which makes no folder calls
 of_text : (one : (List ℕ → Type 0) → Type 0) (fault : RunFault) → IsReading fault ⊎ (fault ≡ run.OutputFault)

@@ -1,5 +1,5 @@
 -- What a buffer is given, and what it hands on.
-use Rattle.std.proofs.Common.{◌≡◌, ℕ, List, [], ◌++◌, length, take, Option, Some, None, Result, Ok, Err, IsErrAnd, OnOk, refl, sym, ap, subst, ◌∙◌, append-nil}
+use Rattle.std.proofs.Common.{◌≡◌, ℕ, List, [], ◌++◌, length, take, Option, Some, None, Result, Ok, Err, IsErr, IsErrAnd, OnOk, refl, sym, ap, subst, ◌∙◌, append-nil}
 use Rattle.std.proofs.KnownBytes.{Appends-kept, Appends-nil}
 use Rattle.std.proofs.Math.Seq.{take-length}
 use Rattle.std.specs.Io.KnownBytes.{Appends, IsAtEnd, Keeps}
@@ -78,3 +78,7 @@ nothing_front output t was entries mbox = ([], output entries, refl, Appends-nil
 pub no_ok : {A E : Type 0} (answer : Result A E) (P : E → Type 0) (Q : Type 0) → IsErrAnd answer P → OnOk answer Q
 no_ok (Ok x) P Q is = absurd is
 no_ok (Err e) P Q is = tt
+
+pub no_value : {A E : Type 0} (answer : Result A E) (Q : Type 0) → IsErr answer → OnOk answer Q
+no_value (Ok x) Q is = cc
+no_value (Err e) Q is = tt
