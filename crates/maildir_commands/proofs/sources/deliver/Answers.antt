@@ -16,7 +16,8 @@ pub returns-in_err-report : goal.returns-in_err-report
 returns-in_err-report g c =
     let run = c.convert.ensures in
     let failed = c.in_err-report.ensures in
-    let no : (Q : Type 0) → OnOk c.from_residual.result Q = λ Q. no_value c.from_residual.result Q c.from_residual.ensures.0 in
+    let ended = c.from_residual in
+    let no : (Q : Type 0) → OnOk ended.result Q = λ Q. no_value ended.result Q ended.ensures.0 in
     let was = g.I.Read.remaining c.args.source.now in
     record {
       end = no _;
@@ -47,7 +48,8 @@ pub returns-in_err-map_err : goal.returns-in_err-map_err
 returns-in_err-map_err g c =
     let run = c.convert.ensures in
     let sync = c.sync.ensures in
-    let no : (Q : Type 0) → OnOk c.from_residual-in_err-map_err.result Q = λ Q. no_value c.from_residual-in_err-map_err.result Q c.from_residual-in_err-map_err.ensures.0 in
+    let ended = c.from_residual-in_err-map_err in
+    let no : (Q : Type 0) → OnOk ended.result Q = λ Q. no_value ended.result Q ended.ensures.0 in
     record {
       end = no _;
       budget = run.budget;
@@ -80,7 +82,8 @@ returns-in_err-print_report g c =
     let done = c.in_ok-report.ensures in
     let sync = c.sync.ensures in
     let report = c.in_ok-report.report in
-    let no : (Q : Type 0) → OnOk c.from_residual-in_err-print_report.result Q = λ Q. no_value c.from_residual-in_err-print_report.result Q c.from_residual-in_err-print_report.ensures.0 in
+    let ended = c.from_residual-in_err-print_report in
+    let no : (Q : Type 0) → OnOk ended.result Q = λ Q. no_value ended.result Q ended.ensures.0 in
     record {
       end = no _;
       budget = run.budget;
