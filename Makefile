@@ -47,7 +47,7 @@ test:
 	tests/promises.py
 	tests/rooms.py
 	tests/documents
-	$(LANES) rt ci
+	$(LANES) tests/apart rt ci
 	mkdir -p build
 	cp $(CRATE)/out/mbox2maildir $(PROGRAM)
 	tests/run
