@@ -99,17 +99,35 @@ fn convert_seen<F: Folder, R: Read>(
 {
     let mut reader = Reader::new(alloc, reads)?;
     let mut whole = Vec::new(alloc);
-    let mut ended = read_first(&mut reader, source, &mut whole)?;
+    deliver_all(alloc, folder, source, &mut reader, &mut whole)
+}
+
+/// The run, with a reader that has read nothing and with room for the messages that a read makes whole.
+fn deliver_all<F: Folder, R: Read>(
+    alloc: Global,
+    folder: &mut F,
+    source: &mut R,
+    reader: &mut Reader,
+    whole: &mut Vec<Entry>,
+) -> Result<Report, RunFault>
+    requires fresh { Fed [] [] reader.old.splitter }
+    requires empty { whole.old.items ≡ [] }
+    requires few { reader.old.reads_left ≤ 2 ^ 40 }
+    ensures is { let at = seen F.Folder in
+        Conversion (R.remaining source.old) (R.remaining source.new) reader.old.reads_left (at folder.old) (at folder.new) result }
+    ensures causes { IfErr result (λ fault. IsReading fault ⊎ IsOfFolder fault) }
+{
+    let mut ended = read_first(reader, source, whole)?;
     let mut calls = Calls::new();
     let listings = list_all(folder, &mut calls)?;
     let mut engine = Engine::begin(alloc, folder, calls, &listings)?;
     'pieces: loop {
-        engine.deliver_entries(folder, &whole)?;
+        engine.deliver_entries(folder, whole)?;
         if ended {
             return Ok(engine.report());
         }
         whole.clear();
-        ended = reader.read(source, &mut whole)?;
+        ended = reader.read(source, whole)?;
     }
 }
 

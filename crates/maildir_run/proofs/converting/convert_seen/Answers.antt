@@ -1,167 +1,19 @@
-use Rattle.std.proofs.Common.{◌*◌, [], ◌++◌, refl, ◌∙◌, inl, inr}
+use Rattle.std.proofs.Common.{refl, inl, inr}
 use Rattle.maildir_run.proofs.Tasks.Faults.{if_err}
-use Rattle.maildir_run.proofs.Common.{OutOfMemory, seen, bodies_of}
-use Rattle.maildir_run.proofs.Run.Delivering.{delivers_none}
-use Rattle.maildir_run.proofs.Run.Conversions.{stops, stops_in_folder, stops_unread, all_ran, tells_listed, one_batch, report_tells}
-use Rattle.maildir_run.proofs.Source.Givens.{read_nothing, went_down, gave_more, gave_refused, given_front, front_few, broken_front, never_again}
-use Rattle.maildir_run.proofs.Run.Batches.{batch_fits, batch_count, batch_begun}
-use Rattle.maildir_run.proofs.Tasks.Tasks.{ran_then, ran_before, ran_stop}
+use Rattle.maildir_run.proofs.Run.Conversions.{stops_unread}
+use Rattle.maildir_run.proofs.Source.Givens.{read_nothing}
 use Rattle.maildir_run.proofs.converting.convert_seen.Goals as goal
 
-pub returns-in_err-reader-clause-is : goal.returns-in_err-reader-clause-is
-returns-in_err-reader-clause-is g c =
-    let at = seen g.F.Folder in
-    stops_unread c.from_residual.ensures.1 (inr (inr (inr refl)))
-    (record { budget = read_nothing (g.R.Read.remaining c.args.source.now); spent = λ e. absurd (cc); unreadable = λ e. absurd (cc) })
+pub returns-in_err-reader : goal.returns-in_err-reader
+returns-in_err-reader g c = record {
+  is =
+      stops_unread c.from_residual.ensures.1 (inr (inr (inr refl)))
+      (record { budget = read_nothing (g.R.Read.remaining c.args.source.now); spent = λ e. absurd (cc); unreadable = λ e. absurd (cc) });
+  causes = if_err _ _ c.from_residual.ensures.1 (inl (inr (inr (inr refl))));
+}
 
-pub returns-in_err-ended-clause-is : goal.returns-in_err-ended-clause-is
-returns-in_err-ended-clause-is g c =
-    let at = seen g.F.Folder in
-    stops_unread c.from_residual-in_err-ended.ensures.1 c.in_err-ended.ensures.causes
-    (rw c.in_ok-reader.ensures.1 at c.in_err-ended.ensures.refused)
-
-pub returns-in_err-listings-clause-is : goal.returns-in_err-listings-clause-is
-returns-in_err-listings-clause-is g c =
-    let is = c.from_residual-in_err-listings.ensures.1 in
-    let begins = rw c.in_ok-reader.ensures.1 at c.in_ok-ended.ensures.begins in
-    let look = c.in_err-listings.ensures.ran in
-    stops_in_folder _ _ _ _ _ _ _ is c.in_err-listings.ensures.causes _
-    (given_front _ _ _ _ _ _ _ begins.gave) look.0 look.1 _ _ c.new-calls.ensures
-    (ran_before _ look.2)
-
-pub returns-in_err-engine-clause-is : goal.returns-in_err-engine-clause-is
-returns-in_err-engine-clause-is g c =
-    let is = c.from_residual-in_err-engine.ensures.1 in
-    let begins = rw c.in_ok-reader.ensures.1 at c.in_ok-ended.ensures.begins in
-    let look = c.in_ok-listings.ensures.ran in
-    let sweep = rw look.3.0 at c.in_err-engine.ensures.ran.1 in
-    stops_in_folder _ _ _ _ _ _ _ is c.in_err-engine.ensures.causes _
-    (given_front _ _ _ _ _ _ _ begins.gave) look.0 look.1 _ _ c.new-calls.ensures
-    (ran_then look.2 (ran_before _ sweep))
-
-pub pieces-init : goal.pieces-init
-pieces-init g c =
-    let begins = rw c.in_ok-reader.ensures.1 at c.in_ok-ended.ensures.begins in
-    record {
-      given = [];
-      gave = begins.gave;
-      begun = begins.begun;
-      count = c.in_ok-engine.ensures.counts.0;
-      there = refl;
-      swept = refl;
-      delivers = delivers_none _ c.in_ok-engine.ensures.namer;
-    }
-
-pub deliver_entries-requires : goal.deliver_entries-requires
-deliver_entries-requires g c =
-    let i = c.pieces.invariant in
-    let few = front_few (given_front _ _ _ _ _ _ _ i.gave) in
-    batch_fits i.given i.count few c.requires c.deref.ensures.value
-
-pub pieces-preserved : goal.pieces-preserved
-pieces-preserved g c =
-    let i = c.pieces.invariant in
-    let whole = c.pieces.whole.items in
-    let entries = c.deref.result.now in
-    let is = c.deref.ensures.value in
-    let few = front_few (given_front _ _ _ _ _ _ _ i.gave) in
-    record {
-      given = i.given ++ whole;
-      gave =
-          gave_more c.in_ok-ended-2.ended _ c.pieces.reader _ _ c.clear.new.self.items c.read.new.out.items c.clear.ensures.items
-          (rw c.if-ended.false at i.gave) c.in_ok-ended-2.ensures.went;
-      begun = λ e. batch_begun _ c.read.new.out.items (i.begun c.if-ended.false);
-      count = batch_count _ _ i.given whole entries i.count c.in_ok-deliver_entries.ensures.all is;
-      there = c.in_ok-deliver_entries.ensures.there ∙ i.there;
-      swept = c.in_ok-deliver_entries.ensures.swept ∙ i.swept;
-      delivers = one_batch i.given whole entries _ i.there is few c.requires i.delivers c.in_ok-deliver_entries.ensures.delivers;
-    }
-
-pub returns-in_err-deliver_entries-clause-is : goal.returns-in_err-deliver_entries-clause-is
-returns-in_err-deliver_entries-clause-is g c =
-    let is = c.from_residual-in_err-deliver_entries.ensures.1 in
-    let i = c.pieces.invariant in
-    let given = i.given ++ c.pieces.whole.items in
-    let look = c.in_ok-listings.ensures.ran in
-    let begin = c.in_ok-engine.ensures.ran in
-    let front = given_front _ _ _ _ _ _ given i.gave in
-    let few = front_few front in
-    let listed = tells_listed _ _ _ look.0 (bodies_of given) c.in_ok-engine.ensures.there look.3.1 look.3.2 in
-    let delivers = one_batch i.given _ _ _ i.there
-    c.deref.ensures.value few c.requires i.delivers c.in_err-deliver_entries.ensures.delivers in
-    stops_in_folder _ _ _ _ _ _ _ is c.in_err-deliver_entries.ensures.causes given front look.0 look.1 _ _ refl
-    (all_ran look.0 _ c.new-calls.ensures look.3.0 begin.2 listed look.2 begin.1 delivers.ran)
-
-pub returns-in_err-ended-2-clause-is : goal.returns-in_err-ended-2-clause-is
-returns-in_err-ended-2-clause-is g c =
-    let is = c.from_residual-in_err-ended-2.ensures.1 in
-    let fault = c.in_err-ended-2.field-0.0 in
-    let i = c.pieces.invariant in
-    let given = i.given ++ c.pieces.whole.items in
-    let look = c.in_ok-listings.ensures.ran in
-    let begin = c.in_ok-engine.ensures.ran in
-    let front = given_front _ _ _ _ _ _ given i.gave in
-    let few = front_few front in
-    let listed = tells_listed _ _ _ look.0 (bodies_of given) c.in_ok-engine.ensures.there look.3.1 look.3.2 in
-    let delivers = one_batch i.given _ _ _ i.there
-    c.deref.ensures.value few c.requires i.delivers c.in_ok-deliver_entries.ensures.delivers in
-    let gave = rw c.if-ended.false at i.gave in
-    let went = c.in_err-ended-2.ensures.went in
-    stops _ _ _ _ _ _ fault is (gave_refused _ c.pieces.reader fault gave went)
-    (λ e. absurd (never_again _ c.pieces.reader fault gave (i.begun c.if-ended.false) went e))
-    given (broken_front c.pieces.reader gave went) look.0 look.1 _ _ refl
-    (ran_stop c.in_err-ended-2.ensures.causes (all_ran look.0 _ c.new-calls.ensures look.3.0 begin.2 listed look.2 begin.1 delivers.ran))
-
-pub returns-then-ended-clause-is : goal.returns-then-ended-clause-is
-returns-then-ended-clause-is g c =
-    let i = c.pieces.invariant in
-    let given = i.given ++ c.pieces.whole.items in
-    let entries = c.deref.result.now in
-    let look = c.in_ok-listings.ensures.ran in
-    let begin = c.in_ok-engine.ensures.ran in
-    let counts = c.in_ok-engine.ensures.counts in
-    let front = given_front _ _ _ _ _ _ given i.gave in
-    let few = front_few front in
-    let listed = tells_listed _ _ _ look.0 (bodies_of given) c.in_ok-engine.ensures.there look.3.1 look.3.2 in
-    let delivers = one_batch i.given _ entries _ i.there
-    c.deref.ensures.value few c.requires i.delivers c.in_ok-deliver_entries.ensures.delivers in
-    let count = batch_count _ _ i.given
-    _ entries i.count c.in_ok-deliver_entries.ensures.all c.deref.ensures.value in
-    record {
-      given = given;
-      front = front;
-      whole = rw c.if-ended.true at i.gave;
-      refused = tt;
-      untouched = λ e. absurd (cc);
-      names = look.0;
-      few = look.1;
-      made = c.deliver_entries.new.self.calls.made;
-      ran = all_ran look.0 _ c.new-calls.ensures look.3.0 begin.2 listed look.2 begin.1 delivers.ran;
-      tells =
-          report_tells look.0 given _ _ _ _ _ listed count counts.1 (delivers.placed_are refl)
-          c.report.ensures.messages c.report.ensures.there c.report.ensures.placed
-          (c.report.ensures.swept ∙ c.in_ok-deliver_entries.ensures.swept ∙ i.swept ∙ rw look.3.0 at counts.2);
-    }
-
-pub pieces-smaller : goal.pieces-smaller
-pieces-smaller g c = went_down c.pieces.ended c.in_ok-ended-2.ended _ _ c.pieces.reader _ _ _ _ c.if-ended.false c.in_ok-ended-2.ensures.went
-
--- ---- which faults there are
-pub returns-in_err-reader-clause-causes : goal.returns-in_err-reader-clause-causes
-returns-in_err-reader-clause-causes g c = if_err _ _ c.from_residual.ensures.1 (inl (inr (inr (inr refl))))
-
-pub returns-in_err-ended-clause-causes : goal.returns-in_err-ended-clause-causes
-returns-in_err-ended-clause-causes g c = if_err _ _ c.from_residual-in_err-ended.ensures.1 (inl c.in_err-ended.ensures.causes)
-
-pub returns-in_err-listings-clause-causes : goal.returns-in_err-listings-clause-causes
-returns-in_err-listings-clause-causes g c = if_err _ _ c.from_residual-in_err-listings.ensures.1 (inr c.in_err-listings.ensures.causes)
-
-pub returns-in_err-engine-clause-causes : goal.returns-in_err-engine-clause-causes
-returns-in_err-engine-clause-causes g c = if_err _ _ c.from_residual-in_err-engine.ensures.1 (inr c.in_err-engine.ensures.causes)
-
-pub returns-in_err-deliver_entries-clause-causes : goal.returns-in_err-deliver_entries-clause-causes
-returns-in_err-deliver_entries-clause-causes g c =
-    if_err _ _ c.from_residual-in_err-deliver_entries.ensures.1 (inr c.in_err-deliver_entries.ensures.causes)
-
-pub returns-in_err-ended-2-clause-causes : goal.returns-in_err-ended-2-clause-causes
-returns-in_err-ended-2-clause-causes g c = if_err _ _ c.from_residual-in_err-ended-2.ensures.1 (inl c.in_err-ended-2.ensures.causes)
+pub returns : goal.returns
+returns g c = record {
+  is = rw c.in_ok-reader.ensures.1 at c.deliver_all.ensures.is;
+  causes = c.deliver_all.ensures.causes;
+}
