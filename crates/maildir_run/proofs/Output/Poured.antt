@@ -1,10 +1,12 @@
 -- A source that is read piece by piece while what belongs to its messages is written.
 use Rattle.std.proofs.Common.{◌≡◌, ℕ, ◌+◌, ◌^◌, ◌<◌, ◌≤◌, Bool, true, false, Option, Some, None, Ok, List, [], arith}
-use Rattle.std.proofs.Common.{◌++◌, length, refl, sym, ◌∙◌, ap, arith, flat_map, append-nil, length-append}
+use Rattle.std.proofs.Common.{◌++◌, ◌⊎◌, inl, inr, length, refl, sym, ◌∙◌, ap, arith, flat_map, append-nil, length-append}
 use Rattle.maildir_run.proofs.Common.{flat_map-append, spelling, FromLines, Appends, Consumes-nil, Appends-trans, Appends-nil, Entry, Splitter, Fed}
-use Rattle.maildir_run.proofs.Common.{AppendsFront, front_more, front_then, RunFault, NoFromLine, Reader, IsFrontOf, Gave, GaveAll, SourceStopped, Breaks, Went}
+use Rattle.maildir_run.proofs.Common.{RunFault, NoFromLine, OutOfMemory, TooManyReads, IsReading}
+use Rattle.maildir_run.specs.declared.fault.RunFault.TheVariants.{OutputFault}
+use Rattle.maildir_run.proofs.Common.{AppendsFront, front_more, front_then, Reader, IsFrontOf, Gave, GaveAll, SourceStopped, Breaks, Went}
 use Rattle.std.specs.Io.KnownBytes.{Keeps}
-use Rattle.maildir_run.proofs.Source.Givens.{given-from_lines, read_is, gave_more, gave_refused, given_front, broken_front}
+use Rattle.maildir_run.proofs.Source.Givens.{read_nothing, refused_front, given-from_lines, read_is, gave_more, gave_refused, given_front, broken_front}
 use Rattle.maildir_run.specs.Output.{GivesAll, GivesFront, GivesNothing}
 
 -- what is written for the first messages is a front of what is written for all
@@ -52,6 +54,29 @@ read_broken {output} {given} {now} {was} {is} messages {fault} o p b =
           (appends_nothing was is (rw out at p.written), refused.unreadable e);
       refused = refused;
     }
+
+-- no memory was found before the first read
+pub unread : {output : List Entry → List ℕ} {before was : Option (List ℕ)} {reads : ℕ} → IsOutput output → Broken output before before was was reads OutOfMemory
+unread {before = before} {was} {reads} o =
+    let refused : SourceStopped before before reads OutOfMemory = record {
+      budget = read_nothing before;
+      spent = λ e. absurd (cc);
+      unreadable = λ e. absurd (cc);
+    } in
+    record {
+      front = gives_front was was o (refused_front refused) ([], [], o.none, Appends-nil was);
+      nothing = λ e. absurd (cc);
+      refused = refused;
+    }
+
+-- ---- a fault of what is written
+pub written_faults : {fault : RunFault} → (fault ≡ OutputFault) ⊎ (fault ≡ OutOfMemory) → IsReading fault ⊎ (fault ≡ OutputFault)
+written_faults (inl e) = inr e
+written_faults (inr e) = inl (inr (inr (inr e)))
+
+pub written_is_other : {fault : RunFault} → (fault ≡ OutputFault) ⊎ (fault ≡ OutOfMemory) → (fault ≡ NoFromLine → ⊥) × (fault ≡ TooManyReads → ⊥)
+written_is_other (inl e) = (λ f. cc, λ f. cc)
+written_is_other (inr e) = (λ f. cc, λ f. cc)
 
 -- a read, and what became whole by it
 pub record Batch (output : List Entry → List ℕ) (given : List Entry) (before now was is : Option (List ℕ)) (whole : List Entry) (reads count : ℕ) : Type 0 where

@@ -1,6 +1,7 @@
-use Rattle.std.proofs.Common.{◌≡◌, ◌+◌, ◌++◌, List, [], length, arith, inl, length-append}
+use Rattle.std.proofs.Common.{◌≡◌, ◌+◌, ◌++◌, List, [], length, refl, arith, inl, inr, length-append}
 use Rattle.maildir_run.proofs.Common.{Entry, table_of}
 use Rattle.maildir_run.proofs.Output.TableRows.{listing_output}
+use Rattle.maildir_run.proofs.Output.Poured.{unread, written_faults, written_is_other}
 use Rattle.maildir_run.proofs.Output.Poured.{read_broken, batch, batch_broken, names_fit, poured_none, poured_all, poured_more}
 use Rattle.maildir_run.proofs.Tasks.Faults.{if_err, fault_is, unless_ok}
 use Rattle.maildir_run.proofs.Memory.Scripts.{on_err}
@@ -15,6 +16,20 @@ pieces-init g c =
           listing_output c.in_ok-reader.ensures.0 c.in_ok-reader.ensures.1 c.new-whole.ensures.items),
       none,
     )
+
+pub returns-in_err-reader : goal.returns-in_err-reader
+returns-in_err-reader g c =
+    let r = c.from_residual in
+    let b = unread listing_output in
+    record {
+      all = unless_ok _ r.result r.ensures.0;
+      end = unless_ok _ r.result r.ensures.0;
+      front = on_err r.result b.front;
+      no_from_line = λ e. b.nothing (fault_is r.result r.ensures.1 e);
+      spent = λ e. b.refused.spent (fault_is r.result r.ensures.1 e);
+      causes = if_err _ r.result r.ensures.1 (inl (inr (inr (inr refl))));
+      budget = b.refused.budget;
+    }
 
 pub returns-in_err-ended : goal.returns-in_err-ended
 returns-in_err-ended g c =
@@ -37,20 +52,24 @@ list-requires g c =
     _ c.pieces.invariant.1 c.in_ok-ended.ensures.went in
     rw c.deref.ensures.value b.from_lines
 
-pub returns-in_err-list-clause-front : goal.returns-in_err-list-clause-front
-returns-in_err-list-clause-front g c =
+pub returns-in_err-list : goal.returns-in_err-list
+returns-in_err-list g c =
     let given : List Entry = c.pieces.invariant.0 in
+    let r = c.from_residual-in_err-list in
+    let cause = c.in_err-list.ensures.causes in
     let b = batch c.pieces.reader c.read.new.self.splitter c.read.new.self.reads_left
     _ c.pieces.invariant.1 c.in_ok-ended.ensures.went in
     let fit = names_fit b c.requires in
     let s = rw c.deref.ensures.value at (c.in_err-list.ensures.lists given c.pieces.invariant.2 (rw c.deref.ensures.value fit)) in
-    on_err c.from_residual-in_err-list.result (batch_broken b _ s.0 listing_output s.1 s.2)
-
-pub returns-in_err-list-clause-budget : goal.returns-in_err-list-clause-budget
-returns-in_err-list-clause-budget g c =
-    let b = batch c.pieces.reader c.read.new.self.splitter c.read.new.self.reads_left
-    _ c.pieces.invariant.1 c.in_ok-ended.ensures.went in
-    (b.front.text, b.front.read, b.front.budget)
+    record {
+      all = unless_ok _ r.result r.ensures.0;
+      end = unless_ok _ r.result r.ensures.0;
+      front = on_err r.result (batch_broken b _ s.0 listing_output s.1 s.2);
+      no_from_line = λ e. absurd ((written_is_other cause).0 (fault_is r.result r.ensures.1 e));
+      spent = λ e. absurd ((written_is_other cause).1 (fault_is r.result r.ensures.1 e));
+      causes = if_err _ r.result r.ensures.1 (written_faults cause);
+      budget = (b.front.text, b.front.read, b.front.budget);
+    }
 
 pub returns-then-ended-clause-all : goal.returns-then-ended-clause-all
 returns-then-ended-clause-all g c =
@@ -64,6 +83,15 @@ returns-then-ended-clause-all g c =
     let count : c.list.new.self.count ≡ c.pieces.lister.count + length c.read.new.out.items =
     omega (arith, s.3.count_is, c.pieces.invariant.2.count_is, length-append given c.read.new.out.items) in
     rw count all
+
+pub returns-then-ended-clause-end : goal.returns-then-ended-clause-end
+returns-then-ended-clause-end g c = (rw c.if-ended.true at c.in_ok-ended.ensures.went).2
+
+pub returns-then-ended-clause-budget : goal.returns-then-ended-clause-budget
+returns-then-ended-clause-budget g c =
+    let b = batch c.pieces.reader c.read.new.self.splitter c.read.new.self.reads_left
+    _ c.pieces.invariant.1 c.in_ok-ended.ensures.went in
+    (b.front.text, b.front.read, b.front.budget)
 
 pub pieces-preserved : goal.pieces-preserved
 pieces-preserved g c =
