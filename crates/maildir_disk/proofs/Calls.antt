@@ -7,3 +7,5 @@ pub mod Passing
 pub mod Pieces
 -- A write that comes in pieces while no other program acts.
 pub mod QuietWrites
+-- A call that answered an error.
+pub mod Refused
