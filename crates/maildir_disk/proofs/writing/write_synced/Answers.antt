@@ -84,78 +84,86 @@ loop-preserved g c =
       }
     ]
 
--- ---- what is reported
-pub returns-in_err-file-clause-called : goal.returns-in_err-file-clause-called
-returns-in_err-file-clause-called g c = λ honest.
-    not_created _ _ _ c.from_residual.ensures.0 (c.in_err-file.ensures.created honest)
+pub returns-in_err-file : goal.returns-in_err-file
+returns-in_err-file g c = record {
+  honest = c.create.ensures.honest;
+  called = λ honest.
+      not_created _ _ _ c.from_residual.ensures.0 (c.in_err-file.ensures.created honest);
+  left = λ honest. left_fault _ c.from_residual.ensures.0 (left_torn (c.create.ensures.left honest));
+  still_rooted = c.create.ensures.still_rooted;
+  quiet = c.create.ensures.quiet;
+  quietly = λ quiet.
+      not_created_quietly _ _ _ _ _ c.from_residual.ensures.0 (c.in_err-file.ensures.quietly quiet);
+}
 
-pub returns-then-at-bytes-clause-called : goal.returns-then-at-bytes-clause-called
-returns-then-at-bytes-clause-called g c = λ honest.
-    let kept = c.loop.invariant.written honest in
-    let all = rw (take_all c.loop.at c.args.bytes.now (search rules)) at kept.holds in
-    write_called _ _ c.sync_file.result (written_on c.args.name.now c.args.bytes.now all (c.sync_file.ensures.acts kept.honest))
+pub returns-then-at-bytes : goal.returns-then-at-bytes
+returns-then-at-bytes g c = record {
+  honest = λ honest. c.sync_file.ensures.honest (c.loop.invariant.written honest).honest;
+  called = λ honest.
+      let kept = c.loop.invariant.written honest in
+      let all = rw (take_all c.loop.at c.args.bytes.now (search rules)) at kept.holds in
+      write_called _ _ c.sync_file.result (written_on c.args.name.now c.args.bytes.now all (c.sync_file.ensures.acts kept.honest));
+  left = λ honest.
+      let name = c.args.name.now in
+      let bytes = c.args.bytes.now in
+      let kept = c.loop.invariant.written honest in
+      let all = rw (take_all c.loop.at bytes (search rules)) at kept.holds in
+      left_written _ (write_succeeded (written_on name bytes all (c.sync_file.ensures.acts kept.honest)))
+      (rw kept.named at (c.sync_file.ensures.kept kept.honest kept.current)) (left_torn (left_more kept.left (c.sync_file.ensures.left kept.honest)));
+  still_rooted = λ honest rooted.
+      let kept = c.loop.invariant.written honest in
+      c.sync_file.ensures.still_rooted kept.honest (kept.still_rooted rooted);
+  quiet = λ quiet. c.sync_file.ensures.quiet (c.loop.invariant.quietly quiet).quiet;
+  quietly = λ quiet.
+      let kept = c.loop.invariant.quietly quiet in
+      let all = rw (take_all c.loop.at c.args.bytes.now (search rules)) at kept.holds in
+      written_quietly _ _ _ c.sync_file.result ((c.sync_file.ensures.quietly kept.quiet) ∙ all);
+}
 
-pub returns-in-Ok-eq0-clause-called : goal.returns-in-Ok-eq0-clause-called
-returns-in-Ok-eq0-clause-called g c = λ honest.
-    let kept = c.loop.invariant.written honest in
-    append_failed _ _ _ _ kept.holds (rw kept.named at (c.append.ensures.appended kept.honest kept.current))
+pub returns-in-Ok-eq0 : goal.returns-in-Ok-eq0
+returns-in-Ok-eq0 g c = record {
+  honest = λ honest. c.append.ensures.honest (c.loop.invariant.written honest).honest;
+  called = λ honest.
+      let kept = c.loop.invariant.written honest in
+      append_failed _ _ _ _ kept.holds (rw kept.named at (c.append.ensures.appended kept.honest kept.current));
+  left = λ honest.
+      let kept = c.loop.invariant.written honest in
+      left_torn (left_both kept.left (rw kept.named at (c.append.ensures.left kept.honest)));
+  still_rooted = λ honest rooted.
+      let kept = c.loop.invariant.written honest in
+      c.append.ensures.still_rooted kept.honest (kept.still_rooted rooted);
+  quiet = λ quiet. c.append.ensures.quiet (c.loop.invariant.quietly quiet).quiet;
+  quietly = λ quiet.
+      let kept = c.loop.invariant.quietly quiet in
+      let was = c.loop.invariant.written (g.met.S.System.quiet_is_honest _ quiet) in
+      appended_quietly _ _ _ kept.holds (rw was.named at (c.append.ensures.quietly kept.quiet was.current));
+}
 
-pub returns-then-ne-clause-called : goal.returns-then-ne-clause-called
-returns-then-ne-clause-called g c = λ honest.
-    let kept = c.loop.invariant.written honest in
-    append_failed _ _ _ _ kept.holds (rw kept.named at (c.append.ensures.appended kept.honest kept.current))
+pub returns-then-ne : goal.returns-then-ne
+returns-then-ne g c = record {
+  honest = λ honest. c.append.ensures.honest (c.loop.invariant.written honest).honest;
+  called = λ honest.
+      let kept = c.loop.invariant.written honest in
+      append_failed _ _ _ _ kept.holds (rw kept.named at (c.append.ensures.appended kept.honest kept.current));
+  left = λ honest.
+      let kept = c.loop.invariant.written honest in
+      left_torn (left_both kept.left (rw kept.named at (c.append.ensures.left kept.honest)));
+  still_rooted = λ honest rooted.
+      let kept = c.loop.invariant.written honest in
+      c.append.ensures.still_rooted kept.honest (kept.still_rooted rooted);
+  quiet = λ quiet. c.append.ensures.quiet (c.loop.invariant.quietly quiet).quiet;
+  quietly = λ quiet.
+      let kept = c.loop.invariant.quietly quiet in
+      let was = c.loop.invariant.written (g.met.S.System.quiet_is_honest _ quiet) in
+      appended_quietly _ _ _ kept.holds (rw was.named at (c.append.ensures.quietly kept.quiet was.current));
+}
 
-pub returns-clause-called : goal.returns-clause-called
-returns-clause-called g c = λ honest. write_failed _ (c.loop.invariant.written honest).holds
-
--- ---- what a cut leaves
-pub returns-in_err-file-clause-left : goal.returns-in_err-file-clause-left
-returns-in_err-file-clause-left g c = λ honest. left_fault _ c.from_residual.ensures.0 (left_torn (c.create.ensures.left honest))
-
-pub returns-then-at-bytes-clause-left : goal.returns-then-at-bytes-clause-left
-returns-then-at-bytes-clause-left g c = λ honest.
-    let name = c.args.name.now in
-    let bytes = c.args.bytes.now in
-    let kept = c.loop.invariant.written honest in
-    let all = rw (take_all c.loop.at bytes (search rules)) at kept.holds in
-    left_written _ (write_succeeded (written_on name bytes all (c.sync_file.ensures.acts kept.honest)))
-    (rw kept.named at (c.sync_file.ensures.kept kept.honest kept.current)) (left_torn (left_more kept.left (c.sync_file.ensures.left kept.honest)))
-
-pub returns-in-Ok-eq0-clause-left : goal.returns-in-Ok-eq0-clause-left
-returns-in-Ok-eq0-clause-left g c = λ honest.
-    let kept = c.loop.invariant.written honest in
-    left_torn (left_both kept.left (rw kept.named at (c.append.ensures.left kept.honest)))
-
-pub returns-then-ne-clause-left : goal.returns-then-ne-clause-left
-returns-then-ne-clause-left g c = λ honest.
-    let kept = c.loop.invariant.written honest in
-    left_torn (left_both kept.left (rw kept.named at (c.append.ensures.left kept.honest)))
-
-pub returns-clause-left : goal.returns-clause-left
-returns-clause-left g c = λ honest. left_torn (c.loop.invariant.written honest).left
-
--- ---- in a quiet system
-pub returns-in_err-file-clause-quietly : goal.returns-in_err-file-clause-quietly
-returns-in_err-file-clause-quietly g c = λ quiet.
-    not_created_quietly _ _ _ _ _ c.from_residual.ensures.0 (c.in_err-file.ensures.quietly quiet)
-
-pub returns-then-at-bytes-clause-quietly : goal.returns-then-at-bytes-clause-quietly
-returns-then-at-bytes-clause-quietly g c = λ quiet.
-    let kept = c.loop.invariant.quietly quiet in
-    let all = rw (take_all c.loop.at c.args.bytes.now (search rules)) at kept.holds in
-    written_quietly _ _ _ c.sync_file.result ((c.sync_file.ensures.quietly kept.quiet) ∙ all)
-
-pub returns-in-Ok-eq0-clause-quietly : goal.returns-in-Ok-eq0-clause-quietly
-returns-in-Ok-eq0-clause-quietly g c = λ quiet.
-    let kept = c.loop.invariant.quietly quiet in
-    let was = c.loop.invariant.written (g.met.S.System.quiet_is_honest _ quiet) in
-    appended_quietly _ _ _ kept.holds (rw was.named at (c.append.ensures.quietly kept.quiet was.current))
-
-pub returns-then-ne-clause-quietly : goal.returns-then-ne-clause-quietly
-returns-then-ne-clause-quietly g c = λ quiet.
-    let kept = c.loop.invariant.quietly quiet in
-    let was = c.loop.invariant.written (g.met.S.System.quiet_is_honest _ quiet) in
-    appended_quietly _ _ _ kept.holds (rw was.named at (c.append.ensures.quietly kept.quiet was.current))
-
-pub returns-clause-quietly : goal.returns-clause-quietly
-returns-clause-quietly g c = λ quiet. torn_quietly _ (c.loop.invariant.quietly quiet).holds
+pub returns : goal.returns
+returns g c = record {
+  honest = λ honest. (c.loop.invariant.written honest).honest;
+  called = λ honest. write_failed _ (c.loop.invariant.written honest).holds;
+  left = λ honest. left_torn (c.loop.invariant.written honest).left;
+  still_rooted = λ honest. (c.loop.invariant.written honest).still_rooted;
+  quiet = λ quiet. (c.loop.invariant.quietly quiet).quiet;
+  quietly = λ quiet. torn_quietly _ (c.loop.invariant.quietly quiet).holds;
+}
