@@ -1,0 +1,22 @@
+-- the file system is neither honest nor quiet in a proof
+use Rattle.maildir_disk.proofs.host.HostSystem.unlink.Goals as goal
+
+pub returns-in_err-path_in : goal.returns-in_err-path_in
+returns-in_err-path_in g c = record {
+  honest = λ no. absurd no;
+  called = λ no. absurd no;
+  left = λ no. absurd no;
+  still_rooted = λ no. absurd no;
+  quiet = λ no. absurd no;
+  quietly = λ no. absurd no;
+}
+
+pub returns : goal.returns
+returns g c = record {
+  honest = λ no. absurd no;
+  called = λ no. absurd no;
+  left = λ no. absurd no;
+  still_rooted = λ no. absurd no;
+  quiet = λ no. absurd no;
+  quietly = λ no. absurd no;
+}
