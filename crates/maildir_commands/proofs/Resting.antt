@@ -21,6 +21,11 @@ rest_then {a} first then = record {
   found = λ h. then.found (first.found h);
 }
 
+-- what was taken out of a folder rests as what was in it
+pub rest_of : {S : Type 0} (held : S → HeldMaildir) {system taken : S} {new : HeldMaildir}
+    → taken ≡ system → Rests (held taken) new → Rests (held system) new
+rest_of held {new} same = subst (λ s. Rests (held s) new) same
+
 -- ---- where no other program acts
 -- opened from these files and closed with those
 pub foreign_within : {old ready work new : Files} → ready ≡ old → KeepsForeign ready work → new ≡ work → KeepsForeign old new

@@ -3,13 +3,13 @@ use Rattle.std.specs.Io.Buffered.{writer_contents}
 use Rattle.std.proofs.lemmas.Result.{IfErr-weaker}
 use Rattle.maildir_run.specs.Runs.{Possible}
 use Rattle.maildir_commands.specs.declared.command.Command.TheVariants.{Convert}
-use Rattle.maildir_commands.specs.Machines.{Rests, bytes_of, held}
+use Rattle.maildir_commands.specs.Machines.{bytes_of, held}
 use Rattle.maildir_commands.specs.Report.{PrintsReports}
 use Rattle.maildir_commands.proofs.Causes.{files_before, holds_first, of_fault, of_files, of_input, of_maildir, refused_file}
 use Rattle.maildir_commands.proofs.Delivered.{closed, none_delivered, one_delivered}
 use Rattle.maildir_commands.proofs.Forms.{none_named}
 use Rattle.maildir_commands.proofs.Output.{no_value}
-use Rattle.maildir_commands.proofs.Resting.{foreign_same, foreign_within, rest_then}
+use Rattle.maildir_commands.proofs.Resting.{foreign_same, foreign_within, rest_of, rest_then}
 use Rattle.maildir_commands.proofs.Several.{no_text, none_given, only_first, only_length, rest_sound, some_given, sound_of, text_read}
 use Rattle.maildir_commands.proofs.sources.deliver_sources.Goals as goal
 
@@ -66,7 +66,7 @@ returns-in_default g c =
           (only_first one.1) one.2 in
           let opens = c.in_ok-folder.ensures.opens h in
           let ready = rest_sound texts fit.are _ _ opens sound in
-          let closes = subst (λ s. Rests (system s) (g.M.Machine.maildir_at c.close_maildir.new.self c.args.maildir.now)) c.into_system.ensures
+          let closes = rest_of system c.into_system.ensures
           (c.close_maildir.ensures.closes (c.open_folder.ensures.honest h) (c.in_ok-folder.ensures.open h)) in
           closed c.deliver_one-answer.result texts fit.are _ _ _ _ _ _ opens closes
           (one_delivered _ fit many ready
@@ -179,7 +179,7 @@ returns g c =
           let these = subst (λ (f : List ℕ → List ℕ). bytes_of texts ≡ first ∷ map (λ file. f (string_bytes file)) c.in-Some.rest.now) (sym same) bytes in
           let reads = text_read {now = g.M.Machine.text_of c.args.machine.now} (c.in_ok-source.ensures.text h) refl c.as_str.ensures.value in
           let system = held g.M.Maildir.System in
-          let closes = subst (λ s. Rests (system s) (g.M.Machine.maildir_at c.close_maildir-2.new.self c.args.maildir.now)) c.into_system-2.ensures
+          let closes = rest_of system c.into_system-2.ensures
           (c.close_maildir-2.ensures.closes (c.deliver_each-answer.ensures.honest honest)
           (c.deliver_each-answer.ensures.still_open honest c.args.maildir.now (c.in_ok-folder-2.ensures.open opened))) in
           closed c.deliver_each-answer.result texts fit.are _ _ _ _ _ _ opens closes
