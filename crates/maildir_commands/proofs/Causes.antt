@@ -58,6 +58,10 @@ failed_in_run calls calls' failures failures' run.ReadFault goes count number e 
 failed_in_run calls calls' failures failures' run.OutputFault goes count number e = cc
 failed_in_run calls calls' failures failures' run.OutOfMemory goes count number e = cc
 
+-- a line that was not written is no call
+pub output_no_call : {X : Type 0} {fault : RunFault} {number : ℕ} → fault ≡ run.OutputFault → Run fault ≡ Run (run.FolderFailed number) → X
+output_no_call is e = cc
+
 -- which makes no folder calls
 of_text : (one : (List ℕ → Type 0) → Type 0) (fault : RunFault) → IsReading fault ⊎ (fault ≡ run.OutputFault)
     → (fault ≡ run.NoFromLine → one IsNoMbox) → (fault ≡ run.TooManyReads → one IsTooLong) → IsOfRun one ⊥ fault
