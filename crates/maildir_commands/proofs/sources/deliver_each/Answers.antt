@@ -103,8 +103,7 @@ returns-in_err-source g c =
           (holds_behind string_bytes _ c.loop-path-test.true (sym c.path-item.is)) _ c.in_err-source.ensures.causes
           (λ e. kept.7 h _ (subst (g.M.Machine.refuses_source c.loop-path.machine) c.as_str.ensures.value (c.in_err-source.ensures.refused (kept.1 h) e))));
       elsewhere = λ h word. rest_then (kept.3 h word) (c.open.ensures.rests (kept.1 h) word);
-      still_open = λ h word is_open.
-          c.open.ensures.still_open (kept.1 h) word (kept.6 h word is_open);
+      still_open = λ h word is_open. c.open.ensures.still_open (kept.1 h) word (kept.6 h word is_open);
       quiet = λ q. c.open.ensures.quiet (kept.8 q);
       others = λ q. (kept.9 q).1;
       printed = no_value c.from_residual-in_err-source.result _ c.from_residual-in_err-source.ensures.0;
@@ -123,13 +122,11 @@ returns-in_err-deliver_one-2 g c =
       cause = λ h name is.
           let reads = text_read (c.in_ok-source.ensures.text (kept.1 h)) (kept.2 h) c.as_str.ensures.value in
           of_fault _ _ c.from_residual-in_err-deliver_one-2.ensures.1
-          (delivered_file (g.M.Machine.text_of c.args.machine.now) (g.M.Machine.refuses_source c.args.machine.now) name _ _ _ _ (string_bytes c.path-item.result)
-          (holds_behind string_bytes _ c.loop-path-test.true (sym c.path-item.is)) reads
+          (delivered_file (g.M.Machine.text_of c.args.machine.now) (g.M.Machine.refuses_source c.args.machine.now) name _ _ _ _
+          (string_bytes c.path-item.result) (holds_behind string_bytes _ c.loop-path-test.true (sym c.path-item.is)) reads
           c.deliver_one-in-loop-path.ensures.budget _ c.in_err-deliver_one-2.ensures.cause);
-      elsewhere = λ h word.
-          rest_then (kept.3 h word) (c.open.ensures.rests (kept.1 h) word);
-      still_open = λ h word is_open.
-          c.open.ensures.still_open (kept.1 h) word (kept.6 h word is_open);
+      elsewhere = λ h word. rest_then (kept.3 h word) (c.open.ensures.rests (kept.1 h) word);
+      still_open = λ h word is_open. c.open.ensures.still_open (kept.1 h) word (kept.6 h word is_open);
       quiet = λ q. c.open.ensures.quiet (kept.8 q);
       others = λ q.
           let so_far = kept.9 q in
