@@ -50,11 +50,6 @@ pub exact_fault : {E : Type 0} (sub : Sub) (a : Files) (outcome : Result Look E)
 exact_fault sub a (Ok _) is_err = cc
 exact_fault sub a (Err _) is_err = tt
 
-pub watched_fault : {E : Type 0} (sub : Sub) (stamp : ℕ) {a b : World} (outcome : Result (Option (Vec (String Global) Global)) E)
-    → IsErr outcome → Acts a b → WatchedOr sub stamp a outcome b
-watched_fault sub stamp (Ok _) is_err p = cc
-watched_fault sub stamp (Err _) is_err p = p
-
 -- a listing that failed
 pub failed_listing : {sub : Sub} {a b : World} → Acts a b → AnyMoves (Listing sub) a.files b.files
 failed_listing {sub} {a} p = grind (arith, after-others p.actions (Listing sub) a.files)

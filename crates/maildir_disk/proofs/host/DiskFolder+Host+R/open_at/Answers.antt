@@ -19,12 +19,14 @@ returns-in_err-made g c = let failed = (an_error c.from_residual-in_err-made.res
 }
 
 pub returns-in_err-lock-in_default : goal.returns-in_err-lock-in_default
-returns-in_err-lock-in_default g c = let failed = (an_error c.from_residual-in_err-lock-in_default.result c.from_residual-in_err-lock-in_default.ensures.0).1 in record {
-  path = rw failed tt;
-  calls = rw failed tt;
-  failures = rw failed tt;
-  not_absent = grind arith;
-}
+returns-in_err-lock-in_default g c =
+    let failed = (an_error c.from_residual-in_err-lock-in_default.result c.from_residual-in_err-lock-in_default.ensures.0).1 in
+    record {
+      path = rw failed tt;
+      calls = rw failed tt;
+      failures = rw failed tt;
+      not_absent = grind arith;
+    }
 
 pub returns-in_err-answer_of : goal.returns-in_err-answer_of
 returns-in_err-answer_of g c = let failed = (an_error c.from_residual-in_err-answer_of.result c.from_residual-in_err-answer_of.ensures.0).1 in record {

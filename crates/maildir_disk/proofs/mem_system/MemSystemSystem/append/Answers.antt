@@ -1,5 +1,5 @@
-use Rattle.std.proofs.Common.{◌++◌, ◌+◌, ◌-◌, ◌/◌, ◌≤◌, length, take, subst, arith, length-append, rules, ◌≡◌, ◌∙◌, [], inl, refl}
-use Rattle.std.proofs.Common.{length-take}
+use Rattle.std.proofs.Common.{◌++◌, ◌+◌, ◌-◌, ◌/◌, ◌≤◌, length, take, subst, arith, length-append, rules, ◌≡◌, ◌∙◌, [], refl}
+use Rattle.std.proofs.Common.{inl, length-take}
 use Rattle.maildir_disk.proofs.Common.{opened_as, HasRoom, may_find, LosesBytes, changed}
 use Rattle.maildir_disk.proofs.Calls.Refused.{an_error}
 use Rattle.maildir_disk.proofs.Memory.Changes.{bytes_after, front_of_appended, called_leaves, left_of_bytes}
