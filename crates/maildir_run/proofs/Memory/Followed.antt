@@ -1,7 +1,9 @@
 -- What a call of the folder in memory leaves that followed its script.
-use Rattle.std.proofs.Common.{◌≡◌, Result, Ok, Err, IfOk, refl, ap, inl, inr, String, Vec, Global}
+use Rattle.std.proofs.Common.{◌≡◌, ℕ, Result, Ok, Err, IfOk, IsErrAnd, IsErrOf, refl, sym, ap, inl, inr, String, Vec, Global}
 use Rattle.maildir_run.proofs.Common.{keys, Sub, FolderFault, Mode, Plain, Twice, Files, Call, Listing}
 use Rattle.maildir_run.proofs.Common.{Called, Listed, folder_of, names_of, IsCutShort, acts_at, Answers}
+use Rattle.maildir_run.specs.Calls.{CountsFailure}
+use Rattle.maildir_run.specs.declared.folder.FolderFault.TheVariants as fault
 use Rattle.maildir_run.specs.declared.mem_folder.MemFolder.{MemFolder}
 use Rattle.maildir_run.specs.MemFolder.{files_of, next_call, next_acts, next_files, next_mode, IsQuiet, FollowsScript}
 use Rattle.maildir_run.proofs.Memory.Scripts.{answered, called_then, cut_fails, listed_then, not_cut}
@@ -31,3 +33,17 @@ follows_listed sub old new (Err f) follows is = follows_called {A = Vec (String 
 -- without a line there is no act that could be refused
 pub never_cut : (m : MemFolder) {s t : Files} → IsQuiet m → IsCutShort (next_acts m) s t → ⊥
 never_cut m {s} {t} quiet cut = not_cut (ap (acts_at (next_call m)) quiet) cut
+
+-- ---- what is said of a call once its acts and its answer are known
+-- an act found no memory
+pub no_memory : {A : Type 0} (r : Result A FolderFault) → IsErrAnd r (λ e. e ≡ fault.OutOfMemory) → IsErrOf r fault.OutOfMemory
+no_memory (Ok x) is = absurd is
+no_memory (Err f) is = ap Err is
+
+pub counts_no_failure : {A : Type 0} (r : Result A FolderFault) {old new : ℕ} → IsErrOf r fault.OutOfMemory → new ≡ old → CountsFailure r old new
+counts_no_failure r is same = rw is same
+
+-- the call answered in its mode
+pub in_its_mode : {A : Type 0} (call : Call) (old new : MemFolder) {mode : Mode} {s t : Files} {r r' : Result A FolderFault} → Answers mode call s r t
+    → mode ≡ next_mode old → s ≡ next_files old → r' ≡ r → files_of new ≡ t → FollowsScript call old r' new
+in_its_mode call old new a mode_is files_are r_is left = inl (rw (mode_is, files_are, sym r_is, sym left) at a)
