@@ -45,7 +45,7 @@ pub returns-clause-script : goal.returns-clause-script
 returns-clause-script c =
     let rest = c.count_call.ensures.rest in
     let same = c.in_ok-mode.ensures.script in
-    record { lines = ap lines_of rest ∙ same.lines; fail_from = ap fail_from_of rest ∙ same.fail_from; }
+    record { lines = ap lines_of rest ∙ same.lines; fail_from = ap fail_from_of rest ∙ same.fail_from }
 
 pub returns-in_err-mode-clause-cause : goal.returns-in_err-mode-clause-cause
 returns-in_err-mode-clause-cause c =
