@@ -2,6 +2,7 @@
 use Rattle.std.proofs.Common.{◌≡◌, ◌+◌, ◌<◌, ◌≤◌, ℕ, List, [], ◌∷◌, length, get_or, All, Option, Result, Ok, Err, IsErr, ◌⊎◌, refl, arith}
 use Rattle.std.specs.Io.KnownBytes.{Keeps}
 use Rattle.std.proofs.KnownBytes.{Keeps-refl}
+use Rattle.std.proofs.lemmas.Bool.{false≢true}
 use Rattle.maildir_run.specs.Several.{Mailbox, IsMailbox}
 use Rattle.maildir_commands.specs.Machines.{HeldMaildir, Rests, AreFit, IsSoundFor, OthersStay}
 use Rattle.maildir_commands.specs.Private.Report.{Delivers, DeliversOne}
@@ -12,7 +13,7 @@ use Rattle.maildir_commands.proofs.Several.{rest_each, rest_some, stay_both, sta
 -- nothing was opened, or written
 pub none_delivered : {A E : Type 0} (answer : Result A E) {texts : List Mailbox} {old new : HeldMaildir} {was : Option (List ℕ)}
     → IsErr answer → Rests old new → Delivers answer texts old new was was
-none_delivered (Ok x) failed rests = cc
+none_delivered (Ok x) failed rests = absurd (false≢true failed)
 none_delivered (Err e) {texts} {old} {new} {was} failed rests =
     record { safe = tt; each = tt; some = none_some (Keeps-refl was); stay = stay_rest texts rests }
 
@@ -20,7 +21,7 @@ none_delivered (Err e) {texts} {old} {new} {was} failed rests =
 pub not_delivered : {A E : Type 0} (answer : Result A E) {text : Mailbox} {old new : HeldMaildir} {was is : Option (List ℕ)}
     → IsErr answer → Keeps was is ⊎ PrintsOne old new text was is → OthersStay (text ∷ []) old new → (old.rooted → new.rooted)
     → DeliversOne answer text old new was is
-not_delivered (Ok x) failed stopped stays rooted = cc
+not_delivered (Ok x) failed stopped stays rooted = absurd (false≢true failed)
 not_delivered (Err e) failed stopped stays rooted =
     record { safe = tt; line = tt; known = tt; stopped = stopped; stays = stays; still_rooted = rooted }
 
@@ -51,7 +52,7 @@ module _ (texts : List Mailbox) (fit : AreFit texts) (start : HeldMaildir) where
   -- some of them, and the next could not be opened
   pub stopped_delivered : {A E : Type 0} (answer : Result A E) (n : ℕ) (now : HeldMaildir) (was is : Option (List ℕ))
       → IsErr answer → UpTo n texts start now was is → Delivers answer texts start now was is
-  stopped_delivered (Ok x) n now was is failed up = cc
+  stopped_delivered (Ok x) n now was is failed up = absurd (false≢true failed)
   stopped_delivered (Err e) n now was is failed up =
       record { safe = tt; each = tt; some = stopped_between texts fit n start now was is up; stay = up.stay }
 
@@ -59,7 +60,7 @@ module _ (texts : List Mailbox) (fit : AreFit texts) (start : HeldMaildir) where
   pub then_delivered : {A B E : Type 0} (answer : Result B E) (fault : E) (n : ℕ) (e : Mailbox) (old new : HeldMaildir) (was mid is : Option (List ℕ))
       → IsErr answer → n < length texts → UpTo n texts start old was mid
       → DeliversOne {A = A} (Err fault) (get_or texts n e) old new mid is → Delivers answer texts start new was is
-  then_delivered (Ok x) fault n e old new was mid is failed inside up one = cc
+  then_delivered (Ok x) fault n e old new was mid is failed inside up one = absurd (false≢true failed)
   then_delivered (Err _) fault n e old new was mid is failed inside up one = record {
     safe = tt;
     each = tt;

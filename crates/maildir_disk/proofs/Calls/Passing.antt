@@ -1,6 +1,7 @@
 -- What follows from what is assumed of a system.
 use Rattle.std.proofs.Common.{◌≡◌, inl, inr, ℕ, ◌+◌, ◌≤◌, ◌<◌, List, [], ◌∷◌, ◌++◌, map, append_assoc, refl, sym, ◌∙◌, ap}
 use Rattle.std.proofs.Common.{subst, arith, IsPermutation, Result, Ok, Err, IsErr, IfOk, Vec, String, Global, rules}
+use Rattle.std.proofs.lemmas.Bool.{false≢true}
 use Rattle.maildir_disk.proofs.Common.{keys, Sub, Files, Action, acted, all_acted, Call, Listing, Move, Other, Again, moved, after, folder_of, IsWhole, Lists}
 use Rattle.maildir_disk.proofs.Common.{Listed, AnyMoves, IsSettled, IsFarAhead, World, margin_of, IsOfChange, Acts, Passes, IsStampWithin, ReadsNames}
 use Rattle.maildir_disk.specs.declared.one_moment.Look.{Look}
@@ -43,11 +44,11 @@ passes_on {a} {c} p q = grind (arith, acts_on, longer)
 
 -- a look that failed
 pub looked_fault : {E : Type 0} (sub : Sub) {a b : World} (outcome : Result Look E) → IsErr outcome → Acts a b → LookGives sub a outcome b
-looked_fault sub (Ok _) is_err p = cc
+looked_fault sub (Ok _) is_err p = absurd (false≢true is_err)
 looked_fault sub (Err _) is_err p = p
 
 pub exact_fault : {E : Type 0} (sub : Sub) (a : Files) (outcome : Result Look E) → IsErr outcome → IfOk outcome (LookGivesQuietly sub a)
-exact_fault sub a (Ok _) is_err = cc
+exact_fault sub a (Ok _) is_err = absurd (false≢true is_err)
 exact_fault sub a (Err _) is_err = tt
 
 -- a listing that failed
@@ -56,7 +57,7 @@ failed_listing {sub} {a} p = grind (arith, after-others p.actions (Listing sub) 
 
 pub listed_fault : {E : Type 0} (sub : Sub) {a b : World} (outcome : Result (Vec (String Global) Global) E)
     → IsErr outcome → Acts a b → Listed sub a.files outcome b.files
-listed_fault sub (Ok _) is_err p = cc
+listed_fault sub (Ok _) is_err p = absurd (false≢true is_err)
 listed_fault sub (Err _) is_err p = failed_listing p
 
 -- names as of a moment

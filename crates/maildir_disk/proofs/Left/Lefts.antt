@@ -1,5 +1,6 @@
 -- What a cut leaves, from one moment of a call to the next.
 use Rattle.std.proofs.Common.{◌≡◌, inl, inr, ℕ, List, [], ◌∷◌, ◌++◌, refl, ap, sym, ◌∙◌, IsErr, IsOk, OnErr, OnOk, Result, Ok, Err}
+use Rattle.std.proofs.lemmas.Bool.{false≢true}
 use Rattle.maildir_disk.proofs.Common.{Tmp, Call, Listing, Writing, Other, Again, Torn, Succeeded, moved, CutMove, Came, Doubled, Leaves, LeavesOf}
 use Rattle.maildir_disk.proofs.Common.{IsFoundWhole, Follows, left_after, doubled, Files, left_as, writing_ok, LeftByOthers, KeepsHeld}
 
@@ -91,7 +92,7 @@ if_ok (Err e) is h = cc
 
 pub left_fault : {A E : Type 0} {call : Call} (outcome : Result A E) {a b : Files → Type 0} → IsErr outcome
     → Follows (Leaves call) a b → Follows (λ before now. LeavesOf call before outcome now) a b
-left_fault (Ok x) is_err h = cc
+left_fault (Ok x) is_err h = absurd (false≢true is_err)
 left_fault (Err e) is_err h = h
 
 -- nothing is to be found whole
@@ -105,7 +106,7 @@ pub left_answered : {A E F : Type 0} (call : Call) (outcome : Result A E) (answe
     → Follows (λ before now. LeavesOf call before outcome now) a b → Follows (λ before now. LeavesOf call before answer now) a b
 left_answered call (Ok x) (Ok y) is h = h
 left_answered call (Ok x) (Err f) {a} {b} is h = left_as _ (Leaves call) a b (λ old new leaves. leaves.0) h
-left_answered call (Err e) (Ok y) is h = cc
+left_answered call (Err e) (Ok y) is h = absurd (false≢true is)
 left_answered call (Err e) (Err f) is h = h
 
 -- a file that was written and kept
