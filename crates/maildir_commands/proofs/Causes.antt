@@ -13,10 +13,11 @@ use Rattle.maildir_run.specs.Reading.{IsReading, ReadsAtLeast, ReadsAtMost}
 use Rattle.maildir_run.specs.Runs.{Possible}
 use Rattle.maildir_disk.specs.declared.faults.OpenFault.{OpenFault}
 use Rattle.maildir_disk.specs.declared.faults.OpenFault.TheVariants as opening
-use Rattle.maildir_commands.specs.declared.command.Command.{Command}
 use Rattle.maildir_commands.specs.declared.fault.Fault.{Fault}
 use Rattle.maildir_commands.specs.declared.fault.Fault.TheVariants.{Source, Folder, Locked, Run}
-use Rattle.maildir_commands.specs.Causes.{IsCauseOf, IsFailedCall, IsInto, IsNoMbox, IsOfDelivery, IsOfOne, IsOfRun, IsPossibly, IsToldAs, IsTooLong, files_of}
+use Rattle.maildir_commands.specs.Causes.{IsCauseOf, IsFailedCall, IsInto, IsNoMbox, IsOfDelivery, IsOfOne, IsOfRun, IsPossibly, IsToldAs, IsTooLong}
+use Rattle.maildir_commands.specs.Seen.{Seen, SeenMachine}
+use Rattle.maildir_commands.specs.Words.{Request, files_of}
 use Rattle.maildir_commands.specs.Private.Causes.{IsOfFiles}
 use Rattle.maildir_commands.specs.Faults.{fault_of_opening}
 use Rattle.maildir_commands.proofs.Several.{possible_whole}
@@ -59,7 +60,7 @@ failed_in_run calls calls' failures failures' run.OutputFault goes count number 
 failed_in_run calls calls' failures failures' run.OutOfMemory goes count number e = cc
 
 -- a line that was not written is no call
-pub output_no_call : {X : Type 0} {fault : RunFault} {number : ℕ} → fault ≡ run.OutputFault → Run fault ≡ Run (run.FolderFailed number) → X
+pub output_no_call : {X : Type 0} {fault : Fault} {number : ℕ} → fault ≡ Run run.OutputFault → fault ≡ Run (run.FolderFailed number) → X
 output_no_call is e = cc
 
 -- which makes no folder calls
@@ -131,95 +132,88 @@ holds_behind f xs {i} {x} below is =
     let same = length-map xs f in
     (i + 1, omega (arith, same, below), rw add-one (get_or-map f xs i x (f x) below ∙ ap f is))
 
-module _ (text_of : List ℕ → List ℕ) (refuses : List ℕ → Type 0) (file : List ℕ) (files : List (List ℕ)) where
+module _ (machine : SeenMachine) (file : List ℕ) (files : List (List ℕ)) where
   -- a file whose text was read
   pub of_one_file : (before after b a : Option (List ℕ)) (most : ℕ) (name : List ℕ)
-      → Contains (file ∷ files) name → b ≡ Some (text_of name) → ReadsAtMost b a most
-      → (P : List ℕ → Type 0) → IsPossibly b a P → IsOfOne text_of before after (file ∷ files) P
+      → Contains (file ∷ files) name → b ≡ Some (machine.text_of name) → ReadsAtMost b a most
+      → (P : List ℕ → Type 0) → IsPossibly b a P → IsOfOne machine.text_of before after (file ∷ files) P
   of_one_file before after b a most name named reads budget P possibly =
-      (name, named, possibly (text_of name) (possible_whole b a reads budget))
+      (name, named, possibly (machine.text_of name) (possible_whole b a reads budget))
 
-  pub delivered_file : (b a : Option (List ℕ)) (most : ℕ) (name : List ℕ) → Contains (file ∷ files) name → b ≡ Some (text_of name) → ReadsAtMost b a most
-      → (fault : Fault) → IsOfDelivery b a fault → IsOfFiles text_of refuses (file ∷ files) fault
+  pub delivered_file : (b a : Option (List ℕ)) (most : ℕ) (name : List ℕ) → Contains (file ∷ files) name → b ≡ Some (machine.text_of name)
+      → ReadsAtMost b a most → (fault : Fault) → IsOfDelivery b a fault → IsOfFiles machine (file ∷ files) fault
   delivered_file b a most name named reads budget Source is = absurd is
   delivered_file b a most name named reads budget Folder is = absurd is
   delivered_file b a most name named reads budget Locked is = absurd is
-  delivered_file b a most name named reads budget (Run fault) is =
-      run_weaker
-      (of_one_file None None b a most name named reads budget) (λ h. h) fault is
+  delivered_file b a most name named reads budget (Run fault) is = run_weaker (of_one_file None None b a most name named reads budget) (λ h. h) fault is
 
   -- a file that was not opened
   pub refused_file : (name : List ℕ) → Contains (file ∷ files) name → (fault : Fault)
-      → (fault ≡ Source) ⊎ (fault ≡ Run run.OutOfMemory) → (fault ≡ Source → refuses name)
-      → IsOfFiles text_of refuses (file ∷ files) fault
-  refused_file name named fault (inl e) refused = subst (IsOfFiles text_of refuses (file ∷ files)) (sym e) (name, named, refused e)
-  refused_file name named fault (inr e) refused = subst (IsOfFiles text_of refuses (file ∷ files)) (sym e) tt
+      → (fault ≡ Source) ⊎ (fault ≡ Run run.OutOfMemory) → (fault ≡ Source → machine.refuses_source name)
+      → IsOfFiles machine (file ∷ files) fault
+  refused_file name named fault (inl e) refused = subst (IsOfFiles machine (file ∷ files)) (sym e) (name, named, refused e)
+  refused_file name named fault (inr e) refused = subst (IsOfFiles machine (file ∷ files)) (sym e) tt
 
 -- of the texts and refusals at an earlier moment
-pub files_before : {text_of text_of' : List ℕ → List ℕ} {refuses refuses' : List ℕ → Type 0} (files : List (List ℕ))
-    → text_of ≡ text_of' → ((word : List ℕ) → refuses word → refuses' word)
-    → (fault : Fault) → IsOfFiles text_of refuses files fault → IsOfFiles text_of' refuses' files fault
-files_before files same earlier Source (name, named, refused) = (name, named, earlier name refused)
-files_before files same earlier Folder is = absurd is
-files_before files same earlier Locked is = absurd is
-files_before files same earlier (Run fault) is = subst (λ f. IsOfRun (IsOfOne f None None files) (Unit {0}) fault) same is
+pub files_before : (old new : SeenMachine) (files : List (List ℕ)) → new.text_of ≡ old.text_of
+    → ((word : List ℕ) → new.refuses_source word → old.refuses_source word) → (fault : Fault) → IsOfFiles new files fault → IsOfFiles old files fault
+files_before old new files same earlier Source (name, named, refused) = (name, named, earlier name refused)
+files_before old new files same earlier Folder is = absurd is
+files_before old new files same earlier Locked is = absurd is
+files_before old new files same earlier (Run fault) is = subst (λ f. IsOfRun (IsOfOne f None None files) (Unit {0}) fault) same is
 
 pub of_output : (before after : Option (List ℕ)) {fault : Fault} → fault ≡ Run run.OutputFault → IsOfDelivery before after fault
 of_output before after is = subst (IsOfDelivery before after) (sym is) tt
 
--- ---- a command
-module _ (text_of : List ℕ → List ℕ) (refuses : List ℕ → Type 0)
-    (refuses_maildir : List ℕ → OpenFault → Type 0) (before after : Option (List ℕ)) (command : Command) where
-  pub of_files : (file : List ℕ) (files : List (List ℕ)) → files_of command ≡ file ∷ files → IsInto command (λ _. Unit {0}) → (fault : Fault)
-      → IsOfFiles text_of refuses (file ∷ files) fault → IsCauseOf text_of refuses refuses_maildir before after command fault
-  of_files file files are into Source is = subst (λ names. (name : List ℕ) × Contains names name × refuses name) (sym are) is
+-- ---- a request
+module _ (request : Request) (old : Seen) (after : Option (List ℕ)) where
+  pub of_files : (file : List ℕ) (files : List (List ℕ)) → files_of request ≡ file ∷ files → IsInto request (λ _. Unit {0})
+      → (fault : Fault) → IsOfFiles old.machine (file ∷ files) fault → IsCauseOf request old after fault
+  of_files file files are into Source is = subst (λ names. (name : List ℕ) × Contains names name × old.machine.refuses_source name) (sym are) is
   of_files file files are into Folder is = absurd is
   of_files file files are into Locked is = absurd is
   of_files file files are into (Run fault) is =
-      run_weaker
-      (λ P h. subst (λ names. IsOfOne text_of before after names P) (sym are) h) (λ _. into) fault is
+      run_weaker (λ P h. subst (λ names. IsOfOne old.machine.text_of old.input after names P) (sym are) h) (λ _. into) fault is
 
-  pub of_input : files_of command ≡ [] → IsInto command (λ _. Unit {0}) → (fault : Fault) → IsOfDelivery before after fault
-      → IsCauseOf text_of refuses refuses_maildir before after command fault
+  pub of_input : files_of request ≡ [] → IsInto request (λ _. Unit {0}) → (fault : Fault) → IsOfDelivery old.input after fault
+      → IsCauseOf request old after fault
   of_input none into Source is = absurd is
   of_input none into Folder is = absurd is
   of_input none into Locked is = absurd is
   of_input none into (Run fault) is =
-      run_weaker
-      (λ P h. subst (λ names. IsOfOne text_of before after names P) (sym none) h) (λ _. into) fault is
+      run_weaker (λ P h. subst (λ names. IsOfOne old.machine.text_of old.input after names P) (sym none) h) (λ _. into) fault is
 
   -- the file was not opened
-  pub of_opening : (file : List ℕ) → files_of command ≡ file ∷ [] → {fault : Fault} → (fault ≡ Source) ⊎ (fault ≡ Run run.OutOfMemory)
-      → (fault ≡ Source → refuses file) → IsCauseOf text_of refuses refuses_maildir before after command fault
+  pub of_opening : (file : List ℕ) → files_of request ≡ file ∷ [] → {fault : Fault} → (fault ≡ Source) ⊎ (fault ≡ Run run.OutOfMemory)
+      → (fault ≡ Source → old.machine.refuses_source file) → IsCauseOf request old after fault
   of_opening file are (inl e) refused =
-      subst (IsCauseOf text_of refuses refuses_maildir before after command) (sym e)
-      (file, subst (λ names. Contains names file) (sym are) (holds_first []), refused e)
-  of_opening file are (inr e) refused = subst (IsCauseOf text_of refuses refuses_maildir before after command) (sym e) tt
+      subst (IsCauseOf request old after) (sym e) (file, subst (λ names. Contains names file) (sym are) (holds_first []), refused e)
+  of_opening file are (inr e) refused = subst (IsCauseOf request old after) (sym e) tt
 
   -- a text was read, and nothing else was done
-  pub of_read_input : files_of command ≡ [] → (fault : RunFault) → IsOfRun (IsPossibly before after) ⊥ fault
-      → IsCauseOf text_of refuses refuses_maildir before after command (Run fault)
+  pub of_read_input : files_of request ≡ [] → (fault : RunFault) → IsOfRun (IsPossibly old.input after) ⊥ fault
+      → IsCauseOf request old after (Run fault)
   of_read_input none fault is =
-      run_weaker
-      (λ P h. subst (λ names. IsOfOne text_of before after names P) (sym none) h) (λ e. absurd e) fault is
+      run_weaker (λ P h. subst (λ names. IsOfOne old.machine.text_of old.input after names P) (sym none) h) (λ e. absurd e) fault is
 
-  pub of_read_file : (file : List ℕ) → files_of command ≡ file ∷ [] → (b a : Option (List ℕ)) (most : ℕ)
-      → b ≡ Some (text_of file) → ReadsAtMost b a most → (fault : RunFault) → IsOfRun (IsPossibly b a) ⊥ fault
-      → IsCauseOf text_of refuses refuses_maildir before after command (Run fault)
+  pub of_read_file : (file : List ℕ) → files_of request ≡ file ∷ [] → (b a : Option (List ℕ)) (most : ℕ)
+      → b ≡ Some (old.machine.text_of file) → ReadsAtMost b a most → (fault : RunFault) → IsOfRun (IsPossibly b a) ⊥ fault
+      → IsCauseOf request old after (Run fault)
   of_read_file file are b a most reads budget fault is =
       run_weaker
-      (λ P h. subst (λ names. IsOfOne text_of before after names P) (sym are)
-      (of_one_file text_of refuses file [] before after b a most file (holds_first []) reads budget P h)) (λ e. absurd e) fault is
+      (λ P h. subst (λ names. IsOfOne old.machine.text_of old.input after names P) (sym are)
+      (of_one_file old.machine file [] old.input after b a most file (holds_first []) reads budget P h)) (λ e. absurd e) fault is
 
-  by_reason : (maildir : List ℕ) → ((P : List ℕ → Type 0) → P maildir → IsInto command P) → (reason : OpenFault) → refuses_maildir maildir reason
-      → IsCauseOf text_of refuses refuses_maildir before after command (fault_of_opening reason)
-  by_reason maildir into opening.Locked refused = into (λ m. IsToldAs (refuses_maildir m) Locked) (opening.Locked, refl, refused)
+  by_reason : (maildir : List ℕ) → ((P : List ℕ → Type 0) → P maildir → IsInto request P) → (reason : OpenFault)
+      → old.machine.refuses_maildir maildir reason → IsCauseOf request old after (fault_of_opening reason)
+  by_reason maildir into opening.Locked refused = into (λ m. IsToldAs (old.machine.refuses_maildir m) Locked) (opening.Locked, refl, refused)
   by_reason maildir into (opening.Folder folder.OutOfMemory) refused = tt
-  by_reason maildir into (opening.Folder folder.Absent) refused = into (λ m. IsToldAs (refuses_maildir m) Folder) (opening.Folder folder.Absent, refl, refused)
-  by_reason maildir into (opening.Folder folder.Failed) refused = into (λ m. IsToldAs (refuses_maildir m) Folder) (opening.Folder folder.Failed, refl, refused)
+  by_reason maildir into (opening.Folder folder.Absent) refused =
+      into (λ m. IsToldAs (old.machine.refuses_maildir m) Folder) (opening.Folder folder.Absent, refl, refused)
+  by_reason maildir into (opening.Folder folder.Failed) refused =
+      into (λ m. IsToldAs (old.machine.refuses_maildir m) Folder) (opening.Folder folder.Failed, refl, refused)
 
   -- the Maildir was not opened
-  pub of_maildir : (maildir : List ℕ) → ((P : List ℕ → Type 0) → P maildir → IsInto command P) → (fault : Fault) → IsToldAs (refuses_maildir maildir) fault
-      → IsCauseOf text_of refuses refuses_maildir before after command fault
-  of_maildir maildir into fault (reason, is, refused) =
-      subst (IsCauseOf text_of refuses refuses_maildir before after command) (sym is) (by_reason maildir into reason refused)
+  pub of_maildir : (maildir : List ℕ) → ((P : List ℕ → Type 0) → P maildir → IsInto request P) → (fault : Fault)
+      → IsToldAs (old.machine.refuses_maildir maildir) fault → IsCauseOf request old after fault
+  of_maildir maildir into fault (reason, is, refused) = subst (IsCauseOf request old after) (sym is) (by_reason maildir into reason refused)

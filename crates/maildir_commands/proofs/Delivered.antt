@@ -1,12 +1,12 @@
 -- What came of delivering several texts.
-use Rattle.std.proofs.Common.{◌≡◌, ◌+◌, ◌<◌, ◌≤◌, ℕ, List, [], ◌∷◌, length, get_or, All, Option, Result, Ok, Err, IsErr, ◌⊎◌, refl, arith}
-use Rattle.std.specs.Io.KnownBytes.{Keeps}
+use Rattle.std.proofs.Common.{◌≡◌, ◌+◌, ◌<◌, ◌≤◌, ℕ, List, length, get_or, All, Option, Result, Ok, Err, IsErr, refl, arith}
 use Rattle.std.proofs.KnownBytes.{Keeps-refl}
 use Rattle.std.proofs.lemmas.Bool.{false≢true}
 use Rattle.maildir_run.specs.Several.{Mailbox, IsMailbox}
-use Rattle.maildir_commands.specs.Machines.{HeldMaildir, Rests, AreFit, IsSoundFor, OthersStay}
-use Rattle.maildir_commands.specs.Private.Report.{Delivers, DeliversOne}
-use Rattle.maildir_commands.specs.Report.{PrintsOne}
+use Rattle.maildir_commands.specs.Machines.{HeldMaildir, Rests, AreFit, IsSoundFor}
+use Rattle.maildir_commands.specs.Private.Report.{DeliversOne}
+use Rattle.maildir_commands.specs.Program.{Delivers}
+use Rattle.maildir_commands.proofs.Known.{swept_rests}
 use Rattle.maildir_commands.proofs.Several.{UpTo, all_each, all_safe, no_text, none_printed, none_some, one_more, rest_all_safe}
 use Rattle.maildir_commands.proofs.Several.{rest_each, rest_some, stay_both, stay_more, stay_rest, stopped_between, then_stopped}
 
@@ -15,15 +15,7 @@ pub none_delivered : {A E : Type 0} (answer : Result A E) {texts : List Mailbox}
     → IsErr answer → Rests old new → Delivers answer texts old new was was
 none_delivered (Ok x) failed rests = absurd (false≢true failed)
 none_delivered (Err e) {texts} {old} {new} {was} failed rests =
-    record { safe = tt; each = tt; some = none_some (Keeps-refl was); stay = stay_rest texts rests }
-
--- one text, where a fault ended its run
-pub not_delivered : {A E : Type 0} (answer : Result A E) {text : Mailbox} {old new : HeldMaildir} {was is : Option (List ℕ)}
-    → IsErr answer → Keeps was is ⊎ PrintsOne old new text was is → OthersStay (text ∷ []) old new → (old.rooted → new.rooted)
-    → DeliversOne answer text old new was is
-not_delivered (Ok x) failed stopped stays rooted = absurd (false≢true failed)
-not_delivered (Err e) failed stopped stays rooted =
-    record { safe = tt; line = tt; known = tt; stopped = stopped; stays = stays; still_rooted = rooted }
+    record { safe = tt; each = tt; some = none_some (Keeps-refl was); stay = stay_rest texts rests; found = rests.found; swept = tt }
 
 -- the Maildir was opened before, and is closed
 pub closed : {A E : Type 0} (answer : Result A E) (texts : List Mailbox) → All IsMailbox texts
@@ -34,12 +26,16 @@ closed (Ok x) texts are old ready work new was is opens closes did = record {
   each = rest_each are opens did.each;
   some = tt;
   stay = stay_both texts old work new (stay_both texts old ready work (stay_rest texts opens) did.stay) (stay_rest texts closes);
+  found = λ h. closes.found (did.found (opens.found h));
+  swept = λ some. swept_rests work new closes (did.swept some);
 }
 closed (Err e) texts are old ready work new was is opens closes did = record {
   safe = tt;
   each = tt;
   some = rest_some are opens closes did.some;
   stay = stay_both texts old work new (stay_both texts old ready work (stay_rest texts opens) did.stay) (stay_rest texts closes);
+  found = λ h. closes.found (did.found (opens.found h));
+  swept = tt;
 }
 
 module _ (texts : List Mailbox) (fit : AreFit texts) (start : HeldMaildir) where
@@ -47,14 +43,14 @@ module _ (texts : List Mailbox) (fit : AreFit texts) (start : HeldMaildir) where
   pub all_delivered : {A E : Type 0} (value : A) (n : ℕ) (now : HeldMaildir) (was is : Option (List ℕ))
       → length texts ≤ n → UpTo n texts start now was is → Delivers {A = A} {E = E} (Ok value) texts start now was is
   all_delivered value n now was is most up =
-      record { safe = all_safe most up; each = all_each most up; some = tt; stay = up.stay }
+      record { safe = all_safe most up; each = all_each most up; some = tt; stay = up.stay; found = up.found; swept = λ some. up.swept (omega (arith, most, some)) }
 
   -- some of them, and the next could not be opened
   pub stopped_delivered : {A E : Type 0} (answer : Result A E) (n : ℕ) (now : HeldMaildir) (was is : Option (List ℕ))
       → IsErr answer → UpTo n texts start now was is → Delivers answer texts start now was is
   stopped_delivered (Ok x) n now was is failed up = absurd (false≢true failed)
   stopped_delivered (Err e) n now was is failed up =
-      record { safe = tt; each = tt; some = stopped_between texts fit n start now was is up; stay = up.stay }
+      record { safe = tt; each = tt; some = stopped_between texts fit n start now was is up; stay = up.stay; found = up.found; swept = tt }
 
   -- some of them, and the next ended with a fault
   pub then_delivered : {A B E : Type 0} (answer : Result B E) (fault : E) (n : ℕ) (e : Mailbox) (old new : HeldMaildir) (was mid is : Option (List ℕ))
@@ -66,6 +62,8 @@ module _ (texts : List Mailbox) (fit : AreFit texts) (start : HeldMaildir) where
     each = tt;
     some = then_stopped texts fit n e start old new was mid is inside up one.still_rooted one.stays one.stopped;
     stay = stay_more texts fit n e start old new inside up.stay one.stays;
+    found = λ h. one.still_rooted (up.found h);
+    swept = tt;
   }
 
   -- one more of them
@@ -73,7 +71,7 @@ module _ (texts : List Mailbox) (fit : AreFit texts) (start : HeldMaildir) where
       → n < length texts → UpTo n texts start old was mid
       → DeliversOne {A = A} {E = E} (Ok value) (get_or texts n e) old new mid is → UpTo (n + 1) texts start new was is
   more_delivered value n e old new was mid is inside up one =
-      one_more texts fit n e start old new was mid is inside up one.still_rooted one.safe one.line one.known one.stays
+      one_more texts fit n e start old new was mid is inside up one.still_rooted one.safe one.line one.known one.swept one.stays
 
 -- where one text is all
 pub one_delivered : {A E : Type 0} (answer : Result A E) {texts : List Mailbox} → AreFit texts

@@ -1,15 +1,17 @@
 -- Which bases have a home, from one moment to another.
-use Rattle.std.proofs.Common.{◌≡◌, ℕ, ◌+◌, ◌-◌, ◌||◌, Bool, cond, List, [], ◌∷◌, ◌++◌, length, All, IsTrue, Ok, count_by, refl, sym, ap, subst, ◌∙◌, inl, inr}
+use Rattle.std.proofs.Common.{◌≡◌, ℕ, ◌+◌, ◌-◌, ◌||◌, Bool, cond, List, [], ◌∷◌, ◌++◌, length, All, IsTrue, None, Ok, count_by, refl, sym, ap, subst, ◌∙◌, inl, inr}
 use Rattle.std.proofs.lemmas.Bool.{cases_Bool}
 use Rattle.std.proofs.lemmas.List.Elements.{All-head, All-tail}
 use Rattle.std.proofs.lemmas.List.Folds.{Any-from_list_any}
+use Rattle.std.specs.FinMap.{get}
 use Rattle.maildir_name.specs.Names.{is_converter_base}
 use Rattle.maildir_run.specs.declared.report.Report.{Report}
-use Rattle.maildir_run.specs.Delivery.{Message, AreNamed, IsHome, has_home, is_any, is_base_of}
+use Rattle.maildir_run.specs.Delivery.{Message, AreNamed, IsHome, IsSwept, has_home, is_any, is_base_of}
 use Rattle.maildir_run.specs.Files.{Files, Action, acted, all_acted, is_name}
 use Rattle.maildir_run.specs.Runs.{Keeps, ReportsMessages}
 use Rattle.maildir_run.specs.Several.{Mailbox}
 use Rattle.maildir_run.proofs.Call.Homes.{acted_kept}
+use Rattle.maildir_run.proofs.Call.Moves.{acted_tmp}
 use Rattle.maildir_run.proofs.Names.Maps.{is_name-true}
 use Rattle.maildir_run.proofs.Chains.BaseNumbers.{count-cons}
 use Rattle.maildir_run.proofs.Tasks.Progress.{any_kept}
@@ -98,3 +100,19 @@ reports_more has [] [] before is = (is, tt)
 reports_more has [] (other ∷ reports) before is = absurd before
 reports_more has (first ∷ texts) [] before is = absurd before
 reports_more has (first ∷ texts) (other ∷ reports) {text} {report} (one, rest) is = (one, reports_more (also has first) texts reports rest is)
+
+-- ---- leftovers: other programs bring none
+swept_acted : (actions : List Action) (s : Files) → IsSwept s → IsSwept (all_acted actions s)
+swept_acted [] s is = is
+swept_acted (action ∷ actions) s is =
+    swept_acted actions (acted action s) (λ name ours.
+    elim (acted_tmp name ours action s) as (λ _. get (acted action s).tmp name ≡ None) [ inl stays ↦ stays ∙ is name ours | inr goes ↦ goes ])
+
+swept_then : (actions : List Action) (old new : Files) → IsSwept old → new ≡ all_acted actions old → IsSwept new
+swept_then actions old new is same = subst IsSwept (sym same) (swept_acted actions old is)
+
+pub swept_acts : {mid new : World} → Acts mid new → IsSwept mid.files → IsSwept new.files
+swept_acts {mid} {new} acts is = swept_then acts.actions mid.files new.files is acts.files_are
+
+pub swept_rests : (old new : HeldMaildir) → Rests old new → IsSwept old.files → IsSwept new.files
+swept_rests old new rests is = swept_then rests.actions old.files new.files is rests.files_are

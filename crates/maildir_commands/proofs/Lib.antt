@@ -4,8 +4,12 @@ pub mod Causes
 pub mod Endings
 -- What came of delivering several texts.
 pub mod Delivered
--- The words of a conversion.
+-- What the words ask for.
 pub mod Forms
+-- What the delivery of one source owes, as the work goes on.
+pub mod Delivering
+-- What is owed for a request, as the work goes on.
+pub mod Requests
 -- Which bases have a home, from one moment to another.
 pub mod Known
 -- Several texts that are delivered one after the other.
@@ -18,3 +22,9 @@ pub mod Output
 pub mod Resting
 -- Maildirs in memory under their words, where one of them is taken or put back.
 pub mod MemMachines
+-- A power cut of a Maildir in memory is one of those that the laws speak of.
+pub mod MemCuts
+-- What any commands leave of a Maildir that follow one another.
+pub mod AnyCommands
+-- What follows from the contracts of `run` and `deliver`.
+pub mod Follows

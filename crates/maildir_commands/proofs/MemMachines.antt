@@ -6,7 +6,7 @@ use Rattle.std.specs.BTreeMap.{BTreeMap, get_by_text}
 use Rattle.std.specs.Map.{update}
 use Rattle.std.specs.Str.{bytes_eq}
 use Rattle.maildir_disk.specs.declared.mem_system.MemSystem.{MemSystem}
-use Rattle.maildir_commands.specs.Machines.{Rests}
+use Rattle.maildir_commands.specs.Machines.{HeldMaildir, Rests}
 use Rattle.maildir_commands.specs.MemMachines.{AreAll, held_at, held_under_word}
 use Rattle.maildir_commands.proofs.Resting.{rest_same}
 
@@ -51,3 +51,9 @@ found_rests old path {system} is = subst (λ found. Rests (held_at found) (held_
 pub found_files : {X : Type 0} (old : BTreeMap (String X) (Option MemSystem)) (path : List ℕ) {system : MemSystem}
     → get_by_text old path ≡ Some (Some system) → (held_at (Some (Some system))).files ≡ (held_under_word old path).files
 found_files old path is = sym (ap (λ found. (held_at found).files) is)
+
+-- it is open, and stays so
+pub open_rests : {X : Type 0} (old : BTreeMap (String X) (Option MemSystem)) (path : List ℕ) {slot : Option MemSystem} {new : HeldMaildir}
+    → get_by_text old path ≡ Some None → slot ≡ None → Rests (held_at (Some slot)) new → Rests (held_under_word old path) new
+open_rests old path {slot} {new} is none rests =
+    subst (λ found. Rests (held_at found) new) (sym is) (subst (λ slot. Rests (held_at (Some slot)) new) none rests)

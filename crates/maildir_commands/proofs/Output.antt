@@ -1,10 +1,11 @@
 -- What a buffer is given, and what it hands on.
 use Rattle.std.proofs.Common.{◌≡◌, ℕ, List, [], ◌++◌, length, take, refl, sym, ap, subst, ◌∙◌, append-nil}
-use Rattle.std.proofs.Common.{Option, Some, None, Result, Ok, Err, IsErr, IsErrAnd, OnOk}
+use Rattle.std.proofs.Common.{Option, Some, None, Result, Ok, Err, IsErr, OnOk}
 use Rattle.std.proofs.KnownBytes.{Appends-kept, Appends-nil}
 use Rattle.std.proofs.Math.Seq.{take-length}
 use Rattle.std.specs.Io.KnownBytes.{Appends, IsAtEnd, Keeps}
 use Rattle.std.specs.List.{flat_map}
+use Rattle.mbox_text.specs.Writing.{AppendsFront}
 use Rattle.mbox_text.specs.declared.entry.Entry.{Entry}
 use Rattle.mbox_text.proofs.Reading.OneReading.{mbox-one}
 use Rattle.maildir_run.specs.Delivery.{has_home}
@@ -30,6 +31,9 @@ pub handed_each : (old : HeldMaildir) (texts : List Mailbox) (was given inner : 
 handed_each old texts was given inner each keeps =
     record { reports = each.reports; true_of = each.true_of; lines = Appends-kept was given inner _ each.lines keeps }
 
+pub front_kept : (was given kept : Option (List ℕ)) {bytes : List ℕ} → Keeps given kept → AppendsFront was given bytes → AppendsFront was kept bytes
+front_kept was given kept keeps (taken, rest, are, line) = (taken, rest, are, Appends-kept was given kept taken line keeps)
+
 -- what was written whole, and then not handed on
 pub all_front : (output : List Entry → List ℕ) (t : List ℕ) (was given kept : Option (List ℕ))
     → Keeps given kept → WritesAll output (Some t) was given → WritesFront output t was kept
@@ -50,14 +54,7 @@ all_given output before after was given kept keeps ended all t entries possible 
 pub some_kept : (old new : HeldMaildir) (texts : List Mailbox) (was given kept : Option (List ℕ))
     → Keeps given kept → PrintsSome old new texts was given → PrintsSome old new texts was kept
 some_kept old new texts was given kept keeps some =
-    let lines = some.lines in
-    record {
-      n = some.n;
-      reports = some.reports;
-      true_of = some.true_of;
-      safe = some.safe;
-      lines = (lines.0, lines.1, lines.2, Appends-kept was given kept lines.0 lines.3 keeps);
-    }
+    record { n = some.n; reports = some.reports; true_of = some.true_of; safe = some.safe; lines = front_kept was given kept keeps some.lines }
 
 pub each_some : {old new : HeldMaildir} {texts : List Mailbox} {was given kept : Option (List ℕ)}
     → Keeps given kept → PrintsEach old texts was given → AreAllSafe texts new → PrintsSome old new texts was kept
@@ -76,10 +73,6 @@ pub nothing_front : (output : List Entry → List ℕ) (t : List ℕ) (was : Opt
 nothing_front output t was entries mbox = ([], output entries, refl, Appends-nil was)
 
 -- `?` answers a fault
-pub no_ok : {A E : Type 0} (answer : Result A E) (P : E → Type 0) (Q : Type 0) → IsErrAnd answer P → OnOk answer Q
-no_ok (Ok x) P Q is = absurd is
-no_ok (Err e) P Q is = tt
-
 pub no_value : {A E : Type 0} (answer : Result A E) (Q : Type 0) → IsErr answer → OnOk answer Q
 no_value (Ok x) Q is = cc
 no_value (Err e) Q is = tt

@@ -1,5 +1,5 @@
 -- Lines of runs that are printed one after the other.
-use Rattle.std.proofs.Common.{ℕ, ◌+◌, Option, List, [], ◌∷◌, ◌++◌, length, refl, sym, ◌∙◌, ap, subst, append-nil}
+use Rattle.std.proofs.Common.{◌≡◌, ℕ, ◌+◌, max, arith, Option, List, [], ◌∷◌, ◌++◌, length, refl, sym, ◌∙◌, ap, subst, append-nil}
 use Rattle.std.proofs.KnownBytes.{Appends-trans}
 use Rattle.std.proofs.lemmas.List.{length-append}
 use Rattle.std.proofs.lemmas.List.Concat.{flat_map-append}
@@ -7,6 +7,10 @@ use Rattle.std.specs.Io.KnownBytes.{Appends}
 use Rattle.std.specs.List.{flat_map}
 use Rattle.maildir_run.specs.declared.report.Report.{Report}
 use Rattle.maildir_commands.specs.Report.{PrintsReport, PrintsReports, report_line}
+
+-- one for each source
+pub one_each : (x : List ℕ) (xs : List (List ℕ)) → 1 + length xs ≡ max 1 (length (x ∷ xs))
+one_each x xs = grind arith
 
 -- one line
 pub one_report : {was is : Option (List ℕ)} (as_said : Report → Type 0) → PrintsReport was is as_said → PrintsReports was is 1

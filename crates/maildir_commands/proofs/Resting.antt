@@ -5,6 +5,8 @@ use Rattle.maildir_run.specs.Foreign.{KeepsForeign}
 use Rattle.maildir_run.proofs.Tasks.QuietRuns.{others_same}
 use Rattle.maildir_disk.proofs.Left.Lefts.{left_none, left_by_others_then}
 use Rattle.maildir_commands.specs.Machines.{HeldMaildir, Rests}
+use Rattle.maildir_commands.specs.Private.Machines.{OpensSources}
+use Rattle.maildir_commands.specs.Seen.{SeenMachine}
 
 pub rest_same : {maildir : HeldMaildir} → Rests maildir maildir
 rest_same = record { actions = []; files_are = refl; left = left_none; found = λ h. h }
@@ -33,3 +35,28 @@ foreign_within {ready} {new} opens keeps closes = subst (λ s. KeepsForeign s ne
 
 pub foreign_same : {old mid new : Files} → mid ≡ old → new ≡ mid → KeepsForeign old new
 foreign_same {old} opens rests = subst (KeepsForeign old) (sym (rests ∙ opens)) (others_same old)
+
+-- ---- sources are opened
+pub opens_none : {machine : SeenMachine} → OpensSources machine machine
+opens_none = record {
+  honest = λ h. h;
+  texts = λ h. refl;
+  refusals = λ h word refuses. refuses;
+  maildirs = λ h word fault refuses. refuses;
+  rests = λ h word. rest_same;
+  still_open = λ h word is. is;
+  quiet = λ q. q;
+  quietly = λ q word. refl;
+}
+
+pub opens_then : {a b c : SeenMachine} → OpensSources a b → OpensSources b c → OpensSources a c
+opens_then first then = record {
+  honest = λ h. then.honest (first.honest h);
+  texts = λ h. then.texts (first.honest h) ∙ first.texts h;
+  refusals = λ h word refuses. first.refusals h word (then.refusals (first.honest h) word refuses);
+  maildirs = λ h word fault refuses. first.maildirs h word fault (then.maildirs (first.honest h) word fault refuses);
+  rests = λ h word. rest_then (first.rests h word) (then.rests (first.honest h) word);
+  still_open = λ h word is. then.still_open (first.honest h) word (first.still_open h word is);
+  quiet = λ q. then.quiet (first.quiet q);
+  quietly = λ q word. then.quietly (first.quiet q) word ∙ first.quietly q word;
+}

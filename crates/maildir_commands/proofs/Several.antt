@@ -9,7 +9,7 @@ use Rattle.std.proofs.lemmas.List.Concat.{flat_map-append}
 use Rattle.std.specs.Io.KnownBytes.{Appends, Keeps}
 use Rattle.std.specs.List.{flat_map}
 use Rattle.mbox_text.specs.Writing.{AppendsFront}
-use Rattle.maildir_run.specs.Delivery.{Message, AreNamed, IsSoundAt, has_home}
+use Rattle.maildir_run.specs.Delivery.{Message, AreNamed, IsSoundAt, IsSwept, has_home}
 use Rattle.maildir_run.specs.Files.{Files}
 use Rattle.maildir_run.specs.Reading.{ReadsAtMost}
 use Rattle.maildir_run.specs.Runs.{Possible}
@@ -19,9 +19,8 @@ use Rattle.maildir_run.proofs.Chains.MessageLemmas.{text_named}
 use Rattle.maildir_disk.specs.Others.{Stays}
 use Rattle.maildir_disk.specs.PowerCuts.{AreAlike, AreIntact, AreSafe}
 use Rattle.maildir_disk.proofs.Kept.Others.{stays_acted, stays_then}
-use Rattle.maildir_commands.specs.Machines.{HeldMaildir, Rests, AreFit, IsSafeIn, IsSoundFor, AreAllSafe, GivesTexts, HasAlso, OthersStay, bytes_of}
+use Rattle.maildir_commands.specs.Machines.{HeldMaildir, Rests, AreFit, IsSafeIn, IsSoundFor, AreAllSafe, HasAlso, OthersStay, bytes_of}
 use Rattle.maildir_commands.specs.Report.{AreReportsOf, IsReportOf, PrintsEach, PrintsOne, PrintsReport, PrintsSome, report_line}
-use Rattle.maildir_commands.proofs.Forms.{map_both, none_named}
 use Rattle.maildir_commands.proofs.Known.{Agree, also_agree, also_all, also_all-last, report_agree, reports_agree, reports_more, rests_has}
 
 -- ---- a source that is read
@@ -62,11 +61,11 @@ stay_both texts a b c first then = λ others named alike.
     stays_then others a.files a.may_leave b.files b.may_leave c.files c.may_leave (first others named alike) (then others named alike)
 
 -- safe messages stay so
-safe_stay : {ms : List Message} {old new : HeldMaildir} → Stays ms old.files old.may_leave new.files new.may_leave → (old.rooted → new.rooted)
+pub safe_stay : {ms : List Message} {old new : HeldMaildir} → Stays ms old.files old.may_leave new.files new.may_leave → (old.rooted → new.rooted)
     → AreSafe ms old.files old.may_leave old.rooted → AreSafe ms new.files new.may_leave new.rooted
 safe_stay stays rooted was = record { home = stays.home was.home; survive = stays.survive was.survive; found = rooted was.found }
 
-named_of : {text : Mailbox} → IsMailbox text → AreNamed text.messages
+pub named_of : {text : Mailbox} → IsMailbox text → AreNamed text.messages
 named_of {text} is = text_named text.bytes text.messages is.are is.small
 
 named_all : (texts : List Mailbox) → All IsMailbox texts → All (λ text. AreNamed text.messages) texts
@@ -74,7 +73,7 @@ named_all texts are k d below = named_of (are k d below)
 
 -- ---- while nothing is done
 module _ (texts : List Mailbox) (are : All IsMailbox texts) where
-  rest_stays : (old new : HeldMaildir) → Rests old new → (k : ℕ) (d : Mailbox) → k < length texts
+  pub rest_stays : (old new : HeldMaildir) → Rests old new → (k : ℕ) (d : Mailbox) → k < length texts
       → Stays (get_or texts k d).messages old.files old.may_leave new.files new.may_leave
   rest_stays old new rests k d below =
       stays_acted (get_or texts k d).messages (named_all texts are k d below)
@@ -134,6 +133,8 @@ pub record UpTo (n : ℕ) (texts : List Mailbox) (start now : HeldMaildir) (was 
   pub true_of : AreReportsOf (has_home start.files) (take n texts) reports
   pub lines : Appends was is (flat_map report_line reports)
   pub stay : OthersStay texts start now
+  pub found : start.rooted → now.rooted
+  pub swept : 0 < n → IsSwept now.files
 
 pub none_printed : {texts : List Mailbox} {start : HeldMaildir} {was : Option (List ℕ)} → IsSoundFor texts start → UpTo 0 texts start start was was
 none_printed {texts} {start} {was} sound = record {
@@ -144,6 +145,8 @@ none_printed {texts} {start} {was} sound = record {
   true_of = tt;
   lines = Appends-nil was;
   stay = stay_none texts start;
+  found = λ h. h;
+  swept = λ some. absurd (omega (arith, some));
 }
 
 last_or : {k n : ℕ} → k < n + 1 → (k < n) ⊎ (k ≡ n)
@@ -219,8 +222,9 @@ module _ (texts : List Mailbox) (fit : AreFit texts) where
   pub one_more : (n : ℕ) (e : Mailbox) (start old new : HeldMaildir) (was mid is : Option (List ℕ)) → n < length texts → UpTo n texts start old was mid
       → (old.rooted → new.rooted) → IsSafeIn new (get_or texts n e)
       → PrintsReport mid is (IsReportOf (has_home old.files) (get_or texts n e))
-      → HasAlso (get_or texts n e).messages old.files new.files → OthersStay (get_or texts n e ∷ []) old new → UpTo (n + 1) texts start new was is
-  one_more n e start old new was mid is inside up rooted safe line known stay =
+      → HasAlso (get_or texts n e).messages old.files new.files → IsSwept new.files → OthersStay (get_or texts n e ∷ []) old new
+      → UpTo (n + 1) texts start new was is
+  one_more n e start old new was mid is inside up rooted safe line known swept stay =
       let text = get_or texts n e in
       let stays = others_at n e old new inside stay in
       let more : take (n + 1) texts ≡ take n texts ++ text ∷ [] = take_more texts n e inside in
@@ -241,6 +245,8 @@ module _ (texts : List Mailbox) (fit : AreFit texts) where
             (λ b named. sym (up.has b named)) (named_all texts fit.are n e inside) line.said));
         lines = more_lines was mid is _ _ up.lines line.line;
         stay = stay_more n e start old new inside up.stay stay;
+        found = λ h. rooted (up.found h);
+        swept = λ some. swept;
       }
 
   -- and then a text that is not delivered, or whose line was not written whole
@@ -351,15 +357,3 @@ only_first is = sym (ap (λ ts. get_or ts 0 no_text) is)
 
 pub only_length : {texts : List Mailbox} {text : Mailbox} → texts ≡ text ∷ [] → length texts ≡ 1
 only_length is = ap length is
-
--- ---- the texts of files
-module _ {X : Type 0} (texts : List Mailbox) (text_of : List ℕ → List ℕ) (name_of : X → List ℕ)
-    (before after : Option (List ℕ)) (files : List X) (given : GivesTexts text_of before after (map name_of files) texts) where
-  pub none_given : length files ≡ 0 → GivesTexts text_of before after [] texts
-  none_given none = subst (λ names. GivesTexts text_of before after names texts) (none_named name_of files none) given
-
-  pub some_given : (first : X) (rest : List X) → files ≡ first ∷ rest → bytes_of texts ≡ text_of (name_of first) ∷ map (λ file. text_of (name_of file)) rest
-  some_given first rest are =
-      let bytes : bytes_of texts ≡ text_of (name_of first) ∷ map text_of (map name_of rest) =
-      subst (λ fs. GivesTexts text_of before after (map name_of fs) texts) are given in
-      bytes ∙ ap (λ xs. text_of (name_of first) ∷ xs) (map_both text_of name_of rest)

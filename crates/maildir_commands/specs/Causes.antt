@@ -1,5 +1,5 @@
 -- Why a command ended with a fault.
-use Rattle.std.specs.Prelude.{◌≡◌, ◌≤◌, ◌⊎◌, ℕ, ◌+◌, ◌*◌, ◌^◌, List, [], ◌∷◌, Contains, length, map, string_bytes, Option, Some, None}
+use Rattle.std.specs.Prelude.{◌≡◌, ◌≤◌, ◌⊎◌, ℕ, ◌+◌, ◌*◌, ◌^◌, List, [], ◌∷◌, Contains, length, Option}
 use Rattle.mbox_text.specs.declared.entry.Entry.{Entry}
 use Rattle.mbox_text.specs.Mbox.{Mbox}
 use Rattle.maildir_run.specs.declared.fault.RunFault.{RunFault}
@@ -9,12 +9,12 @@ use Rattle.maildir_run.specs.Calls.{GoesUp}
 use Rattle.maildir_run.specs.Counting.{capped, raised}
 use Rattle.maildir_run.specs.Runs.{CountsRun, Possible}
 use Rattle.maildir_disk.specs.declared.faults.OpenFault.{OpenFault}
-use Rattle.maildir_commands.specs.declared.command.Command.{Command}
-use Rattle.maildir_commands.specs.declared.command.Command.TheVariants as command
 use Rattle.maildir_commands.specs.declared.fault.Fault.{Fault}
 use Rattle.maildir_commands.specs.declared.fault.Fault.TheVariants.{Source, Folder, Locked, Run}
 use Rattle.maildir_commands.specs.Faults.{fault_of_opening}
-use Rattle.maildir_commands.specs.Words.{IsOf}
+use Rattle.maildir_commands.specs.Seen.{Seen}
+use Rattle.maildir_commands.specs.Words.{Request, files_of}
+use Rattle.maildir_commands.specs.Words.Request.{ToRewrite, ToList, ToConvert}
 
 -- the text is no mbox text
 abbrev pub IsNoMbox : List ℕ → Type 0
@@ -50,39 +50,24 @@ IsOfDelivery before after Folder = ⊥
 IsOfDelivery before after Locked = ⊥
 IsOfDelivery before after (Run fault) = IsOfRun (IsPossibly before after) (Unit {0}) fault
 
--- the files that a command names
-abbrev pub files_of : Command → List (List ℕ)
-files_of (command.Rewrite None) = []
-files_of (command.Rewrite (Some file)) = file.now ∷ []
-files_of (command.List None) = []
-files_of (command.List (Some file)) = file.now ∷ []
-files_of (command.Convert maildir files) = map string_bytes files.now
-
 -- a Maildir that is named is such
-abbrev pub IsInto : Command → (List ℕ → Type 0) → Type 0
-IsInto (command.Rewrite file) P = ⊥
-IsInto (command.List file) P = ⊥
-IsInto (command.Convert maildir files) P = P maildir.now
+abbrev pub IsInto : Request → (List ℕ → Type 0) → Type 0
+IsInto (ToRewrite file) P = ⊥
+IsInto (ToList file) P = ⊥
+IsInto (ToConvert maildir files) P = P maildir
 
 -- a Maildir may be refused, which is told as this fault
 abbrev pub IsToldAs : (OpenFault → Type 0) → Fault → Type 0
 IsToldAs refuses fault = (reason : OpenFault) × (fault ≡ fault_of_opening reason) × refuses reason
 
--- What is so where a command ended with this fault: a file that is named may be refused, or the Maildir; a text is no mbox
+-- What is so where a request ended with this fault, and left this of standard input: a file that is named may be refused, or the Maildir; a text is no mbox
 -- text, or too long; folder calls are made. Of reads and writes that fail, and want of memory, nothing is known.
-abbrev pub IsCauseOf : (List ℕ → List ℕ) → (List ℕ → Type 0) → (List ℕ → OpenFault → Type 0) → Option (List ℕ) → Option (List ℕ)
-    → Command → Fault → Type 0
-IsCauseOf text_of refuses_source refuses_maildir before after command Source = (name : List ℕ) × Contains (files_of command) name × refuses_source name
-IsCauseOf text_of refuses_source refuses_maildir before after command Folder = IsInto command (λ maildir. IsToldAs (refuses_maildir maildir) Folder)
-IsCauseOf text_of refuses_source refuses_maildir before after command Locked = IsInto command (λ maildir. IsToldAs (refuses_maildir maildir) Locked)
-IsCauseOf text_of refuses_source refuses_maildir before after command (Run fault) =
-    IsOfRun (IsOfOne text_of before after (files_of command)) (IsInto command (λ _. Unit {0})) fault
-
--- and where the command with these words did
-abbrev pub HasCause : (List ℕ → List ℕ) → (List ℕ → Type 0) → (List ℕ → OpenFault → Type 0) → Option (List ℕ) → Option (List ℕ)
-    → List (List ℕ) → Fault → Type 0
-HasCause text_of refuses_source refuses_maildir before after words fault =
-    (command : Command) × IsOf command words × IsCauseOf text_of refuses_source refuses_maildir before after command fault
+abbrev pub IsCauseOf : Request → Seen → Option (List ℕ) → Fault → Type 0
+IsCauseOf request old after Source = (name : List ℕ) × Contains (files_of request) name × old.machine.refuses_source name
+IsCauseOf request old after Folder = IsInto request (λ maildir. IsToldAs (old.machine.refuses_maildir maildir) Folder)
+IsCauseOf request old after Locked = IsInto request (λ maildir. IsToldAs (old.machine.refuses_maildir maildir) Locked)
+IsCauseOf request old after (Run fault) =
+    IsOfRun (IsOfOne old.machine.text_of old.input after (files_of request)) (IsInto request (λ _. Unit {0})) fault
 
 -- The folder call of this number failed: the last that a run made, of so many, or the sync behind the calls of a run that
 -- ended.

@@ -2,7 +2,7 @@
 pub mod Causes
 -- How the program's work ended.
 pub mod Endings
--- The words of the command line.
+-- The words of the command line, and what they ask for.
 pub mod Words
 -- Which fault is answered for what failed below, and the line that tells of it.
 pub mod Faults
@@ -12,6 +12,14 @@ pub mod Report
 pub mod Output
 -- What a machine has under a word, and what it is for several texts.
 pub mod Machines
+-- What is seen of a machine, and of the program's streams, at one moment.
+pub mod Seen
+-- What the delivery of one source owes.
+pub mod Sources
+-- What a run of the program owes.
+pub mod Program
+-- Any commands that follow one another, with mail readers and power cuts between them.
+pub mod Commands
 -- What a machine in memory has under a word.
 pub mod MemMachines
 -- Words of the contracts of private functions and of proofs. No public contract reaches them, and no reader need believe them.

@@ -1,16 +1,16 @@
 -- What a machine has under a word, and what it is for several texts.
+use Rattle.std.proofs.Common.{refl}
 use Rattle.std.specs.Prelude.{◌≡◌, ℕ, List, [], ◌∷◌, All, Option, map, ◌||◌, IsTrue}
-use Rattle.std.specs.FinMap.{empty}
 use Rattle.maildir_name.specs.Names.{is_converter_base}
 use Rattle.maildir_run.specs.Cuts.{Follows}
 use Rattle.maildir_run.specs.Delivery.{Message, AreNamed, IsSoundAt, has_home, is_base_of}
 use Rattle.maildir_run.specs.Files.{Files, Action, all_acted}
+use Rattle.maildir_run.specs.MemFiles.{no_files}
 use Rattle.maildir_run.specs.Runs.{Possible}
 use Rattle.maildir_run.specs.Several.{Mailbox, IsMailbox, OfEach}
 use Rattle.maildir_disk.specs.declared.system.System.{Ghosts}
 use Rattle.maildir_disk.specs.Others.{Stays}
 use Rattle.maildir_disk.specs.PowerCuts.{AreAlike, AreIntact, AreSafe, LeftByOthers}
-use Rattle.maildir_commands.specs.Words.{convert_words}
 
 -- a Maildir at one moment: its files, what a power cut may leave of it, and that one leaves it and its three folders
 pub record HeldMaildir : Type 1 where
@@ -22,9 +22,9 @@ pub record HeldMaildir : Type 1 where
 abbrev pub held : {S File : Type 0} → Ghosts S File → S → HeldMaildir
 held f s = record { files = (f.world s).files; may_leave = f.may_leave s; rooted = f.rooted s }
 
--- no Maildir
+-- no Maildir, and a power cut leaves none
 abbrev pub nothing_held : HeldMaildir
-nothing_held = record { files = record { tmp = empty; new = empty; cur = empty }; may_leave = λ _. ⊥; rooted = ⊥ }
+nothing_held = record { files = no_files; may_leave = λ left. left ≡ no_files; rooted = ⊥ }
 
 -- A Maildir from one moment to the next, while nothing is done to it here: other programs acted, or none did.
 pub record Rests (old new : HeldMaildir) : Type 0 where
@@ -32,6 +32,16 @@ pub record Rests (old new : HeldMaildir) : Type 0 where
   pub files_are : new.files ≡ all_acted actions old.files
   pub left : Follows LeftByOthers old.may_leave new.may_leave
   pub found : old.rooted → new.rooted
+
+-- what two words have that name the same Maildir: what was under one is under the other, as after no time
+abbrev pub AreAt : HeldMaildir → HeldMaildir → Type 0
+AreAt one other = Rests one other × Rests other one
+
+-- the same Maildir
+pub same_at : {maildir : HeldMaildir} → AreAt maildir maildir
+same_at {maildir} =
+    let none : Rests maildir maildir = record { actions = []; files_are = refl; left = λ left may. (left, may, record { kept = []; are = refl }); found = λ h. h } in
+    (none, none)
 
 -- These texts can go into one Maildir: no two of their messages have the same base and other bodies.
 pub record AreFit (texts : List Mailbox) : Type 0 where
@@ -68,12 +78,3 @@ bytes_of texts = map (λ text. text.bytes) texts
 abbrev pub GivesTexts : (List ℕ → List ℕ) → Option (List ℕ) → Option (List ℕ) → List (List ℕ) → List Mailbox → Type 0
 GivesTexts text_of before after [] texts = (text : Mailbox) × (texts ≡ text ∷ []) × Possible before after text.bytes
 GivesTexts text_of before after (file ∷ files) texts = bytes_of texts ≡ map text_of (file ∷ files)
-
--- The words are `convert MAILDIR [FILE]..`, these are the texts, which can go into one Maildir, and it is sound for them.
-pub record Converts (words : List (List ℕ)) (text_of : List ℕ → List ℕ) (before after : Option (List ℕ))
-    (maildir : List ℕ) (texts : List Mailbox) (held : HeldMaildir) : Type 0 where
-  pub files : List (List ℕ)
-  pub words_are : words ≡ convert_words maildir files
-  pub given : GivesTexts text_of before after files texts
-  pub fit : AreFit texts
-  pub sound : IsSoundFor texts held

@@ -1,7 +1,5 @@
--- The words of the command line.
-use Rattle.std.specs.Prelude.{◌≡◌, ◌≤◌, ◌⊎◌, ℕ, List, [], ◌∷◌, length, map, codes, string_bytes, Some, None}
-use Rattle.maildir_commands.specs.declared.command.Command.{Command}
-use Rattle.maildir_commands.specs.declared.command.Command.TheVariants as command
+-- The words of the command line, and what they ask for.
+use Rattle.std.specs.Prelude.{◌≡◌, ◌≤◌, ◌⊎◌, ℕ, List, [], ◌∷◌, length, codes, Option, Some, None}
 
 -- words of one of the forms: none at all, `rewrite [FILE]`, `list [FILE]`, or `convert MAILDIR [FILE]...` (this project's own rule)
 abbrev pub AreOfAForm : List (List ℕ) → Type 0
@@ -19,10 +17,25 @@ AreRewrite words = (words ≡ []) ⊎ (words ≡ codes "rewrite" ∷ [])
 abbrev pub convert_words : List ℕ → List (List ℕ) → List (List ℕ)
 convert_words maildir files = codes "convert" ∷ maildir ∷ files
 
--- the words that a command is of
-abbrev pub IsOf : Command → List (List ℕ) → Type 0
-IsOf (command.Rewrite None) words = AreRewrite words
-IsOf (command.Rewrite (Some file)) words = words ≡ codes "rewrite" ∷ file.now ∷ []
-IsOf (command.List None) words = words ≡ codes "list" ∷ []
-IsOf (command.List (Some file)) words = words ≡ codes "list" ∷ file.now ∷ []
-IsOf (command.Convert maildir files) words = words ≡ convert_words maildir.now (map string_bytes files.now)
+-- What is asked of the program: to write the text of a file, or of standard input where none is named, in its regular spelling or as a
+-- list; or to deliver the messages of the files into a Maildir, or of standard input where none is named.
+pub data Request : Type 0 where
+  ToRewrite : (file : Option (List ℕ)) → Request
+  ToList : (file : Option (List ℕ)) → Request
+  ToConvert : (maildir : List ℕ) → (files : List (List ℕ)) → Request
+
+-- the words ask for this
+abbrev pub AskFor : List (List ℕ) → Request → Type 0
+AskFor words (ToRewrite None) = AreRewrite words
+AskFor words (ToRewrite (Some file)) = words ≡ codes "rewrite" ∷ file ∷ []
+AskFor words (ToList None) = words ≡ codes "list" ∷ []
+AskFor words (ToList (Some file)) = words ≡ codes "list" ∷ file ∷ []
+AskFor words (ToConvert maildir files) = words ≡ convert_words maildir files
+
+-- the files that are named
+abbrev pub files_of : Request → List (List ℕ)
+files_of (ToRewrite None) = []
+files_of (ToRewrite (Some file)) = file ∷ []
+files_of (ToList None) = []
+files_of (ToList (Some file)) = file ∷ []
+files_of (ToConvert maildir files) = files

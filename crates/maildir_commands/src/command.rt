@@ -1,7 +1,7 @@
 // What the words of the command line ask for.
 ghost use Rattle.std.specs.Prelude.{◌↔◌, map, string_bytes, IfSome, IsSome};
-ghost use Rattle.maildir_commands.specs.Words.{AreOfAForm};
-ghost use Rattle.maildir_commands.specs.Words.{IsOf};
+ghost use Rattle.maildir_commands.specs.Words.{AreOfAForm, AskFor};
+ghost use Rattle.maildir_commands.specs.Private.Words.{request};
 
 /// A command. Without FILE it reads standard input.
 #[derive(Clone, Copy, Debug)]
@@ -18,7 +18,7 @@ impl<'a> Command<'a> {
     /// The command of these words, which are compared as they stand; `None` where they are of no form.
     pub fn of(words: &'a [String]) -> Option<Command<'a>>
         ensures form { IsSome result ↔ AreOfAForm (map string_bytes words.now) }
-        ensures words { IfSome result (λ command. IsOf command (map string_bytes words.now)) }
+        ensures words { IfSome result (λ command. AskFor (map string_bytes words.now) (request command)) }
     {
         let Some((word, rest)) = words.split_first() else {
             return Some(Command::Rewrite(None));

@@ -1,7 +1,7 @@
 // The machine itself.
 ghost use Rattle.std.specs.Prelude.{◌≡◌, [], IfOk};
 ghost use Rattle.maildir_disk.specs.Private.Paths.{root_at};
-ghost use Rattle.maildir_commands.specs.Machines.{nothing_held};
+ghost use Rattle.maildir_commands.specs.Machines.{nothing_held, same_at};
 
 use crate::machine::Machine;
 use maildir_disk::{DiskFolder, Host, OpenFault};
@@ -50,6 +50,10 @@ impl<'a, R: Files<File = File> + Clock> Machine for Computer<'a, R> {
     ghost quiet = { λ _. ⊥ };
 
     ghost quiet_is_honest = { λ _ quiet. quiet };
+
+    ghost same_maildir = { λ _ _ _ _. same_at };
+
+    ghost may_leave_all = { λ _ _ honest. absurd honest };
 
     fn open_source(&mut self, path: &str) -> io::Result<File> {
         fs::open(self.rt, path)

@@ -5,6 +5,7 @@ mod command;
 mod computer;
 mod ending;
 mod fault;
+pub mod laws;
 mod machine;
 mod mem_machine;
 mod program;

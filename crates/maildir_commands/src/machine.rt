@@ -2,7 +2,7 @@
 ghost use Rattle.std.specs.Prelude.{◌≡◌, ℕ, List, Some, IfErr, IfOk, OnOk, OnErr};
 ghost use Rattle.maildir_disk.specs.Faults.{IsRefusedGrowth};
 ghost use Rattle.maildir_disk.specs.declared.faults.OpenFault.{OpenFault};
-ghost use Rattle.maildir_commands.specs.Machines.{HeldMaildir, Rests, held};
+ghost use Rattle.maildir_commands.specs.Machines.{AreAt, HeldMaildir, Rests, held};
 
 use maildir_disk::{OpenFault, System};
 use std::io;
@@ -87,4 +87,11 @@ pub trait Machine {
             (maildir_at self.new path.now).files ≡ (Self.Maildir.world maildir).files };
 
     ghost quiet_is_honest: { (machine : Self) → quiet machine → honest machine };
+
+    /// Two words that name the same Maildir have the same files, of which a power cut may leave the same.
+    ghost same_maildir: { (machine : Self) (word other : List ℕ) → same word other → AreAt (maildir_at machine word) (maildir_at machine other) };
+
+    /// A power cut may leave the files of a Maildir as they are.
+    ghost may_leave_all: { (machine : Self) (word : List ℕ) → honest machine →
+        (maildir_at machine word).may_leave (maildir_at machine word).files };
 }

@@ -68,7 +68,7 @@ impl<'a> MemMachine<'a> {
 }
 
 impl<'a> Machine for MemMachine<'a> {
-    ghost use Rattle.maildir_commands.specs.MemMachines.{AreAll, IsRefusedAt, has_text, held_under_word, text_under};
+    ghost use Rattle.maildir_commands.specs.MemMachines.{AreAll, IsRefusedAt, has_text, held_alike, held_may_stay, held_under_word, text_under};
 
     type Source = &'a [u8];
 
@@ -91,6 +91,10 @@ impl<'a> Machine for MemMachine<'a> {
     ghost quiet = { λ machine. AreAll HasNoTurns machine.maildirs };
 
     ghost quiet_is_honest = { λ _ quiet word system is. (quiet word system is).no_script };
+
+    ghost same_maildir = { λ machine. held_alike machine.maildirs };
+
+    ghost may_leave_all = { λ machine word _. held_may_stay (get_by_text machine.maildirs word) };
 
     fn open_source(&mut self, path: &str) -> io::Result<&'a [u8]> {
         let texts = self.texts;

@@ -1,25 +1,18 @@
 // The sources of a conversion, each with a run of its own and its line.
-ghost use Rattle.std.specs.Prelude.{◌≡◌, ◌⊎◌, ℕ, List, [], ◌∷◌, All, Some, map, string_bytes, ◌<◌, ◌+◌};
-ghost use Rattle.std.specs.Prelude.{◌*◌, ◌-◌, ◌^◌, min, max, length, IfOk, IfErr, OnOk, OnErr};
+ghost use Rattle.std.specs.Prelude.{◌≡◌, ◌⊎◌, ℕ, ◌+◌, ◌*◌, ◌-◌, ◌^◌, min};
+ghost use Rattle.std.specs.Prelude.{List, [], map, string_bytes, IfOk, IfErr, OnOk, OnErr};
 ghost use Rattle.std.specs.Io.Buffered.{writer_buffer, writer_contents};
-ghost use Rattle.std.specs.Io.KnownBytes.{Appends, IsAtEnd, Keeps};
+ghost use Rattle.std.specs.Io.KnownBytes.{Appends};
 ghost use Rattle.mbox_text.specs.Writing.{Writes};
-ghost use Rattle.maildir_run.specs.Alone.{alone as alone_after};
-ghost use Rattle.maildir_run.specs.Delivery.{AreNamed, IsSoundAt, Message};
-ghost use Rattle.maildir_run.specs.Foreign.{KeepsForeign};
-ghost use Rattle.maildir_run.specs.Reading.{ReadsAtMost};
-ghost use Rattle.maildir_run.specs.Runs.{CountsRun, Possible, ReportsMessages};
-ghost use Rattle.maildir_run.specs.Several.{Mailbox, IsMailbox};
-ghost use Rattle.maildir_run.specs.Texts.{MessagesOf};
-ghost use Rattle.maildir_disk.specs.Others.{Stays};
 ghost use Rattle.maildir_disk.specs.Paths.{system_of};
-ghost use Rattle.maildir_disk.specs.PowerCuts.{AreAlike, AreIntact, AreSafe, Survive};
-ghost use Rattle.maildir_commands.specs.Causes.{IsCauseOf, IsFailedCall, IsOfDelivery, IsToldAs};
-ghost use Rattle.maildir_commands.specs.declared.command.Command.TheVariants.{Convert};
-ghost use Rattle.maildir_commands.specs.Machines.{AreFit, GivesTexts, HasAlso, IsSoundFor, Rests, bytes_of, held};
-ghost use Rattle.maildir_commands.specs.Private.Causes.{IsOfFiles};
-ghost use Rattle.maildir_commands.specs.Private.Report.{Delivers, DeliversOne};
-ghost use Rattle.maildir_commands.specs.Report.{PrintsOne, PrintsReport, PrintsReports, report_line};
+ghost use Rattle.maildir_commands.specs.Causes.{IsToldAs};
+ghost use Rattle.maildir_commands.specs.Machines.{Rests, held};
+ghost use Rattle.maildir_commands.specs.Program.{Does};
+ghost use Rattle.maildir_commands.specs.Report.{report_line};
+ghost use Rattle.maildir_commands.specs.Seen.{seen, seen_with};
+ghost use Rattle.maildir_commands.specs.Sources.{DeliversSource, seen_folder};
+ghost use Rattle.maildir_commands.specs.Words.Request.{ToConvert};
+ghost use Rattle.maildir_commands.specs.Private.Report.{DeliversFiles};
 
 use crate::fault::Fault;
 use crate::machine::Machine;
@@ -72,27 +65,10 @@ pub(crate) fn deliver_sources<M: Machine, I: Read, W: Write + Drop>(
     input: &mut I,
     out: &mut BufWriter<W>,
 ) -> Result<(), Fault>
-    ensures printed { OnOk result
-        (PrintsReports (writer_contents W.contents out.old) (writer_contents W.contents out.new) (max 1 (length files.now))) }
-    ensures end { length files.now ≡ 0 → OnOk result (IsAtEnd (I.remaining input.new)) }
-    ensures unread { ¬ (length files.now ≡ 0) → I.remaining input.new ≡ I.remaining input.old }
-
-    // over a machine that does as assumed
-    ensures cause { M.honest machine.old →
-        IfErr result (IsCauseOf (M.text_of machine.old) (M.refuses_source machine.old) (M.refuses_maildir machine.old)
-        (I.remaining input.old) (I.remaining input.new) (Convert maildir.entry files.entry)) }
-    ensures texts { M.honest machine.old → M.text_of machine.new ≡ M.text_of machine.old }
-    ensures elsewhere { M.honest machine.old → (word : List ℕ) → ¬ M.same maildir.now word →
-        Rests (M.maildir_at machine.old word) (M.maildir_at machine.new word) }
-    ensures others { M.quiet machine.old →
-        KeepsForeign (M.maildir_at machine.old maildir.now).files (M.maildir_at machine.new maildir.now).files }
-
-    // and where the texts can go into the Maildir
-    ensures delivers { M.honest machine.old → (texts : List Mailbox) →
-        GivesTexts (M.text_of machine.old) (I.remaining input.old) (I.remaining input.new) (map string_bytes files.now) texts →
-        AreFit texts → IsSoundFor texts (M.maildir_at machine.old maildir.now) →
-        Delivers result texts (M.maildir_at machine.old maildir.now) (M.maildir_at machine.new maildir.now)
-        (writer_contents W.contents out.old) (writer_contents W.contents out.new) }
+    ensures does { let at = seen M.Machine in
+        Does (ToConvert maildir.now (map string_bytes files.now)) result
+        (seen_with (at machine.old) (I.remaining input.old) (writer_contents W.contents out.old))
+        (seen_with (at machine.new) (I.remaining input.new) (writer_contents W.contents out.new)) }
 {
     let Some((first, rest)) = files.split_first() else {
         let mut folder = open_folder(machine, maildir)?;
@@ -116,24 +92,9 @@ fn deliver_each<M: Machine, W: Write + Drop>(
     rest: &[String],
     out: &mut BufWriter<W>,
 ) -> Result<(), Fault>
-    ensures honest { M.honest machine.old → M.honest machine.new }
-    ensures texts { M.honest machine.old → M.text_of machine.new ≡ M.text_of machine.old }
-    ensures cause { M.honest machine.old → (name : List ℕ) → M.Source.remaining first.old ≡ Some (M.text_of machine.old name) →
-        IfErr result (IsOfFiles (M.text_of machine.old) (M.refuses_source machine.old) (name ∷ map string_bytes rest.now)) }
-    ensures elsewhere { M.honest machine.old → (word : List ℕ) → Rests (M.maildir_at machine.old word) (M.maildir_at machine.new word) }
-    ensures still_open { M.honest machine.old → (word : List ℕ) → M.is_open machine.old word → M.is_open machine.new word }
-    ensures quiet { M.quiet machine.old → M.quiet machine.new }
-    ensures others { M.Maildir.quiet (system_of folder.old) →
-        KeepsForeign (M.Maildir.world (system_of folder.old)).files (M.Maildir.world (system_of folder.new)).files }
-    ensures printed { OnOk result
-        (PrintsReports (writer_contents W.contents out.old) (writer_contents W.contents out.new) (1 + length rest.now)) }
-    ensures delivers { M.honest machine.old → M.Maildir.honest (system_of folder.old) →
-        (texts : List Mailbox) (text : List ℕ) → M.Source.remaining first.old ≡ Some text →
-        bytes_of texts ≡ text ∷ map (λ file. M.text_of machine.old (string_bytes file)) rest.now → AreFit texts →
-        IsSoundFor texts (held M.Maildir.System (system_of folder.old)) →
-        Delivers result texts (held M.Maildir.System (system_of folder.old))
-        (held M.Maildir.System (system_of folder.new))
-        (writer_contents W.contents out.old) (writer_contents W.contents out.new) }
+    ensures does { let at = seen M.Machine in let folder_at = seen_folder ⟦<DiskFolder<M::Maildir> as Folder>⟧ in
+        DeliversFiles (M.Source.remaining first.old) (map string_bytes rest.now) result (at machine.old) (at machine.new)
+        (folder_at folder.old) (folder_at folder.new) (writer_contents W.contents out.old) (writer_contents W.contents out.new) }
 {
     deliver_one(alloc, folder, first, out)?;
     for path in rest {
@@ -150,21 +111,10 @@ fn deliver_one<S: System, I: Read, W: Write + Drop>(
     source: &mut I,
     out: &mut BufWriter<W>,
 ) -> Result<(), Fault>
-    ensures printed { OnOk result (PrintsReports (writer_contents W.contents out.old) (writer_contents W.contents out.new) 1) }
+    ensures does { let at = seen_folder ⟦<DiskFolder<S> as Folder>⟧ in
+        DeliversSource result (I.remaining source.old) (I.remaining source.new)
+        (writer_contents W.contents out.old) (writer_contents W.contents out.new) (at folder.old) (at folder.new) }
     ensures handed { OnOk result (writer_buffer out.new ≡ []) }
-    ensures cause { IfErr result (IsOfDelivery (I.remaining source.old) (I.remaining source.new)) }
-    ensures end { OnOk result (IsAtEnd (I.remaining source.new)) }
-    ensures budget { ReadsAtMost (I.remaining source.old) (I.remaining source.new) (2 ^ 56) }
-    ensures honest { S.honest (system_of folder.old) → OnOk result (S.honest (system_of folder.new)) }
-    ensures quiet { S.quiet (system_of folder.old) → OnOk result (S.quiet (system_of folder.new)) }
-    ensures others { S.quiet (system_of folder.old) →
-        KeepsForeign (S.world (system_of folder.old)).files (S.world (system_of folder.new)).files }
-    ensures delivers { S.honest (system_of folder.old) → (text : Mailbox) → IsMailbox text →
-        Possible (I.remaining source.old) (I.remaining source.new) text.bytes →
-        IsSoundFor (text ∷ []) (held S.System (system_of folder.old)) →
-        DeliversOne result text (held S.System (system_of folder.old))
-        (held S.System (system_of folder.new))
-        (writer_contents W.contents out.old) (writer_contents W.contents out.new) }
 {
     deliver(alloc, folder, source, out)?;
     flush(out)
@@ -180,66 +130,9 @@ pub fn deliver<S: System, I: Read, W: Write>(
     source: &mut I,
     out: &mut W,
 ) -> Result<(), Fault>
-    ensures end { OnOk result (IsAtEnd (I.remaining source.new)) }
-    ensures budget { ReadsAtMost (I.remaining source.old) (I.remaining source.new) (2 ^ 56) }
-
-    // why it ended with a fault
-    ensures cause { IfErr result (IsOfDelivery (I.remaining source.old) (I.remaining source.new)) }
-    ensures failed_call { let f = ⟦<DiskFolder<S> as Folder>⟧ in
-        IfErr result (λ fault. (number : ℕ) → fault ≡ Fault.Run (RunFault.FolderFailed number) →
-        IsFailedCall number (f.calls folder.old) (f.calls folder.new) (f.failures folder.old) (f.failures folder.new)) }
-
-    // its line is of a report that counts the calls that were made, and that is true of the run, where the system does as
-    // assumed and the folder began sound for the text
-    ensures printed { let f = ⟦<DiskFolder<S> as Folder>⟧ in OnOk result (PrintsReport (W.contents out.old) (W.contents out.new) (λ report.
-        CountsRun report (f.calls folder.old) (f.calls folder.new)
-        × (f.honest folder.old → (t : List ℕ) (ms : List Message) → length t < 2 ^ 63 →
-        Possible (I.remaining source.old) (I.remaining source.new) t → MessagesOf t ms →
-        All (IsSoundAt (f.files folder.old)) ms → ReportsMessages ms (f.files folder.old) report))) }
-
-    // where the system does as assumed, and the folder began sound for the text
-    ensures honest { ⟦<DiskFolder<S> as Folder>⟧.honest folder.old → OnOk result (⟦<DiskFolder<S> as Folder>⟧.honest folder.new) }
-    ensures still_rooted { let f = ⟦<DiskFolder<S> as Folder>⟧ in f.honest folder.old → f.rooted folder.old → f.rooted folder.new }
-    ensures intact { let f = ⟦<DiskFolder<S> as Folder>⟧ in f.honest folder.old → (t : List ℕ) (ms : List Message) → length t < 2 ^ 63 →
-        Possible (I.remaining source.old) (I.remaining source.new) t → MessagesOf t ms →
-        AreIntact ms (f.may_leave folder.old) → AreIntact ms (f.may_leave folder.new) }
-    ensures still { let f = ⟦<DiskFolder<S> as Folder>⟧ in
-        f.honest folder.old → (t : List ℕ) (ms others : List Message) → length t < 2 ^ 63 →
-        Possible (I.remaining source.old) (I.remaining source.new) t → MessagesOf t ms → AreNamed others → AreAlike others ms →
-        Survive others (f.may_leave folder.old) → Survive others (f.may_leave folder.new) }
-    ensures safe { let f = ⟦<DiskFolder<S> as Folder>⟧ in f.honest folder.old → (t : List ℕ) (ms : List Message) → length t < 2 ^ 63 →
-        Possible (I.remaining source.old) (I.remaining source.new) t → MessagesOf t ms →
-        All (IsSoundAt (f.files folder.old)) ms → AreIntact ms (f.may_leave folder.old) →
-        OnOk result (AreSafe ms (f.files folder.new) (f.may_leave folder.new) (S.rooted (system_of folder.new))) }
-    ensures line { let f = ⟦<DiskFolder<S> as Folder>⟧ in f.honest folder.old → (t : List ℕ) (ms : List Message) → length t < 2 ^ 63 →
-        Possible (I.remaining source.old) (I.remaining source.new) t → MessagesOf t ms →
-        All (IsSoundAt (f.files folder.old)) ms → AreIntact ms (f.may_leave folder.old) →
-        Keeps (W.contents out.old) (W.contents out.new)
-        ⊎ AreSafe ms (f.files folder.new) (f.may_leave folder.new) (S.rooted (system_of folder.new)) }
-
-    ensures stopped { let f = ⟦<DiskFolder<S> as Folder>⟧ in f.honest folder.old → (t : List ℕ) (ms : List Message) → length t < 2 ^ 63 →
-        Possible (I.remaining source.old) (I.remaining source.new) t → MessagesOf t ms →
-        All (IsSoundAt (f.files folder.old)) ms → AreIntact ms (f.may_leave folder.old) →
-        OnErr result (Keeps (W.contents out.old) (W.contents out.new)
-        ⊎ PrintsOne (held S.System (system_of folder.old)) (held S.System (system_of folder.new))
-        (record { bytes = t; messages = ms }) (W.contents out.old) (W.contents out.new)) }
-
-    // what it leaves of other messages, and which bases have a home behind it
-    ensures stays { let f = ⟦<DiskFolder<S> as Folder>⟧ in
-        f.honest folder.old → (t : List ℕ) (ms others : List Message) → length t < 2 ^ 63 →
-        Possible (I.remaining source.old) (I.remaining source.new) t → MessagesOf t ms →
-        All (IsSoundAt (f.files folder.old)) ms → AreNamed others → AreAlike others ms →
-        Stays others (f.files folder.old) (f.may_leave folder.old) (f.files folder.new) (f.may_leave folder.new) }
-    ensures known { let f = ⟦<DiskFolder<S> as Folder>⟧ in f.honest folder.old → (t : List ℕ) (ms : List Message) → length t < 2 ^ 63 →
-        Possible (I.remaining source.old) (I.remaining source.new) t → MessagesOf t ms → All (IsSoundAt (f.files folder.old)) ms →
-        OnOk result (HasAlso ms (f.files folder.old) (f.files folder.new)) }
-
-    // where the folder is quiet
-    ensures quiet { ⟦<DiskFolder<S> as Folder>⟧.quiet folder.old → OnOk result (⟦<DiskFolder<S> as Folder>⟧.quiet folder.new) }
-    ensures alone { let f = ⟦<DiskFolder<S> as Folder>⟧ in f.quiet folder.old → (t : List ℕ) (ms : List Message) →
-        Possible (I.remaining source.old) (I.remaining source.new) t → MessagesOf t ms →
-        OnOk result (f.files folder.new ≡ alone_after ms (f.files folder.old)) }
-    ensures others { let f = ⟦<DiskFolder<S> as Folder>⟧ in f.quiet folder.old → KeepsForeign (f.files folder.old) (f.files folder.new) }
+    ensures does { let at = seen_folder ⟦<DiskFolder<S> as Folder>⟧ in
+        DeliversSource result (I.remaining source.old) (I.remaining source.new) (W.contents out.old) (W.contents out.new)
+        (at folder.old) (at folder.new) }
 {
     let report = convert(alloc, folder, source, READS)?;
     folder

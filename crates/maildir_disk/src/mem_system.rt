@@ -134,6 +134,7 @@ impl MemSystem {
         ensures quiet { ⟦<MemSystem as System>⟧.quiet self.old → ⟦<MemSystem as System>⟧.quiet self.new }
         ensures found { files_of self.new.folder ≡ get_or (cases_of self.old) case (files_of self.old.folder) }
         ensures stays { All (λ left. left ≡ files_of self.new.folder) (cases_of self.new) }
+        ensures still_rooted { ⟦<MemSystem as System>⟧.rooted self.old → ⟦<MemSystem as System>⟧.rooted self.new }
         ensures calls { self.new.calls_left ≡ self.old.calls_left }
     {
         let behind = case.saturating_sub(self.cases.folders.len());
@@ -149,6 +150,7 @@ impl MemSystem {
 }
 
 impl System for MemSystem {
+    ghost use Rattle.std.proofs.Common.{inl, refl};
     ghost use Rattle.maildir_disk.specs.MemSystem.{HasNoTurns, may_be_left, opened_as, world_of};
 
     type File = MemFile;
@@ -168,6 +170,8 @@ impl System for MemSystem {
     ghost quiet = { HasNoTurns };
 
     ghost quiet_is_honest = { λ _ quiet. quiet.no_script };
+
+    ghost may_leave_all = { λ _ _. inl refl };
 
     fn names(&mut self, sub: Sub) -> io::Result<Vec<String>> {
         let stamp = self.stamp;

@@ -185,4 +185,7 @@ pub trait System {
         ensures quietly { quiet self.old → SameFiles (world self.old) (world self.new) };
 
     ghost quiet_is_honest: { (system : Self) → quiet system → honest system };
+
+    /// A power cut may leave the files as they are.
+    ghost may_leave_all: { (system : Self) → honest system → may_leave system (world system).files };
 }

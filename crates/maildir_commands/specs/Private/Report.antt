@@ -1,24 +1,36 @@
 -- What came of delivering texts.
-use Rattle.std.specs.Prelude.{◌⊎◌, ℕ, List, [], ◌∷◌, OnErr, OnOk, Option, Result}
+use Rattle.std.specs.Prelude.{◌≡◌, ◌⊎◌, ℕ, ◌+◌, List, [], ◌∷◌, length, map, IfErr, OnErr, OnOk, Option, Some, Result}
 use Rattle.std.specs.Io.KnownBytes.{Keeps}
-use Rattle.maildir_run.specs.Delivery.{has_home}
+use Rattle.maildir_run.specs.Delivery.{IsSwept, has_home}
+use Rattle.maildir_run.specs.Foreign.{KeepsForeign}
 use Rattle.maildir_run.specs.Several.{Mailbox}
-use Rattle.maildir_commands.specs.Machines.{HeldMaildir, AreAllSafe, HasAlso, IsSafeIn, OthersStay}
-use Rattle.maildir_commands.specs.Report.{IsReportOf, PrintsEach, PrintsOne, PrintsReport, PrintsSome}
+use Rattle.maildir_commands.specs.Machines.{AreFit, HasAlso, HeldMaildir, IsSafeIn, IsSoundFor, OthersStay, bytes_of}
+use Rattle.maildir_commands.specs.declared.fault.Fault.{Fault}
+use Rattle.maildir_commands.specs.Private.Causes.{IsOfFiles}
+use Rattle.maildir_commands.specs.Private.Machines.{OpensSources}
+use Rattle.maildir_commands.specs.Program.{Delivers}
+use Rattle.maildir_commands.specs.Report.{IsReportOf, PrintsOne, PrintsReport, PrintsReports}
+use Rattle.maildir_commands.specs.Seen.{SeenMachine}
+use Rattle.maildir_commands.specs.Sources.{SeenMaildir}
 
--- What came of delivering the texts: with Ok they are safe and each has its line, and
--- after a fault those are safe whose lines were written; messages of others stay.
-pub record Delivers {A E : Type 0} (answer : Result A E) (texts : List Mailbox) (old new : HeldMaildir) (was is : Option (List ℕ)) : Type 0 where
-  pub safe : OnOk answer (AreAllSafe texts new)
-  pub each : OnOk answer (PrintsEach old texts was is)
-  pub some : OnErr answer (PrintsSome old new texts was is)
-  pub stay : OthersStay texts old new
-
--- What came of delivering one of them.
+-- What came of delivering one text.
 pub record DeliversOne {A E : Type 0} (answer : Result A E) (text : Mailbox) (old new : HeldMaildir) (was is : Option (List ℕ)) : Type 0 where
   pub safe : OnOk answer (IsSafeIn new text)
   pub line : OnOk answer (PrintsReport was is (IsReportOf (has_home old.files) text))
   pub known : OnOk answer (HasAlso text.messages old.files new.files)
+  pub swept : OnOk answer (IsSwept new.files)
   pub stopped : OnErr answer (Keeps was is ⊎ PrintsOne old new text was is)
   pub stays : OthersStay (text ∷ []) old new
   pub still_rooted : old.rooted → new.rooted
+
+-- The messages of a source that is open, and then of each of these files, were delivered into a Maildir that is open, and the machine did no
+-- more than open the files.
+pub record DeliversFiles (first : Option (List ℕ)) (files : List (List ℕ)) (answer : Result Unit Fault)
+    (old new : SeenMachine) (start now : SeenMaildir) (was is : Option (List ℕ)) : Type 0 where
+  pub opens : OpensSources old new
+  pub printed : OnOk answer (PrintsReports was is (1 + length files))
+  pub cause : old.honest → (name : List ℕ) → first ≡ Some (old.text_of name) → IfErr answer (IsOfFiles old (name ∷ files))
+  pub delivers : old.honest → start.honest → (texts : List Mailbox) (text : List ℕ) → first ≡ Some text →
+      bytes_of texts ≡ text ∷ map old.text_of files → AreFit texts → IsSoundFor texts start.held →
+      Delivers answer texts start.held now.held was is
+  pub foreign : start.quiet → KeepsForeign start.held.files now.held.files

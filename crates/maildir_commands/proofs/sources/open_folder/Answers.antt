@@ -1,4 +1,4 @@
-use Rattle.std.proofs.Common.{◌≡◌, sym, subst, ap, ◌∙◌}
+use Rattle.std.proofs.Common.{◌≡◌, sym, subst}
 use Rattle.maildir_commands.specs.Machines.{Rests, held}
 use Rattle.maildir_commands.proofs.Causes.{opening_causes}
 use Rattle.maildir_commands.proofs.sources.open_folder.Goals as goal

@@ -1,6 +1,6 @@
 use Rattle.std.proofs.Common.{Some, sym, ap, rules, ◌∙◌}
 use Rattle.std.proofs.lemmas.Map.Text.{btree_map_updates_text}
-use Rattle.maildir_commands.proofs.MemMachines.{found_files, found_rests, others_rest, same_rests, still_all}
+use Rattle.maildir_commands.proofs.MemMachines.{found_files, found_rests, open_rests, others_rest, path_rests, same_rests, still_all}
 use Rattle.maildir_commands.proofs.mem_machine.MemMachineMachine.open_maildir.Goals as goal
 
 pub returns-in_default-clause-others : goal.returns-in_default-clause-others
@@ -38,6 +38,16 @@ pub returns-in-Some-take-clause-opens : goal.returns-in-Some-take-clause-opens
 returns-in-Some-take-clause-opens c = λ h.
     found_rests c.args.self.now.maildirs c.args.path.now
     (sym c.in-Some.ensures.value ∙ ap Some (sym c.take.ensures.value ∙ c.in-Some-take.is))
+
+pub returns-in_default-clause-rests : goal.returns-in_default-clause-rests
+returns-in_default-clause-rests c = λ h. same_rests c.get_mut.follows.holds-at-none c.args.path.now
+
+pub returns-in-None-clause-rests : goal.returns-in-None-clause-rests
+returns-in-None-clause-rests c = λ h.
+    open_rests c.args.self.now.maildirs c.args.path.now (sym c.in-Some.ensures.value ∙ ap Some (sym c.take.ensures.value ∙ c.in-None.is)) c.take.ensures.after
+    (path_rests c.args.self.now.maildirs (c.get_mut.follows.lender c.take.new.self) c.args.path.now c.take.new.self
+    (btree_map_updates_text c.args.path.now c.args.self.now.maildirs (c.get_mut.follows.lender c.take.new.self)
+    (Some c.take.new.self) ((c.get_mut.follows.holds c.take.new.self).3 (search rules))))
 
 -- ---- where no other program acts
 pub returns-in-Some-take-clause-quiet : goal.returns-in-Some-take-clause-quiet

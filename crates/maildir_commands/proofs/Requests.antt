@@ -1,0 +1,246 @@
+-- What is owed for a request, as the work goes on.
+use Rattle.std.proofs.Common.{◌≡◌, ◌⊎◌, ◌^◌, IsOk, ℕ, List, [], ◌∷◌, Option, Some, None, Result, Ok, Err, IsErrAnd, OnOk, IfErr, refl, sym, subst}
+use Rattle.std.proofs.KnownBytes.{Keeps-refl}
+use denote.Ref.{Bor}
+use Rattle.std.specs.Io.KnownBytes.{IsAtEnd, Keeps}
+use Rattle.std.specs.Result.{result_and}
+use Rattle.std.specs.List.{flat_map}
+use Rattle.mbox_text.specs.declared.entry.Entry.{Entry}
+use Rattle.mbox_text.specs.Spelling.{spelling}
+use Rattle.maildir_run.specs.declared.fault.RunFault.{RunFault}
+use Rattle.maildir_run.specs.declared.fault.RunFault.TheVariants as run
+use Rattle.maildir_run.specs.Foreign.{KeepsForeign}
+use Rattle.maildir_run.specs.Output.{GivesAll, GivesFront, GivesNothing}
+use Rattle.maildir_run.specs.Reading.{IsReading, ReadsAtLeast, ReadsAtMost}
+use Rattle.maildir_run.specs.Several.{Mailbox}
+use Rattle.maildir_run.specs.Table.{table_of}
+use Rattle.maildir_commands.specs.declared.command.Command.{Command}
+use Rattle.maildir_commands.specs.declared.fault.Fault.{Fault}
+use Rattle.maildir_commands.specs.declared.fault.Fault.TheVariants.{Source, Run}
+use Rattle.maildir_commands.specs.Causes.{IsCauseOf}
+use Rattle.maildir_commands.specs.Machines.{HeldMaildir, Rests}
+use Rattle.maildir_commands.specs.Output.{WritesAll, WritesFront}
+use Rattle.maildir_commands.specs.Private.Machines.{OpensSources}
+use Rattle.maildir_commands.specs.Private.Words.{name_of, request}
+use Rattle.maildir_commands.specs.Program.{Delivers, Did, Does, Works, WritesOut, source_of}
+use Rattle.maildir_commands.specs.Seen.{Seen, SeenMachine, seen_with}
+use Rattle.maildir_commands.specs.Words.{AreOfAForm, AskFor, Request, files_of}
+use Rattle.maildir_commands.specs.Words.Request.{ToRewrite, ToList, ToConvert}
+use Rattle.maildir_commands.proofs.Causes.{of_opening, of_read_file, of_read_input, of_reads}
+use Rattle.maildir_commands.proofs.Delivered.{none_delivered}
+use Rattle.maildir_commands.proofs.Forms.{one_request}
+use Rattle.maildir_commands.proofs.Output.{all_front, all_given, each_some, front_kept, handed_all, handed_each, handed_reports, nothing_front, some_kept}
+use Rattle.maildir_commands.proofs.Resting.{rest_same}
+use Rattle.maildir_commands.proofs.Several.{on_ok_then, possible_whole}
+
+-- where `?` answered this fault
+pub ended : {request : Request} {old new : Seen} (answer : Result Unit Fault) {fault : Fault} → IsErrAnd answer (λ given. given ≡ fault)
+    → Does request (Err fault) old new → Does request answer old new
+ended (Ok x) is does = absurd is
+ended {request} {old} {new} (Err e) is does = subst (λ fault. Does request (Err fault) old new) (sym is) does
+
+-- of the file that is named, or of none
+pub asked_as : {file : Option (Bor (List ℕ))} {this : Option (Bor (List ℕ))} (asks : Option (List ℕ) → Request) {answer : Result Unit Fault} {old new : Seen}
+    → file ≡ this → Does (asks (name_of this)) answer old new → Does (asks (name_of file)) answer old new
+asked_as asks {answer} {old} {new} is = subst (λ file. Does (asks (name_of file)) answer old new) (sym is)
+
+pub named_as : {maildir : List ℕ} {names these : List (List ℕ)} {answer : Result Unit Fault} {old new : Seen}
+    → names ≡ these → Does (ToConvert maildir these) answer old new → Does (ToConvert maildir names) answer old new
+named_as {maildir} {names} {these} {answer} {old} {new} is = subst (λ files. Does (ToConvert maildir files) answer old new) (sym is)
+
+pub of_command : {command this : Command} {answer : Result Unit Fault} {old new : Seen}
+    → command ≡ this → Does (request this) answer old new → Does (request command) answer old new
+of_command {answer} {old} {new} is = subst (λ command. Does (request command) answer old new) (sym is)
+
+pub told_as : {words : List (List ℕ)} {told fault : Fault} {old new : Seen} → told ≡ fault → Did words (Err fault) old new → Did words (Err told) old new
+told_as {words} {told} {fault} {old} {new} is = subst (λ fault. Did words (Err fault) old new) (sym is)
+
+-- the words ask for nothing else
+pub did_all : {words : List (List ℕ)} {request : Request} {answer : Result Unit Fault} {old new : Seen} → AreOfAForm words → AskFor words request
+    → Does request answer old new → Did words answer old new
+did_all {words} {request} {answer} {old} {new} form asks does = record {
+  form = form;
+  does = λ other also. subst (λ these. Does these answer old new) (one_request words request other asks also) does;
+}
+
+-- ---- a text is written
+-- by the function behind this request, from standard input
+module _ (request : Request) (output : List Entry → List ℕ) (none : files_of request ≡ [])
+    (works : (answer : Result Unit Fault) (old new : Seen) → WritesOut output None answer old new → Works request answer old new)
+    (machine : SeenMachine) (before after was is : Option (List ℕ)) where
+  pub input_stopped : (fault : RunFault) → IsReading fault ⊎ (fault ≡ run.OutputFault)
+      → (fault ≡ run.NoFromLine → GivesNothing before after was is) → (fault ≡ run.TooManyReads → ReadsAtLeast before after (2 ^ 40))
+      → GivesFront output before after was is → Does request (Err (Run fault)) (seen_with machine before was) (seen_with machine after is)
+  input_stopped fault causes nothing spent front = record {
+    works = works _ _ _ (record { all = λ h. tt; front = λ h t possible entries mbox. front t entries possible mbox; rests = λ h word. rest_same });
+    cause = λ h. of_read_input request (seen_with machine before was) after none fault (of_reads was is causes nothing spent);
+    unread = λ named. absurd (named none);
+    texts = λ h. refl;
+  }
+
+  pub input_done : (count : ℕ) → GivesAll output before was is count → IsAtEnd after
+      → Does request (Ok tt) (seen_with machine before was) (seen_with machine after is)
+  input_done count all end = record {
+    works = works _ _ _ (record {
+      all = λ h. (count, all);
+      front = λ h t possible entries mbox. all_given output before after was is is (Keeps-refl is) end (count, all) t entries possible mbox;
+      rests = λ h word. rest_same;
+    });
+    cause = λ h. tt;
+    unread = λ named. absurd (named none);
+    texts = λ h. refl;
+  }
+
+-- and from a file
+module _ (request : Request) (output : List Entry → List ℕ) (file : List ℕ) (named : files_of request ≡ file ∷ [])
+    (works : (answer : Result Unit Fault) (old new : Seen) → WritesOut output (Some file) answer old new → Works request answer old new)
+    (old new : SeenMachine) (opens : OpensSources old new) (input : Option (List ℕ)) where
+  pub not_opened : (was : Option (List ℕ)) {fault : Fault} → (fault ≡ Source) ⊎ (fault ≡ Run run.OutOfMemory)
+      → (old.honest → fault ≡ Source → old.refuses_source file) → Does request (Err fault) (seen_with old input was) (seen_with new input was)
+  not_opened was causes refused = record {
+    works = works _ _ _ (record {
+      all = λ h. tt;
+      front = λ h t is. nothing_front output t was;
+      rests = opens.rests;
+    });
+    cause = λ h. of_opening request (seen_with old input was) input file named causes (refused h);
+    unread = λ named. refl;
+    texts = opens.texts;
+  }
+
+  module _ (before after was is : Option (List ℕ)) (text : old.honest → before ≡ Some (old.text_of file)) (most : ℕ) (budget : ReadsAtMost before after most) where
+    pub file_stopped : (fault : RunFault) → IsReading fault ⊎ (fault ≡ run.OutputFault)
+        → (fault ≡ run.NoFromLine → GivesNothing before after was is) → (fault ≡ run.TooManyReads → ReadsAtLeast before after (2 ^ 40))
+        → GivesFront output before after was is → Does request (Err (Run fault)) (seen_with old input was) (seen_with new input is)
+    file_stopped fault causes nothing spent front = record {
+      works = works _ _ _ (record {
+        all = λ h. tt;
+        front = λ h t same entries mbox.
+            front t entries (possible_whole before after (subst (λ t. before ≡ Some t) (sym same) (text h)) budget) mbox;
+        rests = opens.rests;
+      });
+      cause = λ h.
+          of_read_file request (seen_with old input was) input file named before after most (text h) budget fault
+          (of_reads was is causes nothing spent);
+      unread = λ named. refl;
+      texts = opens.texts;
+    }
+
+    pub file_done : (count : ℕ) → GivesAll output before was is count → Does request (Ok tt) (seen_with old input was) (seen_with new input is)
+    file_done count all =
+        let given : old.honest → WritesAll output (Some (old.text_of file)) was is =
+        λ h. subst (λ source. WritesAll output source was is) (text h) (count, all) in
+        record {
+          works = works _ _ _ (record {
+            all = given;
+            front = λ h t same. subst (λ t. WritesFront output t was is) (sym same)
+                (all_front output (old.text_of file) was is is (Keeps-refl is) (given h));
+            rests = opens.rests;
+          });
+          cause = λ h. tt;
+          unread = λ named. refl;
+          texts = opens.texts;
+        }
+
+-- ---- nothing is delivered
+pub none_into : (maildir : List ℕ) (files : List (List ℕ)) (old new : SeenMachine) (input was : Option (List ℕ)) {fault : Fault}
+    → (old.honest → IsCauseOf (ToConvert maildir files) (seen_with old input was) input fault)
+    → (old.honest → new.text_of ≡ old.text_of) → (old.honest → Rests (old.maildir_at maildir) (new.maildir_at maildir))
+    → (old.honest → (word : List ℕ) → ¬ old.same maildir word → Rests (old.maildir_at word) (new.maildir_at word))
+    → (old.quiet → KeepsForeign (old.maildir_at maildir).files (new.maildir_at maildir).files)
+    → Does (ToConvert maildir files) (Err fault) (seen_with old input was) (seen_with new input was)
+none_into maildir files old new input was cause same rests elsewhere foreign = record {
+  works = record { printed = tt; delivers = λ h texts these fit sound. none_delivered _ refl (rests h); foreign = foreign; elsewhere = elsewhere };
+  cause = cause;
+  unread = λ named. refl;
+  texts = same;
+}
+
+-- ---- what was given to a buffer, and what it keeps
+writes_kept : {old : Seen} {machine : SeenMachine} {input given kept : Option (List ℕ)} → Keeps given kept
+    → (output : List Entry → List ℕ) (file : Option (List ℕ)) (answer : Result Unit Fault)
+    → WritesOut output file answer old (seen_with machine input given) → WritesOut output file answer old (seen_with machine input kept)
+writes_kept {old} {given} {kept} keeps output file answer did = record {
+  all = λ h. on_ok_then answer (λ all. handed_all output (source_of file old) old.output given kept all keeps) (did.all h);
+  front = λ h t had entries mbox. front_kept old.output given kept keeps (did.front h t had entries mbox);
+  rests = did.rests;
+}
+
+writes_stopped : {old : Seen} {machine : SeenMachine} {input given kept : Option (List ℕ)} → Keeps given kept
+    → (output : List Entry → List ℕ) (file : Option (List ℕ)) (fault : Fault)
+    → WritesOut output file (Ok tt) old (seen_with machine input given) → WritesOut output file (Err fault) old (seen_with machine input kept)
+writes_stopped {old} {given} {kept} keeps output file fault did = record {
+  all = λ h. tt;
+  front = λ h t had entries mbox. front_kept old.output given kept keeps (did.front h t had entries mbox);
+  rests = did.rests;
+}
+
+delivers_kept : (answer : Result Unit Fault) {texts : List Mailbox} {old new : HeldMaildir} {was given kept : Option (List ℕ)} → Keeps given kept
+    → Delivers answer texts old new was given → Delivers answer texts old new was kept
+delivers_kept (Ok _) {texts} {old} {new} {was} {given} {kept} keeps did =
+    record { safe = did.safe; each = handed_each old texts was given kept did.each keeps; some = tt; stay = did.stay; found = did.found; swept = did.swept }
+delivers_kept (Err _) {texts} {old} {new} {was} {given} {kept} keeps did =
+    record { safe = tt; each = tt; some = some_kept old new texts was given kept keeps did.some; stay = did.stay; found = did.found; swept = tt }
+
+delivers_stopped : (fault : Fault) {texts : List Mailbox} {old new : HeldMaildir} {was given kept : Option (List ℕ)} → Keeps given kept
+    → Delivers {A = Unit} {E = Fault} (Ok tt) texts old new was given → Delivers {A = Unit} {E = Fault} (Err fault) texts old new was kept
+delivers_stopped fault keeps did = record { safe = tt; each = tt; some = each_some keeps did.each did.safe; stay = did.stay; found = did.found; swept = tt }
+
+-- ---- what was written is handed on, or is not
+module _ (old : Seen) (machine : SeenMachine) (input given kept : Option (List ℕ)) (keeps : Keeps given kept) where
+  works_kept : (request : Request) (answer : Result Unit Fault)
+      → Works request answer old (seen_with machine input given) → Works request answer old (seen_with machine input kept)
+  works_kept (ToRewrite file) answer did = writes_kept keeps (flat_map spelling) file answer did
+  works_kept (ToList file) answer did = writes_kept keeps table_of file answer did
+  works_kept (ToConvert maildir files) answer did = record {
+    printed = on_ok_then answer (λ printed. handed_reports _ old.output given kept printed keeps) did.printed;
+    delivers = λ h texts these fit sound. delivers_kept answer keeps (did.delivers h texts these fit sound);
+    foreign = did.foreign;
+    elsewhere = did.elsewhere;
+  }
+
+  does_kept : {request : Request} (answer : Result Unit Fault)
+      → Does request answer old (seen_with machine input given) → Does request answer old (seen_with machine input kept)
+  does_kept {request} answer does =
+      record { works = works_kept request answer does.works; cause = does.cause; unread = does.unread; texts = does.texts }
+
+  -- a fault of the output ends what was done
+  works_stopped : (request : Request) (fault : Fault)
+      → Works request (Ok tt) old (seen_with machine input given) → Works request (Err fault) old (seen_with machine input kept)
+  works_stopped (ToRewrite file) fault did = writes_stopped keeps (flat_map spelling) file fault did
+  works_stopped (ToList file) fault did = writes_stopped keeps table_of file fault did
+  works_stopped (ToConvert maildir files) fault did = record {
+    printed = tt;
+    delivers = λ h texts these fit sound. delivers_stopped fault keeps (did.delivers h texts these fit sound);
+    foreign = did.foreign;
+    elsewhere = did.elsewhere;
+  }
+
+  does_stopped : {request : Request} {fault : Fault} → fault ≡ Run run.OutputFault
+      → Does request (Ok tt) old (seen_with machine input given) → Does request (Err fault) old (seen_with machine input kept)
+  does_stopped {request} {fault} is does = record {
+    works = works_stopped request fault does.works;
+    cause = λ h. subst (IsCauseOf request old input) (sym is) tt;
+    unread = does.unread;
+    texts = does.texts;
+  }
+
+  does_handed : {request : Request} (handed : Result Unit Fault) → IfErr handed (λ fault. fault ≡ Run run.OutputFault)
+      → Does request (Ok tt) old (seen_with machine input given) → Does request handed old (seen_with machine input kept)
+  does_handed (Ok tt) is does = does_kept (Ok tt) does
+  does_handed (Err fault) is does = does_stopped is does
+
+  -- whatever came of the work
+  pub does_both : {request : Request} {ending : Result Unit Fault} (answer handed : Result Unit Fault) → ending ≡ result_and answer handed
+      → IfErr handed (λ fault. fault ≡ Run run.OutputFault)
+      → Does request answer old (seen_with machine input given) → Does request ending old (seen_with machine input kept)
+  does_both {request} (Ok _) handed is causes does =
+      subst (λ ending. Does request ending old (seen_with machine input kept)) (sym is) (does_handed handed causes does)
+  does_both {request} (Err fault) handed is causes does =
+      subst (λ ending. Does request ending old (seen_with machine input kept)) (sym is) (does_kept (Err fault) does)
+
+-- and where all was done, all was handed on
+pub both_done : {P : Type 0} (ending answer handed : Result Unit Fault) → ending ≡ result_and answer handed → IsOk ending → OnOk handed P → P
+both_done ending (Ok _) (Ok _) is ok h = h
+both_done ending (Ok _) (Err _) is ok h = cc
+both_done ending (Err _) handed is ok h = cc

@@ -1,0 +1,114 @@
+-- What a run of the program owes.
+use Rattle.std.specs.Prelude.{◌≡◌, ◌<◌, ℕ, List, [], length, max, codes, Option, Some, None, Result, Ok, Err, OnOk, OnErr, IfErr}
+use Rattle.std.specs.Io.KnownBytes.{Keeps}
+use Rattle.std.specs.List.{flat_map}
+use Rattle.mbox_text.specs.declared.entry.Entry.{Entry}
+use Rattle.mbox_text.specs.Spelling.{spelling}
+use Rattle.mbox_text.specs.Writing.{Writes}
+use Rattle.maildir_run.specs.Delivery.{IsSwept}
+use Rattle.maildir_run.specs.Foreign.{KeepsForeign}
+use Rattle.maildir_run.specs.Runs.{Possible}
+use Rattle.maildir_run.specs.Several.{Mailbox}
+use Rattle.maildir_run.specs.Table.{table_of}
+use Rattle.maildir_commands.specs.declared.ending.Ending.{Ending}
+use Rattle.maildir_commands.specs.declared.ending.Ending.TheVariants.{Done, Stopped, WrongWords}
+use Rattle.maildir_commands.specs.declared.fault.Fault.{Fault}
+use Rattle.maildir_commands.specs.declared.machine.Machine.{Ghosts}
+use Rattle.maildir_commands.specs.Causes.{IsCauseOf}
+use Rattle.maildir_commands.specs.Endings.{status_of}
+use Rattle.maildir_commands.specs.Faults.{told}
+use Rattle.maildir_commands.specs.Machines.{AreAllSafe, AreFit, GivesTexts, HeldMaildir, IsSoundFor, OthersStay, Rests}
+use Rattle.maildir_commands.specs.Output.{WritesAll, WritesFront}
+use Rattle.maildir_commands.specs.Report.{PrintsEach, PrintsReports, PrintsSome}
+use Rattle.maildir_commands.specs.Seen.{Seen, Streams, seen_at}
+use Rattle.maildir_commands.specs.Words.{AreOfAForm, AskFor, Request, files_of}
+use Rattle.maildir_commands.specs.Words.Request.{ToRewrite, ToList, ToConvert}
+
+-- ---- `rewrite` and `list`
+-- a file has the text that the machine says, where that does as assumed; standard input has what is left of it
+abbrev pub IsKnown : Option (List ℕ) → Seen → Type 0
+IsKnown None old = Unit {0}
+IsKnown (Some file) old = old.machine.honest
+
+abbrev pub source_of : Option (List ℕ) → Seen → Option (List ℕ)
+source_of None old = old.input
+source_of (Some file) old = Some (old.machine.text_of file)
+
+-- the text that the source had, or one that standard input may have had, where this is left of it
+abbrev pub MayHaveHad : Option (List ℕ) → Seen → Option (List ℕ) → List ℕ → Type 0
+MayHaveHad None old after t = Possible old.input after t
+MayHaveHad (Some file) old after t = t ≡ old.machine.text_of file
+
+-- What belongs to the messages of a source's text was written, all of it or a front, and no Maildir was touched.
+pub record WritesOut (output : List Entry → List ℕ) (file : Option (List ℕ)) (answer : Result Unit Fault) (old new : Seen) : Type 0 where
+  -- with Ok all of it
+  pub all : IsKnown file old → OnOk answer (WritesAll output (source_of file old) old.output new.output)
+  -- in any case a front
+  pub front : IsKnown file old → (t : List ℕ) → MayHaveHad file old new.input t → WritesFront output t old.output new.output
+  pub rests : old.machine.honest → (word : List ℕ) → Rests (old.machine.maildir_at word) (new.machine.maildir_at word)
+
+-- ---- `convert`
+-- What came of delivering texts into a Maildir.
+pub record Delivers {A E : Type 0} (answer : Result A E) (texts : List Mailbox) (old new : HeldMaildir) (was is : Option (List ℕ)) : Type 0 where
+  -- with Ok each is in the Maildir, and survives a power cut, and has its line
+  pub safe : OnOk answer (AreAllSafe texts new)
+  pub each : OnOk answer (PrintsEach old texts was is)
+  -- after a fault so are those whose line stands there
+  pub some : OnErr answer (PrintsSome old new texts was is)
+  -- messages of others stay
+  pub stay : OthersStay texts old new
+  -- and a power cut leaves the Maildir, where it left it before
+  pub found : old.rooted → new.rooted
+  -- with Ok no file of the converter is left in `tmp`
+  pub swept : OnOk answer (0 < length texts → IsSwept new.files)
+
+-- The messages of the files, or of standard input where none is named, were delivered into a Maildir.
+pub record DeliversInto (maildir : List ℕ) (files : List (List ℕ)) (answer : Result Unit Fault) (old new : Seen) : Type 0 where
+  -- with Ok a line was written for each source
+  pub printed : OnOk answer (PrintsReports old.output new.output (max 1 (length files)))
+  -- texts that can go into the Maildir, which is sound for them
+  pub delivers : old.machine.honest → (texts : List Mailbox) → GivesTexts old.machine.text_of old.input new.input files texts → AreFit texts →
+      IsSoundFor texts (old.machine.maildir_at maildir) →
+      Delivers answer texts (old.machine.maildir_at maildir) (new.machine.maildir_at maildir) old.output new.output
+  -- where no other program acts, files of other programs stay as they are
+  pub foreign : old.machine.quiet → KeepsForeign (old.machine.maildir_at maildir).files (new.machine.maildir_at maildir).files
+  -- no other Maildir was touched
+  pub elsewhere : old.machine.honest → (word : List ℕ) → ¬ old.machine.same maildir word →
+      Rests (old.machine.maildir_at word) (new.machine.maildir_at word)
+
+-- ---- the program
+-- what is owed for each request
+abbrev pub Works : Request → Result Unit Fault → Seen → Seen → Type 0
+Works (ToRewrite file) = WritesOut (flat_map spelling) file
+Works (ToList file) = WritesOut table_of file
+Works (ToConvert maildir files) = DeliversInto maildir files
+
+-- What was asked for was done, or ended with a fault.
+pub record Does (request : Request) (answer : Result Unit Fault) (old new : Seen) : Type 0 where
+  pub works : Works request answer old new
+  -- a fault has its cause
+  pub cause : old.machine.honest → IfErr answer (IsCauseOf request old new.input)
+  -- standard input is read only where no file is named
+  pub unread : ¬ (files_of request ≡ []) → new.input ≡ old.input
+  -- no file was changed that is named as a source
+  pub texts : old.machine.honest → new.machine.text_of ≡ old.machine.text_of
+
+-- The words are of a form, and whatever they ask for was done, or ended with a fault.
+pub record Did (words : List (List ℕ)) (answer : Result Unit Fault) (old new : Seen) : Type 0 where
+  pub form : AreOfAForm words
+  pub does : (request : Request) → AskFor words request → Does request answer old new
+
+-- A run of the program with these words ended so. `was` and `is` are what had been written to standard error, before it and after it: nothing
+-- where all was done, and one line, or a front of it, where the words are of no form.
+abbrev pub Ran : List (List ℕ) → Ending → Seen → Seen → Option (List ℕ) → Option (List ℕ) → Type 0
+Ran words Done old new was is = Did words (Ok tt) old new × Keeps was is
+Ran words (Stopped fault _) old new was is = Did words (Err fault) old new
+Ran words (WrongWords answer) old new was is = ¬ AreOfAForm words × Writes was is answer (told (codes "wrong words"))
+
+-- A run of the program with these words ended with this status, from one moment of a machine and of its streams to another.
+pub record RanOn {M A B C : Type 0} (f : Ghosts M A B C) (words : List (List ℕ)) (status : ℕ) (old new : M) (was is : Streams) : Type 0 where
+  pub ending : Ending
+  pub status_is : status ≡ status_of ending
+  pub ran : Ran words ending (seen_at f old was) (seen_at f new is) was.errors is.errors
+  -- where the words are of no form, nothing was done
+  pub untouched : status ≡ 2 → (new ≡ old) × (is.input ≡ was.input)
