@@ -52,9 +52,6 @@ pub of_command : {command this : Command} {answer : Result Unit Fault} {old new 
     → command ≡ this → Does (request this) answer old new → Does (request command) answer old new
 of_command {answer} {old} {new} is = subst (λ command. Does (request command) answer old new) (sym is)
 
-pub told_as : {words : List (List ℕ)} {told fault : Fault} {old new : Seen} → told ≡ fault → Did words (Err fault) old new → Did words (Err told) old new
-told_as {words} {told} {fault} {old} {new} is = subst (λ fault. Did words (Err fault) old new) (sym is)
-
 -- the words ask for nothing else
 pub did_all : {words : List (List ℕ)} {request : Request} {answer : Result Unit Fault} {old new : Seen} → AreOfAForm words → AskFor words request
     → Does request answer old new → Did words answer old new

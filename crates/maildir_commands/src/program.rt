@@ -13,7 +13,7 @@ use crate::fault::Fault;
 use crate::machine::Machine;
 use crate::sources::deliver_sources;
 use crate::streams::{READS, flush, open};
-use crate::telling::{tell, tell_fault};
+use crate::telling::{tell_fault, tell_wrong_words};
 use maildir_run::{list_text, rewrite};
 use std::alloc::Global;
 use std::io::{BufWriter, Read, Write};
@@ -59,16 +59,13 @@ pub fn execute<M: Machine, I: Read, W: Write + Drop, E: Write>(
         (machine.new ≡ machine.old) × (out.new ≡ out.old) × (I.remaining input.new ≡ I.remaining input.old) }
 {
     let Some(command) = Command::of(words) else {
-        return Ending::WrongWords(tell("wrong words", err));
+        return Ending::WrongWords(tell_wrong_words(err));
     };
     let answer = work(machine, alloc, command, input, out);
     // what was written is handed on also after a fault
     match answer.and(flush(out)) {
         Ok(()) => Ending::Done,
-        Err(fault) => {
-            let (fault, answer) = tell_fault(fault, err);
-            Ending::Stopped(fault, answer)
-        }
+        Err(fault) => Ending::Stopped(fault, tell_fault(fault, err)),
     }
 }
 

@@ -2,7 +2,6 @@
 ghost use Rattle.std.specs.Prelude.{◌≡◌, ◌⊎◌, ℕ, ◌+◌, ◌*◌, ◌-◌, ◌^◌, min};
 ghost use Rattle.std.specs.Prelude.{List, [], map, string_bytes, IfOk, IfErr, OnOk, OnErr};
 ghost use Rattle.std.specs.Io.Buffered.{writer_buffer, writer_contents};
-ghost use Rattle.std.specs.Io.KnownBytes.{Appends};
 ghost use Rattle.mbox_text.specs.Writing.{Writes};
 ghost use Rattle.maildir_disk.specs.Paths.{system_of};
 ghost use Rattle.maildir_commands.specs.Causes.{IsToldAs};
@@ -16,17 +15,13 @@ ghost use Rattle.maildir_commands.specs.Private.Report.{DeliversFiles};
 
 use crate::fault::Fault;
 use crate::machine::Machine;
+use crate::report_line::report_line;
 use crate::streams::{READS, flush, open};
-use arrayvec::ArrayVec;
 use maildir_disk::{DiskFolder, System};
 use maildir_run::{Folder, Report, RunFault, convert};
 use mbox_text::write_bytes;
 use std::alloc::Global;
-use std::io;
 use std::io::{BufWriter, Read, Write};
-
-// The longest line of a report has fewer bytes.
-const LINE_BYTES: usize = 128;
 
 fn open_folder<M: Machine>(machine: &mut M, maildir: &str) -> Result<DiskFolder<M::Maildir>, Fault>
     ensures honest { M.honest machine.old → M.honest machine.new }
@@ -159,27 +154,5 @@ fn print_report<W: Write>(report: Report, out: &mut W) -> Result<(), RunFault>
     ensures printed { Writes (W.contents out.old) (W.contents out.new) result (report_line report) }
     ensures causes { IfErr result (λ fault. fault ≡ RunFault.OutputFault) }
 {
-    let mut line = ArrayVec::<u8, LINE_BYTES>::new();
-    if write_line(report, &mut line).is_err() {
-        return Err(RunFault::OutputFault);
-    }
-    match write_bytes(line.as_slice(), out) {
-        Ok(()) => Ok(()),
-        Err(_) => Err(RunFault::OutputFault),
-    }
-}
-
-fn write_line<W: Write>(report: Report, out: &mut W) -> io::Result<()>
-    ensures { OnOk result (Appends (W.contents out.old) (W.contents out.new) (report_line report)) }
-{
-    let Report {
-        messages,
-        there,
-        placed,
-        swept,
-    } = report;
-    writeln!(
-        out,
-        "messages {messages}, there {there}, placed {placed}, swept {swept}"
-    )
+    write_bytes(report_line(report).as_slice(), out).map_err(|_| RunFault::OutputFault)
 }

@@ -1,7 +1,7 @@
 //! Turns an mbox text into files of a Maildir, and can be started again after any stop.
 #![tactic(auto)]
 
-use maildir_commands::{Computer, run, tell};
+use maildir_commands::{Computer, Fault, run, tell_fault, tell_wrong_words};
 use maildir_disk::is_refused_growth;
 use maildir_run::RunFault;
 use std::io::{BufWriter, Write};
@@ -28,7 +28,7 @@ fn main(rt: HostRuntime) -> ExitCode {
         },
         Err(error) if is_refused_growth(&error) => out_of_memory(&mut err),
         Err(_) => {
-            let _ = tell("wrong words", &mut err);
+            let _ = tell_wrong_words(&mut err);
             2
         }
     };
@@ -37,7 +37,7 @@ fn main(rt: HostRuntime) -> ExitCode {
 
 // Tells that there is no memory to begin with.
 fn out_of_memory<E: Write>(err: &mut E) -> u8 {
-    let _ = tell(RunFault::OutOfMemory, err);
+    let _ = tell_fault(Fault::Run(RunFault::OutOfMemory), err);
     1
 }
 

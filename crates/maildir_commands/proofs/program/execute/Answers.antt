@@ -2,13 +2,13 @@ use Rattle.std.proofs.Common.{refl, sym, ◌∙◌}
 use Rattle.std.proofs.KnownBytes.{Keeps-refl}
 use Rattle.std.proofs.lemmas.Bool.{false≢true}
 use Rattle.maildir_commands.proofs.Endings.{one_no_two, one_no_zero, two_no_zero, zero_no_two}
-use Rattle.maildir_commands.proofs.Requests.{both_done, did_all, does_both, told_as}
+use Rattle.maildir_commands.proofs.Requests.{both_done, did_all, does_both}
 use Rattle.maildir_commands.proofs.program.execute.Goals as goal
 
 -- the words are of no form
 pub returns-in_default : goal.returns-in_default
 returns-in_default g c = record {
-  ran = (λ form. false≢true (c.in_default.ensures.form.1 form), c.tell.ensures.told);
+  ran = (λ form. false≢true (c.in_default.ensures.form.1 form), c.tell_wrong_words.ensures.told);
   handed = λ e. absurd (two_no_zero e);
   untouched = λ e. (refl, refl, refl);
 }
@@ -33,8 +33,8 @@ pub returns-in-Err : goal.returns-in-Err
 returns-in-Err g c =
     let flush = c.flush.ensures in
     record {
-      ran = told_as c.tell_fault-fault.ensures.same (did_all (c.in-Some.ensures.form.0 refl) c.in-Some.ensures.words
-          (does_both _ _ _ _ _ flush.same _ _ (sym c.in-Err.is ∙ c.and.ensures) flush.causes c.work-answer.ensures.does));
+      ran = did_all (c.in-Some.ensures.form.0 refl) c.in-Some.ensures.words
+          (does_both _ _ _ _ _ flush.same _ _ (sym c.in-Err.is ∙ c.and.ensures) flush.causes c.work-answer.ensures.does);
       handed = λ e. absurd (one_no_zero e);
       untouched = λ e. absurd (one_no_two e);
     }
