@@ -140,9 +140,10 @@ def heads(block, is_public):
 
 
 def contracts(head, block, exported):
-    """What an item of the code says to a caller, by the name of the call or the type; None exported is all."""
+    """What an item of the code says to a caller, by the name of the call or the type; None exported is all. The block of a
+    type or a trait that is exported says it wherever the block stands."""
     public, kind, name, trait, owner = head
-    if exported is not None and (name or owner) not in exported:
+    if exported is not None and not exported.intersection((name, trait, owner)):
         return
     if kind == "trait" and public:
         yield name, block
@@ -157,16 +158,13 @@ def contracts(head, block, exported):
 def public_contracts():
     """Each public contract, as its place, its text and the names that it may cite."""
     for lib in sorted(TOP.glob("crates/*/src/lib.rt")):
-        exports = {}
-        for module, many, one in EXPORT.findall(text_of(lib)):
-            exports.setdefault(module, set()).update(re.findall(r"\w+", many or one))
-        exports.update((module, None) for module in PUBLIC_MODULE.findall(text_of(lib)))
-        for module, exported in sorted(exports.items()):
-            file = lib.with_name(f"{module}.rt")
+        exported = {name for _, many, one in EXPORT.findall(text_of(lib)) for name in re.findall(r"\w+", many or one)}
+        public = set(PUBLIC_MODULE.findall(text_of(lib)))
+        for file in sorted(lib.parent.rglob("*.rt")):
             text = without_comments(text_of(file), "//")
             scope = imports(text, GHOST_USE)
             for head, block in items(text):
-                for name, contract in contracts(head, block, exported):
+                for name, contract in contracts(head, block, None if file.stem in public else exported):
                     yield f"{file.relative_to(TOP)}: {name}", contract, scope
 
 

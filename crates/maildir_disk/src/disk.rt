@@ -109,9 +109,13 @@ fn empty<R: Files>(files: &R, folder: &str, path: &str) -> io::Result<R::File> {
     Ok(file)
 }
 
-// Whether it is a file with one name, and of the one to whom the folder belongs.
+// Whether it is a file as the converter makes one: it has one name, it belongs to the owner of the folder, and nobody else may
+// open it. Where another could, one may have done so already, and would read the message as it is written.
 fn is_own(found: &Metadata, owner: u32) -> bool {
-    found.is_file() && found.nlink() == 1 && found.uid() == owner
+    found.is_file()
+        && found.nlink() == 1
+        && found.uid() == owner
+        && found.mode() & 0o7777 == FILE_MODE
 }
 
 /// Moves a file, by one rename. The error is of the kind `NotFound` only where no file was there to be moved.
