@@ -2,22 +2,18 @@
 #![tactic(auto)]
 
 mod command;
-mod computer;
 mod ending;
 mod fault;
 pub mod laws;
 mod machine;
-mod mem_machine;
 mod program;
 mod sources;
 mod streams;
 mod telling;
 
-pub use computer::Computer;
 pub use ending::Ending;
 pub use fault::Fault;
 pub use machine::Machine;
-pub use mem_machine::{MemMachine, NamedText};
 pub use program::{execute, run};
 pub use sources::deliver;
 pub use telling::tell;
