@@ -20,10 +20,6 @@ pub mod Reports
 pub mod Output
 -- A Maildir that rests, or in which no other program acts.
 pub mod Resting
--- Maildirs in memory under their words, where one of them is taken or put back.
-pub mod MemMachines
--- A power cut of a Maildir in memory is one of those that the laws speak of.
-pub mod MemCuts
 -- What any commands leave of a Maildir that follow one another.
 pub mod AnyCommands
 -- What follows from the contracts of `run` and `deliver`.

@@ -20,7 +20,5 @@ pub mod Sources
 pub mod Program
 -- Any commands that follow one another, with mail readers and power cuts between them.
 pub mod Commands
--- What a machine in memory has under a word.
-pub mod MemMachines
 -- Words of the contracts of private functions and of proofs. No public contract reaches them, and no reader need believe them.
 pub mod Private

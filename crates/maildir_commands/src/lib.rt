@@ -2,24 +2,20 @@
 #![tactic(auto)]
 
 mod command;
-mod computer;
 mod ending;
 mod fault;
 pub mod laws;
 mod line;
 mod machine;
-mod mem_machine;
 mod program;
 mod report_line;
 mod sources;
 mod streams;
 mod telling;
 
-pub use computer::Computer;
 pub use ending::Ending;
 pub use fault::Fault;
 pub use machine::Machine;
-pub use mem_machine::{MemMachine, NamedText};
 pub use program::{execute, run};
 pub use sources::deliver;
 pub use telling::{tell_fault, tell_wrong_words};

@@ -1,44 +1,36 @@
 -- The words that the proofs cite, passed on from one place. Declares nothing.
-pub use Rattle.std.proofs.lemmas.Bool.{and_parts, cases_Bool, cases_lt, cases_order, false_from_ne_true, false≢true}
-pub use Rattle.std.proofs.lemmas.List.Elements.{All-append, All-cons, All-contains, All-head, All-nil, All-tail, Contains-append_cases, Contains-append_left}
+pub use Rattle.std.proofs.lemmas.Bool.{and_parts, cases_Bool, cases_order, false_from_ne_true, false≢true}
+pub use Rattle.std.proofs.lemmas.List.Elements.{All-cons, All-contains, All-head, All-nil, All-tail, Contains-append_cases, Contains-append_left}
 pub use Rattle.std.proofs.lemmas.List.Elements.{Contains-append_right, Contains-get_or, Contains-push}
-pub use Rattle.std.specs.FinMap.{contains_key, contains_key-keys, empty, entries, get, get-entries, get-insert, get-remove, insert, keys, remove, same_map}
+pub use Rattle.std.specs.FinMap.{contains_key, empty, entries, get, get-entries, get-insert, get-remove, insert, keys, remove, same_map}
 pub use Rattle.std.specs.Time.{system_time_nanos}
 pub use Rattle.std.specs.declared.io.Error.{Error}
 pub use Rattle.maildir_name.specs.Names.{is_converter_base, is_converter_name}
 pub use Rattle.maildir_name.specs.declared.target.Place.{Place}
-pub use Rattle.maildir_run.proofs.Call.Cuts.{leaves_moves, left_as}
-pub use Rattle.maildir_run.proofs.Call.Homes.{absent, acted_kept, converters, equally, get-outsiders_of, held-insert_new, held-insert_other, held-remove_old}
+pub use Rattle.maildir_run.proofs.Call.Cuts.{left_as}
+pub use Rattle.maildir_run.proofs.Call.Homes.{absent, acted_kept, converters, equally, get-outsiders_of, held-insert_new, held-insert_other}
+pub use Rattle.maildir_run.proofs.Call.Homes.{held-remove_old}
 pub use Rattle.maildir_run.proofs.Call.Moves.{after_kept, after_tmp, held_none, homes_none, homes_one, none_held, writing_ok}
 pub use Rattle.maildir_run.proofs.Chains.Chains.{chain_fold, chain_keeps, chain_map, chain_parts, sound_now}
 pub use Rattle.maildir_run.proofs.Chains.MessageLemmas.{text_distinct, text_named, text_targets}
-pub use Rattle.maildir_run.proofs.Memory.Scripts.{an_action, one_more}
 pub use Rattle.maildir_run.proofs.Names.Maps.{alike, get-insert_same, is_name-refl, is_name-true, same, total}
-pub use Rattle.maildir_run.specs.Calls.{after, Again, AnyMoves, Call, Called, CalledQuietly, effect, folder_of, IsOthers, IsOwn, IsWhole, Listed, Listing}
-pub use Rattle.maildir_run.specs.Calls.{Lists, Move, moved, Other, placed, PlacesElsewhere, Placing, Removing, StaysOrGoes, Succeeded, Torn, Writing}
+pub use Rattle.maildir_run.specs.Calls.{after, Again, AnyMoves, Call, Called, CalledQuietly, effect, folder_of, IsOthers, IsOwn, IsWhole, Listed}
+pub use Rattle.maildir_run.specs.Calls.{Listing, Lists, Move, moved, Other, placed, PlacesElsewhere, Placing, Removing, StaysOrGoes, Succeeded, Torn}
+pub use Rattle.maildir_run.specs.Calls.{Writing}
 pub use Rattle.maildir_run.specs.Cuts.{Came, CutMove, Doubled, doubled, Follows, IsFoundWhole, Leaves, LeavesOf, left_after, linked}
 pub use Rattle.maildir_run.specs.Delivery.{AreDistinct, AreNamed, Delivered, HasHome, is_any, is_base_of, IsHome, IsMissing, IsSoundAt, Message}
-pub use Rattle.maildir_run.specs.Files.{acted, Action, all_acted, DropTmp, FileMap, Files, has_base, held_under, homes, is_name, KeepsConverters, may_take}
-pub use Rattle.maildir_run.specs.Files.{Outside, outsiders_of, Reflag, ToCur}
-pub use Rattle.maildir_run.specs.MemFolder.{files_of, SameScript}
+pub use Rattle.maildir_run.specs.Files.{acted, Action, all_acted, DropTmp, FileMap, Files, has_base, held_under, homes, is_name, KeepsConverters}
+pub use Rattle.maildir_run.specs.Files.{may_take, Outside, outsiders_of, Reflag, ToCur}
 pub use Rattle.maildir_run.specs.Runs.{IsRun, Keeps, ReportsMessages}
-pub use Rattle.maildir_run.specs.Script.{all_performed, half_performed, performed}
 pub use Rattle.maildir_run.specs.Texts.{MessagesOf}
 pub use Rattle.maildir_run.specs.declared.fault.RunFault.{RunFault}
 pub use Rattle.maildir_run.specs.declared.folder.Sub.{Sub}
 pub use Rattle.maildir_run.specs.declared.folder.Sub.TheVariants.{Cur, New, Tmp}
-pub use Rattle.maildir_run.specs.declared.mem_folder.MemFolder.{MemFolder}
 pub use Rattle.maildir_run.specs.declared.report.Report.{Report}
-pub use Rattle.maildir_disk.specs.Cases.{HasRoom, lefts_of, may_find}
 pub use Rattle.maildir_disk.specs.Look.{IsFarAhead, IsSettled}
-pub use Rattle.maildir_disk.specs.MemSystem.{opened_as, world_of}
 pub use Rattle.maildir_disk.specs.PowerCuts.{Acted, AreAlike, AreIntact, AreSafe, Cut, Event, FilesAndLeft, Happen, Happens, HasBody, IsCut, IsIntact}
 pub use Rattle.maildir_disk.specs.PowerCuts.{IsSingle, KeepsHeld, KeepsNames, LeftByOthers, Ran, Survive, Syncs}
-pub use Rattle.maildir_disk.specs.Private.Cases.{Adds, IsAdded, KeepsCases, Loses, LosesBytes, made, nth_left}
 pub use Rattle.maildir_disk.specs.Private.Writing.{Written}
 pub use Rattle.maildir_disk.specs.Quiet.{AppendedQuietly, SameFiles}
 pub use Rattle.maildir_disk.specs.World.{Acts, IsOfChange, IsStampWithin, margin_of, Passes, ReadsNames, World}
 pub use Rattle.maildir_disk.specs.Writing.{Appended, changed, Comes, rewritten}
-pub use Rattle.maildir_disk.specs.declared.cases.Cases.{Cases}
-pub use Rattle.maildir_disk.specs.declared.cases.Change.{Change}
-pub use Rattle.maildir_disk.specs.declared.cases.Change.TheVariants.{Half, Hold, Make, Remove}

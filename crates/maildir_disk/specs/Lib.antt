@@ -20,9 +20,5 @@ pub mod Misread
 pub mod Quiet
 -- Which fault is answered for what failed below.
 pub mod Faults
--- The cases of what a power cut may leave of a Maildir in memory.
-pub mod Cases
--- What a Maildir in memory with a clock shows.
-pub mod MemSystem
 -- Words of the contracts of private functions and of proofs. No public contract reaches them, and no reader need believe them.
 pub mod Private

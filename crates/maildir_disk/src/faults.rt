@@ -1,8 +1,7 @@
-// Which fault is told for an error of the system, and the other way round.
-ghost use Rattle.std.specs.Prelude.{◌≡◌, ◌↔◌, IfErr, IfOk, OnErr, IsErr, IsTrue};
-ghost use Rattle.std.specs.IoError.{error_kind};
-ghost use Rattle.std.specs.declared.io.ErrorKind.TheVariants.{NotFound};
+// Which fault is told for an error of the system.
+ghost use Rattle.std.specs.Prelude.{◌≡◌, ◌⊎◌, ◌↔◌, IfErr, IfOk, OnErr, IsErr, IsTrue};
 ghost use Rattle.maildir_run.specs.Calls.{IsNotAbsent};
+ghost use Rattle.maildir_run.specs.declared.folder.FolderFault.TheVariants.{Failed, OutOfMemory};
 ghost use Rattle.maildir_disk.specs.Faults.{IsRefusedGrowth};
 ghost use Rattle.maildir_disk.specs.declared.faults.OpenFault.TheVariants.{Folder};
 
@@ -22,11 +21,16 @@ pub enum OpenFault {
     Folder(FolderFault),
 }
 
-impl From<FolderFault> for OpenFault {
-    ghost from_gives = { λ fault given. given ≡ Folder fault };
+impl From<io::Error> for OpenFault {
+    ghost from_gives = { λ error given. (IsRefusedGrowth error × (given ≡ Folder OutOfMemory))
+        ⊎ (¬ IsRefusedGrowth error × (given ≡ Folder Failed)) };
 
-    fn from(fault: FolderFault) -> OpenFault {
-        OpenFault::Folder(fault)
+    fn from(error: io::Error) -> OpenFault {
+        if is_refused_growth(&error) {
+            OpenFault::Folder(FolderFault::OutOfMemory)
+        } else {
+            OpenFault::Folder(FolderFault::Failed)
+        }
     }
 }
 
@@ -50,15 +54,4 @@ pub fn is_refused_growth(error: &io::Error) -> bool
     ensures { IsTrue result ↔ IsRefusedGrowth error.now }
 {
     error.kind() == ErrorKind::OutOfMemory && error.raw_os_error().is_none()
-}
-
-/// The error of a system in memory whose folder told this fault.
-pub(crate) fn error_of(fault: FolderFault) -> io::Error
-    ensures { error_kind result ≡ NotFound → fault ≡ FolderFault.Absent }
-{
-    io::Error::from(match fault {
-        FolderFault::Absent => ErrorKind::NotFound,
-        FolderFault::Failed => ErrorKind::Other,
-        FolderFault::OutOfMemory => ErrorKind::OutOfMemory,
-    })
 }

@@ -1,8 +1,9 @@
 //! Turns an mbox text into files of a Maildir, and can be started again after any stop.
 #![tactic(auto)]
 
-use maildir_commands::{Computer, Fault, run, tell_fault, tell_wrong_words};
+use maildir_commands::{Fault, run, tell_fault, tell_wrong_words};
 use maildir_disk::is_refused_growth;
+use maildir_host::Computer;
 use maildir_run::RunFault;
 use std::io::{BufWriter, Write};
 use std::process::ExitCode;

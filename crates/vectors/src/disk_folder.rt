@@ -1,6 +1,7 @@
 // The calls of a folder on a real disk one by one, as no words of the program make them.
 use crate::mem_folder::{answers, lists};
 use maildir_disk::DiskFolder;
+use maildir_host::OpenAt;
 use maildir_run::{Folder, Sub};
 use std::rt::Env;
 use std::test::Fail;

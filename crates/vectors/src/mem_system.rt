@@ -2,7 +2,8 @@
 use crate::mem_folder::lists;
 use crate::runs::{ABC, File, UNENDED, folder_of, run_over};
 use crate::scripts::{Deed, turns_of};
-use maildir_disk::{DiskFolder, MemSystem, Stamps};
+use maildir_disk::DiskFolder;
+use maildir_memory::{MemSystem, Stamps};
 use maildir_run::Sub;
 use std::alloc::Global;
 use std::test::Fail;

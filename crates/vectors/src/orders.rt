@@ -1,7 +1,8 @@
 // The order of the steps that bring a message: each other one loses it in some case of what a power cut leaves.
 use crate::cuts::{Left, MOVES, ROOM, losing};
 use crate::runs::ABC;
-use maildir_disk::{MemSystem, System};
+use maildir_disk::System;
+use maildir_memory::MemSystem;
 use maildir_name::Place;
 use maildir_run::{MemFolder, Sub};
 use std::io;

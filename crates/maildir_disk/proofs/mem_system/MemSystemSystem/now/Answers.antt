@@ -1,6 +1,0 @@
-use Rattle.std.proofs.Common.{arith}
-use Rattle.maildir_disk.proofs.Common.{Tmp}
-use Rattle.maildir_disk.proofs.mem_system.MemSystemSystem.now.Goals as goal
-
-pub returns-clause-now : goal.returns-clause-now
-returns-clause-now c = λ honest. record { no_earlier = (c.pass_shortly.ensures.passes Tmp).later; no_later = omega arith }

@@ -1,0 +1,67 @@
+// The machine itself.
+ghost use Rattle.std.specs.Prelude.{◌≡◌, []};
+ghost use Rattle.maildir_commands.specs.Machines.{nothing_held, same_at};
+
+use crate::host::Host;
+use maildir_commands::Machine;
+use maildir_disk::OpenFault;
+use std::alloc::Global;
+use std::fs::File;
+use std::rt::{Clock, Files};
+use std::{fs, io};
+
+/// The machine that the program runs on.
+#[derive(Drop)]
+pub struct Computer<'a, R> {
+    rt: &'a R,
+    alloc: Global,
+}
+
+impl<'a, R> Computer<'a, R> {
+    /// The machine that this runtime stands for.
+    pub fn new(rt: &'a R, alloc: Global) -> Self
+        ensures runtime { result.rt.now ≡ rt.now }
+        ensures allocator { result.alloc ≡ alloc }
+    {
+        Computer { rt, alloc }
+    }
+}
+
+// What a real machine does, no proof knows.
+impl<'a, R: Files<File = File> + Clock> Machine for Computer<'a, R> {
+    type Source = File;
+
+    type Maildir = Host<'a, R>;
+
+    ghost text_of = { λ _ _. [] };
+
+    ghost refuses_source = { λ _ _. Unit {0} };
+
+    ghost refuses_maildir = { λ _ _ _. Unit {0} };
+
+    ghost maildir_at = { λ _ _. nothing_held };
+
+    ghost is_open = { λ _ _. Unit {0} };
+
+    ghost same = { λ _ _. Unit {0} };
+
+    ghost honest = { λ _. ⊥ };
+
+    ghost quiet = { λ _. ⊥ };
+
+    ghost quiet_is_honest = { λ _ quiet. quiet };
+
+    ghost same_maildir = { λ _ _ _ _. same_at };
+
+    ghost may_leave_all = { λ _ _ honest. absurd honest };
+
+    fn open_source(&mut self, path: &str) -> io::Result<File> {
+        fs::open(self.rt, path)
+    }
+
+    fn open_maildir(&mut self, path: &str) -> Result<Host<'a, R>, OpenFault> {
+        Host::open_at(self.rt, self.alloc, path)
+    }
+
+    fn close_maildir(&mut self, _path: &str, _maildir: Host<'a, R>) {}
+}

@@ -1,0 +1,62 @@
+-- A power cut of a Maildir in memory is one of those that the laws speak of.
+use Rattle.std.proofs.Common.{◌≡◌, ◌⊎◌, ℕ, Bool, true, false, [], ◌∷◌, length, get_or, if◌then◌else◌, All, Contains, IsPermutation, IsTrue, Some, sym, subst, inl, inr}
+use Rattle.std.proofs.lemmas.Bool.{cases_lt}
+use Rattle.std.proofs.lemmas.List.{get_or_past}
+use Rattle.std.proofs.lemmas.List.Elements.{All-contains, Contains-append_cases, Contains-append_left, Contains-get_or}
+use Rattle.std.proofs.lemmas.List.Sorted.{IsPermutation-refl}
+use Rattle.maildir_run.specs.Files.{Files, KeepsHomes, homes}
+use Rattle.maildir_run.specs.MemFiles.{no_files}
+use Rattle.maildir_run.specs.MemFolder.{files_of}
+use Rattle.maildir_memory.specs.declared.mem_system.MemSystem.{MemSystem}
+use Rattle.maildir_memory.specs.Cases.{lefts_of}
+use Rattle.maildir_memory.specs.MemSystem.{cases_of, may_be_left}
+use Rattle.maildir_disk.specs.PowerCuts.{IsSingle}
+use Rattle.maildir_disk.proofs.Left.LeftHomes.{first_or, none_in}
+use Rattle.maildir_commands.specs.Commands.{IsCutOff}
+use Rattle.maildir_memory.specs.MemMachines.{held_at}
+
+same_homes : (left new : Files) → new ≡ left → KeepsHomes left new
+same_homes left new same = record { kept = λ b named. subst (λ s. IsPermutation (homes left b) (homes s b)) (sym same) (IsPermutation-refl _) }
+
+none_but : (rooted : Bool) (left : Files) → Contains (if rooted then [] else no_files ∷ []) left → (¬ IsTrue rooted) × (left ≡ no_files)
+none_but true left has = absurd (none_in has)
+none_but false left has = elim (first_or [] has) as (λ _. (¬ IsTrue false) × (left ≡ no_files)) [
+  | inl is ↦ (λ e. cc, is)
+  | inr more ↦ absurd (none_in more)
+]
+
+module _ (old new : MemSystem) (case : ℕ) (found : files_of new.folder ≡ get_or (cases_of old) case (files_of old.folder))
+    (stays : All (λ left. left ≡ files_of new.folder) (cases_of new)) (still : IsTrue old.is_rooted → IsTrue new.is_rooted)
+    (single : IsSingle (files_of old.folder) (get_or (cases_of old) case (files_of old.folder))) where
+  abbrev left : Files
+  left = get_or (cases_of old) case (files_of old.folder)
+
+  among : Contains (cases_of old) left → may_be_left old left ⊎ ((¬ IsTrue old.is_rooted) × (left ≡ no_files))
+  among has = elim (Contains-append_cases (lefts_of old.cases) _ left has) as (λ _. may_be_left old left ⊎ ((¬ IsTrue old.is_rooted) × (left ≡ no_files))) [
+    | inl case ↦ inl (inr case)
+    | inr behind ↦ elim (first_or _ behind) as (λ _. may_be_left old left ⊎ ((¬ IsTrue old.is_rooted) × (left ≡ no_files))) [
+      | inl is ↦ inl (inl is)
+      | inr gone ↦ inr (none_but old.is_rooted left gone)
+    ]
+  ]
+
+  may : may_be_left old left ⊎ ((¬ IsTrue old.is_rooted) × (left ≡ no_files))
+  may = elim (cases_lt case (length (cases_of old))) as (λ _. may_be_left old left ⊎ ((¬ IsTrue old.is_rooted) × (left ≡ no_files))) [
+    | inl below ↦ among (Contains-get_or (cases_of old) case (files_of old.folder) below)
+    | inr past ↦ inl (inl (get_or_past (cases_of old) case (files_of old.folder) past))
+  ]
+
+  later_same : (later : Files) → may_be_left new later → later ≡ files_of new.folder
+  later_same later (inl is) = is
+  later_same later (inr has) =
+      All-contains (λ (left : Files). left ≡ files_of new.folder) (cases_of new) later stays (Contains-append_left (lefts_of new.cases) _ later has)
+
+  pub mem_cut : IsCutOff (held_at (Some (Some old))) (held_at (Some (Some new)))
+  mem_cut = record {
+    left = left;
+    may = may;
+    single = single;
+    found = same_homes left (files_of new.folder) found;
+    stays = λ later has. same_homes (files_of new.folder) later (later_same later has);
+    still_rooted = still;
+  }

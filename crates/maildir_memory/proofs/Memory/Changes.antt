@@ -1,0 +1,199 @@
+-- Changes of a Maildir in memory: what each leaves, and of which call it is.
+use Rattle.std.proofs.Common.{◌≡◌, ◌⊎◌, ◌↔◌, ◌+◌, ◌<◌, ◌≤◌, ℕ, List, [], ◌∷◌, ◌++◌, length, take, Contains, Option, Some, None, Result, Ok, Err, OnOk, OnErr}
+use Rattle.std.proofs.Common.{refl, sym, ◌∙◌, ap, subst, inl, inr, arith, string_bytes, take-take, rules}
+use Rattle.maildir_memory.proofs.Common.{get, keys, contains_key, contains_key-keys, Sub, Tmp, MemFolder, Call, Listing, Writing, Placing, Removing, Again}
+use Rattle.maildir_memory.proofs.Common.{Torn}
+use Rattle.maildir_memory.proofs.Common.{Other, Called, folder_of, Leaves, Follows, Came, Doubled, files_of, Files, Action, ToCur, Reflag}
+use Rattle.maildir_memory.proofs.Common.{all_acted, performed, half_performed, leaves_moves, an_action, Cases, Change, Make, Hold, Remove, Half, Adds}
+use Rattle.maildir_memory.proofs.Common.{IsAdded, KeepsCases, Loses, LosesBytes, made, HasRoom, lefts_of, may_find, KeepsNames, LeftByOthers, World, changed}
+use Rattle.maildir_memory.proofs.Common.{rewritten}
+use Rattle.std.proofs.Math.Seq.{take-append-add}
+use Rattle.maildir_run.specs.declared.script.Act.{Act}
+use Rattle.maildir_memory.specs.declared.cases.Change.TheVariants.{Place}
+use Rattle.maildir_memory.proofs.Memory.CaseLists.{no_fewer, there_or_added}
+use Rattle.maildir_disk.proofs.Left.Lefts.{leaves_none, leaves_then, left_both, left_early}
+use Rattle.maildir_disk.proofs.Calls.Passing.{all_acted-append}
+use Rattle.maildir_run.specs.declared.script.Act.TheVariants as act
+use Rattle.maildir_memory.specs.declared.cases.Change.TheVariants as change
+
+-- the call that a change is of; what other programs do comes in a listing
+abbrev pub call_of_change : Change → Call
+call_of_change (Make name) = Writing name.now []
+call_of_change (Hold name bytes) = Writing name.now []
+call_of_change (Place name place target) = Placing name.now place target.now
+call_of_change (Remove name) = Removing name.now
+call_of_change (change.Other act) = Listing Tmp
+call_of_change (Half act) = Listing Tmp
+
+held_leaves : {name : List ℕ} (bytes : List ℕ) {s : Files} (o : Option (List ℕ))
+    → Leaves (Writing name []) s (record s { tmp = rewritten s.tmp name (λ _. bytes) o })
+held_leaves bytes None = record { kept = []; are = refl }
+held_leaves bytes (Some held) = record { kept = Came (Torn bytes) ∷ []; are = refl }
+
+half_leaves : (a : Act) {s : Files} → Leaves (Listing Tmp) s (half_performed a s)
+half_leaves (act.ToCur name target) = record { kept = Doubled (ToCur (string_bytes name) (string_bytes target)) ∷ []; are = refl }
+half_leaves (act.Reflag name target) = record { kept = Doubled (Reflag (string_bytes name) (string_bytes target)) ∷ []; are = refl }
+half_leaves other = record { kept = []; are = refl }
+
+pub made_leaves : (change : Change) {s : Files} → Leaves (call_of_change change) s (made change s)
+made_leaves (Make name) = record { kept = Came Again ∷ []; are = refl }
+made_leaves (Hold name bytes) {s} = held_leaves bytes.now (get s.tmp name.now)
+made_leaves (Place name place target) = record { kept = Came Again ∷ []; are = refl }
+made_leaves (Remove name) = record { kept = Came Again ∷ []; are = refl }
+made_leaves (change.Other act) {s} = let action = an_action act.now s in record { kept = Came (Other action.0) ∷ []; are = action.1 }
+made_leaves (Half act) = half_leaves act.now
+
+-- ---- what a cut may leave
+module _ (change : Change) (folder then : MemFolder) (old new : Cases) (more : Adds (IsAdded change (files_of folder) old) (lefts_of old) (lefts_of new)) where
+  -- a call whose change may be lost, as it leaves the folder
+  pub left_by_change : Leaves (call_of_change change) (files_of folder) (files_of then)
+      → Follows (Leaves (call_of_change change)) (may_find folder old) (may_find then new)
+  left_by_change own left (inl e) = (files_of folder, inl refl, subst (Leaves (call_of_change change) (files_of folder)) (sym e) own)
+  left_by_change own left (inr has) =
+      elim (there_or_added more has) [
+        | inl before ↦ (left, inr before, leaves_none)
+        | inr (inl now) ↦ (left, inl now, leaves_none)
+        | inr (inr (was, had, is)) ↦ (was, inr had, subst (Leaves (call_of_change change) was) (sym is) (made_leaves change))
+      ]
+
+  pub lost_there : Loses change (files_of folder) old new → (left : Files) → may_find folder old left → may_find then new left
+  lost_there loses left (inl e) = search rules
+  lost_there loses left (inr has) = inr (loses.without left has)
+
+  pub made_there : Loses change (files_of folder) old new → files_of then ≡ made change (files_of folder)
+      → (left : Files) → may_find folder old left → may_find then new (made change left)
+  made_there loses is left (inl e) = inl (ap (made change) e ∙ sym is)
+  made_there loses is left (inr has) = inr (loses.also left has)
+
+  pub keeps_lost : new.room ≡ old.room → (HasRoom new → Loses change (files_of folder) old new) → KeepsCases (may_find folder old) (may_find then new) old new
+  keeps_lost room loses = search (rules, no_fewer, lost_there)
+
+pub called_leaves : {A E : Type 0} {call : Call} {a : Files} (outcome : Result A E) {b : Files} → Called call a outcome b → Leaves call a b
+called_leaves {call} {a} (Ok x) {b} h = grind (arith, leaves_moves)
+called_leaves {call} {a} (Err e) {b} h = leaves_moves call a b h.moves h.left
+
+-- ---- calls
+-- a change after others acted, with what came of its call
+pub left_made : {A E : Type 0} (change : Change) {before : Files → Type 0} (folder then : MemFolder) (old new : Cases) (outcome : Result A E)
+    → Follows LeftByOthers before (may_find folder old) → Adds (IsAdded change (files_of folder) old) (lefts_of old) (lefts_of new)
+    → Called (call_of_change change) (files_of folder) outcome (files_of then) → Follows (Leaves (call_of_change change)) before (may_find then new)
+left_made change folder then old new outcome first more called =
+    left_both (left_early first) (left_by_change change folder then old new more (called_leaves outcome called))
+
+-- and where it was not made
+pub left_unmade : (change : Change) {before : Files → Type 0} (folder : MemFolder) (old new : Cases) → Follows LeftByOthers before (may_find folder old)
+    → Adds (IsAdded change (files_of folder) old) (lefts_of old) (lefts_of new) → Follows (Leaves (call_of_change change)) before (may_find folder new)
+left_unmade change folder old new first more =
+    left_both (left_early first) (left_by_change change folder folder old new more leaves_none)
+
+-- where nothing but the script of the folder changed
+pub same_found : {of : Files → Files → Type 0} (folder same : MemFolder) (cases : Cases) {now : Files → Type 0}
+    → files_of same ≡ files_of folder → Follows of (may_find same cases) now → Follows of (may_find folder cases) now
+same_found folder same cases e h left may =
+    let r = h left may in
+    (r.0, elim r.1 [ inl is ↦ inl (is ∙ e) | inr has ↦ inr has ], r.2)
+
+-- a change that may be lost, behind what keeps the cases
+pub lost_after : {change : Change} {before : Files → Type 0} (folder then : MemFolder) {old mid new : Cases} → KeepsCases before (may_find folder mid) old mid
+    → Adds (IsAdded change (files_of folder) mid) (lefts_of mid) (lefts_of new) → new.room ≡ mid.room → (HasRoom new → Loses change (files_of folder) mid new)
+    → files_of then ≡ made change (files_of folder) → HasRoom new → (left : Files) → before left → may_find then new left × may_find then new (made change left)
+lost_after {change} folder then {mid} {new} keeps more room loses is has left may =
+    grind (arith, no_fewer more, lost_there change folder, made_there change folder)
+
+-- what a change of a file's bytes adds
+abbrev pub IsOfBytes : (name bytes : List ℕ) → Files → Cases → Files → Type 0
+IsOfBytes name bytes now old left = (left ≡ now) ⊎ ((was : Files) × Contains (lefts_of old) was × (left ≡ changed name (λ _. bytes) was))
+
+pub left_by_bytes : {name : List ℕ} (bytes : List ℕ) (folder : MemFolder) (first old new : Cases)
+    → Follows (Leaves (Writing name [])) (may_find folder first) (Contains (lefts_of old))
+    → Adds (IsOfBytes name bytes (files_of folder) old) (lefts_of old) (lefts_of new)
+    → Follows (Leaves (Writing name [])) (may_find folder first) (Contains (lefts_of new))
+left_by_bytes {name} bytes folder first old new before more left has =
+    elim (there_or_added more has) [
+      | inl was ↦ before left was
+      | inr (inl now) ↦ (left, inl now, leaves_none)
+      | inr (inr (was, had, is)) ↦
+          let earlier = before was had in
+          let written = subst (Leaves (Writing name []) was) (sym is) (held_leaves bytes (get was.tmp name)) in
+          (earlier.0, earlier.1, leaves_then earlier.2 written)
+    ]
+
+pub left_of_bytes : {name : List ℕ} {before : Files → Type 0} (folder then : MemFolder) (old new : Cases)
+    → Follows LeftByOthers before (may_find folder old) → Follows (Leaves (Writing name [])) (may_find folder old) (Contains (lefts_of new))
+    → Leaves (Writing name []) (files_of folder) (files_of then) → Follows (Leaves (Writing name [])) before (may_find then new)
+left_of_bytes {name} folder then old new first bytes own = left_both (left_early first) each where
+  each : Follows (Leaves (Writing name [])) (may_find folder old) (may_find then new)
+  each left (inl e) = (files_of folder, inl refl, subst (Leaves (Writing name []) (files_of folder)) (sym e) own)
+  each left (inr has) = bytes left has
+
+pub front_of_appended : (held bytes : List ℕ) {n k : ℕ} → k ≤ n → take (length held + k) (held ++ take n bytes) ≡ held ++ take k bytes
+front_of_appended held bytes {n} {k} le = search (rules, take-append-add, take-take)
+
+pub bytes_after : {name holds : List ℕ} {held : ℕ} {before : Files → Type 0} {folder : MemFolder} (then : MemFolder) {old mid new : Cases}
+    → KeepsCases before (may_find folder mid) old mid → length (lefts_of mid) ≤ length (lefts_of new) → new.room ≡ mid.room
+    → (HasRoom new → LosesBytes name holds held folder mid new) → HasRoom new → {n : ℕ} → held < n → n ≤ length holds
+    → (left : Files) → before left → may_find then new left × may_find then new (changed name (λ _. take n holds) left)
+bytes_after then {mid} keeps longer room loses has {n} above below left may = grind arith
+
+-- another program's act, or what is left of it where it found no memory
+pub acts_of_act : {E : Type 0} (a : Act) (old : Files) (outcome : Result (Unit {0}) E) {new : Files}
+    → OnOk outcome (new ≡ performed a old) → OnErr outcome (new ≡ old) → (actions : List Action) × (new ≡ all_acted actions old)
+acts_of_act a old (Ok x) ok err = let action = an_action a old in (action.0 ∷ [], ok ∙ action.1)
+acts_of_act a old (Err e) ok err = ([], err)
+
+pub acted_leaves : {E : Type 0} (a : Act) {old : Files} (outcome : Result (Unit {0}) E) {new : Files}
+    → OnOk outcome (new ≡ performed a old) → OnErr outcome (new ≡ old) → Leaves (Listing Tmp) old new
+acted_leaves a {old} (Ok x) ok err = let action = an_action a old in record { kept = Came (Other action.0) ∷ []; are = ok ∙ action.1 }
+acted_leaves a (Err e) ok err = record { kept = []; are = err }
+
+pub actions_then : {a b c : Files} → (actions : List Action) × (b ≡ all_acted actions a)
+    → (actions : List Action) × (c ≡ all_acted actions b) → (actions : List Action) × (c ≡ all_acted actions a)
+actions_then {a} first then = (first.0 ++ then.0, then.1 ∙ (ap (all_acted then.0) first.1 ∙ sym (all_acted-append first.0 then.0 a)))
+
+pub keeps_none : (folder : MemFolder) {cases : Cases} → KeepsCases (may_find folder cases) (may_find folder cases) cases cases
+keeps_none folder = search (rules, no_fewer)
+
+pub keeps_on : {a b c : Files → Type 0} {old mid new : Cases} → KeepsCases a b old mid → KeepsCases b c mid new → KeepsCases a c old new
+keeps_on {mid} first then = grind arith
+
+-- ---- syncs
+module _ (P : Files → Type 0) (folder : MemFolder) (old new : Cases)
+    (stays : (left : Files) → Contains (lefts_of new) left ↔ (Contains (lefts_of old) left × P left)) where
+  stayed : (left : Files) → may_find folder new left → may_find folder old left
+  stayed left (inl e) = inl e
+  stayed left (inr has) = inr ((stays left).0 has).0
+
+  pub left_stayed : Follows LeftByOthers (may_find folder old) (may_find folder new)
+  left_stayed left may = (left, stayed left may, leaves_none)
+
+  pub all_stayed : P (files_of folder) → (left : Files) → may_find folder new left → P left
+  all_stayed own left (inl e) = subst P (sym e) own
+  all_stayed own left (inr has) = ((stays left).0 has).1
+
+same_names : (sub : Sub) (s t : Files) (name : List ℕ) → keys (folder_of sub s) ≡ keys (folder_of sub t)
+    → contains_key (folder_of sub s) name ≡ contains_key (folder_of sub t) name
+same_names sub s t name e = grind (arith, contains_key-keys)
+
+pub names_stayed : {sub is : Sub} → sub ≡ is → (a : World) {before : Files → Type 0} (folder : MemFolder) (old new : Cases)
+    → (actions : List Action) × (files_of folder ≡ all_acted actions a.files) → Follows LeftByOthers before (may_find folder old)
+    → ((left : Files) → Contains (lefts_of new) left ↔ (Contains (lefts_of old) left × (keys (folder_of sub left) ≡ keys (folder_of sub (files_of folder)))))
+    → Follows (λ was left. KeepsNames is a.files was (files_of folder) left) before (may_find folder new)
+names_stayed {sub} e a folder old new acts first stays left may =
+    let alike = λ (s : Files). keys (folder_of sub s) ≡ keys (folder_of sub (files_of folder)) in
+    let was = first left (stayed alike folder old new stays left may) in (
+      was.0,
+      was.1,
+      record {
+        moment = files_of folder;
+        actions = acts.0;
+        moment_is = acts.1;
+        rest = [];
+        new_is = refl;
+        there = left;
+        earlier = was.2;
+        later = leaves_none;
+        names_are = λ name ours.
+            subst (λ of. contains_key (folder_of of left) name ≡ contains_key (folder_of of (files_of folder)) name)
+            e (same_names sub left _ name (all_stayed alike folder old new stays refl left may));
+      },
+    )

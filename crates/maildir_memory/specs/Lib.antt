@@ -1,0 +1,8 @@
+-- The cases of what a power cut may leave of a Maildir in memory.
+pub mod Cases
+-- What a Maildir in memory with a clock shows.
+pub mod MemSystem
+-- What a machine in memory has under a word.
+pub mod MemMachines
+-- Words of the contracts of private functions and of proofs. No public contract reaches them, and no reader need believe them.
+pub mod Private

@@ -1,0 +1,55 @@
+-- What a machine in memory has under a word.
+use Rattle.std.specs.Prelude.{◌≡◌, ℕ, Bool, true, false, List, [], ◌∷◌, Option, Some, None, String, IsTrue, if◌then◌else◌}
+use Rattle.std.proofs.Common.{inl, refl, subst}
+use Rattle.std.proofs.lemmas.Slice.Eq.{bytes_eq-Decides}
+use Rattle.std.specs.BTreeMap.{BTreeMap, get_by_text}
+use Rattle.std.specs.Str.{bytes_eq}
+use Rattle.maildir_run.specs.declared.folder.FolderFault.TheVariants.{Failed}
+use Rattle.maildir_disk.specs.declared.faults.OpenFault.{OpenFault}
+use Rattle.maildir_disk.specs.declared.faults.OpenFault.TheVariants.{Folder, Locked}
+use Rattle.maildir_memory.specs.declared.mem_system.MemSystem.{MemSystem}
+use Rattle.maildir_memory.specs.MemSystem.{may_be_left, world_of}
+use Rattle.maildir_memory.specs.declared.mem_machine.NamedText.{NamedText}
+use Rattle.maildir_commands.specs.Machines.{AreAt, HeldMaildir, nothing_held, same_at}
+
+-- the first text of this name, and none where no text has it
+abbrev pub text_under : List NamedText → List ℕ → List ℕ
+text_under [] word = []
+text_under (named ∷ texts) word = if bytes_eq named.name.now word then named.text.now else text_under texts word
+
+-- whether a text has this name
+abbrev pub has_text : List NamedText → List ℕ → Bool
+has_text [] word = false
+has_text (named ∷ texts) word = if bytes_eq named.name.now word then true else has_text texts word
+
+-- why the Maildir is refused: none is there, or it is open
+abbrev pub IsRefusedAt : Option (Option MemSystem) → OpenFault → Type 0
+IsRefusedAt None fault = fault ≡ Folder Failed
+IsRefusedAt (Some None) fault = fault ≡ Locked
+IsRefusedAt (Some (Some _)) fault = ⊥
+
+-- the Maildir that is there and not open
+abbrev pub held_at : Option (Option MemSystem) → HeldMaildir
+held_at None = nothing_held
+held_at (Some None) = nothing_held
+held_at (Some (Some system)) = record { files = (world_of system).files; may_leave = may_be_left system; rooted = IsTrue system.is_rooted }
+
+-- the Maildir under this word
+abbrev pub held_under_word : {X : Type 0} → BTreeMap (String X) (Option MemSystem) → List ℕ → HeldMaildir
+held_under_word maildirs word = held_at (get_by_text maildirs word)
+
+-- all of the Maildirs that are not open are so
+abbrev pub AreAll : {X : Type 0} → (MemSystem → Type 0) → BTreeMap (String X) (Option MemSystem) → Type 0
+AreAll P maildirs = (word : List ℕ) (system : MemSystem) → get_by_text maildirs word ≡ Some (Some system) → P system
+
+-- a power cut may leave its files as they are
+pub held_may_stay : (found : Option (Option MemSystem)) → (held_at found).may_leave (held_at found).files
+held_may_stay None = refl
+held_may_stay (Some None) = refl
+held_may_stay (Some (Some system)) = inl refl
+
+-- two words with the same bytes have the same Maildir
+pub held_alike : {X : Type 0} (maildirs : BTreeMap (String X) (Option MemSystem)) (word other : List ℕ) → IsTrue (bytes_eq word other)
+    → AreAt (held_under_word maildirs word) (held_under_word maildirs other)
+held_alike maildirs word other same =
+    subst (λ w. AreAt (held_under_word maildirs word) (held_under_word maildirs w)) ((bytes_eq-Decides word other).0 same) same_at

@@ -1,0 +1,53 @@
+-- What a change adds to the cases of what a power cut may leave.
+use Rattle.std.specs.Prelude.{◌≡◌, ◌⊎◌, ◌<◌, ◌≤◌, ◌++◌, ℕ, List, [], length, take, All, Contains, get_or}
+use Rattle.maildir_run.specs.Calls.{Writing, Placing, Removing, effect}
+use Rattle.maildir_run.specs.Files.{Files}
+use Rattle.maildir_run.specs.declared.mem_folder.MemFolder.{MemFolder}
+use Rattle.maildir_run.specs.MemFiles.{no_files}
+use Rattle.maildir_run.specs.Script.{performed, half_performed}
+use Rattle.maildir_memory.specs.declared.cases.Cases.{Cases}
+use Rattle.maildir_memory.specs.declared.cases.Change.{Change}
+use Rattle.maildir_memory.specs.declared.cases.Change.TheVariants.{Make, Hold, Place, Remove, Other, Half}
+use Rattle.maildir_disk.specs.Writing.{changed}
+use Rattle.maildir_memory.specs.Cases.{HasRoom, lefts_of, may_find}
+
+-- the files after a change
+abbrev pub made : Change → Files → Files
+made (Make name) s = effect (Writing name.now []) s
+made (Hold name bytes) s = changed name.now (λ _. bytes.now) s
+made (Place name place target) s = effect (Placing name.now place target.now) s
+made (Remove name) s = effect (Removing name.now) s
+made (Other act) s = performed act.now s
+made (Half act) s = half_performed act.now s
+
+-- those of the case of this number
+abbrev pub nth_left : ℕ → Cases → Files
+nth_left at cases = get_or (lefts_of cases) at no_files
+
+-- Some of these files are added, and none is taken away.
+pub record Adds (P : Files → Type 0) (old new : List Files) : Type 0 where
+  pub more : List Files
+  pub are : new ≡ old ++ more
+  pub each : All P more
+
+-- what a change adds: the files as they are, or a case with the change
+abbrev pub IsAdded : Change → Files → Cases → Files → Type 0
+IsAdded change now old left = (left ≡ now) ⊎ ((was : Files) × Contains (lefts_of old) was × (left ≡ made change was))
+
+-- The change may be lost: the files as they are are a case then, and so is each case with the change. Without it the cases are there too.
+pub record Loses (change : Change) (now : Files) (old new : Cases) : Type 0 where
+  pub as_they_are : Contains (lefts_of new) now
+  pub without : (left : Files) → Contains (lefts_of old) left → Contains (lefts_of new) left
+  pub also : (left : Files) → Contains (lefts_of old) left → Contains (lefts_of new) (made change left)
+
+-- The bytes that are appended to a file may be lost: each case, and the files as they are, are there without them, and with any front of them.
+pub record LosesBytes (name holds : List ℕ) (held : ℕ) (folder : MemFolder) (old new : Cases) : Type 0 where
+  pub without : (left : Files) → may_find folder old left → Contains (lefts_of new) left
+  pub fronts : (n : ℕ) → held < n → n ≤ length holds → (left : Files) → may_find folder old left
+      → Contains (lefts_of new) (changed name (λ _. take n holds) left)
+
+-- What a cut might have left it may leave still, as far as there is room.
+pub record KeepsCases (before now : Files → Type 0) (old new : Cases) : Type 0 where
+  pub room : new.room ≡ old.room
+  pub no_fewer : length (lefts_of old) ≤ length (lefts_of new)
+  pub there : HasRoom new → (left : Files) → before left → now left

@@ -1,0 +1,194 @@
+// What a power cut may leave of a Maildir in memory, beside the files as they are.
+ghost use Rattle.std.specs.Prelude.{◌≡◌, ◌<◌, ◌≤◌, ◌↔◌, List, [], Contains, IfErr, OnOk, length};
+ghost use Rattle.std.specs.FinMap.{get, keys};
+ghost use Rattle.maildir_run.specs.Calls.{folder_of};
+ghost use Rattle.maildir_run.specs.Calls.Call.{Writing};
+ghost use Rattle.maildir_run.specs.Cuts.{Leaves, Follows};
+ghost use Rattle.maildir_run.specs.Files.{Action, Files, all_acted};
+ghost use Rattle.maildir_run.specs.MemFolder.{IsQuiet, HasNoScript, SameScript, files_of};
+ghost use Rattle.maildir_run.specs.Script.{all_performed, performed};
+ghost use Rattle.maildir_memory.specs.Private.Cases.{Adds, IsAdded, KeepsCases, Loses, LosesBytes, made, nth_left};
+ghost use Rattle.maildir_memory.specs.Cases.{HasRoom, lefts_of, may_find};
+ghost use Rattle.maildir_disk.specs.PowerCuts.{LeftByOthers};
+
+use maildir_name::Place;
+use maildir_run::{Act, Folder, FolderFault, MemFolder, Sub};
+use std::alloc::Global;
+
+/// What comes to the files of a Maildir at one moment, and is kept or lost as a whole.
+#[derive(Clone, Copy)]
+pub(crate) enum Change<'a> {
+    /// A file of `tmp` is made, or emptied where it is there.
+    Make(&'a str),
+    /// A file of `tmp` that is there holds these bytes.
+    Hold(&'a str, &'a [u8]),
+    /// A file of `tmp` that is there is moved.
+    Place(&'a str, Place, &'a str),
+    /// A file of `tmp` is removed.
+    Remove(&'a str),
+    /// Another program acts.
+    Other(&'a Act),
+    /// Another program does half of this.
+    Half(&'a Act),
+}
+
+/// The cases of what a cut may leave, each as a folder, up to a number of them. There is none where nothing is lost.
+#[derive(Drop)]
+pub(crate) struct Cases {
+    pub folders: Vec<MemFolder>,
+    pub room: usize,
+}
+
+impl Cases {
+    /// Nothing is lost.
+    pub(crate) fn none(alloc: Global) -> Self
+        ensures cases { lefts_of result ≡ [] }
+        ensures room { result.room ≡ 0 }
+    {
+        Cases {
+            folders: Vec::new(alloc),
+            room: 0,
+        }
+    }
+
+    /// From now on each case may be left with the change or without it, and so may the files as they are.
+    pub(crate) fn may_lose(
+        &mut self,
+        folder: &MemFolder,
+        change: &Change<'_>,
+    ) -> Result<(), FolderFault>
+        ensures room { self.new.room ≡ self.old.room }
+        ensures more { Adds (IsAdded change.now (files_of folder.now) self.old) (lefts_of self.old) (lefts_of self.new) }
+        ensures loses { OnOk result (HasRoom self.new → Loses change.now (files_of folder.now) self.old self.new) }
+        ensures refused { IfErr result (λ fault. fault ≡ FolderFault.OutOfMemory) }
+    {
+        if self.room == 0 {
+            return Ok(());
+        }
+        for at in 0..self.folders.len() {
+            self.add_with(at, change)?;
+        }
+        self.add(folder.copy()?)
+    }
+
+    /// The file `name` of `tmp`, where it is there, may be left with any front of the bytes that it is to hold, from those
+    /// that it holds on.
+    pub(crate) fn may_lose_bytes(
+        &mut self,
+        folder: &MemFolder,
+        name: &str,
+        holds: &[u8],
+        held: usize,
+    ) -> Result<(), FolderFault>
+        requires { held ≤ length holds.now }
+        ensures room { self.new.room ≡ self.old.room }
+        ensures no_fewer { length (lefts_of self.old) ≤ length (lefts_of self.new) }
+        ensures left { Follows (Leaves (Writing name.now [])) (may_find folder.now self.old) (Contains (lefts_of self.new)) }
+        ensures loses { OnOk result (HasRoom self.new → LosesBytes name.now holds.now held folder.now self.old self.new) }
+        ensures refused { IfErr result (λ fault. fault ≡ FolderFault.OutOfMemory) }
+    {
+        for end in held..holds.len() + 1 {
+            self.may_lose(folder, &Change::Hold(name, &holds[..end]))?;
+        }
+        Ok(())
+    }
+
+    // Adds this case with the change.
+    fn add_with(&mut self, at: usize, change: &Change<'_>) -> Result<(), FolderFault>
+        requires { at < length self.old.folders.items }
+        ensures room { self.new.room ≡ self.old.room }
+        ensures one { Adds (λ left. left ≡ made change.now (nth_left at self.old)) (lefts_of self.old) (lefts_of self.new) }
+        ensures there { OnOk result (HasRoom self.new → Contains (lefts_of self.new) (made change.now (nth_left at self.old))) }
+        ensures refused { IfErr result (λ fault. fault ≡ FolderFault.OutOfMemory) }
+    {
+        let mut folder = self.folders[at].copy()?;
+        make(change, &mut folder)?;
+        self.add(folder)
+    }
+
+    // Adds a case where there is room and it is not there.
+    fn add(&mut self, folder: MemFolder) -> Result<(), FolderFault>
+        ensures room { self.new.room ≡ self.old.room }
+        ensures one { Adds (λ left. left ≡ files_of folder) (lefts_of self.old) (lefts_of self.new) }
+        ensures there { OnOk result (HasRoom self.new → Contains (lefts_of self.new) (files_of folder)) }
+        ensures refused { IfErr result (λ fault. fault ≡ FolderFault.OutOfMemory) }
+    {
+        for known in &self.folders {
+            if known.is_like(&folder) {
+                return Ok(());
+            }
+        }
+        if self.folders.len() < self.room {
+            self.folders.push(folder)?;
+        }
+        Ok(())
+    }
+
+    /// Other programs do this in the folder. Each of their acts may be lost, or left in half.
+    pub(crate) fn act(&mut self, folder: &mut MemFolder, acts: &[Act]) -> Result<(), FolderFault>
+        ensures script { SameScript folder.old folder.new }
+        ensures acts { (actions : List Action) × (files_of folder.new ≡ all_acted actions (files_of folder.old)) }
+        ensures left { Follows LeftByOthers (may_find folder.old self.old) (may_find folder.new self.new) }
+        ensures keeps { OnOk result (KeepsCases (may_find folder.old self.old) (may_find folder.new self.new) self.old self.new) }
+        ensures done { OnOk result (files_of folder.new ≡ all_performed acts.now (files_of folder.old)) }
+        ensures refused { IfErr result (λ fault. fault ≡ FolderFault.OutOfMemory) }
+    {
+        for act in acts {
+            self.act_once(folder, act)?;
+        }
+        Ok(())
+    }
+
+    fn act_once(&mut self, folder: &mut MemFolder, act: &Act) -> Result<(), FolderFault>
+        ensures script { SameScript folder.old folder.new }
+        ensures acts { (actions : List Action) × (files_of folder.new ≡ all_acted actions (files_of folder.old)) }
+        ensures left { Follows LeftByOthers (may_find folder.old self.old) (may_find folder.new self.new) }
+        ensures keeps { OnOk result (KeepsCases (may_find folder.old self.old) (may_find folder.new self.new) self.old self.new) }
+        ensures done { OnOk result (files_of folder.new ≡ performed act.now (files_of folder.old)) }
+        ensures refused { IfErr result (λ fault. fault ≡ FolderFault.OutOfMemory) }
+    {
+        self.may_lose(folder, &Change::Half(act))?;
+        self.may_lose(folder, &Change::Other(act))?;
+        folder.act(act)
+    }
+
+    /// Only the cases stay in which this file of `tmp` holds what it holds, or is not there either.
+    pub(crate) fn keep_file(&mut self, folder: &MemFolder, name: &str)
+        ensures room { self.new.room ≡ self.old.room }
+        ensures stays { (left : Files) → Contains (lefts_of self.new) left
+            ↔ (Contains (lefts_of self.old) left × (get left.tmp name.now ≡ get (files_of folder.now).tmp name.now)) }
+    {
+        self.folders
+            .retain(|left| left.has_file_of(folder, Sub::Tmp, name));
+    }
+
+    /// Only the cases stay in which this folder has the names that it has.
+    pub(crate) fn keep_names(&mut self, folder: &MemFolder, sub: Sub)
+        ensures room { self.new.room ≡ self.old.room }
+        ensures stays { (left : Files) → Contains (lefts_of self.new) left
+            ↔ (Contains (lefts_of self.old) left × (keys (folder_of sub left) ≡ keys (folder_of sub (files_of folder.now)))) }
+    {
+        self.folders.retain(|left| left.has_names_of(folder, sub));
+    }
+}
+
+// Makes a change in a folder without a script.
+fn make(change: &Change<'_>, folder: &mut MemFolder) -> Result<(), FolderFault>
+    ensures done { IsQuiet folder.old → OnOk result (files_of folder.new ≡ made change.now (files_of folder.old)) }
+    ensures refused { HasNoScript folder.old → IfErr result (λ fault. fault ≡ FolderFault.OutOfMemory) }
+{
+    match *change {
+        Change::Make(name) => folder.write(name, &[]),
+        Change::Hold(name, bytes) => match folder.bytes_of(Sub::Tmp, name) {
+            None => Ok(()),
+            Some(_) => folder.write(name, bytes),
+        },
+        Change::Place(name, place, target) => match folder.bytes_of(Sub::Tmp, name) {
+            None => Ok(()),
+            Some(_) => folder.place(name, place, target),
+        },
+        Change::Remove(name) => folder.remove(name),
+        Change::Other(act) => folder.act(act),
+        Change::Half(act) => folder.act_half(act),
+    }
+}

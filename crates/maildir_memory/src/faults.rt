@@ -1,0 +1,19 @@
+// The error that is told for a fault of the folder in memory.
+ghost use Rattle.std.specs.Prelude.{◌≡◌};
+ghost use Rattle.std.specs.IoError.{error_kind};
+ghost use Rattle.std.specs.declared.io.ErrorKind.TheVariants.{NotFound};
+
+use maildir_run::FolderFault;
+use std::io;
+use std::io::ErrorKind;
+
+/// The error of a system in memory whose folder told this fault.
+pub(crate) fn error_of(fault: FolderFault) -> io::Error
+    ensures { error_kind result ≡ NotFound → fault ≡ FolderFault.Absent }
+{
+    io::Error::from(match fault {
+        FolderFault::Absent => ErrorKind::NotFound,
+        FolderFault::Failed => ErrorKind::Other,
+        FolderFault::OutOfMemory => ErrorKind::OutOfMemory,
+    })
+}

@@ -1,0 +1,353 @@
+// The system calls of a Maildir in memory.
+ghost use Rattle.std.specs.Prelude.{◌≡◌, ◌≤◌, ◌+◌, ◌++◌, ◌∷◌, [], All, IfErr, IfOk, IsTrue, OnOk, get_or, length};
+ghost use Rattle.std.specs.FinMap.{contains_key};
+ghost use Rattle.std.specs.IoError.{error_kind};
+ghost use Rattle.std.specs.declared.io.ErrorKind.TheVariants.{NotFound};
+ghost use Rattle.maildir_run.specs.Calls.{Called, CalledQuietly, effect};
+ghost use Rattle.maildir_run.specs.Calls.Call.{Writing, Placing, Removing};
+ghost use Rattle.maildir_run.specs.Cuts.{Leaves, Follows};
+ghost use Rattle.maildir_run.specs.MemFiles.{no_files};
+ghost use Rattle.maildir_run.specs.MemFolder.{IsQuiet, files_of};
+ghost use Rattle.maildir_memory.specs.Cases.{HasRoom, lefts_of};
+ghost use Rattle.maildir_disk.specs.Paths.{folder_of_place};
+ghost use Rattle.maildir_disk.specs.Placing.{WasGone};
+ghost use Rattle.maildir_disk.specs.Quiet.{AppendedQuietly};
+ghost use Rattle.maildir_disk.specs.Writing.{Appended, Created};
+ghost use Rattle.maildir_memory.specs.MemSystem.{HasNoTurns, MayLose, MayLoseFronts, cases_of, may_be_left, opened_as, world_of};
+
+use crate::cases::{Cases, Change};
+use crate::faults::error_of;
+use crate::stamps::{Stamps, begin, stamp_at};
+use maildir_disk::System;
+use maildir_name::Place;
+use maildir_run::{Act, Folder, MemFolder, Sub};
+use std::alloc::Global;
+use std::io;
+use std::time::{Duration, Instant, SystemTime};
+
+mod turns;
+
+/// A file of `tmp` in memory that is open for writing.
+#[derive(Drop)]
+pub struct MemFile {
+    name: String,
+}
+
+/// A Maildir in memory, with clocks. In each call that only looks, and before each step of a write, other programs act
+/// once, as the turns say, which are taken from the end. A folder that is changed while it is read gives no names, and a
+/// write takes half of its bytes.
+///
+/// Once it may [`lose`](MemSystem::lose), a power cut leaves each change or loses it until a sync keeps it: a file that was
+/// made, any front of the bytes that were appended, a rename, half of another program's. Before the Maildir is synced it
+/// may be gone.
+#[derive(Drop)]
+pub struct MemSystem {
+    alloc: Global,
+    folder: MemFolder,
+    stamps: Stamps,
+    clock: SystemTime,
+    instant: Instant,
+    // of each of the three folders
+    stamp: SystemTime,
+    turns: Vec<Vec<Act>>,
+    // what a cut may leave, beside the files as they are
+    cases: Cases,
+    is_rooted: bool,
+    // before each call fails
+    calls_left: u64,
+}
+
+impl MemSystem {
+    /// A Maildir that was last changed at this time, by the clocks as they are. A power cut takes nothing from it.
+    pub fn new(
+        alloc: Global,
+        mut folder: MemFolder,
+        stamps: Stamps,
+        clock: SystemTime,
+        instant: Instant,
+        turns: Vec<Vec<Act>>,
+    ) -> Self
+        ensures honest { ⟦<MemSystem as System>⟧.honest result }
+        ensures quiet { turns.items ≡ [] → ⟦<MemSystem as System>⟧.quiet result }
+        ensures files { files_of result.folder ≡ files_of folder }
+        ensures clock { result.clock ≡ clock }
+        ensures turns { result.turns ≡ turns }
+        ensures stamps { result.stamps ≡ stamps }
+        ensures left { cases_of result ≡ files_of folder ∷ [] }
+    {
+        folder.script(Vec::new(alloc), None);
+        MemSystem {
+            alloc,
+            folder,
+            stamps,
+            clock,
+            instant,
+            stamp: clock,
+            turns,
+            cases: Cases::none(alloc),
+            is_rooted: true,
+            calls_left: u64::MAX,
+        }
+    }
+
+    /// From now on a power cut may lose what was not synced, and the Maildir itself. So many cases of what it leaves are
+    /// kept in mind beside the files as they are; there is none beyond them.
+    pub fn lose(&mut self, room: usize)
+        ensures honest { ⟦<MemSystem as System>⟧.honest self.old → ⟦<MemSystem as System>⟧.honest self.new }
+        ensures quiet { ⟦<MemSystem as System>⟧.quiet self.old → ⟦<MemSystem as System>⟧.quiet self.new }
+        ensures files { files_of self.new.folder ≡ files_of self.old.folder }
+        ensures room { self.new.cases.room ≡ room }
+        ensures calls { self.new.calls_left ≡ self.old.calls_left }
+        ensures left { cases_of self.new ≡ lefts_of self.old.cases ++ (files_of self.old.folder ∷ (no_files ∷ [])) }
+    {
+        self.cases.room = room;
+        self.is_rooted = false;
+    }
+
+    /// So many calls are answered, and from then on each one fails without effect. To wait is no call.
+    pub fn fail_after(&mut self, calls: u64)
+        ensures { self.new ≡ record self.old { calls_left = calls } }
+    {
+        self.calls_left = calls;
+    }
+
+    /// The files as they are.
+    pub fn folder(&self) -> &MemFolder
+        ensures { result.now ≡ self.now.folder }
+    {
+        &self.folder
+    }
+
+    /// How many cases there are of what a power cut leaves.
+    pub fn cases(&self) -> usize
+        ensures { result ≡ length (cases_of self.now) }
+    {
+        self.cases
+            .folders
+            .len()
+            .saturating_add(if self.is_rooted { 1 } else { 2 })
+    }
+
+    /// A power cut, which leaves the case of this number, or the files as they are where there are not so many.
+    pub fn cut(&mut self, case: usize)
+        ensures honest { ⟦<MemSystem as System>⟧.honest self.new }
+        ensures quiet { ⟦<MemSystem as System>⟧.quiet self.old → ⟦<MemSystem as System>⟧.quiet self.new }
+        ensures found { files_of self.new.folder ≡ get_or (cases_of self.old) case (files_of self.old.folder) }
+        ensures stays { All (λ left. left ≡ files_of self.new.folder) (cases_of self.new) }
+        ensures still_rooted { ⟦<MemSystem as System>⟧.rooted self.old → ⟦<MemSystem as System>⟧.rooted self.new }
+        ensures calls { self.new.calls_left ≡ self.old.calls_left }
+    {
+        let behind = case.saturating_sub(self.cases.folders.len());
+        if case < self.cases.folders.len() {
+            self.folder = self.cases.folders.swap_remove(case);
+        } else if behind == 1 && !self.is_rooted {
+            self.folder = MemFolder::new(self.alloc);
+        }
+        self.folder.script(Vec::new(self.alloc), None);
+        self.cases.folders.clear();
+        self.is_rooted = self.is_rooted || behind != 1;
+    }
+}
+
+impl System for MemSystem {
+    ghost use Rattle.std.proofs.Common.{inl, refl};
+    ghost use Rattle.maildir_memory.specs.MemSystem.{HasNoTurns, may_be_left, opened_as, world_of};
+
+    type File = MemFile;
+
+    ghost world = { world_of };
+
+    ghost name_of = { opened_as };
+
+    ghost is_current = { λ _ _. Unit {0} };
+
+    ghost may_leave = { may_be_left };
+
+    ghost rooted = { λ system. IsTrue system.is_rooted };
+
+    ghost honest = { λ system. IsQuiet system.folder };
+
+    ghost quiet = { HasNoTurns };
+
+    ghost quiet_is_honest = { λ _ quiet. quiet.no_script };
+
+    ghost may_leave_all = { λ _ _. inl refl };
+
+    fn names(&mut self, sub: Sub) -> io::Result<Vec<String>> {
+        let stamp = self.stamp;
+        match self.folder.list(sub) {
+            Err(fault) => Err(error_of(fault)),
+            Ok(names) => {
+                self.pass_shortly()?;
+                match self.stamp.duration_since(stamp) {
+                    Ok(later) if !later.is_zero() => Ok(Vec::new(self.alloc)),
+                    _ => Ok(names),
+                }
+            }
+        }
+    }
+
+    fn stamp(&mut self, _sub: Sub) -> io::Result<SystemTime> {
+        let stamp = self.stamp;
+        self.pass_shortly()?;
+        Ok(stamp)
+    }
+
+    fn now(&mut self) -> io::Result<SystemTime> {
+        self.pass_shortly()?;
+        Ok(self.clock)
+    }
+
+    fn instant(&mut self) -> io::Result<Instant> {
+        self.pass_shortly()?;
+        Ok(self.instant)
+    }
+
+    fn sleep(&mut self, pause: Duration) {
+        let _ = self.pass(pause);
+    }
+
+    fn create(&mut self, name: &str) -> io::Result<MemFile>
+        ensures honest { IsQuiet self.old.folder → IsQuiet self.new.folder }
+        ensures name { IsQuiet self.old.folder → IfOk result (λ file. opened_as file ≡ name.now) }
+        ensures current { IsQuiet self.old.folder → IfOk result (λ file. Unit {0}) }
+        ensures created { IsQuiet self.old.folder → Created name.now (world_of self.old) result (world_of self.new) }
+        ensures left { IsQuiet self.old.folder → Follows (Leaves (Writing name.now [])) (may_be_left self.old) (may_be_left self.new) }
+        ensures still_rooted { IsQuiet self.old.folder → IsTrue self.old.is_rooted → IsTrue self.new.is_rooted }
+        ensures quiet { HasNoTurns self.old → HasNoTurns self.new }
+        ensures quietly { HasNoTurns self.old →
+            CalledQuietly (Writing name.now []) (files_of self.old.folder) result (files_of self.new.folder) }
+        ensures loses { IsQuiet self.old.folder →
+            OnOk result (HasRoom self.new.cases → MayLose (effect (Writing name.now [])) self.old self.new) }
+    {
+        let file = MemFile {
+            name: String::from_str(self.alloc, name)?,
+        };
+        self.pass_shortly()?;
+        self.cases
+            .may_lose(&self.folder, &Change::Make(name))
+            .map_err(error_of)?;
+        self.stamp = stamp_at(self.clock, self.stamps);
+        match self.folder.write(name, &[]) {
+            Ok(()) => Ok(file),
+            Err(fault) => Err(error_of(fault)),
+        }
+    }
+
+    fn append(&mut self, file: &mut MemFile, bytes: &[u8]) -> io::Result<usize>
+        ensures most { IfOk result (λ n. n ≤ length bytes.now) }
+        ensures honest { IsQuiet self.old.folder → IsQuiet self.new.folder }
+        ensures name { opened_as file.new ≡ opened_as file.old }
+        ensures current { IsQuiet self.old.folder → Unit {0} → Unit {0} }
+        ensures appended { IsQuiet self.old.folder → Unit {0} →
+            Appended (opened_as file.old) bytes.now (world_of self.old) result (world_of self.new) }
+        ensures left { IsQuiet self.old.folder →
+            Follows (Leaves (Writing (opened_as file.old) [])) (may_be_left self.old) (may_be_left self.new) }
+        ensures still_rooted { IsQuiet self.old.folder → IsTrue self.old.is_rooted → IsTrue self.new.is_rooted }
+        ensures quiet { HasNoTurns self.old → HasNoTurns self.new }
+        ensures quietly { HasNoTurns self.old → Unit {0} →
+            AppendedQuietly (opened_as file.old) bytes.now (files_of self.old.folder) result (files_of self.new.folder) }
+        ensures loses { IsQuiet self.old.folder → IfOk result (λ n. HasRoom self.new.cases →
+            IsTrue (contains_key (files_of self.new.folder).tmp (opened_as file.old)) →
+            MayLoseFronts (opened_as file.old) bytes.now n self.old self.new) }
+    {
+        self.pass_shortly()?;
+        let taken = bytes.len() - bytes.len() / 2;
+        let Some(held) = self.folder.bytes_of(Sub::Tmp, file.name.as_str()) else {
+            return Ok(taken);
+        };
+        let before = held.len();
+        let holds = joined(self.alloc, held, &bytes[..taken])?;
+        self.cases
+            .may_lose_bytes(&self.folder, file.name.as_str(), &holds, before)
+            .map_err(error_of)?;
+        match self.folder.write(file.name.as_str(), &holds) {
+            Ok(()) => Ok(taken),
+            Err(fault) => Err(error_of(fault)),
+        }
+    }
+
+    fn sync_file(&mut self, file: &MemFile) -> io::Result<()> {
+        self.pass_shortly()?;
+        self.cases.keep_file(&self.folder, file.name.as_str());
+        Ok(())
+    }
+
+    fn rename(&mut self, name: &str, place: Place, target: &str) -> io::Result<()>
+        ensures honest { IsQuiet self.old.folder → IsQuiet self.new.folder }
+        ensures called { IsQuiet self.old.folder →
+            Called (Placing name.now place target.now) (files_of self.old.folder) result (files_of self.new.folder) }
+        ensures gone { IsQuiet self.old.folder → IfErr result (λ error. error_kind error ≡ NotFound →
+            WasGone name.now (Placing name.now place target.now) (files_of self.old.folder) (files_of self.new.folder)) }
+        ensures left { IsQuiet self.old.folder →
+            Follows (Leaves (Placing name.now place target.now)) (may_be_left self.old) (may_be_left self.new) }
+        ensures still_rooted { IsQuiet self.old.folder → IsTrue self.old.is_rooted → IsTrue self.new.is_rooted }
+        ensures quiet { HasNoTurns self.old → HasNoTurns self.new }
+        ensures quietly { HasNoTurns self.old →
+            CalledQuietly (Placing name.now place target.now) (files_of self.old.folder) result (files_of self.new.folder) }
+        ensures loses { IsQuiet self.old.folder →
+            OnOk result (HasRoom self.new.cases → MayLose (effect (Placing name.now place target.now)) self.old self.new) }
+    {
+        begin(&mut self.calls_left)?;
+        self.cases
+            .may_lose(&self.folder, &Change::Place(name, place, target))
+            .map_err(error_of)?;
+        self.stamp = stamp_at(self.clock, self.stamps);
+        match self.folder.place(name, place, target) {
+            Ok(()) => Ok(()),
+            Err(fault) => Err(error_of(fault)),
+        }
+    }
+
+    fn unlink(&mut self, name: &str) -> io::Result<()>
+        ensures honest { IsQuiet self.old.folder → IsQuiet self.new.folder }
+        ensures called { IsQuiet self.old.folder →
+            Called (Removing name.now) (files_of self.old.folder) result (files_of self.new.folder) }
+        ensures left { IsQuiet self.old.folder → Follows (Leaves (Removing name.now)) (may_be_left self.old) (may_be_left self.new) }
+        ensures still_rooted { IsQuiet self.old.folder → IsTrue self.old.is_rooted → IsTrue self.new.is_rooted }
+        ensures quiet { HasNoTurns self.old → HasNoTurns self.new }
+        ensures quietly { HasNoTurns self.old →
+            CalledQuietly (Removing name.now) (files_of self.old.folder) result (files_of self.new.folder) }
+        ensures loses { IsQuiet self.old.folder →
+            OnOk result (HasRoom self.new.cases → MayLose (effect (Removing name.now)) self.old self.new) }
+    {
+        begin(&mut self.calls_left)?;
+        self.cases
+            .may_lose(&self.folder, &Change::Remove(name))
+            .map_err(error_of)?;
+        self.stamp = stamp_at(self.clock, self.stamps);
+        match self.folder.remove(name) {
+            Ok(()) => Ok(()),
+            Err(fault) => Err(error_of(fault)),
+        }
+    }
+
+    fn sync_folder(&mut self, place: Place) -> io::Result<()> {
+        self.pass_shortly()?;
+        self.cases.keep_names(&self.folder, sub_of(place));
+        Ok(())
+    }
+
+    fn sync_root(&mut self) -> io::Result<()> {
+        self.pass_shortly()?;
+        self.is_rooted = true;
+        Ok(())
+    }
+}
+
+fn sub_of(place: Place) -> Sub
+    ensures { result ≡ folder_of_place place }
+{
+    match place {
+        Place::New => Sub::New,
+        Place::Cur => Sub::Cur,
+    }
+}
+
+fn joined(alloc: Global, front: &[u8], rest: &[u8]) -> io::Result<Vec<u8>>
+    ensures { IfOk result (λ bytes. bytes.items ≡ front.now ++ rest.now) }
+{
+    let mut bytes = Vec::from_slice(alloc, front)?;
+    bytes.extend_from_slice(rest)?;
+    Ok(bytes)
+}
