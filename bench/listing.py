@@ -3,7 +3,7 @@
 
 Usage: listing.py [FILE]
 
-Written from the rules in docs/FORMAT.md and docs/MAILDIR.md alone, to be compared with what the program prints.
+Written from the rules in docs/RULES.md alone, to be compared with what the program prints.
 """
 import hashlib
 import io

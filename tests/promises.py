@@ -1,11 +1,12 @@
 #!/usr/bin/env python3
 """Holds docs/PROMISES.md to the sources: what it names is there, and each must-fail edit is named.
 
-In its tables a row that says `proved` names calls as `call: clause, clause`, or a call alone for a clause without a name;
-the column Edits names edits by their mistakes: the file of one is named for the function that it changes and the mistake,
-as `Splitter.new.begins_refused.edit`. A call of a type or a trait is named with it, as `Folder::list`. The column Test
-names tests, as `name in crate` or `name in file`. Whatever else a page calls by words with underscores between them, but for
-the commands that it shows, is to be somewhere in the sources.
+A line `*Carried by* .. *Edits* ..` names what carries a promise: public calls with the clauses of their contracts, as
+`call: clause, clause`, or a call alone for a clause without a name; or records of specs/ that contracts cite, with their
+fields, as `Record: field`. A call of a type or a trait is named with it, as `Folder::list`. Edits are named by their
+mistakes: the file of one is named for the function that it changes and the mistake, as `Splitter.new.begins_refused.edit`.
+The column Test of a table names tests, as `name in crate` or `name in file`. Whatever else a page calls by words with
+underscores between them, but for the commands that it shows, is to be somewhere in the sources.
 """
 import re
 import sys
@@ -14,20 +15,24 @@ from pathlib import Path
 TOP = Path(__file__).resolve().parent.parent
 PAGES = ["README.md", "CONTRIBUTING.md", *sorted(f"docs/{path.name}" for path in TOP.glob("docs/*.md"))]
 OWNER = re.compile(r"^(?:pub )?(?:impl(?:<.*?>)? (?:(\w+)(?:<.*>)? for )?|trait )(\w+)", re.MULTILINE)
-FUNCTION = re.compile(r"\bfn (\w+)")
+FUNCTION = re.compile(r"^ *(pub(?:\(crate\))? )?fn (\w+)", re.MULTILINE)
 CLAUSE = re.compile(r"\bensures (?:(\w+) )?\{")
 SPAN = re.compile(r"`([^`]+)`")
 NAME = re.compile(r"\b[a-z][a-z0-9]*(?:_[a-z0-9]+)+\b")
 COMMANDS = re.compile(r"^ {4}.*$", re.MULTILINE)
+CARRIED = re.compile(r"^\*Carried by\* (.*?)(?:\*Edits\* (.*))?$", re.MULTILINE)
+RECORD = re.compile(r"^pub record (\w+).*?\bwhere$(.*?)(?=^\S|\Z)", re.DOTALL | re.MULTILINE)
+FIELD = re.compile(r"^  pub (\w+) :", re.MULTILINE)
 TEST = re.compile(r"\b(\w+(?:(?:, | and )\w+)*) in `([^`]+)`")
 
 
 class Functions:
-    """The named clauses of each function; a clause without a name is ''."""
+    """The named clauses of each function; a clause without a name is ''. Only public ones carry promises."""
 
     def __init__(self):
         # by owner and name; a free function has the owner ''
         self.clauses = {}
+        self.public = {}
         self.traits = {}
         for path in TOP.glob("crates/*/src/**/*.rt"):
             self.read(path.read_text(encoding="utf-8"))
@@ -38,26 +43,42 @@ class Functions:
             # an item before it in the same block is a constant, or an import
             header = OWNER.search(block)
             start = header.start() if header else len(block)
-            self.add("", block[:start])
+            self.add("", block[:start], False)
             if header:
                 self.traits[header[2]] = self.traits.get(header[2], set()) | ({header[1]} if header[1] else set())
-                self.add(header[2], block[start:])
+                self.add(header[2], block[start:], header[1] or "trait " in header[0])
 
-    def add(self, owner, text):
+    def add(self, owner, text, is_of_trait):
         for match in FUNCTION.finditer(text):
             # a contract ends where the body begins, on a line of its own, or with a semicolon
             head = re.split(r"\n\s*\{|;\n", text[match.start() :], maxsplit=1)[0]
             found = {clause[1] or "" for clause in CLAUSE.finditer(head)}
-            self.clauses.setdefault((owner, match[1]), []).append(found)
+            self.clauses.setdefault((owner, match[2]), []).append(found)
+            if match[1] == "pub " or is_of_trait:
+                self.public.setdefault((owner, match[2]), []).append(found)
+
+    def has(self, call):
+        owner, _, name = call.rpartition("::")
+        return any(name == other and owner in ("", its) for its, other in self.clauses)
 
     def of_call(self, call):
-        """The sets of clauses of the functions that a call may mean. A method without clauses has those of its trait."""
+        """The sets of clauses of the public functions that a call may mean. A method without clauses has those of its trait."""
         owner, _, name = call.rpartition("::")
         if not owner:
-            return [found for (_, other), sets in self.clauses.items() if other == name for found in sets]
-        own = self.clauses.get((owner, name), [])
-        inherited = [found for trait in self.traits.get(owner, set()) for found in self.clauses.get((trait, name), [])]
+            return [found for (_, other), sets in self.public.items() if other == name for found in sets]
+        own = self.public.get((owner, name), [])
+        inherited = [found for trait in self.traits.get(owner, set()) for found in self.public.get((trait, name), [])]
         return [found or other for found in own for other in inherited or [set()]]
+
+
+def records():
+    """The fields of each record of specs/ that public contracts may cite."""
+    found = {}
+    for path in TOP.glob("crates/*/specs/**/*.antt"):
+        if "Private" not in path.parts:
+            for name, body in RECORD.findall(path.read_text(encoding="utf-8")):
+                found.setdefault(name, []).append(set(FIELD.findall(body)))
+    return found
 
 
 def rows(text):
@@ -74,15 +95,13 @@ def rows(text):
             yield dict(zip(heads, cells))
 
 
-def wrong_calls(row, functions, crates):
-    cell = row.get("Call: clauses") or row.get("Law: clauses") or ""
-    for span in SPAN.findall(cell):
-        call, _, clauses = span.partition(": ")
-        if call in crates:
-            continue
-        wanted = set(clauses.split(", "))
-        if not any(wanted <= given for given in functions.of_call(call)):
-            yield f"`{span}` is not in the sources"
+def wrong_carriers(says, functions, fields, crates):
+    for span in SPAN.findall(says):
+        name, _, parts = span.partition(": ")
+        wanted = set(parts.split(", "))
+        given = fields.get(name) or functions.of_call(name)
+        if name not in crates and not any(wanted <= found for found in given):
+            yield f"`{span}` carries nothing: no public contract or record has it"
 
 
 def wrong_tests(row):
@@ -100,7 +119,7 @@ def wrong_edits(edits, functions):
     seen = {}
     for path in edits:
         *function, mistake = path.stem.split(".")
-        if not function or not functions.of_call("::".join(function)):
+        if not function or not functions.has("::".join(function)):
             yield f"the edit {path.stem} is of no function in the sources"
         if mistake in seen:
             yield f"the edits {seen[mistake]} and {path.stem} have one name"
@@ -120,13 +139,13 @@ def main():
     crates = {path.name for path in TOP.glob("crates/*")}
     files = sorted(TOP.glob("crates/*/must-fail/*.edit"))
     edits = {path.stem.rpartition(".")[2] for path in files}
-    functions = Functions()
-    wrong, named = [*wrong_edits(files, functions)], set()
-    for row in rows(promises):
-        named.update(SPAN.findall(row.get("Edits", "")))
-        wrong.extend(wrong_tests(row))
-        if row.get("State", "").startswith("proved"):
-            wrong.extend(wrong_calls(row, functions, crates))
+    functions, fields, carried = Functions(), records(), CARRIED.findall(promises)
+    wrong, named = [*wrong_edits(files, functions)], {edit for _, by in carried for edit in SPAN.findall(by)}
+    wrong.extend(line for says, _ in carried for line in wrong_carriers(says, functions, fields, crates))
+    tests = [row for row in rows(promises) if "Test" in row]
+    wrong.extend(line for row in tests for line in wrong_tests(row))
+    if not carried or not tests:
+        wrong.append("docs/PROMISES.md has no promise, or no test")
     wrong.extend(f"the edit {name} is not there" for name in sorted(named - edits))
     wrong.extend(f"the edit {name} is under no promise" for name in sorted(edits - named))
     words = words_of_sources()

@@ -4,7 +4,7 @@
 The contracts of public calls and laws, the traits and the ghost members of public types cite definitions of specs/, and
 types, which cite others. None of these is in a folder specs/Private, and each definition elsewhere in specs/ is one of
 them. In specs/ and proofs/ each line `mod` has the first line of its file before it: Lib.antt, and the file of a folder,
-are tables of contents. What the list of docs/PROOFS.md needs is named there. `rooms.py FOLDER` looks at another tree.
+are tables of contents. What the list of docs/PROMISES.md needs is named there. `rooms.py FOLDER` looks at another tree.
 """
 import re
 import sys
@@ -21,7 +21,7 @@ PUBLIC_MODULE = re.compile(r"^pub mod (\w+);", re.MULTILINE)
 IMPORT = re.compile(r"^use (?:crate::)?(\w+)::(?:\{([^}]*)\}|(\w+));", re.MULTILINE)
 FUNCTION = re.compile(r"^ *(pub )?fn (\w+)", re.MULTILINE)
 MODULE = re.compile(r"(?:pub )?mod (\S+)")
-TO_READ = re.compile(r"^\| \d+ \| `([^`]+)` \| (.*) \|$", re.MULTILINE)
+TO_READ = re.compile(r"^\| \d+ \| `([^`]+)` \| ([^|]*) \| [^|]* \|$", re.MULTILINE)
 GHOST = re.compile(r"^ *ghost (?!use ).*?[;,]$", re.DOTALL | re.MULTILINE)
 
 
@@ -185,15 +185,16 @@ def wrong_rooms():
 
 
 def wrong_list():
-    """Each file of specs/ that is reached from the contracts of the items which docs/PROOFS.md names in its list of files to
-    read is named on that page."""
-    page, specs, start = text_of(TOP / "docs/PROOFS.md"), Specs(), {}
-    named = {(file, word) for file, says in TO_READ.findall(page) for word in re.findall(r"`(\w+)`", says)}
+    """Each file of specs/ that is reached from the contracts which docs/PROMISES.md has its reader read is in its list."""
+    specs, start = Specs(), {}
+    named = {(place, word) for place, says in TO_READ.findall(text_of(TOP / "docs/PROMISES.md")) for word in re.findall(r"`(\w+)`", says)}
     for place, text, scope in public_contracts():
         if tuple(place.split(": ")) in named:
             start.update((definition, place) for definition in specs.cited(text, scope))
-    files = {str(specs.files[definition]) for definition in specs.reached(start) if definition in specs.files}
-    yield from (f"docs/PROOFS.md: {file} is wanted by its list, and is not named" for file in sorted(files) if f"`{file}`" not in page)
+    files = {specs.files[definition] for definition in specs.reached(start) if definition in specs.files}
+    yield from (f"docs/PROMISES.md: {file} is wanted by its list, and is not named" for file in sorted(files) if (str(file.parent), file.stem) not in named)
+    if not files:
+        yield "docs/PROMISES.md has no list of files to read"
 
 
 def wrong_contents():

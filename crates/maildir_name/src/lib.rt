@@ -9,7 +9,7 @@
 //! Proved, with the definitions in `specs/`: [`flags_of`] is `flags`; [`base_of`] and
 //! [`is_converter_name`] are `base` and `is_converter_name`; each Ok of [`Namer::target`] is the last of
 //! the `targets` of all bodies that the namer was given; a refusal leaves the namer as it was; and the
-//! laws of [`laws`]. The one fault is want of memory. `docs/MAILDIR.md` states the rules in prose.
+//! laws of [`laws`]. The one fault is want of memory. `docs/RULES.md` states the rules in prose.
 //!
 //! ```rust
 //! use maildir_name::{Namer, Place};
