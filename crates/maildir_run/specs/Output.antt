@@ -1,9 +1,12 @@
 -- What a call that writes owes of its output, for the texts that its source may have had.
-use Rattle.std.specs.Prelude.{◌≡◌, ℕ, List, length, Option, IfSome}
-use Rattle.std.specs.Io.KnownBytes.{Appends, Keeps}
+use Rattle.std.specs.Prelude.{◌≡◌, ◌⊎◌, ◌*◌, ℕ, List, length, Option, IfSome, Result, IfOk, OnOk, OnErr, IfErr, IsErrOf}
+use Rattle.std.specs.Io.KnownBytes.{Appends, Keeps, IsAtEnd}
 use Rattle.mbox_text.specs.declared.entry.Entry.{Entry}
 use Rattle.mbox_text.specs.Mbox.{Mbox}
 use Rattle.mbox_text.specs.Writing.{AppendsFront}
+use Rattle.maildir_run.specs.declared.fault.RunFault.{RunFault}
+use Rattle.maildir_run.specs.declared.fault.RunFault.TheVariants.{NoFromLine, TooManyReads, OutputFault}
+use Rattle.maildir_run.specs.Reading.{IsReading, ReadsAtLeast, ReadsAtMost}
 use Rattle.maildir_run.specs.Runs.{Possible}
 
 -- the source gave a text, and all that belongs to its messages was written, which are so many
@@ -18,3 +21,15 @@ GivesFront output before after was is = (t : List ℕ) (entries : List Entry) �
 -- no text that the source may have had is an mbox text, and nothing was written
 abbrev pub GivesNothing : Option (List ℕ) → Option (List ℕ) → Option (List ℕ) → Option (List ℕ) → Type 0
 GivesNothing before after was is = Keeps was is × ((t : List ℕ) (entries : List Entry) → Possible before after t → ¬ Mbox t entries)
+
+-- A call read its source, by so many reads at most, and wrote what belongs to the messages of its text, in order. It answered how many they are.
+pub record WritesMessages (output : List Entry → List ℕ) (before after was is : Option (List ℕ)) (reads : ℕ) (result : Result ℕ RunFault) : Type 0 where
+  -- with Ok
+  pub all : IfOk result (GivesAll output before was is)
+  pub end : OnOk result (IsAtEnd after)
+  -- with a fault
+  pub front : OnErr result (GivesFront output before after was is)
+  pub no_from_line : IsErrOf result NoFromLine → GivesNothing before after was is
+  pub spent : IsErrOf result TooManyReads → ReadsAtLeast before after reads
+  pub causes : IfErr result (λ fault. IsReading fault ⊎ (fault ≡ OutputFault))
+  pub budget : ReadsAtMost before after (65536 * reads)

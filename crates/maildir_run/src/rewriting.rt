@@ -1,11 +1,9 @@
 // A text in its regular spelling.
-ghost use Rattle.std.specs.Prelude.{◌≡◌, ◌⊎◌, ◌*◌, ◌^◌, ◌≤◌, IfOk, OnOk, OnErr, IfErr, IsErrOf};
+ghost use Rattle.std.specs.Prelude.{◌≡◌, ◌^◌, ◌≤◌, IfErr};
 ghost use Rattle.std.specs.List.{flat_map};
-ghost use Rattle.std.specs.Io.KnownBytes.{IsAtEnd};
 ghost use Rattle.mbox_text.specs.Spelling.{spelling};
 ghost use Rattle.mbox_text.specs.Writing.{Writes};
-ghost use Rattle.maildir_run.specs.Output.{GivesAll, GivesFront, GivesNothing};
-ghost use Rattle.maildir_run.specs.Reading.{IsReading, ReadsAtLeast, ReadsAtMost};
+ghost use Rattle.maildir_run.specs.Output.{WritesMessages};
 
 use crate::fault::RunFault;
 use crate::reader::Reader;
@@ -26,18 +24,8 @@ pub fn rewrite<R: Read, W: Write>(
     reads: u64,
 ) -> Result<u64, RunFault>
     requires { reads ≤ 2 ^ 40 }
-    ensures all { IfOk result (GivesAll (flat_map spelling) (R.remaining source.old) (W.contents out.old) (W.contents out.new)) }
-    ensures end { OnOk result (IsAtEnd (R.remaining source.new)) }
-
-    // after a refusal
-    ensures front { OnErr result
-        (GivesFront (flat_map spelling) (R.remaining source.old) (R.remaining source.new) (W.contents out.old) (W.contents out.new)) }
-    ensures no_from_line { IsErrOf result RunFault.NoFromLine →
-        GivesNothing (R.remaining source.old) (R.remaining source.new) (W.contents out.old) (W.contents out.new) }
-    ensures spent { IsErrOf result RunFault.TooManyReads → ReadsAtLeast (R.remaining source.old) (R.remaining source.new) reads }
-    ensures causes { IfErr result (λ fault. IsReading fault ⊎ (fault ≡ RunFault.OutputFault)) }
-
-    ensures budget { ReadsAtMost (R.remaining source.old) (R.remaining source.new) (65536 * reads) }
+    ensures { WritesMessages (flat_map spelling) (R.remaining source.old) (R.remaining source.new)
+        (W.contents out.old) (W.contents out.new) reads result }
 {
     let mut reader = Reader::new(alloc, reads)?;
     let mut whole = Vec::new(alloc);

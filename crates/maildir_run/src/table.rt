@@ -1,12 +1,10 @@
 // A table of the messages of a text, with the targets that a conversion would give them.
-ghost use Rattle.std.specs.Prelude.{◌≡◌, ◌⊎◌, ◌*◌, ◌^◌, ◌≤◌, ◌∷◌, [], IfOk, OnOk, OnErr, IfErr, IsErrOf};
-ghost use Rattle.std.specs.Io.KnownBytes.{IsAtEnd};
+ghost use Rattle.std.specs.Prelude.{◌≡◌, ◌⊎◌, ◌^◌, ◌≤◌, ◌∷◌, [], IfErr};
 ghost use Rattle.mbox_text.specs.FromLine.{IsFromLine};
 ghost use Rattle.mbox_text.specs.Spelling.{FromLines};
 ghost use Rattle.maildir_run.specs.Private.TableSoFar.{HasListed, ListsMore};
 ghost use Rattle.maildir_run.specs.Table.{table_of};
-ghost use Rattle.maildir_run.specs.Output.{GivesAll, GivesFront, GivesNothing};
-ghost use Rattle.maildir_run.specs.Reading.{IsReading, ReadsAtLeast, ReadsAtMost};
+ghost use Rattle.maildir_run.specs.Output.{WritesMessages};
 
 use crate::fault::RunFault;
 use crate::reader::Reader;
@@ -31,18 +29,8 @@ pub fn list_text<R: Read, W: Write>(
     reads: u64,
 ) -> Result<u64, RunFault>
     requires { reads ≤ 2 ^ 40 }
-    ensures all { IfOk result (GivesAll table_of (R.remaining source.old) (W.contents out.old) (W.contents out.new)) }
-    ensures end { OnOk result (IsAtEnd (R.remaining source.new)) }
-
-    // after a refusal
-    ensures front { OnErr result
-        (GivesFront table_of (R.remaining source.old) (R.remaining source.new) (W.contents out.old) (W.contents out.new)) }
-    ensures no_from_line { IsErrOf result RunFault.NoFromLine →
-        GivesNothing (R.remaining source.old) (R.remaining source.new) (W.contents out.old) (W.contents out.new) }
-    ensures spent { IsErrOf result RunFault.TooManyReads → ReadsAtLeast (R.remaining source.old) (R.remaining source.new) reads }
-    ensures causes { IfErr result (λ fault. IsReading fault ⊎ (fault ≡ RunFault.OutputFault)) }
-
-    ensures budget { ReadsAtMost (R.remaining source.old) (R.remaining source.new) (65536 * reads) }
+    ensures { WritesMessages table_of (R.remaining source.old) (R.remaining source.new)
+        (W.contents out.old) (W.contents out.new) reads result }
 {
     let mut reader = Reader::new(alloc, reads)?;
     let mut lister = Lister::new(alloc);

@@ -1,6 +1,6 @@
 -- What the three listings tell together.
 use Rattle.std.proofs.Common.{◌≡◌, ℕ, ◌≤◌, Bool, List, [], ◌∷◌, ◌++◌, IsPermutation, IsTrue, length, cond, sym, ap, ◌∙◌, inl, inr, arith, filter}
-use Rattle.maildir_run.proofs.Common.{list_any, keys, len, retain_keys, or_parts, or_cases, cases_Bool, length-filter}
+use Rattle.maildir_run.proofs.Common.{list_any, len, retain_keys, or_parts, or_cases, cases_Bool, length-filter}
 use Rattle.maildir_run.proofs.Common.{IsPermutation-trans, sum_by-IsPermutation, Sub, Tmp, New, Cur, is_converter_base}
 use Rattle.maildir_run.proofs.Common.{is_converter_name, Files, has_base, held_under, homes, Listing, Move, Other, Again, Torn}
 use Rattle.maildir_run.proofs.Common.{moved, after, folder_of, Lists, has_home, is_any, leftover_count, is_listed, TmpWithin}

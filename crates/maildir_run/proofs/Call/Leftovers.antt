@@ -2,7 +2,7 @@
 use Rattle.std.proofs.Common.{◌≡◌, ℕ, suc, ◌≤◌, ◌-◌, Bool, true, false, cond, List, [], ◌∷◌, map, length, None, refl, sym, ap, ◌∙◌, inl, inr, arith, filter}
 use Rattle.maildir_run.proofs.Common.{get, remove, entries, keys, len, retain_keys, contains_key, from_sorted, same_map, get-entries}
 use Rattle.maildir_run.proofs.Common.{get-from_sorted, entries-from_sorted, entries_sorted, len-entries, len-remove, cases_Bool, is_converter_name}
-use Rattle.maildir_run.proofs.Common.{name_cmp, FileMap, Files, Action, ToCur, Reflag, DropTmp, Outside, outsiders_of, acted, leftover_count}
+use Rattle.maildir_run.proofs.Common.{name_cmp, FileMap, Files, Action, ToCur, Reflag, DropTmp, Outside, acted, leftover_count}
 use Rattle.std.specs.FinMap.Entries.{where_key, is_sorted-where_key, find-where_key}
 use Rattle.maildir_run.proofs.Names.Maps.{total, same, get_under, under_same, under_remove, under_remove_other}
 use Rattle.maildir_run.proofs.Call.Homes.{get-outsiders_of}

@@ -1,7 +1,7 @@
 -- Folders by what they hold under a test of their names.
 use Rattle.std.proofs.Common.{◌≡◌, ℕ, Bool, true, false, cond, List, [], ◌∷◌, map, Option, Some, None}
 use Rattle.std.proofs.Common.{IsPermutation, refl, sym, ap, subst, ◌∙◌, arith, is_some, is_eq, Ordering}
-use Rattle.maildir_run.proofs.Common.{get, insert, remove, entries, values, retain_keys, find, put, entries-insert, get-entries, get-insert}
+use Rattle.maildir_run.proofs.Common.{get, insert, remove, values, retain_keys, find, put, entries-insert, get-entries, get-insert}
 use Rattle.maildir_run.proofs.Common.{get-remove, get-retain_keys, same_map, IsAntisymmetric, slice_cmp-IsAntisymmetric, nat_cmp-IsAntisymmetric}
 use Rattle.maildir_run.proofs.Common.{nat_list_cmp_total, eq_by_cmp_equiv, Less, Equal, Greater, IsPermutation-refl, IsPermutation-sym}
 use Rattle.maildir_run.proofs.Common.{IsPermutation-trans, IsPermutation-cons, IsPermutation-middle, name_cmp, is_name, FileMap}

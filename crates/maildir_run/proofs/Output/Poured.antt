@@ -1,13 +1,13 @@
 -- A source that is read piece by piece while what belongs to its messages is written.
-use Rattle.std.proofs.Common.{◌≡◌, ℕ, ◌+◌, ◌^◌, ◌<◌, ◌≤◌, Bool, true, false, Option, Some, None, Ok, List, [], arith}
+use Rattle.std.proofs.Common.{◌≡◌, ℕ, ◌+◌, ◌*◌, ◌^◌, ◌<◌, ◌≤◌, Bool, true, false, Option, Some, None, Result, Ok, Err, IsErrAnd, List, [], arith}
 use Rattle.std.proofs.Common.{◌++◌, ◌⊎◌, inl, inr, length, refl, sym, ◌∙◌, ap, arith, flat_map, append-nil, length-append}
 use Rattle.maildir_run.proofs.Common.{flat_map-append, spelling, FromLines, Appends, Consumes-nil, Appends-trans, Appends-nil, Entry, Splitter, Fed}
-use Rattle.maildir_run.proofs.Common.{RunFault, NoFromLine, OutOfMemory, TooManyReads, IsReading}
+use Rattle.maildir_run.proofs.Common.{IsAtEnd, RunFault, NoFromLine, OutOfMemory, IsReading, ReadsAtMost}
 use Rattle.maildir_run.specs.declared.fault.RunFault.TheVariants.{OutputFault}
 use Rattle.maildir_run.proofs.Common.{AppendsFront, front_more, front_then, Reader, IsFrontOf, Gave, GaveAll, SourceStopped, Breaks, Went}
 use Rattle.std.specs.Io.KnownBytes.{Keeps}
 use Rattle.maildir_run.proofs.Source.Givens.{read_nothing, refused_front, given-from_lines, read_is, gave_more, gave_refused, given_front, broken_front}
-use Rattle.maildir_run.specs.Output.{GivesAll, GivesFront, GivesNothing}
+use Rattle.maildir_run.specs.Output.{GivesAll, GivesFront, GivesNothing, WritesMessages}
 
 -- what is written for the first messages is a front of what is written for all
 pub record IsOutput (output : List Entry → List ℕ) : Type 0 where
@@ -69,14 +69,49 @@ unread {before = before} {was} {reads} o =
       refused = refused;
     }
 
--- ---- a fault of what is written
-pub written_faults : {fault : RunFault} → (fault ≡ OutputFault) ⊎ (fault ≡ OutOfMemory) → IsReading fault ⊎ (fault ≡ OutputFault)
-written_faults (inl e) = inr e
-written_faults (inr e) = inl (inr (inr (inr e)))
+-- ---- the call as a whole, where it ends
+module _ {output : List Entry → List ℕ} {before now was is : Option (List ℕ)} {reads : ℕ} {fault : RunFault}
+    (result : Result ℕ RunFault) (at : IsErrAnd result (λ e. e ≡ fault)) where
+  pub reading_failed : IsReading fault → Broken output before now was is reads fault → WritesMessages output before now was is reads result
+  reading_failed reading b = elim result as (λ r. IsErrAnd r (λ e. e ≡ fault) → WritesMessages output before now was is reads r) [
+    | Ok count ↦ λ h. absurd h
+    | Err e ↦ λ h. rw h (record {
+      all = tt;
+      end = tt;
+      front = b.front;
+      no_from_line = λ f. b.nothing cc;
+      spent = λ f. b.refused.spent cc;
+      causes = inl reading;
+      budget = b.refused.budget;
+    })
+  ] at
 
-pub written_is_other : {fault : RunFault} → (fault ≡ OutputFault) ⊎ (fault ≡ OutOfMemory) → (fault ≡ NoFromLine → ⊥) × (fault ≡ TooManyReads → ⊥)
-written_is_other (inl e) = (λ f. cc, λ f. cc)
-written_is_other (inr e) = (λ f. cc, λ f. cc)
+  pub writing_failed : (fault ≡ OutputFault) ⊎ (fault ≡ OutOfMemory) → GivesFront output before now was is
+      → ReadsAtMost before now (65536 * reads) → WritesMessages output before now was is reads result
+  writing_failed cause front budget = elim result as (λ r. IsErrAnd r (λ e. e ≡ fault) → WritesMessages output before now was is reads r) [
+    | Ok count ↦ λ h. absurd h
+    | Err e ↦ λ h. rw h (record {
+      all = tt;
+      end = tt;
+      front = front;
+      no_from_line = λ f. absurd (elim cause [ inl is ↦ cc | inr is ↦ cc ]);
+      spent = λ f. absurd (elim cause [ inl is ↦ cc | inr is ↦ cc ]);
+      causes = elim cause [ inl is ↦ inr is | inr is ↦ inl (inr (inr (inr is))) ];
+      budget = budget;
+    })
+  ] at
+
+pub all_written : {output : List Entry → List ℕ} {before now was is : Option (List ℕ)} {reads count : ℕ} → GivesAll output before was is count
+    → IsAtEnd now → ReadsAtMost before now (65536 * reads) → WritesMessages output before now was is reads (Ok count)
+all_written all end budget = record {
+  all = all;
+  end = end;
+  front = tt;
+  no_from_line = λ e. absurd (cc);
+  spent = λ e. absurd (cc);
+  causes = tt;
+  budget = budget;
+}
 
 -- a read, and what became whole by it
 pub record Batch (output : List Entry → List ℕ) (given : List Entry) (before now was is : Option (List ℕ)) (whole : List Entry) (reads count : ℕ) : Type 0 where

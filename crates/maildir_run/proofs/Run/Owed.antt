@@ -1,8 +1,8 @@
 -- What a run owes where it ends, from the tasks that it performed.
 use Rattle.std.proofs.Common.{◌≡◌, ℕ, ◌+◌, ◌*◌, ◌<◌, ◌≤◌, ◌^◌, Bool, true, false, cond, Option, Some, None, List, [], ◌∷◌, ◌++◌, length, All, Result, Ok, arith}
 use Rattle.std.proofs.Common.{Err, IfOk, OnOk, IsTrue, refl, sym, ap, subst, ◌∙◌, inl, inr, arith, append_assoc, length-append, IsErrOf, filter, append-nil}
-use Rattle.maildir_run.proofs.Common.{get, keys, length-map, All-head, All-tail, length-filter, count_by-le-length, IsAtEnd, Entry, Target}
-use Rattle.maildir_run.proofs.Common.{base, is_converter_name, is_converter_base, RunFault, NoFromLine, TooManyReads, Report, swept, filled}
+use Rattle.maildir_run.proofs.Common.{get, length-map, All-head, All-tail, length-filter, count_by-le-length, IsAtEnd, Entry, Target}
+use Rattle.maildir_run.proofs.Common.{is_converter_name, is_converter_base, RunFault, NoFromLine, TooManyReads, Report, swept, filled}
 use Rattle.maildir_run.proofs.Common.{alone, Conversion, ReportsTasks, run_tasks, Seen, Performed, sweep_of, delivery_of, delivery_if}
 use Rattle.maildir_run.proofs.Common.{deliveries_of, fault_of, capped, HasCallNumber, CallNumber, Follows, Message, IsSoundAt, IsMissing}
 use Rattle.maildir_run.proofs.Common.{Delivered, AreDistinct, Sound, has_home, there_count, leftover_count, Files, GaveAll, SourceStopped}

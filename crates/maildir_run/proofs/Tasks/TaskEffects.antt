@@ -2,9 +2,9 @@
 use Rattle.std.proofs.Common.{Option, Some, None, ◌≡◌, ℕ, ◌≤◌, Bool, true, false, cond, List, [], ◌∷◌, ◌++◌, ◌⊎◌, map, length, All, IsPermutation}
 use Rattle.std.proofs.Common.{IsFalse, refl, sym, ap, subst, ◌∙◌, inl, inr, arith, append_assoc, length-append, filter, append-nil}
 use Rattle.maildir_run.proofs.Common.{get, keys, cases_Bool, get_or-append_seam, get_or_append_left, All-head, All-tail, any-filter_same}
-use Rattle.maildir_run.proofs.Common.{Target, is_converter_name, RunFault, New, Cur, filled, added, Placing, Removing, Again, AnyMoves}
+use Rattle.maildir_run.proofs.Common.{Target, is_converter_name, RunFault, filled, added, Removing, Again, AnyMoves}
 use Rattle.maildir_run.proofs.Common.{PlacesElsewhere, IsSwept, Message, IsMissing, IsHome, IsSoundAt, AreNamed, AreDistinct, has_home}
-use Rattle.maildir_run.proofs.Common.{leftover_count, Files, homes, is_name, is_listed, KeepsHomes, TmpWithin, DeliversMessage}
+use Rattle.maildir_run.proofs.Common.{leftover_count, Files, is_name, is_listed, KeepsHomes, TmpWithin, DeliversMessage}
 use Rattle.maildir_run.proofs.Common.{Progress, Knows, IsTarget, KeepsForeign, Task, Ask, Do, call_of, Done, Way, honestly, quietly, AllDone}
 use Rattle.maildir_run.proofs.Common.{Stopped, Listings, listing_tasks, DoneUntil, sweep_of, delivery_of, delivery_if, deliveries_of}
 use Rattle.maildir_run.specs.Tasks.{TaskRefused}

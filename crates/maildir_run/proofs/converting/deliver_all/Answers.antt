@@ -1,4 +1,4 @@
-use Rattle.std.proofs.Common.{rules, ◌*◌, [], ◌++◌, refl, ◌∙◌, inl, inr}
+use Rattle.std.proofs.Common.{rules, [], ◌++◌, refl, ◌∙◌, inl, inr}
 use Rattle.maildir_run.proofs.Tasks.Faults.{if_err}
 use Rattle.maildir_run.proofs.Common.{bodies_of}
 use Rattle.maildir_run.proofs.Run.Delivering.{delivers_none}

@@ -1,4 +1,3 @@
-use Rattle.maildir_run.proofs.Common.{Placing}
 use Rattle.maildir_run.proofs.Tasks.Tasks.{ran_do}
 use Rattle.maildir_run.proofs.calls.Calls.place.Goals as goal
 

@@ -1,5 +1,4 @@
 use Rattle.std.proofs.Common.{refl, inr}
-use Rattle.maildir_run.proofs.Common.{OutOfMemory}
 use Rattle.maildir_run.proofs.Tasks.Faults.{unless_ok}
 use Rattle.maildir_run.proofs.Tasks.Tasks.{ran_err, ran_stop}
 use Rattle.maildir_run.proofs.engine.Engine.begin.Goals as goal

@@ -1,5 +1,5 @@
 use Rattle.std.proofs.Common.{refl, sym, ap, ◌∙◌}
-use Rattle.maildir_run.proofs.Common.{get, FileMap, files_in}
+use Rattle.maildir_run.proofs.Common.{FileMap, files_in}
 use Rattle.maildir_run.proofs.Memory.Scripts.{unlinked}
 use Rattle.maildir_run.proofs.mem_files.MemFiles.reflag.Goals as goal
 
