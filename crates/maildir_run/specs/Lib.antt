@@ -8,6 +8,8 @@ pub mod Texts
 pub mod Runs
 -- The calls of a folder: the effect of each, and what may happen before, within and after it.
 pub mod Calls
+-- What is seen of a folder.
+pub mod Seen
 -- What a power cut may leave of a folder, from one call to the next. In `new` and `cur` it is the files that are found then;
 pub mod Cuts
 -- The steps of a run, from what is listed and what is owed.
@@ -16,6 +18,8 @@ pub mod Plan
 pub mod Parts
 -- What a run did with its folder: calls that were planned, in order, up to the first that was refused.
 pub mod Tasks
+-- What a run did.
+pub mod Converting
 -- How a run counts its folder calls, and what its faults say of them.
 pub mod Counting
 -- What a quiet run leaves.

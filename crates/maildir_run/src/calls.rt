@@ -3,7 +3,8 @@ ghost use Rattle.std.specs.Prelude.{◌≡◌, ◌+◌, [], ◌∷◌, IfErr};
 ghost use Rattle.maildir_run.specs.Counting.{capped, fault_of, IsOfFolder};
 ghost use Rattle.maildir_run.specs.Private.Counting.{run_answer};
 ghost use Rattle.maildir_run.specs.Calls.Call.{Writing, Placing, Removing};
-ghost use Rattle.maildir_run.specs.Private.Parts.{Performed, seen, names_in};
+ghost use Rattle.maildir_run.specs.Private.Parts.{Performed, names_in};
+ghost use Rattle.maildir_run.specs.Seen.{seen};
 ghost use Rattle.maildir_run.specs.Tasks.Task.{Ask, Do};
 
 use crate::fault::RunFault;

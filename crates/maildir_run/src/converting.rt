@@ -1,20 +1,11 @@
 // One run: a source's messages into a folder.
-ghost use Rattle.std.specs.Prelude.{◌≡◌, ◌⊎◌, ◌*◌, ◌^◌, ◌<◌, ◌≤◌, ℕ, [], List, length, IfOk, OnOk, IfErr, IsErrOf, All};
-ghost use Rattle.std.specs.Io.KnownBytes.{IsAtEnd};
+ghost use Rattle.std.specs.Prelude.{◌≡◌, ◌^◌, ◌≤◌, [], IfOk, IfErr};
 ghost use Rattle.mbox_text.specs.Fed.{Fed};
-ghost use Rattle.mbox_text.specs.Mbox.{Mbox};
-ghost use Rattle.maildir_run.specs.Alone.{alone as alone_after};
-ghost use Rattle.maildir_run.specs.Private.Parts.{Conversion, seen};
-ghost use Rattle.maildir_run.specs.Counting.{CountsFault, IsOfFolder, CallNumber};
-ghost use Rattle.maildir_run.specs.Cuts.{Follows};
-ghost use Rattle.maildir_run.specs.Delivery.{Message, Delivered, IsMissing, leftover_count};
-ghost use Rattle.maildir_run.specs.Files.{Files};
+ghost use Rattle.maildir_run.specs.Converting.{Converts};
 ghost use Rattle.maildir_run.specs.Private.Given.{Begins, SourceStopped};
-ghost use Rattle.maildir_run.specs.Foreign.{KeepsForeign};
-ghost use Rattle.maildir_run.specs.Reading.{IsReading, ReadsAtLeast, ReadsAtMost};
-ghost use Rattle.maildir_run.specs.Runs.{CountsRun, Link, Possible, IsRun, Runs};
-ghost use Rattle.maildir_run.specs.Tasks.{Listings, Performs, honestly, leaving, planned_tasks};
-ghost use Rattle.maildir_run.specs.Texts.{MessagesOf};
+ghost use Rattle.maildir_run.specs.Private.Parts.{Conversion};
+ghost use Rattle.maildir_run.specs.Reading.{IsReading};
+ghost use Rattle.maildir_run.specs.Seen.{seen};
 
 use crate::calls::Calls;
 use crate::engine::Engine;
@@ -44,58 +35,8 @@ pub fn convert<F: Folder, R: Read>(
     reads: u64,
 ) -> Result<Report, RunFault>
     requires { reads ≤ 2 ^ 40 }
-    ensures honest { F.honest folder.old → F.honest folder.new }
-    ensures as_planned { F.honest folder.old → (t : List ℕ) (ms : List Message) →
-        Possible (R.remaining source.old) (R.remaining source.new) t → MessagesOf t ms →
-        (names : Listings) × Performs honestly (planned_tasks names ms) (F.files folder.old) result (F.files folder.new) }
-    ensures left { F.honest folder.old → (t : List ℕ) (ms : List Message) →
-        Possible (R.remaining source.old) (R.remaining source.new) t → MessagesOf t ms →
-        Follows (λ before now. (names : Listings) × Performs leaving (planned_tasks names ms) before result now)
-        (F.may_leave folder.old) (F.may_leave folder.new) }
-    ensures still_rooted { F.honest folder.old → F.rooted folder.old → F.rooted folder.new }
-    ensures owes { F.honest folder.old → (t : List ℕ) → length t < 2 ^ 63 →
-        Possible (R.remaining source.old) (R.remaining source.new) t → IsRun t (F.files folder.old) result (F.files folder.new) }
-    ensures restartable { F.honest folder.old → (t : List ℕ) (ms : List Message) (links : List Link) (start : Files) → length t < 2 ^ 63 →
-        Possible (R.remaining source.old) (R.remaining source.new) t → MessagesOf t ms → All (IsMissing start) ms →
-        Runs t links start (F.files folder.old) → OnOk result (Delivered ms (F.files folder.new)) }
-    ensures end { OnOk result (IsAtEnd (R.remaining source.new)) }
-
-    // where the folder is quiet
-    ensures quiet { F.quiet folder.old → F.quiet folder.new }
-    ensures alone { F.quiet folder.old → (t : List ℕ) (ms : List Message) →
-        Possible (R.remaining source.old) (R.remaining source.new) t → MessagesOf t ms →
-        IfOk result
-        (λ report. (F.files folder.new ≡ alone_after ms (F.files folder.old)) × (report.swept ≡ leftover_count (F.files folder.old))) }
-    ensures others { F.quiet folder.old → KeepsForeign (F.files folder.old) (F.files folder.new) }
-
-    // what it counts
-    ensures calls { IfOk result (λ report. CountsRun report (F.calls folder.old) (F.calls folder.new)) }
-    ensures cause { CountsFault result (F.failures folder.old) (F.failures folder.new) }
-    ensures call_number { CallNumber result (F.calls folder.old) (F.calls folder.new) }
-
-    // its refusals
-    ensures untouched { IsErrOf result RunFault.NoFromLine → F.calls folder.new ≡ F.calls folder.old }
-    ensures no_from_line { IsErrOf result RunFault.NoFromLine → (t : List ℕ) (entries : List Entry) →
-        Possible (R.remaining source.old) (R.remaining source.new) t → ¬ Mbox t entries }
-    ensures spent { IsErrOf result RunFault.TooManyReads → ReadsAtLeast (R.remaining source.old) (R.remaining source.new) reads }
-    ensures causes { IfErr result (λ fault. IsReading fault ⊎ IsOfFolder fault) }
-
-    ensures budget { ReadsAtMost (R.remaining source.old) (R.remaining source.new) (65536 * reads) }
-{
-    convert_seen(alloc, folder, source, reads)
-}
-
-/// The run itself. All that `convert` says follows from what it was given and which tasks it performed.
-fn convert_seen<F: Folder, R: Read>(
-    alloc: Global,
-    folder: &mut F,
-    source: &mut R,
-    reads: u64,
-) -> Result<Report, RunFault>
-    requires { reads ≤ 2 ^ 40 }
-    ensures is { let at = seen F.Folder in
-        Conversion (R.remaining source.old) (R.remaining source.new) reads (at folder.old) (at folder.new) result }
-    ensures causes { IfErr result (λ fault. IsReading fault ⊎ IsOfFolder fault) }
+    ensures { let at = seen F.Folder in
+        Converts (R.remaining source.old) (R.remaining source.new) reads (at folder.old) (at folder.new) result }
 {
     let mut reader = Reader::new(alloc, reads)?;
     let mut whole = Vec::new(alloc);
@@ -113,9 +54,8 @@ fn deliver_all<F: Folder, R: Read>(
     requires fresh { Fed [] [] reader.old.splitter }
     requires empty { whole.old.items ≡ [] }
     requires few { reader.old.reads_left ≤ 2 ^ 40 }
-    ensures is { let at = seen F.Folder in
+    ensures { let at = seen F.Folder in
         Conversion (R.remaining source.old) (R.remaining source.new) reader.old.reads_left (at folder.old) (at folder.new) result }
-    ensures causes { IfErr result (λ fault. IsReading fault ⊎ IsOfFolder fault) }
 {
     let mut ended = read_first(reader, source, whole)?;
     let mut calls = Calls::new();

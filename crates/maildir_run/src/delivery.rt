@@ -1,7 +1,8 @@
 // One message on its way to its target.
 ghost use Rattle.std.specs.Prelude.{IfErr};
 ghost use Rattle.maildir_run.specs.Counting.{IsOfFolder, fault_of};
-ghost use Rattle.maildir_run.specs.Private.Parts.{Performed, seen};
+ghost use Rattle.maildir_run.specs.Private.Parts.{Performed};
+ghost use Rattle.maildir_run.specs.Seen.{seen};
 ghost use Rattle.maildir_run.specs.Parts.{delivery_of};
 
 use crate::calls::Calls;

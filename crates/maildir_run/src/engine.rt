@@ -5,7 +5,8 @@ ghost use Rattle.maildir_name.specs.Named.{Named};
 ghost use Rattle.maildir_run.specs.Calls.{names_of};
 ghost use Rattle.maildir_run.specs.Counting.{IsOfFolder, fault_of};
 ghost use Rattle.maildir_run.specs.Plan.{is_listed};
-ghost use Rattle.maildir_run.specs.Private.Parts.{DeliversMessages, Performed, seen};
+ghost use Rattle.maildir_run.specs.Private.Parts.{DeliversMessages, Performed};
+ghost use Rattle.maildir_run.specs.Seen.{seen};
 ghost use Rattle.maildir_run.specs.Parts.{sweep_of};
 ghost use Rattle.maildir_run.specs.Texts.{bodies_of};
 

@@ -3,7 +3,8 @@ ghost use Rattle.std.specs.Prelude.{◌≡◌, ◌<◌, ◌^◌, length, IfOk, I
 ghost use Rattle.maildir_run.specs.Calls.{names_of};
 ghost use Rattle.maildir_run.specs.Counting.{IsOfFolder, fault_of};
 ghost use Rattle.maildir_run.specs.Tasks as tasks;
-ghost use Rattle.maildir_run.specs.Private.Parts.{Performed, seen};
+ghost use Rattle.maildir_run.specs.Private.Parts.{Performed};
+ghost use Rattle.maildir_run.specs.Seen.{seen};
 
 use crate::calls::Calls;
 use crate::fault::RunFault;

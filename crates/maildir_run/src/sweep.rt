@@ -2,7 +2,8 @@
 ghost use Rattle.std.specs.Prelude.{◌≡◌, [], length, map, string_bytes, IfOk, IfErr};
 ghost use Rattle.maildir_run.specs.Counting.{IsOfFolder, fault_of};
 ghost use Rattle.maildir_run.specs.Tasks.{tasks_of};
-ghost use Rattle.maildir_run.specs.Private.Parts.{Performed, seen};
+ghost use Rattle.maildir_run.specs.Private.Parts.{Performed};
+ghost use Rattle.maildir_run.specs.Seen.{seen};
 ghost use Rattle.maildir_run.specs.Parts.{sweep_of};
 
 use crate::calls::Calls;

@@ -9,6 +9,7 @@ use Rattle.maildir_run.proofs.Common.{Delivered, AreDistinct, Sound, has_home, t
 use Rattle.maildir_run.proofs.Common.{is_listed, TmpWithin, Knows, Progress, IsTarget, KeepsForeign, ReadsAtLeast, Possible, Keeps, IsRun}
 use Rattle.maildir_run.proofs.Common.{CountsRun, Link, Runs, Mbox, Task, Do, Performs, AllDone, Stopped, honestly, quietly, Listings}
 use Rattle.maildir_run.proofs.Common.{listing_tasks, planned_tasks, Way, leaving, Removing, messages_of, bodies_of, MessagesOf, flat_map-append}
+use Rattle.maildir_run.specs.Converting.{Converts}
 use Rattle.std.proofs.lemmas.Result.{on_ok_weaker, IfErr-at_err}
 use Rattle.maildir_run.proofs.Tasks.CallCounts.{run_counts}
 use Rattle.maildir_run.proofs.Names.Maps.{is_name-true}
@@ -238,17 +239,17 @@ module _ {before after : Option (List ℕ)} {reads : ℕ} {start now : Seen} {r 
         let g = given_here t ms p of in
         planned_performs run.names (messages_of (bodies_of run.given)) g.0 ms g.1 honestly honestly_stops r g.2 start.files now.files (run.ran.done_honestly h)
 
-    pub owes_planned : (names : Listings) × Performs honestly (planned_tasks names ms) start.files r now.files
+    owes_planned : (names : Listings) × Performs honestly (planned_tasks names ms) start.files r now.files
     owes_planned = (run.names, performs_here)
 
-    pub owes_left : Follows (λ old new. (names : Listings) × Performs leaving (planned_tasks names ms) old r new) start.may_leave now.may_leave
+    owes_left : Follows (λ old new. (names : Listings) × Performs leaving (planned_tasks names ms) old r new) start.may_leave now.may_leave
     owes_left =
         let g = given_here t ms p of in
         left_as _ _ start.may_leave now.may_leave
         (λ old new q. (run.names, planned_performs run.names (messages_of (bodies_of run.given)) g.0 ms g.1 leaving leaving_stops r g.2 old new q))
         (run.ran.left h)
 
-  pub owes_run : start.honest → (t : List ℕ) → length t < 2 ^ 63 → Possible before after t → IsRun t start.files r now.files
+  owes_run : start.honest → (t : List ℕ) → length t < 2 ^ 63 → Possible before after t → IsRun t start.files r now.files
   owes_run h t small p = record {
     keeps = λ ms of sound.
         keeps run.names ms (text_distinct t ms of small) (text_targets t ms of small)
@@ -257,11 +258,11 @@ module _ {before after : Option (List ℕ)} {reads : ℕ} {start now : Seen} {r 
     is_read = on_ok_weaker r (λ (w : GaveAll before after reads run.given). (run.given, whole_text w p)) run.whole;
   }
 
-  pub owes_restart : start.honest → (t : List ℕ) (ms : List Message) (links : List Link) (first : Files) → length t < 2 ^ 63
+  owes_restart : start.honest → (t : List ℕ) (ms : List Message) (links : List Link) (first : Files) → length t < 2 ^ 63
       → Possible before after t → MessagesOf t ms → All (IsMissing first) ms → Runs t links first start.files → OnOk r (Delivered ms now.files)
   owes_restart h t ms links first small p of missing before = restarted r links first small of missing before (owes_run h t small p)
 
-  pub owes_alone : (start.quiet → start.honest) → start.quiet → (t : List ℕ) (ms : List Message) → Possible before after t
+  owes_alone : (start.quiet → start.honest) → start.quiet → (t : List ℕ) (ms : List Message) → Possible before after t
       → MessagesOf t ms → IfOk r (λ report. (now.files ≡ alone ms start.files) × (report.swept ≡ leftover_count start.files))
   owes_alone honest_of q t ms p of =
       both_ok r (λ (same : ms ≡ messages_of (bodies_of run.given)) report (alone_is : (now.files ≡ alone (messages_of (bodies_of run.given)) start.files)
@@ -270,27 +271,50 @@ module _ {before after : Option (List ℕ)} {reads : ℕ} {start now : Seen} {r 
       (filled_all run.names (messages_of (bodies_of run.given)) (messages_distinct (bodies_of run.given) few_bodies)
       (messages_targets (bodies_of run.given) few_bodies) start.files now.files r (run.ran.done_honestly (honest_of q)) (run.ran.done_quietly q) run.tells)
 
-  pub owes_others : start.quiet → KeepsForeign start.files now.files
+  owes_others : start.quiet → KeepsForeign start.files now.files
   owes_others q =
       done_others (fault_of r) (run_tasks run.names (messages_of (bodies_of run.given)))
       (run_ours run.names _ (messages_targets _ few_bodies))
       start.files now.files (run.ran.done_quietly q)
 
-  pub owes_calls : IfOk r (λ report. CountsRun report start.calls now.calls)
+  owes_calls : IfOk r (λ report. CountsRun report start.calls now.calls)
   owes_calls = calls_made _ r run.ran run.tells
 
-  pub owes_numbers : CallNumber r start.calls now.calls
+  owes_numbers : CallNumber r start.calls now.calls
   owes_numbers = ran_numbers run.ran refl (few_tasks _ _ run.few few_bodies)
 
   -- ---- and of its source
-  pub owes_end : OnOk r (IsAtEnd after)
+  owes_end : OnOk r (IsAtEnd after)
   owes_end = on_ok_weaker r (λ (w : GaveAll before after reads run.given). w.end) run.whole
 
   refused_as : (fault : RunFault) → IsErrOf r fault → SourceStopped before after reads fault
   refused_as fault e = IfErr-at_err (SourceStopped before after reads) e run.refused
 
-  pub owes_unread : IsErrOf r NoFromLine → (t : List ℕ) (entries : List Entry) → Possible before after t → ¬ Mbox t entries
+  owes_unread : IsErrOf r NoFromLine → (t : List ℕ) (entries : List Entry) → Possible before after t → ¬ Mbox t entries
   owes_unread e = (refused_as NoFromLine e).unreadable refl
 
-  pub owes_spent : IsErrOf r TooManyReads → ReadsAtLeast before after reads
+  owes_spent : IsErrOf r TooManyReads → ReadsAtLeast before after reads
   owes_spent e = (refused_as TooManyReads e).spent refl
+
+  -- ---- all of it
+  pub converts : (start.quiet → start.honest) → Converts before after reads start now r
+  converts honest_of = record {
+    honest = run.ran.honest;
+    as_planned = owes_planned;
+    left = owes_left;
+    still_rooted = run.ran.still_rooted;
+    owes = owes_run;
+    restartable = owes_restart;
+    quiet = run.ran.quiet;
+    alone = owes_alone honest_of;
+    others = owes_others;
+    calls = owes_calls;
+    cause = run.ran.cause;
+    call_number = owes_numbers;
+    end = owes_end;
+    budget = (run.front.text, run.front.read, run.front.budget);
+    untouched = run.untouched;
+    no_from_line = owes_unread;
+    spent = owes_spent;
+    causes = run.causes;
+  }

@@ -1,5 +1,5 @@
 -- What the parts of a run say of what they did.
-use Rattle.std.specs.Prelude.{◌≡◌, ℕ, ◌+◌, ◌*◌, ◌-◌, ◌<◌, ◌≤◌, ◌^◌, Bool, List, [], ◌∷◌, ◌++◌}
+use Rattle.std.specs.Prelude.{◌≡◌, ℕ, ◌+◌, ◌*◌, ◌-◌, ◌<◌, ◌≤◌, ◌^◌, ◌⊎◌, Bool, List, [], ◌∷◌, ◌++◌}
 use Rattle.std.specs.Prelude.{length, Option, None, OnOk, IfOk, IfErr, IsErrOf, Result, Ok, Err}
 use Rattle.std.specs.declared.vec.Vec.{Vec}
 use Rattle.std.specs.declared.string.String.{String}
@@ -10,42 +10,20 @@ use Rattle.maildir_name.specs.Targets.{target}
 use Rattle.maildir_run.specs.declared.fault.RunFault.{RunFault}
 use Rattle.maildir_run.specs.declared.fault.RunFault.TheVariants.{NoFromLine}
 use Rattle.maildir_run.specs.declared.report.Report.{Report}
-use Rattle.maildir_run.specs.declared.folder.Folder.{Ghosts}
 use Rattle.maildir_run.specs.Calls.{names_of}
 use Rattle.maildir_run.specs.Private.Counting.{Makes}
-use Rattle.maildir_run.specs.Counting.{GoesUpWith, HasCallNumber, fault_of}
+use Rattle.maildir_run.specs.Counting.{GoesUpWith, HasCallNumber, IsOfFolder, fault_of}
 use Rattle.maildir_run.specs.Cuts.{Follows}
 use Rattle.maildir_run.specs.Delivery.{Message}
-use Rattle.maildir_run.specs.Files.{Files}
+use Rattle.maildir_run.specs.Seen.{Seen}
 use Rattle.maildir_run.specs.Private.Given.{IsFrontOf, GaveAll, SourceStopped}
 use Rattle.maildir_run.specs.Plan.{is_listed}
 use Rattle.maildir_run.specs.Private.Progress.{message_at}
+use Rattle.maildir_run.specs.Reading.{IsReading}
 use Rattle.maildir_run.specs.Tasks.{Task, DoneUntil, honestly, leaving, Listings, listing_tasks}
 use Rattle.maildir_run.specs.Private.Tasks.{quietly}
 use Rattle.maildir_run.specs.Texts.{messages_of, bodies_of}
 use Rattle.maildir_run.specs.Parts.{deliveries_of, sweep_of}
-
--- what is seen of a folder at one moment
-pub record Seen : Type 1 where
-  pub honest : Type 0
-  pub quiet : Type 0
-  pub files : Files
-  pub may_leave : Files → Type 0
-  pub rooted : Type 0
-  pub calls : ℕ
-  pub failures : ℕ
-
--- what these say of a folder
-abbrev pub seen : {S : Type 0} → Ghosts S → S → Seen
-seen f s = record {
-  honest = f.honest s;
-  quiet = f.quiet s;
-  files = f.files s;
-  may_leave = f.may_leave s;
-  rooted = f.rooted s;
-  calls = f.calls s;
-  failures = f.failures s;
-}
 
 -- A run that had made so many calls performed these tasks: all of them with no fault, and with one up to the one that was refused.
 pub record Performed (tasks : List Task) (old new : Seen) (made made' : ℕ) (fault : Option RunFault) : Type 0 where
@@ -99,6 +77,7 @@ pub record Conversion (before now : Option (List ℕ)) (reads : ℕ) (old new : 
   pub whole : OnOk result (GaveAll before now reads given)
   pub refused : IfErr result (SourceStopped before now reads)
   pub untouched : IsErrOf result NoFromLine → new.calls ≡ old.calls
+  pub causes : IfErr result (λ fault. IsReading fault ⊎ IsOfFolder fault)
   pub names : Listings
   pub few : length names.tmp < 2 ^ 64
   pub made : ℕ

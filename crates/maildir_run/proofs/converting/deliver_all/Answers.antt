@@ -1,5 +1,4 @@
-use Rattle.std.proofs.Common.{rules, [], ◌++◌, refl, ◌∙◌, inl, inr}
-use Rattle.maildir_run.proofs.Tasks.Faults.{if_err}
+use Rattle.std.proofs.Common.{rules, [], ◌++◌, refl, ◌∙◌, inl}
 use Rattle.maildir_run.proofs.Common.{bodies_of}
 use Rattle.maildir_run.proofs.Run.Delivering.{delivers_none}
 use Rattle.maildir_run.proofs.Run.Conversions.{stops, stops_in_folder, stops_unread, all_ran, tells_listed, one_batch, report_tells}
@@ -9,12 +8,12 @@ use Rattle.maildir_run.proofs.Tasks.Tasks.{ran_then, ran_before, ran_stop}
 use Rattle.maildir_run.proofs.converting.deliver_all.Goals as goal
 
 -- Searched: the residual's name is another one where the folder is listed first, and there it is the clause that is to fail.
-pub returns-in_err-ended-clause-is : goal.returns-in_err-ended-clause-is
-returns-in_err-ended-clause-is g c =
+pub returns-in_err-ended : goal.returns-in_err-ended
+returns-in_err-ended g c =
     stops_unread (search rules) c.in_err-ended.ensures.causes c.in_err-ended.ensures.refused
 
-pub returns-in_err-listings-clause-is : goal.returns-in_err-listings-clause-is
-returns-in_err-listings-clause-is g c =
+pub returns-in_err-listings : goal.returns-in_err-listings
+returns-in_err-listings g c =
     let is = c.from_residual-in_err-listings.ensures.1 in
     let begins = c.in_ok-ended.ensures.begins in
     let look = c.in_err-listings.ensures.ran in
@@ -22,8 +21,8 @@ returns-in_err-listings-clause-is g c =
     (given_front _ _ _ _ _ _ _ begins.gave) look.0 look.1 _ _ c.new-calls.ensures
     (ran_before _ look.2)
 
-pub returns-in_err-engine-clause-is : goal.returns-in_err-engine-clause-is
-returns-in_err-engine-clause-is g c =
+pub returns-in_err-engine : goal.returns-in_err-engine
+returns-in_err-engine g c =
     let is = c.from_residual-in_err-engine.ensures.1 in
     let begins = c.in_ok-ended.ensures.begins in
     let look = c.in_ok-listings.ensures.ran in
@@ -70,8 +69,8 @@ pieces-preserved g c =
       delivers = one_batch i.given whole entries _ i.there is few c.requires.few i.delivers c.in_ok-deliver_entries.ensures.delivers;
     }
 
-pub returns-in_err-deliver_entries-clause-is : goal.returns-in_err-deliver_entries-clause-is
-returns-in_err-deliver_entries-clause-is g c =
+pub returns-in_err-deliver_entries : goal.returns-in_err-deliver_entries
+returns-in_err-deliver_entries g c =
     let is = c.from_residual-in_err-deliver_entries.ensures.1 in
     let i = c.pieces.invariant in
     let given = i.given ++ c.pieces.whole.items in
@@ -85,8 +84,8 @@ returns-in_err-deliver_entries-clause-is g c =
     stops_in_folder _ _ _ _ _ _ _ is c.in_err-deliver_entries.ensures.causes given front look.0 look.1 _ _ refl
     (all_ran look.0 _ c.new-calls.ensures look.3.0 begin.2 listed look.2 begin.1 delivers.ran)
 
-pub returns-in_err-ended-2-clause-is : goal.returns-in_err-ended-2-clause-is
-returns-in_err-ended-2-clause-is g c =
+pub returns-in_err-ended-2 : goal.returns-in_err-ended-2
+returns-in_err-ended-2 g c =
     let is = c.from_residual-in_err-ended-2.ensures.1 in
     let fault = c.in_err-ended-2.field-0.0 in
     let i = c.pieces.invariant in
@@ -101,12 +100,12 @@ returns-in_err-ended-2-clause-is g c =
     let gave = rw c.if-ended.false at i.gave in
     let went = c.in_err-ended-2.ensures.went in
     stops _ _ _ _ _ _ fault is (gave_refused _ c.pieces.reader fault gave went)
-    (λ e. absurd (never_again _ c.pieces.reader fault gave (i.begun c.if-ended.false) went e))
+    (inl c.in_err-ended-2.ensures.causes) (λ e. absurd (never_again _ c.pieces.reader fault gave (i.begun c.if-ended.false) went e))
     given (broken_front c.pieces.reader gave went) look.0 look.1 _ _ refl
     (ran_stop c.in_err-ended-2.ensures.causes (all_ran look.0 _ c.new-calls.ensures look.3.0 begin.2 listed look.2 begin.1 delivers.ran))
 
-pub returns-then-ended-clause-is : goal.returns-then-ended-clause-is
-returns-then-ended-clause-is g c =
+pub returns-then-ended : goal.returns-then-ended
+returns-then-ended g c =
     let i = c.pieces.invariant in
     let given = i.given ++ c.pieces.whole.items in
     let entries = c.deref.result.now in
@@ -126,6 +125,7 @@ returns-then-ended-clause-is g c =
       whole = rw c.if-ended.true at i.gave;
       refused = tt;
       untouched = λ e. absurd (cc);
+      causes = tt;
       names = look.0;
       few = look.1;
       made = c.deliver_entries.new.self.calls.made;
@@ -138,20 +138,3 @@ returns-then-ended-clause-is g c =
 
 pub pieces-smaller : goal.pieces-smaller
 pieces-smaller g c = went_down c.pieces.ended c.in_ok-ended-2.ended _ _ c.pieces.reader _ _ _ _ c.if-ended.false c.in_ok-ended-2.ensures.went
-
--- ---- which faults there are
-pub returns-in_err-ended-clause-causes : goal.returns-in_err-ended-clause-causes
-returns-in_err-ended-clause-causes g c = if_err _ _ c.from_residual.ensures.1 (inl c.in_err-ended.ensures.causes)
-
-pub returns-in_err-listings-clause-causes : goal.returns-in_err-listings-clause-causes
-returns-in_err-listings-clause-causes g c = if_err _ _ c.from_residual-in_err-listings.ensures.1 (inr c.in_err-listings.ensures.causes)
-
-pub returns-in_err-engine-clause-causes : goal.returns-in_err-engine-clause-causes
-returns-in_err-engine-clause-causes g c = if_err _ _ c.from_residual-in_err-engine.ensures.1 (inr c.in_err-engine.ensures.causes)
-
-pub returns-in_err-deliver_entries-clause-causes : goal.returns-in_err-deliver_entries-clause-causes
-returns-in_err-deliver_entries-clause-causes g c =
-    if_err _ _ c.from_residual-in_err-deliver_entries.ensures.1 (inr c.in_err-deliver_entries.ensures.causes)
-
-pub returns-in_err-ended-2-clause-causes : goal.returns-in_err-ended-2-clause-causes
-returns-in_err-ended-2-clause-causes g c = if_err _ _ c.from_residual-in_err-ended-2.ensures.1 (inl c.in_err-ended-2.ensures.causes)
