@@ -56,7 +56,7 @@ returns-in_err-report g c =
 pub returns-in_err-map_err : goal.returns-in_err-map_err
 returns-in_err-map_err g c =
     let run = c.convert.ensures in
-    let sync = c.sync.ensures in
+    let sync = c.sync.ensures.syncs in
     let ended = c.from_residual-in_err-map_err in
     let no : (Q : Type 0) → OnOk ended.result Q = λ Q. no_value ended.result Q ended.ensures.0 in
     record {
@@ -94,7 +94,7 @@ pub returns-in_err-print_report : goal.returns-in_err-print_report
 returns-in_err-print_report g c =
     let run = c.convert.ensures in
     let done = c.in_ok-report.ensures in
-    let sync = c.sync.ensures in
+    let sync = c.sync.ensures.syncs in
     let report = c.in_ok-report.report in
     let ok : IsOk c.sync.result = sym c.in_ok-map_err.ensures.variant in
     let ended = c.from_residual-in_err-print_report in
@@ -143,7 +143,7 @@ pub returns : goal.returns
 returns g c =
     let run = c.convert.ensures in
     let done = c.in_ok-report.ensures in
-    let sync = c.sync.ensures in
+    let sync = c.sync.ensures.syncs in
     let report = c.in_ok-report.report in
     let ok : IsOk c.sync.result = sym c.in_ok-map_err.ensures.variant in
     record {
@@ -154,7 +154,7 @@ returns g c =
           report = report;
           line = c.in_ok-print_report.ensures.printed;
           said = (
-            rw sync.calls done.calls,
+            rw c.sync.ensures.calls done.calls,
             λ h text is p sound.
                 reports_after_run text.bytes text.messages is.are is.small _ _ report (done.owes h text.bytes is.small p) sound,
           );
