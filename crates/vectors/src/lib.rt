@@ -14,6 +14,8 @@ mod any_texts;
 #[cfg(test)]
 mod bases;
 #[cfg(test)]
+mod commands;
+#[cfg(test)]
 mod converting;
 #[cfg(test)]
 mod cuts;
