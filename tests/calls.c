@@ -6,7 +6,7 @@
    milliseconds. OUTPUT is how many bytes standard output takes. Where SHORT is set, a read and a write move one byte at
    most and every other write is interrupted; where GONE is set, what is to be moved is removed before. PLANTED is put where
    a file is to be made, and REPLACED in place of what is opened to be written and is there: by the first letter a link or
-   a hard link to the path behind it, a pipe, a directory or a file. The time of modification is shown as the time of change,
+   a hard link to the path behind it, a pipe, a directory, a file, or one that others may read. The time of modification is shown as the time of change,
    which no test can set, and 1970 in its place. It needs no headers, so that any C compiler makes it. */
 typedef unsigned long size_t;
 typedef long ssize_t;
@@ -111,6 +111,9 @@ static void plant(const char *what, const char *path) {
         break;
     case 'f':
         REAL(close)(REAL(openat)(HERE, path, CREATE, 0600));
+        break;
+    case 'r':
+        REAL(close)(REAL(openat)(HERE, path, CREATE, 0644));
         break;
     }
 }
