@@ -2,8 +2,8 @@
 use crate::cuts::losing;
 use crate::planning::names;
 use crate::streams::{Cut, Narrow, Then};
-use maildir_commands::{Machine, MemMachine, NamedText, run};
-use maildir_disk::MemSystem;
+use maildir_commands::{Machine, run};
+use maildir_memory::{MemMachine, MemSystem, NamedText};
 use maildir_run::Sub;
 use std::io::BufWriter;
 use std::test::Fail;
