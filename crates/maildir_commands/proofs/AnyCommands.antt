@@ -18,16 +18,14 @@ use Rattle.maildir_disk.proofs.Left.SingleHomes.{single_home, single_sound}
 use Rattle.maildir_commands.specs.declared.ending.Ending.{Ending}
 use Rattle.maildir_commands.specs.declared.ending.Ending.TheVariants.{Done, Stopped, WrongWords}
 use Rattle.maildir_commands.specs.declared.fault.Fault.{Fault}
-use Rattle.maildir_commands.specs.declared.machine.Machine.{Ghosts}
-use Rattle.maildir_commands.specs.Commands.{AreNewTo, Turn, Command, Readers, Cut, IsToDeliver, Commanded, IsCutOff, Comes, Come}
+use Rattle.maildir_commands.specs.Commands.{AreNewTo, Commanded, Command, Cut, Event, Happens, IsHistory, IsToDeliver, LeftByPowerCut, Readers}
 use Rattle.maildir_commands.specs.Endings.{status_of}
 use Rattle.maildir_commands.specs.Machines.{AreAt, AreFit, AreAllSafe, GivesTexts, HeldMaildir, IsSafeIn, IsSoundFor, OthersStay, Rests}
 use Rattle.maildir_commands.specs.Program.{Delivers, Does, Ran}
-use Rattle.maildir_commands.specs.Seen.{Seen, seen_at}
+use Rattle.maildir_commands.specs.Seen.{Seen, SeenMachine, seen_at}
 use Rattle.maildir_commands.specs.Words.{Request}
 use Rattle.maildir_commands.specs.Words.Request.{ToRewrite, ToList, ToConvert}
 use Rattle.maildir_commands.proofs.Endings.{one_no_zero, two_no_zero}
-use Rattle.maildir_commands.proofs.Follows.{form_asks}
 use Rattle.maildir_commands.proofs.Known.{swept_rests}
 use Rattle.maildir_commands.proofs.Resting.{rest_same}
 use Rattle.maildir_commands.proofs.Several.{named_of, rest_all_safe, rest_sound, rest_stays, safe_stay}
@@ -89,7 +87,7 @@ module _ (texts : List Mailbox) (fit : AreFit texts) (old new : HeldMaildir) (so
       (all_among texts named among (λ other. AreAlike (get_or texts k d).messages other.messages) (fit.alike k d below))) found
 
   -- ---- a power cut
-  module _ (cut : IsCutOff old new) where
+  module _ (cut : LeftByPowerCut old new) where
     left_intact : (k : ℕ) (d : Mailbox) → k < length texts → All (IsIntact cut.left) (get_or texts k d).messages
     left_intact k d below j e inside = elim cut.may as (λ _. IsIntact cut.left (get_or (get_or texts k d).messages j e)) [
       | inl may ↦ sound.intact k d below cut.left may j e inside
@@ -132,11 +130,12 @@ module _ (texts : List Mailbox) (fit : AreFit texts) (old new : HeldMaildir) (so
     }
 
 -- ---- a command
-module _ {M A B C : Type 0} (f : Ghosts M A B C)
-    (alike : (machine : M) (word other : List ℕ) → f.same word other → AreAt (f.maildir_at machine word) (f.maildir_at machine other))
+module _ {M : Type 0} (seen : M → SeenMachine)
+    (alike : (machine : M) (word other : List ℕ) → (seen machine).same word other → AreAt ((seen machine).maildir_at word) ((seen machine).maildir_at other))
+    (still : (one next : M) (word other : List ℕ) → (seen one).same word other → (seen next).same word other)
     (maildir : List ℕ) (texts : List Mailbox) (fit : AreFit texts) where
   abbrev at : M → HeldMaildir
-  at m = f.maildir_at m maildir
+  at m = (seen m).maildir_at maildir
 
   -- a conversion into the Maildir of this word
   module _ (into : List ℕ) (files : List (List ℕ)) (named : List Mailbox) (among : All (Contains texts) named) (answer : Result Unit Fault) (old new : Seen)
@@ -149,39 +148,50 @@ module _ {M A B C : Type 0} (f : Ghosts M A B C)
     goes_into = goes_delivering texts fit (old.machine.maildir_at into) (new.machine.maildir_at into) sound named among delivers.stay delivers.found
 
   module _ (words : List (List ℕ)) (named : List Mailbox) (status : ℕ) (old new : M)
-      (ran : Commanded f maildir texts words named status old new) (sound : IsSoundFor texts (at old)) where
+      (ran : Commanded seen maildir texts words named status old new) (h : (seen old).honest) (sound : IsSoundFor texts (at old)) where
     abbrev was : Seen
-    was = seen_at f old ran.was
+    was = seen_at (seen old) ran.was
 
     abbrev is : Seen
-    is = seen_at f new ran.is
+    is = seen_at (seen new) ran.is
 
-    sound_into : (into : List ℕ) → f.same into maildir → IsSoundFor texts (f.maildir_at old into)
-    sound_into into same = rest_sound texts fit.are (at old) (f.maildir_at old into) (alike old into maildir same).1 sound
+    sound_into : (into : List ℕ) → (seen old).same into maildir → IsSoundFor texts ((seen old).maildir_at into)
+    sound_into into same = rest_sound texts fit.are (at old) ((seen old).maildir_at into) (alike old into maildir same).1 sound
 
     goes_doing : (request : Request) (answer : Result Unit Fault) → Does request answer was is
         → IsToDeliver maildir texts named was ran.is.input request → Goes texts (at old) (at new)
-    goes_doing (ToRewrite file) answer does none = goes_resting texts fit (at old) (at new) sound (does.works.rests ran.honest maildir)
-    goes_doing (ToList file) answer does none = goes_resting texts fit (at old) (at new) sound (does.works.rests ran.honest maildir)
+    goes_doing (ToRewrite file) answer does none = goes_resting texts fit (at old) (at new) sound (does.works.rests h maildir)
+    goes_doing (ToList file) answer does none = goes_resting texts fit (at old) (at new) sound (does.works.rests h maildir)
     goes_doing (ToConvert into files) answer does (inl (same, among, given)) =
-        let goes = goes_into into files named among answer was is ran.honest given does (sound_into into same) in
-        goes_then (goes_resting texts fit (at old) (f.maildir_at old into) sound (alike old into maildir same).1)
-        (goes_then goes (goes_resting texts fit (f.maildir_at new into) (at new) goes.sound (alike new into maildir same).0))
+        let goes = goes_into into files named among answer was is h given does (sound_into into same) in
+        goes_then (goes_resting texts fit (at old) ((seen old).maildir_at into) sound (alike old into maildir same).1)
+        (goes_then goes (goes_resting texts fit ((seen new).maildir_at into) (at new) goes.sound (alike new into maildir (still old new into maildir same)).0))
     goes_doing (ToConvert into files) answer does (inr (other, none)) =
-        goes_resting texts fit (at old) (at new) sound (does.works.elsewhere ran.honest maildir other)
+        goes_resting texts fit (at old) (at new) sound (does.works.elsewhere h maildir other)
 
     goes_ended : (ending : Ending) → status ≡ status_of ending → Ran words ending was is ran.was.errors ran.is.errors → Goes texts (at old) (at new)
     goes_ended Done ends (did, keeps) =
-        let asks = form_asks words did.form in
+        let asks = did.form in
         goes_doing asks.0 (Ok tt) (did.does asks.0 asks.1) (ran.delivers asks.0 asks.1)
-    goes_ended (Stopped fault told) ends did =
-        let asks = form_asks words did.form in
+    goes_ended (Stopped fault written) ends (did, line) =
+        let asks = did.form in
         goes_doing asks.0 (Err fault) (did.does asks.0 asks.1) (ran.delivers asks.0 asks.1)
-    goes_ended (WrongWords told) ends wrong =
+    goes_ended (WrongWords written) ends wrong =
         subst (λ m. Goes texts (at old) (at m)) (sym (ran.ran.untouched ends).0) (goes_resting texts fit (at old) (at old) sound rest_same)
 
     goes_command : Goes texts (at old) (at new)
     goes_command = goes_ended ran.ran.ending ran.ran.status_is ran.ran.ran
+
+    -- and the machine does as assumed behind it
+    still_honest : (ending : Ending) → status ≡ status_of ending → Ran words ending was is ran.was.errors ran.is.errors → (seen new).honest
+    still_honest Done ends (did, keeps) =
+        let asks = did.form in
+        (did.does asks.0 asks.1).honest h
+    still_honest (Stopped fault written) ends told = ran.again ends
+    still_honest (WrongWords written) ends wrong = subst (λ m. (seen m).honest) (sym (ran.ran.untouched ends).0) h
+
+    honest_command : (seen new).honest
+    honest_command = still_honest ran.ran.ending ran.ran.status_is ran.ran.ran
 
     -- with status 0
     no_text_safe : named ≡ [] → All (Contains texts) named × AreAllSafe named (at new)
@@ -193,68 +203,82 @@ module _ {M A B C : Type 0} (f : Ghosts M A B C)
     safe_doing (ToList file) does none = no_text_safe none
     safe_doing (ToConvert into files) does (inl (same, among, given)) = (
       among,
-      rest_all_safe named (all_among texts named among IsMailbox fit.are) (f.maildir_at new into) (at new) (alike new into maildir same).0
-          (delivers into files named among (Ok tt) was is ran.honest given does (sound_into into same)).safe,
+      rest_all_safe named (all_among texts named among IsMailbox fit.are) ((seen new).maildir_at into) (at new) (alike new into maildir (still old new into maildir same)).0
+          (delivers into files named among (Ok tt) was is h given does (sound_into into same)).safe,
     )
     safe_doing (ToConvert into files) does (inr (other, none)) = no_text_safe none
 
     safe_ended : (ending : Ending) → 0 ≡ status_of ending → Ran words ending was is ran.was.errors ran.is.errors → All (Contains texts) named × AreAllSafe named (at new)
     safe_ended Done ends (did, keeps) =
-        let asks = form_asks words did.form in
+        let asks = did.form in
         safe_doing asks.0 (did.does asks.0 asks.1) (ran.delivers asks.0 asks.1)
-    safe_ended (Stopped fault told) ends did = absurd (one_no_zero (sym ends))
-    safe_ended (WrongWords told) ends wrong = absurd (two_no_zero (sym ends))
+    safe_ended (Stopped fault written) ends ran = absurd (one_no_zero (sym ends))
+    safe_ended (WrongWords written) ends wrong = absurd (two_no_zero (sym ends))
 
     swept_doing : (request : Request) → Does request (Ok tt) was is
         → IsToDeliver maildir texts named was ran.is.input request → 0 < length named → IsSwept (at new).files
     swept_doing (ToRewrite file) does none some = absurd (none_named none some)
     swept_doing (ToList file) does none some = absurd (none_named none some)
     swept_doing (ToConvert into files) does (inl (same, among, given)) some =
-        swept_rests (f.maildir_at new into) (at new) (alike new into maildir same).0
-        ((delivers into files named among (Ok tt) was is ran.honest given does (sound_into into same)).swept some)
+        swept_rests ((seen new).maildir_at into) (at new) (alike new into maildir (still old new into maildir same)).0
+        (delivers into files named among (Ok tt) was is h given does (sound_into into same)).swept
     swept_doing (ToConvert into files) does (inr (other, none)) some = absurd (none_named none some)
 
     swept_ended : (ending : Ending) → 0 ≡ status_of ending → Ran words ending was is ran.was.errors ran.is.errors → 0 < length named → IsSwept (at new).files
     swept_ended Done ends (did, keeps) =
-        let asks = form_asks words did.form in
+        let asks = did.form in
         swept_doing asks.0 (did.does asks.0 asks.1) (ran.delivers asks.0 asks.1)
-    swept_ended (Stopped fault told) ends did = absurd (one_no_zero (sym ends))
-    swept_ended (WrongWords told) ends wrong = absurd (two_no_zero (sym ends))
+    swept_ended (Stopped fault written) ends ran = absurd (one_no_zero (sym ends))
+    swept_ended (WrongWords written) ends wrong = absurd (two_no_zero (sym ends))
 
-  -- ---- any turns
-  goes_turn : (turn : Turn) (old new : M) → IsSoundFor texts (at old) → Comes f maildir texts turn old new → Goes texts (at old) (at new)
-  goes_turn (Command words named status) old new sound ran = goes_command words named status old new ran sound
-  goes_turn Readers old new sound rests = goes_resting texts fit (at old) (at new) sound rests
-  goes_turn Cut old new sound cut = goes_cut texts fit (at old) (at new) sound cut
+  -- ---- any events
+  goes_event : (event : Event) (old new : M) → (seen old).honest → IsSoundFor texts (at old) → Happens seen maildir texts event old new
+      → Goes texts (at old) (at new) × (seen new).honest
+  goes_event (Command words named status) old new h sound ran =
+      (goes_command words named status old new ran h sound, honest_command words named status old new ran h sound)
+  goes_event Readers old new h sound (rests, honest) = (goes_resting texts fit (at old) (at new) sound rests, honest h)
+  goes_event Cut old new h sound (cut, honest) = (goes_cut texts fit (at old) (at new) sound cut, honest)
 
-  pub sound_through : (turns : List Turn) (old new : M) → IsSoundFor texts (at old) → Come f maildir texts turns old new → IsSoundFor texts (at new)
-  sound_through = chain_keeps (Comes f maildir texts) (λ m. IsSoundFor texts (at m)) (λ turn a b sound comes. (goes_turn turn a b sound comes).sound)
+  -- the machine does as assumed, and the Maildir is sound
+  abbrev IsWell : M → Type 0
+  IsWell m = (seen m).honest × IsSoundFor texts (at m)
 
-  safe_through : (named : List Mailbox) → All (Contains texts) named → (turns : List Turn) (old new : M) → IsSoundFor texts (at old)
-      → AreAllSafe named (at old) → Come f maildir texts turns old new → AreAllSafe named (at new)
-  safe_through named among turns old new sound safe come =
-      (chain_keeps (Comes f maildir texts) (λ m. IsSoundFor texts (at m) × AreAllSafe named (at m)) (λ turn a b is comes.
-      let goes = goes_turn turn a b is.0 comes in
-      (goes.sound, λ k d below. goes.safe (get_or named k d) (among k d below) (is.1 k d below))) turns old new (sound, safe) come).1
+  well_through : (events : List Event) (old new : M) → IsWell old → IsHistory seen maildir texts events old new → IsWell new
+  well_through = chain_keeps (Happens seen maildir texts) IsWell (λ event a b well happens.
+      let goes = goes_event event a b well.0 well.1 happens in
+      (goes.1, goes.0.sound))
 
-  pub safe_since : (named : List Mailbox) (words : List (List ℕ)) (before rest : List Turn) (old new : M) → IsSoundFor texts (at old)
-      → Come f maildir texts (before ++ (Command words named 0 ∷ rest)) old new → AreAllSafe named (at new)
-  safe_since named words before rest old new sound come =
-      let parts = chain_parts (Comes f maildir texts) before (Command words named 0 ∷ rest) old new come in
+  pub sound_through : (events : List Event) (old new : M) → (seen old).honest → IsSoundFor texts (at old)
+      → IsHistory seen maildir texts events old new → IsSoundFor texts (at new)
+  sound_through events old new h sound come = (well_through events old new (h, sound) come).1
+
+  safe_through : (named : List Mailbox) → All (Contains texts) named → (events : List Event) (old new : M) → IsWell old
+      → AreAllSafe named (at old) → IsHistory seen maildir texts events old new → AreAllSafe named (at new)
+  safe_through named among events old new well safe come =
+      (chain_keeps (Happens seen maildir texts) (λ m. IsWell m × AreAllSafe named (at m)) (λ event a b is happens.
+      let goes = goes_event event a b is.0.0 is.0.1 happens in
+      ((goes.1, goes.0.sound), λ k d below. goes.0.safe (get_or named k d) (among k d below) (is.1 k d below))) events old new (well, safe) come).1
+
+  pub safe_since : (named : List Mailbox) (words : List (List ℕ)) (before rest : List Event) (old new : M) → (seen old).honest → IsSoundFor texts (at old)
+      → IsHistory seen maildir texts (before ++ (Command words named 0 ∷ rest)) old new → AreAllSafe named (at new)
+  safe_since named words before rest old new h sound come =
+      let parts = chain_parts (Happens seen maildir texts) before (Command words named 0 ∷ rest) old new come in
       let mid = parts.0 in
-      let sound_mid = sound_through before old mid sound parts.1 in
+      let well = well_through before old mid (h, sound) parts.1 in
       let next = parts.2.0 in
       let ran = parts.2.1 in
-      let safe = safe_ended words named 0 mid next ran sound_mid ran.ran.ending ran.ran.status_is ran.ran.ran in
-      safe_through named safe.0 rest next new (goes_command words named 0 mid next ran sound_mid).sound safe.1 parts.2.2
+      let safe = safe_ended words named 0 mid next ran well.0 well.1 ran.ran.ending ran.ran.status_is ran.ran.ran in
+      let goes = goes_event (Command words named 0) mid next well.0 well.1 ran in
+      safe_through named safe.0 rest next new (goes.1, goes.0.sound) safe.1 parts.2.2
 
-  pub swept_at : (named : List Mailbox) (words : List (List ℕ)) (before : List Turn) (old new : M) → IsSoundFor texts (at old)
-      → Come f maildir texts (before ++ (Command words named 0 ∷ [])) old new → 0 < length named → IsSwept (at new).files
-  swept_at named words before old new sound come =
-      let parts = chain_parts (Comes f maildir texts) before (Command words named 0 ∷ []) old new come in
+  pub swept_at : (named : List Mailbox) (words : List (List ℕ)) (before : List Event) (old new : M) → (seen old).honest → IsSoundFor texts (at old)
+      → IsHistory seen maildir texts (before ++ (Command words named 0 ∷ [])) old new → 0 < length named → IsSwept (at new).files
+  swept_at named words before old new h sound come =
+      let parts = chain_parts (Happens seen maildir texts) before (Command words named 0 ∷ []) old new come in
       let ran = parts.2.1 in
+      let well = well_through before old parts.0 (h, sound) parts.1 in
       subst (λ m. 0 < length named → IsSwept (at m).files) (sym parts.2.2)
-      (swept_ended words named 0 parts.0 parts.2.0 ran (sound_through before old parts.0 sound parts.1) ran.ran.ending ran.ran.status_is ran.ran.ran)
+      (swept_ended words named 0 parts.0 parts.2.0 ran well.0 well.1 ran.ran.ending ran.ran.status_is ran.ran.ran)
 
 -- ---- a Maildir that has none of the messages
 pub sound_new : (texts : List Mailbox) (maildir : HeldMaildir) → AreNewTo maildir texts → IsSoundFor texts maildir

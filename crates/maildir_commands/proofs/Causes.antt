@@ -27,13 +27,6 @@ pub of_fault : {T E : Type 0} (answer : Result T E) {fault : E} (P : E → Type 
 of_fault (Ok x) P given is = tt
 of_fault (Err e) P given is = subst P (sym given) is
 
--- what is told where a Maildir was not opened
-pub opening_causes : (reason : OpenFault) {told : Fault} → told ≡ fault_of_opening reason → (told ≡ Folder) ⊎ (told ≡ Locked) ⊎ (told ≡ Run run.OutOfMemory)
-opening_causes opening.Locked e = inr (inl e)
-opening_causes (opening.Folder folder.OutOfMemory) e = inr (inr e)
-opening_causes (opening.Folder folder.Absent) e = inl e
-opening_causes (opening.Folder folder.Failed) e = inl e
-
 -- ---- a run
 pub of_run : (one : (List ℕ → Type 0) → Type 0) (fault : RunFault) → (fault ≡ run.NoFromLine → one IsNoMbox)
     → (fault ≡ run.TooManyReads → one IsTooLong) → IsOfRun one (Unit {0}) fault

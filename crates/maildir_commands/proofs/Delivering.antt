@@ -1,9 +1,11 @@
 -- What the delivery of one source owes, as the work goes on.
-use Rattle.std.proofs.Common.{◌≡◌, List, [], ◌∷◌, Option, Result, Ok, Err, IfErr, IsErrAnd, ℕ, sym, subst, inr}
-use Rattle.std.proofs.KnownBytes.{Appends-kept}
+use Rattle.std.proofs.Common.{◌≡◌, ◌⊎◌, List, [], ◌∷◌, Option, Result, Ok, Err, IfErr, IsErrAnd, OnErr, OnOk, ℕ, sym, subst, inl, inr}
+use Rattle.std.proofs.KnownBytes.{Appends-kept, Keeps-refl}
 use Rattle.std.proofs.lemmas.List.Elements.{All-head}
 use Rattle.std.specs.Io.KnownBytes.{Keeps}
+use Rattle.mbox_text.specs.Writing.{AppendsFront}
 use Rattle.maildir_run.specs.declared.fault.RunFault.TheVariants as run
+use Rattle.maildir_run.specs.declared.report.Report.{Report}
 use Rattle.maildir_run.specs.Runs.{Possible}
 use Rattle.maildir_run.specs.Several.{Mailbox, IsMailbox}
 use Rattle.maildir_disk.specs.PowerCuts.{AreAlike}
@@ -11,8 +13,8 @@ use Rattle.maildir_commands.specs.declared.fault.Fault.{Fault}
 use Rattle.maildir_commands.specs.declared.fault.Fault.TheVariants.{Run}
 use Rattle.maildir_commands.specs.Machines.{IsSoundFor}
 use Rattle.maildir_commands.specs.Private.Report.{DeliversOne}
-use Rattle.maildir_commands.specs.Report.{report_line}
-use Rattle.maildir_commands.specs.Sources.{DeliversSource, SeenMaildir}
+use Rattle.maildir_commands.specs.Report.{PrintsOne, PrintsReport, report_line}
+use Rattle.maildir_commands.specs.Sources.{DeliversSource, KeepsSource, SeenMaildir, StopsSource, StoresSource}
 use Rattle.maildir_commands.proofs.Causes.{of_output, output_no_call}
 use Rattle.maildir_commands.proofs.Known.{of_reports}
 use Rattle.maildir_commands.proofs.Several.{front_of_all, intact_of_one, on_ok_then, sound_of_one}
@@ -24,83 +26,69 @@ source_ended (Ok x) given did = absurd given
 source_ended (Err e) {before = before} {after} {was} {is} {old} {new} given did =
     subst (λ fault. DeliversSource (Err fault) before after was is old new) (sym given) did
 
--- a text that the source may have had, and for which the Maildir is sound
-pub one_of : {answer : Result Unit Fault} {before after was is : Option (List ℕ)} {old new : SeenMaildir}
-    → DeliversSource answer before after was is old new → old.honest → (text : Mailbox) → IsMailbox text → Possible before after text.bytes
-    → IsSoundFor (text ∷ []) old.held → DeliversOne answer text old.held new.held was is
-one_of {answer} source h text are possible is_sound =
-    let did = source.delivers h text are possible in
-    let sound = sound_of_one is_sound in
-    let intact = intact_of_one is_sound in
-    record {
-      safe = did.safe sound intact;
-      line = on_ok_then answer (λ printed. record {
-        report = printed.report;
-        line = printed.line;
-        said = of_reports (printed.said.1 h text are possible sound);
-      }) source.printed;
-      known = did.known sound;
-      swept = did.swept sound;
-      stopped = did.stopped sound intact;
-      stays = λ others named alike. did.stays sound others named (All-head (λ (t : Mailbox). AreAlike others t.messages) text [] alike);
-      still_rooted = source.still_rooted h;
-    }
+-- a writer that failed is no call that failed
+pub stops_output : {fault : Fault} {before after : Option (List ℕ)} {old new : SeenMaildir} → fault ≡ Run run.OutputFault
+    → StopsSource fault before after old new
+stops_output {before = before} {after} is =
+    record { cause = of_output before after is; failed_call = λ number is_call. output_no_call is is_call }
 
--- ---- its line is handed on, or is not
-module _ (before after was given kept : Option (List ℕ)) (old new : SeenMaildir) (keeps : Keeps given kept)
-    (did : DeliversSource (Ok tt) before after was given old new) where
-  source_kept : DeliversSource (Ok tt) before after was kept old new
-  source_kept = record {
-    budget = did.budget;
-    end = did.end;
-    printed = record {
-      report = did.printed.report;
-      line = Appends-kept was given kept (report_line did.printed.report) did.printed.line keeps;
-      said = did.printed.said;
-    };
-    cause = tt;
-    failed_call = tt;
-    honest = did.honest;
-    still_rooted = did.still_rooted;
-    delivers = λ h text is p.
-        let one = did.delivers h text is p in
-        record { intact = one.intact; still = one.still; stays = one.stays; known = one.known; swept = one.swept; safe = one.safe; stopped = λ sound intact. tt };
-    quiet = did.quiet;
-    alone = did.alone;
-    foreign = did.foreign;
-  }
+module _ {before after : Option (List ℕ)} {old new : SeenMaildir} (keeps : KeepsSource before after old new) where
+  -- nothing was written
+  pub not_stored : {fault : Fault} {was : Option (List ℕ)} → StopsSource fault before after old new → DeliversSource (Err fault) before after was was old new
+  not_stored {was = was} stopped = record { keeps = keeps; printed = tt; stopped = stopped; front = inl (Keeps-refl was) }
 
-  source_stopped : (fault : Fault) → fault ≡ Run run.OutputFault → DeliversSource (Err fault) before after was kept old new
-  source_stopped fault is_output = record {
-    budget = did.budget;
-    end = tt;
-    printed = tt;
-    cause = of_output before after is_output;
-    failed_call = λ number is_call. output_no_call is_output is_call;
-    honest = λ h. tt;
-    still_rooted = did.still_rooted;
-    delivers = λ h text is p.
-        let one = did.delivers h text is p in
-        record {
-          intact = one.intact;
-          still = one.still;
-          stays = one.stays;
-          known = λ sound. tt;
-          swept = λ sound. tt;
-          safe = λ sound intact. tt;
-          stopped = λ sound intact. inr (record {
-            report = did.printed.report;
-            true_of = of_reports (did.printed.said.1 h text is p sound);
-            safe = one.safe sound intact;
-            line = front_of_all was kept (Appends-kept was given kept (report_line did.printed.report) did.printed.line keeps);
-          });
-        };
-    quiet = λ q. tt;
-    alone = λ q t ms p are. tt;
-    foreign = did.foreign;
-  }
+  -- it was delivered, and its line was written, or was not
+  pub not_printed : {fault : Fault} {was is : Option (List ℕ)} (report : Report) → StoresSource report before after old new
+      → fault ≡ Run run.OutputFault → AppendsFront was is (report_line report) → DeliversSource (Err fault) before after was is old new
+  not_printed report stored is_output front =
+      record { keeps = keeps; printed = tt; stopped = stops_output is_output; front = inr (report, stored, front) }
 
-  pub source_handed : (handed : Result Unit Fault) → IfErr handed (λ fault. fault ≡ Run run.OutputFault)
-      → DeliversSource handed before after was kept old new
-  source_handed (Ok tt) causes = source_kept
-  source_handed (Err fault) causes = source_stopped fault causes
+-- and where its line is handed on, or is not
+pub source_handed : {before after was given kept : Option (List ℕ)} {old new : SeenMaildir} → Keeps given kept
+    → DeliversSource (Ok tt) before after was given old new → (handed : Result Unit Fault) → IfErr handed (λ fault. fault ≡ Run run.OutputFault)
+    → DeliversSource handed before after was kept old new
+source_handed {was = was} {given} {kept} keeps did (Ok tt) causes = record {
+  keeps = did.keeps;
+  printed = record {
+    report = did.printed.report;
+    line = Appends-kept was given kept (report_line did.printed.report) did.printed.line keeps;
+    said = did.printed.said;
+  };
+  stopped = tt;
+  front = tt;
+}
+source_handed {was = was} {given} {kept} keeps did (Err fault) is_output =
+    let line = Appends-kept was given kept (report_line did.printed.report) did.printed.line keeps in
+    not_printed did.keeps did.printed.report did.printed.said is_output (front_of_all was kept line)
+
+-- ---- a text that the source may have had, and for which the Maildir is sound
+one_stopped : (before after was is : Option (List ℕ)) (old new : SeenMaildir) → old.honest → (text : Mailbox) → IsMailbox text
+    → Possible before after text.bytes → IsSoundFor (text ∷ []) old.held → (answer : Result Unit Fault)
+    → IfErr answer (λ fault. Keeps was is ⊎ ((report : Report) × StoresSource report before after old new × AppendsFront was is (report_line report)))
+    → OnErr answer (Keeps was is ⊎ PrintsOne old.held new.held text was is)
+one_stopped before after was is old new h text are possible is_sound (Ok _) front = tt
+one_stopped before after was is old new h text are possible is_sound (Err _) (inl keeps) = inl keeps
+one_stopped before after was is old new h text are possible is_sound (Err _) (inr (report, stored, front)) =
+    let stores = stored.texts h text are possible (sound_of_one is_sound) in
+    inr (record { report = report; true_of = of_reports stores.reports; safe = stores.safe (intact_of_one is_sound); line = front })
+
+module _ {before after was is : Option (List ℕ)} {old new : SeenMaildir} (h : old.honest) (text : Mailbox) (are : IsMailbox text)
+    (possible : Possible before after text.bytes) (is_sound : IsSoundFor (text ∷ []) old.held) where
+  pub one_of : {answer : Result Unit Fault} → DeliversSource answer before after was is old new → DeliversOne answer text old.held new.held was is
+  one_of {answer} did =
+      let sound = sound_of_one is_sound in
+      let kept = did.keeps.texts h text are possible in
+      let stores = λ (printed : PrintsReport was is (λ report. StoresSource report before after old new)). printed.said.texts h text are possible sound in
+      record {
+        safe = on_ok_then answer (λ printed. (stores printed).safe (intact_of_one is_sound)) did.printed;
+        line = on_ok_then answer (λ printed. record {
+          report = printed.report;
+          line = printed.line;
+          said = of_reports (stores printed).reports;
+        }) did.printed;
+        known = on_ok_then answer (λ printed. (stores printed).known) did.printed;
+        swept = on_ok_then answer (λ printed. (stores printed).swept) did.printed;
+        stopped = one_stopped before after was is old new h text are possible is_sound answer did.front;
+        stays = λ others named alike. kept.stays sound others named (All-head (λ (t : Mailbox). AreAlike others t.messages) text [] alike);
+        still_rooted = did.keeps.still_rooted h;
+      }

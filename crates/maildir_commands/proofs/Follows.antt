@@ -1,5 +1,5 @@
 -- What follows from the contracts of `run` and `deliver`.
-use Rattle.std.proofs.Common.{◌≡◌, ◌≤◌, ◌↔◌, ◌⊎◌, ℕ, List, [], ◌∷◌, length, max, All, codes, Option, Some, None, Result, Ok, Err, refl, sym, subst, inl, inr, arith}
+use Rattle.std.proofs.Common.{◌≡◌, ◌≤◌, ◌↔◌, ◌⊎◌, ℕ, List, [], ◌∷◌, length, max, All, codes, Option, Some, None, Result, Ok, Err, refl, inl, inr, arith}
 use Rattle.std.specs.Io.KnownBytes.{Keeps}
 use Rattle.std.specs.List.{flat_map}
 use Rattle.mbox_text.specs.Spelling.{spelling}
@@ -29,29 +29,6 @@ use Rattle.maildir_commands.proofs.Endings.{one_no_two, one_no_zero, two_no_one,
 use Rattle.maildir_commands.proofs.Output.{handed_all, handed_each, handed_reports}
 use Rattle.maildir_commands.proofs.Several.{front_of_all}
 
--- where the words are of no form, they are no conversion
-pub convert_form : {words : List (List ℕ)} {maildir : List ℕ} {files : List (List ℕ)} → words ≡ convert_words maildir files → AreOfAForm words
-convert_form is = subst AreOfAForm (sym is) (inr (inr (refl, omega arith)))
-
-one_named : (rest : List (List ℕ)) → length rest ≤ 1 → (rest ≡ []) ⊎ ((file : List ℕ) × (rest ≡ file ∷ []))
-one_named [] few = inl refl
-one_named (file ∷ []) few = inr (file, refl)
-one_named (file ∷ (other ∷ rest)) few = absurd (omega (arith, few))
-
--- words of a form ask for something
-pub form_asks : (words : List (List ℕ)) → AreOfAForm words → (request : Request) × AskFor words request
-form_asks [] form = (ToRewrite None, inl refl)
-form_asks (word ∷ rest) (inl (is, few)) = elim (one_named rest few) as (λ _. (request : Request) × AskFor (word ∷ rest) request) [
-  | inl none ↦ (ToRewrite None, inr (cc))
-  | inr named ↦ (ToRewrite (Some named.0), let same = named.1 in cc)
-]
-form_asks (word ∷ rest) (inr (inl (is, few))) = elim (one_named rest few) as (λ _. (request : Request) × AskFor (word ∷ rest) request) [
-  | inl none ↦ (ToList None, cc)
-  | inr named ↦ (ToList (Some named.0), let same = named.1 in cc)
-]
-form_asks (word ∷ []) (inr (inr (is, many))) = absurd (omega (arith, many))
-form_asks (word ∷ (maildir ∷ files)) (inr (inr (is, many))) = (ToConvert maildir files, cc)
-
 module _ (words : List (List ℕ)) (old new : Seen) (was is inner : Option (List ℕ)) where
   pub few : (ending : Ending) → status_of ending ≤ 2
   few Done = omega arith
@@ -70,12 +47,12 @@ module _ (words : List (List ℕ)) (old new : Seen) (was is inner : Option (List
 
   pub stopped : (ending : Ending) → Ran words ending old new was is → status_of ending ≡ 1 → (fault : Fault) × Did words (Err fault) old new
   stopped Done ran status = absurd (zero_no_one status)
-  stopped (Stopped fault _) ran status = (fault, ran)
+  stopped (Stopped fault _) ran status = (fault, ran.0)
   stopped (WrongWords _) ran status = absurd (two_no_one status)
 
   pub wrong : (ending : Ending) → Ran words ending old new was is → (status_of ending ≡ 2) ↔ ¬ AreOfAForm words
   wrong Done ran = (λ status. absurd (zero_no_two status), λ no. absurd (no ran.0.form))
-  wrong (Stopped _ _) ran = (λ status. absurd (one_no_two status), λ no. absurd (no ran.form))
+  wrong (Stopped _ _) ran = (λ status. absurd (one_no_two status), λ no. absurd (no ran.0.form))
   wrong (WrongWords _) ran = (λ status. ran.0, λ no. refl)
 
   pub told_front : (ending : Ending) → Ran words ending old new was is → status_of ending ≡ 2 → AppendsFront was is (told (codes "wrong words"))
@@ -117,7 +94,7 @@ module _ (words : List (List ℕ)) (old new : Seen) (was is inner : Option (List
   module _ (fault : Fault) (did : Did words (Err fault) old new) where
     pub cause : old.machine.honest → (request : Request) × AskFor words request × IsCauseOf request old new.input fault
     cause h =
-        let asks = form_asks words did.form in
+        let asks = did.form in
         (asks.0, asks.1, (did.does asks.0 asks.1).cause h)
 
     pub rewritten_input_front : AreRewrite words → GivesFront (flat_map spelling) old.input new.input old.output new.output
@@ -144,7 +121,7 @@ module _ (words : List (List ℕ)) (old new : Seen) (was is inner : Option (List
   module _ (answer : Result Unit Fault) (did : Did words answer old new) where
     pub texts_stay : old.machine.honest → new.machine.text_of ≡ old.machine.text_of
     texts_stay h =
-        let asks = form_asks words did.form in
+        let asks = did.form in
         (did.does asks.0 asks.1).texts h
 
     pub stay : old.machine.honest → (maildir : List ℕ) (files : List (List ℕ)) → words ≡ convert_words maildir files
@@ -170,16 +147,16 @@ module _ (words : List (List ℕ)) (old new : Seen) (was is inner : Option (List
     pub nowhere : old.machine.honest → ((maildir : List ℕ) (files : List (List ℕ)) → ¬ (words ≡ convert_words maildir files)) → (word : List ℕ)
         → Rests (old.machine.maildir_at word) (new.machine.maildir_at word)
     nowhere h none =
-        let asks = form_asks words did.form in
+        let asks = did.form in
         rests_for asks.0 asks.1 none h
 
 -- ---- from the contract of `deliver`: what was written stands for a text that is safe
 pub line : (answer : Result Unit Fault) {before after was is : Option (List ℕ)} {old new : SeenMaildir} → DeliversSource answer before after was is old new
     → old.honest → (text : Mailbox) → IsMailbox text → Possible before after text.bytes → All (IsSoundAt old.held.files) text.messages
     → AreIntact text.messages old.held.may_leave → Keeps was is ⊎ IsSafeIn new.held text
-line (Ok _) did h text are possible sound intact = inr ((did.delivers h text are possible).safe sound intact)
+line (Ok _) did h text are possible sound intact = inr ((did.printed.said.texts h text are possible sound).safe intact)
 line (Err _) {was = was} {is} {new = new} did h text are possible sound intact =
-    elim ((did.delivers h text are possible).stopped sound intact) as (λ _. Keeps was is ⊎ IsSafeIn new.held text) [
+    elim did.front as (λ _. Keeps was is ⊎ IsSafeIn new.held text) [
       | inl keeps ↦ inl keeps
-      | inr one ↦ inr one.safe
+      | inr one ↦ inr ((one.1.texts h text are possible sound).safe intact)
     ]

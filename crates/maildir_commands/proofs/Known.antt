@@ -1,18 +1,20 @@
 -- Which bases have a home, from one moment to another.
-use Rattle.std.proofs.Common.{◌≡◌, ℕ, ◌+◌, ◌-◌, ◌||◌, Bool, cond, List, [], ◌∷◌, ◌++◌, length, All, IsTrue, None, Ok, count_by, refl, sym, ap, subst, ◌∙◌, inl, inr}
+use Rattle.std.proofs.Common.{◌≡◌, ℕ, ◌+◌, ◌-◌, ◌≤◌, ◌||◌, Bool, cond, List, [], ◌∷◌, ◌++◌, length, All, IsTrue, None, Ok, count_by, refl, sym, ap, subst, ◌∙◌, inl, inr, arith}
 use Rattle.std.proofs.lemmas.Bool.{cases_Bool}
 use Rattle.std.proofs.lemmas.List.Elements.{All-head, All-tail}
 use Rattle.std.proofs.lemmas.List.Folds.{Any-from_list_any}
 use Rattle.std.specs.FinMap.{get}
-use Rattle.maildir_name.specs.Names.{is_converter_base}
+use Rattle.maildir_name.specs.Names.{is_converter_base, is_converter_name}
 use Rattle.maildir_run.specs.declared.report.Report.{Report}
-use Rattle.maildir_run.specs.Delivery.{Message, AreNamed, IsHome, IsSwept, has_home, is_any, is_base_of}
+use Rattle.maildir_run.specs.Delivery.{Message, AreNamed, IsHome, IsSwept, has_home, is_any, is_base_of, leftover_count}
 use Rattle.maildir_run.specs.Files.{Files, Action, acted, all_acted, is_name}
 use Rattle.maildir_run.specs.Runs.{Keeps, ReportsMessages}
 use Rattle.maildir_run.specs.Several.{Mailbox}
 use Rattle.maildir_run.proofs.Call.Homes.{acted_kept}
+use Rattle.maildir_run.proofs.Call.Leftovers.{leftovers, leftovers_are}
 use Rattle.maildir_run.proofs.Call.Moves.{acted_tmp}
-use Rattle.maildir_run.proofs.Names.Maps.{is_name-true}
+use Rattle.maildir_run.proofs.Common.{empty, get-empty, len, len-empty, name_cmp, retain_keys, same_map}
+use Rattle.maildir_run.proofs.Names.Maps.{get_under, is_name-true, same, total}
 use Rattle.maildir_run.proofs.Chains.BaseNumbers.{count-cons}
 use Rattle.maildir_run.proofs.Tasks.Progress.{any_kept}
 use Rattle.maildir_disk.specs.World.{World, Acts}
@@ -48,8 +50,9 @@ both_have {ms} {old} {mid} {report} keeps acts b named =
     (ap (λ s. has_home s b) acts.files_are ∙ acted_has b named acts.actions mid.files) ∙ run_has keeps b named
 
 -- ---- reports
-pub of_reports : {text : Mailbox} {old : Files} {report : Report} → ReportsMessages text.messages old report → IsReportOf (has_home old) text report
-of_reports true_of = record { messages = true_of.messages; there = true_of.there; placed = true_of.placed }
+pub of_reports : {text : Mailbox} {old : Files} {report : Report}
+    → ReportsMessages text.messages old report → IsReportOf (has_home old) (leftover_count old) text report
+of_reports true_of = record { messages = true_of.messages; there = true_of.there; placed = true_of.placed; swept = true_of.swept }
 
 count_agree : {has had : List ℕ → Bool} → Agree has had → (ms : List Message) → AreNamed ms
     → count_by (λ (m : Message). has m.target.base) ms ≡ count_by (λ (m : Message). had m.target.base) ms
@@ -61,27 +64,30 @@ count_agree {has} {had} agree (m ∷ ms) named =
     ∙ (ap (λ k. cond (had m.target.base) 1 0 + k) (count_agree agree ms rest)
     ∙ sym (count-cons (λ (n : Message). had n.target.base) m ms (had m.target.base) refl))
 
-pub report_agree : {has had : List ℕ → Bool} → Agree has had → {text : Mailbox} → AreNamed text.messages
-    → {report : Report} → IsReportOf had text report → IsReportOf has text report
-report_agree {has} {had} agree {text} named {report} is =
+pub report_agree : {has had : List ℕ → Bool} → Agree has had → {left most : ℕ} → left ≤ most → {text : Mailbox} → AreNamed text.messages
+    → {report : Report} → IsReportOf had left text report → IsReportOf has most text report
+report_agree {has} {had} agree {left} {most} few {text} named {report} is =
     let same = count_agree agree _ named in
+    let swept = is.swept in
     record {
       messages = is.messages;
       there = subst (λ k. report.there ≡ k) (sym same) is.there;
       placed = subst (λ k. report.placed ≡ length text.messages - k) (sym same) is.placed;
+      swept = omega (arith, swept, few);
     }
 
 pub also_agree : (has had : List ℕ → Bool) → Agree has had → (text : Mailbox) → Agree (also has text) (also had text)
 also_agree has had agree text b named = ap (λ x. is_base_of text.messages b || x) (agree b named)
 
-pub reports_agree : (has had : List ℕ → Bool) → Agree has had → (texts : List Mailbox) → All (λ text. AreNamed text.messages) texts
-    → (reports : List Report) → AreReportsOf had texts reports → AreReportsOf has texts reports
-reports_agree has had agree [] named [] is = tt
-reports_agree has had agree [] named (report ∷ reports) is = absurd is
-reports_agree has had agree (text ∷ texts) named [] is = absurd is
-reports_agree has had agree (text ∷ texts) named (report ∷ reports) (first, rest) = (
-  report_agree agree (All-head (λ (t : Mailbox). AreNamed t.messages) text texts named) first,
-  reports_agree (also has text) (also had text) (also_agree has had agree text) texts
+pub reports_agree : (has had : List ℕ → Bool) → Agree has had → (left most : ℕ) → left ≤ most
+    → (texts : List Mailbox) → All (λ text. AreNamed text.messages) texts
+    → (reports : List Report) → AreReportsOf had left texts reports → AreReportsOf has most texts reports
+reports_agree has had agree left most few [] named [] is = tt
+reports_agree has had agree left most few [] named (report ∷ reports) is = absurd is
+reports_agree has had agree left most few (text ∷ texts) named [] is = absurd is
+reports_agree has had agree left most few (text ∷ texts) named (report ∷ reports) (first, rest) = (
+  report_agree agree few (All-head (λ (t : Mailbox). AreNamed t.messages) text texts named) first,
+  reports_agree (also has text) (also had text) (also_agree has had agree text) 0 0 (omega arith) texts
       (All-tail (λ (t : Mailbox). AreNamed t.messages) text texts named) reports rest,
 )
 
@@ -94,14 +100,43 @@ pub also_all-last : (has : List ℕ → Bool) (texts : List Mailbox) (text : Mai
 also_all-last has [] text = refl
 also_all-last has (first ∷ texts) text = also_all-last (also has first) texts text
 
-pub reports_more : (has : List ℕ → Bool) (texts : List Mailbox) (reports : List Report) {text : Mailbox} {report : Report}
-    → AreReportsOf has texts reports → IsReportOf (also_all has texts) text report → AreReportsOf has (texts ++ text ∷ []) (reports ++ report ∷ [])
-reports_more has [] [] before is = (is, tt)
-reports_more has [] (other ∷ reports) before is = absurd before
-reports_more has (first ∷ texts) [] before is = absurd before
-reports_more has (first ∷ texts) (other ∷ reports) {text} {report} (one, rest) is = (one, reports_more (also has first) texts reports rest is)
+-- how many leftovers there may be once texts were delivered
+abbrev pub left_after : ℕ → List Mailbox → ℕ
+left_after left [] = left
+left_after left (text ∷ texts) = 0
+
+none_after : (texts : List Mailbox) → left_after 0 texts ≡ 0
+none_after [] = refl
+none_after (text ∷ texts) = refl
+
+pub reports_more : (has : List ℕ → Bool) (left : ℕ) (texts : List Mailbox) (reports : List Report) {text : Mailbox} {report : Report}
+    → AreReportsOf has left texts reports → IsReportOf (also_all has texts) (left_after left texts) text report
+    → AreReportsOf has left (texts ++ text ∷ []) (reports ++ report ∷ [])
+reports_more has left [] [] before is = (is, tt)
+reports_more has left [] (other ∷ reports) before is = absurd before
+reports_more has left (first ∷ texts) [] before is = absurd before
+reports_more has left (first ∷ texts) (other ∷ reports) {text} {report} (one, rest) is = (
+  one,
+  reports_more (also has first) 0 texts reports rest
+      (subst (λ n. IsReportOf (also_all (also has first) texts) n text report) (sym (none_after texts)) is),
+)
 
 -- ---- leftovers: other programs bring none
+pub swept_none : (s : Files) → IsSwept s → leftover_count s ≡ 0
+swept_none s gone =
+    let none : retain_keys s.tmp is_converter_name ≡ empty = same_map total same _ _ (λ q. grind (arith, get_under, gone q, get-empty {X = List ℕ} name_cmp q)) in
+    leftovers_are s.tmp ∙ ap len none ∙ len-empty name_cmp (List ℕ)
+
+few_left : (actions : List Action) (s : Files) → leftover_count (all_acted actions s) ≤ leftover_count s
+few_left [] s = omega arith
+few_left (action ∷ actions) s =
+    let first = leftovers action s in
+    let rest = few_left actions (acted action s) in
+    omega (arith, first, rest)
+
+pub rests_left : {old new : HeldMaildir} → Rests old new → leftover_count new.files ≤ leftover_count old.files
+rests_left {old} rests = subst (λ s. leftover_count s ≤ leftover_count old.files) (sym rests.files_are) (few_left rests.actions old.files)
+
 swept_acted : (actions : List Action) (s : Files) → IsSwept s → IsSwept (all_acted actions s)
 swept_acted [] s is = is
 swept_acted (action ∷ actions) s is =

@@ -8,9 +8,8 @@ use Rattle.std.specs.List.{flat_map}
 use Rattle.mbox_text.specs.Writing.{AppendsFront}
 use Rattle.mbox_text.specs.declared.entry.Entry.{Entry}
 use Rattle.mbox_text.proofs.Reading.OneReading.{mbox-one}
-use Rattle.maildir_run.specs.Delivery.{has_home}
 use Rattle.maildir_run.specs.Output.{GivesFront}
-use Rattle.maildir_commands.specs.Report.{AreReportsOf, PrintsEach, PrintsReports, PrintsSome, report_line}
+use Rattle.maildir_commands.specs.Report.{AreTrueOf, PrintsEach, PrintsReports, PrintsSome, report_line}
 use Rattle.maildir_commands.specs.Output.{WritesAll, WritesFront}
 use Rattle.maildir_commands.specs.Machines.{AreAllSafe, HeldMaildir}
 use Rattle.maildir_run.specs.Several.{Mailbox}
@@ -63,7 +62,7 @@ each_some {old} {new} {texts} {was} {given} {kept} keeps each safe =
     record {
       n = length texts;
       reports = each.reports;
-      true_of = subst (λ ts. AreReportsOf (has_home old.files) ts each.reports) (sym whole) each.true_of;
+      true_of = subst (λ ts. AreTrueOf old.files ts each.reports) (sym whole) each.true_of;
       safe = subst (λ ts. AreAllSafe ts new) (sym whole) safe;
       lines = front_of_all was kept (Appends-kept was given kept (flat_map report_line each.reports) each.lines keeps);
     }

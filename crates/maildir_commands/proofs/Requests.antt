@@ -9,7 +9,6 @@ use Rattle.mbox_text.specs.declared.entry.Entry.{Entry}
 use Rattle.mbox_text.specs.Spelling.{spelling}
 use Rattle.maildir_run.specs.declared.fault.RunFault.{RunFault}
 use Rattle.maildir_run.specs.declared.fault.RunFault.TheVariants as run
-use Rattle.maildir_run.specs.Foreign.{KeepsForeign}
 use Rattle.maildir_run.specs.Output.{GivesAll, GivesFront, GivesNothing}
 use Rattle.maildir_run.specs.Reading.{IsReading, ReadsAtLeast, ReadsAtMost}
 use Rattle.maildir_run.specs.Several.{Mailbox}
@@ -20,17 +19,17 @@ use Rattle.maildir_commands.specs.declared.fault.Fault.TheVariants.{Source, Run}
 use Rattle.maildir_commands.specs.Causes.{IsCauseOf}
 use Rattle.maildir_commands.specs.Machines.{HeldMaildir, Rests}
 use Rattle.maildir_commands.specs.Output.{WritesAll, WritesFront}
-use Rattle.maildir_commands.specs.Private.Machines.{OpensSources}
+use Rattle.maildir_commands.specs.Opening.{OpensSources}
 use Rattle.maildir_commands.specs.Private.Words.{name_of, request}
 use Rattle.maildir_commands.specs.Program.{Delivers, Did, Does, Works, WritesOut, source_of}
 use Rattle.maildir_commands.specs.Seen.{Seen, SeenMachine, seen_with}
-use Rattle.maildir_commands.specs.Words.{AreOfAForm, AskFor, Request, files_of}
+use Rattle.maildir_commands.specs.Words.{AskFor, Request, files_of}
 use Rattle.maildir_commands.specs.Words.Request.{ToRewrite, ToList, ToConvert}
 use Rattle.maildir_commands.proofs.Causes.{of_opening, of_read_file, of_read_input, of_reads}
 use Rattle.maildir_commands.proofs.Delivered.{none_delivered}
 use Rattle.maildir_commands.proofs.Forms.{one_request}
 use Rattle.maildir_commands.proofs.Output.{all_front, all_given, each_some, front_kept, handed_all, handed_each, handed_reports, nothing_front, some_kept}
-use Rattle.maildir_commands.proofs.Resting.{rest_same}
+use Rattle.maildir_commands.proofs.Resting.{foreign_same, rest_same}
 use Rattle.maildir_commands.proofs.Several.{on_ok_then, possible_whole}
 
 -- where `?` answered this fault
@@ -53,10 +52,10 @@ pub of_command : {command this : Command} {answer : Result Unit Fault} {old new 
 of_command {answer} {old} {new} is = subst (λ command. Does (request command) answer old new) (sym is)
 
 -- the words ask for nothing else
-pub did_all : {words : List (List ℕ)} {request : Request} {answer : Result Unit Fault} {old new : Seen} → AreOfAForm words → AskFor words request
+pub did_all : {words : List (List ℕ)} {request : Request} {answer : Result Unit Fault} {old new : Seen} → AskFor words request
     → Does request answer old new → Did words answer old new
-did_all {words} {request} {answer} {old} {new} form asks does = record {
-  form = form;
+did_all {words} {request} {answer} {old} {new} asks does = record {
+  form = (request, asks);
   does = λ other also. subst (λ these. Does these answer old new) (one_request words request other asks also) does;
 }
 
@@ -69,10 +68,11 @@ module _ (request : Request) (output : List Entry → List ℕ) (none : files_of
       → (fault ≡ run.NoFromLine → GivesNothing before after was is) → (fault ≡ run.TooManyReads → ReadsAtLeast before after (2 ^ 40))
       → GivesFront output before after was is → Does request (Err (Run fault)) (seen_with machine before was) (seen_with machine after is)
   input_stopped fault causes nothing spent front = record {
-    works = works _ _ _ (record { all = λ h. tt; front = λ h t possible entries mbox. front t entries possible mbox; rests = λ h word. rest_same });
+    works = works _ _ _ (record { all = λ h. tt; front = λ h t possible entries mbox. front t entries possible mbox; rests = λ h word. rest_same; quietly = λ q word. refl });
     cause = λ h. of_read_input request (seen_with machine before was) after none fault (of_reads was is causes nothing spent);
     unread = λ named. absurd (named none);
     texts = λ h. refl;
+    honest = λ h. tt;
   }
 
   pub input_done : (count : ℕ) → GivesAll output before was is count → IsAtEnd after
@@ -82,10 +82,12 @@ module _ (request : Request) (output : List Entry → List ℕ) (none : files_of
       all = λ h. (count, all);
       front = λ h t possible entries mbox. all_given output before after was is is (Keeps-refl is) end (count, all) t entries possible mbox;
       rests = λ h word. rest_same;
+      quietly = λ q word. refl;
     });
     cause = λ h. tt;
     unread = λ named. absurd (named none);
     texts = λ h. refl;
+    honest = λ h. h;
   }
 
 -- and from a file
@@ -99,10 +101,12 @@ module _ (request : Request) (output : List Entry → List ℕ) (file : List ℕ
       all = λ h. tt;
       front = λ h t is. nothing_front output t was;
       rests = opens.rests;
+      quietly = opens.quietly;
     });
     cause = λ h. of_opening request (seen_with old input was) input file named causes (refused h);
     unread = λ named. refl;
     texts = opens.texts;
+    honest = λ h. tt;
   }
 
   module _ (before after was is : Option (List ℕ)) (text : old.honest → before ≡ Some (old.text_of file)) (most : ℕ) (budget : ReadsAtMost before after most) where
@@ -115,12 +119,14 @@ module _ (request : Request) (output : List Entry → List ℕ) (file : List ℕ
         front = λ h t same entries mbox.
             front t entries (possible_whole before after (subst (λ t. before ≡ Some t) (sym same) (text h)) budget) mbox;
         rests = opens.rests;
+        quietly = opens.quietly;
       });
       cause = λ h.
           of_read_file request (seen_with old input was) input file named before after most (text h) budget fault
           (of_reads was is causes nothing spent);
       unread = λ named. refl;
       texts = opens.texts;
+      honest = λ h. tt;
     }
 
     pub file_done : (count : ℕ) → GivesAll output before was is count → Does request (Ok tt) (seen_with old input was) (seen_with new input is)
@@ -133,24 +139,34 @@ module _ (request : Request) (output : List Entry → List ℕ) (file : List ℕ
             front = λ h t same. subst (λ t. WritesFront output t was is) (sym same)
                 (all_front output (old.text_of file) was is is (Keeps-refl is) (given h));
             rests = opens.rests;
+            quietly = opens.quietly;
           });
           cause = λ h. tt;
           unread = λ named. refl;
           texts = opens.texts;
+          honest = opens.honest;
         }
 
 -- ---- nothing is delivered
 pub none_into : (maildir : List ℕ) (files : List (List ℕ)) (old new : SeenMachine) (input was : Option (List ℕ)) {fault : Fault}
     → (old.honest → IsCauseOf (ToConvert maildir files) (seen_with old input was) input fault)
     → (old.honest → new.text_of ≡ old.text_of) → (old.honest → Rests (old.maildir_at maildir) (new.maildir_at maildir))
+    → (old.quiet → (new.maildir_at maildir).files ≡ (old.maildir_at maildir).files)
     → (old.honest → (word : List ℕ) → ¬ old.same maildir word → Rests (old.maildir_at word) (new.maildir_at word))
-    → (old.quiet → KeepsForeign (old.maildir_at maildir).files (new.maildir_at maildir).files)
+    → (old.quiet → (word : List ℕ) → ¬ old.same maildir word → (new.maildir_at word).files ≡ (old.maildir_at word).files)
     → Does (ToConvert maildir files) (Err fault) (seen_with old input was) (seen_with new input was)
-none_into maildir files old new input was cause same rests elsewhere foreign = record {
-  works = record { printed = tt; delivers = λ h texts these fit sound. none_delivered _ refl (rests h); foreign = foreign; elsewhere = elsewhere };
+none_into maildir files old new input was cause same rests still elsewhere elsewhere_quietly = record {
+  works = record {
+    printed = tt;
+    delivers = λ h texts these fit sound. none_delivered _ texts fit.are _ _ refl (rests h) sound;
+    foreign = λ q. foreign_same refl (still q);
+    elsewhere = elsewhere;
+    elsewhere_quietly = elsewhere_quietly;
+  };
   cause = cause;
   unread = λ named. refl;
   texts = same;
+  honest = λ h. tt;
 }
 
 -- ---- what was given to a buffer, and what it keeps
@@ -161,6 +177,7 @@ writes_kept {old} {given} {kept} keeps output file answer did = record {
   all = λ h. on_ok_then answer (λ all. handed_all output (source_of file old) old.output given kept all keeps) (did.all h);
   front = λ h t had entries mbox. front_kept old.output given kept keeps (did.front h t had entries mbox);
   rests = did.rests;
+  quietly = did.quietly;
 }
 
 writes_stopped : {old : Seen} {machine : SeenMachine} {input given kept : Option (List ℕ)} → Keeps given kept
@@ -170,18 +187,19 @@ writes_stopped {old} {given} {kept} keeps output file fault did = record {
   all = λ h. tt;
   front = λ h t had entries mbox. front_kept old.output given kept keeps (did.front h t had entries mbox);
   rests = did.rests;
+  quietly = did.quietly;
 }
 
 delivers_kept : (answer : Result Unit Fault) {texts : List Mailbox} {old new : HeldMaildir} {was given kept : Option (List ℕ)} → Keeps given kept
     → Delivers answer texts old new was given → Delivers answer texts old new was kept
 delivers_kept (Ok _) {texts} {old} {new} {was} {given} {kept} keeps did =
-    record { safe = did.safe; each = handed_each old texts was given kept did.each keeps; some = tt; stay = did.stay; found = did.found; swept = did.swept }
+    record { safe = did.safe; each = handed_each old texts was given kept did.each keeps; some = tt; stay = did.stay; found = did.found; swept = did.swept; sound = did.sound }
 delivers_kept (Err _) {texts} {old} {new} {was} {given} {kept} keeps did =
-    record { safe = tt; each = tt; some = some_kept old new texts was given kept keeps did.some; stay = did.stay; found = did.found; swept = tt }
+    record { safe = tt; each = tt; some = some_kept old new texts was given kept keeps did.some; stay = did.stay; found = did.found; swept = tt; sound = did.sound }
 
 delivers_stopped : (fault : Fault) {texts : List Mailbox} {old new : HeldMaildir} {was given kept : Option (List ℕ)} → Keeps given kept
     → Delivers {A = Unit} {E = Fault} (Ok tt) texts old new was given → Delivers {A = Unit} {E = Fault} (Err fault) texts old new was kept
-delivers_stopped fault keeps did = record { safe = tt; each = tt; some = each_some keeps did.each did.safe; stay = did.stay; found = did.found; swept = tt }
+delivers_stopped fault keeps did = record { safe = tt; each = tt; some = each_some keeps did.each did.safe; stay = did.stay; found = did.found; swept = tt; sound = did.sound }
 
 -- ---- what was written is handed on, or is not
 module _ (old : Seen) (machine : SeenMachine) (input given kept : Option (List ℕ)) (keeps : Keeps given kept) where
@@ -194,12 +212,13 @@ module _ (old : Seen) (machine : SeenMachine) (input given kept : Option (List �
     delivers = λ h texts these fit sound. delivers_kept answer keeps (did.delivers h texts these fit sound);
     foreign = did.foreign;
     elsewhere = did.elsewhere;
+    elsewhere_quietly = did.elsewhere_quietly;
   }
 
   does_kept : {request : Request} (answer : Result Unit Fault)
       → Does request answer old (seen_with machine input given) → Does request answer old (seen_with machine input kept)
   does_kept {request} answer does =
-      record { works = works_kept request answer does.works; cause = does.cause; unread = does.unread; texts = does.texts }
+      record { works = works_kept request answer does.works; cause = does.cause; unread = does.unread; texts = does.texts; honest = does.honest }
 
   -- a fault of the output ends what was done
   works_stopped : (request : Request) (fault : Fault)
@@ -211,6 +230,7 @@ module _ (old : Seen) (machine : SeenMachine) (input given kept : Option (List �
     delivers = λ h texts these fit sound. delivers_stopped fault keeps (did.delivers h texts these fit sound);
     foreign = did.foreign;
     elsewhere = did.elsewhere;
+    elsewhere_quietly = did.elsewhere_quietly;
   }
 
   does_stopped : {request : Request} {fault : Fault} → fault ≡ Run run.OutputFault
@@ -220,6 +240,7 @@ module _ (old : Seen) (machine : SeenMachine) (input given kept : Option (List �
     cause = λ h. subst (IsCauseOf request old input) (sym is) tt;
     unread = does.unread;
     texts = does.texts;
+    honest = λ h. tt;
   }
 
   does_handed : {request : Request} (handed : Result Unit Fault) → IfErr handed (λ fault. fault ≡ Run run.OutputFault)

@@ -1,15 +1,19 @@
 -- A Maildir that rests, or in which no other program acts.
-use Rattle.std.proofs.Common.{[], ◌∷◌, ◌++◌, ◌≡◌, List, refl, sym, ap, subst, ◌∙◌}
+use Rattle.std.proofs.Common.{[], ◌∷◌, ◌++◌, ◌≡◌, ℕ, List, Ok, refl, sym, ap, subst, ◌∙◌}
 use Rattle.maildir_run.specs.Files.{Files, Action, acted, all_acted}
 use Rattle.maildir_run.specs.Foreign.{KeepsForeign}
 use Rattle.maildir_run.proofs.Tasks.QuietRuns.{others_same}
 use Rattle.maildir_disk.proofs.Left.Lefts.{left_none, left_by_others_then}
-use Rattle.maildir_commands.specs.Machines.{HeldMaildir, Rests}
-use Rattle.maildir_commands.specs.Private.Machines.{OpensSources}
-use Rattle.maildir_commands.specs.Seen.{SeenMachine}
+use Rattle.maildir_commands.specs.Machines.{AreAt, HeldMaildir, Rests}
+use Rattle.maildir_commands.specs.Opening.{ClosesMaildir, OpensMaildir, OpensSources}
+use Rattle.maildir_commands.specs.Seen.{OpenMaildir, SeenMachine}
 
 pub rest_same : {maildir : HeldMaildir} → Rests maildir maildir
 rest_same = record { actions = []; files_are = refl; left = left_none; found = λ h. h }
+
+-- the same Maildir
+pub same_at : {maildir : HeldMaildir} → AreAt maildir maildir
+same_at = (rest_same, rest_same)
 
 acted-both : (xs ys : List Action) (s : Files) → all_acted (xs ++ ys) s ≡ all_acted ys (all_acted xs s)
 acted-both [] ys s = refl
@@ -23,10 +27,13 @@ rest_then {a} first then = record {
   found = λ h. then.found (first.found h);
 }
 
--- what was taken out of a folder rests as what was in it
-pub rest_of : {S : Type 0} (held : S → HeldMaildir) {system taken : S} {new : HeldMaildir}
-    → taken ≡ system → Rests (held taken) new → Rests (held system) new
-rest_of held {new} same = subst (λ s. Rests (held s) new) same
+-- the system of calls of a folder is that which was opened, and which is closed
+module _ {S : Type 0} (opened : S → OpenMaildir) {word : List ℕ} {old new : SeenMachine} {system taken : S} where
+  pub folder_opened : system ≡ taken → OpensMaildir opened word (Ok taken) old new → OpensMaildir opened word (Ok system) old new
+  folder_opened same = subst (λ s. OpensMaildir opened word (Ok s) old new) (sym same)
+
+  pub folder_closed : taken ≡ system → ClosesMaildir word (opened taken) old new → ClosesMaildir word (opened system) old new
+  folder_closed same = subst (λ s. ClosesMaildir word (opened s) old new) same
 
 -- ---- where no other program acts
 -- opened from these files and closed with those

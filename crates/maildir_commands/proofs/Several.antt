@@ -9,7 +9,7 @@ use Rattle.std.proofs.lemmas.List.Concat.{flat_map-append}
 use Rattle.std.specs.Io.KnownBytes.{Appends, Keeps}
 use Rattle.std.specs.List.{flat_map}
 use Rattle.mbox_text.specs.Writing.{AppendsFront}
-use Rattle.maildir_run.specs.Delivery.{Message, AreNamed, IsSoundAt, IsSwept, has_home}
+use Rattle.maildir_run.specs.Delivery.{Message, AreNamed, IsSoundAt, IsSwept, has_home, leftover_count}
 use Rattle.maildir_run.specs.Files.{Files}
 use Rattle.maildir_run.specs.Reading.{ReadsAtMost}
 use Rattle.maildir_run.specs.Runs.{Possible}
@@ -20,8 +20,8 @@ use Rattle.maildir_disk.specs.Others.{Stays}
 use Rattle.maildir_disk.specs.PowerCuts.{AreAlike, AreIntact, AreSafe}
 use Rattle.maildir_disk.proofs.Kept.Others.{stays_acted, stays_then}
 use Rattle.maildir_commands.specs.Machines.{HeldMaildir, Rests, AreFit, IsSafeIn, IsSoundFor, AreAllSafe, HasAlso, OthersStay, bytes_of}
-use Rattle.maildir_commands.specs.Report.{AreReportsOf, IsReportOf, PrintsEach, PrintsOne, PrintsReport, PrintsSome, report_line}
-use Rattle.maildir_commands.proofs.Known.{Agree, also_agree, also_all, also_all-last, report_agree, reports_agree, reports_more, rests_has}
+use Rattle.maildir_commands.specs.Report.{AreTrueOf, IsReportOf, PrintsEach, PrintsOne, PrintsReport, PrintsSome, report_line}
+use Rattle.maildir_commands.proofs.Known.{Agree, also_agree, also_all, also_all-last, left_after, report_agree, reports_agree, reports_more, rests_has, rests_left, swept_none}
 
 -- ---- a source that is read
 -- what is read of an opened file is its text, under its own word and as it was at first
@@ -94,7 +94,7 @@ pub rest_each : {texts : List Mailbox} → All IsMailbox texts → {old new : He
 rest_each {texts} are {old} {new} rests prints = record {
   reports = prints.reports;
   true_of =
-      reports_agree (has_home old.files) (has_home new.files) (λ b named. sym (rests_has rests b named))
+      reports_agree (has_home old.files) (has_home new.files) (λ b named. sym (rests_has rests b named)) _ _ (rests_left rests)
       texts (named_all texts are) _ prints.true_of;
   lines = prints.lines;
 }
@@ -107,7 +107,7 @@ rest_some {texts} are {old} {ready} {work} {new} rests closes prints =
       n = prints.n;
       reports = prints.reports;
       true_of =
-          reports_agree (has_home old.files) (has_home ready.files) (λ b named. sym (rests_has rests b named))
+          reports_agree (has_home old.files) (has_home ready.files) (λ b named. sym (rests_has rests b named)) _ _ (rests_left rests)
           _ (named_all (take prints.n texts) first) _ prints.true_of;
       safe = rest_all_safe (take prints.n texts) first work new closes prints.safe;
       lines = prints.lines;
@@ -129,8 +129,9 @@ pub record UpTo (n : ℕ) (texts : List Mailbox) (start now : HeldMaildir) (was 
   pub sound : IsSoundFor texts now
   pub safe : (k : ℕ) (d : Mailbox) → k < n → k < length texts → IsSafeIn now (get_or texts k d)
   pub has : Agree (has_home now.files) (also_all (has_home start.files) (take n texts))
+  pub left : leftover_count now.files ≤ left_after (leftover_count start.files) (take n texts)
   pub reports : List Report
-  pub true_of : AreReportsOf (has_home start.files) (take n texts) reports
+  pub true_of : AreTrueOf start.files (take n texts) reports
   pub lines : Appends was is (flat_map report_line reports)
   pub stay : OthersStay texts start now
   pub found : start.rooted → now.rooted
@@ -141,6 +142,7 @@ none_printed {texts} {start} {was} sound = record {
   sound = sound;
   safe = λ k d lt below. absurd (omega (arith, lt));
   has = λ b named. refl;
+  left = omega arith;
   reports = [];
   true_of = tt;
   lines = Appends-nil was;
@@ -197,6 +199,13 @@ module _ (texts : List Mailbox) (fit : AreFit texts) where
       (then others named
       (All-cons (λ (t : Mailbox). AreAlike others t.messages) (get_or texts n e) [] (alike n e inside) (All-nil (λ (t : Mailbox). AreAlike others t.messages))))
 
+  pub sound_more : (n : ℕ) (e : Mailbox) (old new : HeldMaildir) → n < length texts → OthersStay (get_or texts n e ∷ []) old new
+      → IsSoundFor texts old → IsSoundFor texts new
+  sound_more n e old new inside stay is = record {
+    sound = λ k d below. (others_at n e old new inside stay k d below).sound (is.sound k d below);
+    intact = λ k d below. (others_at n e old new inside stay k d below).intact (is.intact k d below);
+  }
+
   -- those that are safe, and one more
   safe_more : (n : ℕ) (e : Mailbox) (now : HeldMaildir)
       → ((k : ℕ) (d : Mailbox) → k < n → k < length texts → IsSafeIn now (get_or texts k d))
@@ -221,7 +230,7 @@ module _ (texts : List Mailbox) (fit : AreFit texts) where
   -- one text more
   pub one_more : (n : ℕ) (e : Mailbox) (start old new : HeldMaildir) (was mid is : Option (List ℕ)) → n < length texts → UpTo n texts start old was mid
       → (old.rooted → new.rooted) → IsSafeIn new (get_or texts n e)
-      → PrintsReport mid is (IsReportOf (has_home old.files) (get_or texts n e))
+      → PrintsReport mid is (IsReportOf (has_home old.files) (leftover_count old.files) (get_or texts n e))
       → HasAlso (get_or texts n e).messages old.files new.files → IsSwept new.files → OthersStay (get_or texts n e ∷ []) old new
       → UpTo (n + 1) texts start new was is
   one_more n e start old new was mid is inside up rooted safe line known swept stay =
@@ -230,19 +239,16 @@ module _ (texts : List Mailbox) (fit : AreFit texts) where
       let more : take (n + 1) texts ≡ take n texts ++ text ∷ [] = take_more texts n e inside in
       let first = has_home start.files in
       record {
-        sound = record {
-          sound = λ k d below. (stays k d below).sound (up.sound.sound k d below);
-          intact = λ k d below. (stays k d below).intact (up.sound.intact k d below);
-        };
+        sound = sound_more n e old new inside stay up.sound;
         safe = safe_more n e new (λ k d less below. safe_stay (stays k d below) rooted (up.safe k d less below)) safe;
         has = λ b named.
             known b named ∙ (also_agree (has_home old.files) (also_all first (take n texts)) up.has text b named
             ∙ (ap (λ f. f b) (sym (also_all-last first (take n texts) text)) ∙ ap (λ ts. also_all first ts b) (sym more)));
+        left = let none = swept_none new.files swept in omega (arith, none);
         reports = up.reports ++ line.report ∷ [];
-        true_of = subst (λ ts. AreReportsOf first ts (up.reports ++ line.report ∷ [])) (sym more)
-            (reports_more first _ _ up.true_of
-            (report_agree
-            (λ b named. sym (up.has b named)) (named_all texts fit.are n e inside) line.said));
+        true_of = subst (λ ts. AreTrueOf start.files ts (up.reports ++ line.report ∷ [])) (sym more)
+            (reports_more first _ _ _ up.true_of
+            (report_agree (λ b named. sym (up.has b named)) up.left (named_all texts fit.are n e inside) line.said));
         lines = more_lines was mid is _ _ up.lines line.line;
         stay = stay_more n e start old new inside up.stay stay;
         found = λ h. rooted (up.found h);
@@ -267,10 +273,9 @@ module _ (texts : List Mailbox) (fit : AreFit texts) where
       record {
         n = n + 1;
         reports = up.reports ++ one.report ∷ [];
-        true_of = subst (λ ts. AreReportsOf first ts (up.reports ++ one.report ∷ [])) (sym more)
-            (reports_more first _ _ up.true_of
-            (report_agree (λ b named. sym (up.has b named))
-            (named_all texts fit.are n e inside) one.true_of));
+        true_of = subst (λ ts. AreTrueOf start.files ts (up.reports ++ one.report ∷ [])) (sym more)
+            (reports_more first _ _ _ up.true_of
+            (report_agree (λ b named. sym (up.has b named)) up.left (named_all texts fit.are n e inside) one.true_of));
         safe = first_safe (n + 1) new (safe_more n e new
             (λ k d less below. safe_stay (others_at n e old new inside stay k d below) rooted (up.safe k d less below)) one.safe);
         lines = more_front was mid is _ _ up.lines one.line;
@@ -295,7 +300,7 @@ pub all_each : {n : ℕ} {texts : List Mailbox} {start now : HeldMaildir} {was i
     → length texts ≤ n → UpTo n texts start now was is → PrintsEach start texts was is
 all_each {n} {texts} {start} most up = record {
   reports = up.reports;
-  true_of = subst (λ ts. AreReportsOf (has_home start.files) ts up.reports) (take_all n texts most) up.true_of;
+  true_of = subst (λ ts. AreTrueOf start.files ts up.reports) (take_all n texts most) up.true_of;
   lines = up.lines;
 }
 
@@ -328,6 +333,10 @@ module _ {X : Type 0} (texts : List Mailbox) (text : List ℕ) (f : X → List �
 pub on_ok_then : {A E : Type 0} (answer : Result A E) {P Q : Type 0} → (P → Q) → OnOk answer P → OnOk answer Q
 on_ok_then (Ok x) f h = f h
 on_ok_then (Err e) f h = tt
+
+pub on_err_then : {A E : Type 0} (answer : Result A E) {P Q : Type 0} → (P → Q) → OnErr answer P → OnErr answer Q
+on_err_then (Ok x) f h = tt
+on_err_then (Err e) f h = f h
 
 pub on_err : {A E : Type 0} (P : Type 0) (answer : Result A E) → P → OnErr answer P
 on_err P (Ok x) h = tt

@@ -6,10 +6,9 @@ use Rattle.maildir_run.specs.MemFiles.{no_files}
 use Rattle.maildir_run.specs.Runs.{Chain}
 use Rattle.maildir_run.specs.Several.{Mailbox, OfEach}
 use Rattle.maildir_disk.specs.PowerCuts.{IsSingle}
-use Rattle.maildir_commands.specs.declared.machine.Machine.{Ghosts}
 use Rattle.maildir_commands.specs.Machines.{AreFit, GivesTexts, HeldMaildir, Rests}
 use Rattle.maildir_commands.specs.Program.{RanOn}
-use Rattle.maildir_commands.specs.Seen.{Seen, Streams, seen_at}
+use Rattle.maildir_commands.specs.Seen.{Seen, SeenMachine, Streams, seen_at}
 use Rattle.maildir_commands.specs.Words.{AskFor, Request}
 use Rattle.maildir_commands.specs.Words.Request.{ToRewrite, ToList, ToConvert}
 
@@ -19,14 +18,14 @@ pub record AreNewTo (maildir : HeldMaildir) (texts : List Mailbox) : Type 0 wher
   pub missing : OfEach (IsMissing maildir.files) texts
   pub none_left : (left : Files) → maildir.may_leave left → OfEach (IsMissing left) texts
 
--- what comes to a Maildir
-pub data Turn : Type 0 where
+-- what happens to a Maildir
+pub data Event : Type 0 where
   -- a command with these words, which is to deliver these texts into it, ended with this status
-  Command : (words : List (List ℕ)) → (named : List Mailbox) → (status : ℕ) → Turn
+  Command : (words : List (List ℕ)) → (named : List Mailbox) → (status : ℕ) → Event
   -- mail readers acted, or none did
-  Readers : Turn
+  Readers : Event
   -- the power was cut
-  Cut : Turn
+  Cut : Event
 
 -- what a request is to deliver into a Maildir: some of the texts, in order, where it is a conversion into it, and nothing where it is another, or none
 abbrev pub IsToDeliver : List ℕ → List Mailbox → List Mailbox → Seen → Option (List ℕ) → Request → Type 0
@@ -36,20 +35,20 @@ IsToDeliver maildir texts named old left (ToConvert into files) =
     (old.machine.same into maildir × All (Contains texts) named × GivesTexts old.machine.text_of old.input left files named)
     ⊎ ((¬ old.machine.same into maildir) × (named ≡ []))
 
--- A command with these words ended with this status, on a machine that did as assumed as it began. A command that was killed is one whose calls
--- all failed from some moment on, and its status is any.
-pub record Commanded {M A B C : Type 0} (f : Ghosts M A B C) (maildir : List ℕ) (texts : List Mailbox)
+-- A command with these words ended with this status. One that was killed is one whose calls all failed from some moment on.
+pub record Commanded {M : Type 0} (at : M → SeenMachine) (maildir : List ℕ) (texts : List Mailbox)
     (words : List (List ℕ)) (named : List Mailbox) (status : ℕ) (old new : M) : Type 0 where
-  pub honest : f.honest old
   -- as the contract of `run` says
   pub was : Streams
   pub is : Streams
-  pub ran : RanOn f words status old new was is
+  pub ran : RanOn at words status old new was is
   -- and this is what it was to deliver
-  pub delivers : (request : Request) → AskFor words request → IsToDeliver maildir texts named (seen_at f old was) is.input request
+  pub delivers : (request : Request) → AskFor words request → IsToDeliver maildir texts named (seen_at (at old) was) is.input request
+  -- after a fault, or where it was killed, the machine is again one that does as assumed
+  pub again : status ≡ 1 → (at new).honest
 
 -- A power cut left of a Maildir what it might, each file under one name, or nothing where it might not find it. A later one would leave the same.
-pub record IsCutOff (old new : HeldMaildir) : Type 0 where
+pub record LeftByPowerCut (old new : HeldMaildir) : Type 0 where
   pub left : Files
   pub may : old.may_leave left ⊎ ((¬ old.rooted) × (left ≡ no_files))
   pub single : IsSingle old.files left
@@ -57,12 +56,13 @@ pub record IsCutOff (old new : HeldMaildir) : Type 0 where
   pub stays : (later : Files) → new.may_leave later → KeepsHomes new.files later
   pub still_rooted : old.rooted → new.rooted
 
--- a turn leads from one moment of a machine to another
-abbrev pub Comes : {M A B C : Type 0} → Ghosts M A B C → List ℕ → List Mailbox → Turn → M → M → Type 0
-Comes f maildir texts (Command words named status) old new = Commanded f maildir texts words named status old new
-Comes f maildir texts Readers old new = Rests (f.maildir_at old maildir) (f.maildir_at new maildir)
-Comes f maildir texts Cut old new = IsCutOff (f.maildir_at old maildir) (f.maildir_at new maildir)
+-- an event leads from one moment of a machine to another
+abbrev pub Happens : {M : Type 0} → (M → SeenMachine) → List ℕ → List Mailbox → Event → M → M → Type 0
+Happens at maildir texts (Command words named status) old new = Commanded at maildir texts words named status old new
+Happens at maildir texts Readers old new =
+    Rests ((at old).maildir_at maildir) ((at new).maildir_at maildir) × ((at old).honest → (at new).honest)
+Happens at maildir texts Cut old new = LeftByPowerCut ((at old).maildir_at maildir) ((at new).maildir_at maildir) × (at new).honest
 
--- any turns, one after the other
-abbrev pub Come : {M A B C : Type 0} → Ghosts M A B C → List ℕ → List Mailbox → List Turn → M → M → Type 0
-Come f maildir texts = Chain (Comes f maildir texts)
+-- any events, one after the other
+abbrev pub IsHistory : {M : Type 0} → (M → SeenMachine) → List ℕ → List Mailbox → List Event → M → M → Type 0
+IsHistory at maildir texts = Chain (Happens at maildir texts)

@@ -12,8 +12,10 @@ pub mod Report
 pub mod Output
 -- What a machine has under a word, and what it is for several texts.
 pub mod Machines
--- What is seen of a machine, and of the program's streams, at one moment.
+-- What is seen of a machine, of a Maildir that is open, and of the program's streams, at one moment.
 pub mod Seen
+-- What the calls of a machine owe: sources that are opened, and Maildirs that are opened and closed.
+pub mod Opening
 -- What the delivery of one source owes.
 pub mod Sources
 -- What a run of the program owes.

@@ -1,5 +1,4 @@
 -- What a machine has under a word, and what it is for several texts.
-use Rattle.std.proofs.Common.{refl}
 use Rattle.std.specs.Prelude.{◌≡◌, ℕ, List, [], ◌∷◌, All, Option, map, ◌||◌, IsTrue}
 use Rattle.maildir_name.specs.Names.{is_converter_base}
 use Rattle.maildir_run.specs.Cuts.{Follows}
@@ -8,7 +7,6 @@ use Rattle.maildir_run.specs.Files.{Files, Action, all_acted}
 use Rattle.maildir_run.specs.MemFiles.{no_files}
 use Rattle.maildir_run.specs.Runs.{Possible}
 use Rattle.maildir_run.specs.Several.{Mailbox, IsMailbox, OfEach}
-use Rattle.maildir_disk.specs.declared.system.System.{Ghosts}
 use Rattle.maildir_disk.specs.Others.{Stays}
 use Rattle.maildir_disk.specs.PowerCuts.{AreAlike, AreIntact, AreSafe, LeftByOthers}
 
@@ -17,10 +15,6 @@ pub record HeldMaildir : Type 1 where
   pub files : Files
   pub may_leave : Files → Type 0
   pub rooted : Type 0
-
--- what these say of a Maildir
-abbrev pub held : {S File : Type 0} → Ghosts S File → S → HeldMaildir
-held f s = record { files = (f.world s).files; may_leave = f.may_leave s; rooted = f.rooted s }
 
 -- no Maildir, and a power cut leaves none
 abbrev pub nothing_held : HeldMaildir
@@ -36,12 +30,6 @@ pub record Rests (old new : HeldMaildir) : Type 0 where
 -- what two words have that name the same Maildir: what was under one is under the other, as after no time
 abbrev pub AreAt : HeldMaildir → HeldMaildir → Type 0
 AreAt one other = Rests one other × Rests other one
-
--- the same Maildir
-pub same_at : {maildir : HeldMaildir} → AreAt maildir maildir
-same_at {maildir} =
-    let none : Rests maildir maildir = record { actions = []; files_are = refl; left = λ left may. (left, may, record { kept = []; are = refl }); found = λ h. h } in
-    (none, none)
 
 -- These texts can go into one Maildir: no two of their messages have the same base and other bodies.
 pub record AreFit (texts : List Mailbox) : Type 0 where

@@ -4,7 +4,5 @@
 pub mod Causes
 -- What came of delivering texts.
 pub mod Report
--- What was done to a machine.
-pub mod Machines
 -- What a command asks for.
 pub mod Words

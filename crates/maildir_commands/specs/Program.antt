@@ -13,14 +13,13 @@ use Rattle.maildir_run.specs.Table.{table_of}
 use Rattle.maildir_commands.specs.declared.ending.Ending.{Ending}
 use Rattle.maildir_commands.specs.declared.ending.Ending.TheVariants.{Done, Stopped, WrongWords}
 use Rattle.maildir_commands.specs.declared.fault.Fault.{Fault}
-use Rattle.maildir_commands.specs.declared.machine.Machine.{Ghosts}
 use Rattle.maildir_commands.specs.Causes.{IsCauseOf}
 use Rattle.maildir_commands.specs.Endings.{status_of}
-use Rattle.maildir_commands.specs.Faults.{told}
+use Rattle.maildir_commands.specs.Faults.{fault_text, told}
 use Rattle.maildir_commands.specs.Machines.{AreAllSafe, AreFit, GivesTexts, HeldMaildir, IsSoundFor, OthersStay, Rests}
 use Rattle.maildir_commands.specs.Output.{WritesAll, WritesFront}
 use Rattle.maildir_commands.specs.Report.{PrintsEach, PrintsReports, PrintsSome}
-use Rattle.maildir_commands.specs.Seen.{Seen, Streams, seen_at}
+use Rattle.maildir_commands.specs.Seen.{Seen, SeenMachine, Streams, seen_at}
 use Rattle.maildir_commands.specs.Words.{AreOfAForm, AskFor, Request, files_of}
 use Rattle.maildir_commands.specs.Words.Request.{ToRewrite, ToList, ToConvert}
 
@@ -46,6 +45,7 @@ pub record WritesOut (output : List Entry → List ℕ) (file : Option (List ℕ
   -- in any case a front
   pub front : IsKnown file old → (t : List ℕ) → MayHaveHad file old new.input t → WritesFront output t old.output new.output
   pub rests : old.machine.honest → (word : List ℕ) → Rests (old.machine.maildir_at word) (new.machine.maildir_at word)
+  pub quietly : old.machine.quiet → (word : List ℕ) → (new.machine.maildir_at word).files ≡ (old.machine.maildir_at word).files
 
 -- ---- `convert`
 -- What came of delivering texts into a Maildir.
@@ -60,7 +60,9 @@ pub record Delivers {A E : Type 0} (answer : Result A E) (texts : List Mailbox) 
   -- and a power cut leaves the Maildir, where it left it before
   pub found : old.rooted → new.rooted
   -- with Ok no file of the converter is left in `tmp`
-  pub swept : OnOk answer (0 < length texts → IsSwept new.files)
+  pub swept : OnOk answer (IsSwept new.files)
+  -- and in any case the Maildir is sound for the texts, so that the same words may be given again
+  pub sound : IsSoundFor texts new
 
 -- The messages of the files, or of standard input where none is named, were delivered into a Maildir.
 pub record DeliversInto (maildir : List ℕ) (files : List (List ℕ)) (answer : Result Unit Fault) (old new : Seen) : Type 0 where
@@ -75,6 +77,8 @@ pub record DeliversInto (maildir : List ℕ) (files : List (List ℕ)) (answer :
   -- no other Maildir was touched
   pub elsewhere : old.machine.honest → (word : List ℕ) → ¬ old.machine.same maildir word →
       Rests (old.machine.maildir_at word) (new.machine.maildir_at word)
+  pub elsewhere_quietly : old.machine.quiet → (word : List ℕ) → ¬ old.machine.same maildir word →
+      (new.machine.maildir_at word).files ≡ (old.machine.maildir_at word).files
 
 -- ---- the program
 -- what is owed for each request
@@ -92,6 +96,8 @@ pub record Does (request : Request) (answer : Result Unit Fault) (old new : Seen
   pub unread : ¬ (files_of request ≡ []) → new.input ≡ old.input
   -- no file was changed that is named as a source
   pub texts : old.machine.honest → new.machine.text_of ≡ old.machine.text_of
+  -- with Ok the machine still does as assumed
+  pub honest : old.machine.honest → OnOk answer new.machine.honest
 
 -- The words are of a form, and whatever they ask for was done, or ended with a fault.
 pub record Did (words : List (List ℕ)) (answer : Result Unit Fault) (old new : Seen) : Type 0 where
@@ -99,16 +105,16 @@ pub record Did (words : List (List ℕ)) (answer : Result Unit Fault) (old new :
   pub does : (request : Request) → AskFor words request → Does request answer old new
 
 -- A run of the program with these words ended so. `was` and `is` are what had been written to standard error, before it and after it: nothing
--- where all was done, and one line, or a front of it, where the words are of no form.
+-- where all was done; else one line, that of the fault which ended the work or for wrong words, or a prefix of it where the writer failed.
 abbrev pub Ran : List (List ℕ) → Ending → Seen → Seen → Option (List ℕ) → Option (List ℕ) → Type 0
 Ran words Done old new was is = Did words (Ok tt) old new × Keeps was is
-Ran words (Stopped fault _) old new was is = Did words (Err fault) old new
-Ran words (WrongWords answer) old new was is = ¬ AreOfAForm words × Writes was is answer (told (codes "wrong words"))
+Ran words (Stopped fault written) old new was is = Did words (Err fault) old new × Writes was is written (told (fault_text fault))
+Ran words (WrongWords written) old new was is = ¬ AreOfAForm words × Writes was is written (told (codes "wrong words"))
 
 -- A run of the program with these words ended with this status, from one moment of a machine and of its streams to another.
-pub record RanOn {M A B C : Type 0} (f : Ghosts M A B C) (words : List (List ℕ)) (status : ℕ) (old new : M) (was is : Streams) : Type 0 where
+pub record RanOn {M : Type 0} (at : M → SeenMachine) (words : List (List ℕ)) (status : ℕ) (old new : M) (was is : Streams) : Type 0 where
   pub ending : Ending
   pub status_is : status ≡ status_of ending
-  pub ran : Ran words ending (seen_at f old was) (seen_at f new is) was.errors is.errors
+  pub ran : Ran words ending (seen_at (at old) was) (seen_at (at new) is) was.errors is.errors
   -- where the words are of no form, nothing was done
   pub untouched : status ≡ 2 → (new ≡ old) × (is.input ≡ was.input)

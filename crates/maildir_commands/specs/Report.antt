@@ -1,10 +1,11 @@
 -- What is printed of a conversion.
-use Rattle.std.specs.Prelude.{◌≡◌, ℕ, ◌-◌, ◌||◌, Bool, List, [], ◌∷◌, ◌++◌, length, take, count_by, codes, Option}
+use Rattle.std.specs.Prelude.{◌≡◌, ◌≤◌, ℕ, ◌-◌, ◌||◌, Bool, List, [], ◌∷◌, ◌++◌, length, take, count_by, codes, Option}
 use Rattle.std.specs.Fmt.{decimal}
 use Rattle.std.specs.Io.KnownBytes.{Appends}
 use Rattle.std.specs.List.{flat_map}
 use Rattle.mbox_text.specs.Writing.{AppendsFront}
-use Rattle.maildir_run.specs.Delivery.{is_base_of, has_home}
+use Rattle.maildir_run.specs.Delivery.{has_home, is_base_of, leftover_count}
+use Rattle.maildir_run.specs.Files.{Files}
 use Rattle.maildir_run.specs.declared.report.Report.{Report}
 use Rattle.maildir_run.specs.Several.{Mailbox}
 use Rattle.maildir_commands.specs.Machines.{HeldMaildir, AreAllSafe, IsSafeIn}
@@ -28,40 +29,47 @@ PrintsReports was is runs = (reports : List Report) × (length reports ≡ runs)
 abbrev pub known_count : (List ℕ → Bool) → Mailbox → ℕ
 known_count has text = count_by (λ m. has m.target.base) text.messages
 
--- A report of a run over a text: its messages, those that had a home as the run began, and those that it placed.
-pub record IsReportOf (has : List ℕ → Bool) (text : Mailbox) (report : Report) : Type 0 where
+-- A report of a run over a text: its messages, those that had a home as the run began, and those that it placed; and of this many leftovers at
+-- most, those that it swept.
+pub record IsReportOf (has : List ℕ → Bool) (leftovers : ℕ) (text : Mailbox) (report : Report) : Type 0 where
   pub messages : report.messages ≡ length text.messages
   pub there : report.there ≡ known_count has text
   pub placed : report.placed ≡ length text.messages - known_count has text
+  pub swept : report.swept ≤ leftovers
 
 -- which bases have a home once a text was delivered
 abbrev pub also : (List ℕ → Bool) → Mailbox → List ℕ → Bool
 also has text b = is_base_of text.messages b || has b
 
--- the reports of runs over these texts, one after the other, each where the texts before it were delivered
-abbrev pub AreReportsOf : (List ℕ → Bool) → List Mailbox → List Report → Type 0
-AreReportsOf has [] [] = Unit {0}
-AreReportsOf has [] (report ∷ reports) = ⊥
-AreReportsOf has (text ∷ texts) [] = ⊥
-AreReportsOf has (text ∷ texts) (report ∷ reports) = IsReportOf has text report × AreReportsOf (also has text) texts reports
+-- the reports of runs over these texts, one after the other, each where the texts before it were delivered, and what was left in `tmp` was swept
+abbrev pub AreReportsOf : (List ℕ → Bool) → ℕ → List Mailbox → List Report → Type 0
+AreReportsOf has leftovers [] [] = Unit {0}
+AreReportsOf has leftovers [] (report ∷ reports) = ⊥
+AreReportsOf has leftovers (text ∷ texts) [] = ⊥
+AreReportsOf has leftovers (text ∷ texts) (report ∷ reports) =
+    IsReportOf has leftovers text report × AreReportsOf (also has text) 0 texts reports
+
+-- reports that are true of runs over these texts, which begin with these files
+abbrev pub AreTrueOf : Files → List Mailbox → List Report → Type 0
+AreTrueOf old = AreReportsOf (has_home old) (leftover_count old)
 
 -- The line of a true report was written for each of the texts, in order.
 pub record PrintsEach (old : HeldMaildir) (texts : List Mailbox) (was is : Option (List ℕ)) : Type 0 where
   pub reports : List Report
-  pub true_of : AreReportsOf (has_home old.files) texts reports
+  pub true_of : AreTrueOf old.files texts reports
   pub lines : Appends was is (flat_map report_line reports)
 
 -- A front was written of the lines of true reports of some first texts, and each of these texts is in the Maildir, and survives a power cut.
 pub record PrintsSome (old new : HeldMaildir) (texts : List Mailbox) (was is : Option (List ℕ)) : Type 0 where
   pub n : ℕ
   pub reports : List Report
-  pub true_of : AreReportsOf (has_home old.files) (take n texts) reports
+  pub true_of : AreTrueOf old.files (take n texts) reports
   pub safe : AreAllSafe (take n texts) new
   pub lines : AppendsFront was is (flat_map report_line reports)
 
 -- The line of a true report of the text was written, or a front of it, and the text is in the Maildir, and survives a power cut.
 pub record PrintsOne (old new : HeldMaildir) (text : Mailbox) (was is : Option (List ℕ)) : Type 0 where
   pub report : Report
-  pub true_of : IsReportOf (has_home old.files) text report
+  pub true_of : IsReportOf (has_home old.files) (leftover_count old.files) text report
   pub safe : IsSafeIn new text
   pub line : AppendsFront was is (report_line report)

@@ -1,38 +1,61 @@
--- What is seen of a machine, and of the program's streams, at one moment.
-use Rattle.std.specs.Prelude.{ℕ, List, Option}
+-- What is seen of a machine, of a Maildir that is open, and of the program's streams, at one moment.
+use Rattle.std.specs.Prelude.{ℕ, List, [], Option}
 use Rattle.maildir_disk.specs.declared.faults.OpenFault.{OpenFault}
-use Rattle.maildir_commands.specs.declared.machine.Machine.{Ghosts}
-use Rattle.maildir_commands.specs.Machines.{HeldMaildir}
+use Rattle.maildir_disk.specs.declared.system.System.{Ghosts}
+use Rattle.maildir_commands.specs.Machines.{HeldMaildir, nothing_held}
 
--- what is seen of a machine: the facts of the trait `Machine`
+-- what is seen of a machine
 pub record SeenMachine : Type 1 where
+  -- its calls do what their contracts say
   pub honest : Type 0
+  -- its calls do what their contracts say, and no other program acts on its Maildirs
   pub quiet : Type 0
+  -- the text of the source that a word names, and that this source may be refused
   pub text_of : List ℕ → List ℕ
   pub refuses_source : List ℕ → Type 0
-  pub refuses_maildir : List ℕ → OpenFault → Type 0
+  -- the Maildir that a word names, while it is not open; that it may be refused, for this fault; and that it is open, by this word
   pub maildir_at : List ℕ → HeldMaildir
+  pub refuses_maildir : List ℕ → OpenFault → Type 0
   pub is_open : List ℕ → Type 0
+  -- two words name the same Maildir
   pub same : List ℕ → List ℕ → Type 0
 
--- what these say of a machine
-abbrev pub seen : {M A B C : Type 0} → Ghosts M A B C → M → SeenMachine
-seen f machine = record {
-  honest = f.honest machine;
-  quiet = f.quiet machine;
-  text_of = f.text_of machine;
-  refuses_source = f.refuses_source machine;
-  refuses_maildir = f.refuses_maildir machine;
-  maildir_at = f.maildir_at machine;
-  is_open = f.is_open machine;
-  same = f.same;
+-- of a machine of which nothing is known
+abbrev pub nothing_seen : SeenMachine
+nothing_seen = record {
+  honest = ⊥;
+  quiet = ⊥;
+  text_of = λ _. [];
+  refuses_source = λ _. Unit {0};
+  maildir_at = λ _. nothing_held;
+  refuses_maildir = λ _ _. Unit {0};
+  is_open = λ _. Unit {0};
+  same = λ _ _. Unit {0};
 }
 
--- and of what is left of standard input, and of what was written to standard output, where these are known
+-- what is seen of a Maildir that is open
+pub record OpenMaildir : Type 1 where
+  pub honest : Type 0
+  pub quiet : Type 0
+  pub held : HeldMaildir
+
+-- what these say of a system of calls
+abbrev pub opened : {S File : Type 0} → Ghosts S File → S → OpenMaildir
+opened f s = record {
+  honest = f.honest s;
+  quiet = f.quiet s;
+  held = record { files = (f.world s).files; may_leave = f.may_leave s; rooted = f.rooted s };
+}
+
+-- what is seen of a machine, and of what is left of standard input and was written to standard output, where these are known
 pub record Seen : Type 1 where
   pub machine : SeenMachine
   pub input : Option (List ℕ)
   pub output : Option (List ℕ)
+
+-- these together
+abbrev pub seen_with : SeenMachine → Option (List ℕ) → Option (List ℕ) → Seen
+seen_with machine input output = record { machine = machine; input = input; output = output }
 
 -- what is left of standard input, and what was written to standard output and standard error, where these are known
 pub record Streams : Type 0 where
@@ -45,9 +68,5 @@ abbrev pub streams : Option (List ℕ) → Option (List ℕ) → Option (List �
 streams input output errors = record { input = input; output = output; errors = errors }
 
 -- what is seen of a machine, together with the program's streams
-abbrev pub seen_at : {M A B C : Type 0} → Ghosts M A B C → M → Streams → Seen
-seen_at f machine these = record { machine = seen f machine; input = these.input; output = these.output }
-
--- these together
-abbrev pub seen_with : SeenMachine → Option (List ℕ) → Option (List ℕ) → Seen
-seen_with machine input output = record { machine = machine; input = input; output = output }
+abbrev pub seen_at : SeenMachine → Streams → Seen
+seen_at machine these = seen_with machine these.input these.output

@@ -1,8 +1,10 @@
 -- What the delivery of one source owes.
-use Rattle.std.specs.Prelude.{◌≡◌, ◌⊎◌, ℕ, ◌^◌, List, All, Option, Result, OnOk, OnErr, IfErr}
+use Rattle.std.specs.Prelude.{◌≡◌, ◌⊎◌, ℕ, ◌^◌, List, All, Option, Result, IfErr, IfOk, OnOk}
 use Rattle.std.specs.Io.KnownBytes.{IsAtEnd, Keeps}
+use Rattle.mbox_text.specs.Writing.{AppendsFront}
 use Rattle.maildir_run.specs.declared.fault.RunFault.TheVariants.{FolderFailed}
 use Rattle.maildir_run.specs.declared.folder.Folder.{Ghosts}
+use Rattle.maildir_run.specs.declared.report.Report.{Report}
 use Rattle.maildir_run.specs.Alone.{alone as alone_after}
 use Rattle.maildir_run.specs.Delivery.{AreNamed, IsSoundAt, IsSwept, Message}
 use Rattle.maildir_run.specs.Foreign.{KeepsForeign}
@@ -16,9 +18,9 @@ use Rattle.maildir_commands.specs.declared.fault.Fault.{Fault}
 use Rattle.maildir_commands.specs.declared.fault.Fault.TheVariants.{Run}
 use Rattle.maildir_commands.specs.Causes.{IsFailedCall, IsOfDelivery}
 use Rattle.maildir_commands.specs.Machines.{HasAlso, HeldMaildir, IsSafeIn}
-use Rattle.maildir_commands.specs.Report.{PrintsOne, PrintsReport}
+use Rattle.maildir_commands.specs.Report.{PrintsReport, report_line}
 
--- what is seen of a Maildir that is open, at one moment: the facts of the trait `Folder`
+-- what is seen of a folder, at one moment: the facts of the trait `Folder`
 pub record SeenMaildir : Type 1 where
   pub honest : Type 0
   pub quiet : Type 0
@@ -38,43 +40,57 @@ seen_folder f folder =
       failures = seen.failures;
     }
 
--- What came of delivering a text.
-pub record DeliversText (answer : Result Unit Fault) (text : Mailbox) (old new : HeldMaildir) (was is : Option (List ℕ)) : Type 0 where
+-- What is kept in a Maildir while a text is delivered into it, whatever comes of that.
+pub record KeepsText (text : Mailbox) (old new : HeldMaildir) : Type 0 where
   -- a power cut leaves no part of a message of it, where it left none before; and messages of others survive one as they did
   pub intact : AreIntact text.messages old.may_leave → AreIntact text.messages new.may_leave
   pub still : (others : List Message) → AreNamed others → AreAlike others text.messages →
       Survive others old.may_leave → Survive others new.may_leave
-  -- where the files are sound for it, messages of others stay, and with Ok the bases of its messages have a home
+  -- where the files are sound for it, messages of others stay
   pub stays : All (IsSoundAt old.files) text.messages → (others : List Message) → AreNamed others → AreAlike others text.messages →
       Stays others old.files old.may_leave new.files new.may_leave
-  pub known : All (IsSoundAt old.files) text.messages → OnOk answer (HasAlso text.messages old.files new.files)
-  pub swept : All (IsSoundAt old.files) text.messages → OnOk answer (IsSwept new.files)
-  -- and where so is what a power cut may leave, with Ok the text is in the Maildir, and survives a power cut; and so it does after a
-  -- fault where anything was written
-  pub safe : All (IsSoundAt old.files) text.messages → AreIntact text.messages old.may_leave → OnOk answer (IsSafeIn new text)
-  pub stopped : All (IsSoundAt old.files) text.messages → AreIntact text.messages old.may_leave →
-      OnErr answer (Keeps was is ⊎ PrintsOne old new text was is)
 
--- What came of delivering a source, of which this was left before and after, while this had been written before, and is now.
-pub record DeliversSource (answer : Result Unit Fault) (before after was is : Option (List ℕ)) (old new : SeenMaildir) : Type 0 where
+-- A text was delivered into a Maildir whose files were sound for it, and this report is true of that.
+pub record StoresText (report : Report) (text : Mailbox) (old new : HeldMaildir) : Type 0 where
+  pub reports : ReportsMessages text.messages old.files report
+  -- the bases of its messages have a home, and no file of the converter is left in `tmp`
+  pub known : HasAlso text.messages old.files new.files
+  pub swept : IsSwept new.files
+  -- where a power cut left no part of a message, the text is in the Maildir, and survives a power cut
+  pub safe : AreIntact text.messages old.may_leave → IsSafeIn new text
+
+-- What is kept while a source is delivered, of which this was left before and after, whatever comes of that.
+pub record KeepsSource (before after : Option (List ℕ)) (old new : SeenMaildir) : Type 0 where
   pub budget : ReadsAtMost before after (2 ^ 56)
-  -- with Ok the source was read to its end, and the line was written of a report that counts the calls that were made, and is true of
-  -- each text that the source may have had and for which the files were sound
-  pub end : OnOk answer (IsAtEnd after)
-  pub printed : OnOk answer (PrintsReport was is (λ report. CountsRun report old.calls new.calls
-      × (old.honest → (text : Mailbox) → IsMailbox text → Possible before after text.bytes → All (IsSoundAt old.held.files) text.messages
-      → ReportsMessages text.messages old.held.files report)))
-  -- a fault has its cause, and where a call failed, this is its number
-  pub cause : IfErr answer (IsOfDelivery before after)
-  pub failed_call : IfErr answer (λ fault. (number : ℕ) → fault ≡ Run (FolderFailed number) →
-      IsFailedCall number old.calls new.calls old.failures new.failures)
-  -- where the system does as assumed
-  pub honest : old.honest → OnOk answer new.honest
+  -- where the system does as assumed, for each text that the source may have had
   pub still_rooted : old.honest → old.held.rooted → new.held.rooted
-  pub delivers : old.honest → (text : Mailbox) → IsMailbox text → Possible before after text.bytes →
-      DeliversText answer text old.held new.held was is
-  -- and where no other program acts
-  pub quiet : old.quiet → OnOk answer new.quiet
-  pub alone : old.quiet → (t : List ℕ) (ms : List Message) → Possible before after t → MessagesOf t ms →
-      OnOk answer (new.held.files ≡ alone_after ms old.held.files)
+  pub texts : old.honest → (text : Mailbox) → IsMailbox text → Possible before after text.bytes → KeepsText text old.held new.held
+  -- where no other program acts
   pub foreign : old.quiet → KeepsForeign old.held.files new.held.files
+
+-- A source was delivered: it was read to its end, by a run with this report, and the Maildir was synced.
+pub record StoresSource (report : Report) (before after : Option (List ℕ)) (old new : SeenMaildir) : Type 0 where
+  pub end : IsAtEnd after
+  pub calls : CountsRun report old.calls new.calls
+  -- where the system does as assumed, each text that the source may have had
+  pub honest : old.honest → new.honest
+  pub texts : old.honest → (text : Mailbox) → IsMailbox text → Possible before after text.bytes → All (IsSoundAt old.held.files) text.messages →
+      StoresText report text old.held new.held
+  -- where no other program acts
+  pub quiet : old.quiet → new.quiet
+  pub alone : old.quiet → (t : List ℕ) (ms : List Message) → Possible before after t → MessagesOf t ms → new.held.files ≡ alone_after ms old.held.files
+
+-- Why a source was not delivered: a fault has its cause, and where a call failed, this is its number.
+pub record StopsSource (fault : Fault) (before after : Option (List ℕ)) (old new : SeenMaildir) : Type 0 where
+  pub cause : IsOfDelivery before after fault
+  pub failed_call : (number : ℕ) → fault ≡ Run (FolderFailed number) → IsFailedCall number old.calls new.calls old.failures new.failures
+
+-- What came of delivering a source, where this had been written before, and is now.
+pub record DeliversSource (answer : Result Unit Fault) (before after was is : Option (List ℕ)) (old new : SeenMaildir) : Type 0 where
+  pub keeps : KeepsSource before after old new
+  -- with Ok it was delivered, and the line of its report was written
+  pub printed : OnOk answer (PrintsReport was is (λ report. StoresSource report before after old new))
+  -- after a fault nothing was written, or it was delivered, and a front of that line was written
+  pub stopped : IfErr answer (λ fault. StopsSource fault before after old new)
+  pub front : IfErr answer (λ fault. Keeps was is
+      ⊎ ((report : Report) × StoresSource report before after old new × AppendsFront was is (report_line report)))

@@ -1,13 +1,5 @@
 -- The words of the command line, and what they ask for.
-use Rattle.std.specs.Prelude.{◌≡◌, ◌≤◌, ◌⊎◌, ℕ, List, [], ◌∷◌, length, codes, Option, Some, None}
-
--- words of one of the forms: none at all, `rewrite [FILE]`, `list [FILE]`, or `convert MAILDIR [FILE]...` (this project's own rule)
-abbrev pub AreOfAForm : List (List ℕ) → Type 0
-AreOfAForm [] = Unit {0}
-AreOfAForm (word ∷ rest) =
-    ((word ≡ codes "rewrite") × (length rest ≤ 1))
-    ⊎ ((word ≡ codes "list") × (length rest ≤ 1))
-    ⊎ ((word ≡ codes "convert") × (1 ≤ length rest))
+use Rattle.std.specs.Prelude.{◌≡◌, ◌⊎◌, ℕ, List, [], ◌∷◌, codes, Option, Some, None}
 
 -- the words `rewrite`, or none at all
 abbrev pub AreRewrite : List (List ℕ) → Type 0
@@ -31,6 +23,10 @@ AskFor words (ToRewrite (Some file)) = words ≡ codes "rewrite" ∷ file ∷ []
 AskFor words (ToList None) = words ≡ codes "list" ∷ []
 AskFor words (ToList (Some file)) = words ≡ codes "list" ∷ file ∷ []
 AskFor words (ToConvert maildir files) = words ≡ convert_words maildir files
+
+-- words of one of the forms: none at all, `rewrite [FILE]`, `list [FILE]`, or `convert MAILDIR [FILE]...` (this project's own rule)
+abbrev pub AreOfAForm : List (List ℕ) → Type 0
+AreOfAForm words = (request : Request) × AskFor words request
 
 -- the files that are named
 abbrev pub files_of : Request → List (List ℕ)

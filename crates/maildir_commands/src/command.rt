@@ -1,5 +1,5 @@
 // What the words of the command line ask for.
-ghost use Rattle.std.specs.Prelude.{◌↔◌, map, string_bytes, IfSome, IsSome};
+ghost use Rattle.std.specs.Prelude.{map, string_bytes, MatchOption};
 ghost use Rattle.maildir_commands.specs.Words.{AreOfAForm, AskFor};
 ghost use Rattle.maildir_commands.specs.Private.Words.{request};
 
@@ -17,8 +17,7 @@ pub enum Command<'a> {
 impl<'a> Command<'a> {
     /// The command of these words, which are compared as they stand; `None` where they are of no form.
     pub fn of(words: &'a [String]) -> Option<Command<'a>>
-        ensures form { IsSome result ↔ AreOfAForm (map string_bytes words.now) }
-        ensures words { IfSome result (λ command. AskFor (map string_bytes words.now) (request command)) }
+        ensures { let these = map string_bytes words.now in MatchOption result (¬ AreOfAForm these) (λ command. AskFor these (request command)) }
     {
         let Some((word, rest)) = words.split_first() else {
             return Some(Command::Rewrite(None));

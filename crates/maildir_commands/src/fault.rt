@@ -44,6 +44,18 @@ impl From<AllocError> for Fault {
     }
 }
 
+impl From<OpenFault> for Fault {
+    ghost from_gives = { λ fault given. given ≡ fault_of_opening fault };
+
+    fn from(fault: OpenFault) -> Fault {
+        match fault {
+            OpenFault::Locked => Fault::Locked,
+            OpenFault::Folder(FolderFault::OutOfMemory) => Fault::Run(RunFault::OutOfMemory),
+            OpenFault::Folder(FolderFault::Absent | FolderFault::Failed) => Fault::Folder,
+        }
+    }
+}
+
 impl Fault {
     /// The fault of a source that could not be opened.
     pub fn of_source(error: &io::Error) -> Fault
@@ -54,17 +66,6 @@ impl Fault {
             return Fault::Run(RunFault::OutOfMemory);
         }
         Fault::Source
-    }
-
-    /// The fault of a folder that could not be opened.
-    pub fn of_folder(fault: OpenFault) -> Fault
-        ensures { result ≡ fault_of_opening fault }
-    {
-        match fault {
-            OpenFault::Locked => Fault::Locked,
-            OpenFault::Folder(FolderFault::OutOfMemory) => Fault::Run(RunFault::OutOfMemory),
-            OpenFault::Folder(FolderFault::Absent | FolderFault::Failed) => Fault::Folder,
-        }
     }
 
     /// The fault of a folder that could not be synced, after a run that made this many calls of it.

@@ -2,8 +2,8 @@
 ghost use Rattle.std.specs.Prelude.{ℕ, ◌<◌, List, [], ◌∷◌, ◌++◌, length};
 ghost use Rattle.maildir_run.specs.Delivery.{IsSwept};
 ghost use Rattle.maildir_run.specs.Several.{Mailbox};
-ghost use Rattle.maildir_commands.specs.Commands.{AreNewTo, Come, Turn};
-ghost use Rattle.maildir_commands.specs.Commands.Turn.{Command};
+ghost use Rattle.maildir_commands.specs.Commands.{AreNewTo, Event, IsHistory};
+ghost use Rattle.maildir_commands.specs.Commands.Event.{Command};
 ghost use Rattle.maildir_commands.specs.Machines.{AreAllSafe, IsSoundFor};
 
 use crate::machine::Machine;
@@ -14,15 +14,16 @@ use crate::machine::Machine;
 /// them is in exactly one file of `new` or `cur`, with exactly its bytes, and stays so through all that follows; and just
 /// behind it no file of the converter is left in `tmp`.
 pub fn after_any_commands<M: Machine>()
-    ensures sound { (maildir : List ℕ) (texts : List Mailbox) (turns : List Turn) (old new : M) →
-        AreNewTo (M.maildir_at old maildir) texts → Come M.Machine maildir texts turns old new →
-        IsSoundFor texts (M.maildir_at new maildir) }
-    ensures safe { (maildir : List ℕ) (texts named : List Mailbox) (words : List (List ℕ)) (before rest : List Turn) (old new : M) →
-        AreNewTo (M.maildir_at old maildir) texts →
-        Come M.Machine maildir texts (before ++ (Command words named 0 ∷ rest)) old new →
-        AreAllSafe named (M.maildir_at new maildir) }
-    ensures swept { (maildir : List ℕ) (texts named : List Mailbox) (words : List (List ℕ)) (before : List Turn) (old new : M) →
-        AreNewTo (M.maildir_at old maildir) texts →
-        Come M.Machine maildir texts (before ++ (Command words named 0 ∷ [])) old new → 0 < length named →
-        IsSwept (M.maildir_at new maildir).files }
+    ensures sound { (maildir : List ℕ) (texts : List Mailbox) (events : List Event) (old new : M) →
+        (M.at old).honest → AreNewTo ((M.at old).maildir_at maildir) texts →
+        IsHistory M.at maildir texts events old new →
+        IsSoundFor texts ((M.at new).maildir_at maildir) }
+    ensures safe { (maildir : List ℕ) (texts named : List Mailbox) (words : List (List ℕ)) (before rest : List Event) (old new : M) →
+        (M.at old).honest → AreNewTo ((M.at old).maildir_at maildir) texts →
+        IsHistory M.at maildir texts (before ++ (Command words named 0 ∷ rest)) old new →
+        AreAllSafe named ((M.at new).maildir_at maildir) }
+    ensures swept { (maildir : List ℕ) (texts named : List Mailbox) (words : List (List ℕ)) (before : List Event) (old new : M) →
+        (M.at old).honest → AreNewTo ((M.at old).maildir_at maildir) texts →
+        IsHistory M.at maildir texts (before ++ (Command words named 0 ∷ [])) old new → 0 < length named →
+        IsSwept ((M.at new).maildir_at maildir).files }
 {}

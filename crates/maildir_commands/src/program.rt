@@ -3,7 +3,7 @@ ghost use Rattle.std.specs.Prelude.{◌≡◌, [], map, string_bytes};
 ghost use Rattle.std.specs.Io.Buffered.{writer_buffer, writer_contents};
 ghost use Rattle.maildir_commands.specs.Endings.{status_of};
 ghost use Rattle.maildir_commands.specs.Program.{Does, Ran, RanOn};
-ghost use Rattle.maildir_commands.specs.Seen.{seen, seen_with, streams};
+ghost use Rattle.maildir_commands.specs.Seen.{seen_with, streams};
 ghost use Rattle.maildir_commands.specs.Words.Request.{ToList, ToRewrite};
 ghost use Rattle.maildir_commands.specs.Private.Words.{name_of, request};
 
@@ -29,7 +29,7 @@ pub fn run<M: Machine, I: Read, W: Write + Drop, E: Write>(
     out: &mut BufWriter<W>,
     err: &mut E,
 ) -> u8
-    ensures ran { RanOn M.Machine (map string_bytes words.now) result machine.old machine.new
+    ensures ran { RanOn M.at (map string_bytes words.now) result machine.old machine.new
         (streams (I.remaining input.old) (writer_contents W.contents out.old) (E.contents err.old))
         (streams (I.remaining input.new) (writer_contents W.contents out.new) (E.contents err.new)) }
     ensures handed { result ≡ 0 → writer_buffer out.new ≡ [] }
@@ -49,7 +49,7 @@ pub fn execute<M: Machine, I: Read, W: Write + Drop, E: Write>(
     out: &mut BufWriter<W>,
     err: &mut E,
 ) -> Ending
-    ensures ran { let at = seen M.Machine in
+    ensures ran { let at = M.at in
         Ran (map string_bytes words.now) result
         (seen_with (at machine.old) (I.remaining input.old) (writer_contents W.contents out.old))
         (seen_with (at machine.new) (I.remaining input.new) (writer_contents W.contents out.new))
@@ -77,7 +77,7 @@ fn work<M: Machine, I: Read, W: Write + Drop>(
     input: &mut I,
     out: &mut BufWriter<W>,
 ) -> Result<(), Fault>
-    ensures does { let at = seen M.Machine in
+    ensures does { let at = M.at in
         Does (request command.entry) result
         (seen_with (at machine.old) (I.remaining input.old) (writer_contents W.contents out.old))
         (seen_with (at machine.new) (I.remaining input.new) (writer_contents W.contents out.new)) }
@@ -99,7 +99,7 @@ fn write_regular<M: Machine, I: Read, W: Write>(
     input: &mut I,
     out: &mut W,
 ) -> Result<(), Fault>
-    ensures does { let at = seen M.Machine in
+    ensures does { let at = M.at in
         Does (ToRewrite (name_of file.entry)) result
         (seen_with (at machine.old) (I.remaining input.old) (W.contents out.old))
         (seen_with (at machine.new) (I.remaining input.new) (W.contents out.new)) }
@@ -119,7 +119,7 @@ fn write_list<M: Machine, I: Read, W: Write>(
     input: &mut I,
     out: &mut W,
 ) -> Result<(), Fault>
-    ensures does { let at = seen M.Machine in
+    ensures does { let at = M.at in
         Does (ToList (name_of file.entry)) result
         (seen_with (at machine.old) (I.remaining input.old) (W.contents out.old))
         (seen_with (at machine.new) (I.remaining input.new) (W.contents out.new)) }

@@ -1,15 +1,11 @@
 // The sources of a conversion, each with a run of its own and its line.
-ghost use Rattle.std.specs.Prelude.{◌≡◌, ◌⊎◌, ℕ, ◌+◌, ◌*◌, ◌-◌, ◌^◌, min};
-ghost use Rattle.std.specs.Prelude.{List, [], map, string_bytes, IfOk, IfErr, OnOk, OnErr};
+ghost use Rattle.std.specs.Prelude.{◌≡◌, ◌+◌, ◌*◌, ◌-◌, ◌^◌, min, [], map, string_bytes, IfOk, IfErr, OnOk};
 ghost use Rattle.std.specs.Io.Buffered.{writer_buffer, writer_contents};
 ghost use Rattle.mbox_text.specs.Writing.{Writes};
-ghost use Rattle.maildir_disk.specs.Paths.{system_of};
-ghost use Rattle.maildir_commands.specs.Causes.{IsToldAs};
-ghost use Rattle.maildir_commands.specs.Machines.{Rests, held};
 ghost use Rattle.maildir_commands.specs.Program.{Does};
 ghost use Rattle.maildir_commands.specs.Report.{report_line};
-ghost use Rattle.maildir_commands.specs.Seen.{seen, seen_with};
-ghost use Rattle.maildir_commands.specs.Sources.{DeliversSource, seen_folder};
+ghost use Rattle.maildir_commands.specs.Seen.{seen_with};
+ghost use Rattle.maildir_commands.specs.Sources.{DeliversSource, KeepsSource, StopsSource, StoresSource, seen_folder};
 ghost use Rattle.maildir_commands.specs.Words.Request.{ToConvert};
 ghost use Rattle.maildir_commands.specs.Private.Report.{DeliversFiles};
 
@@ -23,33 +19,6 @@ use mbox_text::write_bytes;
 use std::alloc::Global;
 use std::io::{BufWriter, Read, Write};
 
-fn open_folder<M: Machine>(machine: &mut M, maildir: &str) -> Result<DiskFolder<M::Maildir>, Fault>
-    ensures honest { M.honest machine.old → M.honest machine.new }
-    ensures texts { M.honest machine.old → M.text_of machine.new ≡ M.text_of machine.old }
-    ensures refusals { M.honest machine.old → (word : List ℕ) → M.refuses_source machine.new word → M.refuses_source machine.old word }
-    ensures refused { M.honest machine.old → IfErr result (IsToldAs (M.refuses_maildir machine.old maildir.now)) }
-    ensures open { M.honest machine.old → OnOk result (M.is_open machine.new maildir.now) }
-    ensures works { M.honest machine.old → IfOk result (λ folder. M.Maildir.honest (system_of folder)) }
-    ensures opens { M.honest machine.old → IfOk result (λ folder. Rests (M.maildir_at machine.old maildir.now)
-        (held M.Maildir.System (system_of folder))) }
-    ensures rests { M.honest machine.old →
-        OnErr result (Rests (M.maildir_at machine.old maildir.now) (M.maildir_at machine.new maildir.now)) }
-    ensures others { M.honest machine.old → (word : List ℕ) → ¬ M.same maildir.now word →
-        Rests (M.maildir_at machine.old word) (M.maildir_at machine.new word) }
-    ensures quiet { M.quiet machine.old → M.quiet machine.new }
-    ensures works_quietly { M.quiet machine.old → IfOk result (λ folder. M.Maildir.quiet (system_of folder)) }
-    ensures opens_quietly { M.quiet machine.old →
-        IfOk result (λ folder. (M.Maildir.world (system_of folder)).files ≡ (M.maildir_at machine.old maildir.now).files) }
-    ensures rests_quietly { M.quiet machine.old →
-        OnErr result ((M.maildir_at machine.new maildir.now).files ≡ (M.maildir_at machine.old maildir.now).files) }
-    ensures causes { IfErr result (λ fault. (fault ≡ Fault.Folder) ⊎ (fault ≡ Fault.Locked) ⊎ (fault ≡ Fault.Run RunFault.OutOfMemory)) }
-{
-    match machine.open_maildir(maildir) {
-        Ok(system) => Ok(DiskFolder::new(system)),
-        Err(fault) => Err(Fault::of_folder(fault)),
-    }
-}
-
 /// Delivers the messages of standard input, or of each file where files are named, into the Maildir. The first file is
 /// opened before the Maildir, so that a file that cannot be opened leaves no folder behind.
 pub(crate) fn deliver_sources<M: Machine, I: Read, W: Write + Drop>(
@@ -60,19 +29,19 @@ pub(crate) fn deliver_sources<M: Machine, I: Read, W: Write + Drop>(
     input: &mut I,
     out: &mut BufWriter<W>,
 ) -> Result<(), Fault>
-    ensures does { let at = seen M.Machine in
+    ensures does { let at = M.at in
         Does (ToConvert maildir.now (map string_bytes files.now)) result
         (seen_with (at machine.old) (I.remaining input.old) (writer_contents W.contents out.old))
         (seen_with (at machine.new) (I.remaining input.new) (writer_contents W.contents out.new)) }
 {
     let Some((first, rest)) = files.split_first() else {
-        let mut folder = open_folder(machine, maildir)?;
+        let mut folder = DiskFolder::new(machine.open_maildir(maildir)?);
         let answer = deliver_one(alloc, &mut folder, input, out);
         machine.close_maildir(maildir, folder.into_system());
         return answer;
     };
     let mut source = open(machine, first.as_str())?;
-    let mut folder = open_folder(machine, maildir)?;
+    let mut folder = DiskFolder::new(machine.open_maildir(maildir)?);
     let answer = deliver_each(machine, alloc, &mut folder, &mut source, rest, out);
     machine.close_maildir(maildir, folder.into_system());
     answer
@@ -87,7 +56,7 @@ fn deliver_each<M: Machine, W: Write + Drop>(
     rest: &[String],
     out: &mut BufWriter<W>,
 ) -> Result<(), Fault>
-    ensures does { let at = seen M.Machine in let folder_at = seen_folder ⟦<DiskFolder<M::Maildir> as Folder>⟧ in
+    ensures does { let at = M.at in let folder_at = seen_folder ⟦<DiskFolder<M::Maildir> as Folder>⟧ in
         DeliversFiles (M.Source.remaining first.old) (map string_bytes rest.now) result (at machine.old) (at machine.new)
         (folder_at folder.old) (folder_at folder.new) (writer_contents W.contents out.old) (writer_contents W.contents out.new) }
 {
@@ -129,12 +98,29 @@ pub fn deliver<S: System, I: Read, W: Write>(
         DeliversSource result (I.remaining source.old) (I.remaining source.new) (W.contents out.old) (W.contents out.new)
         (at folder.old) (at folder.new) }
 {
+    let report = store(alloc, folder, source)?;
+    print_report(report, out)?;
+    Ok(())
+}
+
+// Delivers the messages of one source, by a run of its own, and syncs the Maildir.
+fn store<S: System, I: Read>(
+    alloc: Global,
+    folder: &mut DiskFolder<S>,
+    source: &mut I,
+) -> Result<Report, Fault>
+    ensures keeps { let at = seen_folder ⟦<DiskFolder<S> as Folder>⟧ in
+        KeepsSource (I.remaining source.old) (I.remaining source.new) (at folder.old) (at folder.new) }
+    ensures stored { let at = seen_folder ⟦<DiskFolder<S> as Folder>⟧ in
+        IfOk result (λ report. StoresSource report (I.remaining source.old) (I.remaining source.new) (at folder.old) (at folder.new)) }
+    ensures stopped { let at = seen_folder ⟦<DiskFolder<S> as Folder>⟧ in
+        IfErr result (λ fault. StopsSource fault (I.remaining source.old) (I.remaining source.new) (at folder.old) (at folder.new)) }
+{
     let report = convert(alloc, folder, source, READS)?;
     folder
         .sync()
         .map_err(|fault| Fault::of_sync(fault, calls_of(report)))?;
-    print_report(report, out)?;
-    Ok(())
+    Ok(report)
 }
 
 // How many calls of the folder a run made that gave this report: three listings, a removal for each file that was

@@ -1,9 +1,8 @@
 // Sources that are opened, and output that is handed on.
-ghost use Rattle.std.specs.Prelude.{◌≡◌, ◌⊎◌, Some, [], IfErr, IfOk, OnOk};
+ghost use Rattle.std.specs.Prelude.{◌≡◌, ◌⊎◌, [], IfErr, OnOk};
 ghost use Rattle.std.specs.Io.Buffered.{writer_buffer, writer_contents};
 ghost use Rattle.std.specs.Io.KnownBytes.{Keeps};
-ghost use Rattle.maildir_commands.specs.Seen.{seen};
-ghost use Rattle.maildir_commands.specs.Private.Machines.{OpensSources};
+ghost use Rattle.maildir_commands.specs.Opening.{OpensSource};
 
 use crate::fault::Fault;
 use crate::machine::Machine;
@@ -15,9 +14,7 @@ pub(crate) const READS: u64 = 1 << 40;
 
 /// Opens a file that is named as a source.
 pub(crate) fn open<M: Machine>(machine: &mut M, path: &str) -> Result<M::Source, Fault>
-    ensures opens { OpensSources (seen M.Machine machine.old) (seen M.Machine machine.new) }
-    ensures text { M.honest machine.old → IfOk result (λ source. M.Source.remaining source ≡ Some (M.text_of machine.old path.now)) }
-    ensures refused { M.honest machine.old → IfErr result (λ fault. fault ≡ Fault.Source → M.refuses_source machine.old path.now) }
+    ensures opens { OpensSource M.Source.remaining (λ fault. fault ≡ Fault.Source) path.now result (M.at machine.old) (M.at machine.new) }
     ensures causes { IfErr result (λ fault. (fault ≡ Fault.Source) ⊎ (fault ≡ Fault.Run RunFault.OutOfMemory)) }
 {
     match machine.open_source(path) {

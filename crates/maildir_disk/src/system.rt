@@ -187,5 +187,5 @@ pub trait System {
     ghost quiet_is_honest: { (system : Self) → quiet system → honest system };
 
     /// A power cut may leave the files as they are.
-    ghost may_leave_all: { (system : Self) → honest system → may_leave system (world system).files };
+    ghost may_stay: { (system : Self) → honest system → may_leave system (world system).files };
 }

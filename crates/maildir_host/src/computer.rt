@@ -1,6 +1,7 @@
 // The machine itself.
-ghost use Rattle.std.specs.Prelude.{◌≡◌, []};
-ghost use Rattle.maildir_commands.specs.Machines.{nothing_held, same_at};
+ghost use Rattle.std.specs.Prelude.{◌≡◌};
+ghost use Rattle.maildir_commands.proofs.Resting.{same_at};
+ghost use Rattle.maildir_commands.specs.Seen.{nothing_seen};
 
 use crate::host::Host;
 use maildir_commands::Machine;
@@ -33,27 +34,15 @@ impl<'a, R: Files<File = File> + Clock> Machine for Computer<'a, R> {
 
     type Maildir = Host<'a, R>;
 
-    ghost text_of = { λ _ _. [] };
-
-    ghost refuses_source = { λ _ _. Unit {0} };
-
-    ghost refuses_maildir = { λ _ _ _. Unit {0} };
-
-    ghost maildir_at = { λ _ _. nothing_held };
-
-    ghost is_open = { λ _ _. Unit {0} };
-
-    ghost same = { λ _ _. Unit {0} };
-
-    ghost honest = { λ _. ⊥ };
-
-    ghost quiet = { λ _. ⊥ };
+    ghost at = { λ _. nothing_seen };
 
     ghost quiet_is_honest = { λ _ quiet. quiet };
 
+    ghost same_words = { λ _ _ _ _ same. same };
+
     ghost same_maildir = { λ _ _ _ _. same_at };
 
-    ghost may_leave_all = { λ _ _ honest. absurd honest };
+    ghost may_stay = { λ _ _ honest. absurd honest };
 
     fn open_source(&mut self, path: &str) -> io::Result<File> {
         fs::open(self.rt, path)

@@ -122,7 +122,7 @@ impl<'a, R: Files + Clock> System for Host<'a, R> {
 
     ghost quiet_is_honest = { λ _ quiet. quiet };
 
-    ghost may_leave_all = { λ _ honest. honest };
+    ghost may_stay = { λ _ honest. honest };
 
     fn names(&mut self, sub: Sub) -> io::Result<Vec<String>> {
         disk::names(self.rt, self.alloc, self.path_of(sub)?.as_str())

@@ -12,7 +12,7 @@ use Rattle.maildir_memory.specs.Cases.{lefts_of}
 use Rattle.maildir_memory.specs.MemSystem.{cases_of, may_be_left}
 use Rattle.maildir_disk.specs.PowerCuts.{IsSingle}
 use Rattle.maildir_disk.proofs.Left.LeftHomes.{first_or, none_in}
-use Rattle.maildir_commands.specs.Commands.{IsCutOff}
+use Rattle.maildir_commands.specs.Commands.{LeftByPowerCut}
 use Rattle.maildir_memory.specs.MemMachines.{held_at}
 
 same_homes : (left new : Files) → new ≡ left → KeepsHomes left new
@@ -51,7 +51,7 @@ module _ (old new : MemSystem) (case : ℕ) (found : files_of new.folder ≡ get
   later_same later (inr has) =
       All-contains (λ (left : Files). left ≡ files_of new.folder) (cases_of new) later stays (Contains-append_left (lefts_of new.cases) _ later has)
 
-  pub mem_cut : IsCutOff (held_at (Some (Some old))) (held_at (Some (Some new)))
+  pub mem_cut : LeftByPowerCut (held_at (Some (Some old))) (held_at (Some (Some new)))
   mem_cut = record {
     left = left;
     may = may;

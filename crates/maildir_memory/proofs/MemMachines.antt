@@ -1,13 +1,19 @@
 -- Maildirs in memory under their words, where one of them is taken or put back.
-use Rattle.std.proofs.Common.{◌≡◌, ℕ, cond, List, Option, Some, None, IsTrue, String, rules, sym, ap, subst, ◌∙◌, inl, inr}
-use Rattle.std.proofs.lemmas.Bool.{cases_Bool}
+use Rattle.std.proofs.Common.{◌≡◌, ℕ, cond, List, Option, Some, None, Ok, Err, IsSome, IsTrue, String, rules, refl, sym, ap, subst, ◌∙◌, inl, inr}
+use Rattle.std.proofs.lemmas.Bool.{cases_Bool, false≢true}
 use Rattle.std.proofs.lemmas.Slice.Eq.{bytes_eq-Decides}
 use Rattle.std.specs.BTreeMap.{BTreeMap, get_by_text}
 use Rattle.std.specs.Map.{update}
 use Rattle.std.specs.Str.{bytes_eq}
+use Rattle.maildir_run.specs.declared.folder.FolderFault.TheVariants.{Failed}
+use Rattle.maildir_run.specs.MemFolder.{IsQuiet}
+use Rattle.maildir_disk.specs.declared.faults.OpenFault.TheVariants.{Folder, Locked}
 use Rattle.maildir_memory.specs.declared.mem_system.MemSystem.{MemSystem}
-use Rattle.maildir_commands.specs.Machines.{HeldMaildir, Rests}
-use Rattle.maildir_memory.specs.MemMachines.{AreAll, held_at, held_under_word}
+use Rattle.maildir_memory.specs.MemSystem.{HasNoTurns}
+use Rattle.maildir_memory.specs.declared.mem_machine.NamedText.{NamedText}
+use Rattle.maildir_commands.specs.Machines.{Rests}
+use Rattle.maildir_memory.specs.MemMachines.{AreAll, IsRefusedAt, held_at, held_under_word, open_in_memory, seen_in_memory}
+use Rattle.maildir_commands.specs.Opening.{ClosesMaildir, OpensMaildir}
 use Rattle.maildir_commands.proofs.Resting.{rest_same}
 
 module _ {X : Type 0} (old new : BTreeMap (String X) (Option MemSystem)) (path : List ℕ) (slot : Option MemSystem)
@@ -27,33 +33,115 @@ module _ {X : Type 0} (old new : BTreeMap (String X) (Option MemSystem)) (path :
   pub others_rest : (word : List ℕ) → ¬ IsTrue (bytes_eq path word) → Rests (held_under_word old word) (held_under_word new word)
   others_rest word other = subst (λ found. Rests (held_under_word old word) (held_at found)) (sym (off_path word other)) (rest_same)
 
-  pub path_rests : Rests (held_at (Some slot)) (held_under_word new path)
-  path_rests = subst (λ found. Rests (held_at (Some slot)) (held_at found)) (sym at_path) (rest_same)
-
   pub still_all : {P : MemSystem → Type 0} → AreAll P old → slot ≡ None → AreAll P new
   still_all {P} all none word system is = elim (cases_Bool (bytes_eq path word)) as (λ _. P system) [
     | inl on ↦ let off = sym (on_path word on ∙ ap Some none) ∙ is in cc
     | inr off ↦ all word system (sym (looked word ∙ ap (λ t. cond t (Some slot) (get_by_text old word)) off) ∙ is)
   ]
 
-  pub path_files : (held_under_word new path).files ≡ (held_at (Some slot)).files
-  path_files = ap (λ found. (held_at found).files) at_path
+  put_all : (P : MemSystem → Type 0) {system : MemSystem} → AreAll P old → slot ≡ Some system → P system → AreAll P new
+  put_all P {system} all put p word other is = elim (cases_Bool (bytes_eq path word)) as (λ _. P other) [
+    | inl on ↦
+        let same : Some (Some system) ≡ Some (Some other) = sym (on_path word on ∙ ap Some put) ∙ is in
+        let one : system ≡ other = cc in
+        subst P one p
+    | inr off ↦ all word other (sym (looked word ∙ ap (λ t. cond t (Some slot) (get_by_text old word)) off) ∙ is)
+  ]
 
-pub same_rests : {X : Type 0} {old new : BTreeMap (String X) (Option MemSystem)} → new ≡ old
-    → (word : List ℕ) → Rests (held_under_word old word) (held_under_word new word)
-same_rests {old} same word =
-    subst (λ maildirs. Rests (held_under_word old word) (held_under_word maildirs word)) (sym same) (rest_same)
+  pub others_files : (word : List ℕ) → ¬ IsTrue (bytes_eq path word) → (held_under_word new word).files ≡ (held_under_word old word).files
+  others_files word other = ap (λ found. (held_at found).files) (off_path word other)
 
-pub found_rests : {X : Type 0} (old : BTreeMap (String X) (Option MemSystem)) (path : List ℕ) {system : MemSystem}
-    → get_by_text old path ≡ Some (Some system) → Rests (held_under_word old path) (held_at (Some (Some system)))
-found_rests old path {system} is = subst (λ found. Rests (held_at found) (held_at (Some (Some system)))) (sym is) (rest_same)
+  -- ---- a Maildir that is not open is taken
+  module _ (texts : List NamedText) (is_taken : slot ≡ None) where
+    pub takes : {system : MemSystem} → get_by_text old path ≡ Some (Some system)
+        → OpensMaildir open_in_memory path (Ok system) (seen_in_memory texts old) (seen_in_memory texts new)
+    takes {system} is = record {
+      honest = λ h. still_all h is_taken;
+      texts = λ h. refl;
+      refusals = λ h word refused. refused;
+      is_open = λ h. subst IsSome (sym at_path) refl;
+      works = λ h. h path system is;
+      opens = λ h. subst (λ found. Rests (held_at found) (held_at (Some (Some system)))) (sym is) rest_same;
+      refused = λ h. tt;
+      rests = λ h. tt;
+      others = λ h. others_rest;
+      quiet = λ q. still_all q is_taken;
+      works_quietly = λ q. q path system is;
+      opens_quietly = λ q. sym (ap (λ found. (held_at found).files) is);
+      rests_quietly = λ q. tt;
+      others_quietly = λ q. others_files;
+    }
 
-pub found_files : {X : Type 0} (old : BTreeMap (String X) (Option MemSystem)) (path : List ℕ) {system : MemSystem}
-    → get_by_text old path ≡ Some (Some system) → (held_at (Some (Some system))).files ≡ (held_under_word old path).files
-found_files old path is = sym (ap (λ found. (held_at found).files) is)
+    -- it is open
+    pub takes_none : get_by_text old path ≡ Some None
+        → OpensMaildir open_in_memory path (Err Locked) (seen_in_memory texts old) (seen_in_memory texts new)
+    takes_none is =
+        let same : get_by_text new path ≡ get_by_text old path = at_path ∙ (ap Some is_taken ∙ sym is) in
+        record {
+          honest = λ h. still_all h is_taken;
+          texts = λ h. refl;
+          refusals = λ h word refused. refused;
+          is_open = λ h. tt;
+          works = λ h. tt;
+          opens = λ h. tt;
+          refused = λ h. subst (λ found. IsRefusedAt found Locked) (sym is) refl;
+          rests = λ h. subst (λ found. Rests (held_under_word old path) (held_at found)) (sym same) rest_same;
+          others = λ h. others_rest;
+          quiet = λ q. still_all q is_taken;
+          works_quietly = λ q. tt;
+          opens_quietly = λ q. tt;
+          rests_quietly = λ q. ap (λ found. (held_at found).files) same;
+          others_quietly = λ q. others_files;
+        }
 
--- it is open, and stays so
-pub open_rests : {X : Type 0} (old : BTreeMap (String X) (Option MemSystem)) (path : List ℕ) {slot : Option MemSystem} {new : HeldMaildir}
-    → get_by_text old path ≡ Some None → slot ≡ None → Rests (held_at (Some slot)) new → Rests (held_under_word old path) new
-open_rests old path {slot} {new} is none rests =
-    subst (λ found. Rests (held_at found) new) (sym is) (subst (λ slot. Rests (held_at (Some slot)) new) none rests)
+  -- ---- a Maildir that is open is put back
+  pub puts : (texts : List NamedText) {system : MemSystem} → slot ≡ Some system
+      → ClosesMaildir path (open_in_memory system) (seen_in_memory texts old) (seen_in_memory texts new)
+  puts texts {system} is_put =
+      let at : get_by_text new path ≡ Some (Some system) = at_path ∙ ap Some is_put in
+      record {
+        honest = λ h working. put_all (λ system. IsQuiet system.folder) h is_put working;
+        texts = λ h. refl;
+        closes = λ h is. subst (λ found. Rests (held_at (Some (Some system))) (held_at found)) (sym at) rest_same;
+        others = λ h. others_rest;
+        closes_quietly = λ q is. ap (λ found. (held_at found).files) at;
+        others_quietly = λ q. others_files;
+      }
+
+-- ---- none is there
+module _ {X : Type 0} (texts : List NamedText) (old new : BTreeMap (String X) (Option MemSystem)) (path : List ℕ) (same : new ≡ old) where
+  same_rests : (word : List ℕ) → Rests (held_under_word old word) (held_under_word new word)
+  same_rests word = subst (λ maildirs. Rests (held_under_word old word) (held_under_word maildirs word)) (sym same) rest_same
+
+  same_files : (word : List ℕ) → (held_under_word new word).files ≡ (held_under_word old word).files
+  same_files word = ap (λ maildirs. (held_under_word maildirs word).files) same
+
+  pub finds_none : get_by_text old path ≡ None
+      → OpensMaildir open_in_memory path (Err (Folder Failed)) (seen_in_memory texts old) (seen_in_memory texts new)
+  finds_none none = record {
+    honest = λ h. subst (AreAll (λ system. IsQuiet system.folder)) (sym same) h;
+    texts = λ h. refl;
+    refusals = λ h word refused. refused;
+    is_open = λ h. tt;
+    works = λ h. tt;
+    opens = λ h. tt;
+    refused = λ h. subst (λ found. IsRefusedAt found (Folder Failed)) (sym none) refl;
+    rests = λ h. same_rests path;
+    others = λ h word other. same_rests word;
+    quiet = λ q. subst (AreAll HasNoTurns) (sym same) q;
+    works_quietly = λ q. tt;
+    opens_quietly = λ q. tt;
+    rests_quietly = λ q. same_files path;
+    others_quietly = λ q word other. same_files word;
+  }
+
+  pub puts_none : (system : MemSystem) → get_by_text old path ≡ None
+      → ClosesMaildir path (open_in_memory system) (seen_in_memory texts old) (seen_in_memory texts new)
+  puts_none system none = record {
+    honest = λ h working. subst (AreAll (λ system. IsQuiet system.folder)) (sym same) h;
+    texts = λ h. refl;
+    closes = λ h is. absurd (false≢true (subst IsSome none is));
+    others = λ h word other. same_rests word;
+    closes_quietly = λ q is. absurd (false≢true (subst IsSome none is));
+    others_quietly = λ q word other. same_files word;
+  }

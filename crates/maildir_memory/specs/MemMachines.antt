@@ -1,16 +1,16 @@
 -- What a machine in memory has under a word.
-use Rattle.std.specs.Prelude.{◌≡◌, ℕ, Bool, true, false, List, [], ◌∷◌, Option, Some, None, String, IsTrue, if◌then◌else◌}
-use Rattle.std.proofs.Common.{inl, refl, subst}
-use Rattle.std.proofs.lemmas.Slice.Eq.{bytes_eq-Decides}
+use Rattle.std.specs.Prelude.{◌≡◌, ℕ, Bool, true, false, List, [], ◌∷◌, Option, Some, None, String, IsSome, IsTrue, if◌then◌else◌}
 use Rattle.std.specs.BTreeMap.{BTreeMap, get_by_text}
 use Rattle.std.specs.Str.{bytes_eq}
+use Rattle.maildir_run.specs.MemFolder.{IsQuiet}
 use Rattle.maildir_run.specs.declared.folder.FolderFault.TheVariants.{Failed}
 use Rattle.maildir_disk.specs.declared.faults.OpenFault.{OpenFault}
 use Rattle.maildir_disk.specs.declared.faults.OpenFault.TheVariants.{Folder, Locked}
 use Rattle.maildir_memory.specs.declared.mem_system.MemSystem.{MemSystem}
-use Rattle.maildir_memory.specs.MemSystem.{may_be_left, world_of}
+use Rattle.maildir_memory.specs.MemSystem.{HasNoTurns, may_be_left, world_of}
 use Rattle.maildir_memory.specs.declared.mem_machine.NamedText.{NamedText}
-use Rattle.maildir_commands.specs.Machines.{AreAt, HeldMaildir, nothing_held, same_at}
+use Rattle.maildir_commands.specs.Machines.{HeldMaildir, nothing_held}
+use Rattle.maildir_commands.specs.Seen.{OpenMaildir, SeenMachine}
 
 -- the first text of this name, and none where no text has it
 abbrev pub text_under : List NamedText → List ℕ → List ℕ
@@ -28,11 +28,19 @@ IsRefusedAt None fault = fault ≡ Folder Failed
 IsRefusedAt (Some None) fault = fault ≡ Locked
 IsRefusedAt (Some (Some _)) fault = ⊥
 
+-- a Maildir in memory that is open
+abbrev pub open_in_memory : MemSystem → OpenMaildir
+open_in_memory system = record {
+  honest = IsQuiet system.folder;
+  quiet = HasNoTurns system;
+  held = record { files = (world_of system).files; may_leave = may_be_left system; rooted = IsTrue system.is_rooted };
+}
+
 -- the Maildir that is there and not open
 abbrev pub held_at : Option (Option MemSystem) → HeldMaildir
 held_at None = nothing_held
 held_at (Some None) = nothing_held
-held_at (Some (Some system)) = record { files = (world_of system).files; may_leave = may_be_left system; rooted = IsTrue system.is_rooted }
+held_at (Some (Some system)) = (open_in_memory system).held
 
 -- the Maildir under this word
 abbrev pub held_under_word : {X : Type 0} → BTreeMap (String X) (Option MemSystem) → List ℕ → HeldMaildir
@@ -42,14 +50,15 @@ held_under_word maildirs word = held_at (get_by_text maildirs word)
 abbrev pub AreAll : {X : Type 0} → (MemSystem → Type 0) → BTreeMap (String X) (Option MemSystem) → Type 0
 AreAll P maildirs = (word : List ℕ) (system : MemSystem) → get_by_text maildirs word ≡ Some (Some system) → P system
 
--- a power cut may leave its files as they are
-pub held_may_stay : (found : Option (Option MemSystem)) → (held_at found).may_leave (held_at found).files
-held_may_stay None = refl
-held_may_stay (Some None) = refl
-held_may_stay (Some (Some system)) = inl refl
-
--- two words with the same bytes have the same Maildir
-pub held_alike : {X : Type 0} (maildirs : BTreeMap (String X) (Option MemSystem)) (word other : List ℕ) → IsTrue (bytes_eq word other)
-    → AreAt (held_under_word maildirs word) (held_under_word maildirs other)
-held_alike maildirs word other same =
-    subst (λ w. AreAt (held_under_word maildirs word) (held_under_word maildirs w)) ((bytes_eq-Decides word other).0 same) same_at
+-- what is seen of the machine with these texts and Maildirs
+abbrev pub seen_in_memory : {X : Type 0} → List NamedText → BTreeMap (String X) (Option MemSystem) → SeenMachine
+seen_in_memory texts maildirs = record {
+  honest = AreAll (λ system. IsQuiet system.folder) maildirs;
+  quiet = AreAll HasNoTurns maildirs;
+  text_of = text_under texts;
+  refuses_source = λ word. has_text texts word ≡ false;
+  maildir_at = held_under_word maildirs;
+  refuses_maildir = λ word. IsRefusedAt (get_by_text maildirs word);
+  is_open = λ word. IsSome (get_by_text maildirs word);
+  same = λ word other. IsTrue (bytes_eq word other);
+}

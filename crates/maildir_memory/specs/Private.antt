@@ -2,3 +2,5 @@
 
 -- What a change adds to the cases of what a power cut may leave.
 pub mod Cases
+-- Proofs of laws of the trait `Machine`, for the machine in memory.
+pub mod Laws

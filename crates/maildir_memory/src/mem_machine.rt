@@ -1,9 +1,6 @@
 // A machine in memory.
-ghost use Rattle.std.specs.Prelude.{◌≡◌, ℕ, List, false, None, Some, IfSome, IsNone, IsSome, IsTrue, OnOk, string_bytes};
+ghost use Rattle.std.specs.Prelude.{◌≡◌, ℕ, List, None, Some, IfSome, IsNone, OnOk, string_bytes};
 ghost use Rattle.std.specs.BTreeMap.{get_by_text};
-ghost use Rattle.std.specs.Str.{bytes_eq};
-ghost use Rattle.maildir_run.specs.MemFolder.{IsQuiet};
-ghost use Rattle.maildir_memory.specs.MemSystem.{HasNoTurns};
 
 use crate::mem_system::MemSystem;
 use maildir_commands::Machine;
@@ -69,33 +66,22 @@ impl<'a> MemMachine<'a> {
 }
 
 impl<'a> Machine for MemMachine<'a> {
-    ghost use Rattle.maildir_memory.specs.MemMachines.{AreAll, IsRefusedAt, has_text, held_alike, held_may_stay, held_under_word, text_under};
+    ghost use Rattle.maildir_memory.specs.MemMachines.{seen_in_memory};
+    ghost use Rattle.maildir_memory.specs.Private.Laws.{held_alike, held_may_stay};
 
     type Source = &'a [u8];
 
     type Maildir = MemSystem;
 
-    ghost text_of = { λ machine word. text_under machine.texts.now word };
-
-    ghost refuses_source = { λ machine word. has_text machine.texts.now word ≡ false };
-
-    ghost refuses_maildir = { λ machine word. IsRefusedAt (get_by_text machine.maildirs word) };
-
-    ghost maildir_at = { λ machine word. held_under_word machine.maildirs word };
-
-    ghost is_open = { λ machine word. IsSome (get_by_text machine.maildirs word) };
-
-    ghost same = { λ word other. IsTrue (bytes_eq word other) };
-
-    ghost honest = { λ machine. AreAll (λ system. IsQuiet system.folder) machine.maildirs };
-
-    ghost quiet = { λ machine. AreAll HasNoTurns machine.maildirs };
+    ghost at = { λ machine. seen_in_memory machine.texts.now machine.maildirs };
 
     ghost quiet_is_honest = { λ _ quiet word system is. (quiet word system is).no_script };
 
+    ghost same_words = { λ _ _ _ _ same. same };
+
     ghost same_maildir = { λ machine. held_alike machine.maildirs };
 
-    ghost may_leave_all = { λ machine word _. held_may_stay (get_by_text machine.maildirs word) };
+    ghost may_stay = { λ machine word _. held_may_stay (get_by_text machine.maildirs word) };
 
     fn open_source(&mut self, path: &str) -> io::Result<&'a [u8]> {
         let texts = self.texts;

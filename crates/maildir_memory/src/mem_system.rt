@@ -171,7 +171,7 @@ impl System for MemSystem {
 
     ghost quiet_is_honest = { λ _ quiet. quiet.no_script };
 
-    ghost may_leave_all = { λ _ _. inl refl };
+    ghost may_stay = { λ _ _. inl refl };
 
     fn names(&mut self, sub: Sub) -> io::Result<Vec<String>> {
         let stamp = self.stamp;

@@ -1,13 +1,13 @@
 -- What came of delivering texts.
 use Rattle.std.specs.Prelude.{◌≡◌, ◌⊎◌, ℕ, ◌+◌, List, [], ◌∷◌, length, map, IfErr, OnErr, OnOk, Option, Some, Result}
 use Rattle.std.specs.Io.KnownBytes.{Keeps}
-use Rattle.maildir_run.specs.Delivery.{IsSwept, has_home}
+use Rattle.maildir_run.specs.Delivery.{IsSwept, has_home, leftover_count}
 use Rattle.maildir_run.specs.Foreign.{KeepsForeign}
 use Rattle.maildir_run.specs.Several.{Mailbox}
 use Rattle.maildir_commands.specs.Machines.{AreFit, HasAlso, HeldMaildir, IsSafeIn, IsSoundFor, OthersStay, bytes_of}
 use Rattle.maildir_commands.specs.declared.fault.Fault.{Fault}
 use Rattle.maildir_commands.specs.Private.Causes.{IsOfFiles}
-use Rattle.maildir_commands.specs.Private.Machines.{OpensSources}
+use Rattle.maildir_commands.specs.Opening.{OpensSources}
 use Rattle.maildir_commands.specs.Program.{Delivers}
 use Rattle.maildir_commands.specs.Report.{IsReportOf, PrintsOne, PrintsReport, PrintsReports}
 use Rattle.maildir_commands.specs.Seen.{SeenMachine}
@@ -16,7 +16,7 @@ use Rattle.maildir_commands.specs.Sources.{SeenMaildir}
 -- What came of delivering one text.
 pub record DeliversOne {A E : Type 0} (answer : Result A E) (text : Mailbox) (old new : HeldMaildir) (was is : Option (List ℕ)) : Type 0 where
   pub safe : OnOk answer (IsSafeIn new text)
-  pub line : OnOk answer (PrintsReport was is (IsReportOf (has_home old.files) text))
+  pub line : OnOk answer (PrintsReport was is (IsReportOf (has_home old.files) (leftover_count old.files) text))
   pub known : OnOk answer (HasAlso text.messages old.files new.files)
   pub swept : OnOk answer (IsSwept new.files)
   pub stopped : OnErr answer (Keeps was is ⊎ PrintsOne old new text was is)
@@ -34,3 +34,4 @@ pub record DeliversFiles (first : Option (List ℕ)) (files : List (List ℕ)) (
       bytes_of texts ≡ text ∷ map old.text_of files → AreFit texts → IsSoundFor texts start.held →
       Delivers answer texts start.held now.held was is
   pub foreign : start.quiet → KeepsForeign start.held.files now.held.files
+  pub honest : old.honest → start.honest → OnOk answer now.honest

@@ -1,6 +1,5 @@
 use Rattle.std.proofs.Common.{refl, sym, ◌∙◌}
 use Rattle.std.proofs.KnownBytes.{Keeps-refl}
-use Rattle.std.proofs.lemmas.Bool.{false≢true}
 use Rattle.maildir_commands.proofs.Endings.{one_no_two, one_no_zero, two_no_zero, zero_no_two}
 use Rattle.maildir_commands.proofs.Requests.{both_done, did_all, does_both}
 use Rattle.maildir_commands.proofs.program.execute.Goals as goal
@@ -8,7 +7,7 @@ use Rattle.maildir_commands.proofs.program.execute.Goals as goal
 -- the words are of no form
 pub returns-in_default : goal.returns-in_default
 returns-in_default g c = record {
-  ran = (λ form. false≢true (c.in_default.ensures.form.1 form), c.tell_wrong_words.ensures.told);
+  ran = (c.in_default.ensures, c.tell_wrong_words.ensures.told);
   handed = λ e. absurd (two_no_zero e);
   untouched = λ e. (refl, refl, refl);
 }
@@ -20,7 +19,7 @@ returns-in-Ok g c =
     let flush = c.flush.ensures in
     record {
       ran = (
-        did_all (c.in-Some.ensures.form.0 refl) c.in-Some.ensures.words
+        did_all c.in-Some.ensures
             (does_both _ _ _ _ _ flush.same _ _ is flush.causes c.work-answer.ensures.does),
         Keeps-refl _,
       );
@@ -33,8 +32,10 @@ pub returns-in-Err : goal.returns-in-Err
 returns-in-Err g c =
     let flush = c.flush.ensures in
     record {
-      ran = did_all (c.in-Some.ensures.form.0 refl) c.in-Some.ensures.words
-          (does_both _ _ _ _ _ flush.same _ _ (sym c.in-Err.is ∙ c.and.ensures) flush.causes c.work-answer.ensures.does);
+      ran = (
+        did_all c.in-Some.ensures (does_both _ _ _ _ _ flush.same _ _ (sym c.in-Err.is ∙ c.and.ensures) flush.causes c.work-answer.ensures.does),
+        c.tell_fault.ensures.told,
+      );
       handed = λ e. absurd (one_no_zero e);
       untouched = λ e. absurd (one_no_two e);
     }

@@ -25,7 +25,7 @@ returns-in_err-open-in-Some g c =
     let opened = c.in_err-open-in-Some.ensures in
     record {
       does = asked_as ToList c.in-Some.is (ended _ c.from_residual-in_err-open-in-Some.ensures.1
-          (not_opened (ToList (Some c.in-Some.path.now)) table_of _ refl (λ answer old new did. did) _ _ opened.opens _ _ opened.causes opened.refused));
+          (not_opened (ToList (Some c.in-Some.path.now)) table_of _ refl (λ answer old new did. did) _ _ opened.opens.opens _ _ opened.causes opened.opens.refused));
     }
 
 pub returns-in_err-list_text-in-Some : goal.returns-in_err-list_text-in-Some
@@ -34,7 +34,7 @@ returns-in_err-list_text-in-Some g c =
     let stopped = c.in_err-list_text-in-Some.ensures in
     record {
       does = asked_as ToList c.in-Some.is (ended _ c.from_residual-in_err-list_text-in-Some.ensures.1
-          (file_stopped (ToList (Some c.in-Some.path.now)) table_of _ refl (λ answer old new did. did) _ _ opened.opens _ _ _ _ _ opened.text _ stopped.budget _
+          (file_stopped (ToList (Some c.in-Some.path.now)) table_of _ refl (λ answer old new did. did) _ _ opened.opens.opens _ _ _ _ _ opened.opens.text _ stopped.budget _
           stopped.causes (λ e. stopped.no_from_line (ap Err e)) (λ e. stopped.spent (ap Err e)) stopped.front));
     }
 
@@ -44,5 +44,5 @@ returns-in_ok-list_text-in-Some g c =
     let done = c.in_ok-list_text-in-Some.ensures in
     record {
       does = asked_as ToList c.in-Some.is
-          (file_done (ToList (Some c.in-Some.path.now)) table_of _ refl (λ answer old new did. did) _ _ opened.opens _ _ _ _ _ opened.text _ done.budget _ done.all);
+          (file_done (ToList (Some c.in-Some.path.now)) table_of _ refl (λ answer old new did. did) _ _ opened.opens.opens _ _ _ _ _ opened.opens.text _ done.budget _ done.all);
     }

@@ -26,7 +26,7 @@ returns-in_err-open-in-Some g c =
     let opened = c.in_err-open-in-Some.ensures in
     record {
       does = asked_as ToRewrite c.in-Some.is (ended _ c.from_residual-in_err-open-in-Some.ensures.1
-          (not_opened (ToRewrite (Some c.in-Some.path.now)) (flat_map spelling) _ refl (λ answer old new did. did) _ _ opened.opens _ _ opened.causes opened.refused));
+          (not_opened (ToRewrite (Some c.in-Some.path.now)) (flat_map spelling) _ refl (λ answer old new did. did) _ _ opened.opens.opens _ _ opened.causes opened.opens.refused));
     }
 
 pub returns-in_err-rewrite-in-Some : goal.returns-in_err-rewrite-in-Some
@@ -35,7 +35,7 @@ returns-in_err-rewrite-in-Some g c =
     let stopped = c.in_err-rewrite-in-Some.ensures in
     record {
       does = asked_as ToRewrite c.in-Some.is (ended _ c.from_residual-in_err-rewrite-in-Some.ensures.1
-          (file_stopped (ToRewrite (Some c.in-Some.path.now)) (flat_map spelling) _ refl (λ answer old new did. did) _ _ opened.opens _ _ _ _ _ opened.text _ stopped.budget _
+          (file_stopped (ToRewrite (Some c.in-Some.path.now)) (flat_map spelling) _ refl (λ answer old new did. did) _ _ opened.opens.opens _ _ _ _ _ opened.opens.text _ stopped.budget _
           stopped.causes (λ e. stopped.no_from_line (ap Err e)) (λ e. stopped.spent (ap Err e)) stopped.front));
     }
 
@@ -45,5 +45,5 @@ returns-in_ok-rewrite-in-Some g c =
     let done = c.in_ok-rewrite-in-Some.ensures in
     record {
       does = asked_as ToRewrite c.in-Some.is
-          (file_done (ToRewrite (Some c.in-Some.path.now)) (flat_map spelling) _ refl (λ answer old new did. did) _ _ opened.opens _ _ _ _ _ opened.text _ done.budget _ done.all);
+          (file_done (ToRewrite (Some c.in-Some.path.now)) (flat_map spelling) _ refl (λ answer old new did. did) _ _ opened.opens.opens _ _ _ _ _ opened.opens.text _ done.budget _ done.all);
     }

@@ -9,6 +9,6 @@ returns-in_err-deliver g c =
 
 pub returns : goal.returns
 returns g c = record {
-  does = source_handed _ _ _ _ _ _ _ c.flush.ensures.same c.in_ok-deliver.ensures.does _ c.flush.ensures.causes;
+  does = source_handed c.flush.ensures.same c.in_ok-deliver.ensures.does _ c.flush.ensures.causes;
   handed = c.flush.ensures.handed;
 }

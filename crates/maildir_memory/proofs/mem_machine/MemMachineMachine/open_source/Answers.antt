@@ -1,8 +1,10 @@
-use Rattle.maildir_commands.proofs.Resting.{rest_same}
+use Rattle.std.proofs.Common.{arith}
+use Rattle.std.proofs.lemmas.Grind.{common_steps}
+use Rattle.maildir_commands.proofs.Resting.{opens_none}
 use Rattle.maildir_memory.proofs.mem_machine.MemMachineMachine.open_source.Goals as goal
 
-pub returns-then-eq-clause-rests : goal.returns-then-eq-clause-rests
-returns-then-eq-clause-rests c = λ h word. rest_same
+pub returns-then-eq : goal.returns-then-eq
+returns-then-eq c = record { opens = opens_none; text = λ h. grind (arith, common_steps); refused = λ h. tt }
 
-pub returns-clause-rests : goal.returns-clause-rests
-returns-clause-rests c = λ h word. rest_same
+pub returns : goal.returns
+returns c = record { opens = opens_none; text = λ h. tt; refused = λ h growth. grind (arith, common_steps) }

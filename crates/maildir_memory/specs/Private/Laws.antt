@@ -1,0 +1,22 @@
+-- Proofs of laws of the trait `Machine`, for the machine in memory.
+use Rattle.std.proofs.Common.{inl, refl, subst}
+use Rattle.std.proofs.lemmas.Slice.Eq.{bytes_eq-Decides}
+use Rattle.std.specs.Prelude.{ℕ, List, Option, Some, None, String, IsTrue}
+use Rattle.std.specs.BTreeMap.{BTreeMap}
+use Rattle.std.specs.Str.{bytes_eq}
+use Rattle.maildir_commands.specs.Machines.{AreAt}
+use Rattle.maildir_commands.proofs.Resting.{same_at}
+use Rattle.maildir_memory.specs.declared.mem_system.MemSystem.{MemSystem}
+use Rattle.maildir_memory.specs.MemMachines.{held_at, held_under_word}
+
+-- a power cut may leave its files as they are
+pub held_may_stay : (found : Option (Option MemSystem)) → (held_at found).may_leave (held_at found).files
+held_may_stay None = refl
+held_may_stay (Some None) = refl
+held_may_stay (Some (Some system)) = inl refl
+
+-- two words with the same bytes have the same Maildir
+pub held_alike : {X : Type 0} (maildirs : BTreeMap (String X) (Option MemSystem)) (word other : List ℕ) → IsTrue (bytes_eq word other)
+    → AreAt (held_under_word maildirs word) (held_under_word maildirs other)
+held_alike maildirs word other same =
+    subst (λ w. AreAt (held_under_word maildirs word) (held_under_word maildirs w)) ((bytes_eq-Decides word other).0 same) same_at
