@@ -1,11 +1,11 @@
-// A list of bytes that a caller reads as a slice.
+// The bytes of a message.
 ghost use Rattle.std.specs.Prelude.{◌≡◌, nat_eq, List, ℕ};
 ghost use Rattle.std.specs.Cmp.{partial_equiv_from_equiv};
 ghost use Rattle.std.specs.Cmp.Lexicographic.{nat_list_eq_equiv, pointwise};
 
 use std::marker::Model;
 
-/// Bytes of a message. Contracts see them as the list of the bytes.
+/// The bytes of a From_ line or a body. Contracts see the list of bytes.
 #[derive(Debug, Drop)]
 pub struct Bytes {
     bytes: Vec<u8>,
@@ -18,7 +18,7 @@ impl Model for Bytes {
 }
 
 impl Bytes {
-    /// These bytes. Takes no memory.
+    /// Wraps these bytes. Allocates nothing.
     pub fn new(bytes: Vec<u8>) -> Bytes
         ensures { result ≡ bytes.items }
     {
