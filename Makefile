@@ -1,15 +1,16 @@
 # make            prove the crates and build build/mbox2maildir
 # make run        deliver the example mailboxes to a fresh Maildir under build/, and show what it holds
 # make test       prove and test everything from nothing: the gate of the repository
-# make install    copy the program, its pages, its scripts and its completion below PREFIX
+# make install    copy the program, its companion, their pages and completions below PREFIX
+# make uninstall  remove what install has copied there
 # make deb        make a Debian package of the same, in build/; make rpm one of RPM, and make tarball a plain one
 # make dist       make a tarball of what git tracks, in build/
 # make bench      time the program on generated mail beside cat, sha256sum and a plain C program (SIZE=megabytes)
 # make clean      remove build/
 #
-# Each needs the command rt and a shell, but for dist and clean; where build/mbox2maildir is newer than the sources, install
-# and the packages need no rt. make test wants python3 besides, the packages binutils, make deb dpkg-deb too, make rpm
-# rpmbuild, make dist git, and make bench gcc and python3.
+# Each needs the command rt and a shell, but for uninstall, dist and clean; where build/mbox2maildir is newer than the
+# sources, install and the packages need no rt. make test wants python3 besides, the packages binutils, make deb dpkg-deb
+# too, make rpm rpmbuild, make dist git, and make bench gcc and python3.
 
 PREFIX ?= /usr/local
 VERSION := $(shell cat VERSION)
@@ -55,6 +56,9 @@ test:
 install: $(PROGRAM)
 	packaging/install $(PROGRAM) $(DESTDIR)$(PREFIX)
 
+uninstall:
+	packaging/install --remove $(DESTDIR)$(PREFIX)
+
 deb rpm tarball: $(PROGRAM)
 	packaging/package $@ $(PROGRAM) $(DIST)
 
@@ -69,4 +73,4 @@ bench: $(PROGRAM)
 clean:
 	rm -rf build
 
-.PHONY: all run test install deb rpm tarball dist bench clean
+.PHONY: all run test install uninstall deb rpm tarball dist bench clean

@@ -6,7 +6,8 @@ A line `*Carried by* .. *Edits* ..` names what carries a promise: public calls w
 fields, as `Record: field`. A call of a type or a trait is named with it, as `Folder::list`. Edits are named by their
 mistakes: the file of one is named for the function that it changes and the mistake, as `Splitter.new.begins_refused.edit`.
 The column Test of a table names tests, as `name in crate` or `name in file`. Whatever else a page calls by words with
-underscores between them, but for the commands that it shows, is to be somewhere in the sources.
+underscores between them, but for the commands that it shows, or by a capital word between backquotes, is to be somewhere in
+the sources.
 """
 import re
 import sys
@@ -19,6 +20,7 @@ FUNCTION = re.compile(r"^ *(pub(?:\(crate\))? )?fn (\w+)", re.MULTILINE)
 CLAUSE = re.compile(r"\bensures (?:(\w+) )?\{")
 SPAN = re.compile(r"`([^`]+)`")
 NAME = re.compile(r"\b[a-z][a-z0-9]*(?:_[a-z0-9]+)+\b")
+TYPE = re.compile(r"\b[A-Z][a-z0-9]+(?:[A-Z][a-z0-9]*)*\b")
 COMMANDS = re.compile(r"^ {4}.*$", re.MULTILINE)
 CARRIED = re.compile(r"^\*Carried by\* (.*?)(?:\*Edits\* (.*))?$", re.MULTILINE)
 RECORD = re.compile(r"^pub record (\w+).*?\bwhere$(.*?)(?=^\S|\Z)", re.DOTALL | re.MULTILINE)
@@ -127,11 +129,12 @@ def wrong_edits(edits, functions):
 
 
 def words_of_sources():
-    """Each name that has underscores, of the sources of the crates and the tests, and of their files."""
+    """Each name that has underscores or a capital, of the sources of the crates and the tests, and of their files."""
     files = [path for path in TOP.glob("crates/*/*/**/*") if path.is_file() and path.relative_to(TOP).parts[2] != "out"]
     files += [path for path in TOP.glob("tests/*") if path.is_file()]
     crates = {path.name for path in TOP.glob("crates/*")}
-    return crates.union(*(NAME.findall(f"{path.stem} {path.read_text(encoding='utf-8')}") for path in files))
+    texts = [f"{path.stem} {path.read_text(encoding='utf-8')}" for path in files]
+    return crates.union(*(pattern.findall(text) for text in texts for pattern in (NAME, TYPE)))
 
 
 def main():
@@ -151,7 +154,9 @@ def main():
     words = words_of_sources()
     for page in PAGES:
         text = COMMANDS.sub("", (TOP / page).read_text(encoding="utf-8"))
-        unknown = set(NAME.findall(text)) - words
+        # the guide's capital words are folders
+        types = {span for span in SPAN.findall(text) if TYPE.fullmatch(span) and page != "docs/MIGRATE.md"}
+        unknown = {*NAME.findall(text), *types} - words
         wrong.extend(f"{page}: {name} is nowhere in the sources" for name in sorted(unknown))
     for line in wrong:
         print(line)

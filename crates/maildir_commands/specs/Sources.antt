@@ -30,13 +30,15 @@ pub record SeenMaildir : Type 1 where
 
 -- what these say of a folder
 abbrev pub seen_folder : {F : Type 0} → Ghosts F → F → SeenMaildir
-seen_folder f folder = record {
-  honest = f.honest folder;
-  quiet = f.quiet folder;
-  held = record { files = f.files folder; may_leave = f.may_leave folder; rooted = f.rooted folder };
-  calls = f.calls folder;
-  failures = f.failures folder;
-}
+seen_folder f folder =
+    let seen = f.at folder in
+    record {
+      honest = seen.honest;
+      quiet = seen.quiet;
+      held = record { files = seen.files; may_leave = seen.may_leave; rooted = seen.rooted };
+      calls = seen.calls;
+      failures = seen.failures;
+    }
 
 -- What is kept in a Maildir while a text is delivered into it, whatever comes of that.
 pub record KeepsText (text : Mailbox) (old new : HeldMaildir) : Type 0 where

@@ -1,12 +1,10 @@
 // A Maildir on a file system, as a folder of the engine.
-ghost use Rattle.std.specs.Prelude.{◌≡◌, IsErrOf, OnOk};
-ghost use Rattle.maildir_run.specs.Calls.{Called, CalledQuietly, CountsFailure, GoesUp, IsNotAbsent};
-ghost use Rattle.maildir_run.specs.Calls.Call.{Placing, Writing};
-ghost use Rattle.maildir_run.specs.Cuts.{Follows, LeavesOf};
-ghost use Rattle.maildir_disk.specs.Quiet.{SameFiles};
+ghost use Rattle.std.specs.Prelude.{◌≡◌, IsErrOf};
+ghost use Rattle.maildir_run.specs.Calls.{CountsFailure, GoesUp, IsNotAbsent};
+ghost use Rattle.maildir_run.specs.Calls.Call.{Placing};
+ghost use Rattle.maildir_run.specs.Seen.{CallOf};
 ghost use Rattle.maildir_disk.specs.Placing.{WasGone};
-ghost use Rattle.maildir_disk.specs.PowerCuts.{LeftByOthers, Syncs};
-ghost use Rattle.maildir_disk.specs.World.{Acts};
+ghost use Rattle.maildir_disk.specs.Seen.{SyncsMaildir, seen_of};
 
 use crate::faults::answer_of;
 use crate::one_moment::names_of_one_moment;
@@ -29,8 +27,8 @@ impl<S: System> DiskFolder<S> {
     /// The Maildir that these system calls reach.
     pub fn new(system: S) -> Self
         ensures system { result.system ≡ system }
-        ensures calls { ⟦<DiskFolder<S> as Folder>⟧.calls result ≡ 0 }
-        ensures failures { ⟦<DiskFolder<S> as Folder>⟧.failures result ≡ 0 }
+        ensures calls { (⟦<DiskFolder<S> as Folder>⟧.at result).calls ≡ 0 }
+        ensures failures { (⟦<DiskFolder<S> as Folder>⟧.at result).failures ≡ 0 }
     {
         DiskFolder {
             system,
@@ -54,16 +52,7 @@ impl<S: System> DiskFolder<S> {
     /// [`FolderFault::Failed`] where one of the four could not be synced, [`FolderFault::OutOfMemory`] where a
     /// growth was refused.
     pub fn sync(&mut self) -> Result<(), FolderFault>
-        ensures honest { S.honest self.old.system → OnOk result (S.honest self.new.system) }
-        ensures acts { S.honest self.old.system → Acts (S.world self.old.system) (S.world self.new.system) }
-        ensures left { S.honest self.old.system → Follows LeftByOthers (S.may_leave self.old.system) (S.may_leave self.new.system) }
-        ensures rooted { S.honest self.old.system → OnOk result (S.rooted self.new.system) }
-        ensures still_rooted { S.honest self.old.system → S.rooted self.old.system → S.rooted self.new.system }
-        ensures synced { S.honest self.old.system →
-            OnOk result (Follows (λ before left. Syncs (S.world self.old.system).files before (S.world self.new.system).files left)
-            (S.may_leave self.old.system) (S.may_leave self.new.system)) }
-        ensures quiet { S.quiet self.old.system → OnOk result (S.quiet self.new.system) }
-        ensures quietly { S.quiet self.old.system → SameFiles (S.world self.old.system) (S.world self.new.system) }
+        ensures syncs { SyncsMaildir S.System self.old.system result self.new.system }
         ensures calls { self.new.calls ≡ self.old.calls }
         ensures failures { self.new.failures ≡ self.old.failures }
         ensures not_absent { IsNotAbsent result }
@@ -72,16 +61,7 @@ impl<S: System> DiskFolder<S> {
     }
 
     fn sync_all(&mut self) -> io::Result<()>
-        ensures honest { S.honest self.old.system → OnOk result (S.honest self.new.system) }
-        ensures acts { S.honest self.old.system → Acts (S.world self.old.system) (S.world self.new.system) }
-        ensures left { S.honest self.old.system → Follows LeftByOthers (S.may_leave self.old.system) (S.may_leave self.new.system) }
-        ensures rooted { S.honest self.old.system → OnOk result (S.rooted self.new.system) }
-        ensures still_rooted { S.honest self.old.system → S.rooted self.old.system → S.rooted self.new.system }
-        ensures synced { S.honest self.old.system →
-            OnOk result (Follows (λ before left. Syncs (S.world self.old.system).files before (S.world self.new.system).files left)
-            (S.may_leave self.old.system) (S.may_leave self.new.system)) }
-        ensures quiet { S.quiet self.old.system → OnOk result (S.quiet self.new.system) }
-        ensures quietly { S.quiet self.old.system → SameFiles (S.world self.old.system) (S.world self.new.system) }
+        ensures syncs { SyncsMaildir S.System self.old.system result self.new.system }
         ensures calls { self.new.calls ≡ self.old.calls }
         ensures failures { self.new.failures ≡ self.old.failures }
     {
@@ -106,57 +86,22 @@ impl<S: System> DiskFolder<S> {
 }
 
 impl<S: System> Folder for DiskFolder<S> {
-    ghost files = { λ folder. (S.world folder.system).files };
-
-    ghost may_leave = { λ folder. S.may_leave folder.system };
-
-    ghost rooted = { λ folder. S.rooted folder.system };
-
-    ghost honest = { λ folder. S.honest folder.system };
-
-    ghost quiet = { λ folder. S.quiet folder.system };
-
-    ghost calls = { λ folder. folder.calls };
-
-    ghost failures = { λ folder. folder.failures };
+    ghost at = { seen_of S.System };
 
     fn list(&mut self, sub: Sub) -> Result<Vec<String>, FolderFault> {
         let answer = answer_of(names_of_one_moment(&mut self.system, sub));
         self.count_call(answer)
     }
 
-    fn write(&mut self, name: &str, bytes: &[u8]) -> Result<(), FolderFault>
-        ensures honest { S.honest self.old.system → S.honest self.new.system }
-        ensures called { S.honest self.old.system → Called (Writing name.now bytes.now)
-            (S.world self.old.system).files result (S.world self.new.system).files }
-        ensures left { S.honest self.old.system → Follows (λ before now. LeavesOf (Writing name.now bytes.now) before result now)
-            (S.may_leave self.old.system) (S.may_leave self.new.system) }
-        ensures still_rooted { S.honest self.old.system → S.rooted self.old.system → S.rooted self.new.system }
-        ensures quiet { S.quiet self.old.system → S.quiet self.new.system }
-        ensures quietly { S.quiet self.old.system → CalledQuietly (Writing name.now bytes.now)
-            (S.world self.old.system).files result (S.world self.new.system).files }
-        ensures counted { GoesUp self.old.calls self.new.calls }
-        ensures cause { CountsFailure result self.old.failures self.new.failures }
-        ensures not_absent { IsNotAbsent result }
-    {
+    fn write(&mut self, name: &str, bytes: &[u8]) -> Result<(), FolderFault> {
         let answer = answer_of(write_synced(&mut self.system, name, bytes));
         self.count_call(answer)
     }
 
     fn place(&mut self, name: &str, place: Place, target: &str) -> Result<(), FolderFault>
-        ensures honest { S.honest self.old.system → S.honest self.new.system }
-        ensures called { S.honest self.old.system → Called (Placing name.now place target.now)
-            (S.world self.old.system).files result (S.world self.new.system).files }
+        ensures places { CallOf (Placing name.now place target.now) (seen_of S.System self.old) result (seen_of S.System self.new) }
         ensures gone { S.honest self.old.system → IsErrOf result FolderFault.Absent →
             WasGone name.now (Placing name.now place target.now) (S.world self.old.system).files (S.world self.new.system).files }
-        ensures left { S.honest self.old.system → Follows (λ before now. LeavesOf (Placing name.now place target.now) before result now)
-            (S.may_leave self.old.system) (S.may_leave self.new.system) }
-        ensures still_rooted { S.honest self.old.system → S.rooted self.old.system → S.rooted self.new.system }
-        ensures quiet { S.quiet self.old.system → S.quiet self.new.system }
-        ensures quietly { S.quiet self.old.system → CalledQuietly (Placing name.now place target.now)
-            (S.world self.old.system).files result (S.world self.new.system).files }
-        ensures counted { GoesUp self.old.calls self.new.calls }
-        ensures cause { CountsFailure result self.old.failures self.new.failures }
     {
         let answer = match self.system.rename(name, place, target) {
             Err(error) if error.kind() == ErrorKind::NotFound => Err(FolderFault::Absent),

@@ -67,8 +67,8 @@ pub trait OpenAt<'a, R>: Sized {
 impl<'a, R: Files<File = File> + Clock> OpenAt<'a, R> for DiskFolder<Host<'a, R>> {
     fn open_at(rt: &'a R, alloc: Global, path: &str) -> Result<Self, OpenFault>
         ensures path { IfOk result (λ folder. root_of folder ≡ path.now) }
-        ensures calls { IfOk result (λ folder. ⟦<DiskFolder<Host<'a, R>> as Folder>⟧.calls folder ≡ 0) }
-        ensures failures { IfOk result (λ folder. ⟦<DiskFolder<Host<'a, R>> as Folder>⟧.failures folder ≡ 0) }
+        ensures calls { IfOk result (λ folder. (⟦<DiskFolder<Host<'a, R>> as Folder>⟧.at folder).calls ≡ 0) }
+        ensures failures { IfOk result (λ folder. (⟦<DiskFolder<Host<'a, R>> as Folder>⟧.at folder).failures ≡ 0) }
         ensures not_absent { IfErr result (λ fault. ¬ (fault ≡ OpenFault.Folder FolderFault.Absent)) }
     {
         Ok(DiskFolder::new(Host::open_at(rt, alloc, path)?))

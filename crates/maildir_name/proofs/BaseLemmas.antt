@@ -16,7 +16,7 @@ use Rattle.maildir_name.specs.Names.{base, is_lower_hex_digit, is_occurrence, is
 use Rattle.maildir_name.specs.Targets.{digest_text, numbered, is_marked, under_flags}
 use Rattle.maildir_name.proofs.NameLemmas.{own, NoColon, base-own, base-info, converter-NoColon}
 
--- each number is a byte
+-- each number in the list is below 256
 abbrev pub AllBytes : List ℕ → Type 0
 AllBytes [] = Unit {0}
 AllBytes (b ∷ bytes) = (b < 256) × AllBytes bytes
@@ -39,7 +39,7 @@ bytes-digest_bytes h zero = tt
 bytes-digest_bytes h (suc n) =
     bytes-append (digest_bytes h n) (to_be_bytes w32 (slice_index h n)) (bytes-digest_bytes h n) (bytes-high_first 4 (slice_index h n))
 
--- a digest is bytes
+-- each number of a digest is below 256
 pub bytes-sha256 : (body : List ℕ) → AllBytes (sha256 body)
 unfolding sha256
 bytes-sha256 body = bytes-digest_bytes (final_hash initial_hash_256 body) 8
@@ -52,7 +52,7 @@ IsBytes-AllBytes (b ∷ bytes) h (suc i) = IsBytes-AllBytes bytes h.1 i
 digit_is : (d : ℕ) → d < 16 → is_lower_hex_digit (slice_index lower_digits d) ≡ true
 digit_is d h = grind (arith)
 
--- bytes are written in digits
+-- the hexadecimal spelling of bytes is digits
 digits-encode : (bytes : List ℕ) → AllBytes bytes → list_all is_lower_hex_digit (encode_with lower_digits bytes) ≡ true
 unfolding encode_with
 digits-encode [] h = refl
@@ -71,7 +71,7 @@ numbered-number body n =
     let len : length (digest_text body ++ 46 ∷ []) ≡ 65 = length_push (digest_text body) 46 ∙ ap (λ k. k + 1) (length-digest_text body) in
     rw (sym dot) (drop_at (digest_text body ++ 46 ∷ []) (decimal n) 65 len)
 
--- a number that is printed is an occurrence number
+-- the decimal spelling of a number is an occurrence number
 pub occurrence-decimal : (n : ℕ) → 0 < n → n < 2 ^ 64 → is_occurrence (decimal n) ≡ true
 unfolding is_occurrence
 occurrence-decimal n some small = grind (arith, digits_value-decimal, own, decimal, and_from, digits_decimal, le-leb, first_decimal)
@@ -95,7 +95,7 @@ same-digest a b m n e = grind (
 pub same-number : (a b : List ℕ) (m n : ℕ) → m < 2 ^ 64 → n < 2 ^ 64 → numbered a m ≡ numbered b n → m ≡ n
 same-number a b m n small small' e = grind (arith, decimal_injective, numbered-number)
 
--- the target of a base has that base, and its name does
+-- the target of a base has that base, and so has its name
 pub under_flags-base : (b : List ℕ) (f : Flags) → (under_flags b f).base ≡ b
 under_flags-base b f = grind (arith, cases_Bool (is_marked f))
 

@@ -8,6 +8,6 @@ use Rattle.maildir_name.specs.Targets.{digest_text, same_digest}
 pub same_digest-refl : (a : List ℕ) → same_digest a a ≡ true
 same_digest-refl a = nat_list_eq_equiv.refl (sha256 a)
 
--- they have the same digits
+-- bodies with the same digest have the same digits
 pub same_digest-text : (a b : List ℕ) → same_digest a b ≡ true → digest_text a ≡ digest_text b
 same_digest-text a b on = ap encode_lower ((bytes_decides (sha256 a) (sha256 b)).0 on)

@@ -12,11 +12,11 @@ use Rattle.maildir_name.proofs.BaseLemmas.{IsNamed, named-under_flags, numbered-
 use Rattle.maildir_name.proofs.NamerLemmas.{count-push}
 use Rattle.maildir_name.proofs.TargetLemmas.{length-targets, get_or-targets}
 
--- the number of a body that follows others
+-- the occurrence number of a body that follows others
 abbrev pub number_after : List (List ℕ) → List ℕ → ℕ
 number_after before body = count_by (same_digest body) (before ++ body ∷ [])
 
--- it counts the body itself, and no more than the bodies
+-- an occurrence number counts the body itself, and is at most the number of bodies
 pub number_after-is : (before : List (List ℕ)) (body : List ℕ) → number_after before body ≡ count_by (same_digest body) before + 1
 number_after-is before body =
     let itself = nat_list_eq_equiv.refl (sha256 body) in

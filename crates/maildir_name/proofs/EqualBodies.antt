@@ -12,11 +12,11 @@ use Rattle.maildir_name.proofs.DistinctBases.{number_after, number_after-is, tar
 use Rattle.maildir_name.proofs.NamerLemmas.{count-push}
 use Rattle.maildir_name.proofs.TargetLemmas.{length-targets, targets-push}
 
--- what holds of no body, and of one more, holds of all
+-- induction on lists of bodies, by one more body at the end
 by_one_more : (P : List (List ℕ) → Type 0) → P [] → ((bodies : List (List ℕ)) (body : List ℕ) → P bodies → P (bodies ++ body ∷ []))
-    → (front back : List (List ℕ)) → P front → P (front ++ back)
-by_one_more P none more front [] h = rw (append-nil front) h
-by_one_more P none more front (body ∷ back) h = grind (arith, by_one_more P none more (front ++ body ∷ []) back (more front body h), append_assoc)
+    → (prefix back : List (List ℕ)) → P prefix → P (prefix ++ back)
+by_one_more P none more prefix [] h = rw (append-nil prefix) h
+by_one_more P none more prefix (body ∷ back) h = grind (arith, by_one_more P none more (prefix ++ body ∷ []) back (more prefix body h), append_assoc)
 
 zip-push : {A B : Type 0} (xs : List A) (ys : List B) (a : A) (b : B) → length xs ≡ length ys → zip (xs ++ a ∷ []) (ys ++ b ∷ []) ≡ zip xs ys ++ (a, b) ∷ []
 zip-push [] [] a b e = refl
@@ -24,17 +24,17 @@ zip-push [] (y ∷ ys) a b e = absurd (omega (arith, e))
 zip-push (x ∷ xs) [] a b e = absurd (omega (arith, e))
 zip-push (x ∷ xs) (y ∷ ys) a b e = ap (λ l. (x, y) ∷ l) (zip-push xs ys a b (omega (arith, e)))
 
--- no other body has its digest
+-- each body with this digest is this body
 abbrev pub IsAlone : List ℕ → List (List ℕ) → Type 0
 IsAlone body bodies = All (λ other. sha256 other ≡ sha256 body → other ≡ body) bodies
 
-alone-front : (body : List ℕ) (bodies : List (List ℕ)) (last : List ℕ) → IsAlone body (bodies ++ last ∷ []) → IsAlone body bodies
-alone-front body bodies last h k d below = grind (arith, length_push, get_or_append_left)
+alone-prefix : (body : List ℕ) (bodies : List (List ℕ)) (last : List ℕ) → IsAlone body (bodies ++ last ∷ []) → IsAlone body bodies
+alone-prefix body bodies last h k d below = grind (arith, length_push, get_or_append_left)
 
 alone-last : (body : List ℕ) (bodies : List (List ℕ)) (last : List ℕ) → IsAlone body (bodies ++ last ∷ []) → sha256 last ≡ sha256 body → last ≡ body
 alone-last body bodies last h = grind (arith, length_push, get_or_push)
 
--- then its digest tells it apart
+-- such a body has the digest of another just if they are equal
 alone-same : (body last : List ℕ) → (sha256 last ≡ sha256 body → last ≡ body) → same_digest body last ≡ bytes_eq body last
 alone-same body last h = elim (cases_Bool (bytes_eq body last)) [
   | inl t ↦ rw (t, sym ((bytes_decides body last).0 t)) (nat_list_eq_equiv.refl (sha256 body))
@@ -45,7 +45,7 @@ alone-same body last h = elim (cases_Bool (bytes_eq body last)) [
 count-alone : (body : List ℕ) (bodies : List (List ℕ)) → IsAlone body bodies → count_by (same_digest body) bodies ≡ count_by (bytes_eq body) bodies
 count-alone body bodies = by_one_more (λ l. IsAlone body l → count_by (same_digest body) l ≡ count_by (bytes_eq body) l) (λ _. refl)
     (λ l last before h.
-    let e = before (alone-front body l last h) in
+    let e = before (alone-prefix body l last h) in
     count-push (same_digest body) l last ∙ (rw (e, alone-same body last (alone-last body l last h)) (sym (count-push (bytes_eq body) l last))))
     [] bodies (λ _. refl)
 
@@ -57,7 +57,7 @@ bases-more : (body : List ℕ) (bodies : List (List ℕ)) (last : List ℕ)
     → (IsAlone body bodies → bases_of body bodies ≡ numbered_up_to body (count_by (bytes_eq body) bodies))
     → IsAlone body (bodies ++ last ∷ []) → bases_of body (bodies ++ last ∷ []) ≡ numbered_up_to body (count_by (bytes_eq body) (bodies ++ last ∷ []))
 bases-more body bodies last before h =
-    let alone = alone-front body bodies last h in
+    let alone = alone-prefix body bodies last h in
     let n = count_by (bytes_eq body) bodies in
     let bases = bases-push body bodies last in
     let count = count-push (bytes_eq body) bodies last in

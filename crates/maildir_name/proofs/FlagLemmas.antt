@@ -50,9 +50,9 @@ header-blank : (body : List ℕ) {line : List ℕ} {more : List (List ℕ)} → 
 unfolding header
 header-blank body {line} {more} e b = grind (arith)
 
-header-line : (body : List ℕ) {line : List ℕ} (behind : List ℕ) → lines body ≡ line ∷ lines behind → is_blank line ≡ false → header body ≡ line ∷ header behind
+header-line : (body : List ℕ) {line : List ℕ} (after : List ℕ) → lines body ≡ line ∷ lines after → is_blank line ≡ false → header body ≡ line ∷ header after
 unfolding header
-header-line body {line} behind e b = grind (arith)
+header-line body {line} after e b = grind (arith)
 
 field-nil : (name : List ℕ) → field name [] ≡ []
 unfolding field
@@ -66,28 +66,28 @@ field-passed : (name line : List ℕ) (more : List (List ℕ)) → begins_with_n
 unfolding field
 field-passed name line more b = rw b refl
 
--- the first line of what is left of a header, as the search for a field reads it
-pub record FieldRead (name body rest line behind : List ℕ) (n : ℕ) : Type 0 where
+-- the search for a field reads the first line of the rest of the header
+pub record FieldRead (name body rest line after : List ℕ) (n : ℕ) : Type 0 where
   pub same : field name (header rest) ≡ field name (header body)
   pub first : lines rest ≡ take n rest ∷ lines (drop n rest)
   pub front : line ≡ take n rest
-  pub back : behind ≡ drop n rest
+  pub back : after ≡ drop n rest
 
-module _ {name body rest line behind : List ℕ} {n : ℕ} (r : FieldRead name body rest line behind n) where
-  reads_line : lines rest ≡ line ∷ lines behind
+module _ {name body rest line after : List ℕ} {n : ℕ} (r : FieldRead name body rest line after n) where
+  reads_line : lines rest ≡ line ∷ lines after
   reads_line = rw (r.front, r.back) r.first
 
   pub field_blank : {blank : Bool} → blank ≡ is_blank line → blank ≡ true → [] ≡ field name (header body)
   field_blank e t = grind (arith, field-nil, header-blank, reads_line)
 
   module _ {blank begins : Bool} (e : blank ≡ is_blank line) (f : blank ≡ false) (e' : begins ≡ begins_with_name name line) where
-    reads_more : field name (line ∷ header behind) ≡ field name (header body)
+    reads_more : field name (line ∷ header after) ≡ field name (header body)
     reads_more = grind (arith, header-line, reads_line)
 
     pub field_then : begins ≡ true → take (length line - length name) (drop (length name) line) ≡ field name (header body)
     field_then t = grind (arith, take_rest, field-found, reads_more)
 
-    pub field_else : begins ≡ false → field name (header behind) ≡ field name (header body)
+    pub field_else : begins ≡ false → field name (header after) ≡ field name (header body)
     field_else t = grind (arith, field-passed, reads_more)
 
 pub field_end : (name body rest : List ℕ) {empty : Bool} → field name (header rest) ≡ field name (header body)

@@ -6,7 +6,7 @@ pub mod FlagLemmas
 pub mod TargetLemmas
 -- The bases of targets: their parts, and that they are this converter's.
 pub mod BaseLemmas
--- What a namer's counts say of the bodies that it was given.
+-- The counts of a namer, and the bodies that it has named.
 pub mod NamerLemmas
 -- The bases of the targets of one text: this converter's, and distinct.
 pub mod DistinctBases

@@ -26,11 +26,11 @@ pub parts_of : (b : List ℕ) → IsConverterBase b → Parts b
 unfolding is_converter_base
 parts_of b h = grind (arith, and_parts, eqb-true)
 
--- it is longer than its 64 digits
+-- a base of this converter is longer than its 64 digits
 pub parts_long : {b : List ℕ} → Parts b → 64 < length b
 parts_long {b} p = grind (arith, cases_lt, get_or_past)
 
--- each of its first 64 bytes is a digit
+-- each of the first 64 bytes of such a base is a digit
 pub parts_digit : {b : List ℕ} → Parts b → (k : ℕ) → k < 64 → is_lower_hex_digit (get_or b k 0) ≡ true
 parts_digit {b} p k h =
     let long = parts_long p in
@@ -41,7 +41,7 @@ parts_digit {b} p k h =
 abbrev pub is_dot : ℕ → Bool
 is_dot c = eqb c 46
 
--- its first dot follows its digits
+-- the first dot of such a base follows its digits
 pub dot_at : {b : List ℕ} → Parts b → position_or_len is_dot b ≡ 64
 dot_at {b} p =
     position_or_len_is is_dot b 64 0 (omega (arith, parts_long p))
@@ -95,7 +95,7 @@ pub occurrence_parsed : {E : Type 0} (text : List ℕ) (r : Result ℕ E) → 49
     → ParsesUnsigned 64 10 text r → is_ok r ≡ is_occurrence text
 occurrence_parsed text r low high h = grind (arith, parsed, parse_plain, own)
 
--- a text that begins otherwise is none
+-- a text that begins with another byte is no occurrence number
 pub occurrence_low : (text : List ℕ) → get_or text 0 0 < 49 → false ≡ is_occurrence text
 unfolding is_occurrence
 occurrence_low text h = grind (arith, and_left, and_right, lt-leb)
@@ -115,7 +115,7 @@ pub occurrence_else : {text bytes : List ℕ} {begins : Bool} → bytes ≡ text
     → begins ≡ (leb 49 (get_or bytes 0 0) && leb (get_or bytes 0 0) 57) → begins ≡ false → begins ≡ is_occurrence text
 occurrence_else {text} is b f = grind (arith, and_cases, occurrence_low, leb-false, occurrence_high)
 
--- the parts of a base round its first dot
+-- the parts of a base before and after its first dot
 abbrev pub AreRound : List ℕ → List ℕ → List ℕ → Type 0
 AreRound b digest number = (position_or_len is_dot b < length b) × (digest ≡ before_first is_dot b) × (number ≡ after_first is_dot b)
 
@@ -135,7 +135,7 @@ converter_none name {b} eb none = rw (← eb) (converter_uncut b none)
 abbrev pub NoColon : List ℕ → Type 0
 NoColon text = (k : ℕ) → k < length text → is_colon (get_or text k 0) ≡ false
 
--- such a text is its own base, and that of itself with a colon behind it
+-- a text without a colon is its own base, and the base of the text with a colon after it
 pub base-own : (b : List ℕ) → NoColon b → base b ≡ b
 unfolding base
 base-own b h =

@@ -1,4 +1,4 @@
--- What a namer's counts say of the bodies that it was given.
+-- The counts of a namer, and the bodies that it has named.
 use Rattle.std.proofs.Common.{◌≡◌, ℕ, ◌+◌, ◌-◌, ◌^◌, ◌<◌, min, Bool, false, cond, List, [], ◌∷◌, ◌++◌}
 use Rattle.std.proofs.Common.{length, count_by, sym, ◌∙◌, ap, add-zero, arith, inl, inr, decimal, bytes_eq}
 use Rattle.std.specs.Cmp.Lexicographic.{nat_list_eq_equiv, bytes_decides}
@@ -17,7 +17,7 @@ use Rattle.maildir_name.proofs.TargetLemmas.{targets-push}
 pub count-push : {X : Type 0} (p : X → Bool) (xs : List X) (x : X) → count_by p (xs ++ x ∷ []) ≡ count_by p xs + cond (p x) 1 0
 count-push p xs x = sum_by_push (λ y. cond (p y) 1 0) xs x
 
--- one more body, as the namer counts it
+-- how the counts change with one more body
 pub record Counted (body digest : List ℕ) (count number : ℕ) (old new : Counts) : Type 0 where
   pub digest_is : digest ≡ sha256 body
   pub count_is : count ≡ count_of old digest
@@ -26,7 +26,7 @@ pub record Counted (body digest : List ℕ) (count number : ℕ) (old new : Coun
 
 module _ {bodies : List (List ℕ)} {body digest : List ℕ} {count number : ℕ} {old new : Counts}
     (c : Counted body digest count number old new) (held : Named bodies old) (small : length bodies < 2 ^ 63) where
-  -- its number is that of its target
+  -- the number that the namer gives is the one in the target
   number-counted : number ≡ count_by (same_digest body) (bodies ++ body ∷ [])
   number-counted =
       let itself = nat_list_eq_equiv.refl (sha256 body) in
@@ -34,7 +34,7 @@ module _ {bodies : List (List ℕ)} {body digest : List ℕ} {count number : ℕ
       let more = rw itself at (count-push (same_digest body) bodies body) in
       omega (arith, before, more, count_by-le-length (same_digest body) bodies, c.number_is, c.count_is)
 
-  -- and the counts are those of the bodies with it
+  -- the new counts are those of all bodies with this one
   named-counted : Named (bodies ++ body ∷ []) new
   named-counted = record {
     exact = λ other.
@@ -50,13 +50,13 @@ module _ {bodies : List (List ℕ)} {body digest : List ℕ} {count number : ℕ
         ];
   }
 
-  -- the target that the namer made is the next
+  -- the target that the namer makes is the next of `targets`
   pub next-counted : {base : List ℕ} {f : Flags} {t : Target} → base ≡ encode_lower digest ++ 46 ∷ decimal number → f ≡ flags body → t ≡ under_flags base f
       → (targets (bodies ++ body ∷ []) ≡ targets bodies ++ t ∷ []) × Named (bodies ++ body ∷ []) new
   unfolding target
   next-counted {base} {t} eb ef et = grind (arith, number-counted, targets-push, named-counted)
 
--- its base is this converter's
+-- the base of the target is this converter's
 pub named-counted-base : (body : List ℕ) {digest base : List ℕ} (count : ℕ) {number : ℕ} (f : Flags) {t : Target}
     → digest ≡ sha256 body → number ≡ min (count + 1) (2 ^ 64 - 1)
     → base ≡ encode_lower digest ++ 46 ∷ decimal number → t ≡ under_flags base f → IsNamed t

@@ -10,7 +10,7 @@ use Rattle.maildir_name.specs.Targets.{target, targets}
 abbrev pub target_at : List (List ℕ) → ℕ → Target
 target_at bodies k = target (take k bodies) (get_or bodies k [])
 
--- places of the front keep their targets
+-- the targets of the first bodies stay when more bodies follow
 pub target_at-append : (bodies more : List (List ℕ)) (k : ℕ) → k < length bodies → target_at (bodies ++ more) k ≡ target_at bodies k
 target_at-append bodies more k h = grind (arith, le_of_lt, take-append-le, get_or_append_left)
 

@@ -4,7 +4,7 @@ use Rattle.std.specs.List.{list_any}
 use Rattle.std.specs.Str.{bytes_eq, str_eq_ignore_ascii_case}
 use Rattle.maildir_name.specs.declared.flags.Flags.{Flags}
 
--- a byte before the first of some lines
+-- the lines, with the byte c before the first of them
 abbrev pub onto_first_line : ℕ → List (List ℕ) → List (List ℕ)
 onto_first_line c [] = (c ∷ []) ∷ []
 onto_first_line c (line ∷ lines) = (c ∷ line) ∷ lines
@@ -38,11 +38,11 @@ status_field body = field (codes "Status:") (header body)
 abbrev pub x_status_field : List ℕ → List ℕ
 x_status_field body = field (codes "X-Status:") (header body)
 
--- whether a letter stands in a field
+-- whether a letter occurs in a field
 abbrev pub stands_in : List ℕ → ℕ → Bool
 stands_in text letter = list_any (λ c. c == letter) text
 
--- whether a letter stands in one of the two fields
+-- whether a letter occurs in one of the two fields
 abbrev pub has_letter : List ℕ → ℕ → Bool
 has_letter body letter = stands_in (status_field body) letter || stands_in (x_status_field body) letter
 

@@ -4,5 +4,5 @@ pub mod Names
 pub mod Flags
 -- Where the messages of a text are delivered: their bases, places and names.
 pub mod Targets
--- What a namer keeps of the bodies that it was given.
+-- What a namer keeps of the bodies that it has named.
 pub mod Named

@@ -1,4 +1,4 @@
--- What a namer keeps of the bodies that it was given.
+-- What a namer keeps of the bodies that it has named.
 use Rattle.std.specs.Prelude.{◌≡◌, ℕ, List, count_by, unwrap_or}
 use Rattle.std.specs.Cmp.Lexicographic.{slice_cmp}
 use Rattle.std.specs.Map.{lookup}
@@ -14,6 +14,6 @@ Counts = List (List ℕ × ℕ)
 abbrev pub count_of : Counts → List ℕ → ℕ
 count_of counts digest = unwrap_or (lookup (eq_by_cmp (slice_cmp nat_cmp) digest) counts) 0
 
--- these bodies were counted: each digest as often as it is that of a body
+-- the counts are those of these bodies: for each digest, how many of them have it
 pub record Named (bodies : List (List ℕ)) (counts : Counts) : Type 0 where
   pub exact : (digest : List ℕ) → count_of counts digest ≡ count_by (λ body. bytes_eq digest (sha256 body)) bodies

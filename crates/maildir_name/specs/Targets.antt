@@ -26,7 +26,7 @@ numbered body n = digest_text body ++ 46 ∷ decimal n
 abbrev pub letter_if : Bool → ℕ → List ℕ
 letter_if set letter = if set then letter ∷ [] else []
 
--- the letters of some flags: `F`, `R`, `S` and `T`, in ASCII order ("Using maildir format")
+-- the letters of the flags that are set: `F`, `R`, `S` and `T`, in ASCII order ("Using maildir format")
 abbrev pub letters : Flags → List ℕ
 letters f = letter_if f.flagged 70 ++ letter_if f.replied 82 ++ letter_if f.seen 83 ++ letter_if f.trashed 84
 

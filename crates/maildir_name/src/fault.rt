@@ -1,4 +1,4 @@
-// The faults of this crate.
+// The error of this crate.
 ghost use Rattle.std.specs.Prelude.{◌≡◌};
 ghost use Rattle.maildir_name.specs.declared.fault.NameFault.TheVariants.{OutOfMemory};
 
@@ -8,7 +8,7 @@ use thiserror::Error;
 /// Why a name could not be given.
 #[derive(Clone, Copy, Debug, Drop, Error, PartialEq, Eq)]
 pub enum NameFault {
-    /// A growth was refused. It is answered for no other reason.
+    /// An allocation failed. No call fails for another reason.
     #[error("out of memory")]
     OutOfMemory,
 }

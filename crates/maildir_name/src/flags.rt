@@ -17,9 +17,9 @@ pub struct Flags {
     pub trashed: bool,
 }
 
-/// The flags of a body: which letters stand in the first Status line and in the first X-Status line of
-/// its header. It reads the header alone, up to the first line that is `\n` or `\r\n`, and so costs the
-/// header and not the body (this project's own rule, after the documentation of Python's module mailbox).
+/// The flags of a body: which letters occur in the first Status line and in the first X-Status line of its header (this
+/// project's own rule, after the documentation of Python's module mailbox). Reads the header alone, up to the first line that
+/// is `\n` or `\r\n`. Allocates nothing.
 pub fn flags_of(body: &[u8]) -> Flags
     ensures { result ≡ flags body.now }
 {
@@ -34,14 +34,14 @@ pub fn flags_of(body: &[u8]) -> Flags
     }
 }
 
-// Whether a letter stands in one of two fields.
+// Whether a letter occurs in one of two fields.
 fn stands_in_one(letter: u8, one: &[u8], other: &[u8]) -> bool
     ensures { result ≡ (stands one.now letter || stands other.now letter) }
 {
     stands_in(one, letter) || stands_in(other, letter)
 }
 
-// Whether a letter stands in a field.
+// Whether a letter occurs in a field.
 fn stands_in(text: &[u8], letter: u8) -> bool
     ensures { result ≡ stands text.now letter }
 {
@@ -54,14 +54,14 @@ fn field_of<'a>(body: &'a [u8], name: &[u8]) -> &'a [u8]
 {
     let mut rest = body;
     while !rest.is_empty() {
-        let (line, behind) = rest.split_at(line_len(rest));
+        let (line, after) = rest.split_at(line_len(rest));
         if is_blank(line) {
             break;
         }
         if begins_with_name(line, name) {
             return &line[name.len()..];
         }
-        rest = behind;
+        rest = after;
     }
     &[]
 }
@@ -79,7 +79,7 @@ fn line_len(text: &[u8]) -> usize
     }
 }
 
-// Where the first `\n` stands.
+// The index of the first `\n`.
 fn line_end(text: &[u8]) -> Option<usize>
     ensures { result ≡ position (λ c. c == 10) text.now }
 {
@@ -93,7 +93,7 @@ fn is_blank(line: &[u8]) -> bool
     line == b"\n".as_slice() || line == b"\r\n".as_slice()
 }
 
-// Whether a line begins with a name, letters in either case.
+// Whether a line begins with a field's name, letters in either case.
 fn begins_with_name(line: &[u8], name: &[u8]) -> bool
     ensures { result ≡ begins name.now line.now }
 {

@@ -6,7 +6,7 @@ ghost use Rattle.maildir_name.specs.Names.{is_lower_hex_digit as digit, is_occur
 
 use std::marker::Model;
 
-/// The name of a file. Contracts see it as the list of its bytes.
+/// The name of a file. Contracts see the list of its bytes.
 #[derive(Drop)]
 pub struct Name {
     text: String,
@@ -57,7 +57,7 @@ pub fn is_converter_name(name: &str) -> bool
     }
 }
 
-// Whether a text is the digits of a digest.
+// Whether a text is 64 digits of `0` to `9` and `a` to `f`.
 fn is_digest(text: &[u8]) -> bool
     ensures { result ≡ (length text.now == 64 && list_all digit text.now) }
 {
@@ -78,7 +78,7 @@ fn is_lower_hex_digit(byte: u8) -> bool
     matches!(byte, b'0'..=b'9' | b'a'..=b'f')
 }
 
-// Whether a text is the number of an occurrence.
+// Whether a text is an occurrence number.
 fn is_occurrence(text: &str) -> bool
     ensures { result ≡ occurrence text.now }
 {

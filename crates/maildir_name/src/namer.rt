@@ -1,4 +1,4 @@
-// The namer: it gives each body its target, by how often the body's digest came before.
+// The namer: it numbers bodies by how many before them have the same digest.
 ghost use Rattle.std.specs.Prelude.{◌≡◌, ℕ, ◌^◌, ◌<◌, [], ◌∷◌, ◌++◌, List, length, IfOk, OnOk, OnErr, if◌then◌else◌, string_bytes};
 ghost use Rattle.std.specs.Fmt.{decimal};
 ghost use Rattle.std.specs.Str.{bytes_eq};
@@ -15,8 +15,8 @@ use std::alloc::{AllocError, Global};
 use std::collections::BTreeMap;
 use std::marker::Model;
 
-/// Gives the bodies of a text their targets, in order. It keeps one entry for each distinct digest.
-/// Contracts see it as the digests with their counts.
+/// Makes the targets of the bodies of a text, in order. Keeps in memory: each distinct digest with its count, which is what
+/// contracts see.
 #[derive(Drop)]
 pub struct Namer {
     alloc: Global,
@@ -32,7 +32,7 @@ impl Model for Namer {
 }
 
 impl Namer {
-    /// A namer that was given no body. What it keeps comes from this allocator.
+    /// A namer that has named no body. Allocates nothing; later calls allocate from this allocator.
     pub fn new(alloc: Global) -> Namer
         ensures { Named [] result }
     {
@@ -42,9 +42,10 @@ impl Namer {
         }
     }
 
-    /// The target of the body that follows those which the namer was given: its base is the digits of the
-    /// body's SHA-256, a dot, and how many bodies up to and with this one have that digest (this project's
-    /// own rule). The one fault is `OutOfMemory`, where a growth was refused; the namer is then unchanged.
+    /// The target of the next body: its base is the digits of the body's SHA-256, a dot, and how many bodies up to and with
+    /// this one have that digest (this project's own rule).
+    ///
+    /// Error: `OutOfMemory` if an allocation failed; the namer is then unchanged.
     pub fn target(&mut self, body: &[u8]) -> Result<Target, NameFault>
         ensures next { IfOk result (λ target. (bodies : List (List ℕ)) → Named bodies self.old → length bodies < 2 ^ 63 →
             (targets (bodies ++ body.now ∷ []) ≡ targets bodies ++ target ∷ []) × Named (bodies ++ body.now ∷ []) self.new) }
@@ -60,14 +61,14 @@ impl Namer {
         Ok(target)
     }
 
-    // How often a digest came.
+    // How many bodies so far have a digest.
     fn count(&self, digest: &[u8; 32]) -> u64
         ensures { result ≡ count_of self.now digest.now }
     {
         self.counts.get(digest).copied().unwrap_or(0)
     }
 
-    // Keeps how often a digest came.
+    // Stores how many bodies so far have a digest.
     fn set_count(&mut self, digest: [u8; 32], number: u64) -> Result<(), AllocError>
         ensures set { OnOk result
             ((other : List ℕ) → count_of self.new other ≡ (if bytes_eq digest other then number else count_of self.old other)) }

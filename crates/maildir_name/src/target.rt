@@ -1,4 +1,4 @@
-// Where a message is delivered.
+// The place and name under which a message is delivered.
 ghost use Rattle.std.specs.Prelude.{◌≡◌, ◌<◌, ◌++◌, ◌∷◌, IfOk, OnOk, string_bytes};
 ghost use Rattle.maildir_name.specs.Targets.{is_marked as marked, letter_if, letters, under_flags};
 
@@ -27,7 +27,7 @@ pub struct Target {
 }
 
 impl Target {
-    // The target of a base: with a flag in `cur` and with info, otherwise in `new` under the base alone.
+    // The target of a base: with a flag set, in `cur` with info; otherwise in `new` under the base alone.
     pub(crate) fn under_flags(
         alloc: Global,
         base: String,
@@ -48,14 +48,14 @@ impl Target {
     }
 }
 
-// Whether a flag is set.
+// Whether any flag is set.
 fn is_marked(flags: Flags) -> bool
     ensures { result ≡ marked flags }
 {
     flags.is_old || flags.flagged || flags.replied || flags.seen || flags.trashed
 }
 
-// A base with `:2,` and the letters of some flags ("Using maildir format").
+// A base with `:2,` and the letters of the flags that are set ("Using maildir format").
 fn with_info(alloc: Global, base: &str, flags: Flags) -> Result<String, AllocError>
     ensures { IfOk result (λ name. string_bytes name ≡ base.now ++ 58 ∷ 50 ∷ 44 ∷ letters flags) }
 {

@@ -40,7 +40,7 @@ pub use Rattle.mbox_text.specs.declared.entry.Entry.{Entry}
 pub use Rattle.mbox_text.specs.declared.splitter.Splitter.{Splitter}
 pub use Rattle.maildir_run.specs.Alone.{added, alone, filled, swept}
 pub use Rattle.maildir_run.specs.Private.Bases.{BaseSet, set_of, with_bases}
-pub use Rattle.maildir_run.specs.Calls.{after, Again, Call, Called, CalledQuietly, CountsFailure, effect, AnyMoves, folder_of, GoesUp, IsOthers}
+pub use Rattle.maildir_run.specs.Calls.{after, Again, Call, Called, CalledQuietly, CountsFailure, MayAnswer, effect, AnyMoves, folder_of, GoesUp, IsOthers}
 pub use Rattle.maildir_run.specs.Calls.{IsOwn, IsReady, IsWhole, Listed, Listing, Lists, Move, moved, names_of, NoneOrOne, Other, placed}
 pub use Rattle.maildir_run.specs.Calls.{PlacesElsewhere, Placing, Removing, StaysOrGoes, Succeeded, Torn, torn, WritesElsewhere, Writing}
 pub use Rattle.maildir_run.specs.Counting.{capped, CountsFault, fault_of, GoesUpWith, HasCallNumber, IsOfFolder, CallNumber, raised}
@@ -55,7 +55,7 @@ pub use Rattle.maildir_run.specs.Private.TableSoFar.{HasListed}
 pub use Rattle.maildir_run.specs.Table.{info, table_of, message_row, place_word, shown_byte, shown_sender}
 pub use Rattle.maildir_run.specs.MemFiles.{files_in, with_file, without_file}
 pub use Rattle.maildir_run.specs.Private.Parts.{DeliversMessages, Conversion, messages_after, names_in, Performed, run_tasks, ReportsTasks}
-pub use Rattle.maildir_run.specs.Seen.{Seen, seen}
+pub use Rattle.maildir_run.specs.Seen.{Seen, CallOf, ListingOf}
 pub use Rattle.maildir_run.specs.Parts.{deliveries_of, delivery_if, delivery_of, sweep_of}
 pub use Rattle.maildir_run.specs.Plan.{deliveries_from, steps_for, each_alone, is_listed, planned, removals}
 pub use Rattle.maildir_run.specs.Private.Progress.{DeliversMessage, IsTarget, Knows, message_at, Progress, TmpWithin}

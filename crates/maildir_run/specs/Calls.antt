@@ -142,10 +142,15 @@ CountsFailure (Err Absent) old new = GoesUp old new
 CountsFailure (Err fault.Failed) old new = GoesUp old new
 CountsFailure other old new = new ≡ old
 
--- `Absent` comes from a placement alone
+-- an answer is not `Absent`
 abbrev pub IsNotAbsent : {A : Type 0} → Result A FolderFault → Type 0
 IsNotAbsent (Err Absent) = ⊥
 IsNotAbsent other = Unit {0}
+
+-- `Absent` comes from a placement alone
+abbrev pub MayAnswer : {A : Type 0} → Call → Result A FolderFault → Type 0
+MayAnswer (Placing _ _ _) result = Unit {0}
+MayAnswer other result = IsNotAbsent result
 
 -- the call places no file under this base
 abbrev pub PlacesElsewhere : List ℕ → Call → Type 0

@@ -1,14 +1,17 @@
 -- What a folder in memory shows.
-use Rattle.std.specs.Prelude.{◌≡◌, ◌⊎◌, ℕ, ◌+◌, ◌-◌, ◌^◌, min, List, [], Option, IsFalse, Result, IsErrOf}
+use Rattle.std.specs.Prelude.{◌≡◌, ◌⊎◌, ℕ, ◌+◌, ◌-◌, ◌^◌, min, List, [], Option, IsFalse, Result, IsErrOf, IfOk, OnOk, OnErr}
+use Rattle.std.specs.declared.alloc.AllocError.{AllocError}
 use Rattle.maildir_run.specs.declared.folder.FolderFault.{FolderFault}
 use Rattle.maildir_run.specs.declared.folder.FolderFault.TheVariants.{OutOfMemory}
 use Rattle.maildir_run.specs.declared.mem_folder.MemFolder.{MemFolder}
 use Rattle.maildir_run.specs.declared.script.Act.{Act}
 use Rattle.maildir_run.specs.declared.script.Mode.{Mode}
+use Rattle.maildir_run.specs.declared.script.Mode.TheVariants.{Plain}
 use Rattle.maildir_run.specs.declared.script.ScriptLine.{ScriptLine}
-use Rattle.maildir_run.specs.Calls.{Call}
+use Rattle.maildir_run.specs.Calls.{Call, GoesUp}
 use Rattle.maildir_run.specs.Files.{Files}
 use Rattle.maildir_run.specs.MemFiles.{files_in}
+use Rattle.maildir_run.specs.Seen.{Seen}
 use Rattle.maildir_run.specs.Script.{is_from, mode_of, acts_at, all_performed, Answers, IsCutShort}
 
 -- its files
@@ -86,3 +89,32 @@ abbrev pub FollowsScript : {A : Type 0} → Call → MemFolder → Result A Fold
 FollowsScript call old result new =
     Answers (next_mode old) call (next_files old) result (files_of new)
     ⊎ (IsErrOf result OutOfMemory × IsCutShort (next_acts old) (files_of old) (files_of new))
+
+-- A call did what the script says, which stays as it is, and was counted.
+pub record Scripted {A : Type 0} (call : Call) (old : MemFolder) (result : Result A FolderFault) (new : MemFolder) : Type 0 where
+  pub did : FollowsScript call old result new
+  pub plain : HasNoScript old → Answers Plain call (files_of old) result (files_of new)
+  pub script : SameScript old new
+  pub told : CountsCall old new
+
+-- A call was counted and the acts before it were made, or one of them found no memory. It answers in this mode.
+pub record BeginsCall (old : MemFolder) (result : Result Mode AllocError) (new : MemFolder) : Type 0 where
+  pub mode : IfOk result (λ mode. mode ≡ next_mode old)
+  pub ok : OnOk result (files_of new ≡ next_files old)
+  pub err : OnErr result (IsCutShort (next_acts old) (files_of old) (files_of new))
+  pub script : SameScript old new
+  pub told : CountsCall old new
+  pub counted : GoesUp (all_call_count old) (all_call_count new)
+  pub failures : failure_count new ≡ failure_count old
+
+-- what is seen of it as of any folder: it takes effect as reported, and a power cut takes nothing from it
+abbrev pub seen_of : MemFolder → Seen
+seen_of m = record {
+  honest = Unit {0};
+  quiet = IsQuiet m;
+  files = files_of m;
+  may_leave = λ left. left ≡ files_of m;
+  rooted = Unit {0};
+  calls = all_call_count m;
+  failures = failure_count m;
+}

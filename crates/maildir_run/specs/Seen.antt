@@ -1,26 +1,50 @@
--- What is seen of a folder.
-use Rattle.std.specs.Prelude.{ℕ}
-use Rattle.maildir_run.specs.declared.folder.Folder.{Ghosts}
+-- What is seen of a folder, and what a call does to that.
+use Rattle.std.specs.Prelude.{ℕ, IfOk, IsPermutation, Result}
+use Rattle.std.specs.FinMap.{keys}
+use Rattle.std.specs.declared.vec.Vec.{Vec}
+use Rattle.std.specs.declared.string.String.{String}
+use Rattle.std.specs.declared.alloc.Global.{Global}
+use Rattle.maildir_run.specs.declared.folder.FolderFault.{FolderFault}
+use Rattle.maildir_run.specs.declared.folder.Sub.{Sub}
+use Rattle.maildir_run.specs.Calls.{Call, Listing, Called, Listed, CalledQuietly, GoesUp, CountsFailure, MayAnswer, folder_of, names_of}
+use Rattle.maildir_run.specs.Cuts.{Follows, LeavesOf}
 use Rattle.maildir_run.specs.Files.{Files}
 
 -- what is seen of a folder at one moment
 pub record Seen : Type 1 where
+  -- it takes effect as reported
   pub honest : Type 0
+  -- it does, no other program acts, and a call that answers Ok has its effect once
   pub quiet : Type 0
+  -- the files that are there
   pub files : Files
+  -- What a power cut may leave, now or later, of what has happened until now. In `new` and `cur` it is the files that are
+  -- found then, and of `tmp` what each file that is there now would be found to hold, wherever it is found.
   pub may_leave : Files → Type 0
+  -- a power cut leaves the Maildir and its three folders
   pub rooted : Type 0
+  -- how many calls were made, in 128 bits: after the greatest number comes 0
   pub calls : ℕ
+  -- how many of them answered `Absent` or `Failed`, in 128 bits
   pub failures : ℕ
 
--- what these say of a folder
-abbrev pub seen : {S : Type 0} → Ghosts S → S → Seen
-seen f s = record {
-  honest = f.honest s;
-  quiet = f.quiet s;
-  files = f.files s;
-  may_leave = f.may_leave s;
-  rooted = f.rooted s;
-  calls = f.calls s;
-  failures = f.failures s;
-}
+-- A call was made, and answered this.
+pub record CallOf {A : Type 0} (call : Call) (old : Seen) (result : Result A FolderFault) (new : Seen) : Type 0 where
+  -- where the folder takes effect as reported
+  pub honest : old.honest → new.honest
+  pub called : old.honest → Called call old.files result new.files
+  pub left : old.honest → Follows (λ before now. LeavesOf call before result now) old.may_leave new.may_leave
+  pub still_rooted : old.honest → old.rooted → new.rooted
+  -- where it is quiet
+  pub quiet : old.quiet → new.quiet
+  pub quietly : old.quiet → CalledQuietly call old.files result new.files
+  -- whatever the folder does
+  pub counted : GoesUp old.calls new.calls
+  pub cause : CountsFailure result old.failures new.failures
+  pub answers : MayAnswer call result
+
+-- A listing was made. Its answer is each name of the folder once, in any order, as of one moment of the call.
+pub record ListingOf (sub : Sub) (old : Seen) (result : Result (Vec (String Global) Global) FolderFault) (new : Seen) : Type 0 where
+  pub call : CallOf (Listing sub) old result new
+  pub listed : old.honest → Listed sub old.files result new.files
+  pub names : old.quiet → IfOk result (λ names. IsPermutation (names_of names) (keys (folder_of sub old.files)))

@@ -4,7 +4,6 @@ ghost use Rattle.maildir_run.specs.Counting.{capped, fault_of, IsOfFolder};
 ghost use Rattle.maildir_run.specs.Private.Counting.{run_answer};
 ghost use Rattle.maildir_run.specs.Calls.Call.{Writing, Placing, Removing};
 ghost use Rattle.maildir_run.specs.Private.Parts.{Performed, names_in};
-ghost use Rattle.maildir_run.specs.Seen.{seen};
 ghost use Rattle.maildir_run.specs.Tasks.Task.{Ask, Do};
 
 use crate::fault::RunFault;
@@ -46,7 +45,7 @@ impl Calls {
         folder: &mut F,
         sub: Sub,
     ) -> Result<Vec<String>, RunFault>
-        ensures ran { let at = seen F.Folder in
+        ensures ran { let at = F.at in
             Performed (Ask sub (names_in result) ∷ []) (at folder.old) (at folder.new) self.old.made self.new.made (fault_of result) }
         ensures causes { IfErr result IsOfFolder }
     {
@@ -61,7 +60,7 @@ impl Calls {
         name: &str,
         bytes: &[u8],
     ) -> Result<(), RunFault>
-        ensures ran { let at = seen F.Folder in
+        ensures ran { let at = F.at in
             Performed (Do (Writing name.now bytes.now) ∷ []) (at folder.old) (at folder.new) self.old.made self.new.made (fault_of result) }
         ensures causes { IfErr result IsOfFolder }
     {
@@ -77,7 +76,7 @@ impl Calls {
         place: Place,
         target: &str,
     ) -> Result<(), RunFault>
-        ensures ran { let at = seen F.Folder in
+        ensures ran { let at = F.at in
             Performed (Do (Placing name.now place target.now) ∷ [])
             (at folder.old) (at folder.new) self.old.made self.new.made (fault_of result) }
         ensures causes { IfErr result IsOfFolder }
@@ -88,7 +87,7 @@ impl Calls {
 
     /// Removes a file of `tmp`.
     pub(crate) fn remove<F: Folder>(&mut self, folder: &mut F, name: &str) -> Result<(), RunFault>
-        ensures ran { let at = seen F.Folder in
+        ensures ran { let at = F.at in
             Performed (Do (Removing name.now) ∷ []) (at folder.old) (at folder.new) self.old.made self.new.made (fault_of result) }
         ensures causes { IfErr result IsOfFolder }
     {

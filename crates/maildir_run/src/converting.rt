@@ -5,7 +5,6 @@ ghost use Rattle.maildir_run.specs.Converting.{Converts};
 ghost use Rattle.maildir_run.specs.Private.Given.{Begins, SourceStopped};
 ghost use Rattle.maildir_run.specs.Private.Parts.{Conversion};
 ghost use Rattle.maildir_run.specs.Reading.{IsReading};
-ghost use Rattle.maildir_run.specs.Seen.{seen};
 
 use crate::calls::Calls;
 use crate::engine::Engine;
@@ -35,7 +34,7 @@ pub fn convert<F: Folder, R: Read>(
     reads: u64,
 ) -> Result<Report, RunFault>
     requires { reads ≤ 2 ^ 40 }
-    ensures { let at = seen F.Folder in
+    ensures { let at = F.at in
         Converts (R.remaining source.old) (R.remaining source.new) reads (at folder.old) (at folder.new) result }
 {
     let mut reader = Reader::new(alloc, reads)?;
@@ -54,7 +53,7 @@ fn deliver_all<F: Folder, R: Read>(
     requires fresh { Fed [] [] reader.old.splitter }
     requires empty { whole.old.items ≡ [] }
     requires few { reader.old.reads_left ≤ 2 ^ 40 }
-    ensures { let at = seen F.Folder in
+    ensures { let at = F.at in
         Conversion (R.remaining source.old) (R.remaining source.new) reader.old.reads_left (at folder.old) (at folder.new) result }
 {
     let mut ended = read_first(reader, source, whole)?;

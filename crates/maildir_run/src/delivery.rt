@@ -2,7 +2,6 @@
 ghost use Rattle.std.specs.Prelude.{IfErr};
 ghost use Rattle.maildir_run.specs.Counting.{IsOfFolder, fault_of};
 ghost use Rattle.maildir_run.specs.Private.Parts.{Performed};
-ghost use Rattle.maildir_run.specs.Seen.{seen};
 ghost use Rattle.maildir_run.specs.Parts.{delivery_of};
 
 use crate::calls::Calls;
@@ -18,7 +17,7 @@ pub(crate) fn deliver_message<F: Folder>(
     target: &Target,
     body: &[u8],
 ) -> Result<(), RunFault>
-    ensures ran { let at = seen F.Folder in
+    ensures ran { let at = F.at in
         Performed (delivery_of target.now body.now) (at folder.old) (at folder.new) calls.old.made calls.new.made (fault_of result) }
     ensures causes { IfErr result IsOfFolder }
 {

@@ -6,7 +6,6 @@ ghost use Rattle.maildir_run.specs.Calls.{names_of};
 ghost use Rattle.maildir_run.specs.Counting.{IsOfFolder, fault_of};
 ghost use Rattle.maildir_run.specs.Plan.{is_listed};
 ghost use Rattle.maildir_run.specs.Private.Parts.{DeliversMessages, Performed};
-ghost use Rattle.maildir_run.specs.Seen.{seen};
 ghost use Rattle.maildir_run.specs.Parts.{sweep_of};
 ghost use Rattle.maildir_run.specs.Texts.{bodies_of};
 
@@ -42,7 +41,7 @@ impl<'a> Engine<'a> {
         calls: Calls,
         listings: &'a Listings,
     ) -> Result<Engine<'a>, RunFault>
-        ensures ran { let at = seen F.Folder in (made : ℕ)
+        ensures ran { let at = F.at in (made : ℕ)
             × Performed (sweep_of (names_of listings.now.tmp)) (at folder.old) (at folder.new) calls.made made (fault_of result)
             × IfOk result (λ engine. engine.calls.made ≡ made) }
         ensures there { IfOk result
@@ -83,7 +82,7 @@ impl<'a> Engine<'a> {
     /// Delivers the next message, if it was not there. The set of bases is asked once.
     fn deliver<F: Folder>(&mut self, folder: &mut F, body: &[u8]) -> Result<(), RunFault>
         requires { self.old.messages < 2 ^ 63 }
-        ensures delivers { let at = seen F.Folder in (bodies : List (List ℕ)) → Named bodies self.old.namer → length bodies < 2 ^ 63 →
+        ensures delivers { let at = F.at in (bodies : List (List ℕ)) → Named bodies self.old.namer → length bodies < 2 ^ 63 →
             DeliversMessages (contains_key self.old.there) bodies (body.now ∷ []) (at folder.old) (at folder.new)
             self.old.calls.made self.new.calls.made self.old.placed self.new.placed self.new.namer (fault_of result) }
         ensures there { self.new.there ≡ self.old.there }
@@ -107,7 +106,7 @@ impl<'a> Engine<'a> {
         entries: &[Entry],
     ) -> Result<(), RunFault>
         requires { self.old.messages + length entries.now < 2 ^ 63 }
-        ensures delivers { let at = seen F.Folder in
+        ensures delivers { let at = F.at in
             (bodies : List (List ℕ)) → Named bodies self.old.namer → length bodies + length entries.now ≤ 2 ^ 63 →
             DeliversMessages (contains_key self.old.there) bodies (bodies_of entries.now) (at folder.old) (at folder.new)
             self.old.calls.made self.new.calls.made self.old.placed self.new.placed self.new.namer (fault_of result) }

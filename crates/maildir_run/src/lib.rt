@@ -3,7 +3,7 @@
 //! [`Folder`] is a Maildir by its four calls. What a call may do to the files, and what other programs may do
 //! meanwhile, is said in `specs/Files.antt` and `specs/Calls.antt`; [`laws`] has what follows from that alone.
 //! [`plan`] answers the steps of a run for given lists and targets, and [`MemFolder`] is a folder in memory.
-//! [`convert`] is a run, [`rewrite`] and [`list_text`] show what a text is. `docs/MODEL.md` tells the model in plain words.
+//! [`convert`] is a run, [`rewrite`] and [`list_text`] show what a text is. `docs/ENGINE.md` tells the model in plain words.
 #![tactic(auto)]
 
 mod acting;

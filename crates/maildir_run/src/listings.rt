@@ -4,7 +4,6 @@ ghost use Rattle.maildir_run.specs.Calls.{names_of};
 ghost use Rattle.maildir_run.specs.Counting.{IsOfFolder, fault_of};
 ghost use Rattle.maildir_run.specs.Tasks as tasks;
 ghost use Rattle.maildir_run.specs.Private.Parts.{Performed};
-ghost use Rattle.maildir_run.specs.Seen.{seen};
 
 use crate::calls::Calls;
 use crate::fault::RunFault;
@@ -20,7 +19,7 @@ pub(crate) struct Listings {
 
 /// Lists the three folders. `new` comes before `cur`, since a mail reader moves files from the one to the other.
 pub(crate) fn list_all<F: Folder>(folder: &mut F, calls: &mut Calls) -> Result<Listings, RunFault>
-    ensures ran { let at = seen F.Folder in
+    ensures ran { let at = F.at in
         (names : tasks.Listings) × (length names.tmp < 2 ^ 64)
         × Performed (tasks.listing_tasks names) (at folder.old) (at folder.new) calls.old.made calls.new.made (fault_of result)
         × IfOk result

@@ -1,16 +1,15 @@
 // The folder in memory.
-ghost use Rattle.std.specs.Prelude.{◌≡◌, ℕ, ◌+◌, ◌%◌, ◌^◌, [], IfOk, IfErr, OnOk, OnErr, IsOk};
-ghost use Rattle.std.specs.Prelude.{IsErrOf, IsPermutation, IsTrue, None, ◌↔◌, string_bytes};
+ghost use Rattle.std.specs.Prelude.{◌≡◌, [], IfOk, IfErr, OnOk, OnErr};
+ghost use Rattle.std.specs.Prelude.{IsTrue, None, ◌↔◌, string_bytes};
 ghost use Rattle.std.specs.FinMap.{get, keys, len};
 ghost use Rattle.std.specs.Option.{option_copied};
-ghost use Rattle.maildir_run.specs.Calls.{folder_of, names_of, Called, Listed, CalledQuietly, GoesUp, CountsFailure, IsNotAbsent};
+ghost use Rattle.maildir_run.specs.Calls.{folder_of, names_of, CountsFailure};
 ghost use Rattle.maildir_run.specs.Calls.Call.{Listing, Writing, Placing, Removing};
-ghost use Rattle.maildir_run.specs.Cuts.{Follows, LeavesOf};
 ghost use Rattle.maildir_run.specs.MemFiles.{no_files, with_file};
-ghost use Rattle.maildir_run.specs.Script.{IsCutShort, half_performed, performed};
-ghost use Rattle.maildir_run.specs.MemFolder.{files_of, call_count, all_call_count, failure_count, lines_of};
-ghost use Rattle.maildir_run.specs.MemFolder.{fail_from_of, IsQuiet, HasNoScript, next_mode, next_acts, next_files};
-ghost use Rattle.maildir_run.specs.MemFolder.{FollowsScript, SameCounts, SameScript, IsUnchanged, CountsCall};
+ghost use Rattle.maildir_run.specs.MemFolder.{files_of, call_count, all_call_count, failure_count, lines_of, seen_of};
+ghost use Rattle.maildir_run.specs.MemFolder.{fail_from_of, BeginsCall, IsQuiet, Scripted, SameCounts, SameScript, IsUnchanged};
+ghost use Rattle.maildir_run.specs.Script.{half_performed, performed};
+ghost use Rattle.maildir_run.specs.Seen.{CallOf, ListingOf};
 
 use crate::folder::{Folder, FolderFault, Sub};
 use crate::mem_files::MemFiles;
@@ -177,13 +176,7 @@ impl MemFolder {
 
     // Counts the call and makes the acts before it. Answers its mode.
     fn begin_call(&mut self) -> Result<Mode, AllocError>
-        ensures mode { IfOk result (λ mode. mode ≡ next_mode self.old) }
-        ensures ok { OnOk result (files_of self.new ≡ next_files self.old) }
-        ensures err { OnErr result (IsCutShort (next_acts self.old) (files_of self.old) (files_of self.new)) }
-        ensures script { SameScript self.old self.new }
-        ensures calls { CountsCall self.old self.new }
-        ensures all_calls { GoesUp (all_call_count self.old) (all_call_count self.new) }
-        ensures failures { failure_count self.new ≡ failure_count self.old }
+        ensures { BeginsCall self.old result self.new }
     {
         self.calls = self.calls.saturating_add(1);
         self.all_calls = self.all_calls.wrapping_add(1);
@@ -205,41 +198,14 @@ impl MemFolder {
 }
 
 impl Folder for MemFolder {
-    ghost files = { files_of };
-
-    ghost may_leave = { λ folder left. left ≡ files_of folder };
-
-    ghost rooted = { λ _. Unit {0} };
-
-    ghost honest = { λ _. Unit {0} };
-
-    ghost quiet = { IsQuiet };
-
-    ghost calls = { all_call_count };
-
-    ghost failures = { failure_count };
+    ghost at = { seen_of };
 
     ghost quiet_is_honest = { λ _ _. tt };
 
     fn list(&mut self, sub: Sub) -> Result<Vec<String>, FolderFault>
-        ensures called { Listed sub (files_of self.old) result (files_of self.new) }
-        ensures left { Follows (λ before now. LeavesOf (Listing sub) before result now)
-            (λ left. left ≡ files_of self.old) (λ left. left ≡ files_of self.new) }
-        ensures scripted { FollowsScript (Listing sub) self.old result self.new }
+        ensures lists { ListingOf sub (seen_of self.old) result (seen_of self.new) }
+        ensures scripted { Scripted (Listing sub) self.old result self.new }
         ensures in_order { IfOk result (λ names. names_of names ≡ keys (folder_of sub (files_of self.new))) }
-        ensures script { SameScript self.old self.new }
-
-        // while the script has no line
-        ensures quietly { IsQuiet self.old → CalledQuietly (Listing sub) (files_of self.old) result (files_of self.new) }
-        ensures names { IsQuiet self.old → IfOk result (λ names. IsPermutation (names_of names)
-            (keys (folder_of sub (files_of self.old)))) }
-        ensures err { IsQuiet self.old → OnErr result (files_of self.new ≡ files_of self.old) }
-        ensures refused { HasNoScript self.old → IfErr result (λ fault. fault ≡ FolderFault.OutOfMemory) }
-
-        ensures counted { GoesUp (all_call_count self.old) (all_call_count self.new) }
-        ensures cause { CountsFailure result (failure_count self.old) (failure_count self.new) }
-        ensures told { CountsCall self.old self.new }
-        ensures not_absent { IsNotAbsent result }
     {
         let mode = self.begin_call()?;
         let answer = self.files.list_in(mode, sub);
@@ -247,22 +213,8 @@ impl Folder for MemFolder {
     }
 
     fn write(&mut self, name: &str, bytes: &[u8]) -> Result<(), FolderFault>
-        ensures called { Called (Writing name.now bytes.now) (files_of self.old) result (files_of self.new) }
-        ensures left { Follows (λ before now. LeavesOf (Writing name.now bytes.now) before result now)
-            (λ left. left ≡ files_of self.old) (λ left. left ≡ files_of self.new) }
-        ensures scripted { FollowsScript (Writing name.now bytes.now) self.old result self.new }
-        ensures script { SameScript self.old self.new }
-
-        // while the script has no line
-        ensures quietly { IsQuiet self.old → CalledQuietly (Writing name.now bytes.now)
-            (files_of self.old) result (files_of self.new) }
-        ensures err { IsQuiet self.old → OnErr result (files_of self.new ≡ files_of self.old) }
-        ensures refused { HasNoScript self.old → IfErr result (λ fault. fault ≡ FolderFault.OutOfMemory) }
-
-        ensures counted { GoesUp (all_call_count self.old) (all_call_count self.new) }
-        ensures cause { CountsFailure result (failure_count self.old) (failure_count self.new) }
-        ensures told { CountsCall self.old self.new }
-        ensures not_absent { IsNotAbsent result }
+        ensures writes { CallOf (Writing name.now bytes.now) (seen_of self.old) result (seen_of self.new) }
+        ensures scripted { Scripted (Writing name.now bytes.now) self.old result self.new }
     {
         let mode = self.begin_call()?;
         let answer = self.files.write_in(mode, name, bytes);
@@ -270,24 +222,8 @@ impl Folder for MemFolder {
     }
 
     fn place(&mut self, name: &str, place: Place, target: &str) -> Result<(), FolderFault>
-        ensures called { Called (Placing name.now place target.now)
-            (files_of self.old) result (files_of self.new) }
-        ensures left { Follows (λ before now. LeavesOf (Placing name.now place target.now) before result now)
-            (λ left. left ≡ files_of self.old) (λ left. left ≡ files_of self.new) }
-        ensures scripted { FollowsScript (Placing name.now place target.now) self.old result self.new }
-        ensures script { SameScript self.old self.new }
-
-        // while the script has no line
-        ensures quietly { IsQuiet self.old → CalledQuietly (Placing name.now place target.now)
-            (files_of self.old) result (files_of self.new) }
-        ensures err { IsQuiet self.old → OnErr result (files_of self.new ≡ files_of self.old) }
-        ensures absent { HasNoScript self.old →
-            (IsErrOf result FolderFault.Absent ↔ (get (files_of self.old).tmp name.now ≡ None)) }
-        ensures not_failed { HasNoScript self.old → IsErrOf result FolderFault.Failed → ⊥ }
-
-        ensures counted { GoesUp (all_call_count self.old) (all_call_count self.new) }
-        ensures cause { CountsFailure result (failure_count self.old) (failure_count self.new) }
-        ensures told { CountsCall self.old self.new }
+        ensures places { CallOf (Placing name.now place target.now) (seen_of self.old) result (seen_of self.new) }
+        ensures scripted { Scripted (Placing name.now place target.now) self.old result self.new }
     {
         let mode = self.begin_call()?;
         let answer = self.files.place_in(mode, name, place, target);
@@ -295,21 +231,8 @@ impl Folder for MemFolder {
     }
 
     fn remove(&mut self, name: &str) -> Result<(), FolderFault>
-        ensures called { Called (Removing name.now) (files_of self.old) result (files_of self.new) }
-        ensures left { Follows (λ before now. LeavesOf (Removing name.now) before result now)
-            (λ left. left ≡ files_of self.old) (λ left. left ≡ files_of self.new) }
-        ensures scripted { FollowsScript (Removing name.now) self.old result self.new }
-        ensures script { SameScript self.old self.new }
-
-        // while the script has no line
-        ensures quietly { IsQuiet self.old → CalledQuietly (Removing name.now) (files_of self.old) result (files_of self.new) }
-        ensures err { IsQuiet self.old → OnErr result (files_of self.new ≡ files_of self.old) }
-        ensures ok { HasNoScript self.old → IsOk result }
-
-        ensures counted { GoesUp (all_call_count self.old) (all_call_count self.new) }
-        ensures cause { CountsFailure result (failure_count self.old) (failure_count self.new) }
-        ensures told { CountsCall self.old self.new }
-        ensures not_absent { IsNotAbsent result }
+        ensures removes { CallOf (Removing name.now) (seen_of self.old) result (seen_of self.new) }
+        ensures scripted { Scripted (Removing name.now) self.old result self.new }
     {
         let mode = self.begin_call()?;
         let answer = self.files.remove_in(mode, name);

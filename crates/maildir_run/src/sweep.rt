@@ -3,7 +3,6 @@ ghost use Rattle.std.specs.Prelude.{◌≡◌, [], length, map, string_bytes, If
 ghost use Rattle.maildir_run.specs.Counting.{IsOfFolder, fault_of};
 ghost use Rattle.maildir_run.specs.Tasks.{tasks_of};
 ghost use Rattle.maildir_run.specs.Private.Parts.{Performed};
-ghost use Rattle.maildir_run.specs.Seen.{seen};
 ghost use Rattle.maildir_run.specs.Parts.{sweep_of};
 
 use crate::calls::Calls;
@@ -20,7 +19,7 @@ pub(crate) fn sweep<F: Folder>(
     calls: &mut Calls,
     listed: &[String],
 ) -> Result<u64, RunFault>
-    ensures ran { let at = seen F.Folder in
+    ensures ran { let at = F.at in
         Performed (sweep_of (map string_bytes listed.now)) (at folder.old) (at folder.new) calls.old.made calls.new.made (fault_of result) }
     ensures count { IfOk result (λ n. n ≡ length (sweep_of (map string_bytes listed.now))) }
     ensures causes { IfErr result IsOfFolder }
@@ -35,7 +34,7 @@ fn remove_planned<F: Folder>(
     calls: &mut Calls,
     steps: &[Step],
 ) -> Result<u64, RunFault>
-    ensures ran { let at = seen F.Folder in
+    ensures ran { let at = F.at in
         Performed (tasks_of [] steps.now) (at folder.old) (at folder.new) calls.old.made calls.new.made (fault_of result) }
     ensures count { IfOk result (λ n. n ≡ length (tasks_of [] steps.now)) }
     ensures causes { IfErr result IsOfFolder }

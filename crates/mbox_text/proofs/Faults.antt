@@ -1,4 +1,4 @@
--- One fault is no other, and no answer.
+-- The faults are distinct, and none is `Ok`.
 use Rattle.std.proofs.Common.{◌≡◌, Result, Ok, Err, IsErrAnd, IsErrOf}
 use Rattle.mbox_text.specs.declared.fault.TextFault.{TextFault}
 use Rattle.mbox_text.specs.declared.fault.TextFault.TheVariants.{LineEndInRest, NoFromLine, OutOfMemory}

@@ -1,4 +1,4 @@
--- Which messages a text has, and which one that begins so may have.
+-- Which messages a text has, and which a text with this prefix may have.
 
 -- A body without its last line if that is `\n` alone.
 pub mod Chopped
@@ -10,9 +10,9 @@ pub mod Blocks
 pub mod OneReading
 -- A text that begins with `From ` has messages: what a splitter holds of it, byte by byte.
 pub mod Existence
--- What is read of a front of a text is read of the whole text.
+-- The messages of a prefix are a prefix of the messages.
 pub mod Prefixes
--- Texts that no list of messages fits.
+-- Texts that are in `Mbox` with no list of messages.
 pub mod Unreadable
--- What was given is the first of each text that may begin so.
+-- The returned messages are a prefix of the messages of each text that begins with the text so far.
 pub mod FirstGiven

@@ -1,12 +1,12 @@
--- What the splitter holds and gives, piece after piece.
+-- What a splitter keeps and returns, piece after piece.
 
--- What a splitter holds, step by step.
+-- What a splitter keeps in memory, step by step.
 pub mod HeldLemmas
--- What a splitter holds, over the fields as the code changes them.
+-- What a splitter keeps in memory, over the fields as the code changes them.
 pub mod Fields
--- Whole lines that are added as they are read.
+-- Whole lines that are added to a body, unquoted.
 pub mod Runs
--- What a splitter has given: all messages but the last, whatever comes behind the text.
+-- Which messages a splitter has returned: all but the last, whatever comes after the text.
 pub mod Giving
--- What a splitter answers at the end of the text.
+-- What `finish` returns.
 pub mod Finishing

@@ -1,8 +1,8 @@
--- The lines of a text, and its front.
+-- The lines of a text, and its prefixes.
 
--- Lemmas on lines and quoting.
+-- The lines of a text, and their quoting.
 pub mod LineLemmas
 -- Where the `\n` of a text stand.
 pub mod LineEnds
--- The front of a text, and the front of its first line.
+-- What a text and its first line begin with.
 pub mod Heads

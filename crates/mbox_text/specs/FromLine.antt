@@ -12,7 +12,7 @@ abbrev pub before_space : List ℕ → List ℕ
 before_space [] = []
 before_space (c ∷ bytes) = if c == 32 then [] else c ∷ before_space bytes
 
--- the bytes without the spaces at their front
+-- the bytes without their leading spaces
 abbrev pub past_spaces : List ℕ → List ℕ
 past_spaces [] = []
 past_spaces (c ∷ bytes) = if c == 32 then past_spaces bytes else c ∷ bytes
@@ -35,10 +35,10 @@ cleaned [] = codes "MAILER-DAEMON"
 cleaned (c ∷ sender) = map hyphened (c ∷ sender)
 
 -- what follows the sender of a From_ line: nothing, or a space and the rest
-abbrev pub behind_sender : List ℕ → List ℕ
-behind_sender [] = []
-behind_sender (c ∷ rest) = 32 ∷ c ∷ rest
+abbrev pub after_sender : List ℕ → List ℕ
+after_sender [] = []
+after_sender (c ∷ rest) = 32 ∷ c ∷ rest
 
 -- the From_ line of a sender and a rest (qmail's mbox(5))
 unfoldable pub built : List ℕ → List ℕ → List ℕ
-built sender rest = from_bytes ++ (cleaned sender ++ behind_sender rest)
+built sender rest = from_bytes ++ (cleaned sender ++ after_sender rest)

@@ -6,15 +6,15 @@ pub mod Quoting
 pub mod FromLine
 -- The messages of an mbox text (mbox(5)).
 pub mod Mbox
--- What the front of a text says of the messages of the whole.
+-- What a prefix of a text says of the messages of the whole text.
 pub mod Fronts
--- What a splitter holds of a text that has come so far, which no caller need read.
+-- What a splitter keeps in memory of the text so far; no caller need read it.
 pub mod Held
--- What a splitter has been fed, and what it has given of it.
+-- What a splitter has been fed, and which messages it has returned.
 pub mod Fed
 -- How a message is written (mbox(5)).
 pub mod Spelling
--- What a writer was given.
+-- Which bytes a writer has taken.
 pub mod Writing
--- Words of the contracts of private functions and of proofs. No public contract reaches them, and no reader need believe them.
+-- Definitions for private functions and proofs. No public contract uses them, and no reader need believe them.
 pub mod Private

@@ -13,7 +13,7 @@ lines (c ∷ text) = if c == 10 then (10 ∷ []) ∷ lines text else before_firs
 
 -- a text is empty or ends with `\n`
 abbrev pub Ended : List ℕ → Type 0
-Ended text = (text ≡ []) ⊎ (front : List ℕ) × (text ≡ front ++ 10 ∷ [])
+Ended text = (text ≡ []) ⊎ (prefix : List ℕ) × (text ≡ prefix ++ 10 ∷ [])
 
 -- a text holds no `\n`
 abbrev pub NoEnd : List ℕ → Type 0

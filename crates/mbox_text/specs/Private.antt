@@ -1,10 +1,10 @@
--- Words of the contracts of private functions and of proofs. No public contract reaches them, and no reader need believe them.
+-- Definitions for private functions and proofs. No public contract uses them, and no reader need believe them.
 
--- Lines of a body, of which none is quoted but the first that must be.
+-- The first line of a text, and the first line of a body that is to be quoted.
 pub mod Lines
--- Messages that stay, whatever comes behind the text.
+-- Messages that stay the same, whatever comes after the text.
 pub mod Fronts
--- What a part of a text does to a splitter: it moves on, or refuses the part.
+-- How a splitter changes with a part of the text: it moves on, or refuses the part.
 pub mod Moved
--- What the parts of the plain splitting leave.
+-- What the steps of `split_all` leave.
 pub mod Split

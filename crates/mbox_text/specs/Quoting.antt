@@ -1,7 +1,7 @@
 -- Which lines begin a message, and how a line of a body is quoted (qmail's mbox(5), the format that is called mboxrd).
 use Rattle.std.specs.Prelude.{ℕ, ◌==◌, Bool, true, false, ◌&&◌, List, [], ◌∷◌, if◌then◌else◌}
 
--- whether the first list is the front of the second
+-- whether the first list is a prefix of the second
 abbrev pub begins_with : List ℕ → List ℕ → Bool
 begins_with [] text = true
 begins_with (p ∷ prefix) [] = false

@@ -1,4 +1,4 @@
-// A body: its lines without their quoting, and without the blank line that ends the message.
+// Bodies: unquoted lines, without the blank line that ends the message.
 ghost use Rattle.std.specs.Prelude.{◌≡◌, ◌-◌, ◌<◌, ◌≤◌, ◌++◌, ◌⊎◌, [], ◌∷◌, true, length, take, drop, IfOk, OnOk, MatchBool};
 ghost use Rattle.std.specs.List.{flat_map};
 ghost use Rattle.mbox_text.specs.Lines.{lines, Ended, NoEnd};
@@ -12,7 +12,7 @@ use crate::quoting::{find_quotable, is_quoted};
 use memchr::memchr;
 use std::alloc::AllocError;
 
-/// Adds a line without its quoting, and its `\n`.
+/// Appends a line, unquoted, and a `\n`.
 pub(crate) fn add_line(body: &mut Vec<u8>, line: &[u8]) -> Result<(), AllocError>
     ensures { OnOk result (body.new.items ≡ (body.old.items ++ unquoted line.now) ++ 10 ∷ []) }
 {
@@ -30,7 +30,7 @@ fn last_is_blank(text: &[u8]) -> bool
     text == b"\n".as_slice() || text.ends_with(b"\n\n")
 }
 
-/// Takes off the last line if that is `\n` alone.
+/// Removes the last line if it is `\n` alone.
 pub(crate) fn drop_blank(body: &mut Vec<u8>)
     ensures { body.new.items ≡ chopped body.old.items }
 {
@@ -40,7 +40,7 @@ pub(crate) fn drop_blank(body: &mut Vec<u8>)
     }
 }
 
-/// Adds a line without its quoting.
+/// Appends a line, unquoted.
 pub(crate) fn add_unquoted(body: &mut Vec<u8>, line: &[u8]) -> Result<(), AllocError>
     ensures { OnOk result (body.new.items ≡ body.old.items ++ unquoted line.now) }
 {
@@ -51,8 +51,8 @@ pub(crate) fn add_unquoted(body: &mut Vec<u8>, line: &[u8]) -> Result<(), AllocE
     }
 }
 
-/// Adds the whole lines of the text up to the first From_ line without their quoting, and says where that line or the
-/// last one begins.
+/// Appends the whole lines of the text up to the first From_ line, unquoted. Returns where that From_ line begins, or else
+/// the last line, which lacks its `\n`.
 pub(crate) fn take_lines(body: &mut Vec<u8>, text: &[u8]) -> Result<usize, AllocError>
     ensures within { IfOk result (λ n. n ≤ length text.now) }
     ensures added { IfOk result

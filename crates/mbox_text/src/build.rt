@@ -1,4 +1,4 @@
-// How a From_ line is built.
+// Building a From_ line.
 ghost use Rattle.std.specs.Prelude.{◌≡◌, ◌++◌, ◌⊎◌, ◌↔◌, Contains, IfErr, IfOk, IsErrOf, OnOk};
 ghost use Rattle.mbox_text.specs.FromLine.{IsFromLine, built, cleaned, hyphened};
 
@@ -9,7 +9,7 @@ use std::alloc::{AllocError, Global};
 /// The From_ line of a sender and a rest, without its `\n` (qmail's mbox(5)): `From `, the sender with a hyphen for each
 /// space, tab and `\n`, or `MAILER-DAEMON` for an empty one, and, where the rest is not empty, a space and the rest.
 ///
-/// Errors: `LineEndInRest` exactly where the rest holds a `\n`, else `OutOfMemory`.
+/// Errors: `LineEndInRest` exactly if the rest holds a `\n`; else `OutOfMemory` if an allocation failed.
 pub fn build_from(alloc: Global, sender: &[u8], rest: &[u8]) -> Result<Vec<u8>, TextFault>
     ensures built { IfOk result (λ line. line.items ≡ built sender.now rest.now) }
     ensures from_line { IfOk result (λ line. IsFromLine line.items) }
@@ -36,7 +36,7 @@ fn join(alloc: Global, sender: &[u8], rest: &[u8]) -> Result<Vec<u8>, AllocError
     Ok(line)
 }
 
-// Adds the sender as it is written.
+// Appends the sender as it is written.
 fn add_cleaned(line: &mut Vec<u8>, sender: &[u8]) -> Result<(), AllocError>
     ensures { OnOk result (line.new.items ≡ line.old.items ++ cleaned sender.now) }
 {

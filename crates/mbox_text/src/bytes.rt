@@ -1,9 +1,9 @@
-// A list of bytes that a caller reads as a slice.
+// The bytes of a message.
 ghost use Rattle.std.specs.Prelude.{◌≡◌, List, ℕ};
 
 use std::marker::Model;
 
-/// Bytes of a message. Contracts see them as the list of the bytes.
+/// The bytes of a From_ line or a body. Contracts see the list of bytes.
 #[derive(Drop)]
 pub struct Bytes {
     bytes: Vec<u8>,
@@ -16,7 +16,7 @@ impl Model for Bytes {
 }
 
 impl Bytes {
-    /// These bytes. Takes no memory.
+    /// Wraps these bytes. Allocates nothing.
     pub fn new(bytes: Vec<u8>) -> Bytes
         ensures { result ≡ bytes.items }
     {

@@ -6,7 +6,7 @@ ghost use Rattle.mbox_text.specs.Quoting.{begins_from, begins_with, from_bytes};
 
 use memchr::memchr;
 
-/// Whether the bytes are a From_ line without its end: they begin with `From ` and hold no `\n` (mbox(5)).
+/// Whether the bytes are a From_ line without its `\n`: they begin with `From ` and hold no `\n` (mbox(5)).
 pub fn is_from_line(line: &[u8]) -> bool
     ensures { IsTrue result ↔ IsFromLine line.now }
 {
@@ -27,7 +27,7 @@ pub(crate) fn begins_with_from(line: &[u8]) -> bool
     line.starts_with(b"From ")
 }
 
-/// Whether the bytes are a front of `From `, so that more of it may come.
+/// Whether the bytes are a prefix of `From `, so that the rest of it may follow.
 pub(crate) fn is_from_start(line: &[u8]) -> bool
     ensures { result ≡ begins_with line.now from_bytes }
 {

@@ -5,7 +5,7 @@ ghost use Rattle.mbox_text.specs.Private.Lines.{IsLine};
 
 use memchr::{memchr, memrchr};
 
-/// How many bytes the first line has, its `\n` included.
+/// The length of the first line, its `\n` included.
 pub(crate) fn line_len(text: &[u8]) -> usize
     requires { 0 < length text.now }
     ensures { IsLine text.now result }
@@ -16,7 +16,7 @@ pub(crate) fn line_len(text: &[u8]) -> usize
     }
 }
 
-/// How many bytes the lines have that end with `\n`.
+/// The length of all lines that end with `\n`.
 pub(crate) fn whole_len(text: &[u8]) -> usize
     ensures within { result ≤ length text.now }
     ensures ended { Ended (take result text.now) }

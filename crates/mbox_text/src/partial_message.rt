@@ -8,7 +8,7 @@ use crate::bytes::Bytes;
 use crate::entry::Entry;
 use std::alloc::AllocError;
 
-/// A From_ line, and the whole lines that have come behind it, without their quoting.
+/// A From_ line and the whole lines after it so far, unquoted.
 #[derive(Drop)]
 pub(crate) struct PartialMessage {
     pub(crate) from_line: Vec<u8>,
@@ -16,7 +16,7 @@ pub(crate) struct PartialMessage {
 }
 
 impl PartialMessage {
-    /// The entry, where no more lines come.
+    /// Closes the message after its last whole line.
     pub(crate) fn close(self) -> Entry
         ensures from_line { result.from_line ≡ self.from_line.items }
         ensures body { result.body ≡ chopped self.body.items }
@@ -29,7 +29,7 @@ impl PartialMessage {
         }
     }
 
-    /// The entry, where only this line comes, which no `\n` ends; nothing comes where it is empty.
+    /// Closes the message with a last, unterminated line, which may be empty.
     pub(crate) fn close_with(self, line: &[u8]) -> Result<Entry, AllocError>
         ensures from_line { IfOk result (λ entry. entry.from_line ≡ self.from_line.items) }
         ensures body { IfOk result

@@ -1,4 +1,4 @@
-// The `>` before a line of a body that would read as a From_ line.
+// The quoting of lines that would read as From_ lines.
 ghost use Rattle.std.specs.Prelude.{◌≡◌, ◌<◌, length, drop, MatchBool};
 ghost use Rattle.mbox_text.specs.Private.Lines.{FindsQuotable};
 ghost use Rattle.mbox_text.specs.Quoting.{quotable, unquoted};
@@ -18,7 +18,7 @@ pub fn is_quotable(line: &[u8]) -> bool
     begins_with_from(&line[at..])
 }
 
-/// Whether a line loses its first byte when it is read.
+/// Whether a line loses its first byte when it is unquoted.
 pub(crate) fn is_quoted(line: &[u8]) -> bool
     ensures { MatchBool result
         ((0 < length line.now) × (unquoted line.now ≡ drop 1 line.now))
@@ -30,7 +30,7 @@ pub(crate) fn is_quoted(line: &[u8]) -> bool
     is_quotable(line)
 }
 
-/// Where the first line begins that is zero or more `>` and then `From `. Takes time in the bytes up to the end of
+/// Where the first quotable line begins, or None if no line is quotable. The time is linear in the bytes up to the end of
 /// that line.
 pub(crate) fn find_quotable(text: &[u8]) -> Option<usize>
     ensures { FindsQuotable text.now result }
@@ -38,11 +38,11 @@ pub(crate) fn find_quotable(text: &[u8]) -> Option<usize>
     let finder = Finder::new(b"From ");
     let mut at = 0;
     while let Some(n) = finder.find(&text[at..]) {
-        let front = at + whole_len(&text[at..at + n]);
-        if is_quotable(&text[front..]) {
-            return Some(front);
+        let start = at + whole_len(&text[at..at + n]);
+        if is_quotable(&text[start..]) {
+            return Some(start);
         }
-        at = front + line_len(&text[front..]);
+        at = start + line_len(&text[start..]);
     }
     None
 }

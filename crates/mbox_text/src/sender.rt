@@ -1,38 +1,38 @@
-// The sender of a From_ line, and the rest behind it.
+// The sender of a From_ line, and the rest after it.
 ghost use Rattle.std.specs.Prelude.{◌≡◌, ◌≤◌, drop, length, take};
 ghost use Rattle.mbox_text.specs.FromLine.{IsFromLine, before_space, past_spaces, rest, sender};
 
 use memchr::memchr;
 
 /// The sender of a From_ line: what follows `From `, up to the next space or the line's end (this project's own rule).
-/// It may be empty. Takes no memory.
+/// It may be empty. Allocates nothing.
 pub fn sender_of(from_line: &[u8]) -> &[u8]
     requires { IsFromLine from_line.now }
     ensures { result.now ≡ sender from_line.now }
 {
-    let behind = behind_from(from_line);
-    &behind[..first_space(behind)]
+    let after = after_from(from_line);
+    &after[..first_space(after)]
 }
 
 /// The rest of a From_ line: what follows the sender and all spaces directly after it (this project's own rule). It is not
-/// read further: in most texts it is a date. Takes no memory.
+/// parsed: in most texts it is a date. Allocates nothing.
 pub fn rest_of(from_line: &[u8]) -> &[u8]
     requires { IsFromLine from_line.now }
     ensures { result.now ≡ rest from_line.now }
 {
-    let behind = behind_from(from_line);
-    without_spaces(&behind[first_space(behind)..])
+    let after = after_from(from_line);
+    without_spaces(&after[first_space(after)..])
 }
 
 // What follows `From `.
-fn behind_from(from_line: &[u8]) -> &[u8]
+fn after_from(from_line: &[u8]) -> &[u8]
     requires { 5 ≤ length from_line.now }
     ensures { result.now ≡ drop 5 from_line.now }
 {
     &from_line[5..]
 }
 
-// The place of the first space, or the length where there is none.
+// The index of the first space, or the length if there is none.
 fn first_space(bytes: &[u8]) -> usize
     ensures within { result ≤ length bytes.now }
     ensures before { take result bytes.now ≡ before_space bytes.now }
@@ -43,7 +43,7 @@ fn first_space(bytes: &[u8]) -> usize
     }
 }
 
-// The bytes without the spaces at their front.
+// The bytes without their leading spaces.
 fn without_spaces(bytes: &[u8]) -> &[u8]
     ensures { result.now ≡ past_spaces bytes.now }
 {

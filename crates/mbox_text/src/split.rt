@@ -1,4 +1,4 @@
-// The messages of a text that is there whole: the plain program beside the splitter.
+// Splitting a text that is in memory whole.
 ghost use Rattle.std.specs.Prelude.{◌≡◌, ◌↔◌, ◌⊎◌, true, IfOk, IfErr, IsErrOf};
 ghost use Rattle.mbox_text.specs.Mbox.{Mbox, IsMboxText, IsUnreadable};
 ghost use Rattle.mbox_text.specs.Quoting.{begins_from};
@@ -12,10 +12,10 @@ use crate::from_line::begins_with_from;
 use memchr::memchr;
 use std::alloc::{AllocError, Global};
 
-/// The messages of a whole text, in its order (mbox(5)): each From_ line begins one, and no blank line is needed before it.
+/// The messages of a whole text, in order (mbox(5)): each From_ line begins one, and no blank line is needed before it.
 ///
-/// Errors: `NoFromLine` exactly where the text is not empty and doesn't begin with `From ` (this project's own rule), and
-/// then no memory was asked for; else `OutOfMemory`.
+/// Errors: `NoFromLine` exactly if the text is not empty and doesn't begin with `From ` (this project's own rule), before
+/// any allocation; else `OutOfMemory` if an allocation failed.
 pub fn split_all(alloc: Global, text: &[u8]) -> Result<Vec<Entry>, TextFault>
     ensures entries { IfOk result (λ entries. Mbox text.now entries.items) }
     ensures no_from_line { IsErrOf result TextFault.NoFromLine ↔ ¬ IsMboxText text.now }
@@ -29,7 +29,7 @@ pub fn split_all(alloc: Global, text: &[u8]) -> Result<Vec<Entry>, TextFault>
     Ok(split_blocks(alloc, text)?)
 }
 
-// The messages of a text that begins with a From_ line, or of none.
+// The messages of a text that is empty or begins with a From_ line.
 fn split_blocks(alloc: Global, text: &[u8]) -> Result<Vec<Entry>, AllocError>
     requires { IsMboxText text.now }
     ensures { IfOk result (λ entries. Mbox text.now entries.items) }
@@ -44,14 +44,14 @@ fn split_blocks(alloc: Global, text: &[u8]) -> Result<Vec<Entry>, AllocError>
     Ok(entries)
 }
 
-// The first message of a text, and how many bytes its block has.
+// The first message of a text, and the length of its block.
 #[derive(Drop)]
 struct FirstBlock {
     entry: Entry,
     len: usize,
 }
 
-// Reads the block at the front of a text that begins with a From_ line.
+// Reads the first block of a text that begins with a From_ line.
 fn first_block(alloc: Global, text: &[u8]) -> Result<FirstBlock, AllocError>
     requires { begins_from text.now ≡ true }
     ensures { IfOk result (λ first. IsFirstBlock text.now first.len first.entry) }
@@ -77,14 +77,14 @@ fn first_block(alloc: Global, text: &[u8]) -> Result<FirstBlock, AllocError>
     }
 }
 
-// A body, and how many bytes its lines have in the text.
+// A body, and the length of its lines in the text.
 #[derive(Drop)]
 struct FirstBody {
     bytes: Vec<u8>,
     len: usize,
 }
 
-// Reads the body that a text begins with, up to the first From_ line.
+// Reads a body: the lines up to the first From_ line, or all of them.
 fn first_body(alloc: Global, text: &[u8]) -> Result<FirstBody, AllocError>
     ensures { IfOk result (λ first. IsFirstBody text.now first.len first.bytes.items) }
 {

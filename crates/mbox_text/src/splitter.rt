@@ -1,4 +1,4 @@
-// The splitter: messages out of a text that comes in pieces.
+// Splitting a text that arrives in pieces.
 ghost use Rattle.std.specs.Prelude.{◌≡◌, ◌<◌, ◌≤◌, ◌↔◌, [], ◌∷◌, length, take, IfErr, IfOk, IsErr, IsErrOf, OnErr, OnOk};
 ghost use Rattle.mbox_text.specs.Fed.{GivesLast, Fed, IsSplitterFault, NeverBegins, RefusesShort, Takes, TakesPart};
 ghost use Rattle.mbox_text.specs.Private.Moved.{Gives, Moves, Refuses, Stops};
@@ -15,20 +15,20 @@ use memchr::memchr;
 use std::alloc::{AllocError, Global};
 use std::mem;
 
-/// Splits a text that comes in pieces into its messages (mbox(5)). It holds the message that is being read and no other,
-/// and takes time in the bytes alone, however they are cut.
+/// Splits a text that arrives in pieces into its messages (mbox(5)). Keeps in memory: the partial message and no other. The
+/// time is linear in the bytes, however they are cut into pieces.
 #[derive(Drop)]
 pub struct Splitter {
     alloc: Global,
     failed: bool,
-    // None up to the end of a From_ line
+    // None until the first From_ line has ended, and while another is being read
     message: Option<PartialMessage>,
-    // what has come of the last line
+    // the last line so far
     line: Vec<u8>,
 }
 
 impl Splitter {
-    /// A splitter that was fed nothing. Takes no memory.
+    /// A splitter that was fed nothing. Allocates nothing.
     pub fn new(alloc: Global) -> Splitter
         ensures { Fed [] [] result }
     {
@@ -40,15 +40,15 @@ impl Splitter {
         }
     }
 
-    /// Takes the next piece of the text, and appends each message that is whole now: after Ok, all calls together have
+    /// Takes the next piece of the text, and appends each message that it completes: after Ok, all calls together have
     /// appended all messages of the text so far but the last.
     ///
-    /// Errors: `NoFromLine` where the text so far neither begins with `From ` nor is a front of it, and `OutOfMemory`,
-    /// where the first of the messages may have been appended. From then on `Failed`.
+    /// Errors: `NoFromLine` if the text so far neither begins with `From ` nor is a prefix of it; `OutOfMemory` if an
+    /// allocation failed, and then a prefix of the messages may have been appended. Every later call fails with `Failed`.
     pub fn feed(&mut self, piece: &[u8], out: &mut Vec<Entry>) -> Result<(), TextFault>
         ensures fed { OnOk result (Takes self.old piece.now out.old.items out.new.items self.new) }
 
-        // what a refusal means and leaves
+        // what each error means and leaves
         ensures no_from_line { IsErrOf result TextFault.NoFromLine
             → NeverBegins self.old piece.now out.old.items out.new.items }
         ensures out_of_memory { IsErrOf result TextFault.OutOfMemory
@@ -67,9 +67,10 @@ impl Splitter {
         taken
     }
 
-    /// The last message of the text, or None where nothing was fed.
+    /// The last message of the text, or None if nothing was fed.
     ///
-    /// Errors: `Failed` after a refused `feed`, `NoFromLine` where one to four bytes were fed, `OutOfMemory`.
+    /// Errors: `Failed` after a `feed` that failed; `NoFromLine` if one to four bytes were fed; `OutOfMemory` if an allocation
+    /// failed.
     pub fn finish(self) -> Result<Option<Entry>, TextFault>
         ensures last { IfOk result (GivesLast self) }
         ensures failed { IsErrOf result TextFault.Failed ↔ HasFailed self }
@@ -97,7 +98,7 @@ impl Splitter {
         }
     }
 
-    // Takes the piece.
+    // Takes the piece, part by part.
     fn take_piece(&mut self, piece: &[u8], out: &mut Vec<Entry>) -> Result<(), TextFault>
         ensures moved { OnOk result
             (Gives self.old piece.now out.old.items out.new.items self.new) }
@@ -112,8 +113,8 @@ impl Splitter {
         Ok(())
     }
 
-    // Takes the whole lines at the front of the text, up to a From_ line, and then one line more, or what has
-    // come of it.
+    // Takes the leading whole lines of the text, up to a From_ line, and then one more line, or its start. Returns how many
+    // bytes that is.
     fn advance(&mut self, text: &[u8], out: &mut Vec<Entry>) -> Result<usize, TextFault>
         requires { 0 < length text.now }
         ensures some { IfOk result (λ n. 0 < n) }
@@ -139,7 +140,7 @@ impl Splitter {
         }
     }
 
-    // Takes whole lines at the front of the text, where the splitter stands at the front of a line of a body.
+    // Takes the leading whole lines of the text if a line of a body begins there. Returns how many bytes they are.
     fn take_body_lines(&mut self, text: &[u8]) -> Result<usize, AllocError>
         ensures within { IfOk result (λ n. n ≤ length text.now) }
         ensures held { IfOk result (λ n. Moves self.old (take n text.now) [] self.new) }
@@ -154,7 +155,7 @@ impl Splitter {
         }
     }
 
-    // Adds bytes with no `\n` to the line, and closes the message if the line is a From_ line.
+    // Appends bytes without `\n` to the line, and closes the message if the line is a From_ line.
     fn add_part(&mut self, part: &[u8], out: &mut Vec<Entry>) -> Result<(), TextFault>
         requires { NoEnd part.now }
         ensures moved { OnOk result (Gives self.old part.now out.old.items out.new.items self.new) }
@@ -175,7 +176,7 @@ impl Splitter {
         Ok(())
     }
 
-    // The line is whole.
+    // Ends the line: it becomes a From_ line or part of the body.
     fn end_line(&mut self) -> Result<(), TextFault>
         ensures moved { OnOk result (Moves self.old (10 ∷ []) [] self.new) }
         ensures stopped { IfErr result (λ fault. Refuses fault self.old (10 ∷ [])) }

@@ -1,4 +1,4 @@
-// A message in its regular spelling, written to any writer.
+// Writing a message in its regular spelling.
 ghost use Rattle.std.specs.Prelude.{◌≡◌, [], ◌∷◌, IfErr, IsOk};
 ghost use Rattle.std.specs.List.{flat_map};
 ghost use Rattle.mbox_text.specs.Lines.{lines};
@@ -13,10 +13,9 @@ use crate::quoting::find_quotable;
 use std::io::{ErrorKind, Write};
 
 /// Writes the message in its regular spelling (mbox(5)): the From_ line and `\n`; the body, with one `>` more before each line
-/// that is zero or more `>` and then `From `; the `\n` that the body lacks at its end; and a blank line.
+/// that is zero or more `>` and then `From `; the `\n` that the body lacks at its end; and a blank line. Allocates nothing.
 ///
-/// Error: `WriteFault`, where the writer failed or took no byte of a piece that was not empty; then a front of the spelling
-/// was taken. Takes no memory of its own.
+/// Error: `WriteFault` if the writer failed, or took no byte though some were offered; it has taken a prefix of the spelling.
 pub fn write_entry<W: Write>(entry: &Entry, out: &mut W) -> Result<(), TextFault>
     ensures written { Writes (W.contents out.old) (W.contents out.new) result (spelling entry.now) }
     ensures causes { IfErr result (λ fault. fault ≡ TextFault.WriteFault) }
@@ -30,8 +29,8 @@ pub fn write_entry<W: Write>(entry: &Entry, out: &mut W) -> Result<(), TextFault
 
 /// Writes the bytes as they stand.
 ///
-/// Error: `WriteFault`, where the writer failed or took no byte of a piece that was not empty; then a front of the bytes was
-/// taken. An interrupted write is no failure: it is made again.
+/// Error: `WriteFault` if the writer failed, or took no byte though some were offered; it has taken a prefix of the bytes. An
+/// interrupted write is retried.
 pub fn write_bytes<W: Write>(bytes: &[u8], out: &mut W) -> Result<(), TextFault>
     ensures written { Writes (W.contents out.old) (W.contents out.new) result bytes.now }
     ensures causes { IfErr result (λ fault. fault ≡ TextFault.WriteFault) }
@@ -58,7 +57,7 @@ pub fn write_bytes<W: Write>(bytes: &[u8], out: &mut W) -> Result<(), TextFault>
     Err(TextFault::WriteFault)
 }
 
-// Writes the lines of a body with their quoting.
+// Writes the lines of a body, quoted.
 fn write_body<W: Write>(body: &[u8], out: &mut W) -> Result<(), TextFault>
     ensures written { Writes (W.contents out.old) (W.contents out.new) result
         (flat_map quoted (lines body.now)) }
@@ -75,7 +74,7 @@ fn write_body<W: Write>(body: &[u8], out: &mut W) -> Result<(), TextFault>
     write_bytes(&body[at..], out)
 }
 
-// Writes a line with one `>` more.
+// Writes `>` and a line.
 fn write_quoted<W: Write>(line: &[u8], out: &mut W) -> Result<(), TextFault>
     ensures written { Writes (W.contents out.old) (W.contents out.new) result (62 ∷ line.now) }
     ensures causes { IfErr result (λ fault. fault ≡ TextFault.WriteFault) }

@@ -1,7 +1,30 @@
 -- A call that answered an error.
 use Rattle.std.proofs.Common.{◌≡◌, refl, Result, Ok, Err, IsErr}
+use Rattle.std.proofs.lemmas.Bool.{false≢true}
+use Rattle.maildir_disk.proofs.Common.{Follows}
+use Rattle.maildir_disk.specs.declared.system.System.{Ghosts}
+use Rattle.maildir_disk.specs.PowerCuts.{LeftByOthers}
+use Rattle.maildir_disk.specs.Quiet.{SameFiles}
+use Rattle.maildir_disk.specs.Seen.{SyncsMaildir}
+use Rattle.maildir_disk.specs.World.{Acts}
 
 -- by this a clause that tells an answer from an error is that of the error
 pub an_error : {A E : Type 0} (outcome : Result A E) → IsErr outcome → (e : E) × (outcome ≡ Err e)
 an_error (Ok x) is_err = cc
 an_error (Err e) is_err = (e, refl)
+
+-- a sync of which a part failed
+pub sync_failed : {S File A E : Type 0} (f : Ghosts S File) {old new : S} (result : Result A E) → IsErr result
+    → (f.honest old → Acts (f.world old) (f.world new)) → (f.honest old → Follows LeftByOthers (f.may_leave old) (f.may_leave new))
+    → (f.honest old → f.rooted old → f.rooted new) → (f.quiet old → SameFiles (f.world old) (f.world new)) → SyncsMaildir f old result new
+sync_failed f (Ok x) is acts left still_rooted quietly = absurd (false≢true is)
+sync_failed f (Err e) is acts left still_rooted quietly = record {
+  honest = λ h. tt;
+  acts = acts;
+  left = left;
+  rooted = λ h. tt;
+  still_rooted = still_rooted;
+  synced = λ h. tt;
+  quiet = λ q. tt;
+  quietly = quietly;
+}

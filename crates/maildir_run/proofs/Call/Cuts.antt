@@ -1,6 +1,6 @@
 -- What a power cut leaves, where it leaves all that is there; and from one moment to another.
-use Rattle.std.proofs.Common.{◌≡◌, List, [], ◌∷◌, ◌++◌, map, Result, Ok, Err, refl, sym, subst, ◌∙◌, inl, inr, Vec, String, Global}
-use Rattle.maildir_run.proofs.Common.{FolderFault, Sub, Call, Called, Listed, Listing, Writing, Move, Again, Succeeded}
+use Rattle.std.proofs.Common.{◌≡◌, List, [], ◌∷◌, ◌++◌, map, Result, Ok, Err, refl, sym, subst, ◌∙◌, inl, inr}
+use Rattle.maildir_run.proofs.Common.{FolderFault, Call, Called, Writing, Move, Again, Succeeded}
 use Rattle.maildir_run.proofs.Common.{after, moved, Came, Leaves, LeavesOf, IsFoundWhole, Follows, left_after, Files}
 use Rattle.maildir_run.proofs.Call.Moves.{writing_ok}
 
@@ -23,11 +23,6 @@ leaves_called : {A : Type 0} (call : Call) (old : Files) (r : Result A FolderFau
 leaves_called call old (Ok x) new h = (leaves_moves call old new (h.before ++ Again ∷ h.rest) h.left, found_whole call h)
 leaves_called call old (Err e) new h = leaves_moves call old new h.moves h.left
 
-leaves_listed : (sub : Sub) (old : Files) (r : Result (Vec (String Global) Global) FolderFault) (new : Files)
-    → Listed sub old r new → LeavesOf (Listing sub) old r new
-leaves_listed sub old (Ok x) new h = (leaves_moves (Listing sub) old new (h.before ++ Again ∷ h.rest) h.left, tt)
-leaves_listed sub old (Err e) new h = leaves_moves _ old new h.moves h.left
-
 -- ---- where a cut leaves what is there, and that alone
 pub all_left : (of : Files → Files → Type 0) {old new : Files} → of old new → Follows of (λ left. left ≡ old) (λ left. left ≡ new)
 all_left of {old} h left e = (old, refl, subst (of old) (sym e) h)
@@ -35,10 +30,6 @@ all_left of {old} h left e = (old, refl, subst (of old) (sym e) h)
 pub called_left : {A : Type 0} (call : Call) {old : Files} (r : Result A FolderFault) {new : Files}
     → Called call old r new → Follows (λ before now. LeavesOf call before r now) (λ left. left ≡ old) (λ left. left ≡ new)
 called_left call {old} r {new} h = all_left (λ before now. LeavesOf call before r now) (leaves_called call old r new h)
-
-pub listed_left : (sub : Sub) {old : Files} (r : Result (Vec (String Global) Global) FolderFault) {new : Files}
-    → Listed sub old r new → Follows (λ before now. LeavesOf (Listing sub) before r now) (λ left. left ≡ old) (λ left. left ≡ new)
-listed_left sub {old} r {new} h = all_left (λ before now. LeavesOf (Listing sub) before r now) (leaves_listed sub old r new h)
 
 -- ---- from one moment to another
 pub left_as : (of other : Files → Files → Type 0) (before now : Files → Type 0)

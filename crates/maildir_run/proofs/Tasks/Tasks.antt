@@ -5,7 +5,7 @@ use Rattle.std.proofs.Common.{Option, Some, None, IsErrAnd, flat_map, take-appen
 use Rattle.maildir_run.proofs.Common.{keys, take_more, flat_map-append, RunFault, FolderFault, Sub, Call, Called, CalledQuietly}
 use Rattle.maildir_run.proofs.Common.{Listed, Listing, GoesUp, CountsFailure, folder_of, names_of, fault_of, run_answer, capped}
 use Rattle.maildir_run.proofs.Common.{GoesUpWith, CountsFault, HasCallNumber, Follows, LeavesOf, Files, Task, Ask, Do, Way, honestly}
-use Rattle.maildir_run.proofs.Common.{quietly, leaving, AllDone, Stopped, DoneUntil, Performs, Seen, Performed, names_in, IsReading}
+use Rattle.maildir_run.proofs.Common.{quietly, leaving, AllDone, Stopped, DoneUntil, Performs, Seen, CallOf, ListingOf, Performed, names_in, IsReading}
 use Rattle.maildir_run.specs.declared.folder.FolderFault.TheVariants.{Absent, Failed as Broken}
 use Rattle.maildir_run.proofs.Tasks.Faults.{at_reading}
 use Rattle.maildir_run.proofs.Call.Cuts.{left_as, left_then}
@@ -202,27 +202,22 @@ ask_quietly sub old (Ok v) new h names = (new, (h.1, names), refl)
 ask_quietly sub old (Err e) new h names = inl h
 
 -- a write, a placement or a removal
-pub ran_do : {A : Type 0} (call : Call) (old new : Seen) (made made' : ℕ) (r : Result A FolderFault) (answer : Result A RunFault)
-    → made' ≡ capped (made + 1) → answer ≡ run_answer made' r → (old.honest → new.honest) → (old.honest → Called call old.files r new.files)
-    → (old.honest → Follows (λ before now. LeavesOf call before r now) old.may_leave new.may_leave)
-    → (old.honest → old.rooted → new.rooted) → (old.quiet → new.quiet) → (old.quiet → CalledQuietly call old.files r new.files) → GoesUp old.calls new.calls
-    → CountsFailure r old.failures new.failures → Performed (Do call ∷ []) old new made made' (fault_of answer)
-ran_do call old new made made' r answer up is honest called left rooted quiet alone =
-    ran_one r up is honest (λ h. do_honestly call _ r _ (called h))
-    (λ h. left_as _ _ old.may_leave new.may_leave (do_leaving call r) (left h))
-    rooted quiet (λ q. do_quietly call _ r _ (alone q))
+pub ran_do : {A : Type 0} {call : Call} {old new : Seen} {made made' : ℕ} (r : Result A FolderFault) (answer : Result A RunFault)
+    → made' ≡ capped (made + 1) → answer ≡ run_answer made' r → CallOf call old r new → Performed (Do call ∷ []) old new made made' (fault_of answer)
+ran_do {call = call} {old} {new} r answer up is did =
+    ran_one r up is did.honest (λ h. do_honestly call _ r _ (did.called h))
+    (λ h. left_as _ _ old.may_leave new.may_leave (do_leaving call r) (did.left h))
+    did.still_rooted did.quiet (λ q. do_quietly call _ r _ (did.quietly q)) did.counted did.cause
 
 -- a listing
 pub ran_ask : {sub : Sub} {old new : Seen} {made made' : ℕ} (r : Result (Vec (String Global) Global) FolderFault) {answer : Result (Vec (String Global) Global)
-    RunFault} → made' ≡ capped (made + 1) → answer ≡ run_answer made' r → (old.honest → new.honest) → (old.honest → Listed sub old.files r new.files)
-    → (old.honest → Follows (λ before now. LeavesOf (Listing sub) before r now) old.may_leave new.may_leave)
-    → (old.honest → old.rooted → new.rooted) → (old.quiet → new.quiet)
-    → (old.quiet → CalledQuietly (Listing sub) old.files r new.files) → (old.quiet → IfOk r (λ v. IsPermutation (names_of v) (keys (folder_of sub old.files))))
-    → GoesUp old.calls new.calls → CountsFailure r old.failures new.failures → Performed (Ask sub (names_in answer) ∷ []) old new made made' (fault_of answer)
-ran_ask {sub} {old} {new} {made} {made'} r {answer} up is honest called left rooted quiet alone names counted cause =
-    rw (ap names_in is ∙ told_names r made') (ran_one r up is honest
-    (λ h. ask_honestly sub _ r _ (called h)) (λ h. left_as _ _ old.may_leave new.may_leave (ask_leaving sub r) (left h))
-    rooted quiet (λ q. ask_quietly sub _ r _ (alone q) (names q)) counted cause)
+    RunFault} → made' ≡ capped (made + 1) → answer ≡ run_answer made' r → ListingOf sub old r new
+    → Performed (Ask sub (names_in answer) ∷ []) old new made made' (fault_of answer)
+ran_ask {sub} {old} {new} {made} {made'} r {answer} up is did =
+    let call = did.call in
+    rw (ap names_in is ∙ told_names r made') (ran_one r up is call.honest
+    (λ h. ask_honestly sub _ r _ (did.listed h)) (λ h. left_as _ _ old.may_leave new.may_leave (ask_leaving sub r) (call.left h))
+    call.still_rooted call.quiet (λ q. ask_quietly sub _ r _ (call.quietly q) (did.names q)) call.counted call.cause)
 
 -- one more step of a plan, which has these tasks
 module _ {X : Type 0} (f : X → List Task) (xs : List X) (i : ℕ) (x : X) (h : i < length xs)

@@ -1,4 +1,4 @@
--- From_ lines that are taken apart and built.
+-- From_ lines, taken apart and built.
 use Rattle.std.proofs.Common.{◌≡◌, ℕ, zero, suc, add-zero, ◌+◌, ◌-◌, ◌<◌, ◌≤◌, true, false, Option, Some, None, Result, Ok, Err, cond, eqb, List, []}
 use Rattle.std.proofs.Common.{◌∷◌, ◌++◌, get_or, length, take, drop, map, refl, sym, ◌∙◌, ap, arith, append_assoc, Contains, OnOk, codes, is_ok, is_some}
 use Rattle.std.proofs.lemmas.Bool.{ne_eqb, false_from_ne_true, false≢true}
@@ -6,7 +6,7 @@ use Rattle.std.proofs.lemmas.List.{append-nil, drop_at, drop_more, get_or-drop, 
 use Rattle.memchr.specs.Find.{IsFirstByte, is_byte}
 use Rattle.mbox_text.specs.Lines.{NoEnd}
 use Rattle.mbox_text.specs.Quoting.{begins_from, from_bytes}
-use Rattle.mbox_text.specs.FromLine.{IsFromLine, before_space, past_spaces, sender, rest, hyphened, cleaned, behind_sender, built}
+use Rattle.mbox_text.specs.FromLine.{IsFromLine, before_space, past_spaces, sender, rest, hyphened, cleaned, after_sender, built}
 use Rattle.mbox_text.proofs.TextLines.LineEnds.{none-there, NoEnd-append, NoEnd-at}
 
 -- a list that a call extended
@@ -36,9 +36,9 @@ before-map : (s t : List ℕ) → before_space (map hyphened s ++ t) ≡ map hyp
 before-map [] t = refl
 before-map (c ∷ s) t = rw (hyphened-space c, before-map s t) refl
 
-before-behind : (r : List ℕ) → before_space (behind_sender r) ≡ []
-before-behind [] = refl
-before-behind (c ∷ r) = refl
+before-after : (r : List ℕ) → before_space (after_sender r) ≡ []
+before-after [] = refl
+before-after (c ∷ r) = refl
 
 before-cleaned : (s t : List ℕ) → before_space t ≡ [] → before_space (cleaned s ++ t) ≡ cleaned s
 unfolding cleaned
@@ -47,15 +47,15 @@ before-cleaned (c ∷ s) t h = grind (arith, before-map, append-nil)
 
 pub sender-built : (s r : List ℕ) → sender (built s r) ≡ cleaned s
 unfolding sender built
-sender-built s r = before-cleaned s _ (before-behind r)
+sender-built s r = before-cleaned s _ (before-after r)
 
-past-behind : (r : List ℕ) → past_spaces (behind_sender r) ≡ past_spaces r
-past-behind [] = refl
-past-behind (c ∷ r) = refl
+past-after : (r : List ℕ) → past_spaces (after_sender r) ≡ past_spaces r
+past-after [] = refl
+past-after (c ∷ r) = refl
 
 pub rest-built : (s r : List ℕ) → rest (built s r) ≡ past_spaces r
 unfolding rest built
-rest-built s r = grind (arith, sender-built, drop_at, past-behind)
+rest-built s r = grind (arith, sender-built, drop_at, past-after)
 
 NoEnd-map : (s : List ℕ) → NoEnd (map hyphened s)
 NoEnd-map [] = tt
@@ -66,13 +66,13 @@ unfolding cleaned
 NoEnd-cleaned [] = grind (arith)
 NoEnd-cleaned (c ∷ s) = NoEnd-map (c ∷ s)
 
-NoEnd-behind : (r : List ℕ) → NoEnd r → NoEnd (behind_sender r)
-NoEnd-behind [] h = tt
-NoEnd-behind (c ∷ r) h = (refl, h)
+NoEnd-after : (r : List ℕ) → NoEnd r → NoEnd (after_sender r)
+NoEnd-after [] h = tt
+NoEnd-after (c ∷ r) h = (refl, h)
 
 built-line : (s r : List ℕ) → NoEnd r → IsFromLine (built s r)
 unfolding built begins_from
-built-line s r h = grind (arith, NoEnd-append, NoEnd-cleaned, NoEnd-behind)
+built-line s r h = grind (arith, NoEnd-append, NoEnd-cleaned, NoEnd-after)
 
 pub is-built : {line : List ℕ} (s r : List ℕ) (found : Option ℕ) → IsFirstByte (is_byte 10) r found → is_some found ≡ false → line ≡ built s r → IsFromLine line
 is-built s r None h e is = rw is (built-line s r (none-there r h))
@@ -114,7 +114,7 @@ before-found s h = grind (arith, before-at)
 pub before-none : {s : List ℕ} → IsFirstByte (is_byte 32) s None → s ≡ before_space s
 before-none {s} h = before-all s (λ k l. h k (omega arith) l)
 
--- one space more
+-- one more leading space
 pub past-mark : (s : List ℕ) {at : ℕ} → at < length s → get_or s at 0 ≡ 32 → past_spaces (drop at s) ≡ past_spaces (drop (at + 1) s)
 past-mark s {at} h e = rw (drop_more s at 0 h, e) refl
 
@@ -122,16 +122,16 @@ past-plain : (s : List ℕ) → (0 < length s → get_or s 0 0 ≡ 32 → ⊥) �
 past-plain [] h = refl
 past-plain (c ∷ s) h = rw (ne_eqb c 32 (h (omega arith))) refl
 
--- no space more
+-- no more leading space
 pub past-stop : (s : List ℕ) {at : ℕ} → (at < length s → get_or s at 0 ≡ 32 → ⊥) → past_spaces (drop at s) ≡ drop at s
 past-stop s h = grind (arith, past-plain, length-drop, get_or-drop, add-zero)
 
--- the parts of a From_ line, where the first space behind `From ` has this place
-pub sender-at : (line : List ℕ) {behind : List ℕ} (n : ℕ) → behind ≡ drop 5 line → take n behind ≡ before_space behind → take n behind ≡ sender line
+-- the parts of a From_ line whose first space after `From ` is at this place
+pub sender-at : (line : List ℕ) {after : List ℕ} (n : ℕ) → after ≡ drop 5 line → take n after ≡ before_space after → take n after ≡ sender line
 unfolding sender
 sender-at line n e b = b ∙ ap (λ z. before_space z) e
 
-pub rest-at : (line : List ℕ) {behind result : List ℕ} {n : ℕ} → behind ≡ drop 5 line → n ≤ length behind → take n behind ≡ before_space behind
-    → result ≡ past_spaces (take (length behind - n) (drop n behind)) → result ≡ rest line
+pub rest-at : (line : List ℕ) {after result : List ℕ} {n : ℕ} → after ≡ drop 5 line → n ≤ length after → take n after ≡ before_space after
+    → result ≡ past_spaces (take (length after - n) (drop n after)) → result ≡ rest line
 unfolding rest
-rest-at line {behind} e w b is = grind (arith, sender-at, length-take, take_rest)
+rest-at line {after} e w b is = grind (arith, sender-at, length-take, take_rest)

@@ -33,13 +33,13 @@ unfolding Mbox
 mbox-from_lines text [] h = tt
 mbox-from_lines text (e ∷ es) h = (block-from_line h.3, mbox-from_lines h.1 es h.5)
 
-pub from_lines-behind : (front behind : List Entry) → FromLines (front ++ behind) → FromLines behind
-from_lines-behind [] behind h = h
-from_lines-behind (e ∷ front) behind h = from_lines-behind front behind h.1
+pub from_lines-behind : (prefix after : List Entry) → FromLines (prefix ++ after) → FromLines after
+from_lines-behind [] after h = h
+from_lines-behind (e ∷ prefix) after h = from_lines-behind prefix after h.1
 
-pub from_lines-before : (front behind : List Entry) → FromLines (front ++ behind) → FromLines front
-from_lines-before [] behind h = tt
-from_lines-before (e ∷ front) behind h = (h.0, from_lines-before front behind h.1)
+pub from_lines-before : (prefix after : List Entry) → FromLines (prefix ++ after) → FromLines prefix
+from_lines-before [] after h = tt
+from_lines-before (e ∷ prefix) after h = (h.0, from_lines-before prefix after h.1)
 
 -- each entry has its From_ line
 pub from_line-at : (entries : List Entry) (i : ℕ) (d : Entry) → FromLines entries → i < length entries → IsFromLine (get_or entries i d).from_line

@@ -64,7 +64,7 @@ block_there {text} {head} {len} b found body from_line =
       ];
     }
 
--- the From_ line is all that is there
+-- the block is a From_ line alone
 pub block_alone : {text : List ℕ} {e : Entry} → begins_from text ≡ true → IsFirstByte (is_byte 10) text None
     → e.from_line ≡ text → e.body ≡ [] → IsFirstBlock text (length text) e
 block_alone {text} b found from_line body = grind (arith, take_all, from-block, none-there)

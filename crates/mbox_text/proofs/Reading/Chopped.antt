@@ -17,20 +17,20 @@ abbrev pub Whole : List (List ℕ) → Type 0
 Whole [] = Unit {0}
 Whole (l ∷ ls) = ((x : List ℕ) × (l ≡ x ++ 10 ∷ []) × NoEnd x) × Whole ls
 
--- behind a `\n` only the rest counts
-chopped-behind : (front : Bool) (x : List ℕ) (c : ℕ) (t : List ℕ) → chopped_from front ((x ++ 10 ∷ []) ++ c ∷ t) ≡ (x ++ 10 ∷ []) ++ chopped (c ∷ t)
+-- after a `\n` only the rest matters
+chopped-after : (at_start : Bool) (x : List ℕ) (c : ℕ) (t : List ℕ) → chopped_from at_start ((x ++ 10 ∷ []) ++ c ∷ t) ≡ (x ++ 10 ∷ []) ++ chopped (c ∷ t)
 unfolding chopped_from
-chopped-behind front [] c t = refl
-chopped-behind front (a ∷ []) c t = refl
-chopped-behind front (a ∷ b ∷ x) c t = ap (λ l. a ∷ l) (chopped-behind (eqb a 10) (b ∷ x) c t)
+chopped-after at_start [] c t = refl
+chopped-after at_start (a ∷ []) c t = refl
+chopped-after at_start (a ∷ b ∷ x) c t = ap (λ l. a ∷ l) (chopped-after (eqb a 10) (b ∷ x) c t)
 
--- a line that is not empty stays
-chopped-line : (front : Bool) {c : ℕ} (x : List ℕ) → NoEnd (c ∷ x) → chopped_from front (c ∷ (x ++ 10 ∷ [])) ≡ c ∷ (x ++ 10 ∷ [])
+-- a line with bytes before its `\n` stays
+chopped-line : (at_start : Bool) {c : ℕ} (x : List ℕ) → NoEnd (c ∷ x) → chopped_from at_start (c ∷ (x ++ 10 ∷ [])) ≡ c ∷ (x ++ 10 ∷ [])
 unfolding chopped_from
-chopped-line front [] h = rw h.0 refl
-chopped-line front {c} (d ∷ x) h = ap (λ l. c ∷ l) (chopped-line (eqb c 10) x h.1)
+chopped-line at_start [] h = rw h.0 refl
+chopped-line at_start {c} (d ∷ x) h = ap (λ l. c ∷ l) (chopped-line (eqb c 10) x h.1)
 
--- a line that is not empty is read as one that is not
+-- a line with bytes before its `\n` has some when it is unquoted
 pub unquoted-some : (c : ℕ) (x : List ℕ) → NoEnd (c ∷ x) → (d : ℕ) × (y : List ℕ) × (unquoted (c ∷ x) ≡ d ∷ y) × NoEnd (d ∷ y)
 unfolding unquoted quotable
 unquoted-some c [] h = (c, [], elim (cases_Bool (eqb c 62)) [ inl e ↦ rw e refl | inr e ↦ rw e refl ], h)
@@ -63,20 +63,20 @@ chopped-lines (l ∷ []) w = rw (w.0.1) (chopped-one w.0.0 w.0.2)
 chopped-lines (l ∷ m ∷ ls) w =
     let r = unquoted-more ls w.1 in
     let ih = chopped-lines (m ∷ ls) w.1 in
-    rw (w.0.1, unquoted-push w.0.0, ← ih, r.2) (chopped-behind true (unquoted w.0.0) r.0 r.1)
+    rw (w.0.1, unquoted-push w.0.0, ← ih, r.2) (chopped-after true (unquoted w.0.0) r.0 r.1)
 
 before-whole : {c : ℕ} {first : List ℕ} (rest : List (List ℕ)) → eqb c 10 ≡ false → Whole (first ∷ rest) → Whole ((c ∷ first) ∷ rest)
 before-whole {c} rest h w = ((c ∷ w.0.0, ap (λ x. c ∷ x) w.0.1, (h, w.0.2)), w.1)
 
-lines-whole-at : (front : List ℕ) → Whole (lines (front ++ 10 ∷ []))
+lines-whole-at : (prefix : List ℕ) → Whole (lines (prefix ++ 10 ∷ []))
 unfolding lines
 lines-whole-at [] = (([], refl, tt), tt)
-lines-whole-at (c ∷ front) =
+lines-whole-at (c ∷ prefix) =
     elim (cases_Bool (eqb c 10)) [
-      | inl e ↦ rw e (([], refl, tt), lines-whole-at front)
+      | inl e ↦ rw e (([], refl, tt), lines-whole-at prefix)
       | inr e ↦
-          let f = lines-last front in
-          let w' = rw f.2 at (lines-whole-at front) in
+          let f = lines-last prefix in
+          let w' = rw f.2 at (lines-whole-at prefix) in
           rw (e, f.2) (before-whole f.1 e w')
     ]
 
@@ -89,11 +89,11 @@ lines-whole (inr e) = rw e.1 (lines-whole-at e.0)
 pub chopped-body : {text : List ℕ} → Ended text → chopped (flat_map unquoted (lines text)) ≡ flat_map unquoted (without_blank (lines text))
 chopped-body {text} e = chopped-lines _ (lines-whole e)
 
-chop-blank : (front : Bool) (x : List ℕ) → chopped_from front (x ++ 10 ∷ 10 ∷ []) ≡ x ++ 10 ∷ []
+chop-blank : (at_start : Bool) (x : List ℕ) → chopped_from at_start (x ++ 10 ∷ 10 ∷ []) ≡ x ++ 10 ∷ []
 unfolding chopped_from
-chop-blank front [] = refl
-chop-blank front (a ∷ []) = refl
-chop-blank front (a ∷ b ∷ x) = ap (λ l. a ∷ l) (chop-blank (eqb a 10) (b ∷ x))
+chop-blank at_start [] = refl
+chop-blank at_start (a ∷ []) = refl
+chop-blank at_start (a ∷ b ∷ x) = ap (λ l. a ∷ l) (chop-blank (eqb a 10) (b ∷ x))
 
 -- the two texts that lose their last line
 chop_only : {b : List ℕ} → b ≡ 10 ∷ [] → (0 < length b) × (take (length b - 1) b ≡ chopped b)
@@ -103,19 +103,19 @@ chop_only e = rw e (omega arith, refl)
 chop_last : {b : List ℕ} (x : List ℕ) → b ≡ x ++ 10 ∷ 10 ∷ [] → (0 < length b) × (take (length b - 1) b ≡ chopped b)
 chop_last x e = grind (arith, length-append x (10 ∷ 10 ∷ []), chop-blank true x, take-append-add x (10 ∷ 10 ∷ []) 1)
 
--- no other does
-chop-other : (front : Bool) (b : List ℕ) → (front ≡ true → b ≡ 10 ∷ [] → ⊥) → ((x : List ℕ) → b ≡ x ++ 10 ∷ 10 ∷ [] → ⊥) → b ≡ chopped_from front b
+-- every other text stays as it is
+chop-other : (at_start : Bool) (b : List ℕ) → (at_start ≡ true → b ≡ 10 ∷ [] → ⊥) → ((x : List ℕ) → b ≡ x ++ 10 ∷ 10 ∷ [] → ⊥) → b ≡ chopped_from at_start b
 unfolding chopped_from
-chop-other front [] h h' = refl
-chop-other front (c ∷ []) h h' =
-    elim (cases_Bool (front && eqb c 10)) [
-      | inl e ↦ let a = and_parts front (eqb c 10) e in absurd (h a.0 (rw (eqb-true c 10 a.1) refl))
+chop-other at_start [] h h' = refl
+chop-other at_start (c ∷ []) h h' =
+    elim (cases_Bool (at_start && eqb c 10)) [
+      | inl e ↦ let a = and_parts at_start (eqb c 10) e in absurd (h a.0 (rw (eqb-true c 10 a.1) refl))
       | inr e ↦ rw e refl
     ]
-chop-other front (c ∷ d ∷ b) h h' =
+chop-other at_start (c ∷ d ∷ b) h h' =
     ap (λ l. c ∷ l) (chop-other (eqb c 10) (d ∷ b) (λ e is. h' [] (rw (eqb-true c 10 e, is) refl)) (λ x is. h' (c ∷ x) (ap (λ l. c ∷ l) is)))
 
--- what the two tests of the code say
+-- the two conditions of `last_is_blank` decide whether the last line is `\n` alone
 pub only_blank : {b line : List ℕ} {r : Bool} → line ≡ 10 ∷ [] → Decides r (b ≡ line) → r ≡ true
     → MatchBool r ((0 < length b) × (take (length b - 1) b ≡ chopped b)) (b ≡ chopped b)
 only_blank is d t = rw t (chop_only (d.0 t ∙ is))
@@ -127,14 +127,14 @@ last_blank {b} {r} {ends = false} is d f h =
     chop-other true b (λ _ one. both_ways r f (d.1 (one ∙ sym is))) (λ x two. false≢true ((ends_is Decides-eqb b (10 ∷ 10 ∷ []) false h).1 x two))
 
 -- a text whose last line lacks its `\n` stays
-pub chopped-part : (front : Bool) (x : List ℕ) (d : ℕ) (y : List ℕ) → NoEnd (d ∷ y) → chopped_from front (x ++ d ∷ y) ≡ x ++ d ∷ y
+pub chopped-part : (at_start : Bool) (x : List ℕ) (d : ℕ) (y : List ℕ) → NoEnd (d ∷ y) → chopped_from at_start (x ++ d ∷ y) ≡ x ++ d ∷ y
 unfolding chopped_from
-chopped-part front [] d [] h = rw (and_right front (eqb d 10) h.0) refl
-chopped-part front [] d (e ∷ y) h = ap (λ l. d ∷ l) (chopped-part (eqb d 10) [] e y h.1)
-chopped-part front (a ∷ []) d y h = ap (λ l. a ∷ l) (chopped-part (eqb a 10) [] d y h)
-chopped-part front (a ∷ b ∷ x) d y h = ap (λ l. a ∷ l) (chopped-part (eqb a 10) (b ∷ x) d y h)
+chopped-part at_start [] d [] h = rw (and_right at_start (eqb d 10) h.0) refl
+chopped-part at_start [] d (e ∷ y) h = ap (λ l. d ∷ l) (chopped-part (eqb d 10) [] e y h.1)
+chopped-part at_start (a ∷ []) d y h = ap (λ l. a ∷ l) (chopped-part (eqb a 10) [] d y h)
+chopped-part at_start (a ∷ b ∷ x) d y h = ap (λ l. a ∷ l) (chopped-part (eqb a 10) (b ∷ x) d y h)
 
--- so does the list of its lines
+-- the list of its lines stays too
 pub without_blank-part : (ls : List (List ℕ)) (c : ℕ) (l : List ℕ) → NoEnd (c ∷ l) → without_blank (ls ++ (c ∷ l) ∷ []) ≡ ls ++ (c ∷ l) ∷ []
 unfolding without_blank
 without_blank-part [] c [] h = rw h.0 refl

@@ -13,7 +13,7 @@ use Rattle.mbox_text.proofs.Splitting.HeldLemmas.{head-add, head-ends, body-add,
 use Rattle.mbox_text.proofs.Splitting.Fields.{head_of_none, never-more, at_start, begins_with-ended}
 use Rattle.mbox_text.proofs.Reading.Last.{head-last, body-last}
 
--- a text that ends in a From_ line, or in a line behind one
+-- a text that ends in a From_ line, or in a line after one
 abbrev IsInText : List ℕ → Type 0
 IsInText text =
     ((given : List Entry) × (line : List ℕ) × AtHead text given line)

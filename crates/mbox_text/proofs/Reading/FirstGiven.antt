@@ -1,4 +1,4 @@
--- What was given is the first of each text that may begin so.
+-- The returned messages are a prefix of the messages of each text that begins with the text so far.
 use Rattle.std.proofs.Common.{ℕ, ◌<◌, ◌≤◌, List, [], ◌∷◌, length, ap, arith, length-append, ◌≡◌, ◌++◌, refl, inl, inr}
 use Rattle.mbox_text.specs.declared.entry.Entry.{Entry}
 use Rattle.mbox_text.specs.Mbox.{Block, Mbox, IsUnreadable}
@@ -22,7 +22,7 @@ mbox-length text (e ∷ es) h =
     let ih = mbox-length h.1 es h.5 in
     omega (arith, ap length h.2, length-append h.0 h.1)
 
--- ---- what was given is the first of each text that may begin so
+-- ---- the returned messages are a prefix of the messages of each text that begins with the text so far
 -- there are no more messages than bytes
 pub few_given : (text : List ℕ) (given : List Entry) → AllButLast text given → length given ≤ length text
 few_given text given (inl a) = omega (arith, mbox-length text _ a.1.1, length-append given (a.1.0 ∷ []))

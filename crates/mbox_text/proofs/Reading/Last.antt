@@ -10,28 +10,28 @@ use Rattle.mbox_text.specs.Held.{Closed, AtHead, InBody}
 use Rattle.mbox_text.proofs.TextLines.LineLemmas.{lines-part}
 use Rattle.mbox_text.proofs.Splitting.HeldLemmas.{open-last}
 
-pub closed-last : (front : List ℕ) (given : List Entry) {block : List ℕ} {e : Entry}
-    → Closed front given → Block block e → Mbox (front ++ block) (given ++ e ∷ [])
+pub closed-last : (prefix : List ℕ) (given : List Entry) {block : List ℕ} {e : Entry}
+    → Closed prefix given → Block block e → Mbox (prefix ++ block) (given ++ e ∷ [])
 unfolding Closed Mbox
-closed-last front [] {block} h b = rw h (block, [], sym (append-nil block), b, inr refl, refl)
-closed-last front (g ∷ given) {block} h b = grind (arith, closed-last h.1 given h.5 b, append_assoc)
+closed-last prefix [] {block} h b = rw h (block, [], sym (append-nil block), b, inr refl, refl)
+closed-last prefix (g ∷ given) {block} h b = grind (arith, closed-last h.1 given h.5 b, append_assoc)
 
-pub closed-mbox : (front : List ℕ) (given : List Entry) → Closed front given → Mbox front given
+pub closed-mbox : (prefix : List ℕ) (given : List Entry) → Closed prefix given → Mbox prefix given
 unfolding Closed Mbox
-closed-mbox front [] h = h
-closed-mbox front (g ∷ given) h = (h.0, h.1, h.2, h.3, inl h.4, closed-mbox h.1 given h.5)
+closed-mbox prefix [] h = h
+closed-mbox prefix (g ∷ given) h = (h.0, h.1, h.2, h.3, inl h.4, closed-mbox h.1 given h.5)
 
 pub unended-part : (l : List ℕ) → NoEnd l → unended l ≡ l
 unended-part [] h = refl
 unended-part (c ∷ l) h = rw (h.0, unended-part l h.1) refl
 
--- a From_ line with nothing behind it
+-- a From_ line with nothing after it
 pub from-block : (line : List ℕ) {e : Entry} → NoEnd line → begins_from line ≡ true → e.from_line ≡ line → e.body ≡ [] → Block line e
 unfolding without_blank begins_from
 from-block [] h b ef eb = absurd (false≢true b)
 from-block (c ∷ l) h b ef eb = grind (arith, lines-part c l h, unended-part (c ∷ l) h)
 
--- the last message of a text that ends in a From_ line, or behind one
+-- the last message of a text that ends in a From_ line, or after one
 pub head-last : {text : List ℕ} {given : List Entry} {line : List ℕ} {e : Entry}
     → AtHead text given line → begins_from line ≡ true → e.from_line ≡ line → e.body ≡ []
     → Mbox text (given ++ e ∷ [])
@@ -41,4 +41,4 @@ pub body-last : {text : List ℕ} {given : List Entry} {f body line : List ℕ} 
     → InBody text given f body line → e.from_line ≡ f → e.body ≡ chopped (body ++ unquoted line)
     → Mbox text (given ++ e ∷ [])
 body-last {given} {line} {e} a ef eb =
-    rw a.is (closed-last a.front given a.closed (open-last line a.opened a.part a.tail ef eb))
+    rw a.is (closed-last a.prefix given a.closed (open-last line a.opened a.part a.tail ef eb))

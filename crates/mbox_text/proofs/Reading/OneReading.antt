@@ -17,7 +17,7 @@ pub record Split (ls : List (List ℕ)) (entry : Entry) (rest : List (List ℕ))
   pub from_line : entry.from_line ≡ unended first
   pub body : entry.body ≡ flat_map unquoted (without_blank others)
 
--- these lines are those of these messages
+-- these lines are the lines of these messages' blocks
 abbrev pub LinesRead : List (List ℕ) → List Entry → Type 0
 LinesRead ls [] = ls ≡ []
 LinesRead ls (entry ∷ entries) = (rest : List (List ℕ)) × Split ls entry rest × LinesRead rest entries
@@ -47,12 +47,12 @@ cut_one (o ∷ os) (o' ∷ os') {rest} {rest'} n n' h h' e =
 entry-one : {e f : Entry} → e.from_line ≡ f.from_line → e.body ≡ f.body → e ≡ f
 entry-one a b = grind arith
 
--- lines that are those of these messages stand before such
+-- the lines of messages, with such lines after them, are none or the first begins a message
 headed-append : (ls tail : List (List ℕ)) (entries : List Entry) → LinesRead ls entries → HeadWritten tail → HeadWritten (ls ++ tail)
 headed-append [] tail entries h b = b
 headed-append (l ∷ ls) tail entries h b = reads-headed (l ∷ ls) entries h
 
--- what the front of some lines reads as is the first of what they all read as
+-- the messages of the first lines are the first messages of all lines
 pub reads-append : (ls tail : List (List ℕ)) (given entries : List Entry) → LinesRead ls given → HeadWritten tail → LinesRead (ls ++ tail) entries
     → (rest : List Entry) × (entries ≡ given ++ rest) × LinesRead tail rest
 reads-append ls tail [] entries r b h = (entries, refl, rw r at h)
@@ -82,7 +82,7 @@ unfolding Mbox lines
 mbox-reads text [] h = rw h refl
 mbox-reads text (entry ∷ entries) h = grind (arith, mbox-reads h.1 entries h.5, joined)
 
--- no line, no message
+-- without lines there are no messages
 none-left : (rest : List Entry) → LinesRead [] rest → rest ≡ []
 none-left [] h = refl
 none-left (e ∷ es) h = let is = h.1.is in absurd (cc)

@@ -1,9 +1,9 @@
--- What is read of a front of a text is read of the whole text.
+-- The messages of a prefix are a prefix of the messages.
 use Rattle.std.proofs.Common.{◌≡◌, ℕ, true, List, [], ◌∷◌, ◌++◌, refl, ◌∙◌, ap, append_assoc, inl, inr, append-nil}
 use Rattle.mbox_text.specs.declared.entry.Entry.{Entry}
 use Rattle.mbox_text.specs.Lines.{lines, Ended}
 use Rattle.mbox_text.specs.Quoting.{begins_from}
-use Rattle.mbox_text.specs.Fronts.{IsProperFront}
+use Rattle.mbox_text.specs.Fronts.{IsProperPrefix}
 use Rattle.mbox_text.specs.Mbox.{Block, Mbox}
 use Rattle.mbox_text.specs.Held.{Closed}
 use Rattle.mbox_text.proofs.TextLines.LineLemmas.{lines-append, begins_from-more}
@@ -12,59 +12,59 @@ use Rattle.mbox_text.proofs.Reading.OneReading.{reads-append, mbox-reads, LinesR
 use Rattle.mbox_text.proofs.Splitting.HeldLemmas.{Ended-append}
 use Rattle.mbox_text.proofs.Reading.Last.{closed-mbox}
 
-closed-ended : {front : List ℕ} (given : List Entry) → Closed front given → Ended front
+closed-ended : {prefix : List ℕ} (given : List Entry) → Closed prefix given → Ended prefix
 unfolding Closed
 closed-ended [] h = inl h
 closed-ended (g ∷ given) h = rw h.2 (Ended-append h.4 (closed-ended given h.5))
 
--- a line that is left is a message's
+-- a line that is left over begins or continues a message
 some-left : (l : List ℕ) (ls : List (List ℕ)) (given : List Entry) {entries : List Entry} (rest : List Entry)
-    → entries ≡ given ++ rest → LinesRead (l ∷ ls) rest → IsProperFront given entries
+    → entries ≡ given ++ rest → LinesRead (l ∷ ls) rest → IsProperPrefix given entries
 some-left l ls given [] e h = let no : l ∷ ls ≡ [] = h in absurd (cc)
 some-left l ls given (next ∷ rest) e h = (next, rest, e)
 
 -- whole blocks, and then a From_ line
-pub closed-front : (front tail : List ℕ) (given : List Entry) {entries : List Entry} → Closed front given → begins_from tail ≡ true
-    → Mbox (front ++ tail) entries
-    → IsProperFront given entries
-closed-front front tail given {entries} c b m =
+pub closed-prefix : (prefix tail : List ℕ) (given : List Entry) {entries : List Entry} → Closed prefix given → begins_from tail ≡ true
+    → Mbox (prefix ++ tail) entries
+    → IsProperPrefix given entries
+closed-prefix prefix tail given {entries} c b m =
     let f = head-line tail b in
-    let e : lines (front ++ tail) ≡ lines front ++ f.0 ∷ f.1 = rw (lines-append tail (closed-ended given c), f.2) refl in
+    let e : lines (prefix ++ tail) ≡ lines prefix ++ f.0 ∷ f.1 = rw (lines-append tail (closed-ended given c), f.2) refl in
     let r = reads-append _ _ given entries
-    (mbox-reads front given (closed-mbox front given c)) f.3 (rw e at (mbox-reads _ entries m)) in
+    (mbox-reads prefix given (closed-mbox prefix given c)) f.3 (rw e at (mbox-reads _ entries m)) in
     some-left f.0 f.1 given r.0 r.1 r.2
 
 -- the blocks of all messages but the last
 record AllButLastBlock (text : List ℕ) (given : List Entry) (last : Entry) : Type 0 where
-  front : List ℕ
+  prefix : List ℕ
   block : List ℕ
-  is : text ≡ front ++ block
-  closed : Closed front given
-  behind : Block block last
+  is : text ≡ prefix ++ block
+  closed : Closed prefix given
+  after : Block block last
 
 not-nil : (given : List Entry) (last : Entry) → given ++ last ∷ [] ≡ [] → ⊥
 not-nil [] last e = absurd (cc)
 not-nil (g ∷ given) last e = absurd (cc)
 
-front-of : {text : List ℕ} (given : List Entry) {last : Entry} → Mbox text (given ++ last ∷ []) → AllButLastBlock text given last
+prefix-of : {text : List ℕ} (given : List Entry) {last : Entry} → Mbox text (given ++ last ∷ []) → AllButLastBlock text given last
 unfolding Mbox Closed
-front-of {text} [] h = record { front = []; block = text; is = refl; closed = refl; behind = rw (h.2, h.5) (rw (append-nil h.0) h.3) }
-front-of (g ∷ given) {last} h =
-    let r = front-of given h.5 in
+prefix-of {text} [] h = record { prefix = []; block = text; is = refl; closed = refl; after = rw (h.2, h.5) (rw (append-nil h.0) h.3) }
+prefix-of (g ∷ given) {last} h =
+    let r = prefix-of given h.5 in
     elim (h.4) [
       | inl ends ↦ record {
-        front = h.0 ++ r.front;
+        prefix = h.0 ++ r.prefix;
         block = r.block;
-        is = rw (h.2, append_assoc h.0 r.front r.block) (ap (λ z. h.0 ++ z) r.is);
-        closed = (h.0, r.front, refl, h.3, ends, r.closed);
-        behind = r.behind;
+        is = rw (h.2, append_assoc h.0 r.prefix r.block) (ap (λ z. h.0 ++ z) r.is);
+        closed = (h.0, r.prefix, refl, h.3, ends, r.closed);
+        after = r.after;
       }
       | inr e ↦ absurd (not-nil given last e)
     ]
 
 pub prefix_reading : (text more : List ℕ) (entries given : List Entry) (last : Entry) → Mbox text (given ++ last ∷ []) → Mbox (text ++ more) entries
-    → IsProperFront given entries
+    → IsProperPrefix given entries
 prefix_reading text more entries given last h h' =
-    let f = front-of given h in
-    let texts : text ++ more ≡ f.front ++ (f.block ++ more) = ap (λ z. z ++ more) f.is ∙ append_assoc f.front f.block more in
-    closed-front f.front _ given f.closed (begins_from-more f.block more (block-begins f.behind)) (rw texts at h')
+    let f = prefix-of given h in
+    let texts : text ++ more ≡ f.prefix ++ (f.block ++ more) = ap (λ z. z ++ more) f.is ∙ append_assoc f.prefix f.block more in
+    closed-prefix f.prefix _ given f.closed (begins_from-more f.block more (block-begins f.after)) (rw texts at h')

@@ -1,4 +1,4 @@
--- What a splitter holds, over the fields as the code changes them.
+-- What a splitter keeps in memory, over the fields as the code changes them.
 use Rattle.std.proofs.Common.{◌≡◌, ℕ, ◌+◌, ◌-◌, true, false, eqb, List, [], ◌∷◌, ◌++◌, length, take, drop, refl, sym}
 use Rattle.std.proofs.Common.{inl, inr, Option, Some, None, Result, Ok, Err, IfOk, is_some, flat_map, take-add, arith}
 use Rattle.std.specs.declared.alloc.AllocError.{AllocError}
@@ -80,7 +80,7 @@ pub none_is : (m : Option PartialMessage) → is_some m ≡ false → m ≡ None
 none_is None h = refl
 none_is (Some m) h = absurd (false≢true (sym h))
 
--- what begins no mbox text begins none with more behind it
+-- a text that begins no mbox text begins none with more after it
 begins_with-less : (p t more : List ℕ) → begins_with p (t ++ more) ≡ true → begins_with t p ≡ false → begins_with p t ≡ true
 begins_with-less [] t more h n = refl
 begins_with-less (p ∷ ps) [] more h n = absurd (false≢true (sym n))
@@ -104,7 +104,7 @@ never-more text more h = grind arith
 pub three-parts : {text : List ℕ} (at n : ℕ) → let rest : List ℕ = take (length text - at) (drop at text) in text ≡ take at text ++ (take n rest ++ drop n rest)
 three-parts at n = grind (arith, take-append-drop, take_rest)
 
--- the lines that a call took
+-- the whole lines that a call has taken
 pub lines_taken : (r : Result ℕ AllocError) {message : Option PartialMessage} {m : PartialMessage} {line : List ℕ} (body text : List ℕ)
     → message ≡ Some m → line ≡ []
     → IfOk r (λ n. body ≡ m.body.items ++ flat_map unquoted (lines (take n text)))

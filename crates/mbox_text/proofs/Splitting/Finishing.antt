@@ -1,4 +1,4 @@
--- What a splitter answers at the end of the text.
+-- What `finish` returns.
 use Rattle.std.proofs.Common.{◌≡◌, ℕ, ◌<◌, ◌≤◌, true, false, List, [], ◌∷◌, ◌++◌, length, refl, sym, ◌∙◌, ap, arith, Option, Some, None, Result, IsErrOf}
 use Rattle.std.proofs.lemmas.Bool.{false≢true, true≢false}
 use Rattle.mbox_text.specs.declared.entry.Entry.{Entry}
@@ -28,7 +28,7 @@ pub ends_head : (splitter : Splitter) {e : Entry} {line : List ℕ} → splitter
     → e.from_line ≡ splitter.line.items → e.body ≡ [] → EndsWith splitter e
 ends_head splitter {e} is e1 b ef eb text given h = head-last (rw is at h) (rw (← e1) b) ef eb
 
--- its text is not short
+-- the text that the splitter was fed is not too short
 long : (splitter : Splitter) (e : Entry) → EndsWith splitter e → (text : List ℕ) (given : List Entry) → HeldIn text given splitter → 5 ≤ length text
 long splitter e ends text given h = grind (arith, from-long, mbox-begins-last)
 
@@ -55,7 +55,7 @@ pub not_short_head : (splitter : Splitter) {line : List ℕ} (r : Result (Option
     → (IsErrOf r NoFromLine → ⊥) → RefusesShort splitter r
 not_short_head splitter r is e1 b = not_short _ r (ends_head splitter is e1 b refl refl)
 
--- a line that begins no message is all that has come, and then it is short
+-- the text so far is one line that begins no message, so it is too short
 first_line : (splitter : Splitter) {line text : List ℕ} {given : List Entry} → splitter.message ≡ None
     → line ≡ splitter.line.items → begins_from line ≡ false → HeldIn text given splitter
     → (given ≡ []) × ((text ≡ splitter.line.items) × (length text < 5))

@@ -1,4 +1,4 @@
--- What a splitter has given: all messages but the last, whatever comes behind the text.
+-- Which messages a splitter has returned: all but the last, whatever comes after the text.
 use Rattle.std.proofs.Common.{◌≡◌, ℕ, false, List, [], ◌∷◌, ◌++◌, refl, sym, ◌∙◌, ap, append_assoc, inl, inr, Option, Some}
 use Rattle.std.proofs.Common.{None, Result, Ok, Err, OnOk, IfErr, IsErr, IsErrOf, is_err, IsErrAnd, append-nil, arith}
 use Rattle.std.proofs.lemmas.Bool.{both_ways}
@@ -29,12 +29,12 @@ held-all (Some m) text line a = body-all a
 pub fed_from : {splitter : Splitter} {text : List ℕ} {given : List Entry} → splitter.failed ≡ false → HeldIn text given splitter → Fed text given splitter
 fed_from {splitter} {text} {given} works h = grind (arith, held-all)
 
--- all messages but the last stay the first ones, whatever comes behind the text
+-- all messages but the last stay the first ones, whatever comes after the text
 pub all_stay : (text : List ℕ) {given : List Entry} → AllButLast text given → Stay text given
 all_stay text {given} (inl a) more entries h = inr (prefix_reading text more entries given a.1.0 a.1.1 h)
 all_stay text (inr a) more entries h = inl a.1
 
--- and are none where no mbox text begins so
+-- there are none if no mbox text begins with this text
 all_none : (text more : List ℕ) {given : List Entry} → AllButLast text given → NeverFrom (text ++ more) → given ≡ []
 all_none text more (inl a) n = grind (arith, both_ways, begins_from-more)
 all_none text more (inr a) n = a.1
@@ -50,7 +50,7 @@ gives_none old new part {out} e m = ([], e ∙ sym (append-nil out), m)
 pub gives_nothing : (splitter : Splitter) {out : List Entry} → Gives splitter [] out out splitter
 gives_nothing splitter = grind (arith, gives_none, append-nil)
 
--- the splitter refuses what comes next, and then more
+-- a splitter that refuses a part refuses it with more after it
 refuses_more : (fault : TextFault) (splitter : Splitter) (part more : List ℕ) → Refuses fault splitter part → Refuses fault splitter (part ++ more)
 refuses_more NoFromLine splitter part more r = λ text given h.
     let x = r text given h in (x.0, rw (← append_assoc text part more) (never-more _ more x.1))
@@ -59,11 +59,11 @@ refuses_more LineEndInRest splitter part more r = absurd r
 refuses_more Failed splitter part more r = absurd r
 refuses_more WriteFault splitter part more r = absurd r
 
-pub stops_at : (fault : TextFault) (old now : Splitter) {piece : List ℕ} (front part more : List ℕ) (out out' : List Entry)
-    → Gives old front out out' now → Refuses fault now part
-    → piece ≡ front ++ (part ++ more) → Stops fault old piece out out'
-stops_at fault old now front part more out out' g r e = record {
-  front = front;
+pub stops_at : (fault : TextFault) (old now : Splitter) {piece : List ℕ} (prefix part more : List ℕ) (out out' : List Entry)
+    → Gives old prefix out out' now → Refuses fault now part
+    → piece ≡ prefix ++ (part ++ more) → Stops fault old piece out out'
+stops_at fault old now prefix part more out out' g r e = record {
+  prefix = prefix;
   rest = part ++ more;
   now = now;
   is = e;
@@ -71,38 +71,38 @@ stops_at fault old now front part more out out' g r e = record {
   refuses = refuses_more fault now part more r;
 }
 
-pub stops_behind : {fault : TextFault} {old mid : Splitter} {piece : List ℕ} (front : List ℕ) {part : List ℕ} {out out1 out' : List Entry}
-    → Gives old front out out1 mid → Stops fault mid part out1 out'
-    → piece ≡ front ++ part → Stops fault old piece out out'
-stops_behind {old} {mid} front {out} {out1} {out'} g s e = record {
-  front = front ++ s.front;
+pub stops_after : {fault : TextFault} {old mid : Splitter} {piece : List ℕ} (prefix : List ℕ) {part : List ℕ} {out out1 out' : List Entry}
+    → Gives old prefix out out1 mid → Stops fault mid part out1 out'
+    → piece ≡ prefix ++ part → Stops fault old piece out out'
+stops_after {old} {mid} prefix {out} {out1} {out'} g s e = record {
+  prefix = prefix ++ s.prefix;
   rest = s.rest;
   now = s.now;
-  is = e ∙ ap (λ z. front ++ z) s.is ∙ sym (append_assoc front s.front s.rest);
-  gives = gives_then old mid s.now front s.front out g s.gives;
+  is = e ∙ ap (λ z. prefix ++ z) s.is ∙ sym (append_assoc prefix s.prefix s.rest);
+  gives = gives_then old mid s.now prefix s.prefix out g s.gives;
   refuses = s.refuses;
 }
 
--- a fault that is handed on
+-- the fault of a step is the fault of the call
 pub handed_on : {T : Type 0} (r : Result T TextFault) {e : TextFault} (P : TextFault → Type 0) → IsErr r × IsErrAnd r (λ v. v ≡ e) → P e → IfErr r P
 handed_on (Ok x) P is h = absurd is.1
 handed_on (Err v) P is h = rw is.1 h
 
-front-cut : (added all rest : List Entry) (last next : Entry) → all ++ last ∷ [] ≡ added ++ next ∷ rest → (r : List Entry) × (all ≡ added ++ r)
-front-cut [] all rest last next e = (all, refl)
-front-cut (x ∷ []) [] rest last next e = absurd (cc)
-front-cut (x ∷ y ∷ added) [] rest last next e = absurd (cc)
-front-cut (x ∷ added) (y ∷ all) rest last next e =
+prefix-cut : (added all rest : List Entry) (last next : Entry) → all ++ last ∷ [] ≡ added ++ next ∷ rest → (r : List Entry) × (all ≡ added ++ r)
+prefix-cut [] all rest last next e = (all, refl)
+prefix-cut (x ∷ []) [] rest last next e = absurd (cc)
+prefix-cut (x ∷ y ∷ added) [] rest last next e = absurd (cc)
+prefix-cut (x ∷ added) (y ∷ all) rest last next e =
     let heads : y ≡ x = cc in
     let tails : all ++ last ∷ [] ≡ added ++ next ∷ rest = cc in
-    let r = front-cut added all rest last next tails in
+    let r = prefix-cut added all rest last next tails in
     let is = r.1 in
     (r.0, cc)
 
-only-front : (given rest : List Entry) {last : Entry} (next : Entry) → last ∷ [] ≡ given ++ next ∷ rest → given ≡ []
-only-front [] rest next e = refl
-only-front (g ∷ []) rest next e = absurd (cc)
-only-front (g ∷ h ∷ given) rest next e = absurd (cc)
+only-prefix : (given rest : List Entry) {last : Entry} (next : Entry) → last ∷ [] ≡ given ++ next ∷ rest → given ≡ []
+only-prefix [] rest next e = refl
+only-prefix (g ∷ []) rest next e = absurd (cc)
+only-prefix (g ∷ h ∷ given) rest next e = absurd (cc)
 
 nil_right : (a : List Entry) {b : List Entry} → a ++ b ≡ [] → b ≡ []
 nil_right [] e = e
@@ -114,7 +114,7 @@ from-alone =
     let entry : Entry = record { from_line = from_bytes; body = [] } in
     (entry, (from_bytes, [], refl, from-block _ (refl, (refl, (refl, (refl, (refl, tt))))) refl refl refl, inr refl, refl))
 
--- what stays is the first of what is given where nothing is refused
+-- the messages that stay are a prefix of those that are returned if nothing fails
 part : (text : List ℕ) (given added all : List Entry) → Stay text (given ++ added)
     → AllButLast text (given ++ all) → (rest : List Entry) × (all ≡ added ++ rest)
 part text given added all s (inl h) =
@@ -124,16 +124,16 @@ part text given added all s (inl h) =
       | inr f ↦
           let e = append_cancel_left given (all ++ h.1.0 ∷ []) (added ++ f.0 ∷ f.1)
           (sym (append_assoc given all (h.1.0 ∷ [])) ∙ f.2 ∙ append_assoc given added (f.0 ∷ f.1)) in
-          front-cut added all f.1 h.1.0 f.0 e
+          prefix-cut added all f.1 h.1.0 f.0 e
     ]
 part text given added all s (inr h) =
     let m = from-rest text h.0 in
     let e = from-alone in
-    let none : given ++ added ≡ [] = elim (s m.0 (e.0 ∷ []) (rw m.1 e.1)) [ inl none ↦ none | inr f ↦ only-front _ f.1 f.0 f.2 ] in
+    let none : given ++ added ≡ [] = elim (s m.0 (e.0 ∷ []) (rw m.1 e.1)) [ inl none ↦ none | inr f ↦ only-prefix _ f.1 f.0 f.2 ] in
     let n = nil_right given none in
     (all, rw n refl)
 
--- what the three answers of a feed say
+-- what `Ok`, `NoFromLine` and `OutOfMemory` of a feed mean
 pub fed_taken : {T : Type 0} (r : Result T TextFault) (old new : Splitter) (piece : List ℕ) (out out' : List Entry) → new.failed ≡ is_err r
     → OnOk r (Gives old piece out out' new) → OnOk r (Takes old piece out out' new)
 fed_taken (Ok x) old new piece out out' works g = grind (arith, fed_from)
@@ -151,11 +151,11 @@ fed_part {piece} out h is =
       g.0,
       g.1,
       λ text given fed.
-          let front = text ++ s.front in
+          let prefix = text ++ s.prefix in
           let now = given ++ g.0 in
-          let a = held-all s.now.message front s.now.line.items (g.2 text given fed.held) in
-          let texts : text ++ piece ≡ front ++ s.rest = ap (λ z. text ++ z) s.is ∙ sym (append_assoc text s.front s.rest) in
+          let a = held-all s.now.message prefix s.now.line.items (g.2 text given fed.held) in
+          let texts : text ++ piece ≡ prefix ++ s.rest = ap (λ z. text ++ z) s.is ∙ sym (append_assoc text s.prefix s.rest) in
           let stay : Stay (text ++ piece) now = λ more entries m.
-          all_stay front a (s.rest ++ more) entries (rw (texts, append_assoc front s.rest more) at m) in
-          (λ all is_all. part (text ++ piece) given g.0 all stay is_all, λ n. nil_right given (all_none front s.rest a (rw texts at n))),
+          all_stay prefix a (s.rest ++ more) entries (rw (texts, append_assoc prefix s.rest more) at m) in
+          (λ all is_all. part (text ++ piece) given g.0 all stay is_all, λ n. nil_right given (all_none prefix s.rest a (rw texts at n))),
     )

@@ -1,4 +1,4 @@
--- What a splitter holds, step by step.
+-- What a splitter keeps in memory, step by step.
 use Rattle.std.proofs.Common.{◌≡◌, ℕ, true, false, List, [], ◌∷◌, ◌++◌, refl, sym, ◌∙◌, ap, append_assoc, inl, inr, ◌⊎◌, flat_map, append-nil, arith}
 use Rattle.std.proofs.lemmas.List.Concat.{flat_map-append}
 use Rattle.mbox_text.specs.declared.entry.Entry.{Entry}
@@ -40,18 +40,18 @@ pub record LastBody (text body : List ℕ) : Type 0 where
   pub none : NoFrom (lines text)
   pub is : body ≡ flat_map unquoted (without_blank (lines text))
 
-pub last_body : {front : List ℕ} (rest : List ℕ) {body : List ℕ} → Ended front → NoFrom (lines front) → NoEnd rest → begins_from rest ≡ false
-    → body ≡ chopped (flat_map unquoted (lines front) ++ unquoted rest) → LastBody (front ++ rest) body
+pub last_body : {prefix : List ℕ} (rest : List ℕ) {body : List ℕ} → Ended prefix → NoFrom (lines prefix) → NoEnd rest → begins_from rest ≡ false
+    → body ≡ chopped (flat_map unquoted (lines prefix) ++ unquoted rest) → LastBody (prefix ++ rest) body
 unfolding unquoted
-last_body {front} [] ends none part b is =
-    rw (append-nil front) (record { none = none; is = is ∙ ap chopped (append-nil (flat_map unquoted (lines front))) ∙ chopped-body ends })
-last_body {front} (c ∷ l) ends none part b is =
+last_body {prefix} [] ends none part b is =
+    rw (append-nil prefix) (record { none = none; is = is ∙ ap chopped (append-nil (flat_map unquoted (lines prefix))) ∙ chopped-body ends })
+last_body {prefix} (c ∷ l) ends none part b is =
     let u = unquoted-some c l part in
-    let all : lines (front ++ c ∷ l) ≡ lines front ++ (c ∷ l) ∷ [] = rw (lines-append (c ∷ l) ends, lines-part c l part) refl in
+    let all : lines (prefix ++ c ∷ l) ≡ lines prefix ++ (c ∷ l) ∷ [] = rw (lines-append (c ∷ l) ends, lines-part c l part) refl in
     record {
       none = rw all (NoFrom-append _ _ none (b, tt));
-      is = rw (is, all, without_blank-part (lines front) c l part, flat_map-append unquoted (lines front) ((c ∷ l) ∷ []), append-nil (unquoted (c ∷ l)), u.2)
-          (chopped-part true (flat_map unquoted (lines front)) u.0 u.1 u.3);
+      is = rw (is, all, without_blank-part (lines prefix) c l part, flat_map-append unquoted (lines prefix) ((c ∷ l) ∷ []), append-nil (unquoted (c ∷ l)), u.2)
+          (chopped-part true (flat_map unquoted (lines prefix)) u.0 u.1 u.3);
     }
 
 -- a block that ends in a line with no `\n`, or in a whole one
@@ -75,12 +75,12 @@ unfolding unquoted begins_from
 open-block {block} {body} {e} o ef eb =
     let b = open-last [] o tt refl ef (eb ∙ ap chopped (sym (append-nil body))) in rw (append-nil block) at b
 
--- more comes of a From_ line
+-- more bytes of a From_ line
 pub head-add : {text : List ℕ} {given : List Entry} {line : List ℕ} (part : List ℕ) → AtHead text given line → NoEnd part
     → (begins_from (line ++ part) ≡ true) ⊎ (begins_with (line ++ part) from_bytes ≡ true) → AtHead (text ++ part) given (line ++ part)
 head-add {line} part a h b = grind (arith, append_assoc, NoEnd-append, begins_from-more)
 
--- more comes of a line that begins no message
+-- more bytes of a line that begins no message
 pub body-add : {text : List ℕ} {given : List Entry} {f body line : List ℕ} (part : List ℕ) → InBody text given f body line → NoEnd part
     → begins_from (line ++ part) ≡ false → InBody (text ++ part) given f body (line ++ part)
 body-add {line} part a h b = grind (arith, append_assoc, NoEnd-append)
@@ -90,10 +90,10 @@ pub body-closes : {text : List ℕ} {given : List Entry} {f body line : List ℕ
     → begins_from (line ++ part) ≡ true → e.from_line ≡ f → e.body ≡ chopped body → AtHead (text ++ part) (given ++ e ∷ []) (line ++ part)
 body-closes {given} {line} part {e} a h b is_line is_body = grind (
   arith,
-  append_assoc a.front (a.block ++ line) part,
+  append_assoc a.prefix (a.block ++ line) part,
   append_assoc a.block line part,
-  append_assoc a.front a.block (line ++ part),
-  Closed-push a.front given a.closed (open-block a.opened is_line is_body) (open-ends a.opened),
+  append_assoc a.prefix a.block (line ++ part),
+  Closed-push a.prefix given a.closed (open-block a.opened is_line is_body) (open-ends a.opened),
   NoEnd-append line part a.part h,
 )
 
@@ -101,7 +101,7 @@ body-closes {given} {line} part {e} a h b is_line is_body = grind (
 pub head-ends : {text : List ℕ} {given : List Entry} {line : List ℕ} → AtHead text given line → begins_from line ≡ true
     → InBody (text ++ 10 ∷ []) given line [] []
 unfolding lines begins_from
-head-ends {line} a b = grind (arith, append-nil (line ++ 10 ∷ []), append_assoc a.front line (10 ∷ []))
+head-ends {line} a b = grind (arith, append-nil (line ++ 10 ∷ []), append_assoc a.prefix line (10 ∷ []))
 
 -- whole lines that begin no message
 pub body-lines : {text : List ℕ} {given : List Entry} {f body part : List ℕ} → InBody text given f body [] → Ended part → NoFrom (lines part)
@@ -110,9 +110,9 @@ unfolding lines begins_from
 body-lines {f} {part} a ends none =
     let o = a.opened in
     record {
-      front = a.front;
+      prefix = a.prefix;
       block = a.block ++ part;
-      is = rw a.is (rw (append-nil (a.block ++ part), append-nil a.block) (append_assoc a.front a.block part));
+      is = rw a.is (rw (append-nil (a.block ++ part), append-nil a.block) (append_assoc a.prefix a.block part));
       closed = a.closed;
       opened = record {
         others = o.others ++ part;
@@ -127,13 +127,13 @@ body-lines {f} {part} a ends none =
       tail = refl;
     }
 
--- without the line
+-- the text without its last line
 body-whole : {text : List ℕ} {given : List Entry} {f body line : List ℕ} → (a : InBody text given f body line)
-    → InBody (a.front ++ a.block) given f body []
+    → InBody (a.prefix ++ a.block) given f body []
 unfolding begins_from
 body-whole a = grind (arith, append-nil a.block)
 
--- a line is whole that begins no message
+-- the end of a line that begins no message
 pub body-ends : {text : List ℕ} {given : List Entry} {f body line : List ℕ} → InBody text given f body line
     → InBody (text ++ 10 ∷ []) given f ((body ++ unquoted line) ++ 10 ∷ []) []
 unfolding lines
@@ -142,7 +142,7 @@ body-ends {text} {given} {f} {body} {line} a =
     let one = lines-line line [] a.part in
     let none : NoFrom (lines part) = rw one (begins_from-cut line [] ∙ a.tail, tt) in
     let whole = body-lines (body-whole a) (inr (line, refl)) none in
-    let texts : (a.front ++ a.block) ++ part ≡ text ++ 10 ∷ [] = rw a.is (simp append_assoc) in
+    let texts : (a.prefix ++ a.block) ++ part ≡ text ++ 10 ∷ [] = rw a.is (simp append_assoc) in
     let bodies : body ++ flat_map unquoted (lines part) ≡ (body ++ unquoted line) ++ 10 ∷ [] =
     rw (one, append-nil (unquoted part), unquoted-push line) (sym (append_assoc body (unquoted line) (10 ∷ []))) in
     rw (← texts, ← bodies) whole

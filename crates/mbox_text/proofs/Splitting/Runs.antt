@@ -1,4 +1,4 @@
--- Whole lines that are added as they are read.
+-- Whole lines that are added to a body, unquoted.
 use Rattle.std.proofs.Common.{◌≡◌, ℕ, ◌+◌, ◌-◌, ◌≤◌, true, false, Some, eqb, List, [], ◌∷◌, ◌++◌, length}
 use Rattle.std.proofs.Common.{take, drop, refl, sym, ◌∙◌, ap, arith, append_assoc, inr, take-add}
 use Rattle.std.specs.List.{flat_map, concat}
@@ -14,7 +14,7 @@ use Rattle.mbox_text.proofs.TextLines.LineLemmas.{lines-append, lines-line, conc
 use Rattle.mbox_text.proofs.Splitting.HeldLemmas.{NoFrom-append, Ended-append}
 use Rattle.mbox_text.proofs.TextLines.LineEnds.{line-there}
 
--- what a front begins with, the text begins with
+-- a text begins with what its prefix begins with
 pub begins_from-take : (text : List ℕ) (n : ℕ) → begins_from (take n text) ≡ true → begins_from text ≡ true
 begins_from-take text n b = ap begins_from (sym (take-append-drop n text)) ∙ begins_from-more _ (drop n text) b
 
@@ -22,9 +22,9 @@ pub NoneQuotable-append : (a b : List (List ℕ)) → NoneQuotable a → NoneQuo
 NoneQuotable-append [] b h h' = h'
 NoneQuotable-append (l ∷ a) b h h' = (h.0, NoneQuotable-append a b h.1 h')
 
-none-front : (a b : List (List ℕ)) → NoneQuotable (a ++ b) → NoneQuotable a
-none-front [] b h = tt
-none-front (l ∷ a) b h = (h.0, none-front a b h.1)
+none-prefix : (a b : List (List ℕ)) → NoneQuotable (a ++ b) → NoneQuotable a
+none-prefix [] b h = tt
+none-prefix (l ∷ a) b h = (h.0, none-prefix a b h.1)
 
 -- a line that begins with `From ` is quotable
 from-quotable : (line : List ℕ) → quotable line ≡ false → begins_from line ≡ false
@@ -40,7 +40,7 @@ none-unquoted : (ls : List (List ℕ)) → NoneQuotable ls → flat_map unquoted
 none-unquoted [] n = refl
 none-unquoted (l ∷ ls) n = rw (unquoted-other l n.0, none-unquoted ls n.1) refl
 
--- the lines of the text up to a place have been added as they are read, and none is a From_ line
+-- the lines of the text up to this place have been added unquoted, and none is a From_ line
 pub record LinesTaken (text before body : List ℕ) (at : ℕ) : Type 0 where
   pub within : at ≤ length text
   pub added : body ≡ before ++ flat_map unquoted (lines (take at text))
@@ -55,17 +55,17 @@ taken_more : {text before body body' : List ℕ} {at n : ℕ} → LinesTaken tex
     → NoFrom (lines (take n (drop at text))) → body' ≡ body ++ flat_map unquoted (lines (take n (drop at text))) → LinesTaken text before body' (at + n)
 taken_more {text} {before} {at} {n} t le ends none is =
     let x = take n (drop at text) in
-    let front = ap lines (take-add at n text) ∙ lines-append x t.ended in
+    let prefix = ap lines (take-add at n text) ∙ lines-append x t.ended in
     record {
       within = omega (arith, t.within, le, length-drop at text);
-      added = rw (front, flat_map-append unquoted (lines (take at text)) (lines x))
+      added = rw (prefix, flat_map-append unquoted (lines (take at text)) (lines x))
           (is ∙ ap (λ z. z ++ flat_map unquoted (lines x)) t.added
           ∙ append_assoc before (flat_map unquoted (lines (take at text))) (flat_map unquoted (lines x)));
       ended = rw (take-add at n text) (Ended-append t.ended ends);
-      none = rw front (NoFrom-append _ _ t.none none);
+      none = rw prefix (NoFrom-append _ _ t.none none);
     }
 
--- lines of which none is quotable
+-- lines of which none is quotable are added as they stand
 taken_plain : {text before body body' : List ℕ} {at n : ℕ} → LinesTaken text before body at → n ≤ length (drop at text) → Ended (take n (drop at text))
     → NoneQuotable (lines (take n (drop at text))) → body' ≡ body ++ take n (drop at text) → LinesTaken text before body' (at + n)
 taken_plain {text} {body} {at} {n} t le ends none is =
@@ -73,7 +73,7 @@ taken_plain {text} {body} {at} {n} t le ends none is =
     let same = none-unquoted _ none ∙ concat-lines x in
     taken_more t le ends (none-from _ none) (is ∙ ap (λ z. body ++ z) (sym same))
 
--- the lines before the first quotable one, where a body got them as the code cuts them
+-- the lines before the first quotable one, cut as the code cuts them
 pub taken_found : {text before body body' : List ℕ} {at n : ℕ} → LinesTaken text before body at → FirstQuotable (take (length text - at) (drop at text)) n
     → body' ≡ body ++ take ((at + n) - at) (drop at text) → LinesTaken text before body' (at + n)
 taken_found {text} {at} {n} t first is =
@@ -81,7 +81,7 @@ taken_found {text} {at} {n} t first is =
     let size : (at + n) - at ≡ n = omega arith in
     taken_plain t (omega (arith, f.within)) f.ended f.none (rw size at is)
 
--- the whole lines of a rest of which no line is quotable
+-- the whole lines of a text of which no line is quotable
 pub taken_rest : {text before body body' : List ℕ} {at n : ℕ} → let rest : List ℕ = take (length text - at) (drop at text) in
     LinesTaken text before body at → n ≤ length rest → Ended (take n rest) → NoneQuotable (lines rest)
     → body' ≡ body ++ take ((at + n) - at) (drop at text) → LinesTaken text before body' (at + n)
@@ -91,7 +91,7 @@ taken_rest {text} {at} {n} t le ends none is =
     let ended = rw (take_rest text at) at ends in
     let parts = ap lines (sym (take-append-drop n D)) ∙ lines-append (drop n D) ended in
     let all = rw (take_rest text at) at none in
-    taken_plain t (rw (take_rest text at) at le) ended (none-front _ _ (rw parts at all)) (rw size at is)
+    taken_plain t (rw (take_rest text at) at le) ended (none-prefix _ _ (rw parts at all)) (rw size at is)
 
 -- one whole line that begins no message
 pub taken_line : {text before body body' : List ℕ} {at n : ℕ} → let line : List ℕ = take (length text - at) (drop at text) in

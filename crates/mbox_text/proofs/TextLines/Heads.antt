@@ -1,4 +1,4 @@
--- The front of a text, and the front of its first line.
+-- What a text and its first line begin with.
 use Rattle.std.proofs.Common.{◌≡◌, ℕ, ◌<◌, ◌≤◌, true, false, eqb, List, [], ◌∷◌, ◌++◌, length, refl, sym, ◌∙◌, ap, arith, inl, inr, ◌⊎◌}
 use Rattle.std.specs.List.{concat}
 use Rattle.std.proofs.lemmas.Bool.{false≢true, and_parts, and_from, eqb-true, eq-eqb}
@@ -8,7 +8,7 @@ use Rattle.mbox_text.specs.Quoting.{begins_with, begins_from, from_bytes}
 use Rattle.mbox_text.specs.Mbox.{Block, Mbox, IsMboxText}
 use Rattle.mbox_text.proofs.TextLines.LineLemmas.{begins_from-more, concat-lines}
 
--- a first line is there, and begins so
+-- the text has a first line, and it begins with these bytes
 abbrev FirstBegins : List ℕ → List (List ℕ) → Type 0
 FirstBegins prefix [] = ⊥
 FirstBegins prefix (l ∷ ls) = begins_with prefix l ≡ true
@@ -48,12 +48,12 @@ head-line text h =
 pub block-begins : {block : List ℕ} {entry : Entry} → Block block entry → begins_from block ≡ true
 block-begins {block} b = grind (arith, concat-lines block, begins_from-more b.first (concat b.others) b.head)
 
--- so does a text with an entry
+-- a text with a message begins with `From `
 pub mbox-begins : (text : List ℕ) (entry : Entry) (entries : List Entry) → Mbox text (entry ∷ entries) → begins_from text ≡ true
 unfolding Mbox
 mbox-begins text entry entries h = rw h.2 (begins_from-more h.0 h.1 (block-begins h.3))
 
--- and a text that has messages is empty or does
+-- a text in `Mbox` is empty or begins with `From `
 pub mbox-starts : {text : List ℕ} (entries : List Entry) → Mbox text entries → IsMboxText text
 unfolding Mbox
 mbox-starts [] h = inl h
@@ -63,7 +63,7 @@ pub mbox-begins-last : (text : List ℕ) (given : List Entry) (last : Entry) →
 mbox-begins-last text [] last h = mbox-begins text last [] h
 mbox-begins-last text (g ∷ given) last h = mbox-begins text g _ h
 
--- how long a text is that begins so, or is a front of it
+-- the length of a text that begins with `From `, or is a prefix of it
 longer : (prefix text : List ℕ) → begins_with prefix text ≡ true → length prefix ≤ length text
 longer [] text h = omega arith
 longer (p ∷ prefix) [] h = absurd (false≢true h)
@@ -86,17 +86,17 @@ pub from-short : (text : List ℕ) → begins_with text from_bytes ≡ true → 
 unfolding begins_from
 from-short text h n = shorter _ text h n
 
-front-rest : (prefix text : List ℕ) → begins_with text prefix ≡ true → (more : List ℕ) × (text ++ more ≡ prefix)
-front-rest prefix [] h = (prefix, refl)
-front-rest [] (c ∷ text) h = absurd (false≢true h)
-front-rest (p ∷ prefix) (c ∷ text) h =
+prefix-rest : (prefix text : List ℕ) → begins_with text prefix ≡ true → (more : List ℕ) × (text ++ more ≡ prefix)
+prefix-rest prefix [] h = (prefix, refl)
+prefix-rest [] (c ∷ text) h = absurd (false≢true h)
+prefix-rest (p ∷ prefix) (c ∷ text) h =
     let a = and_parts (eqb c p) (begins_with text prefix) h in
-    let r = front-rest prefix text a.1 in
+    let r = prefix-rest prefix text a.1 in
     let e = eqb-true c p a.0 in
     let F = λ (x : ℕ). x ∷ (text ++ r.0) in
     let G = λ (x : List ℕ). p ∷ x in
     (r.0, ap F e ∙ ap G r.1)
 
--- a front of `From ` can go on to it
+-- a prefix of `From ` can go on to the whole of it
 pub from-rest : (text : List ℕ) → begins_with text from_bytes ≡ true → (more : List ℕ) × (text ++ more ≡ from_bytes)
-from-rest text h = front-rest _ text h
+from-rest text h = prefix-rest _ text h

@@ -17,8 +17,8 @@ NoEnd-take s zero h = tt
 NoEnd-take [] (suc n) h = tt
 NoEnd-take (c ∷ s) (suc n) h = (false_from_ne_true (eqb c 10) (h 0 (omega arith)), NoEnd-take s n (λ k l. h (suc k) (omega arith)))
 
-pub NoEnd-behind : (s : List ℕ) (n : ℕ) → IsLastByte (is_byte 10) s (Some n) → NoEnd (drop (n + 1) s)
-NoEnd-behind s n h =
+pub NoEnd-after : (s : List ℕ) (n : ℕ) → IsLastByte (is_byte 10) s (Some n) → NoEnd (drop (n + 1) s)
+NoEnd-after s n h =
     let D = drop (n + 1) s in
     let whole : take (length D) D ≡ D = take_all (length D) D (omega arith) in
     rw (← whole) (NoEnd-take D _
@@ -33,7 +33,7 @@ pub record LineThere (s : List ℕ) (n : ℕ) : Type 0 where
 pub line-there : {s : List ℕ} {n : ℕ} → IsFirstByte (is_byte 10) s (Some n) → LineThere s n
 line-there h = grind (arith, take_more, eqb-true, NoEnd-take)
 
--- no `\n` is there
+-- no `\n` in the text
 pub none-there : (s : List ℕ) → IsFirstByte (is_byte 10) s None → NoEnd s
 none-there s h = rw (← take_all (length s) s (omega arith)) (NoEnd-take s _ (λ k l. h k (omega arith) l))
 

@@ -1,4 +1,4 @@
--- Lemmas on lines and quoting.
+-- The lines of a text, and their quoting.
 use Rattle.std.proofs.Common.{◌≡◌, ℕ, Bool, true, false, eqb, List, [], ◌∷◌, ◌++◌, ◌+◌, ◌<◌, add-zero, length}
 use Rattle.std.proofs.Common.{get_or, drop, refl, sym, ap, arith, append_assoc, inl, inr, ◌&&◌, MatchBool}
 use Rattle.std.specs.List.{concat, starts_with}
@@ -18,13 +18,13 @@ unfolding quoted quotable begins_from
 quoted_no_from [] = refl
 quoted_no_from (c ∷ line) = grind (arith, cases_Bool (quotable (c ∷ line)), cases_Bool (eqb c 62))
 
--- a line comes off the front
+-- the first line of a text split off
 pub lines-line : (line rest : List ℕ) → NoEnd line → lines (line ++ 10 ∷ rest) ≡ (line ++ 10 ∷ []) ∷ lines rest
 unfolding lines
 lines-line [] rest h = refl
 lines-line (c ∷ line) rest h = rw (h.0, lines-line line rest h.1) refl
 
--- what has no `\n` is one line
+-- a text without `\n` is one line
 pub lines-part : (c : ℕ) (line : List ℕ) → NoEnd (c ∷ line) → lines (c ∷ line) ≡ (c ∷ line) ∷ []
 unfolding lines
 lines-part c [] h = rw h.0 refl
@@ -40,22 +40,22 @@ unfolding lines
 lines-first c text =
     elim (cases_Bool (eqb c 10)) [ inl e ↦ (10 ∷ [], lines text, rw e refl) | inr e ↦ rw e (before_first-is c (lines text)) ]
 
-pub lines-last : (front : List ℕ) → (first : List ℕ) × (rest : List (List ℕ)) × (lines (front ++ 10 ∷ []) ≡ first ∷ rest)
+pub lines-last : (prefix : List ℕ) → (first : List ℕ) × (rest : List (List ℕ)) × (lines (prefix ++ 10 ∷ []) ≡ first ∷ rest)
 lines-last [] = lines-first 10 []
-lines-last (c ∷ front) = lines-first c (front ++ 10 ∷ [])
+lines-last (c ∷ prefix) = lines-first c (prefix ++ 10 ∷ [])
 
--- a text that ends with a `\n` has its own lines
-lines-cut : (front back : List ℕ) → lines (front ++ 10 ∷ back) ≡ lines (front ++ 10 ∷ []) ++ lines back
+-- the lines of two texts, of which the first ends with `\n`
+lines-cut : (prefix back : List ℕ) → lines (prefix ++ 10 ∷ back) ≡ lines (prefix ++ 10 ∷ []) ++ lines back
 unfolding lines
 lines-cut [] back = refl
-lines-cut (c ∷ front) back = grind (arith, cases_Bool (eqb c 10), lines-cut front back, lines-last front)
+lines-cut (c ∷ prefix) back = grind (arith, cases_Bool (eqb c 10), lines-cut prefix back, lines-last prefix)
 
-pub lines-append : {front : List ℕ} (back : List ℕ) → Ended front → lines (front ++ back) ≡ lines front ++ lines back
+pub lines-append : {prefix : List ℕ} (back : List ℕ) → Ended prefix → lines (prefix ++ back) ≡ lines prefix ++ lines back
 unfolding lines
 lines-append back (inl e) = rw e refl
 lines-append back (inr e) = rw (e.1) (rw append_assoc (lines-cut e.0 back))
 
--- the lines make up the text
+-- the lines together are the text
 concat-before : (c : ℕ) (ls : List (List ℕ)) → concat (before_first c ls) ≡ c ∷ concat ls
 concat-before c [] = refl
 concat-before c (l ∷ ls) = refl
@@ -65,7 +65,7 @@ unfolding lines
 concat-lines [] = refl
 concat-lines (c ∷ text) = grind (arith, concat-lines text, cases_Bool, concat-before)
 
--- what a line begins with stands before its `\n`, and whether it is quotable
+-- what a line begins with, and whether it is quotable, does not depend on what follows its `\n`
 begins_with-cut : (prefix line rest : List ℕ) → NoEnd prefix → begins_with prefix (line ++ 10 ∷ rest) ≡ begins_with prefix line
 begins_with-cut [] line rest h = refl
 begins_with-cut (p ∷ prefix) [] rest h = rw h.0 refl
@@ -85,7 +85,7 @@ unfolding unquoted
 unquoted-push [] = refl
 unquoted-push (c ∷ line) = grind (arith, quotable-cut, cases_Bool)
 
--- a longer line begins so too
+-- a line that goes on begins with the same bytes
 begins_with-more : (prefix line more : List ℕ) → begins_with prefix line ≡ true → begins_with prefix (line ++ more) ≡ true
 begins_with-more [] line more h = refl
 begins_with-more (p ∷ prefix) [] more h = absurd (false≢true h)
@@ -105,12 +105,12 @@ pub begins_from-starts : (line : List ℕ) → starts_with eqb line from_bytes �
 unfolding begins_from
 begins_from-starts line = begins_with-starts from_bytes line
 
--- one `>` more
+-- one more `>`
 pub quotable-mark : (line : List ℕ) {at : ℕ} → at < length line → get_or line at 0 ≡ 62 → quotable (drop at line) ≡ quotable (drop (at + 1) line)
 unfolding quotable
 quotable-mark line {at} h e = rw (drop_more line at 0 h, e) refl
 
--- no `>` more
+-- no more `>`
 pub quotable-plain : (line : List ℕ) → (get_or line 0 0 ≡ 62 → ⊥) → quotable line ≡ begins_from line
 unfolding quotable begins_from
 quotable-plain [] h = refl
@@ -139,16 +139,16 @@ pub unquoted_cases : (line : List ℕ) {b : Bool} → 0 < length line → get_or
 unquoted_cases line {b = true} l e q = (l, unquoted-mark line e (sym q))
 unquoted_cases line {b = false} l e q = unquoted-other line (sym q)
 
--- the last line tells whether a body lacks its end
-pub missing-ended : (front : List ℕ) → missing_end (front ++ 10 ∷ []) ≡ []
+-- whether a body lacks its last `\n` follows from its last line
+pub missing-ended : (prefix : List ℕ) → missing_end (prefix ++ 10 ∷ []) ≡ []
 unfolding missing_end
 missing-ended [] = refl
 missing-ended (c ∷ []) = refl
-missing-ended (c ∷ d ∷ front) = missing-ended (d ∷ front)
+missing-ended (c ∷ d ∷ prefix) = missing-ended (d ∷ prefix)
 
-pub missing-part : (front : List ℕ) (c : ℕ) (l : List ℕ) → NoEnd (c ∷ l) → missing_end (front ++ c ∷ l) ≡ 10 ∷ []
+pub missing-part : (prefix : List ℕ) (c : ℕ) (l : List ℕ) → NoEnd (c ∷ l) → missing_end (prefix ++ c ∷ l) ≡ 10 ∷ []
 unfolding missing_end
 missing-part [] c [] h = rw h.0 refl
 missing-part [] c (d ∷ l) h = missing-part [] d l h.1
 missing-part (a ∷ []) c l h = missing-part [] c l h
-missing-part (a ∷ b ∷ front) c l h = missing-part (b ∷ front) c l h
+missing-part (a ∷ b ∷ prefix) c l h = missing-part (b ∷ prefix) c l h

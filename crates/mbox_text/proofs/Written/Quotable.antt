@@ -44,8 +44,8 @@ quotable-place (c ∷ line) h =
       | inr e ↦ (0, rw e at h)
     ]
 
-plain-front : (line rest : List ℕ) → NoPlace (line ++ rest) → quotable line ≡ false
-plain-front line rest n =
+plain-prefix : (line rest : List ℕ) → NoPlace (line ++ rest) → quotable line ≡ false
+plain-prefix line rest n =
     elim (cases_Bool (quotable line)) [
       | inl q ↦
           let r = quotable-place line q in
@@ -55,17 +55,17 @@ plain-front line rest n =
       | inr q ↦ q
     ]
 
-behind : (line rest : List ℕ) → NoPlace (line ++ rest) → NoPlace rest
-behind line rest n = record { none = λ i b. n.none (length line + i) (rw (drop-append-add line rest i) b) }
+after : (line rest : List ℕ) → NoPlace (line ++ rest) → NoPlace rest
+after line rest n = record { none = λ i b. n.none (length line + i) (rw (drop-append-add line rest i) b) }
 
 none-quotable : (ls : List (List ℕ)) → NoPlace (concat ls) → NoneQuotable ls
 none-quotable [] n = tt
-none-quotable (l ∷ ls) n = (plain-front l _ n, none-quotable ls (behind l (concat ls) n))
+none-quotable (l ∷ ls) n = (plain-prefix l _ n, none-quotable ls (after l (concat ls) n))
 
 no_lines : {text : List ℕ} → NoPlace text → NoneQuotable (lines text)
 no_lines {text} n = none-quotable _ (rw (concat-lines text) n)
 
--- no `From ` ends before the first one begins
+-- the text up to the first `From ` has no `From ` in it
 no-place-before : {text : List ℕ} {n f : ℕ} → FindsNeedle text from_bytes 0 (Some n) → f ≤ n → NoPlace (take f text)
 no-place-before {text} {f} h le = record {
   none = λ i b.
@@ -76,7 +76,7 @@ no-place-before {text} {f} h le = record {
       h.0.before i (omega arith) (omega arith) (occurs (begins_from-take _ (f - i) (ap begins_from (sym part) ∙ b)));
 }
 
--- no line up to a place is quotable, and a line or the text ends there
+-- no line up to this place is quotable, and a line or the text ends there
 pub record Plain (text : List ℕ) (n : ℕ) : Type 0 where
   pub within : n ≤ length text
   pub ends : (n ≡ length text) ⊎ Ended (take n text)
@@ -89,21 +89,21 @@ plain_none = grind (arith)
 pub plain_more : {text : List ℕ} {at n : ℕ} → Plain text at → Plain (drop at text) n → Plain text (at + n)
 plain_more {text} {at} p q = grind (arith, take-add, length-drop, Ended-append, lines-append, NoneQuotable-append)
 
--- the lines before a first `From `
+-- no line before the first `From ` is quotable
 plain_before : {text : List ℕ} {n f : ℕ} → FindsNeedle text from_bytes 0 (Some n) → f ≤ n → Ended (take f text) → Plain text f
 plain_before {text} {n} {f} h le ended = grind (arith, no_lines (no-place-before h le))
 
--- the same behind lines of which none is quotable, as the code cuts them
-pub plain_front : {text : List ℕ} {at n f : ℕ} → let before : List ℕ = take ((at + n) - at) (drop at text) in
+-- the same after lines of which none is quotable, with the text cut as the code cuts it
+pub plain_prefix : {text : List ℕ} {at n f : ℕ} → let before : List ℕ = take ((at + n) - at) (drop at text) in
     Plain text at → FindsNeedle (take (length text - at) (drop at text)) from_bytes 0 (Some n) → f ≤ length before → Ended (take f before) → Plain text (at + f)
-plain_front {text} {at} {n} {f} p found within ended =
+plain_prefix {text} {at} {n} {f} p found within ended =
     let D = drop at text in
     let size : (at + n) - at ≡ n = omega arith in
     let ends = rw size at ended in
     let le : f ≤ n = omega (arith, rw size at within, length-take n D) in
     plain_more p (plain_before (rw (take_rest text at) at found) le (rw (take-take f n D le) at ends))
 
--- and one line more that is not quotable
+-- one line more that is not quotable
 pub plain_line : {text : List ℕ} {at n : ℕ} → let line : List ℕ =
     take (length text - at) (drop at text) in
     Plain text at → IsLine line n → quotable line ≡ false → Plain text (at + n)

@@ -13,29 +13,29 @@ use Rattle.mbox_text.proofs.TextLines.LineLemmas.{missing-ended, missing-part, q
 use Rattle.mbox_text.proofs.Reading.Chopped.{Whole, lines-whole}
 use Rattle.mbox_text.proofs.Splitting.HeldLemmas.{unended-push, NoFrom-append}
 
--- whole lines, and a last line that lacks its `\n`
+-- a text is whole lines, and a last line that lacks its `\n`
 record LastPart (text : List ℕ) : Type 0 where
-  front : List ℕ
+  prefix : List ℕ
   last : List ℕ
-  is : text ≡ front ++ last
-  ended : Ended front
+  is : text ≡ prefix ++ last
+  ended : Ended prefix
   part : NoEnd last
 
 cut : (text : List ℕ) → LastPart text
-cut [] = record { front = []; last = []; is = refl; ended = inl refl; part = tt }
+cut [] = record { prefix = []; last = []; is = refl; ended = inl refl; part = tt }
 cut (c ∷ text) =
     let r = cut text in
     elim (cases_Bool (eqb c 10)) [
       | inl e ↦ record {
-        front = c ∷ r.front;
+        prefix = c ∷ r.prefix;
         last = r.last;
         is = ap (λ x. c ∷ x) r.is;
         part = r.part;
         ended = elim (r.ended) [ inl n ↦ inr ([], rw (n, eqb-true c 10 e) refl) | inr s ↦ inr (c ∷ s.0, ap (λ x. c ∷ x) s.1) ];
       }
       | inr e ↦ elim (r.ended) [
-        | inl n ↦ record { front = []; last = c ∷ r.last; is = ap (λ x. c ∷ x) (r.is ∙ (rw n refl)); ended = inl refl; part = (e, r.part) }
-        | inr s ↦ record { front = c ∷ r.front; last = r.last; is = ap (λ x. c ∷ x) r.is; ended = inr (c ∷ s.0, ap (λ x. c ∷ x) s.1); part = r.part }
+        | inl n ↦ record { prefix = []; last = c ∷ r.last; is = ap (λ x. c ∷ x) (r.is ∙ (rw n refl)); ended = inl refl; part = (e, r.part) }
+        | inr s ↦ record { prefix = c ∷ r.prefix; last = r.last; is = ap (λ x. c ∷ x) r.is; ended = inr (c ∷ s.0, ap (λ x. c ∷ x) s.1); part = r.part }
       ]
     ]
 
@@ -43,7 +43,7 @@ quoted-push : (l : List ℕ) → quoted (l ++ 10 ∷ []) ≡ quoted l ++ 10 ∷ 
 unfolding quoted
 quoted-push l = grind (arith, quotable-cut l [], cases_Bool (quotable l))
 
--- whole lines stand in the text that they make
+-- the lines of a text that is made of whole lines are those lines
 lines-concat : (ls : List (List ℕ)) → Whole ls → lines (flat_map (λ l. l) ls) ≡ ls
 unfolding lines
 lines-concat [] w = refl
@@ -78,29 +78,29 @@ blank-push [] = refl
 blank-push (l ∷ []) = refl
 blank-push (l ∷ m ∷ ls) = ap (λ z. l ∷ z) (blank-push (m ∷ ls))
 
--- the body with its last `\n`, and its lines as they are written
+-- a body with its last `\n` added, and its lines as they are written
 pub record Full (body : List ℕ) : Type 0 where
   ended : Ended (body ++ missing_end body)
   written : flat_map quoted (lines body) ++ missing_end body ≡ flat_map quoted (lines (body ++ missing_end body))
 
-pub full-cut : {body front : List ℕ} (last : List ℕ) → body ≡ front ++ last → Ended front → NoEnd last → Full body
+pub full-cut : {body prefix : List ℕ} (last : List ℕ) → body ≡ prefix ++ last → Ended prefix → NoEnd last → Full body
 unfolding lines missing_end
 full-cut [] e (inl n) h = rw (e, n) (record { ended = inl refl; written = refl })
-full-cut {body} {front} [] e (inr s) h = grind (arith, append-nil front, missing-ended s.0, append-nil body, append-nil (flat_map quoted (lines body)))
-full-cut {body} {front} (c ∷ l) e ends h = grind (
+full-cut {body} {prefix} [] e (inr s) h = grind (arith, append-nil prefix, missing-ended s.0, append-nil body, append-nil (flat_map quoted (lines body)))
+full-cut {body} {prefix} (c ∷ l) e ends h = grind (
   arith,
-  missing-part front c l h,
+  missing-part prefix c l h,
   lines-append (c ∷ l) ends,
   lines-part c l h,
-  append_assoc front (c ∷ l) (10 ∷ []),
+  append_assoc prefix (c ∷ l) (10 ∷ []),
   lines-append (c ∷ (l ++ 10 ∷ [])) ends,
   lines-line (c ∷ l) [] h,
-  flat_map-append quoted (lines front) ((c ∷ l) ∷ []),
-  flat_map-append quoted (lines front) ((c ∷ (l ++ 10 ∷ [])) ∷ []),
+  flat_map-append quoted (lines prefix) ((c ∷ l) ∷ []),
+  flat_map-append quoted (lines prefix) ((c ∷ (l ++ 10 ∷ [])) ∷ []),
   append-nil (quoted (c ∷ l)),
   append-nil (quoted (c ∷ (l ++ 10 ∷ []))),
   quoted-push (c ∷ l),
-  append_assoc (flat_map quoted (lines front)) (quoted (c ∷ l)) (10 ∷ []),
+  append_assoc (flat_map quoted (lines prefix)) (quoted (c ∷ l)) (10 ∷ []),
 )
 
 full : (body : List ℕ) → Full body
@@ -143,11 +143,11 @@ unfolding Mbox
 spelled_again [] h = refl
 spelled_again (e ∷ es) h = grind (arith, spelled-block e h.0.0 h.0.1, spelled_again es h.1)
 
-missing-full : {body front : List ℕ} (last : List ℕ) → body ≡ front ++ last → Ended front → NoEnd last → missing_end (body ++ missing_end body) ≡ []
+missing-full : {body prefix : List ℕ} (last : List ℕ) → body ≡ prefix ++ last → Ended prefix → NoEnd last → missing_end (body ++ missing_end body) ≡ []
 unfolding missing_end
 missing-full [] e (inl n) h = rw (e, n) refl
-missing-full {body} {front} [] e (inr s) h = grind (arith, append-nil, missing-ended)
-missing-full {body} {front} (c ∷ l) e ends h = grind (arith, missing-part front c l h, missing-ended body)
+missing-full {body} {prefix} [] e (inr s) h = grind (arith, append-nil, missing-ended)
+missing-full {body} {prefix} (c ∷ l) e ends h = grind (arith, missing-part prefix c l h, missing-ended body)
 
 completed-once : (body : List ℕ) → missing_end (body ++ missing_end body) ≡ []
 completed-once body = let k = cut body in missing-full k.last k.is k.ended k.part
@@ -156,7 +156,7 @@ spelled-same : (e : Entry) → spelling (completed e) ≡ spelling e
 unfolding spelling completed
 spelled-same e = grind (arith, full, completed-once, append_assoc)
 
--- what is completed is spelled as before
+-- a completed message has the same spelling
 pub spelled_once : (es : List Entry) → flat_map spelling (map completed es) ≡ flat_map spelling es
 spelled_once [] = refl
 spelled_once (e ∷ es) = rw (spelled-same e, spelled_once es) refl

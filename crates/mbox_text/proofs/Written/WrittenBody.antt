@@ -28,31 +28,31 @@ quoted-plain : {a : List ℕ} → quotable a ≡ false → quoted a ≡ a
 unfolding quoted
 quoted-plain n = rw n refl
 
-front-length : (text : List ℕ) (n : ℕ) → 0 < n → n ≤ length text → 0 < length (take n text)
-front-length [] n s l = absurd (omega arith)
-front-length (c ∷ text) zero s l = absurd (omega arith)
-front-length (c ∷ text) (suc n) s l = omega arith
+prefix-length : (text : List ℕ) (n : ℕ) → 0 < n → n ≤ length text → 0 < length (take n text)
+prefix-length [] n s l = absurd (omega arith)
+prefix-length (c ∷ text) zero s l = absurd (omega arith)
+prefix-length (c ∷ text) (suc n) s l = omega arith
 
 -- whether a line is quotable does not depend on how the text goes on
 pub quotable-line : {text : List ℕ} {n : ℕ} → IsLine text n → quotable (take n text) ≡ quotable text
 quotable-line {text} {n} h = elim (h.ends) [
   | inl e ↦ ap quotable (take_all n text (omega (arith, e)))
-  | inr e ↦ sym (quotable-ended (drop n text) e (front-length text n h.some h.within)) ∙ ap quotable (take-append-drop n text)
+  | inr e ↦ sym (quotable-ended (drop n text) e (prefix-length text n h.some h.within)) ∙ ap quotable (take-append-drop n text)
 ]
 
--- the body up to a place
+-- the part of the body that is written, up to this place
 pub record WrittenTo (body : List ℕ) (old new : Option (List ℕ)) (at : ℕ) : Type 0 where
   pub within : at ≤ length body
   pub ends : (at ≡ length body) ⊎ Ended (take at body)
   pub written : Appends old new (flat_map quoted (lines (take at body)))
 
--- the first bytes are lines, and these are what is written of them
+-- the first bytes are whole lines, and these bytes are written for them
 pub record Part (text : List ℕ) (n : ℕ) (bytes : List ℕ) : Type 0 where
   pub within : n ≤ length text
   pub ends : (n ≡ length text) ⊎ Ended (take n text)
   pub is : flat_map quoted (lines (take n text)) ≡ bytes
 
--- lines that stay as they are
+-- lines that are not quotable are written as they stand
 plain : (ls : List (List ℕ)) → NoneQuotable ls → flat_map quoted ls ≡ concat ls
 plain [] n = refl
 plain (l ∷ ls) n = rw (quoted-plain n.0, plain ls n.1) refl
@@ -61,13 +61,13 @@ pub found_part : (body : List ℕ) (at n : ℕ) → FirstQuotable (take (length 
     → Part (drop at body) n (take ((at + n) - at) (drop at body))
 found_part body at n found = grind (arith, take_rest, plain, concat-lines)
 
--- the quotable line there
+-- the quotable line that was found
 pub line_part : (body : List ℕ) (at n len : ℕ) → FirstQuotable (take (length body - at) (drop at body)) n
     → IsLine (take (length body - (at + n)) (drop (at + n) body)) len
     → Part (drop (at + n) body) len (62 ∷ take (((at + n) + len) - (at + n)) (drop (at + n) body))
 line_part body at n len found line = grind (arith, take_rest, quotable-line, drop-drop, append-nil, quoted-marked)
 
--- a part comes off the front
+-- what is written of a text, with a first part split off
 split-at : (text : List ℕ) {n : ℕ} → (n ≡ length text) ⊎ Ended (take n text)
     → flat_map quoted (lines text) ≡ flat_map quoted (lines (take n text)) ++ flat_map quoted (lines (drop n text))
 unfolding lines
@@ -84,15 +84,15 @@ written_more : {body : List ℕ} {old mid new : Option (List ℕ)} {at n : ℕ} 
     → Appends mid new bytes → WrittenTo body old new (at + n)
 written_more {body} {old} {mid} {new} {at} {n} {bytes} w lt p h =
     let x = take n (drop at body) in
-    let front = take-add at n body in
+    let prefix = take-add at n body in
     let ended : Ended (take at body) = elim (w.ends) [ inl e ↦ absurd (omega (arith, e, lt)) | inr e ↦ e ] in
     let lines_are : flat_map quoted (lines (take (at + n) body)) ≡ flat_map quoted (lines (take at body)) ++ bytes =
-    rw (front, lines-append x ended, flat_map-append quoted (lines (take at body)) (lines x), p.is) refl in
+    rw (prefix, lines-append x ended, flat_map-append quoted (lines (take at body)) (lines x), p.is) refl in
     record {
       within = omega (arith, w.within, p.within, length-drop at body);
       ends = elim (p.ends) [
         | inl e ↦ inl (omega (arith, e, w.within, length-drop at body))
-        | inr e ↦ inr (rw front (Ended-append ended e))
+        | inr e ↦ inr (rw prefix (Ended-append ended e))
       ];
       written = rw lines_are (Appends-trans old mid new (flat_map quoted (lines (take at body))) bytes w.written h);
     }
@@ -110,17 +110,17 @@ pub written_line : {body : List ℕ} {old mid new : Option (List ℕ)} (at : ℕ
 written_line {body} {new} at {n} {len} w found line h =
     let f = rw (take_rest body at) at found in written_more w (omega (arith, f.within, length-drop at body)) (line_part body at n len found line) h
 
-pub written_front : {body : List ℕ} {old mid : Option (List ℕ)} (new : Option (List ℕ)) {at n : ℕ} {bytes : List ℕ}
+pub written_prefix : {body : List ℕ} {old mid : Option (List ℕ)} (new : Option (List ℕ)) {at n : ℕ} {bytes : List ℕ}
     → WrittenTo body old mid at → Part (drop at body) n bytes
     → AppendsFront mid new bytes → AppendsFront old new (flat_map quoted (lines body))
-written_front {body} {old} {mid} new {at} {n} {bytes} w p h =
+written_prefix {body} {old} {mid} new {at} {n} {bytes} w p h =
     let D = drop at body in
     let F = flat_map quoted (lines (take at body)) in
     let R = flat_map quoted (lines (drop n D)) in
     front_then old mid new F bytes R _ w.written h
     (split-at body w.ends ∙ ap (λ z. F ++ z) (split-at D p.ends ∙ ap (λ z. z ++ R) p.is))
 
--- the lines behind the last quotable one
+-- the lines after the last quotable one
 pub written_rest : {T E : Type 0} (r : Result T E) {body : List ℕ} {old mid : Option (List ℕ)} (new : Option (List ℕ)) {at : ℕ} → let rest : List ℕ =
     take (length body - at) (drop at body) in
     WrittenTo body old mid at → NoneQuotable (lines rest) → Writes mid new r rest → Writes old new r (flat_map quoted (lines body))
@@ -130,7 +130,7 @@ written_rest r {body} {old} {mid} new {at} w none h =
     let same : flat_map quoted (lines D) ≡ D = plain _ (rw (take_rest body at) at none) ∙ concat-lines D in
     rw (split-at body w.ends, same) (wrote r old mid new F D w.written (rw (take_rest body at) at h))
 
--- the last byte of a body tells whether it lacks its end
+-- whether a body lacks its last `\n` follows from its last byte
 last-is : {body : List ℕ} → eqb (length body) 0 ≡ false → body ≡ take (length body - 1) body ++ get_or body (length body - 1) 0 ∷ []
 last-is {body} e = grind (arith, eqb-false, take_all, take_more)
 

@@ -1,9 +1,9 @@
--- Lines of a body, of which none is quoted but the first that must be.
+-- The first line of a text, and the first line of a body that is to be quoted.
 use Rattle.std.specs.Prelude.{◌≡◌, ℕ, ◌<◌, ◌≤◌, length, take, List, [], ◌∷◌, ◌⊎◌, true, false, drop, Option, MatchOption}
 use Rattle.mbox_text.specs.Lines.{Ended, lines}
 use Rattle.mbox_text.specs.Quoting.{quotable}
 
--- the first bytes of the text are one line
+-- the first n bytes of the text are its first line
 pub record IsLine (text : List ℕ) (n : ℕ) : Type 0 where
   pub some : 0 < n
   pub within : n ≤ length text
@@ -22,6 +22,6 @@ pub record FirstQuotable (text : List ℕ) (n : ℕ) : Type 0 where
   pub none : NoneQuotable (lines (take n text))
   pub there : quotable (drop n text) ≡ true
 
--- this is where the first quotable line of the text begins
+-- the result is where the first quotable line of the text begins, or None if no line is quotable
 abbrev pub FindsQuotable : List ℕ → Option ℕ → Type 0
 FindsQuotable text result = MatchOption result (NoneQuotable (lines text)) (λ n. FirstQuotable text n)

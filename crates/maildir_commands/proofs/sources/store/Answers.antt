@@ -36,7 +36,7 @@ returns-in_err-report g c =
 pub returns-in_err-map_err : goal.returns-in_err-map_err
 returns-in_err-map_err g c =
     let run = c.convert.ensures in
-    let sync = c.sync.ensures in
+    let sync = c.sync.ensures.syncs in
     record {
       keeps = record {
         budget = run.budget;
@@ -56,7 +56,7 @@ pub returns : goal.returns
 returns g c =
     let run = c.convert.ensures in
     let done = c.in_ok-report.ensures in
-    let sync = c.sync.ensures in
+    let sync = c.sync.ensures.syncs in
     let report = c.in_ok-report.report in
     let ok : IsOk c.sync.result = sym c.in_ok-map_err.ensures.variant in
     record {
@@ -71,7 +71,7 @@ returns g c =
       };
       stored = record {
         end = done.end;
-        calls = rw sync.calls done.calls;
+        calls = rw c.sync.ensures.calls done.calls;
         honest = λ h. if_ok c.sync.result ok (sync.honest (run.honest h));
         texts = λ h text is p sound.
             let still = run.honest h in

@@ -1,8 +1,8 @@
 use Rattle.std.proofs.Common.{◌≡◌, ℕ, List, [], ◌∷◌, ◌++◌, append_assoc, refl}
 use Rattle.maildir_name.proofs.target.with_info.Goals as goal
 
-behind : (base f r s t : List ℕ) → ((((base ++ 58 ∷ 50 ∷ 44 ∷ []) ++ f) ++ r) ++ s) ++ t ≡ base ++ 58 ∷ 50 ∷ 44 ∷ (f ++ r ++ s ++ t)
-behind base f r s t = rw (append_assoc base _ f, append_assoc base _ r, append_assoc base _ s, append_assoc base _ t) refl
+after : (base f r s t : List ℕ) → ((((base ++ 58 ∷ 50 ∷ 44 ∷ []) ++ f) ++ r) ++ s) ++ t ≡ base ++ 58 ∷ 50 ∷ 44 ∷ (f ++ r ++ s ++ t)
+after base f r s t = rw (append_assoc base _ f, append_assoc base _ r, append_assoc base _ s, append_assoc base _ t) refl
 
 pub returns : goal.returns
 returns c =
@@ -13,4 +13,4 @@ returns c =
       c.in_ok-push_if.ensures,
       c.in_ok-push_str.ensures.bytes,
       c.in_ok-name.ensures.ok,
-    ) (behind _ _ _ _ _)
+    ) (after _ _ _ _ _)

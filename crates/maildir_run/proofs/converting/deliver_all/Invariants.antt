@@ -1,10 +1,10 @@
 use Rattle.std.proofs.Common.{◌≡◌, suc, ◌<◌, false, cond, List, [], ◌++◌, length, None}
-use Rattle.maildir_run.proofs.Common.{contains_key, Entry, IsGiven, DeliversMessages, seen, bodies_of}
+use Rattle.maildir_run.proofs.Common.{contains_key, Entry, IsGiven, DeliversMessages, bodies_of}
 use Rattle.maildir_run.proofs.converting.deliver_all.Given as goal
 
 abbrev pub invariant-pieces : goal.invariant-pieces
 invariant-pieces g l =
-    let at = seen g.F.Folder in
+    let at = g.F.Folder.at in
     record {
       given : List Entry;
       gave : IsGiven l.ended (g.R.Read.remaining l.fn.source) (g.R.Read.remaining l.source)

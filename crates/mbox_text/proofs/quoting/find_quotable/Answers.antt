@@ -1,5 +1,5 @@
 use Rattle.std.proofs.Common.{◌+◌, sym, ◌∙◌}
-use Rattle.mbox_text.proofs.Written.Quotable.{plain_none, plain_front, plain_line, finds_none, finds_some}
+use Rattle.mbox_text.proofs.Written.Quotable.{plain_none, plain_prefix, plain_line, finds_none, finds_some}
 use Rattle.mbox_text.proofs.quoting.find_quotable.Goals as goal
 
 pub loop-n-init : goal.loop-n-init
@@ -9,16 +9,16 @@ pub returns-then-is_quotable : goal.returns-then-is_quotable
 returns-then-is_quotable c =
     let w = c.whole_len.ensures in
     finds_some
-    (plain_front c.loop-n.invariant (rw c.new-finder.ensures at c.in-Some.ensures) w.within w.ended)
+    (plain_prefix c.loop-n.invariant (rw c.new-finder.ensures at c.in-Some.ensures) w.within w.ended)
     (sym c.is_quotable.ensures ∙ c.if-is_quotable.true)
 
 pub loop-n-preserved : goal.loop-n-preserved
 loop-n-preserved c =
     let text = c.args.text.now in
-    let front = c.loop-n.at + c.whole_len.result in
+    let start = c.loop-n.at + c.whole_len.result in
     let w = c.whole_len.ensures in
     plain_line
-    (plain_front c.loop-n.invariant (rw c.new-finder.ensures at c.in-Some.ensures) w.within w.ended)
+    (plain_prefix c.loop-n.invariant (rw c.new-finder.ensures at c.in-Some.ensures) w.within w.ended)
     c.line_len.ensures (sym c.is_quotable.ensures ∙ c.if-is_quotable.false)
 
 pub returns : goal.returns

@@ -1,62 +1,62 @@
 use Rattle.std.proofs.Common.{◌∙◌}
 use Rattle.maildir_disk.proofs.Calls.Passing.{acts_on}
+use Rattle.maildir_disk.proofs.Calls.Refused.{sync_failed}
 use Rattle.maildir_disk.proofs.Left.Lefts.{on_ok, left_by_others_then}
 use Rattle.maildir_disk.proofs.Kept.Syncs.{kept_later}
 use Rattle.maildir_disk.proofs.disk_folder.DiskFolder.sync_all.Goals as goal
 
-pub returns-in_err-sync_folder-clause-acts : goal.returns-in_err-sync_folder-clause-acts
-returns-in_err-sync_folder-clause-acts g c = λ honest. c.sync_folder.ensures.acts honest
+pub returns-in_err-sync_folder-clause-syncs : goal.returns-in_err-sync_folder-clause-syncs
+returns-in_err-sync_folder-clause-syncs g c =
+    let new = c.sync_folder.ensures in
+    sync_failed g.S.System _ c.from_residual.ensures.0 new.acts new.left new.still_rooted new.quietly
 
-pub returns-in_err-sync_folder-2-clause-acts : goal.returns-in_err-sync_folder-2-clause-acts
-returns-in_err-sync_folder-2-clause-acts g c = λ honest.
-    let first = c.in_ok-sync_folder.ensures.honest honest in
-    acts_on (c.sync_folder.ensures.acts honest) (c.sync_folder-2.ensures.acts first)
+pub returns-in_err-sync_folder-2-clause-syncs : goal.returns-in_err-sync_folder-2-clause-syncs
+returns-in_err-sync_folder-2-clause-syncs g c =
+    let new = c.sync_folder.ensures in
+    let on = c.in_ok-sync_folder.ensures in
+    let cur = c.sync_folder-2.ensures in
+    sync_failed g.S.System _ c.from_residual-in_err-sync_folder-2.ensures.0
+    (λ h. acts_on (new.acts h) (cur.acts (on.honest h)))
+    (λ h. left_by_others_then (new.left h) (cur.left (on.honest h)))
+    (λ h r. cur.still_rooted (on.honest h) (new.still_rooted h r))
+    (λ q. cur.quietly (on.quiet q) ∙ new.quietly q)
 
-pub returns-clause-acts : goal.returns-clause-acts
-returns-clause-acts g c = λ honest.
-    let first = c.in_ok-sync_folder.ensures.honest honest in
-    let second = c.in_ok-sync_folder-2.ensures.honest first in
-    acts_on (acts_on (c.sync_folder.ensures.acts honest) (c.sync_folder-2.ensures.acts first)) (c.sync_root.ensures.acts second)
-
-pub returns-in_err-sync_folder-clause-left : goal.returns-in_err-sync_folder-clause-left
-returns-in_err-sync_folder-clause-left g c = λ honest. c.sync_folder.ensures.left honest
-
-pub returns-in_err-sync_folder-2-clause-left : goal.returns-in_err-sync_folder-2-clause-left
-returns-in_err-sync_folder-2-clause-left g c = λ honest.
-    left_by_others_then (c.sync_folder.ensures.left honest) (c.sync_folder-2.ensures.left (c.in_ok-sync_folder.ensures.honest honest))
-
-pub returns-clause-left : goal.returns-clause-left
-returns-clause-left g c = λ honest.
-    let first = c.in_ok-sync_folder.ensures.honest honest in
-    let second = c.in_ok-sync_folder-2.ensures.honest first in
-    left_by_others_then (left_by_others_then (c.sync_folder.ensures.left honest) (c.sync_folder-2.ensures.left first)) (c.sync_root.ensures.left second)
-
-pub returns-clause-synced : goal.returns-clause-synced
-returns-clause-synced g c = λ honest.
-    let first = c.in_ok-sync_folder.ensures.honest honest in
-    let second = c.in_ok-sync_folder-2.ensures.honest first in
-    on_ok _ c.sync_root.result (λ left may.
-    let three = c.sync_root.ensures.left second left may in
-    let two = c.in_ok-sync_folder-2.ensures.names first three.0 three.1 in
-    let one = c.in_ok-sync_folder.ensures.names honest two.0 two.1 in (
-      one.0,
-      one.1,
-      record {
-        mid = record { files = _; left = two.0 };
-        first = one.2;
-        then = kept_later two.2 (c.sync_root.ensures.acts second) three.2;
-      },
-    ))
-
-pub returns-in_err-sync_folder-clause-quietly : goal.returns-in_err-sync_folder-clause-quietly
-returns-in_err-sync_folder-clause-quietly g c = λ quiet. c.sync_folder.ensures.quietly quiet
-
-pub returns-in_err-sync_folder-2-clause-quietly : goal.returns-in_err-sync_folder-2-clause-quietly
-returns-in_err-sync_folder-2-clause-quietly g c = λ quiet.
-    c.sync_folder-2.ensures.quietly (c.in_ok-sync_folder.ensures.quiet quiet) ∙ c.sync_folder.ensures.quietly quiet
-
-pub returns-clause-quietly : goal.returns-clause-quietly
-returns-clause-quietly g c = λ quiet.
-    let first = c.in_ok-sync_folder.ensures.quiet quiet in
-    let second = c.in_ok-sync_folder-2.ensures.quiet first in
-    c.sync_root.ensures.quietly second ∙ (c.sync_folder-2.ensures.quietly first ∙ c.sync_folder.ensures.quietly quiet)
+pub returns-clause-syncs : goal.returns-clause-syncs
+returns-clause-syncs g c =
+    let new = c.sync_folder.ensures in
+    let first = c.in_ok-sync_folder.ensures in
+    let cur = c.sync_folder-2.ensures in
+    let second = c.in_ok-sync_folder-2.ensures in
+    let root = c.sync_root.ensures in
+    record {
+      honest = λ h. root.honest (second.honest (first.honest h));
+      acts = λ h.
+          let on = first.honest h in
+          acts_on (acts_on (new.acts h) (cur.acts on)) (root.acts (second.honest on));
+      left = λ h.
+          let on = first.honest h in
+          left_by_others_then (left_by_others_then (new.left h) (cur.left on)) (root.left (second.honest on));
+      rooted = λ h. root.rooted (second.honest (first.honest h));
+      still_rooted = λ h r.
+          let on = first.honest h in
+          root.still_rooted (second.honest on) (cur.still_rooted on (new.still_rooted h r));
+      synced = λ h.
+          let on = first.honest h in
+          let last = second.honest on in
+          on_ok _ c.sync_root.result (λ left may.
+          let three = root.left last left may in
+          let two = second.names on three.0 three.1 in
+          let one = first.names h two.0 two.1 in (
+            one.0,
+            one.1,
+            record {
+              mid = record { files = _; left = two.0 };
+              first = one.2;
+              then = kept_later two.2 (root.acts last) three.2;
+            },
+          ));
+      quiet = λ q. root.quiet (second.quiet (first.quiet q));
+      quietly = λ q.
+          let on = first.quiet q in
+          root.quietly (second.quiet on) ∙ (cur.quietly on ∙ new.quietly q);
+    }

@@ -1,25 +1,15 @@
-use Rattle.std.proofs.Common.{rules}
-use Rattle.maildir_disk.proofs.Left.Lefts.{left_always}
 use Rattle.maildir_disk.proofs.Common.{Removing}
-use Rattle.maildir_disk.proofs.Calls.Answered.{called_answered, quietly_answered}
+use Rattle.maildir_disk.proofs.Calls.Answered.{call_answered}
+use Rattle.maildir_disk.proofs.Left.Lefts.{left_always}
 use Rattle.maildir_disk.proofs.disk_folder.DiskFolderFolder.remove.Goals as goal
 
-pub returns-clause-left : goal.returns-clause-left
-returns-clause-left g c = λ honest. rw c.count_call.ensures.system (left_always _ (λ s. tt) (c.unlink.ensures.left honest))
-
-pub returns-clause-called : goal.returns-clause-called
-returns-clause-called g c = λ honest.
-    rw c.count_call.ensures.same
-    (called_answered (Removing c.args.name.now) (λ system. (g.S.System.world system).files)
-    (g.S.System.world c.args.self.now.system).files _ _ c.count_call.ensures.system
-    c.answer_of-answer.ensures.ok c.answer_of-answer.ensures.err (c.unlink.ensures.called honest))
-
-pub returns-clause-cause : goal.returns-clause-cause
-returns-clause-cause g c = search rules
-
-pub returns-clause-quietly : goal.returns-clause-quietly
-returns-clause-quietly g c = λ quiet.
-    rw c.count_call.ensures.same
-    (quietly_answered (Removing c.args.name.now) (λ system. (g.S.System.world system).files)
-    (g.S.System.world c.args.self.now.system).files _ _ c.count_call.ensures.system
-    c.answer_of-answer.ensures.ok c.answer_of-answer.ensures.err (c.unlink.ensures.quietly quiet))
+pub returns : goal.returns
+returns g c =
+    let did = c.unlink.ensures in
+    let answer = c.answer_of-answer.ensures in
+    let count = c.count_call.ensures in
+    record {
+      removes =
+          call_answered g.S.System (Removing c.args.name.now) c.args.self.now c.count_call.new.self _ count.same count.system answer.ok answer.err
+          count.calls count.failures answer.not_absent did.honest did.called (λ honest. left_always _ (λ s. tt) (did.left honest)) did.still_rooted did.quiet did.quietly;
+    }

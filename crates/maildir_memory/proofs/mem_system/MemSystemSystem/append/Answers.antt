@@ -1,5 +1,6 @@
 use Rattle.std.proofs.Common.{◌++◌, ◌+◌, ◌-◌, ◌/◌, ◌≤◌, length, take, subst, arith, length-append, rules, ◌≡◌, ◌∙◌, [], refl}
 use Rattle.std.proofs.Common.{inl, length-take}
+use Rattle.maildir_run.proofs.Memory.Followed.{quiet_fault}
 use Rattle.maildir_memory.proofs.Common.{opened_as, HasRoom, may_find, LosesBytes, changed}
 use Rattle.maildir_disk.proofs.Calls.Refused.{an_error}
 use Rattle.maildir_memory.proofs.Memory.Changes.{bytes_after, front_of_appended, called_leaves, left_of_bytes}
@@ -70,19 +71,19 @@ returns-in_err-map_err c = let failed = (an_error c.from_residual-in_err-map_err
 pub returns-in-Ok : goal.returns-in-Ok
 returns-in-Ok c = record {
   most = omega arith;
-  honest = λ honest. c.write.ensures.script.lines ∙ c.pass_shortly.ensures.honest honest;
+  honest = λ honest. c.write.ensures.scripted.script.lines ∙ c.pass_shortly.ensures.honest honest;
   name = refl;
   current = λ honest current. current;
   appended = grind arith;
   left = λ honest.
       let mid = c.pass_shortly.new.self in
-      let written = rw (c.as_str-3.ensures.value) at (leaves_torn {bytes = []} (called_leaves _ c.write.ensures.called)) in
+      let written = rw (c.as_str-3.ensures.value) at (leaves_torn {bytes = []} (called_leaves _ (c.write.ensures.writes.called tt))) in
       let bytes = rw (c.as_str-2.ensures.value) at c.may_lose_bytes.ensures.left in
       left_of_bytes mid.folder c.write.new.self mid.cases c.may_lose_bytes.new.self c.pass_shortly.ensures.left bytes written;
   still_rooted = λ honest rooted. rw c.pass_shortly.ensures.root rooted;
   quiet = λ quiet.
       let still = c.pass_shortly.ensures.quiet quiet in
-      record { no_script = c.write.ensures.script.lines ∙ still.no_script; no_turns = still.no_turns };
+      record { no_script = c.write.ensures.scripted.script.lines ∙ still.no_script; no_turns = still.no_turns };
   quietly = grind arith;
   loses = λ honest has there.
       let mid = c.pass_shortly.new.self in
@@ -113,23 +114,23 @@ returns-in-Ok c = record {
 pub returns : goal.returns
 returns c = record {
   most = tt;
-  honest = λ honest. c.write.ensures.script.lines ∙ c.pass_shortly.ensures.honest honest;
+  honest = λ honest. c.write.ensures.scripted.script.lines ∙ c.pass_shortly.ensures.honest honest;
   name = refl;
   current = λ honest current. current;
   appended = λ honest current.
       let acts = c.pass_shortly.ensures.acts in
-      inl (record { actions = acts.actions; files_are = c.in-Err.ensures.err (c.pass_shortly.ensures.honest honest) ∙ acts.files_are });
+      inl (record { actions = acts.actions; files_are = quiet_fault _ _ _ _ (c.pass_shortly.ensures.honest honest) c.in-Err.ensures.scripted ∙ acts.files_are });
   left = λ honest.
       let mid = c.pass_shortly.new.self in
-      let written = rw (c.as_str-3.ensures.value) at (leaves_torn {bytes = []} (called_leaves _ c.write.ensures.called)) in
+      let written = rw (c.as_str-3.ensures.value) at (leaves_torn {bytes = []} (called_leaves _ (c.write.ensures.writes.called tt))) in
       let bytes = rw (c.as_str-2.ensures.value) at c.may_lose_bytes.ensures.left in
       left_of_bytes mid.folder c.write.new.self mid.cases c.may_lose_bytes.new.self c.pass_shortly.ensures.left bytes written;
   still_rooted = λ honest rooted. rw c.pass_shortly.ensures.root rooted;
   quiet = λ quiet.
       let still = c.pass_shortly.ensures.quiet quiet in
-      record { no_script = c.write.ensures.script.lines ∙ still.no_script; no_turns = still.no_turns };
+      record { no_script = c.write.ensures.scripted.script.lines ∙ still.no_script; no_turns = still.no_turns };
   quietly = λ quiet current.
       let still = c.pass_shortly.ensures.quiet quiet in
-      inl (c.in-Err.ensures.err still.no_script ∙ c.pass_shortly.ensures.quietly quiet);
+      inl (quiet_fault _ _ _ _ still.no_script c.in-Err.ensures.scripted ∙ c.pass_shortly.ensures.quietly quiet);
   loses = λ honest. tt;
 }

@@ -1,4 +1,5 @@
 use Rattle.std.proofs.Common.{◌∙◌, [], ap, inl, refl, rules}
+use Rattle.maildir_run.proofs.Memory.Followed.{quiet_fault}
 use Rattle.maildir_memory.proofs.Common.{Make, Writing, effect}
 use Rattle.maildir_disk.proofs.Calls.Refused.{an_error}
 use Rattle.maildir_memory.proofs.Memory.Changes.{left_made, left_unmade, lost_after}
@@ -50,27 +51,27 @@ returns-in_err-map_err c = let failed = (an_error c.from_residual-in_err-map_err
 
 pub returns-in-Ok : goal.returns-in-Ok
 returns-in-Ok c = record {
-  honest = λ honest. c.write.ensures.script.lines ∙ c.pass_shortly.ensures.honest honest;
+  honest = λ honest. c.write.ensures.scripted.script.lines ∙ c.pass_shortly.ensures.honest honest;
   name = search rules;
   current = λ honest. tt;
   created = λ honest.
       let acts = c.pass_shortly.ensures.acts in
-      let written = (c.in-Ok.ensures.quietly (c.pass_shortly.ensures.honest honest)).1 in
+      let written = (c.in-Ok.ensures.writes.quietly (c.pass_shortly.ensures.honest honest)).1 in
       record { before = acts.actions; rest = []; left = written ∙ ap (effect (Writing c.args.name.now [])) acts.files_are };
   left = λ honest.
       let mid = c.pass_shortly.new.self in
       left_made (Make c.args.name)
-      mid.folder c.write.new.self mid.cases c.may_lose.new.self c.write.result c.pass_shortly.ensures.left c.may_lose.ensures.more c.write.ensures.called;
+      mid.folder c.write.new.self mid.cases c.may_lose.new.self c.write.result c.pass_shortly.ensures.left c.may_lose.ensures.more (c.write.ensures.writes.called tt);
   still_rooted = λ honest rooted. rw c.pass_shortly.ensures.root rooted;
   quiet = λ quiet.
       let still = c.pass_shortly.ensures.quiet quiet in
-      record { no_script = c.write.ensures.script.lines ∙ still.no_script; no_turns = still.no_turns };
+      record { no_script = c.write.ensures.scripted.script.lines ∙ still.no_script; no_turns = still.no_turns };
   quietly = λ quiet.
-      let written = c.in-Ok.ensures.quietly (c.pass_shortly.ensures.quiet quiet).no_script in
+      let written = c.in-Ok.ensures.writes.quietly (c.pass_shortly.ensures.quiet quiet).no_script in
       (tt, written.1 ∙ ap (effect (Writing c.args.name.now [])) (c.pass_shortly.ensures.quietly quiet));
   loses = λ honest has.
       let mid = c.pass_shortly.new.self in
-      let written = (c.in-Ok.ensures.quietly (c.pass_shortly.ensures.honest honest)).1 in
+      let written = (c.in-Ok.ensures.writes.quietly (c.pass_shortly.ensures.honest honest)).1 in
       let loses = if_ok c.may_lose.result
       (search rules) c.may_lose.ensures.loses in
       let there = lost_after mid.folder c.write.new.self c.in_ok-pass_shortly.ensures.keeps c.may_lose.ensures.more c.may_lose.ensures.room loses written has in
@@ -79,22 +80,22 @@ returns-in-Ok c = record {
 
 pub returns-in-Err : goal.returns-in-Err
 returns-in-Err c = record {
-  honest = λ honest. c.write.ensures.script.lines ∙ c.pass_shortly.ensures.honest honest;
+  honest = λ honest. c.write.ensures.scripted.script.lines ∙ c.pass_shortly.ensures.honest honest;
   name = λ honest. tt;
   current = λ honest. tt;
   created = λ honest.
       let acts = c.pass_shortly.ensures.acts in
-      inl (record { actions = acts.actions; files_are = c.in-Err.ensures.err (c.pass_shortly.ensures.honest honest) ∙ acts.files_are });
+      inl (record { actions = acts.actions; files_are = quiet_fault _ _ _ _ (c.pass_shortly.ensures.honest honest) c.in-Err.ensures.scripted ∙ acts.files_are });
   left = λ honest.
       let mid = c.pass_shortly.new.self in
       left_made (Make c.args.name)
-      mid.folder c.write.new.self mid.cases c.may_lose.new.self c.write.result c.pass_shortly.ensures.left c.may_lose.ensures.more c.write.ensures.called;
+      mid.folder c.write.new.self mid.cases c.may_lose.new.self c.write.result c.pass_shortly.ensures.left c.may_lose.ensures.more (c.write.ensures.writes.called tt);
   still_rooted = λ honest rooted. rw c.pass_shortly.ensures.root rooted;
   quiet = λ quiet.
       let still = c.pass_shortly.ensures.quiet quiet in
-      record { no_script = c.write.ensures.script.lines ∙ still.no_script; no_turns = still.no_turns };
+      record { no_script = c.write.ensures.scripted.script.lines ∙ still.no_script; no_turns = still.no_turns };
   quietly = λ quiet.
       let still = c.pass_shortly.ensures.quiet quiet in
-      ([], tt, c.in-Err.ensures.err still.no_script ∙ c.pass_shortly.ensures.quietly quiet);
+      ([], tt, quiet_fault _ _ _ _ still.no_script c.in-Err.ensures.scripted ∙ c.pass_shortly.ensures.quietly quiet);
   loses = λ honest. tt;
 }

@@ -33,19 +33,19 @@ returns-in_err-map_err c = let failed = (an_error c.from_residual-in_err-map_err
 
 pub returns-in-Ok : goal.returns-in-Ok
 returns-in-Ok c = record {
-  honest = λ honest. c.place.ensures.script.lines ∙ honest;
-  called = λ honest. c.in-Ok.ensures.called;
+  honest = λ honest. c.place.ensures.scripted.script.lines ∙ honest;
+  called = λ honest. c.in-Ok.ensures.places.called tt;
   gone = λ honest. tt;
   left = λ honest.
       let old = c.args.self.now in
       left_made (Place c.args.name c.args.place c.args.target)
-      old.folder c.place.new.self old.cases c.may_lose.new.self c.place.result left_none c.may_lose.ensures.more c.place.ensures.called;
+      old.folder c.place.new.self old.cases c.may_lose.new.self c.place.result left_none c.may_lose.ensures.more (c.place.ensures.places.called tt);
   still_rooted = λ honest rooted. rooted;
-  quiet = λ quiet. record { no_script = c.place.ensures.script.lines ∙ quiet.no_script; no_turns = quiet.no_turns };
-  quietly = λ quiet. c.in-Ok.ensures.quietly quiet.no_script;
+  quiet = λ quiet. record { no_script = c.place.ensures.scripted.script.lines ∙ quiet.no_script; no_turns = quiet.no_turns };
+  quietly = λ quiet. c.in-Ok.ensures.places.quietly quiet.no_script;
   loses = λ honest has.
       let old = c.args.self.now in
-      let placed = (c.in-Ok.ensures.quietly honest).1 in
+      let placed = (c.in-Ok.ensures.places.quietly honest).1 in
       let loses = if_ok c.may_lose.result
       (search rules) c.may_lose.ensures.loses in
       let there = lost_after old.folder c.place.new.self (keeps_none old.folder) c.may_lose.ensures.more c.may_lose.ensures.room loses placed has in
@@ -54,15 +54,15 @@ returns-in-Ok c = record {
 
 pub returns-in-Err : goal.returns-in-Err
 returns-in-Err c = record {
-  honest = λ honest. c.place.ensures.script.lines ∙ honest;
-  called = λ honest. c.in-Err.ensures.called;
+  honest = λ honest. c.place.ensures.scripted.script.lines ∙ honest;
+  called = λ honest. c.in-Err.ensures.places.called tt;
   gone = grind arith;
   left = λ honest.
       let old = c.args.self.now in
       left_made (Place c.args.name c.args.place c.args.target)
-      old.folder c.place.new.self old.cases c.may_lose.new.self c.place.result left_none c.may_lose.ensures.more c.place.ensures.called;
+      old.folder c.place.new.self old.cases c.may_lose.new.self c.place.result left_none c.may_lose.ensures.more (c.place.ensures.places.called tt);
   still_rooted = λ honest rooted. rooted;
-  quiet = λ quiet. record { no_script = c.place.ensures.script.lines ∙ quiet.no_script; no_turns = quiet.no_turns };
-  quietly = λ quiet. c.in-Err.ensures.quietly quiet.no_script;
+  quiet = λ quiet. record { no_script = c.place.ensures.scripted.script.lines ∙ quiet.no_script; no_turns = quiet.no_turns };
+  quietly = λ quiet. c.in-Err.ensures.places.quietly quiet.no_script;
   loses = λ honest. tt;
 }

@@ -31,18 +31,18 @@ returns-in_err-map_err c = let failed = (an_error c.from_residual-in_err-map_err
 
 pub returns-in-Ok : goal.returns-in-Ok
 returns-in-Ok c = record {
-  honest = λ honest. c.remove.ensures.script.lines ∙ honest;
-  called = λ honest. c.in-Ok.ensures.called;
+  honest = λ honest. c.remove.ensures.scripted.script.lines ∙ honest;
+  called = λ honest. c.in-Ok.ensures.removes.called tt;
   left = λ honest.
       let old = c.args.self.now in
       left_made (Remove c.args.name)
-      old.folder c.remove.new.self old.cases c.may_lose.new.self c.remove.result left_none c.may_lose.ensures.more c.remove.ensures.called;
+      old.folder c.remove.new.self old.cases c.may_lose.new.self c.remove.result left_none c.may_lose.ensures.more (c.remove.ensures.removes.called tt);
   still_rooted = λ honest rooted. rooted;
-  quiet = λ quiet. record { no_script = c.remove.ensures.script.lines ∙ quiet.no_script; no_turns = quiet.no_turns };
-  quietly = λ quiet. c.in-Ok.ensures.quietly quiet.no_script;
+  quiet = λ quiet. record { no_script = c.remove.ensures.scripted.script.lines ∙ quiet.no_script; no_turns = quiet.no_turns };
+  quietly = λ quiet. c.in-Ok.ensures.removes.quietly quiet.no_script;
   loses = λ honest has.
       let old = c.args.self.now in
-      let removed = (c.in-Ok.ensures.quietly honest).1 in
+      let removed = (c.in-Ok.ensures.removes.quietly honest).1 in
       let loses = if_ok c.may_lose.result
       (search rules) c.may_lose.ensures.loses in
       let there = lost_after old.folder c.remove.new.self (keeps_none old.folder) c.may_lose.ensures.more c.may_lose.ensures.room loses removed has in
@@ -51,14 +51,14 @@ returns-in-Ok c = record {
 
 pub returns-in-Err : goal.returns-in-Err
 returns-in-Err c = record {
-  honest = λ honest. c.remove.ensures.script.lines ∙ honest;
-  called = λ honest. c.in-Err.ensures.called;
+  honest = λ honest. c.remove.ensures.scripted.script.lines ∙ honest;
+  called = λ honest. c.in-Err.ensures.removes.called tt;
   left = λ honest.
       let old = c.args.self.now in
       left_made (Remove c.args.name)
-      old.folder c.remove.new.self old.cases c.may_lose.new.self c.remove.result left_none c.may_lose.ensures.more c.remove.ensures.called;
+      old.folder c.remove.new.self old.cases c.may_lose.new.self c.remove.result left_none c.may_lose.ensures.more (c.remove.ensures.removes.called tt);
   still_rooted = λ honest rooted. rooted;
-  quiet = λ quiet. record { no_script = c.remove.ensures.script.lines ∙ quiet.no_script; no_turns = quiet.no_turns };
-  quietly = λ quiet. c.in-Err.ensures.quietly quiet.no_script;
+  quiet = λ quiet. record { no_script = c.remove.ensures.scripted.script.lines ∙ quiet.no_script; no_turns = quiet.no_turns };
+  quietly = λ quiet. c.in-Err.ensures.removes.quietly quiet.no_script;
   loses = λ honest. tt;
 }

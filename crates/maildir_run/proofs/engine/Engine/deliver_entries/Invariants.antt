@@ -1,10 +1,10 @@
 use Rattle.std.proofs.Common.{◌≡◌, ℕ, ◌+◌, ◌≤◌, ◌^◌, List, take, length, None}
-use Rattle.maildir_run.proofs.Common.{contains_key, Named, DeliversMessages, seen, bodies_of}
+use Rattle.maildir_run.proofs.Common.{contains_key, Named, DeliversMessages, bodies_of}
 use Rattle.maildir_run.proofs.engine.Engine.deliver_entries.Given as goal
 
 abbrev pub invariant-loop-entry : goal.invariant-loop-entry
 invariant-loop-entry g l =
-    let at = seen g.F.Folder in
+    let at = g.F.Folder.at in
     record {
       delivers : (bodies : List (List ℕ)) → Named bodies l.fn.self.namer → length bodies + length l.entries ≤ 2 ^ 63 →
           DeliversMessages (contains_key l.fn.self.there) bodies (bodies_of (take l.entry-index l.entries)) (at l.fn.folder)

@@ -22,10 +22,10 @@ returns-in_ok-end_line-in-Some-clause-moved c =
     let T = λ (m : ℕ). take m text in
     let A = λ (z : List ℕ). take at text ++ z in
     let size : at + n + 1 ≡ at + (n + 1) = omega arith in
-    let front = ap T size ∙ take-at text at (n + 1) ∙ ap A h.is ∙ sym (append_assoc (take at text) (take n rest) (10 ∷ [])) in
+    let prefix = ap T size ∙ take-at text at (n + 1) ∙ ap A h.is ∙ sym (append_assoc (take at text) (take n rest) (10 ∷ [])) in
     let g = gives_then c.args.self.now c.take_body_lines.new.self c.add_part.new.self _ _ _
     (gives_none c.args.self.now c.take_body_lines.new.self _ refl c.in_ok-at.ensures.held) c.in_ok-add_part-in-Some.ensures.moved in
-    rw front (gives_then c.args.self.now c.add_part.new.self c.end_line.new.self _ _ _ g
+    rw prefix (gives_then c.args.self.now c.add_part.new.self c.end_line.new.self _ _ _ g
     (gives_none c.add_part.new.self c.end_line.new.self _ refl c.in_ok-end_line-in-Some.ensures.moved))
 
 pub returns-in_err-at-clause-stopped : goal.returns-in_err-at-clause-stopped

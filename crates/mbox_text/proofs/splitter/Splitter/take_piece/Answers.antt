@@ -1,7 +1,7 @@
 use Rattle.std.proofs.Common.{◌≡◌, ◌-◌, ◌++◌, length, take, drop, arith, ◌∙◌, sym, refl}
 use Rattle.std.proofs.lemmas.List.{take-append-drop, take_rest, length-drop}
 use Rattle.mbox_text.proofs.Splitting.Fields.{take-at}
-use Rattle.mbox_text.proofs.Splitting.Giving.{gives_nothing, gives_then, stops_behind, handed_on}
+use Rattle.mbox_text.proofs.Splitting.Giving.{gives_nothing, gives_then, stops_after, handed_on}
 use Rattle.mbox_text.proofs.splitter.Splitter.take_piece.Goals as goal
 
 pub loop-at-init : goal.loop-at-init
@@ -27,4 +27,4 @@ returns-in_err-at-clause-stopped c =
     let rest = take (length piece - at) (drop at piece) in
     let whole : piece ≡ take at piece ++ rest = rw (take_rest piece at) (sym (take-append-drop at piece)) in
     handed_on _ _ c.from_residual.ensures
-    (stops_behind _ c.loop-at.invariant.gives c.in_err-at.ensures.stopped whole)
+    (stops_after _ c.loop-at.invariant.gives c.in_err-at.ensures.stopped whole)

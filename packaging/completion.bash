@@ -1,0 +1,54 @@
+# Completion of the words of mbox2maildir and mbox2maildir-admin, for bash.
+
+# Offers what compgen finds for the word that is completed.
+_mbox2maildir_offer() {
+    # so that a name with a space is quoted, and a folder gets its slash; not known where no completion is going on
+    test "$1" = -W || compopt -o filenames 2>/dev/null
+    mapfile -t COMPREPLY < <(compgen "$@")
+}
+
+# A command, and then the Maildir and the files that it takes.
+_mbox2maildir() {
+    COMPREPLY=()
+    case $COMP_CWORD,${COMP_WORDS[1]} in
+        1,*) _mbox2maildir_offer -W 'convert list rewrite' -- "$2" ;;
+        2,list | 2,rewrite) _mbox2maildir_offer -A file -- "$2" ;;
+        2,convert) _mbox2maildir_offer -A directory -- "$2" ;;
+        *,convert) _mbox2maildir_offer -A file -- "$2" ;;
+    esac
+}
+
+# A word, and then its options and what it takes.
+_mbox2maildir_admin() {
+    local place=0 index options=--help
+    COMPREPLY=()
+    if ((COMP_CWORD == 1)); then
+        _mbox2maildir_offer -W 'kind quote dates folders verify --help' -- "$2"
+        return
+    fi
+    case ${COMP_WORDS[1]} in
+        quote) options+=' --no-lengths --all --mboxo --mboxrd --line --crlf --cr --output' ;;
+        dates) options+=' --header' ;;
+        folders) options+=' --jobs' ;;
+    esac
+    for ((index = 2; index < COMP_CWORD; index++)); do
+        case ${COMP_WORDS[index]} in
+            --line | --jobs | --output | -o) ((index++)) ;;
+            -*) ;;
+            *) ((++place)) ;;
+        esac
+    done
+    case ${COMP_WORDS[1]},$place,$3 in
+        folders,2,*) _mbox2maildir_offer -A command -- "$2" ;;
+        folders,[3-9],* | folders,??*,*) _mbox2maildir_offer -A file -- "$2" ;;
+        *,--line | *,--jobs) ;;
+        *) case ${COMP_WORDS[1]},$place,$2 in
+            *,*,-*) _mbox2maildir_offer -W "$options" -- "$2" ;;
+            dates,0,* | verify,0,* | folders,*) _mbox2maildir_offer -A directory -- "$2" ;;
+            kind,* | quote,0,* | dates,* | verify,*) _mbox2maildir_offer -A file -- "$2" ;;
+        esac ;;
+    esac
+}
+
+complete -F _mbox2maildir mbox2maildir
+complete -F _mbox2maildir_admin mbox2maildir-admin

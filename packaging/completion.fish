@@ -1,0 +1,62 @@
+# Completion of the words of mbox2maildir and mbox2maildir-admin, for fish. It is installed under both names, and may be read
+# twice.
+
+complete --erase --command mbox2maildir
+complete --erase --command mbox2maildir-admin
+
+# how many words stand on the line behind the first two, without options
+function __mbox2maildir_operands
+    set -l words (commandline --tokenize --cut-at-cursor --current-process)
+    set -l skip 0
+    set -l count 0
+    for word in $words[3..-1]
+        if test $skip = 1
+            set skip 0
+        else if contains -- $word --line --jobs --output -o
+            set skip 1
+        else if not string match --quiet -- '-*' $word
+            set count (math $count + 1)
+        end
+    end
+    echo $count
+end
+
+function __mbox2maildir_at --argument-names word least most
+    set -l words (commandline --tokenize --cut-at-cursor --current-process)
+    test (count $words) -gt 1; and test $words[2] = $word; or return 1
+    set -l count (__mbox2maildir_operands)
+    test $count -ge $least -a $count -le $most
+end
+
+function __mbox2maildir_first
+    test (count (commandline --tokenize --cut-at-cursor --current-process)) = 1
+end
+
+complete -c mbox2maildir -f
+complete -c mbox2maildir -n __mbox2maildir_first -a convert -d 'deliver each message that is not there'
+complete -c mbox2maildir -n __mbox2maildir_first -a list -d 'print a line for each message'
+complete -c mbox2maildir -n __mbox2maildir_first -a rewrite -d 'print the text in its regular spelling'
+complete -c mbox2maildir -n '__mbox2maildir_at convert 0 0' -a '(__fish_complete_directories)'
+complete -c mbox2maildir -n '__mbox2maildir_at convert 1 9999; or __mbox2maildir_at list 0 0; or __mbox2maildir_at rewrite 0 0' -F
+
+complete -c mbox2maildir-admin -f
+complete -c mbox2maildir-admin -l help -d 'tell of the word'
+complete -c mbox2maildir-admin -n __mbox2maildir_first -a kind -d 'tell what files are, and what to do first'
+complete -c mbox2maildir-admin -n __mbox2maildir_first -a quote -d 'write a quoted copy of a mailbox'
+complete -c mbox2maildir-admin -n __mbox2maildir_first -a dates -d 'give converted files the dates of their From_ lines'
+complete -c mbox2maildir-admin -n __mbox2maildir_first -a folders -d 'tell the folder of each mailbox below a folder'
+complete -c mbox2maildir-admin -n __mbox2maildir_first -a verify -d 'look whether each message is in the Maildir'
+complete -c mbox2maildir-admin -n '__mbox2maildir_at kind 0 9999; or __mbox2maildir_at quote 0 0' -F
+complete -c mbox2maildir-admin -n '__mbox2maildir_at dates 1 9999; or __mbox2maildir_at verify 1 9999' -F
+complete -c mbox2maildir-admin -n '__mbox2maildir_at dates 0 0; or __mbox2maildir_at verify 0 0; or __mbox2maildir_at folders 0 1' -a '(__fish_complete_directories)'
+complete -c mbox2maildir-admin -n '__mbox2maildir_at folders 2 9999' -a '(__fish_complete_subcommand --fcs-skip=4)'
+complete -c mbox2maildir-admin -n '__mbox2maildir_at quote 0 1' -l no-lengths -d 'quote lines without a date at their end'
+complete -c mbox2maildir-admin -n '__mbox2maildir_at quote 0 1' -l all -d 'quote >From too'
+complete -c mbox2maildir-admin -n '__mbox2maildir_at quote 0 1' -l mboxo -d 'quote >>From alone'
+complete -c mbox2maildir-admin -n '__mbox2maildir_at quote 0 1' -l mboxrd -d 'quote nothing'
+complete -c mbox2maildir-admin -n '__mbox2maildir_at quote 0 1' -l line -x -d 'quote this line alone'
+complete -c mbox2maildir-admin -n '__mbox2maildir_at quote 0 1' -l crlf -d 'write CR LF as LF'
+complete -c mbox2maildir-admin -n '__mbox2maildir_at quote 0 1' -l cr -d 'write CR as LF'
+complete -c mbox2maildir-admin -n '__mbox2maildir_at quote 0 1' -s o -l output -r -d 'name of the copy'
+complete -c mbox2maildir-admin -n '__mbox2maildir_at dates 0 9999' -l header -d 'take the date of the header Date'
+complete -c mbox2maildir-admin -n '__mbox2maildir_at folders 0 0' -l jobs -x -d 'how many commands run at a time'

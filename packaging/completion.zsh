@@ -1,0 +1,59 @@
+#compdef mbox2maildir mbox2maildir-admin
+# Completion of the words of mbox2maildir and mbox2maildir-admin, for zsh.
+
+_mbox2maildir_program() {
+    local -a offered
+    offered=(
+        'convert:deliver each message that is not there'
+        'list:print a line for each message'
+        'rewrite:print the text in its regular spelling'
+    )
+    if ((CURRENT == 2)); then
+        _describe command offered
+    elif [[ $words[2] == convert && $CURRENT == 3 ]]; then
+        _path_files -/
+    elif [[ $words[2] == convert || $words[2] == (list|rewrite) && $CURRENT == 3 ]]; then
+        _files
+    fi
+}
+
+_mbox2maildir_admin() {
+    local -a offered
+    offered=(
+        'kind:tell what files are, and what to do first'
+        'quote:write a quoted copy of a mailbox'
+        'dates:give converted files the dates of their From_ lines'
+        'folders:tell the folder of each mailbox below a folder'
+        'verify:look whether each message is in the Maildir'
+    )
+    if ((CURRENT == 2)); then
+        _describe word offered
+        return
+    fi
+    local word=$words[2]
+    shift words
+    ((CURRENT--))
+    case $word in
+        kind) _arguments '--help[tell of the word]' '*:mailbox:_files' ;;
+        quote)
+            _arguments '--help[tell of the word]' '(-o --output)'{-o,--output}'[name of the copy]:copy:_files' \
+                '(--mboxo --mboxrd --line)--no-lengths[quote lines without a date at their end]' \
+                '--all[quote >From too]' \
+                '(--no-lengths --mboxrd --line)--mboxo[quote >>From alone]' \
+                '(--no-lengths --mboxo --line)--mboxrd[quote nothing]' \
+                '(--no-lengths --mboxo --mboxrd)*--line[quote this line alone]:line' \
+                '(--cr)--crlf[write CR LF as LF]' '(--crlf)--cr[write CR as LF]' ':mailbox:_files'
+            ;;
+        dates) _arguments '--help[tell of the word]' '--header[take the date of the header Date]' ':Maildir:_path_files -/' '*:mailbox:_files' ;;
+        folders)
+            _arguments '--help[tell of the word]' '--jobs[how many commands run at a time]:number' ':Maildir:_path_files -/' \
+                ':old folder:_path_files -/' ':command: _command_names -e' '*::arguments:_normal'
+            ;;
+        verify) _arguments '--help[tell of the word]' ':Maildir:_path_files -/' '*:mailbox:_files' ;;
+    esac
+}
+
+case $service in
+    mbox2maildir) _mbox2maildir_program "$@" ;;
+    mbox2maildir-admin) _mbox2maildir_admin "$@" ;;
+esac
