@@ -3,7 +3,7 @@ ghost use Rattle.std.specs.Prelude.{◌≡◌, ◌==◌, ◌||◌, ◌<◌, ◌�
 ghost use Rattle.maildir_name.specs.Flags.{flags, field, header, lines, stands_in as stands, is_blank as blank, begins_with_name as begins};
 
 /// What the header of a message says about it: a flag for each letter of the fields Status and X-Status.
-#[derive(Clone, Copy, Debug, PartialEq, Eq)]
+#[derive(Clone, Copy, PartialEq, Eq)]
 pub struct Flags {
     /// `O`: a mail program has listed the message.
     pub is_old: bool,

@@ -7,7 +7,7 @@ ghost use Rattle.maildir_name.specs.Names.{is_lower_hex_digit as digit, is_occur
 use std::marker::Model;
 
 /// The name of a file. Contracts see the list of its bytes.
-#[derive(Debug, Drop)]
+#[derive(Drop)]
 pub struct Name {
     text: String,
 }

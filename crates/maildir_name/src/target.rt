@@ -7,7 +7,7 @@ use crate::name::Name;
 use std::alloc::{AllocError, Global};
 
 /// The two folders of a Maildir in which a message is visible (maildir(5)).
-#[derive(Clone, Copy, Debug, PartialEq, Eq)]
+#[derive(Clone, Copy, PartialEq, Eq)]
 pub enum Place {
     /// `new`: messages that no reader has seen.
     New,
@@ -16,7 +16,7 @@ pub enum Place {
 }
 
 /// Where a message is delivered: the place and the name of its file.
-#[derive(Debug, Drop)]
+#[derive(Drop)]
 pub struct Target {
     /// The unique name: the digits of the body's digest, a dot, and the occurrence number.
     pub base: Name,

@@ -9,7 +9,7 @@ use maildir_name::{Name, Target, is_converter_name};
 use std::alloc::{AllocError, Global};
 
 /// One step of a run. Messages are numbered from 0, in the order of the text.
-#[derive(Debug, Drop)]
+#[derive(Drop)]
 pub enum Step {
     /// Remove this file from `tmp`.
     Remove(Name),

@@ -5,7 +5,7 @@ ghost use Rattle.maildir_run.specs.Script.{mode_of};
 use crate::folder::Sub;
 
 /// What another program does to the files. Where its condition fails it does nothing.
-#[derive(Debug, Drop, PartialEq, Eq)]
+#[derive(Drop)]
 pub enum Act {
     /// Moves the first name of `new` to the second of `cur`, if the first is there, the second is free and both have the same base.
     ToCur(String, String),
@@ -20,7 +20,7 @@ pub enum Act {
 }
 
 /// What becomes of a call.
-#[derive(Clone, Copy, Debug, PartialEq, Eq)]
+#[derive(Clone, Copy)]
 pub enum Mode {
     /// It has its effect once, and answers for it.
     Plain,
@@ -35,7 +35,7 @@ pub enum Mode {
 }
 
 /// What happens at one call of a folder in memory.
-#[derive(Debug, Drop, PartialEq, Eq)]
+#[derive(Drop)]
 pub struct ScriptLine {
     /// The number of the call, counted from 1.
     pub call: u64,

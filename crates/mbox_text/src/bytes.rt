@@ -1,12 +1,10 @@
 // The bytes of a message.
-ghost use Rattle.std.specs.Prelude.{◌≡◌, nat_eq, List, ℕ};
-ghost use Rattle.std.specs.Cmp.{partial_equiv_from_equiv};
-ghost use Rattle.std.specs.Cmp.Lexicographic.{nat_list_eq_equiv, pointwise};
+ghost use Rattle.std.specs.Prelude.{◌≡◌, List, ℕ};
 
 use std::marker::Model;
 
 /// The bytes of a From_ line or a body. Contracts see the list of bytes.
-#[derive(Debug, Drop)]
+#[derive(Drop)]
 pub struct Bytes {
     bytes: Vec<u8>,
 }
@@ -30,15 +28,5 @@ impl Bytes {
         ensures { result.now ≡ self.now }
     {
         &self.bytes
-    }
-}
-
-impl PartialEq for Bytes {
-    ghost eq = { pointwise nat_eq };
-
-    ghost laws = { partial_equiv_from_equiv nat_list_eq_equiv };
-
-    fn eq(&self, other: &Bytes) -> bool {
-        self.as_slice() == other.as_slice()
     }
 }

@@ -2,7 +2,7 @@
 use crate::bytes::Bytes;
 
 /// One message of an mbox text, as mbox(5) reads it.
-#[derive(Debug, PartialEq, Drop)]
+#[derive(Drop)]
 pub struct Entry {
     /// The From_ line without its `\n`.
     pub from_line: Bytes,

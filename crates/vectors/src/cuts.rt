@@ -203,3 +203,47 @@ fn orders_of_syncs(rt: HostRuntime) -> Result<(), Fail> {
     }
     Ok(())
 }
+
+// Two files, by their bases and the names that they are placed under.
+const PLACED: &[(&str, &str)] = &[("u", "u:2,S"), ("v", "v:2,F")];
+
+// Both are placed in `cur`, and nothing is asked to be kept.
+fn both_placed(rt: HostRuntime) -> Result<MemSystem, Fail> {
+    let mut system = losing(rt, &[], 1)?;
+    for &(name, target) in PLACED {
+        system.create(name)?;
+        system.rename(name, Place::Cur, target)?;
+    }
+    Ok(system)
+}
+
+// Whether a cut leaves the first of them in this case, and whether it leaves the second; nothing where there is no such
+// case, or a file has another name.
+fn left_of_both(rt: HostRuntime, case: usize) -> Result<Option<(bool, bool)>, Fail> {
+    let mut system = both_placed(rt)?;
+    let is_case = case < system.cases();
+    system.cut(case);
+    let folder = system.folder();
+    let first = folder.bytes_of(Sub::Cur, "u:2,S").is_some();
+    let second = folder.bytes_of(Sub::Cur, "v:2,F").is_some();
+    let named = (first as usize).saturating_add(second as usize);
+    if is_case && folder.count(Sub::Cur) == named {
+        Ok(Some((first, second)))
+    } else {
+        Ok(None)
+    }
+}
+
+// Each of two renames is kept or lost by itself.
+#[test]
+fn each_rename_by_itself(rt: HostRuntime) -> Result<(), Fail> {
+    let mut seen = (false, false);
+    for case in 0..both_placed(rt)?.cases() {
+        let left = left_of_both(rt, case)?;
+        assert!(rt; left.is_some(), "{case}");
+        seen.0 = seen.0 || left == Some((true, false));
+        seen.1 = seen.1 || left == Some((false, true));
+    }
+    assert!(rt; seen == (true, true));
+    Ok(())
+}

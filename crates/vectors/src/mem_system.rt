@@ -35,7 +35,7 @@ fn flag_while_listed(rt: HostRuntime) -> Result<(), Fail> {
     for stamps in STAMPS {
         let system = system_of(rt, *stamps, FILES, DEEDS, 8)?;
         let listed = lists(&mut DiskFolder::new(system), false, Sub::Cur, &["u:2,S"]);
-        assert!(rt; listed, "{stamps:?}");
+        assert!(rt; listed);
     }
     Ok(())
 }
@@ -58,7 +58,7 @@ fn conversions_in_memory(rt: HostRuntime) -> Result<(), Fail> {
     const DEEDS: &[Deed<'_>] = &[Deed::Reflag(ABC, ":2,", ":2,S")];
     for stamps in STAMPS {
         let system = system_of(rt, *stamps, THERE, DEEDS, 8)?;
-        assert!(rt; finds_and_places(rt.alloc(), system), "{stamps:?}");
+        assert!(rt; finds_and_places(rt.alloc(), system));
     }
     Ok(())
 }
