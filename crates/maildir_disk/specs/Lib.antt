@@ -4,7 +4,7 @@ pub mod World
 pub mod Writing
 -- What a placement that finds no file tells.
 pub mod Placing
--- The folder of a place, and the system of a folder.
+-- The folder of a place.
 pub mod Paths
 -- What is seen of a Maildir on a file system, and what a sync of it does.
 pub mod Seen

@@ -1,7 +1,7 @@
 // What a run tells when it has ended.
 
 /// What a run that ended with Ok did.
-#[derive(Clone, Copy)]
+#[derive(Clone, Copy, Debug, PartialEq, Eq)]
 pub struct Report {
     /// How many messages the text has.
     pub messages: u64,
