@@ -20,7 +20,7 @@ pub mod Opening
 pub mod Sources
 -- What a run of the program owes.
 pub mod Program
--- Any commands that follow one another, with mail readers and power cuts between them.
+-- Any commands that follow one another, with mail readers and power cuts between them, and a Maildir into which several texts go.
 pub mod Commands
 -- Words of the contracts of private functions and of proofs. No public contract reaches them, and no reader need believe them.
 pub mod Private

@@ -4,5 +4,5 @@
 pub mod Trees
 -- What a script makes of a folder in memory is what other programs and a call may do.
 pub mod Scripts
--- What a call of the folder in memory leaves that followed its script.
+-- What a call of the folder in memory did that followed its script.
 pub mod Followed

@@ -8,7 +8,7 @@ pub mod Texts
 pub mod Runs
 -- The calls of a folder: the effect of each, and what may happen before, within and after it.
 pub mod Calls
--- What is seen of a folder.
+-- What is seen of a folder, and what a call does to that.
 pub mod Seen
 -- What a power cut may leave of a folder, from one call to the next. In `new` and `cur` it is the files that are found then;
 pub mod Cuts
