@@ -1,4 +1,23 @@
-//! The commands of the program: their words, their streams, the texts of their faults and their status.
+//! The commands of the program: their words, their input and output, and the status that each ends with.
+//!
+//! [`run`] does what the words of the command line say, on any [`Machine`], and returns the status: 0 if it is done, 1 after a
+//! [`Fault`], 2 if the words are wrong. [`execute`] does the same and returns an [`Ending`]. [`deliver`] delivers one source
+//! into a folder and syncs it.
+//!
+//! Proved: the words alone decide which command runs; with status 0 every message of every named source is delivered, synced
+//! and reported, or every message is written to the output; each fault is possible for its command, and its cause holds.
+//! [`laws`] has what any sequence of commands leaves, with power cuts between them.
+//!
+//! ```rust
+//! use maildir_commands::run;
+//!
+//! let mut input: &[u8] = b"From x\nabc";
+//! let mut out = BufWriter::with_capacity(alloc, 4096, Vec::new(alloc))?;
+//! let status = run(&mut machine, alloc, words, &mut input, &mut out, &mut err);
+//! assert!(rt; status == 0);
+//! ```
+//!
+//! Errors: [`Fault`] says why a command ended early; its line is written to standard error.
 #![tactic(auto)]
 
 mod command;

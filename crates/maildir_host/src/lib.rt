@@ -1,7 +1,23 @@
-//! The machine that the program runs on: its sources, its Maildirs, and the calls of the system that reach them.
+//! The machine that the program runs on: its files, its Maildirs, and the system calls that reach them.
 //!
-//! What these calls do to a disk, no proof knows. All that is proved of them is that they are safe and end, that a Maildir is
-//! opened at the path that was named, and that its folder begins with no calls and no failures.
+//! [`Computer`] opens sources and Maildirs by their paths. [`Host`] is the Maildir at a path, by the calls that
+//! [`System`](maildir_disk::System) asks for. [`Host::open_at`] makes the Maildir and its folders if they are missing, and locks
+//! it while it is open, if the file system has locks.
+//!
+//! This crate is trusted: no proof knows what these calls do to a disk. What is proved is that they are safe and end, that a
+//! Maildir is opened at the path that was named, and that its folder begins with no calls and no failures.
+//!
+//! ```rust
+//! use maildir_disk::DiskFolder;
+//! use maildir_host::OpenAt;
+//! use maildir_run::{Folder, Sub};
+//!
+//! let mut folder = DiskFolder::open_at(&rt, rt.alloc(), path)?;
+//! assert!(rt; folder.list(Sub::Cur)?.is_empty());
+//! ```
+//!
+//! Errors: [`OpenFault`](maildir_disk::OpenFault) if a Maildir cannot be opened, or another program holds its lock; the
+//! `io::Error` of a system call that failed.
 #![tactic(auto)]
 
 mod computer;

@@ -1,5 +1,23 @@
-//! A system and a machine in memory, which do as the proofs assume: so what is assumed can be met, and tests can run a
-//! conversion through other programs' turns, failed calls and power cuts.
+//! A file system and a machine in memory, for tests and for proofs that the assumptions can be met.
+//!
+//! [`MemSystem`] is a Maildir in memory that does what [`System`](maildir_disk::System) assumes. Other programs may act within
+//! its calls, its calls may fail, its stamps may be coarse ([`Stamps`]), and a power cut may leave any case of what was not
+//! synced. [`MemMachine`] is a [`Machine`](maildir_commands::Machine) with texts and such Maildirs.
+//!
+//! Proved: both do what the traits that they implement state, so what is assumed there can be met.
+//!
+//! ```rust
+//! use maildir_disk::DiskFolder;
+//! use maildir_memory::{MemSystem, Stamps};
+//! use maildir_run::{Folder, MemFolder, Sub};
+//!
+//! let nobody = Vec::new(alloc);
+//! let system = MemSystem::new(alloc, MemFolder::new(alloc), Stamps::Fine, clock, instant, nobody);
+//! let mut folder = DiskFolder::new(system);
+//! assert!(rt; folder.list(Sub::New)?.is_empty());
+//! ```
+//!
+//! Errors: those of the traits that they implement.
 #![tactic(auto)]
 
 mod cases;

@@ -1,15 +1,13 @@
-//! Names for the messages of a Maildir: which flags the header of a body sets, and under which name and
-//! in which folder its file stands.
+//! Names for the messages of a Maildir: the flags that the header of a body sets, and the folder and name of its file.
 //!
-//! A [`Namer`] is given the bodies of one text in order and answers a [`Target`] for each. Its base is
-//! the SHA-256 of the body in hexadecimal digits, a dot, and the number of bodies so far with that
-//! digest; its place and name follow from the flags. So a text has the same names in every run, equal
-//! messages have a file each, and no two messages share a base, with no premise on digests.
+//! A [`Namer`] is given the bodies of a text in order and returns a [`Target`] for each. Its base is the SHA-256 of the body
+//! in hexadecimal, a dot, and the number of bodies so far with that digest; its place and name follow from the flags. So a
+//! text has the same names in every run, and equal messages have a file each. [`is_converter_name`] recognizes these names.
 //!
-//! Proved, with the definitions in `specs/`: [`flags_of`] is `flags`; [`base_of`] and
-//! [`is_converter_name`] are `base` and `is_converter_name`; each Ok of [`Namer::target`] is the last of
-//! the `targets` of all bodies that the namer was given; a refusal leaves the namer as it was; and the
-//! laws of [`laws`]. The one fault is want of memory. `docs/RULES.md` states the rules in prose.
+//! Proved, with the definitions in `specs/`: [`flags_of`] is `flags`; [`base_of`] and [`is_converter_name`] are `base` and
+//! `is_converter_name`; after Ok, the targets so far are the `targets` of the bodies so far. [`laws`] has what follows from
+//! the definitions alone: no two messages of a text have the same base, even if two bodies have the same digest.
+//! `docs/RULES.md` states the rules in prose.
 //!
 //! ```rust
 //! use maildir_name::{Namer, Place};
@@ -19,6 +17,8 @@
 //! assert!(rt; first.place == Place::Cur);
 //! assert!(rt; first.name.as_str().ends_with(".1:2,S"));
 //! ```
+//!
+//! Errors: [`NameFault::OutOfMemory`] alone, if an allocation failed; the namer is then unchanged.
 #![tactic(auto)]
 
 mod fault;

@@ -1,9 +1,25 @@
-//! A Maildir as a run of the converter knows it, and what a run over it owes.
+//! A run of the converter: delivers the messages of a mailbox that are missing in a Maildir.
 //!
-//! [`Folder`] is a Maildir by its four calls. What a call may do to the files, and what other programs may do
-//! meanwhile, is said in `specs/Files.antt` and `specs/Calls.antt`; [`laws`] has what follows from that alone.
-//! [`plan`] answers the steps of a run for given lists and targets, and [`MemFolder`] is a folder in memory.
-//! [`convert`] is a run, [`rewrite`] and [`list_text`] show what a text is. `docs/ENGINE.md` tells the model in plain words.
+//! [`Folder`] is a Maildir by its four calls: list, write, place, remove. [`convert`] reads a source, lists the folder, removes
+//! what earlier runs left in `tmp`, and writes and places each message that has no file. [`plan`] returns these steps for
+//! given listings. [`rewrite`] and [`list_text`] write the messages of a source, or a table of them, to an output.
+//! [`MemFolder`] is a folder in memory.
+//!
+//! Proved of [`convert`], over any folder that does what [`Folder`] states, while mail readers move and flag messages: starting
+//! from a folder where each message is missing or correctly delivered, in one file of `new` or `cur` with exactly its bytes,
+//! every run leaves it so; after Ok each message of the text is delivered; after an error the next run goes on from there.
+//! [`laws`] has what any number of runs leaves; `docs/MODEL.md` states the model in prose.
+//!
+//! ```rust
+//! use maildir_run::{MemFolder, convert};
+//!
+//! let mut folder = MemFolder::new(alloc);
+//! let mut mailbox: &[u8] = b"From x\nabc";
+//! let report = convert(alloc, &mut folder, &mut mailbox, 1000)?;
+//! assert!(rt; report.messages == 1 && report.placed == 1);
+//! ```
+//!
+//! Errors: [`RunFault`] says why a run ended early, and [`FolderFault`] why a call of a folder failed.
 #![tactic(auto)]
 
 mod acting;
