@@ -38,9 +38,6 @@ run: $(PROGRAM)
 	cd $(MAILDIR) && ls -l new cur
 	$(PROGRAM) convert $(MAILDIR) $(MAILBOXES)
 
-# Where there are two processors, three checks go on at a time: else one is idle while the last edits are tried.
-LANES := $(if $(filter 2,$(shell nproc)),RT_JOBS=3)
-
 # The lines and the documents, the gate, and then the tests that run what it has built.
 test:
 	tests/layout
@@ -48,7 +45,7 @@ test:
 	tests/promises.py
 	tests/rooms.py
 	tests/documents
-	$(LANES) tests/apart rt ci
+	rt ci
 	mkdir -p build
 	cp $(CRATE)/out/mbox2maildir $(PROGRAM)
 	tests/run
