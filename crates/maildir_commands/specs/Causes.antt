@@ -14,7 +14,7 @@ use Rattle.maildir_commands.specs.declared.fault.Fault.TheVariants.{Source, Fold
 use Rattle.maildir_commands.specs.Faults.{fault_of_opening}
 use Rattle.maildir_commands.specs.Seen.{Seen}
 use Rattle.maildir_commands.specs.Words.{Request, files_of}
-use Rattle.maildir_commands.specs.Words.Request.{ToRewrite, ToList, ToConvert}
+use Rattle.maildir_commands.specs.Words.Request.{ToWrite, ToConvert}
 
 -- the text is no mbox text
 abbrev pub IsNoMbox : List ℕ → Type 0
@@ -52,8 +52,7 @@ IsOfDelivery before after (Run fault) = IsOfRun (IsPossibly before after) (Unit 
 
 -- a Maildir that is named is such
 abbrev pub IsInto : Request → (List ℕ → Type 0) → Type 0
-IsInto (ToRewrite file) P = ⊥
-IsInto (ToList file) P = ⊥
+IsInto (ToWrite form file) P = ⊥
 IsInto (ToConvert maildir files) P = P maildir
 
 -- a Maildir may be refused, which is told as this fault
