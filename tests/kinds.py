@@ -4,6 +4,7 @@ import os
 import re
 import resource
 import subprocess
+import threading
 
 from companion import A, ADMIN, B, MAY, expect, run
 
@@ -94,6 +95,25 @@ def kinds(home):
         path.write_bytes(text)
         tool = {"gz": "gzip"}.get(ending, ending)
         expect(["kind", path.name], home, 1, f"{path.name}: compressed by {tool}; next: {tool} -dk {path.name}\n")
+    # a program that delivers meanwhile
+    path = home / "busy"
+    path.write_bytes((A + b"\n" + b"hello\n" * 1_000_000 + b"\n") * 3)
+    ended = threading.Event()
+
+    def deliver():
+        with path.open("ab", 0) as box:
+            while not ended.wait(0.001):
+                box.write(B)
+
+    deliverer = threading.Thread(target=deliver)
+    deliverer.start()
+    try:
+        for words in (["kind"], ["quote", "--mboxrd"], ["verify", "Maildir"]):
+            expect([*words, "busy"], home, 1, "", "mbox2maildir-admin: busy: it changed while it was read: stop whoever writes to it\n")
+    finally:
+        ended.set()
+        deliverer.join()
+    path.unlink()
     (home / "Maildir/cur").mkdir(parents=True)
     (home / "-old.mbox").mkdir()
     os.mkfifo(home / "pipe")
