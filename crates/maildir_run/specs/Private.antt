@@ -18,3 +18,5 @@ pub mod Progress
 pub mod TableSoFar
 -- Whether half of a rename comes.
 pub mod Script
+-- How a call of the folder in memory begins.
+pub mod MemFolder

@@ -77,13 +77,15 @@ pub same_quietly : {A E : Type 0} (sub : Sub) {old : Files} (result : Result A E
 same_quietly sub (Ok x) same = (tt, same)
 same_quietly sub (Err e) same = ([], tt, same)
 
-listed_answered : {E : Type 0} (sub : Sub) (a b : Files) (outcome : Result (Vec (String Global) Global) E) (answer : Result (Vec (String Global) Global) FolderFault)
+listed_answered : {E : Type 0} (sub : Sub) (a b : Files)
+    (outcome : Result (Vec (String Global) Global) E) (answer : Result (Vec (String Global) Global) FolderFault)
     → IfOk outcome (λ names. answer ≡ Ok names) → OnErr outcome (IsErr answer) → Listed sub a outcome b → Listed sub a answer b
 listed_answered sub a b (Ok x) answer ok err h = rw ok h
 listed_answered sub a b (Err e) (Ok y) ok err h = cc
 listed_answered sub a b (Err e) (Err f) ok err h = h
 
-names_answered : {E : Type 0} (sub : Sub) (a : Files) (outcome : Result (Vec (String Global) Global) E) (answer : Result (Vec (String Global) Global) FolderFault)
+names_answered : {E : Type 0} (sub : Sub) (a : Files)
+    (outcome : Result (Vec (String Global) Global) E) (answer : Result (Vec (String Global) Global) FolderFault)
     → IfOk outcome (λ names. answer ≡ Ok names) → OnErr outcome (IsErr answer) → IfOk outcome (AreNames sub a) → IfOk answer (AreNames sub a)
 names_answered sub a (Ok x) answer ok err h = rw ok h
 names_answered sub a (Err e) (Ok y) ok err h = cc
