@@ -4,5 +4,7 @@ pub mod Cases
 pub mod MemSystem
 -- What a machine in memory has under a word.
 pub mod MemMachines
+-- Proofs of laws of the trait `Machine`, for the machine in memory.
+pub mod Laws
 -- Words of the contracts of private functions and of proofs. No public contract reaches them, and no reader need believe them.
 pub mod Private

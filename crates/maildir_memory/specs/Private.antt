@@ -2,5 +2,3 @@
 
 -- What a change adds to the cases of what a power cut may leave.
 pub mod Cases
--- Proofs of laws of the trait `Machine`, for the machine in memory.
-pub mod Laws

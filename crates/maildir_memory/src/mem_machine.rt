@@ -67,7 +67,7 @@ impl<'a> MemMachine<'a> {
 
 impl<'a> Machine for MemMachine<'a> {
     ghost use Rattle.maildir_memory.specs.MemMachines.{seen_in_memory};
-    ghost use Rattle.maildir_memory.specs.Private.Laws.{held_alike, held_may_stay};
+    ghost use Rattle.maildir_memory.specs.Laws.{held_alike, held_may_stay};
 
     type Source = &'a [u8];
 
