@@ -1,4 +1,4 @@
--- Maildirs in memory under their words, where one of them is taken or put back.
+-- The Maildirs of a machine in memory, when one of them is opened or closed.
 use Rattle.std.proofs.Common.{◌≡◌, ℕ, cond, List, Option, Some, None, Ok, Err, IsSome, IsTrue, String, rules, refl, sym, ap, subst, ◌∙◌, inl, inr}
 use Rattle.std.proofs.lemmas.Bool.{cases_Bool, false≢true}
 use Rattle.std.proofs.lemmas.Slice.Eq.{bytes_eq-Decides}
@@ -51,7 +51,7 @@ module _ {X : Type 0} (old new : BTreeMap (String X) (Option MemSystem)) (path :
   pub others_files : (word : List ℕ) → ¬ IsTrue (bytes_eq path word) → (held_under_word new word).files ≡ (held_under_word old word).files
   others_files word other = ap (λ found. (held_at found).files) (off_path word other)
 
-  -- ---- a Maildir that is not open is taken
+  -- ---- a Maildir is opened
   module _ (texts : List NamedText) (is_taken : slot ≡ None) where
     pub takes : {system : MemSystem} → get_by_text old path ≡ Some (Some system)
         → OpensMaildir open_in_memory path (Ok system) (seen_in_memory texts old) (seen_in_memory texts new)
@@ -72,7 +72,7 @@ module _ {X : Type 0} (old new : BTreeMap (String X) (Option MemSystem)) (path :
       others_quietly = λ q. others_files;
     }
 
-    -- it is open
+    -- the Maildir is open
     pub takes_none : get_by_text old path ≡ Some None
         → OpensMaildir open_in_memory path (Err Locked) (seen_in_memory texts old) (seen_in_memory texts new)
     takes_none is =
@@ -94,7 +94,7 @@ module _ {X : Type 0} (old new : BTreeMap (String X) (Option MemSystem)) (path :
           others_quietly = λ q. others_files;
         }
 
-  -- ---- a Maildir that is open is put back
+  -- ---- a Maildir is closed
   pub puts : (texts : List NamedText) {system : MemSystem} → slot ≡ Some system
       → ClosesMaildir path (open_in_memory system) (seen_in_memory texts old) (seen_in_memory texts new)
   puts texts {system} is_put =
@@ -108,7 +108,7 @@ module _ {X : Type 0} (old new : BTreeMap (String X) (Option MemSystem)) (path :
         others_quietly = λ q. others_files;
       }
 
--- ---- none is there
+-- ---- there is no Maildir
 module _ {X : Type 0} (texts : List NamedText) (old new : BTreeMap (String X) (Option MemSystem)) (path : List ℕ) (same : new ≡ old) where
   same_rests : (word : List ℕ) → Rests (held_under_word old word) (held_under_word new word)
   same_rests word = subst (λ maildirs. Rests (held_under_word old word) (held_under_word maildirs word)) (sym same) rest_same

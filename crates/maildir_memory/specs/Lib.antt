@@ -1,8 +1,8 @@
 -- The cases of what a power cut may leave of a Maildir in memory.
 pub mod Cases
--- What a Maildir in memory with a clock shows.
+-- What contracts see of a Maildir in memory.
 pub mod MemSystem
--- What a machine in memory has under a word.
+-- What a machine in memory has under each word.
 pub mod MemMachines
--- Words of the contracts of private functions and of proofs. No public contract reaches them, and no reader need believe them.
+-- Definitions for private functions and proofs. No public contract uses them, and no reader need believe them.
 pub mod Private

@@ -1,4 +1,4 @@
--- What a machine in memory has under a word.
+-- What a machine in memory has under each word.
 use Rattle.std.specs.Prelude.{◌≡◌, ℕ, Bool, true, false, List, [], ◌∷◌, Option, Some, None, String, IsSome, IsTrue, if◌then◌else◌}
 use Rattle.std.specs.BTreeMap.{BTreeMap, get_by_text}
 use Rattle.std.specs.Str.{bytes_eq}
@@ -12,7 +12,7 @@ use Rattle.maildir_memory.specs.declared.mem_machine.NamedText.{NamedText}
 use Rattle.maildir_commands.specs.Machines.{HeldMaildir, nothing_held}
 use Rattle.maildir_commands.specs.Seen.{OpenMaildir, SeenMachine}
 
--- the first text of this name, and none where no text has it
+-- the first text with this name, or no bytes if no text has it
 abbrev pub text_under : List NamedText → List ℕ → List ℕ
 text_under [] word = []
 text_under (named ∷ texts) word = if bytes_eq named.name.now word then named.text.now else text_under texts word
@@ -22,13 +22,13 @@ abbrev pub has_text : List NamedText → List ℕ → Bool
 has_text [] word = false
 has_text (named ∷ texts) word = if bytes_eq named.name.now word then true else has_text texts word
 
--- why the Maildir is refused: none is there, or it is open
+-- why a Maildir cannot be opened: there is none, or it is open
 abbrev pub IsRefusedAt : Option (Option MemSystem) → OpenFault → Type 0
 IsRefusedAt None fault = fault ≡ Folder Failed
 IsRefusedAt (Some None) fault = fault ≡ Locked
 IsRefusedAt (Some (Some _)) fault = ⊥
 
--- a Maildir in memory that is open
+-- what contracts see of an open Maildir in memory
 abbrev pub open_in_memory : MemSystem → OpenMaildir
 open_in_memory system = record {
   honest = IsQuiet system.folder;
@@ -36,7 +36,7 @@ open_in_memory system = record {
   held = record { files = (world_of system).files; may_leave = may_be_left system; rooted = IsTrue system.is_rooted };
 }
 
--- the Maildir that is there and not open
+-- what contracts see of a Maildir that is not open
 abbrev pub held_at : Option (Option MemSystem) → HeldMaildir
 held_at None = nothing_held
 held_at (Some None) = nothing_held
@@ -46,11 +46,11 @@ held_at (Some (Some system)) = (open_in_memory system).held
 abbrev pub held_under_word : {X : Type 0} → BTreeMap (String X) (Option MemSystem) → List ℕ → HeldMaildir
 held_under_word maildirs word = held_at (get_by_text maildirs word)
 
--- all of the Maildirs that are not open are so
+-- each Maildir that is not open has this property
 abbrev pub AreAll : {X : Type 0} → (MemSystem → Type 0) → BTreeMap (String X) (Option MemSystem) → Type 0
 AreAll P maildirs = (word : List ℕ) (system : MemSystem) → get_by_text maildirs word ≡ Some (Some system) → P system
 
--- what is seen of the machine with these texts and Maildirs
+-- what contracts see of the machine with these texts and Maildirs
 abbrev pub seen_in_memory : {X : Type 0} → List NamedText → BTreeMap (String X) (Option MemSystem) → SeenMachine
 seen_in_memory texts maildirs = record {
   honest = AreAll (λ system. IsQuiet system.folder) maildirs;

@@ -11,20 +11,20 @@ use std::collections::BTreeMap;
 use std::io;
 use std::io::ErrorKind;
 
-/// A text, with the word that names it.
+/// A text and its name.
 #[derive(Clone, Copy)]
 pub struct NamedText<'a> {
-    /// The word.
+    /// The name.
     pub name: &'a str,
     /// The text.
     pub text: &'a [u8],
 }
 
-/// A machine in memory, with texts and with Maildirs, each under its own word.
+/// A machine in memory, with texts and Maildirs, each under its own word.
 #[derive(Drop)]
 pub struct MemMachine<'a> {
     texts: &'a [NamedText<'a>],
-    // none while it is open
+    // None while it is open
     maildirs: BTreeMap<String, Option<MemSystem>>,
 }
 
@@ -40,7 +40,7 @@ impl<'a> MemMachine<'a> {
         }
     }
 
-    /// Puts a Maildir under a word.
+    /// Puts a Maildir under a word, in place of what was there.
     pub fn put(
         &mut self,
         word: String,
@@ -53,7 +53,7 @@ impl<'a> MemMachine<'a> {
         Ok(())
     }
 
-    /// The Maildir under a word.
+    /// The Maildir under a word, if there is one that is not open.
     pub fn maildir(&self, word: &str) -> Option<&MemSystem>
         ensures there { IfSome result (λ maildir. get_by_text self.now.maildirs word.now ≡ Some (Some maildir.now)) }
         ensures none { IsNone result → (maildir : MemSystem) → ¬ (get_by_text self.now.maildirs word.now ≡ Some (Some maildir)) }

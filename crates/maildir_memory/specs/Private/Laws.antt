@@ -9,7 +9,7 @@ use Rattle.maildir_commands.proofs.Resting.{same_at}
 use Rattle.maildir_memory.specs.declared.mem_system.MemSystem.{MemSystem}
 use Rattle.maildir_memory.specs.MemMachines.{held_at, held_under_word}
 
--- a power cut may leave its files as they are
+-- a power cut may leave the files as they are
 pub held_may_stay : (found : Option (Option MemSystem)) → (held_at found).may_leave (held_at found).files
 held_may_stay None = refl
 held_may_stay (Some None) = refl
