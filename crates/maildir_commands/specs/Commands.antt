@@ -62,6 +62,6 @@ Happens at maildir texts Readers old new =
     Rests ((at old).maildir_at maildir) ((at new).maildir_at maildir) × ((at old).honest → (at new).honest)
 Happens at maildir texts Cut old new = LeftByPowerCut ((at old).maildir_at maildir) ((at new).maildir_at maildir) × (at new).honest
 
--- any events, one after the other
+-- any sequence of events
 abbrev pub IsHistory : {M : Type 0} → (M → SeenMachine) → List ℕ → List Mailbox → List Event → M → M → Type 0
 IsHistory at maildir texts = Chain (Happens at maildir texts)

@@ -39,7 +39,7 @@ MayHaveHad (Some file) old after t = t ≡ old.machine.text_of file
 pub record WritesOut (output : List Entry → List ℕ) (file : Option (List ℕ)) (answer : Result Unit Fault) (old new : Seen) : Type 0 where
   -- with Ok all of it
   pub all : IsKnown file old → OnOk answer (WritesAll output (source_of file old) old.output new.output)
-  -- in any case a front
+  -- in any case a prefix
   pub front : IsKnown file old → (t : List ℕ) → MayHaveHad file old new.input t → WritesFront output t old.output new.output
   pub rests : old.machine.honest → (word : List ℕ) → Rests (old.machine.maildir_at word) (new.machine.maildir_at word)
   pub quietly : old.machine.quiet → (word : List ℕ) → (new.machine.maildir_at word).files ≡ (old.machine.maildir_at word).files

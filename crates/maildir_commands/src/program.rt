@@ -20,9 +20,9 @@ use maildir_run::{RunFault, list_text, rewrite};
 use std::alloc::Global;
 use std::io::{BufWriter, Read, Write};
 
-/// Does the program's work, and answers its status: 0 where it is done; 1 after a fault, and 2 where the words are
-/// of no form, each with one line on standard error. A fault in writing to standard error changes no status. What is
-/// written goes through the buffer, which holds nothing back after status 0.
+/// Does the program's work, and returns its status: 0 if it is done; 1 after a fault and 2 for wrong words, each with one
+/// line on standard error. A fault in writing to standard error changes no status. The output goes through the buffer, which
+/// is flushed after status 0.
 pub fn run<M: Machine, I: Read, W: Write + Drop, E: Write>(
     machine: &mut M,
     alloc: Global,
@@ -40,9 +40,9 @@ pub fn run<M: Machine, I: Read, W: Write + Drop, E: Write>(
     execute(machine, alloc, words, input, out, err).status()
 }
 
-/// Does the program's work, and tells how it ended: that it is done, the fault that ended it, or that the words are of no
-/// form; the latter two with one line on standard error, or a front of it. A fault in writing to standard error changes
-/// nothing else. What is written goes through the buffer, which holds nothing back once the work is done.
+/// Does the program's work, and returns how it ended: done, with a fault, or with wrong words; the latter two with one line
+/// on standard error, or a prefix of it. A fault in writing to standard error changes nothing else. The output goes through
+/// the buffer, which is flushed once the work is done.
 pub fn execute<M: Machine, I: Read, W: Write + Drop, E: Write>(
     machine: &mut M,
     alloc: Global,

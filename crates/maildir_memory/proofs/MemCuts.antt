@@ -1,4 +1,4 @@
--- A power cut of a Maildir in memory is one of those that the laws speak of.
+-- A power cut of a Maildir in memory is a power cut as the laws define it.
 use Rattle.std.proofs.Common.{◌≡◌, ◌⊎◌, ℕ, Bool, true, false, [], ◌∷◌, length, get_or, if◌then◌else◌, All, Contains, IsPermutation, IsTrue}
 use Rattle.std.proofs.Common.{Some, sym, subst, inl, inr}
 use Rattle.std.proofs.lemmas.Bool.{cases_lt}

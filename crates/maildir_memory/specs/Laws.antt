@@ -11,7 +11,7 @@ use Rattle.maildir_memory.specs.MemMachines.{AreAll, IsFresh, IsFreshQuietly, he
 use Rattle.maildir_memory.specs.MemSystem.{HasNoTurns}
 use Rattle.maildir_run.specs.MemFolder.{IsQuiet}
 
--- a power cut may leave its files as they are
+-- a power cut may leave the files as they are
 pub held_may_stay : (found : Option (Option MemSystem)) → (held_at found).may_leave (held_at found).files
 held_may_stay None = refl
 held_may_stay (Some None) = refl
