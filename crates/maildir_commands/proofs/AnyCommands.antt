@@ -182,7 +182,7 @@ module _ {M : Type 0} (seen : M → SeenMachine)
     goes_command : Goes texts (at old) (at new)
     goes_command = goes_ended ran.ran.ending ran.ran.status_is ran.ran.ran
 
-    -- and the machine does as assumed behind it
+    -- the machine does as assumed after it
     still_honest : (ending : Ending) → status ≡ status_of ending → Ran words ending was is ran.was.errors ran.is.errors → (seen new).honest
     still_honest Done ends (did, keeps) =
         let asks = did.form in

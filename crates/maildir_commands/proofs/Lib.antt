@@ -8,7 +8,7 @@ pub mod Delivered
 pub mod Forms
 -- What the delivery of one source owes, as the work goes on.
 pub mod Delivering
--- What is kept in a Maildir through a run, and through the sync behind it.
+-- What is kept in a Maildir through a run, and through the sync after it.
 pub mod Storing
 -- What is owed for a request, as the work goes on.
 pub mod Requests

@@ -17,7 +17,7 @@ pub one_report : {was is : Option (List ℕ)} (as_said : Report → Type 0) → 
 one_report {was} {is} as_said printed =
     (printed.report ∷ [], refl, subst (Appends was is) (sym (append-nil (report_line printed.report))) printed.line)
 
--- so many lines, and more behind them
+-- some lines, and more after them
 pub more_reports : (was mid is : Option (List ℕ)) {n m : ℕ} → PrintsReports was mid n → PrintsReports mid is m → PrintsReports was is (n + m)
 more_reports was mid is {n} (first, many, printed) (second, more, printed') = (
   first ++ second,

@@ -90,7 +90,7 @@ module _ (texts : List Mailbox) (are : All IsMailbox texts) where
   pub rest_all_safe : (old new : HeldMaildir) → Rests old new → AreAllSafe texts old → AreAllSafe texts new
   rest_all_safe old new rests safe k d below = safe_stay (rest_stays old new rests k d below) rests.found (safe k d below)
 
--- a Maildir that rests before the texts are delivered, and behind it
+-- a Maildir at rest before the texts are delivered, and after it
 pub rest_each : {texts : List Mailbox} → All IsMailbox texts → {old new : HeldMaildir} {was is : Option (List ℕ)}
     → Rests old new → PrintsEach new texts was is → PrintsEach old texts was is
 rest_each {texts} are {old} {new} rests prints = record {
@@ -318,7 +318,7 @@ bytes_at texts e {n} d x inside = sym (get_or-map (λ (text : Mailbox). text.byt
 pub no_text : Mailbox
 no_text = record { bytes = []; messages = [] }
 
--- the first text, and those behind it
+-- the first text, and those after it
 module _ {X : Type 0} (texts : List Mailbox) (text : List ℕ) (f : X → List ℕ) (rest : List X) (are : bytes_of texts ≡ text ∷ map f rest) where
   pub behind_length : length texts ≡ length rest + 1
   behind_length = bytes_length texts are ∙ (ap suc (length-map rest f) ∙ sym (add-one _))

@@ -1,4 +1,4 @@
--- What is kept in a Maildir through a run, and through the sync behind it.
+-- What is kept in a Maildir through a run, and through the sync after it.
 use Rattle.std.proofs.Common.{Result, IsErr, Ok, Err, IfOk}
 use Rattle.std.proofs.lemmas.Bool.{false≢true}
 use Rattle.maildir_run.specs.Cuts.{Follows}

@@ -20,6 +20,6 @@ output_of forms.List = table_of
 abbrev pub WritesAll : (List Entry → List ℕ) → Option (List ℕ) → Option (List ℕ) → Option (List ℕ) → Type 0
 WritesAll output source was is = (count : ℕ) × GivesAll output source was is count
 
--- a front was written of what belongs to the messages of the text, if it is an mbox text
+-- a prefix was written of what belongs to the messages of the text, if it is an mbox text
 abbrev pub WritesFront : (List Entry → List ℕ) → List ℕ → Option (List ℕ) → Option (List ℕ) → Type 0
 WritesFront output text was is = (entries : List Entry) → Mbox text entries → AppendsFront was is (output entries)

@@ -35,7 +35,7 @@ abbrev pub MayHaveHad : Option (List ℕ) → Seen → Option (List ℕ) → Lis
 MayHaveHad None old after t = Possible old.input after t
 MayHaveHad (Some file) old after t = t ≡ old.machine.text_of file
 
--- What belongs to the messages of a source's text was written, all of it or a front, and no Maildir was touched.
+-- What belongs to the messages of a source's text was written, all of it or a prefix, and no Maildir was touched.
 pub record WritesOut (output : List Entry → List ℕ) (file : Option (List ℕ)) (answer : Result Unit Fault) (old new : Seen) : Type 0 where
   -- with Ok all of it
   pub all : IsKnown file old → OnOk answer (WritesAll output (source_of file old) old.output new.output)

@@ -59,7 +59,7 @@ pub record PrintsEach (old : HeldMaildir) (texts : List Mailbox) (was is : Optio
   pub true_of : AreTrueOf old.files texts reports
   pub lines : Appends was is (flat_map report_line reports)
 
--- A front was written of the lines of true reports of some first texts, and each of these texts is in the Maildir, and survives a power cut.
+-- A prefix was written of the lines of true reports of some first texts, and each of these texts is in the Maildir, and survives a power cut.
 pub record PrintsSome (old new : HeldMaildir) (texts : List Mailbox) (was is : Option (List ℕ)) : Type 0 where
   pub n : ℕ
   pub reports : List Report

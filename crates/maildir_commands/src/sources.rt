@@ -86,7 +86,7 @@ fn deliver_one<S: System, I: Read, W: Write + Drop>(
 
 /// Delivers the messages of one source, by a run of its own, syncs the Maildir and then prints the run's line at once:
 /// each line that was printed stays true, whatever becomes of the next source, and through a power cut (this project's
-/// own rule). The fault is the run's, the sync's (the folder call behind the run's last, or want of memory), or
+/// own rule). The fault is the run's, the sync's (the folder call after the run's last, or `OutOfMemory`), or
 /// `OutputFault` where the line could not be written.
 pub fn deliver<S: System, I: Read, W: Write>(
     alloc: Global,

@@ -69,7 +69,7 @@ impl MemFolder {
     ///
     /// # Errors
     ///
-    /// [`FolderFault::OutOfMemory`] where a growth was refused; then all is as before.
+    /// [`FolderFault::OutOfMemory`] if an allocation failed; nothing is changed then.
     pub fn put(&mut self, sub: Sub, name: String, bytes: Vec<u8>) -> Result<(), FolderFault>
         ensures ok { OnOk result (files_of self.new ≡ with_file sub (string_bytes name) bytes.items
             (files_of self.old)) }
@@ -100,7 +100,7 @@ impl MemFolder {
     ///
     /// # Errors
     ///
-    /// [`FolderFault::OutOfMemory`] where a growth was refused; then all is as before.
+    /// [`FolderFault::OutOfMemory`] if an allocation failed; nothing is changed then.
     pub fn act(&mut self, act: &Act) -> Result<(), FolderFault>
         ensures ok { OnOk result (files_of self.new ≡ performed act.now (files_of self.old)) }
         ensures err { OnErr result (files_of self.new ≡ files_of self.old) }
@@ -117,7 +117,7 @@ impl MemFolder {
     ///
     /// # Errors
     ///
-    /// [`FolderFault::OutOfMemory`] where a growth was refused; then all is as before.
+    /// [`FolderFault::OutOfMemory`] if an allocation failed; nothing is changed then.
     pub fn act_half(&mut self, act: &Act) -> Result<(), FolderFault>
         ensures ok { OnOk result (files_of self.new ≡ half_performed act.now (files_of self.old)) }
         ensures err { OnErr result (files_of self.new ≡ files_of self.old) }
@@ -133,7 +133,7 @@ impl MemFolder {
     ///
     /// # Errors
     ///
-    /// [`FolderFault::OutOfMemory`] where a growth was refused.
+    /// [`FolderFault::OutOfMemory`] if an allocation failed.
     pub fn copy(&self) -> Result<MemFolder, FolderFault>
         ensures files { IfOk result (λ copy. files_of copy ≡ files_of self.now) }
         ensures calls { IfOk result (λ copy. call_count copy ≡ 0) }

@@ -27,7 +27,7 @@ with_bodies-push [] (b ∷ bodies) t body e = absurd (omega arith)
 with_bodies-push (x ∷ ts) [] t body e = absurd (omega arith)
 with_bodies-push (x ∷ ts) (b ∷ bodies) t body e = ap (λ ms. record { target = x; body = b } ∷ ms) (with_bodies-push ts bodies t body (omega arith))
 
--- one more body adds one message, behind the others
+-- one more body adds one message, after the others
 module _ (bodies : List (List ℕ)) where
   pub messages_of-push : (body : List ℕ) → messages_of (bodies ++ body ∷ []) ≡ messages_of bodies ++ record { target = target bodies body; body = body } ∷ []
   messages_of-push body =

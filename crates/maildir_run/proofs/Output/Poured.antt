@@ -9,7 +9,7 @@ use Rattle.std.specs.Io.KnownBytes.{Keeps}
 use Rattle.maildir_run.proofs.Source.Givens.{read_nothing, refused_front, given-from_lines, read_is, gave_more, gave_refused, given_front, broken_front}
 use Rattle.maildir_run.specs.Output.{GivesAll, GivesFront, GivesNothing, WritesMessages}
 
--- what is written for the first messages is a front of what is written for all
+-- what is written for the first messages is a prefix of what is written for all
 pub record IsOutput (output : List Entry → List ℕ) : Type 0 where
   pub none : output [] ≡ []
   pub front : (a b : List Entry) → (rest : List ℕ) × (output (a ++ b) ≡ output a ++ rest)

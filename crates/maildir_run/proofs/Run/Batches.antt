@@ -4,7 +4,7 @@ use Rattle.std.proofs.Common.{arith, length-append, append_assoc, append-nil, ta
 use Rattle.maildir_run.proofs.Common.{take_more, map-append, length-map, nil_from_length, Entry, target, messages_of, bodies_of, message_at, messages_after}
 use Rattle.maildir_run.proofs.Chains.MessageLemmas.{messages_of-push, length-messages_of}
 
--- more bodies give more messages behind
+-- more bodies add messages after the others
 pub no_messages : messages_of [] ≡ []
 no_messages = nil_from_length (messages_of []) (length-messages_of [])
 

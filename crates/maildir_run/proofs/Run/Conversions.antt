@@ -20,7 +20,7 @@ module _ (before now : Option (List ℕ)) (reads : ℕ) (old new : Seen) (r : Re
       → Performed (run_tasks names (messages_of (bodies_of given))) old new begun made (Some fault) → Conversion before now reads old new r
   stops refused cause untouched given front names few begun made none ran = grind (arith, err_from_is_err_and r is)
 
-  -- which a folder call gave, or a growth
+  -- the fault of a folder call, or of an allocation
   pub stops_in_folder : IsOfFolder fault → (given : List Entry) → IsFrontOf before now reads given
       → (names : Listings) → length names.tmp < 2 ^ 64 → (begun made : ℕ) → begun ≡ 0
       → Performed (run_tasks names (messages_of (bodies_of given))) old new begun made (Some fault) → Conversion before now reads old new r

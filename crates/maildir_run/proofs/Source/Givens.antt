@@ -14,7 +14,7 @@ consumed {now} {had} {left} text e f read =
     let at_end : Consumes (Some had) (Some left) text = rw f at at_start in
     at_end
 
--- what was read is the front of each possible text
+-- what was read is a prefix of each possible text
 pub read_is : (before now : Option (List ℕ)) (text t : List ℕ) → Consumes before now text → (p : Possible before now t) → p.read ≡ text
 read_is before now text t read p =
     append_cancel_right p.read text p.left (consumed text p.had p.has read)
@@ -81,7 +81,7 @@ given_front true before now splitter left reads given p = record {
 pub front_few : {before now : Option (List ℕ)} {reads : ℕ} {given : List Entry} → IsFrontOf before now reads given → length given ≤ 65536 * reads
 front_few front = omega (arith, front.few, front.budget)
 
--- a read was refused behind these messages
+-- a read failed after these messages
 pub broken_front : {before mid now : Option (List ℕ)} (old : Reader) {reads : ℕ} {given : List Entry} {fault : RunFault}
     → Gave before mid old.splitter old.reads_left reads given → Breaks old mid now fault → IsFrontOf before now reads given
 broken_front {before} {mid} {now} old {given = given} p b =

@@ -20,7 +20,7 @@ pub fault_is : {T : Type 0} (r : Result T RunFault) {fault named : RunFault} →
 fault_is (Ok x) h e = absurd (cc)
 fault_is (Err x) {named} h e = let same : x ≡ named = cc in sym h ∙ same
 
--- ---- the fault of a read, or of a growth
+-- ---- the fault of a read, or of an allocation
 pub at_reading : (P : RunFault → Type 0) → P NoFromLine → P ReadFault → P TooManyReads → P OutOfMemory → {fault : RunFault} → IsReading fault → P fault
 at_reading P a b c d (inl e) = subst P (sym e) a
 at_reading P a b c d (inr (inl e)) = subst P (sym e) b

@@ -70,7 +70,7 @@ pub record ReportsTasks (names : Listings) (ms : List Message) (report : Report)
   pub placed : 2 * report.placed ≡ length (deliveries_of (is_listed names.new names.cur) ms)
   pub swept : report.swept ≡ length (sweep_of names.tmp)
 
--- A run was given these first messages of its source, all of them with Ok, and performed the tasks of a run over them: all with Ok, and with a fault a front.
+-- A run was given these first messages of its source, all of them with Ok, and performed the tasks of a run over them: all with Ok, else a prefix.
 pub record Conversion (before now : Option (List ℕ)) (reads : ℕ) (old new : Seen) (result : Result Report RunFault) : Type 0 where
   pub given : List Entry
   pub front : IsFrontOf before now reads given
