@@ -15,7 +15,7 @@ use Rattle.maildir_commands.specs.Report.{IsReportOf, PrintsReport, PrintsReport
 use Rattle.maildir_commands.specs.Seen.{SeenMachine}
 use Rattle.maildir_commands.specs.Sources.{SeenMaildir}
 
--- The line of a true report of the text was written, or a front of it, and the text is in the Maildir, and survives a power cut.
+-- The line of a true report of the text was written, or a prefix of it; the text is in the Maildir, and survives a power cut.
 pub record PrintsOne (old new : HeldMaildir) (text : Mailbox) (was is : Option (List ℕ)) : Type 0 where
   pub report : Report
   pub true_of : IsReportOf (has_home old.files) (leftover_count old.files) text report

@@ -10,7 +10,7 @@ pub record HasListed (given : List Entry) (namer : Counts) (count : ℕ) : Type 
   pub named : Named (map (λ entry. entry.body) given) namer
   pub count_is : count ≡ length given
 
--- With Ok these messages were listed too, behind any that were listed before. Their lines were written, and a front of them after a refusal.
+-- With Ok these messages were listed too, after any that were listed before. Their lines were written, or a prefix of them after a fault.
 abbrev pub ListsMore : {E : Type 0} → Counts → ℕ → List Entry → Option (List ℕ) → Option (List ℕ) → Result (Unit {0}) E → Counts → ℕ → Type 0
 ListsMore namer count entries was is result namer' count' =
     (given : List Entry) → HasListed given namer count → length (given ++ entries) < 2 ^ 63
