@@ -4,7 +4,7 @@
 complete --erase --command mbox2maildir
 complete --erase --command mbox2maildir-admin
 
-# how many words stand on the line behind the first two, without options
+# how many words stand on the line after the first two, without options
 function __mbox2maildir_operands
     set -l words (commandline --tokenize --cut-at-cursor --current-process)
     set -l skip 0
@@ -40,11 +40,11 @@ complete -c mbox2maildir -n '__mbox2maildir_at convert 0 0' -a '(__fish_complete
 complete -c mbox2maildir -n '__mbox2maildir_at convert 1 9999; or __mbox2maildir_at list 0 0; or __mbox2maildir_at rewrite 0 0' -F
 
 complete -c mbox2maildir-admin -f
-complete -c mbox2maildir-admin -l help -d 'tell of the word'
-complete -c mbox2maildir-admin -n __mbox2maildir_first -a kind -d 'tell what files are, and what to do first'
+complete -c mbox2maildir-admin -l help -d 'print help'
+complete -c mbox2maildir-admin -n __mbox2maildir_first -a kind -d 'say what files are, and what to do first'
 complete -c mbox2maildir-admin -n __mbox2maildir_first -a quote -d 'write a quoted copy of a mailbox'
 complete -c mbox2maildir-admin -n __mbox2maildir_first -a dates -d 'give converted files the dates of their From_ lines'
-complete -c mbox2maildir-admin -n __mbox2maildir_first -a folders -d 'tell the folder of each mailbox below a folder'
+complete -c mbox2maildir-admin -n __mbox2maildir_first -a folders -d 'print the folder of each mailbox below a folder'
 complete -c mbox2maildir-admin -n __mbox2maildir_first -a verify -d 'look whether each message is in the Maildir'
 complete -c mbox2maildir-admin -n '__mbox2maildir_at kind 0 9999; or __mbox2maildir_at quote 0 0' -F
 complete -c mbox2maildir-admin -n '__mbox2maildir_at dates 1 9999; or __mbox2maildir_at verify 1 9999' -F

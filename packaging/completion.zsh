@@ -20,10 +20,10 @@ _mbox2maildir_program() {
 _mbox2maildir_admin() {
     local -a offered
     offered=(
-        'kind:tell what files are, and what to do first'
+        'kind:say what files are, and what to do first'
         'quote:write a quoted copy of a mailbox'
         'dates:give converted files the dates of their From_ lines'
-        'folders:tell the folder of each mailbox below a folder'
+        'folders:print the folder of each mailbox below a folder'
         'verify:look whether each message is in the Maildir'
     )
     if ((CURRENT == 2)); then
@@ -34,9 +34,9 @@ _mbox2maildir_admin() {
     shift words
     ((CURRENT--))
     case $word in
-        kind) _arguments '--help[tell of the word]' '*:mailbox:_files' ;;
+        kind) _arguments '--help[print help]' '*:mailbox:_files' ;;
         quote)
-            _arguments '--help[tell of the word]' '(-o --output)'{-o,--output}'[name of the copy]:copy:_files' \
+            _arguments '--help[print help]' '(-o --output)'{-o,--output}'[name of the copy]:copy:_files' \
                 '(--mboxo --mboxrd --line)--no-lengths[quote lines without a date at their end]' \
                 '--all[quote >From too]' \
                 '(--no-lengths --mboxrd --line)--mboxo[quote >>From alone]' \
@@ -44,12 +44,12 @@ _mbox2maildir_admin() {
                 '(--no-lengths --mboxo --mboxrd)*--line[quote this line alone]:line' \
                 '(--cr)--crlf[write CR LF as LF]' '(--crlf)--cr[write CR as LF]' ':mailbox:_files'
             ;;
-        dates) _arguments '--help[tell of the word]' '--header[take the date of the header Date]' ':Maildir:_path_files -/' '*:mailbox:_files' ;;
+        dates) _arguments '--help[print help]' '--header[take the date of the header Date]' ':Maildir:_path_files -/' '*:mailbox:_files' ;;
         folders)
-            _arguments '--help[tell of the word]' '--jobs[how many commands run at a time]:number' ':Maildir:_path_files -/' \
+            _arguments '--help[print help]' '--jobs[how many commands run at a time]:number' ':Maildir:_path_files -/' \
                 ':old folder:_path_files -/' ':command: _command_names -e' '*::arguments:_normal'
             ;;
-        verify) _arguments '--help[tell of the word]' ':Maildir:_path_files -/' '*:mailbox:_files' ;;
+        verify) _arguments '--help[print help]' ':Maildir:_path_files -/' '*:mailbox:_files' ;;
     esac
 }
 

@@ -24,7 +24,7 @@ use Rattle.maildir_commands.specs.Machines.{AreAt, AreFit, AreAllSafe, GivesText
 use Rattle.maildir_commands.specs.Program.{Delivers, Does, Ran}
 use Rattle.maildir_commands.specs.Seen.{Seen, SeenMachine, seen_at}
 use Rattle.maildir_commands.specs.Words.{Request}
-use Rattle.maildir_commands.specs.Words.Request.{ToRewrite, ToList, ToConvert}
+use Rattle.maildir_commands.specs.Words.Request.{ToWrite, ToConvert}
 use Rattle.maildir_commands.proofs.Endings.{one_no_zero, two_no_zero}
 use Rattle.maildir_commands.proofs.Known.{swept_rests}
 use Rattle.maildir_commands.proofs.Resting.{rest_same}
@@ -95,7 +95,8 @@ module _ (texts : List Mailbox) (fit : AreFit texts) (old new : HeldMaildir) (so
           (missing_intact (get_or (get_or texts k d).messages j e) no_files (none_at_all (get_or (get_or texts k d).messages j e)))
     ]
 
-    later_holds : (m : Message) → IsTrue (is_converter_base m.target.base) → (later : Files) → new.may_leave later → SteadyAt m.target.base m.body cut.left later
+    later_holds : (m : Message) → IsTrue (is_converter_base m.target.base) → (later : Files) → new.may_leave later
+        → SteadyAt m.target.base m.body cut.left later
     later_holds m named later may =
         steady_kept m.target.base m.body cut.left later
         (IsPermutation-trans _ _ _ (cut.found.kept m.target.base named) ((cut.stays later may).kept m.target.base named))
@@ -160,8 +161,7 @@ module _ {M : Type 0} (seen : M → SeenMachine)
 
     goes_doing : (request : Request) (answer : Result Unit Fault) → Does request answer was is
         → IsToDeliver maildir texts named was ran.is.input request → Goes texts (at old) (at new)
-    goes_doing (ToRewrite file) answer does none = goes_resting texts fit (at old) (at new) sound (does.works.rests h maildir)
-    goes_doing (ToList file) answer does none = goes_resting texts fit (at old) (at new) sound (does.works.rests h maildir)
+    goes_doing (ToWrite form file) answer does none = goes_resting texts fit (at old) (at new) sound (does.works.rests h maildir)
     goes_doing (ToConvert into files) answer does (inl (same, among, given)) =
         let goes = goes_into into files named among answer was is h given does (sound_into into same) in
         goes_then (goes_resting texts fit (at old) ((seen old).maildir_at into) sound (alike old into maildir same).1)
@@ -195,20 +195,22 @@ module _ {M : Type 0} (seen : M → SeenMachine)
 
     -- with status 0
     no_text_safe : named ≡ [] → All (Contains texts) named × AreAllSafe named (at new)
-    no_text_safe none = subst (λ these. All (Contains texts) these × AreAllSafe these (at new)) (sym none) (All-nil (Contains texts), All-nil (IsSafeIn (at new)))
+    no_text_safe none =
+        subst (λ these. All (Contains texts) these × AreAllSafe these (at new)) (sym none) (All-nil (Contains texts), All-nil (IsSafeIn (at new)))
 
     safe_doing : (request : Request) → Does request (Ok tt) was is
         → IsToDeliver maildir texts named was ran.is.input request → All (Contains texts) named × AreAllSafe named (at new)
-    safe_doing (ToRewrite file) does none = no_text_safe none
-    safe_doing (ToList file) does none = no_text_safe none
+    safe_doing (ToWrite form file) does none = no_text_safe none
     safe_doing (ToConvert into files) does (inl (same, among, given)) = (
       among,
-      rest_all_safe named (all_among texts named among IsMailbox fit.are) ((seen new).maildir_at into) (at new) (alike new into maildir (still old new into maildir same)).0
+      rest_all_safe named (all_among texts named among IsMailbox fit.are) ((seen new).maildir_at into) (at new)
+          (alike new into maildir (still old new into maildir same)).0
           (delivers into files named among (Ok tt) was is h given does (sound_into into same)).safe,
     )
     safe_doing (ToConvert into files) does (inr (other, none)) = no_text_safe none
 
-    safe_ended : (ending : Ending) → 0 ≡ status_of ending → Ran words ending was is ran.was.errors ran.is.errors → All (Contains texts) named × AreAllSafe named (at new)
+    safe_ended : (ending : Ending) → 0 ≡ status_of ending → Ran words ending was is ran.was.errors ran.is.errors
+        → All (Contains texts) named × AreAllSafe named (at new)
     safe_ended Done ends (did, keeps) =
         let asks = did.form in
         safe_doing asks.0 (did.does asks.0 asks.1) (ran.delivers asks.0 asks.1)
@@ -217,8 +219,7 @@ module _ {M : Type 0} (seen : M → SeenMachine)
 
     swept_doing : (request : Request) → Does request (Ok tt) was is
         → IsToDeliver maildir texts named was ran.is.input request → 0 < length named → IsSwept (at new).files
-    swept_doing (ToRewrite file) does none some = absurd (none_named none some)
-    swept_doing (ToList file) does none some = absurd (none_named none some)
+    swept_doing (ToWrite form file) does none some = absurd (none_named none some)
     swept_doing (ToConvert into files) does (inl (same, among, given)) some =
         swept_rests ((seen new).maildir_at into) (at new) (alike new into maildir (still old new into maildir same)).0
         (delivers into files named among (Ok tt) was is h given does (sound_into into same)).swept

@@ -12,8 +12,8 @@ use Rattle.maildir_disk.specs.PowerCuts.{AreAlike}
 use Rattle.maildir_commands.specs.declared.fault.Fault.{Fault}
 use Rattle.maildir_commands.specs.declared.fault.Fault.TheVariants.{Run}
 use Rattle.maildir_commands.specs.Machines.{IsSoundFor}
-use Rattle.maildir_commands.specs.Private.Report.{DeliversOne}
-use Rattle.maildir_commands.specs.Report.{PrintsOne, PrintsReport, report_line}
+use Rattle.maildir_commands.specs.Private.Report.{PrintsOne, DeliversOne}
+use Rattle.maildir_commands.specs.Report.{PrintsReport, report_line}
 use Rattle.maildir_commands.specs.Sources.{DeliversSource, KeepsSource, SeenMaildir, StopsSource, StoresSource}
 use Rattle.maildir_commands.proofs.Causes.{of_output, output_no_call}
 use Rattle.maildir_commands.proofs.Known.{of_reports}

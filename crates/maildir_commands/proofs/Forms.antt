@@ -1,7 +1,9 @@
 -- What the words ask for.
 use Rattle.std.proofs.Common.{◌≡◌, ◌==◌, if◌then◌else◌, ℕ, List, [], ◌∷◌, length, map, get_or, Option, Some, None, refl, sym, ap, ◌∙◌, inl, inr}
+use Rattle.maildir_commands.specs.declared.command.Form.TheVariants as forms
+use Rattle.maildir_commands.specs.declared.command.Form.TheVariants.{Regular}
 use Rattle.maildir_commands.specs.Words.{AskFor, Request}
-use Rattle.maildir_commands.specs.Words.Request.{ToRewrite, ToList, ToConvert}
+use Rattle.maildir_commands.specs.Words.Request.{ToWrite, ToConvert}
 
 map_both : {X : Type 0} (f : List ℕ → List ℕ) (g : X → List ℕ) (xs : List X) → map f (map g xs) ≡ map (λ x. f (g x)) xs
 map_both f g [] = refl
@@ -21,20 +23,20 @@ first [] = None
 first (word ∷ rest) = Some word
 
 abbrev into : List (List ℕ) → Request
-into [] = ToRewrite None
+into [] = ToWrite Regular None
 into (maildir ∷ files) = ToConvert maildir files
 
 abbrev asked : List (List ℕ) → Request
-asked [] = ToRewrite None
+asked [] = ToWrite Regular None
 asked (word ∷ rest) =
-    if get_or word 0 0 == 114 then ToRewrite (first rest) else (if get_or word 0 0 == 108 then ToList (first rest) else into rest)
+    if get_or word 0 0 == 114 then ToWrite Regular (first rest) else (if get_or word 0 0 == 108 then ToWrite forms.List (first rest) else into rest)
 
 asked_is : (words : List (List ℕ)) (request : Request) → AskFor words request → asked words ≡ request
-asked_is words (ToRewrite None) (inl is) = ap asked is
-asked_is words (ToRewrite None) (inr is) = ap asked is
-asked_is words (ToRewrite (Some file)) is = ap asked is
-asked_is words (ToList None) is = ap asked is
-asked_is words (ToList (Some file)) is = ap asked is
+asked_is words (ToWrite Regular None) (inl is) = ap asked is
+asked_is words (ToWrite Regular None) (inr is) = ap asked is
+asked_is words (ToWrite Regular (Some file)) is = ap asked is
+asked_is words (ToWrite forms.List None) is = ap asked is
+asked_is words (ToWrite forms.List (Some file)) is = ap asked is
 asked_is words (ToConvert maildir files) is = ap asked is
 
 pub one_request : (words : List (List ℕ)) (request other : Request) → AskFor words request → AskFor words other → request ≡ other

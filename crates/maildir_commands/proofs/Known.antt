@@ -1,5 +1,6 @@
 -- Which bases have a home, from one moment to another.
-use Rattle.std.proofs.Common.{◌≡◌, ℕ, ◌+◌, ◌-◌, ◌≤◌, ◌||◌, Bool, cond, List, [], ◌∷◌, ◌++◌, length, All, IsTrue, None, Ok, count_by, refl, sym, ap, subst, ◌∙◌, inl, inr, arith}
+use Rattle.std.proofs.Common.{◌≡◌, ℕ, ◌+◌, ◌-◌, ◌≤◌, ◌||◌, Bool, cond, List, [], ◌∷◌, ◌++◌, length, All, IsTrue, None, Ok, count_by}
+use Rattle.std.proofs.Common.{refl, sym, ap, subst, ◌∙◌, inl, inr, arith}
 use Rattle.std.proofs.lemmas.Bool.{cases_Bool}
 use Rattle.std.proofs.lemmas.List.Elements.{All-head, All-tail}
 use Rattle.std.proofs.lemmas.List.Folds.{Any-from_list_any}
@@ -124,7 +125,8 @@ reports_more has left (first ∷ texts) (other ∷ reports) {text} {report} (one
 -- ---- leftovers: other programs bring none
 pub swept_none : (s : Files) → IsSwept s → leftover_count s ≡ 0
 swept_none s gone =
-    let none : retain_keys s.tmp is_converter_name ≡ empty = same_map total same _ _ (λ q. grind (arith, get_under, gone q, get-empty {X = List ℕ} name_cmp q)) in
+    let none : retain_keys s.tmp is_converter_name ≡ empty =
+    same_map total same _ _ (λ q. grind (arith, get_under, gone q, get-empty {X = List ℕ} name_cmp q)) in
     leftovers_are s.tmp ∙ ap len none ∙ len-empty name_cmp (List ℕ)
 
 few_left : (actions : List Action) (s : Files) → leftover_count (all_acted actions s) ≤ leftover_count s

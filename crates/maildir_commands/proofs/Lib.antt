@@ -24,5 +24,3 @@ pub mod Output
 pub mod Resting
 -- What any commands leave of a Maildir that follow one another.
 pub mod AnyCommands
--- What follows from the contracts of `run` and `deliver`.
-pub mod Follows

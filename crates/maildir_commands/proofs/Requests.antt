@@ -1,30 +1,27 @@
 -- What is owed for a request, as the work goes on.
-use Rattle.std.proofs.Common.{◌≡◌, ◌⊎◌, ◌^◌, IsOk, ℕ, List, [], ◌∷◌, Option, Some, None, Result, Ok, Err, IsErrAnd, OnOk, IfErr, refl, sym, subst}
+use Rattle.std.proofs.Common.{◌≡◌, ◌⊎◌, ◌^◌, IsOk, ℕ, List, [], ◌∷◌, Option, Some, None, Result, Ok, Err, IsErrAnd, OnOk, IfErr, refl, sym, ap, subst}
 use Rattle.std.proofs.KnownBytes.{Keeps-refl}
 use denote.Ref.{Bor}
-use Rattle.std.specs.Io.KnownBytes.{IsAtEnd, Keeps}
+use Rattle.std.specs.Io.KnownBytes.{Keeps}
 use Rattle.std.specs.Result.{result_and}
-use Rattle.std.specs.List.{flat_map}
 use Rattle.mbox_text.specs.declared.entry.Entry.{Entry}
-use Rattle.mbox_text.specs.Spelling.{spelling}
 use Rattle.maildir_run.specs.declared.fault.RunFault.{RunFault}
 use Rattle.maildir_run.specs.declared.fault.RunFault.TheVariants as run
-use Rattle.maildir_run.specs.Output.{GivesAll, GivesFront, GivesNothing}
-use Rattle.maildir_run.specs.Reading.{IsReading, ReadsAtLeast, ReadsAtMost}
+use Rattle.maildir_run.specs.Output.{WritesMessages}
 use Rattle.maildir_run.specs.Several.{Mailbox}
-use Rattle.maildir_run.specs.Table.{table_of}
 use Rattle.maildir_commands.specs.declared.command.Command.{Command}
+use Rattle.maildir_commands.specs.declared.command.Form.{Form}
 use Rattle.maildir_commands.specs.declared.fault.Fault.{Fault}
 use Rattle.maildir_commands.specs.declared.fault.Fault.TheVariants.{Source, Run}
 use Rattle.maildir_commands.specs.Causes.{IsCauseOf}
 use Rattle.maildir_commands.specs.Machines.{HeldMaildir, Rests}
-use Rattle.maildir_commands.specs.Output.{WritesAll, WritesFront}
+use Rattle.maildir_commands.specs.Output.{WritesAll, WritesFront, output_of}
 use Rattle.maildir_commands.specs.Opening.{OpensSources}
 use Rattle.maildir_commands.specs.Private.Words.{name_of, request}
 use Rattle.maildir_commands.specs.Program.{Delivers, Did, Does, Works, WritesOut, source_of}
 use Rattle.maildir_commands.specs.Seen.{Seen, SeenMachine, seen_with}
 use Rattle.maildir_commands.specs.Words.{AskFor, Request, files_of}
-use Rattle.maildir_commands.specs.Words.Request.{ToRewrite, ToList, ToConvert}
+use Rattle.maildir_commands.specs.Words.Request.{ToWrite, ToConvert}
 use Rattle.maildir_commands.proofs.Causes.{of_opening, of_read_file, of_read_input, of_reads}
 use Rattle.maildir_commands.proofs.Delivered.{none_delivered}
 use Rattle.maildir_commands.proofs.Forms.{one_request}
@@ -39,9 +36,9 @@ ended (Ok x) is does = absurd is
 ended {request} {old} {new} (Err e) is does = subst (λ fault. Does request (Err fault) old new) (sym is) does
 
 -- of the file that is named, or of none
-pub asked_as : {file : Option (Bor (List ℕ))} {this : Option (Bor (List ℕ))} (asks : Option (List ℕ) → Request) {answer : Result Unit Fault} {old new : Seen}
-    → file ≡ this → Does (asks (name_of this)) answer old new → Does (asks (name_of file)) answer old new
-asked_as asks {answer} {old} {new} is = subst (λ file. Does (asks (name_of file)) answer old new) (sym is)
+pub asked_as : {form : Form} {file this : Option (Bor (List ℕ))} {answer : Result Unit Fault} {old new : Seen}
+    → file ≡ this → Does (ToWrite form (name_of this)) answer old new → Does (ToWrite form (name_of file)) answer old new
+asked_as {form} {answer = answer} {old} {new} is = subst (λ file. Does (ToWrite form (name_of file)) answer old new) (sym is)
 
 pub named_as : {maildir : List ℕ} {names these : List (List ℕ)} {answer : Result Unit Fault} {old new : Seen}
     → names ≡ these → Does (ToConvert maildir these) answer old new → Does (ToConvert maildir names) answer old new
@@ -60,87 +57,91 @@ did_all {words} {request} {answer} {old} {new} asks does = record {
 }
 
 -- ---- a text is written
--- by the function behind this request, from standard input
-module _ (request : Request) (output : List Entry → List ℕ) (none : files_of request ≡ [])
-    (works : (answer : Result Unit Fault) (old new : Seen) → WritesOut output None answer old new → Works request answer old new)
-    (machine : SeenMachine) (before after was is : Option (List ℕ)) where
-  pub input_stopped : (fault : RunFault) → IsReading fault ⊎ (fault ≡ run.OutputFault)
-      → (fault ≡ run.NoFromLine → GivesNothing before after was is) → (fault ≡ run.TooManyReads → ReadsAtLeast before after (2 ^ 40))
-      → GivesFront output before after was is → Does request (Err (Run fault)) (seen_with machine before was) (seen_with machine after is)
-  input_stopped fault causes nothing spent front = record {
-    works = works _ _ _ (record { all = λ h. tt; front = λ h t possible entries mbox. front t entries possible mbox; rests = λ h word. rest_same; quietly = λ q word. refl });
-    cause = λ h. of_read_input request (seen_with machine before was) after none fault (of_reads was is causes nothing spent);
-    unread = λ named. absurd (named none);
+pub of_form : {form this : Form} {before after was is : Option (List ℕ)} {reads : ℕ} {answer : Result ℕ RunFault} → form ≡ this
+    → WritesMessages (output_of this) before after was is reads answer → WritesMessages (output_of form) before after was is reads answer
+of_form {before = before} {after} {was} {is} {reads} {answer} same =
+    subst (λ form. WritesMessages (output_of form) before after was is reads answer) (sym same)
+
+-- from standard input
+module _ (form : Form) (machine : SeenMachine) (before after was is : Option (List ℕ)) where
+  pub input_stopped : (fault : RunFault) → WritesMessages (output_of form) before after was is (2 ^ 40) (Err fault)
+      → Does (ToWrite form None) (Err (Run fault)) (seen_with machine before was) (seen_with machine after is)
+  input_stopped fault did = record {
+    works = record {
+      all = λ h. tt;
+      front = λ h t possible entries mbox. did.front t entries possible mbox;
+      rests = λ h word. rest_same;
+      quietly = λ q word. refl;
+    };
+    cause = λ h. of_read_input (ToWrite form None) (seen_with machine before was) after refl fault
+        (of_reads was is did.causes (λ e. did.no_from_line (ap Err e)) (λ e. did.spent (ap Err e)));
+    unread = λ named. absurd (named refl);
     texts = λ h. refl;
     honest = λ h. tt;
   }
 
-  pub input_done : (count : ℕ) → GivesAll output before was is count → IsAtEnd after
-      → Does request (Ok tt) (seen_with machine before was) (seen_with machine after is)
-  input_done count all end = record {
-    works = works _ _ _ (record {
-      all = λ h. (count, all);
-      front = λ h t possible entries mbox. all_given output before after was is is (Keeps-refl is) end (count, all) t entries possible mbox;
+  pub input_done : (count : ℕ) → WritesMessages (output_of form) before after was is (2 ^ 40) (Ok count)
+      → Does (ToWrite form None) (Ok tt) (seen_with machine before was) (seen_with machine after is)
+  input_done count did = record {
+    works = record {
+      all = λ h. (count, did.all);
+      front = λ h t possible entries mbox.
+          all_given (output_of form) before after was is is (Keeps-refl is) did.end (count, did.all) t entries possible mbox;
       rests = λ h word. rest_same;
       quietly = λ q word. refl;
-    });
+    };
     cause = λ h. tt;
-    unread = λ named. absurd (named none);
+    unread = λ named. absurd (named refl);
     texts = λ h. refl;
     honest = λ h. h;
   }
 
 -- and from a file
-module _ (request : Request) (output : List Entry → List ℕ) (file : List ℕ) (named : files_of request ≡ file ∷ [])
-    (works : (answer : Result Unit Fault) (old new : Seen) → WritesOut output (Some file) answer old new → Works request answer old new)
-    (old new : SeenMachine) (opens : OpensSources old new) (input : Option (List ℕ)) where
+module _ (form : Form) (file : List ℕ) (old new : SeenMachine) (opens : OpensSources old new) (input : Option (List ℕ)) where
   pub not_opened : (was : Option (List ℕ)) {fault : Fault} → (fault ≡ Source) ⊎ (fault ≡ Run run.OutOfMemory)
-      → (old.honest → fault ≡ Source → old.refuses_source file) → Does request (Err fault) (seen_with old input was) (seen_with new input was)
+      → (old.honest → fault ≡ Source → old.refuses_source file)
+      → Does (ToWrite form (Some file)) (Err fault) (seen_with old input was) (seen_with new input was)
   not_opened was causes refused = record {
-    works = works _ _ _ (record {
-      all = λ h. tt;
-      front = λ h t is. nothing_front output t was;
-      rests = opens.rests;
-      quietly = opens.quietly;
-    });
-    cause = λ h. of_opening request (seen_with old input was) input file named causes (refused h);
+    works = record { all = λ h. tt; front = λ h t is. nothing_front (output_of form) t was; rests = opens.rests; quietly = opens.quietly };
+    cause = λ h. of_opening (ToWrite form (Some file)) (seen_with old input was) input file refl causes (refused h);
     unread = λ named. refl;
     texts = opens.texts;
     honest = λ h. tt;
   }
 
-  module _ (before after was is : Option (List ℕ)) (text : old.honest → before ≡ Some (old.text_of file)) (most : ℕ) (budget : ReadsAtMost before after most) where
-    pub file_stopped : (fault : RunFault) → IsReading fault ⊎ (fault ≡ run.OutputFault)
-        → (fault ≡ run.NoFromLine → GivesNothing before after was is) → (fault ≡ run.TooManyReads → ReadsAtLeast before after (2 ^ 40))
-        → GivesFront output before after was is → Does request (Err (Run fault)) (seen_with old input was) (seen_with new input is)
-    file_stopped fault causes nothing spent front = record {
-      works = works _ _ _ (record {
+  module _ (before after was is : Option (List ℕ)) (text : old.honest → before ≡ Some (old.text_of file)) where
+    pub file_stopped : (fault : RunFault) → WritesMessages (output_of form) before after was is (2 ^ 40) (Err fault)
+        → Does (ToWrite form (Some file)) (Err (Run fault)) (seen_with old input was) (seen_with new input is)
+    file_stopped fault did = record {
+      works = record {
         all = λ h. tt;
         front = λ h t same entries mbox.
-            front t entries (possible_whole before after (subst (λ t. before ≡ Some t) (sym same) (text h)) budget) mbox;
+            did.front t entries (possible_whole before after (subst (λ t. before ≡ Some t) (sym same) (text h)) did.budget) mbox;
         rests = opens.rests;
         quietly = opens.quietly;
-      });
+      };
       cause = λ h.
-          of_read_file request (seen_with old input was) input file named before after most (text h) budget fault
-          (of_reads was is causes nothing spent);
+          of_read_file (ToWrite form (Some file)) (seen_with old input was) input file refl before after _ (text h) did.budget fault
+          (of_reads was is did.causes (λ e. did.no_from_line (ap Err e)) (λ e. did.spent (ap Err e)));
       unread = λ named. refl;
       texts = opens.texts;
       honest = λ h. tt;
     }
 
-    pub file_done : (count : ℕ) → GivesAll output before was is count → Does request (Ok tt) (seen_with old input was) (seen_with new input is)
-    file_done count all =
+    pub file_done : (count : ℕ) → WritesMessages (output_of form) before after was is (2 ^ 40) (Ok count)
+        → Does (ToWrite form (Some file)) (Ok tt) (seen_with old input was) (seen_with new input is)
+    file_done count did =
+        let output = output_of form in
         let given : old.honest → WritesAll output (Some (old.text_of file)) was is =
-        λ h. subst (λ source. WritesAll output source was is) (text h) (count, all) in
+        λ h. subst (λ source. WritesAll output source was is) (text h) (count, did.all) in
         record {
-          works = works _ _ _ (record {
+          works = record {
             all = given;
             front = λ h t same. subst (λ t. WritesFront output t was is) (sym same)
                 (all_front output (old.text_of file) was is is (Keeps-refl is) (given h));
             rests = opens.rests;
             quietly = opens.quietly;
-          });
+          };
           cause = λ h. tt;
           unread = λ named. refl;
           texts = opens.texts;
@@ -193,20 +194,29 @@ writes_stopped {old} {given} {kept} keeps output file fault did = record {
 delivers_kept : (answer : Result Unit Fault) {texts : List Mailbox} {old new : HeldMaildir} {was given kept : Option (List ℕ)} → Keeps given kept
     → Delivers answer texts old new was given → Delivers answer texts old new was kept
 delivers_kept (Ok _) {texts} {old} {new} {was} {given} {kept} keeps did =
-    record { safe = did.safe; each = handed_each old texts was given kept did.each keeps; some = tt; stay = did.stay; found = did.found; swept = did.swept; sound = did.sound }
+    record {
+      safe = did.safe;
+      each = handed_each old texts was given kept did.each keeps;
+      some = tt;
+      stay = did.stay;
+      found = did.found;
+      swept = did.swept;
+      sound = did.sound;
+    }
 delivers_kept (Err _) {texts} {old} {new} {was} {given} {kept} keeps did =
-    record { safe = tt; each = tt; some = some_kept old new texts was given kept keeps did.some; stay = did.stay; found = did.found; swept = tt; sound = did.sound }
+    let some = some_kept old new texts was given kept keeps did.some in
+    record { safe = tt; each = tt; some = some; stay = did.stay; found = did.found; swept = tt; sound = did.sound }
 
 delivers_stopped : (fault : Fault) {texts : List Mailbox} {old new : HeldMaildir} {was given kept : Option (List ℕ)} → Keeps given kept
     → Delivers {A = Unit} {E = Fault} (Ok tt) texts old new was given → Delivers {A = Unit} {E = Fault} (Err fault) texts old new was kept
-delivers_stopped fault keeps did = record { safe = tt; each = tt; some = each_some keeps did.each did.safe; stay = did.stay; found = did.found; swept = tt; sound = did.sound }
+delivers_stopped fault keeps did =
+    record { safe = tt; each = tt; some = each_some keeps did.each did.safe; stay = did.stay; found = did.found; swept = tt; sound = did.sound }
 
 -- ---- what was written is handed on, or is not
 module _ (old : Seen) (machine : SeenMachine) (input given kept : Option (List ℕ)) (keeps : Keeps given kept) where
   works_kept : (request : Request) (answer : Result Unit Fault)
       → Works request answer old (seen_with machine input given) → Works request answer old (seen_with machine input kept)
-  works_kept (ToRewrite file) answer did = writes_kept keeps (flat_map spelling) file answer did
-  works_kept (ToList file) answer did = writes_kept keeps table_of file answer did
+  works_kept (ToWrite form file) answer did = writes_kept keeps (output_of form) file answer did
   works_kept (ToConvert maildir files) answer did = record {
     printed = on_ok_then answer (λ printed. handed_reports _ old.output given kept printed keeps) did.printed;
     delivers = λ h texts these fit sound. delivers_kept answer keeps (did.delivers h texts these fit sound);
@@ -223,8 +233,7 @@ module _ (old : Seen) (machine : SeenMachine) (input given kept : Option (List �
   -- a fault of the output ends what was done
   works_stopped : (request : Request) (fault : Fault)
       → Works request (Ok tt) old (seen_with machine input given) → Works request (Err fault) old (seen_with machine input kept)
-  works_stopped (ToRewrite file) fault did = writes_stopped keeps (flat_map spelling) file fault did
-  works_stopped (ToList file) fault did = writes_stopped keeps table_of file fault did
+  works_stopped (ToWrite form file) fault did = writes_stopped keeps (output_of form) file fault did
   works_stopped (ToConvert maildir files) fault did = record {
     printed = tt;
     delivers = λ h texts these fit sound. delivers_stopped fault keeps (did.delivers h texts these fit sound);

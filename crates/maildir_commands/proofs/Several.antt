@@ -20,8 +20,10 @@ use Rattle.maildir_disk.specs.Others.{Stays}
 use Rattle.maildir_disk.specs.PowerCuts.{AreAlike, AreIntact, AreSafe}
 use Rattle.maildir_disk.proofs.Kept.Others.{stays_acted, stays_then}
 use Rattle.maildir_commands.specs.Machines.{HeldMaildir, Rests, AreFit, IsSafeIn, IsSoundFor, AreAllSafe, HasAlso, OthersStay, bytes_of}
-use Rattle.maildir_commands.specs.Report.{AreTrueOf, IsReportOf, PrintsEach, PrintsOne, PrintsReport, PrintsSome, report_line}
-use Rattle.maildir_commands.proofs.Known.{Agree, also_agree, also_all, also_all-last, left_after, report_agree, reports_agree, reports_more, rests_has, rests_left, swept_none}
+use Rattle.maildir_commands.specs.Private.Report.{PrintsOne}
+use Rattle.maildir_commands.specs.Report.{AreTrueOf, IsReportOf, PrintsEach, PrintsReport, PrintsSome, report_line}
+use Rattle.maildir_commands.proofs.Known.{Agree, also_agree, also_all, also_all-last, left_after, rests_has, rests_left, swept_none}
+use Rattle.maildir_commands.proofs.Known.{report_agree, reports_agree, reports_more}
 
 -- ---- a source that is read
 -- what is read of an opened file is its text, under its own word and as it was at first

@@ -14,7 +14,7 @@ use Rattle.maildir_commands.specs.declared.fault.Fault.TheVariants.{Source, Fold
 use Rattle.maildir_commands.specs.Faults.{fault_of_opening}
 use Rattle.maildir_commands.specs.Seen.{Seen}
 use Rattle.maildir_commands.specs.Words.{Request, files_of}
-use Rattle.maildir_commands.specs.Words.Request.{ToRewrite, ToList, ToConvert}
+use Rattle.maildir_commands.specs.Words.Request.{ToWrite, ToConvert}
 
 -- the text is no mbox text
 abbrev pub IsNoMbox : List ℕ → Type 0
@@ -43,7 +43,7 @@ IsOfRun one calls run.ReadFault = Unit {0}
 IsOfRun one calls run.OutputFault = Unit {0}
 IsOfRun one calls run.OutOfMemory = Unit {0}
 
--- where one source was delivered
+-- the cause of a fault, for the delivery of one source
 abbrev pub IsOfDelivery : Option (List ℕ) → Option (List ℕ) → Fault → Type 0
 IsOfDelivery before after Source = ⊥
 IsOfDelivery before after Folder = ⊥
@@ -52,11 +52,10 @@ IsOfDelivery before after (Run fault) = IsOfRun (IsPossibly before after) (Unit 
 
 -- a Maildir that is named is such
 abbrev pub IsInto : Request → (List ℕ → Type 0) → Type 0
-IsInto (ToRewrite file) P = ⊥
-IsInto (ToList file) P = ⊥
+IsInto (ToWrite form file) P = ⊥
 IsInto (ToConvert maildir files) P = P maildir
 
--- a Maildir may be refused, which is told as this fault
+-- a Maildir cannot be opened, and this is the fault
 abbrev pub IsToldAs : (OpenFault → Type 0) → Fault → Type 0
 IsToldAs refuses fault = (reason : OpenFault) × (fault ≡ fault_of_opening reason) × refuses reason
 
@@ -69,8 +68,7 @@ IsCauseOf request old after Locked = IsInto request (λ maildir. IsToldAs (old.m
 IsCauseOf request old after (Run fault) =
     IsOfRun (IsOfOne old.machine.text_of old.input after (files_of request)) (IsInto request (λ _. Unit {0})) fault
 
--- The folder call of this number failed: the last that a run made, of so many, or the sync behind the calls of a run that
--- ended.
+-- The folder call with this number failed: the last call of the run, or the sync after the calls of a run that ended.
 abbrev pub IsFailedCall : ℕ → ℕ → ℕ → ℕ → ℕ → Type 0
 IsFailedCall number calls calls' failures failures' =
     (GoesUp failures failures' × ((n : ℕ) × (calls' ≡ raised n calls) × (number ≡ capped n)))

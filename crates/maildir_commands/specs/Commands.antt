@@ -10,7 +10,7 @@ use Rattle.maildir_commands.specs.Machines.{AreFit, GivesTexts, HeldMaildir, Res
 use Rattle.maildir_commands.specs.Program.{RanOn}
 use Rattle.maildir_commands.specs.Seen.{Seen, SeenMachine, Streams, seen_at}
 use Rattle.maildir_commands.specs.Words.{AskFor, Request}
-use Rattle.maildir_commands.specs.Words.Request.{ToRewrite, ToList, ToConvert}
+use Rattle.maildir_commands.specs.Words.Request.{ToWrite, ToConvert}
 
 -- These texts can go into one Maildir, which has none of their messages, and nor has anything that a power cut may leave of it.
 pub record AreNewTo (maildir : HeldMaildir) (texts : List Mailbox) : Type 0 where
@@ -29,8 +29,7 @@ pub data Event : Type 0 where
 
 -- what a request is to deliver into a Maildir: some of the texts, in order, where it is a conversion into it, and nothing where it is another, or none
 abbrev pub IsToDeliver : List ℕ → List Mailbox → List Mailbox → Seen → Option (List ℕ) → Request → Type 0
-IsToDeliver maildir texts named old left (ToRewrite file) = named ≡ []
-IsToDeliver maildir texts named old left (ToList file) = named ≡ []
+IsToDeliver maildir texts named old left (ToWrite form file) = named ≡ []
 IsToDeliver maildir texts named old left (ToConvert into files) =
     (old.machine.same into maildir × All (Contains texts) named × GivesTexts old.machine.text_of old.input left files named)
     ⊎ ((¬ old.machine.same into maildir) × (named ≡ []))
@@ -63,6 +62,6 @@ Happens at maildir texts Readers old new =
     Rests ((at old).maildir_at maildir) ((at new).maildir_at maildir) × ((at old).honest → (at new).honest)
 Happens at maildir texts Cut old new = LeftByPowerCut ((at old).maildir_at maildir) ((at new).maildir_at maildir) × (at new).honest
 
--- any events, one after the other
+-- any sequence of events
 abbrev pub IsHistory : {M : Type 0} → (M → SeenMachine) → List ℕ → List Mailbox → List Event → M → M → Type 0
 IsHistory at maildir texts = Chain (Happens at maildir texts)

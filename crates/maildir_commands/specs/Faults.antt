@@ -1,4 +1,4 @@
--- Which fault is answered for what failed below, and the line that tells of it.
+-- Which fault a command returns for what failed, and the line that reports it.
 use Rattle.std.specs.Prelude.{ℕ, List, ◌++◌, codes}
 use Rattle.std.specs.Fmt.{decimal}
 use Rattle.maildir_run.specs.declared.folder.FolderFault.{FolderFault}
@@ -10,13 +10,13 @@ use Rattle.maildir_commands.specs.declared.fault.Fault.{Fault}
 use Rattle.maildir_commands.specs.declared.fault.Fault.TheVariants as fault
 use Rattle.maildir_commands.specs.declared.fault.Fault.TheVariants.{Run}
 
--- a growth that was refused is told as such, and what failed is told as `other`
+-- the fault of an allocation that failed, and `other` for what failed otherwise
 abbrev pub fault_or : FolderFault → Fault → Fault
 fault_or OutOfMemory other = Run run.OutOfMemory
 fault_or Absent other = other
 fault_or Failed other = other
 
--- a Maildir that is locked is told as such, and one that could not be opened by what failed
+-- the fault of a locked Maildir, and of one that could not be opened
 abbrev pub fault_of_opening : OpenFault → Fault
 fault_of_opening opening.Locked = fault.Locked
 fault_of_opening (opening.Folder reason) = fault_or reason fault.Folder
@@ -34,6 +34,6 @@ fault_text (Run (run.FolderFailed number)) = codes "folder call " ++ decimal num
 fault_text (Run run.OutputFault) = codes "the output could not be written"
 fault_text (Run run.OutOfMemory) = codes "out of memory"
 
--- the line that tells of something
+-- the line that reports a text
 abbrev pub told : List ℕ → List ℕ
 told text = codes "mbox2maildir: " ++ text ++ codes "\n"

@@ -4,7 +4,7 @@ pub mod Causes
 pub mod Endings
 -- The words of the command line, and what they ask for.
 pub mod Words
--- Which fault is answered for what failed below, and the line that tells of it.
+-- Which fault a command returns for what failed, and the line that reports it.
 pub mod Faults
 -- What is printed of a conversion.
 pub mod Report
@@ -22,5 +22,5 @@ pub mod Sources
 pub mod Program
 -- Any commands that follow one another, with mail readers and power cuts between them, and a Maildir into which several texts go.
 pub mod Commands
--- Words of the contracts of private functions and of proofs. No public contract reaches them, and no reader need believe them.
+-- Definitions for private functions and proofs. No public contract uses them, and no reader need believe them.
 pub mod Private

@@ -41,11 +41,11 @@ pub record IsSoundFor (texts : List Mailbox) (maildir : HeldMaildir) : Type 0 wh
   pub sound : OfEach (IsSoundAt maildir.files) texts
   pub intact : All (λ text. AreIntact text.messages maildir.may_leave) texts
 
--- the text is in the Maildir, and survives a power cut
+-- the text is delivered in the Maildir, and survives a power cut
 abbrev pub IsSafeIn : HeldMaildir → Mailbox → Type 0
 IsSafeIn maildir text = AreSafe text.messages maildir.files maildir.may_leave maildir.rooted
 
--- each of the texts is and does
+-- every text is delivered and survives a power cut
 abbrev pub AreAllSafe : List Mailbox → HeldMaildir → Type 0
 AreAllSafe texts maildir = All (IsSafeIn maildir) texts
 
@@ -54,7 +54,7 @@ abbrev pub OthersStay : List Mailbox → HeldMaildir → HeldMaildir → Type 0
 OthersStay texts old new =
     (others : List Message) → AreNamed others → All (λ text. AreAlike others text.messages) texts → Stays others old.files old.may_leave new.files new.may_leave
 
--- behind it, a base has a home where it had one, or is one of the messages'
+-- afterwards a base has a home if it had one, or if it is one of the messages'
 abbrev pub HasAlso : List Message → Files → Files → Type 0
 HasAlso ms old new = (b : List ℕ) → IsTrue (is_converter_base b) → has_home new b ≡ (is_base_of ms b || has_home old b)
 

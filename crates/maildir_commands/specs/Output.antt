@@ -1,9 +1,20 @@
 -- What is written of a source's text.
 use Rattle.std.specs.Prelude.{ℕ, List, Option}
+use Rattle.std.specs.List.{flat_map}
 use Rattle.mbox_text.specs.declared.entry.Entry.{Entry}
 use Rattle.mbox_text.specs.Mbox.{Mbox}
+use Rattle.mbox_text.specs.Spelling.{spelling}
 use Rattle.mbox_text.specs.Writing.{AppendsFront}
 use Rattle.maildir_run.specs.Output.{GivesAll}
+use Rattle.maildir_run.specs.Table.{table_of}
+use Rattle.maildir_commands.specs.declared.command.Form.{Form}
+use Rattle.maildir_commands.specs.declared.command.Form.TheVariants as forms
+use Rattle.maildir_commands.specs.declared.command.Form.TheVariants.{Regular}
+
+-- what belongs to the messages of a text: their regular spelling, or a line for each
+abbrev pub output_of : Form → List Entry → List ℕ
+output_of Regular = flat_map spelling
+output_of forms.List = table_of
 
 -- the source gave a text, and all that belongs to its messages was written
 abbrev pub WritesAll : (List Entry → List ℕ) → Option (List ℕ) → Option (List ℕ) → Option (List ℕ) → Type 0

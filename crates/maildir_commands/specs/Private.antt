@@ -1,4 +1,4 @@
--- Words of the contracts of private functions and of proofs. No public contract reaches them, and no reader need believe them.
+-- Definitions for private functions and proofs. No public contract uses them, and no reader need believe them.
 
 -- Why the delivery of files ended with a fault.
 pub mod Causes

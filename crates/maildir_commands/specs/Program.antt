@@ -1,15 +1,12 @@
 -- What a run of the program owes.
 use Rattle.std.specs.Prelude.{◌≡◌, ◌<◌, ℕ, List, [], length, max, codes, Option, Some, None, Result, Ok, Err, OnOk, OnErr, IfErr}
 use Rattle.std.specs.Io.KnownBytes.{Keeps}
-use Rattle.std.specs.List.{flat_map}
 use Rattle.mbox_text.specs.declared.entry.Entry.{Entry}
-use Rattle.mbox_text.specs.Spelling.{spelling}
 use Rattle.mbox_text.specs.Writing.{Writes}
 use Rattle.maildir_run.specs.Delivery.{IsSwept}
 use Rattle.maildir_run.specs.Foreign.{KeepsForeign}
 use Rattle.maildir_run.specs.Runs.{Possible}
 use Rattle.maildir_run.specs.Several.{Mailbox}
-use Rattle.maildir_run.specs.Table.{table_of}
 use Rattle.maildir_commands.specs.declared.ending.Ending.{Ending}
 use Rattle.maildir_commands.specs.declared.ending.Ending.TheVariants.{Done, Stopped, WrongWords}
 use Rattle.maildir_commands.specs.declared.fault.Fault.{Fault}
@@ -17,11 +14,11 @@ use Rattle.maildir_commands.specs.Causes.{IsCauseOf}
 use Rattle.maildir_commands.specs.Endings.{status_of}
 use Rattle.maildir_commands.specs.Faults.{fault_text, told}
 use Rattle.maildir_commands.specs.Machines.{AreAllSafe, AreFit, GivesTexts, HeldMaildir, IsSoundFor, OthersStay, Rests}
-use Rattle.maildir_commands.specs.Output.{WritesAll, WritesFront}
+use Rattle.maildir_commands.specs.Output.{WritesAll, WritesFront, output_of}
 use Rattle.maildir_commands.specs.Report.{PrintsEach, PrintsReports, PrintsSome}
 use Rattle.maildir_commands.specs.Seen.{Seen, SeenMachine, Streams, seen_at}
 use Rattle.maildir_commands.specs.Words.{AreOfAForm, AskFor, Request, files_of}
-use Rattle.maildir_commands.specs.Words.Request.{ToRewrite, ToList, ToConvert}
+use Rattle.maildir_commands.specs.Words.Request.{ToWrite, ToConvert}
 
 -- ---- `rewrite` and `list`
 -- a file has the text that the machine says, where that does as assumed; standard input has what is left of it
@@ -42,7 +39,7 @@ MayHaveHad (Some file) old after t = t ≡ old.machine.text_of file
 pub record WritesOut (output : List Entry → List ℕ) (file : Option (List ℕ)) (answer : Result Unit Fault) (old new : Seen) : Type 0 where
   -- with Ok all of it
   pub all : IsKnown file old → OnOk answer (WritesAll output (source_of file old) old.output new.output)
-  -- in any case a front
+  -- in any case a prefix
   pub front : IsKnown file old → (t : List ℕ) → MayHaveHad file old new.input t → WritesFront output t old.output new.output
   pub rests : old.machine.honest → (word : List ℕ) → Rests (old.machine.maildir_at word) (new.machine.maildir_at word)
   pub quietly : old.machine.quiet → (word : List ℕ) → (new.machine.maildir_at word).files ≡ (old.machine.maildir_at word).files
@@ -83,8 +80,7 @@ pub record DeliversInto (maildir : List ℕ) (files : List (List ℕ)) (answer :
 -- ---- the program
 -- what is owed for each request
 abbrev pub Works : Request → Result Unit Fault → Seen → Seen → Type 0
-Works (ToRewrite file) = WritesOut (flat_map spelling) file
-Works (ToList file) = WritesOut table_of file
+Works (ToWrite form file) = WritesOut (output_of form) file
 Works (ToConvert maildir files) = DeliversInto maildir files
 
 -- What was asked for was done, or ended with a fault.

@@ -66,10 +66,3 @@ pub record PrintsSome (old new : HeldMaildir) (texts : List Mailbox) (was is : O
   pub true_of : AreTrueOf old.files (take n texts) reports
   pub safe : AreAllSafe (take n texts) new
   pub lines : AppendsFront was is (flat_map report_line reports)
-
--- The line of a true report of the text was written, or a front of it, and the text is in the Maildir, and survives a power cut.
-pub record PrintsOne (old new : HeldMaildir) (text : Mailbox) (was is : Option (List ℕ)) : Type 0 where
-  pub report : Report
-  pub true_of : IsReportOf (has_home old.files) (leftover_count old.files) text report
-  pub safe : IsSafeIn new text
-  pub line : AppendsFront was is (report_line report)

@@ -90,7 +90,7 @@ pub record DeliversSource (answer : Result Unit Fault) (before after was is : Op
   pub keeps : KeepsSource before after old new
   -- with Ok it was delivered, and the line of its report was written
   pub printed : OnOk answer (PrintsReport was is (λ report. StoresSource report before after old new))
-  -- after a fault nothing was written, or it was delivered, and a front of that line was written
+  -- after a fault nothing was written, or the source was delivered and a prefix of its line was written
   pub stopped : IfErr answer (λ fault. StopsSource fault before after old new)
   pub front : IfErr answer (λ fault. Keeps was is
       ⊎ ((report : Report) × StoresSource report before after old new × AppendsFront was is (report_line report)))

@@ -1,5 +1,8 @@
 -- The words of the command line, and what they ask for.
 use Rattle.std.specs.Prelude.{◌≡◌, ◌⊎◌, ℕ, List, [], ◌∷◌, codes, Option, Some, None}
+use Rattle.maildir_commands.specs.declared.command.Form.{Form}
+use Rattle.maildir_commands.specs.declared.command.Form.TheVariants as forms
+use Rattle.maildir_commands.specs.declared.command.Form.TheVariants.{Regular}
 
 -- the words `rewrite`, or none at all
 abbrev pub AreRewrite : List (List ℕ) → Type 0
@@ -12,16 +15,15 @@ convert_words maildir files = codes "convert" ∷ maildir ∷ files
 -- What is asked of the program: to write the text of a file, or of standard input where none is named, in its regular spelling or as a
 -- list; or to deliver the messages of the files into a Maildir, or of standard input where none is named.
 pub data Request : Type 0 where
-  ToRewrite : (file : Option (List ℕ)) → Request
-  ToList : (file : Option (List ℕ)) → Request
+  ToWrite : (form : Form) → (file : Option (List ℕ)) → Request
   ToConvert : (maildir : List ℕ) → (files : List (List ℕ)) → Request
 
 -- the words ask for this
 abbrev pub AskFor : List (List ℕ) → Request → Type 0
-AskFor words (ToRewrite None) = AreRewrite words
-AskFor words (ToRewrite (Some file)) = words ≡ codes "rewrite" ∷ file ∷ []
-AskFor words (ToList None) = words ≡ codes "list" ∷ []
-AskFor words (ToList (Some file)) = words ≡ codes "list" ∷ file ∷ []
+AskFor words (ToWrite Regular None) = AreRewrite words
+AskFor words (ToWrite Regular (Some file)) = words ≡ codes "rewrite" ∷ file ∷ []
+AskFor words (ToWrite forms.List None) = words ≡ codes "list" ∷ []
+AskFor words (ToWrite forms.List (Some file)) = words ≡ codes "list" ∷ file ∷ []
 AskFor words (ToConvert maildir files) = words ≡ convert_words maildir files
 
 -- words of one of the forms: none at all, `rewrite [FILE]`, `list [FILE]`, or `convert MAILDIR [FILE]...` (this project's own rule)
@@ -30,8 +32,6 @@ AreOfAForm words = (request : Request) × AskFor words request
 
 -- the files that are named
 abbrev pub files_of : Request → List (List ℕ)
-files_of (ToRewrite None) = []
-files_of (ToRewrite (Some file)) = file ∷ []
-files_of (ToList None) = []
-files_of (ToList (Some file)) = file ∷ []
+files_of (ToWrite form None) = []
+files_of (ToWrite form (Some file)) = file ∷ []
 files_of (ToConvert maildir files) = files

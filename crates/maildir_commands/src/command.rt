@@ -3,13 +3,20 @@ ghost use Rattle.std.specs.Prelude.{map, string_bytes, MatchOption};
 ghost use Rattle.maildir_commands.specs.Words.{AreOfAForm, AskFor};
 ghost use Rattle.maildir_commands.specs.Private.Words.{request};
 
+/// In which form the messages of a text are written.
+#[derive(Clone, Copy, Debug)]
+pub enum Form {
+    /// In their regular spelling.
+    Regular,
+    /// As a list, with a line for each.
+    List,
+}
+
 /// A command. Without FILE it reads standard input.
 #[derive(Clone, Copy, Debug)]
 pub enum Command<'a> {
-    /// `rewrite [FILE]`, or no words at all: write the text in its regular spelling.
-    Rewrite(Option<&'a str>),
-    /// `list [FILE]`: write a line for each message.
-    List(Option<&'a str>),
+    /// `rewrite [FILE]`, or no words at all, and `list [FILE]`: write the messages of a text.
+    Write(Form, Option<&'a str>),
     /// `convert MAILDIR [FILE]...`: deliver the messages of each file, in the order of the words.
     Convert(&'a str, &'a [String]),
 }
@@ -17,16 +24,17 @@ pub enum Command<'a> {
 impl<'a> Command<'a> {
     /// The command of these words, which are compared as they stand; `None` where they are of no form.
     pub fn of(words: &'a [String]) -> Option<Command<'a>>
-        ensures { let these = map string_bytes words.now in MatchOption result (¬ AreOfAForm these) (λ command. AskFor these (request command)) }
+        ensures { let these = map string_bytes words.now in
+            MatchOption result (¬ AreOfAForm these) (λ command. AskFor these (request command)) }
     {
         let Some((word, rest)) = words.split_first() else {
-            return Some(Command::Rewrite(None));
+            return Some(Command::Write(Form::Regular, None));
         };
         match (word.as_str(), rest) {
-            ("rewrite", []) => Some(Command::Rewrite(None)),
-            ("rewrite", [file]) => Some(Command::Rewrite(Some(file.as_str()))),
-            ("list", []) => Some(Command::List(None)),
-            ("list", [file]) => Some(Command::List(Some(file.as_str()))),
+            ("rewrite", []) => Some(Command::Write(Form::Regular, None)),
+            ("rewrite", [file]) => Some(Command::Write(Form::Regular, Some(file.as_str()))),
+            ("list", []) => Some(Command::Write(Form::List, None)),
+            ("list", [file]) => Some(Command::Write(Form::List, Some(file.as_str()))),
             ("convert", [maildir, files @ ..]) => Some(Command::Convert(maildir.as_str(), files)),
             _ => None,
         }

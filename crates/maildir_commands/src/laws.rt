@@ -1,4 +1,4 @@
-//! Laws over the contracts of the program alone. Each law is the contract of a function, and no function here does anything.
+//! Laws over the contracts of the program alone. Each function's contract is a law; its body is empty.
 ghost use Rattle.std.specs.Prelude.{ℕ, ◌<◌, List, [], ◌∷◌, ◌++◌, length};
 ghost use Rattle.maildir_run.specs.Delivery.{IsSwept};
 ghost use Rattle.maildir_run.specs.Several.{Mailbox};
@@ -11,8 +11,8 @@ use crate::machine::Machine;
 /// Whatever commands follow one another, with any words and any answers, killed at any moment or not, with mail readers
 /// and power cuts between them: a Maildir that had none of the texts' messages stays sound for all of them, so that the
 /// same words may be given again. Once a command that was to deliver some of the texts answered 0, each message of each of
-/// them is in exactly one file of `new` or `cur`, with exactly its bytes, and stays so through all that follows; and just
-/// behind it no file of the converter is left in `tmp`.
+/// them is in exactly one file of `new` or `cur`, with exactly its bytes, and stays so through all that follows; and right
+/// after it no file of the converter is left in `tmp`.
 pub fn after_any_commands<M: Machine>()
     ensures sound { (maildir : List ℕ) (texts : List Mailbox) (events : List Event) (old new : M) →
         (M.at old).honest → AreNewTo ((M.at old).maildir_at maildir) texts →

@@ -1,26 +1,28 @@
 // What the program does with its words, its streams and its status.
-ghost use Rattle.std.specs.Prelude.{◌≡◌, [], map, string_bytes};
+ghost use Rattle.std.specs.Prelude.{◌≡◌, ◌^◌, [], map, string_bytes};
 ghost use Rattle.std.specs.Io.Buffered.{writer_buffer, writer_contents};
+ghost use Rattle.maildir_run.specs.Output.{WritesMessages};
 ghost use Rattle.maildir_commands.specs.Endings.{status_of};
+ghost use Rattle.maildir_commands.specs.Output.{output_of};
 ghost use Rattle.maildir_commands.specs.Program.{Does, Ran, RanOn};
 ghost use Rattle.maildir_commands.specs.Seen.{seen_with, streams};
-ghost use Rattle.maildir_commands.specs.Words.Request.{ToList, ToRewrite};
+ghost use Rattle.maildir_commands.specs.Words.Request.{ToWrite};
 ghost use Rattle.maildir_commands.specs.Private.Words.{name_of, request};
 
-use crate::command::Command;
+use crate::command::{Command, Form};
 use crate::ending::Ending;
 use crate::fault::Fault;
 use crate::machine::Machine;
 use crate::sources::deliver_sources;
 use crate::streams::{READS, flush, open};
 use crate::telling::{tell_fault, tell_wrong_words};
-use maildir_run::{list_text, rewrite};
+use maildir_run::{RunFault, list_text, rewrite};
 use std::alloc::Global;
 use std::io::{BufWriter, Read, Write};
 
-/// Does the program's work, and answers its status: 0 where it is done; 1 after a fault, and 2 where the words are
-/// of no form, each with one line on standard error. A fault in writing to standard error changes no status. What is
-/// written goes through the buffer, which holds nothing back after status 0.
+/// Does the program's work, and returns its status: 0 if it is done; 1 after a fault and 2 for wrong words, each with one
+/// line on standard error. A fault in writing to standard error changes no status. The output goes through the buffer, which
+/// is flushed after status 0.
 pub fn run<M: Machine, I: Read, W: Write + Drop, E: Write>(
     machine: &mut M,
     alloc: Global,
@@ -38,9 +40,9 @@ pub fn run<M: Machine, I: Read, W: Write + Drop, E: Write>(
     execute(machine, alloc, words, input, out, err).status()
 }
 
-/// Does the program's work, and tells how it ended: that it is done, the fault that ended it, or that the words are of no
-/// form; the latter two with one line on standard error, or a front of it. A fault in writing to standard error changes
-/// nothing else. What is written goes through the buffer, which holds nothing back once the work is done.
+/// Does the program's work, and returns how it ended: done, with a fault, or with wrong words; the latter two with one line
+/// on standard error, or a prefix of it. A fault in writing to standard error changes nothing else. The output goes through
+/// the buffer, which is flushed once the work is done.
 pub fn execute<M: Machine, I: Read, W: Write + Drop, E: Write>(
     machine: &mut M,
     alloc: Global,
@@ -83,50 +85,46 @@ fn work<M: Machine, I: Read, W: Write + Drop>(
         (seen_with (at machine.new) (I.remaining input.new) (writer_contents W.contents out.new)) }
 {
     match command {
-        Command::Rewrite(file) => write_regular(machine, alloc, file, input, out),
-        Command::List(file) => write_list(machine, alloc, file, input, out),
+        Command::Write(form, file) => write_out(machine, alloc, form, file, input, out),
         Command::Convert(maildir, files) => {
             deliver_sources(machine, alloc, maildir, files, input, out)
         }
     }
 }
 
-// Writes the text of the file, or of standard input where none is named, in its regular spelling.
-fn write_regular<M: Machine, I: Read, W: Write>(
+// Writes the messages of the file, or of standard input where none is named.
+fn write_out<M: Machine, I: Read, W: Write>(
     machine: &mut M,
     alloc: Global,
+    form: Form,
     file: Option<&str>,
     input: &mut I,
     out: &mut W,
 ) -> Result<(), Fault>
     ensures does { let at = M.at in
-        Does (ToRewrite (name_of file.entry)) result
+        Does (ToWrite form (name_of file.entry)) result
         (seen_with (at machine.old) (I.remaining input.old) (W.contents out.old))
         (seen_with (at machine.new) (I.remaining input.new) (W.contents out.new)) }
 {
     match file {
-        None => rewrite(alloc, input, out, READS)?,
-        Some(path) => rewrite(alloc, &mut open(machine, path)?, out, READS)?,
+        None => write_text(alloc, form, input, out)?,
+        Some(path) => write_text(alloc, form, &mut open(machine, path)?, out)?,
     };
     Ok(())
 }
 
-// Writes a line for each message of the file, or of standard input where none is named.
-fn write_list<M: Machine, I: Read, W: Write>(
-    machine: &mut M,
+// Writes the messages of a text, and answers how many they are.
+fn write_text<R: Read, W: Write>(
     alloc: Global,
-    file: Option<&str>,
-    input: &mut I,
+    form: Form,
+    source: &mut R,
     out: &mut W,
-) -> Result<(), Fault>
-    ensures does { let at = M.at in
-        Does (ToList (name_of file.entry)) result
-        (seen_with (at machine.old) (I.remaining input.old) (W.contents out.old))
-        (seen_with (at machine.new) (I.remaining input.new) (W.contents out.new)) }
+) -> Result<u64, RunFault>
+    ensures { WritesMessages (output_of form) (R.remaining source.old) (R.remaining source.new)
+        (W.contents out.old) (W.contents out.new) (2 ^ 40) result }
 {
-    match file {
-        None => list_text(alloc, input, out, READS)?,
-        Some(path) => list_text(alloc, &mut open(machine, path)?, out, READS)?,
-    };
-    Ok(())
+    match form {
+        Form::Regular => rewrite(alloc, source, out, READS),
+        Form::List => list_text(alloc, source, out, READS),
+    }
 }

@@ -1,4 +1,4 @@
--- The words that the proofs cite, passed on from one place. Declares nothing.
+-- The definitions and lemmas that the proofs use, imported in one place. Declares nothing.
 pub use Rattle.std.proofs.lemmas.Bool.{and_parts, cases_Bool, cases_order, false_from_ne_true, false≢true}
 pub use Rattle.std.proofs.lemmas.List.Elements.{All-cons, All-contains, All-head, All-nil, All-tail, Contains-append_cases, Contains-append_left}
 pub use Rattle.std.proofs.lemmas.List.Elements.{Contains-append_right, Contains-get_or, Contains-push}

@@ -1,12 +1,12 @@
--- A Maildir from one system call to the next: its files, the clock, and when each folder was last changed.
+-- A Maildir on a file system: its files, the clock, and when each folder was last changed.
 pub mod World
--- What the calls of a write do to the files: a file of `tmp` is made or emptied, bytes are appended to it, and it is kept.
+-- What the system calls of a write do: create or truncate a file of `tmp`, append to it, sync it.
 pub mod Writing
--- What a placement that finds no file tells.
+-- What it means that a placement finds no file.
 pub mod Placing
 -- The folder of a place.
 pub mod Paths
--- What is seen of a Maildir on a file system, and what a sync of it does.
+-- What contracts see of a Maildir on a file system, and what a sync of it does.
 pub mod Seen
 -- What a power cut may leave of the messages of a text.
 pub mod PowerCuts
@@ -14,13 +14,13 @@ pub mod PowerCuts
 pub mod SeveralCuts
 -- What a run over one text, and a sync, leave of the messages of other texts.
 pub mod Others
--- How a folder's stamp stands to the clock.
+-- How the stamp of a folder compares with the clock.
 pub mod Look
--- Why a reading has to be watched as it is.
+-- Why a listing cannot wait less than it does.
 pub mod Misread
--- What a call of the system does while no other program acts.
+-- What a system call does while no other program acts.
 pub mod Quiet
--- Which fault is answered for what failed below.
+-- Which fault a failed system call becomes.
 pub mod Faults
--- Words of the contracts of private functions and of proofs. No public contract reaches them, and no reader need believe them.
+-- Definitions for private functions and proofs. No public contract uses them, and no reader need believe them.
 pub mod Private

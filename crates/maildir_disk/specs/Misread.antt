@@ -1,12 +1,12 @@
--- Why a reading has to be watched as it is.
+-- Why a listing cannot wait less than it does.
 use Rattle.std.specs.Prelude.{◌≡◌, ℕ, [], IsPermutation}
 use Rattle.std.specs.FinMap.{keys}
 use Rattle.maildir_run.specs.declared.folder.Sub.TheVariants.{New}
 use Rattle.maildir_run.specs.Calls.{folder_of}
 use Rattle.maildir_disk.specs.World.{World, Passes, ReadsNames}
 
--- A reading from one time to another, of a folder that has this stamp before and
--- after it, finds no name, though a file is there: all as is assumed of a system.
+-- A listing that lasts from one time to another, with this stamp of the folder before and after it, finds no name though a file is
+-- there; the assumptions about a system allow it.
 pub record Misread (now later stamp : ℕ) : Type 0 where
   pub old : World
   pub new : World

@@ -4,7 +4,7 @@ use Rattle.maildir_run.specs.Delivery.{Message, IsHome, IsSoundAt}
 use Rattle.maildir_run.specs.Files.{Files}
 use Rattle.maildir_disk.specs.PowerCuts.{AreIntact, Survive}
 
--- What the messages were, they are: sound, intact after a power cut, at home, and found after a power cut.
+-- The messages stay what they were: sound, intact after a power cut, at home, and surviving a power cut.
 pub record Stays (others : List Message) (old : Files) (before : Files → Type 0) (new : Files) (now : Files → Type 0) : Type 0 where
   pub sound : All (IsSoundAt old) others → All (IsSoundAt new) others
   pub intact : AreIntact others before → AreIntact others now

@@ -1,10 +1,10 @@
--- What a placement that finds no file tells.
+-- What it means that a placement finds no file.
 use Rattle.std.specs.Prelude.{◌≡◌, ℕ, List, None}
 use Rattle.std.specs.FinMap.{get}
 use Rattle.maildir_run.specs.Calls.{Call, Move, after}
 use Rattle.maildir_run.specs.Files.{Files}
 
--- At some moment of a call `tmp` had no file of this name.
+-- At some moment of the call, `tmp` had no file of this name.
 pub record WasGone (name : List ℕ) (call : Call) (old new : Files) : Type 0 where
   pub before : List Move
   pub rest : List Move

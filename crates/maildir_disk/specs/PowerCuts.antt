@@ -14,75 +14,76 @@ use Rattle.maildir_run.specs.Runs.{Chain, IsRun}
 use Rattle.maildir_run.specs.Tasks.{Listings, Performs, leaving, planned_tasks}
 use Rattle.maildir_run.specs.Texts.{MessagesOf}
 
--- whatever is found of the message in `new` or `cur` holds its body
+-- each file of the message in `new` or `cur` holds its body
 abbrev pub IsIntact : Files → Message → Type 0
 IsIntact s m = (bytes : List ℕ) → Contains (homes s m.target.base) bytes → bytes ≡ m.body
 
--- and whatever a cut may leave of the messages
+-- each message is intact in whatever a power cut may leave
 abbrev pub AreIntact : List Message → (Files → Type 0) → Type 0
 AreIntact ms may_leave = (left : Files) → may_leave left → All (IsIntact left) ms
 
--- a home of the message holds its body
+-- a file of the message in `new` or `cur` holds its body
 abbrev pub HasBody : Files → Message → Type 0
 HasBody s m = Contains (homes s m.target.base) m.body
 
--- whatever a cut may leave, each message has a home there that holds its body
+-- each message has a file with its body in whatever a power cut may leave
 abbrev pub Survive : List Message → (Files → Type 0) → Type 0
 Survive ms may_leave = (left : Files) → may_leave left → All (HasBody left) ms
 
--- where two messages have the same base, they have the same body
+-- messages with the same base have the same body
 abbrev pub AreAlike : List Message → List Message → Type 0
 AreAlike others ms = All (λ m. All (λ n. n.target.base ≡ m.target.base → n.body ≡ m.body) ms) others
 
--- The messages are at home, and whatever a power cut leaves, each has a home there that holds its body, in the Maildir, which is found.
+-- The messages are at home, each has a file with its body in whatever a power cut may leave, and a power cut leaves the Maildir.
 pub record AreSafe (ms : List Message) (s : Files) (may_leave : Files → Type 0) (rooted : Type 0) : Type 0 where
   pub home : All (IsHome s) ms
   pub survive : Survive ms may_leave
   pub found : rooted
 
--- a cut leaves a file under one name: under no converter's base does it leave more files than there are
+-- a power cut leaves no file under two names: no converter's base has more files after it than before
 abbrev pub IsSingle : Files → Files → Type 0
 IsSingle s left = (b : List ℕ) → IsTrue (is_converter_base b) → length (homes left b) ≤ length (homes s b)
 
--- what a cut leaves while other programs act, and nothing else happens
+-- how what a power cut leaves changes while only other programs act
 abbrev pub LeftByOthers : Files → Files → Type 0
 LeftByOthers = Leaves (Listing Tmp)
 
--- a converter's file of this name in `tmp` is found with what it holds, wherever it is found
+-- a converter's file of this name in `tmp` has the same bytes after a power cut
 abbrev pub KeepsHeld : List ℕ → Files → (Files → Type 0) → Type 0
 KeepsHeld name s may_leave = (left : Files) → may_leave left → IsTrue (is_converter_name name) → get left.tmp name ≡ get s.tmp name
 
--- At some moment of a call a cut left just the converter's names of a folder that were there. What others did after that moment came, or did not.
+-- At some moment of the call, a power cut would have left exactly the converter's names that the folder had then. What other programs did
+-- later may be left or lost.
 pub record KeepsNames (sub : Sub) (old before new left : Files) : Type 0 where
   pub moment : Files
   pub actions : List Action
   pub moment_is : moment ≡ all_acted actions old
   pub rest : List Action
   pub new_is : new ≡ all_acted rest moment
-  -- what a cut left at that moment
+  -- what a power cut would have left at that moment
   pub there : Files
   pub earlier : LeftByOthers before there
   pub later : LeftByOthers there left
   pub names_are : (name : List ℕ) → IsTrue (is_converter_name name) → contains_key (folder_of sub there) name ≡ contains_key (folder_of sub moment) name
 
--- a folder at one moment: its files, and what a cut would leave
+-- a folder at one moment: its files, and what a power cut would leave
 pub record FilesAndLeft : Type 0 where
   pub files : Files
   pub left : Files
 
--- A sync of the Maildir that answered Ok: the names in `new` were kept, and then those in `cur`, of what a cut left before it and of what one leaves after it.
+-- A sync of the Maildir that returned Ok: first the names in `new` became durable, then those in `cur`.
 pub record Syncs (old before new left : Files) : Type 0 where
   pub mid : FilesAndLeft
   pub first : KeepsNames New old before mid.files mid.left
   pub then : KeepsNames Cur mid.files mid.left new left
 
--- what comes to a folder: a run with this answer, an action of another program, or a power cut
+-- an event: a run with this result, an action of another program, or a power cut
 pub data Event : Type 0 where
   Ran : (answer : Result Report RunFault) → Event
   Acted : (action : Action) → Event
   Cut : Event
 
--- A cut left what it would have left, each file under one name, and a later one would leave the same.
+-- The power cut left what it would have left, with no file under two names, and a later one would leave the same.
 pub record IsCut (old new : FilesAndLeft) : Type 0 where
   pub found : KeepsHomes old.left new.files
   pub stays : KeepsHomes new.files new.left
@@ -96,6 +97,6 @@ Happens t (Ran answer) old new =
 Happens t (Acted action) old new = (new.files ≡ acted action old.files) × LeftByOthers old.left new.left
 Happens t Cut old new = IsCut old new
 
--- a finite chain of runs over a text, with any answers, of other programs' actions and of power cuts
+-- a finite sequence of runs over a text, with any results, of other programs' actions and of power cuts
 abbrev pub Happen : List ℕ → List Event → FilesAndLeft → FilesAndLeft → Type 0
 Happen t = Chain (Happens t)

@@ -1,8 +1,8 @@
--- Words of the contracts of private functions and of proofs. No public contract reaches them, and no reader need believe them.
+-- Definitions for private functions and proofs. No public contract uses them, and no reader need believe them.
 
--- What a look at a folder gives.
+-- What one attempt at a listing returns.
 pub mod Look
--- What a write leaves that comes in pieces.
+-- What a write leaves that appends in several steps.
 pub mod Writing
--- An event of one text, as one of several.
+-- An event of one text, as an event of several.
 pub mod SeveralCuts

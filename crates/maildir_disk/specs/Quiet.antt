@@ -1,4 +1,4 @@
--- What a call of the system does while no other program acts.
+-- What a system call does while no other program acts.
 use Rattle.std.specs.Prelude.{◌≡◌, ◌⊎◌, ℕ, List, ◌++◌, take, Result, Ok, Err, IsPermutation}
 use Rattle.std.specs.IoError.{error_kind}
 use Rattle.std.specs.declared.alloc.Global.{Global}
@@ -13,7 +13,7 @@ use Rattle.maildir_run.specs.Files.{Files}
 use Rattle.maildir_disk.specs.World.{World}
 use Rattle.maildir_disk.specs.Writing.{changed}
 
--- all files are as they were
+-- no file has changed
 abbrev pub SameFiles : World → World → Type 0
 SameFiles old new = new.files ≡ old.files
 
@@ -21,7 +21,7 @@ SameFiles old new = new.files ≡ old.files
 abbrev pub AreNames : Sub → Files → Vec (String Global) Global → Type 0
 AreNames sub s names = IsPermutation (names_of names) (keys (folder_of sub s))
 
--- a front of the bytes is appended, once; an interruption appends none, and with another error the file may hold any bytes
+-- a prefix of the bytes is appended, once; an interrupted call appends none, and after another error the file may hold any bytes
 abbrev pub AppendedQuietly : List ℕ → List ℕ → Files → Result ℕ Error → Files → Type 0
 AppendedQuietly name bytes old (Ok n) new = new ≡ changed name (λ held. held ++ take n bytes) old
 AppendedQuietly name bytes old (Err error) new =

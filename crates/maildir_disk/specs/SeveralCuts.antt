@@ -8,13 +8,13 @@ use Rattle.maildir_run.specs.Runs.{Chain}
 use Rattle.maildir_run.specs.Several.{Mailbox, IsMailbox, OfEach}
 use Rattle.maildir_disk.specs.PowerCuts.{FilesAndLeft, Syncs, Ran, Acted, Cut, Happens}
 
--- what comes to a folder into which several texts go
+-- an event of a folder into which several texts are delivered
 pub data EventOver : Type 0 where
-  -- a run over one of them, with this answer
+  -- a run over one of them, with this result
   RanOver : (text : Mailbox) → (answer : Result Report RunFault) → EventOver
   -- an action of another program
   ActedOver : (action : Action) → EventOver
-  -- a sync that answered Ok; one that did not is what other programs did meanwhile
+  -- a sync that returned Ok; one that failed counts as what other programs did meanwhile
   SyncedOver : EventOver
   -- a power cut
   CutOver : EventOver
@@ -26,14 +26,14 @@ HappensOver texts (ActedOver action) old new = Happens [] (Acted action) old new
 HappensOver texts SyncedOver old new = Syncs old.files old.left new.files new.left
 HappensOver texts CutOver old new = Happens [] Cut old new
 
--- a finite chain of runs over any of the texts, with any answers, of other programs' actions, of syncs and of power cuts
+-- a finite sequence of runs over any of the texts, with any results, of other programs' actions, of syncs and of power cuts
 abbrev pub HappenOver : List Mailbox → List EventOver → FilesAndLeft → FilesAndLeft → Type 0
 HappenOver texts = Chain (HappensOver texts)
 
--- What is wanted of several texts, and of the folder before any run over them.
+-- The premises on several texts, and on the folder before any run over them.
 pub record AreNew (texts : List Mailbox) (moment : FilesAndLeft) : Type 0 where
   pub are : All IsMailbox texts
-  -- where two messages have the same base, they have the same body
+  -- messages with the same base have the same body
   pub alike : OfEach (λ m. OfEach (λ n. n.target.base ≡ m.target.base → n.body ≡ m.body) texts) texts
   pub missing : OfEach (IsMissing moment.files) texts
   pub none_left : OfEach (IsMissing moment.left) texts

@@ -1,4 +1,4 @@
--- A Maildir from one system call to the next: its files, the clock, and when each folder was last changed.
+-- A Maildir on a file system: its files, the clock, and when each folder was last changed.
 use Rattle.std.specs.Prelude.{◌≡◌, ◌⊎◌, ℕ, ◌+◌, ◌%◌, ◌≤◌, ◌<◌, ◌==◌, List, if◌then◌else◌, IsPermutation}
 use Rattle.std.specs.FinMap.{empty, keys}
 use Rattle.maildir_run.specs.declared.folder.Sub.{Sub}
@@ -17,13 +17,13 @@ pub record World : Type 0 where
 abbrev pub no_world : World
 no_world = record { files = record { tmp = empty; new = empty; cur = empty }; time = 0; stamp_of = λ _. 0 }
 
--- How far a stamp may be from the clock at the change that gave it. A kernel stamps by a clock that ticks each 10 ms or
--- faster, and may be late by some ticks; where no part of a second is kept, a file system may keep seconds alone, or
--- pairs of them (FAT).
+-- How far a stamp may be from the clock at the change that set it. A kernel stamps by a clock that ticks every 10 ms or faster,
+-- and may be some ticks late; if the stamp has no fraction of a second, the file system may keep whole seconds, or even seconds
+-- only (FAT).
 abbrev pub margin_of : ℕ → ℕ
 margin_of stamp = if stamp % 1_000_000_000 == 0 then 2_050_000_000 else 50_000_000
 
--- A change at some time between these two may have given the folder this stamp: the clock was then less than the margin away from it.
+-- A change between these two times may have set this stamp: the clock was then less than the margin away from it.
 pub record IsOfChange (start end stamp : ℕ) : Type 0 where
   pub time : ℕ
   pub no_earlier : start ≤ time
@@ -31,13 +31,13 @@ pub record IsOfChange (start end stamp : ℕ) : Type 0 where
   pub less_behind : time < stamp + margin_of stamp
   pub less_ahead : stamp < time + margin_of stamp
 
--- Other programs acted, or none did.
+-- Other programs may have acted.
 pub record Acts (old new : World) : Type 0 where
   pub actions : List Action
   pub files_are : new.files ≡ all_acted actions old.files
 
--- Other programs acted, or none did, while the folder was watched: the clock did not
--- go back, and the folder has the stamp that it had, or one of a change meanwhile.
+-- Other programs may have acted while the folder was watched: the clock did not go back, and the folder has the
+-- stamp that it had, or that of a change meanwhile.
 pub record Passes (sub : Sub) (old new : World) : Type 0 where
   pub acts : Acts old new
   pub later : old.time ≤ new.time
@@ -55,11 +55,11 @@ pub record IsTimeOf (old : World) (time : ℕ) (new : World) : Type 0 where
   pub no_earlier : old.time ≤ time
   pub no_later : time ≤ new.time
 
--- These are the folder's names, or it has this stamp of a change meanwhile.
+-- These are the folder's names, or this stamp is that of a change meanwhile.
 abbrev pub AreUnless : Sub → World → List (List ℕ) → ℕ → ℕ → Type 0
 AreUnless sub old names end stamp = IsPermutation names (keys (folder_of sub old.files)) ⊎ IsOfChange old.time end stamp
 
--- The names that were read of a folder, in several steps: each of its names once if nothing in it changed meanwhile. They may be
--- any names if something did, and then the folder has a stamp of a change meanwhile.
+-- The names that readdir(3) returned, in several steps: each of the folder's names once if nothing in it changed meanwhile. If something
+-- changed they may be any names, and then the folder has the stamp of a change meanwhile.
 abbrev pub ReadsNames : Sub → World → List (List ℕ) → World → Type 0
 ReadsNames sub old names new = AreUnless sub old names new.time (new.stamp_of sub)

@@ -1,4 +1,4 @@
-//! Laws on power cuts over the definitions alone. Each law is the contract of a function, and no function here does anything.
+//! Laws on power cuts, over the definitions alone. Each function's contract is a law; its body is empty.
 ghost use Rattle.std.specs.Prelude.{◌≡◌, ℕ, ◌<◌, ◌^◌, ◌∷◌, ◌++◌, List, length, Ok, Result, All, Contains};
 ghost use Rattle.maildir_run.specs.declared.fault.RunFault.{RunFault};
 ghost use Rattle.maildir_run.specs.declared.report.Report.{Report};
@@ -12,9 +12,9 @@ ghost use Rattle.maildir_disk.specs.SeveralCuts.{AreNew, EventOver, HappenOver};
 ghost use Rattle.maildir_disk.specs.SeveralCuts.EventOver.{RanOver, SyncedOver, CutOver};
 ghost use Rattle.maildir_disk.specs.PowerCuts.{AreAlike, Event, Happen, HasBody, IsIntact, IsSingle, LeftByOthers, FilesAndLeft, Syncs};
 
-/// What a cut leaves of a run that did its planned calls, whatever it answered: where what it would have left of the run's
-/// messages before held their bodies, it does after it. And a message that a cut would have left before it is left after
-/// it, of this text or of any other that gives no other body to one of its bases.
+/// What a power cut leaves of a run, whatever the run returned: if the run's messages were intact in what a cut would have
+/// left before it, they are after it. Each message that a cut would have left before it is left after it, of this text or of
+/// another that has the same body under each common base.
 pub fn left_of_a_run()
     ensures intact { (t : List ℕ) (ms : List Message) (names : Listings) (before now : Files) (answer : Result Report RunFault) →
         MessagesOf t ms → length t < 2 ^ 63 → Performs leaving (planned_tasks names ms) before answer now →
@@ -24,7 +24,7 @@ pub fn left_of_a_run()
         AreAlike others ms → All (HasBody before) others → All (HasBody now) others }
 {}
 
-/// What other programs do takes nothing away from what a cut leaves, and changes no bytes of it.
+/// What other programs do takes nothing away from what a power cut leaves, and changes no bytes of it.
 pub fn left_by_others()
     ensures intact { (ms : List Message) (before now : Files) → AreNamed ms → LeftByOthers before now →
         All (IsIntact before) ms → All (IsIntact now) ms }
@@ -32,13 +32,13 @@ pub fn left_by_others()
         All (HasBody before) ms → All (HasBody now) ms }
 {}
 
-/// A sync that answered Ok keeps the messages that were at home, where a cut would have left nothing but their bodies.
+/// A sync that returned Ok makes the messages at home durable, if a power cut would have left them intact.
 pub fn kept_by_a_sync()
     ensures { (ms : List Message) (old before new left : Files) → AreNamed ms → All (IsHome old) ms → All (IsIntact before) ms →
         Syncs old before new left → All (HasBody left) ms }
 {}
 
-/// Where a cut leaves a file under one name, it leaves a sound folder sound, and each message that is at home and survives
+/// A power cut that leaves no file under two names leaves a sound folder sound, and each message that is at home and survives
 /// in exactly one file.
 pub fn one_name_each()
     ensures sound { (ms : List Message) (s left : Files) → AreNamed ms → All (IsSoundAt s) ms → All (IsIntact left) ms →
@@ -47,9 +47,9 @@ pub fn one_name_each()
         IsSingle s left → All (IsHome left) ms }
 {}
 
-/// Whatever runs over a text, with any answers, other programs' actions and power cuts follow one another: a folder that
-/// had none of the text's messages, and of which a cut would have left none, is sound for them. One more run that answers
-/// Ok delivers them.
+/// After any sequence of runs over a text, with any results, other programs' actions and power cuts: a folder that had none of
+/// the text's messages, and of which a cut would have left none, is sound for them. One more run that returns Ok delivers
+/// them.
 pub fn after_any_cuts()
     ensures sound { (t : List ℕ) (ms : List Message) (events : List Event) (old new : FilesAndLeft) →
         MessagesOf t ms → length t < 2 ^ 63 → All (IsMissing old.files) ms → All (IsMissing old.left) ms →
@@ -59,11 +59,10 @@ pub fn after_any_cuts()
         Happen t events old mid → IsRun t mid.files (Ok report) new → Delivered ms new }
 {}
 
-/// Whatever runs over any of several texts, with any answers, other programs' actions, syncs and power cuts follow one
-/// another: a folder that had none of the texts' messages, and of which a cut would have left none, is sound for them.
-/// Each message of a text of which a run answered Ok, and then a sync before any cut, is at home and stays so, after
-/// every later cut too. One more run that answers Ok delivers its text. Where two messages of the texts have the same
-/// base, they are to have the same body.
+/// After any sequence of runs over several texts, with any results, other programs' actions, syncs and power cuts: a folder
+/// that had none of the texts' messages, and of which a cut would have left none, is sound for them. If a run over a text
+/// returned Ok, and then a sync before any cut, each message of the text is at home and stays so, also after later cuts.
+/// One more run that returns Ok delivers its text. The premise: messages with the same base have the same body.
 pub fn after_cuts_of_several()
     ensures sound { (texts : List Mailbox) (events : List EventOver) (old new : FilesAndLeft) →
         AreNew texts old → HappenOver texts events old new →

@@ -1,4 +1,4 @@
-// A Maildir on a file system, as a folder of the engine.
+// A Maildir on a file system, as a folder for runs.
 ghost use Rattle.std.specs.Prelude.{◌≡◌, IsErrOf};
 ghost use Rattle.maildir_run.specs.Calls.{CountsFailure, GoesUp, IsNotAbsent};
 ghost use Rattle.maildir_run.specs.Calls.Call.{Placing};
@@ -15,7 +15,7 @@ use maildir_run::{Folder, FolderFault, Sub};
 use std::io;
 use std::io::ErrorKind;
 
-/// A Maildir on a file system (maildir(5)). It takes effect as reported where the system does as assumed.
+/// A Maildir on a file system (maildir(5)). If the system does what is assumed, each call has the effect that it reports.
 #[derive(Drop)]
 pub struct DiskFolder<S> {
     system: S,
@@ -24,7 +24,7 @@ pub struct DiskFolder<S> {
 }
 
 impl<S: System> DiskFolder<S> {
-    /// The Maildir that these system calls reach.
+    /// The Maildir of this system. Makes no call.
     pub fn new(system: S) -> Self
         ensures system { result.system ≡ system }
         ensures calls { (⟦<DiskFolder<S> as Folder>⟧.at result).calls ≡ 0 }
@@ -37,20 +37,19 @@ impl<S: System> DiskFolder<S> {
         }
     }
 
-    /// The system calls that it is over.
+    /// Returns the system.
     pub fn into_system(self) -> S
         ensures { result ≡ self.system }
     {
         self.system
     }
 
-    /// Asks the system to keep what `new`, `cur`, the Maildir and its parent name, so that no power cut undoes a
-    /// placement that was answered. It is no call of the folder, and is not counted.
+    /// fsync(2) of `new`, `cur`, the Maildir and its parent, so that no power cut undoes a placement that returned Ok. It is not
+    /// one of the folder's calls, and is not counted.
     ///
     /// # Errors
     ///
-    /// [`FolderFault::Failed`] where one of the four could not be synced, [`FolderFault::OutOfMemory`] where a
-    /// growth was refused.
+    /// [`FolderFault::Failed`] if one of the four could not be synced; [`FolderFault::OutOfMemory`] if an allocation failed.
     pub fn sync(&mut self) -> Result<(), FolderFault>
         ensures syncs { SyncsMaildir S.System self.old.system result self.new.system }
         ensures calls { self.new.calls ≡ self.old.calls }
@@ -70,7 +69,7 @@ impl<S: System> DiskFolder<S> {
         self.system.sync_root()
     }
 
-    // Counts a call that gave this answer.
+    // Counts a call with this result.
     fn count_call<T>(&mut self, answer: Result<T, FolderFault>) -> Result<T, FolderFault>
         ensures same { result ≡ answer }
         ensures system { self.new.system ≡ self.old.system }

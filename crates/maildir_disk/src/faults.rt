@@ -1,4 +1,4 @@
-// Which fault is told for an error of the system.
+// The faults of system calls that failed.
 ghost use Rattle.std.specs.Prelude.{◌≡◌, ◌⊎◌, ◌↔◌, IfErr, IfOk, OnErr, IsErr, IsTrue};
 ghost use Rattle.maildir_run.specs.Calls.{IsNotAbsent};
 ghost use Rattle.maildir_run.specs.declared.folder.FolderFault.TheVariants.{Failed, OutOfMemory};
@@ -13,10 +13,10 @@ use thiserror::Error;
 /// Why a Maildir was not opened.
 #[derive(Clone, Copy, Debug, Drop, Error, PartialEq, Eq)]
 pub enum OpenFault {
-    /// Another holds its lock.
+    /// Another program holds its lock.
     #[error("the Maildir is locked")]
     Locked,
-    /// A folder of it could not be opened or made, or a growth was refused.
+    /// A folder of it could not be opened or made, or an allocation failed.
     #[error("{0}")]
     Folder(FolderFault),
 }
@@ -49,7 +49,7 @@ pub(crate) fn answer_of<T>(outcome: io::Result<T>) -> Result<T, FolderFault>
     }
 }
 
-/// Whether the error is a growth of ours that was refused: it has no number of the system's.
+/// Whether an allocation of ours failed: the error is of the kind `OutOfMemory`, and has no errno.
 pub fn is_refused_growth(error: &io::Error) -> bool
     ensures { IsTrue result ↔ IsRefusedGrowth error.now }
 {

@@ -1,4 +1,4 @@
-// The names in a folder, as of one moment.
+// The names in a folder at one moment.
 ghost use Rattle.std.specs.Prelude.{◌≡◌, IfOk};
 ghost use Rattle.std.specs.Duration.{as_nanos};
 ghost use Rattle.std.specs.Time.{system_time_nanos};
@@ -15,23 +15,23 @@ use std::io;
 use std::io::ErrorKind;
 use std::time::{Duration, SystemTime, UNIX_EPOCH};
 
-// How far the stamp that a change gives its folder may be from the clock at that moment: file systems stamp by ticks of
-// a clock that a busy machine moves on late.
+// How far the stamp that a change sets may be from the clock at that moment: file systems stamp by the ticks of a clock,
+// which are late on a busy machine.
 const MARGIN_MILLIS: u64 = 50;
 
-// The same where a stamp has no part of a second: such a file system keeps none, and some count by two seconds.
+// The same for a stamp without a fraction of a second: the file system may keep none, and some count by two seconds.
 const COARSE_MARGIN_MILLIS: u64 = 2_050;
 
-// How long a folder is looked at that does not come to rest.
+// How long to try while a folder keeps changing.
 const PATIENCE_SECS: u64 = 30;
 
-// How long to wait after a change that was seen while the folder was read.
+// How long to wait after a change during a listing.
 const PAUSE_MILLIS: u64 = 1;
 
-/// The names of all entries of a folder as of one moment, though files in it come, go and are renamed meanwhile. A folder
-/// is read in several steps, and a file that is renamed between two of them can be missed by all. So the names are taken
-/// only where no change up to the end of the reading could have given the folder the stamp that it has before and after
-/// it; otherwise the folder is looked at again, and for 30 seconds at most.
+/// The names of all entries of a folder at one moment, though files in it are created, removed and renamed meanwhile.
+/// readdir(3) takes several steps, and can miss a file that is renamed between two of them. So the names are returned only
+/// if no change before the end of the listing could have set the stamp that the folder has before and after it; otherwise
+/// the folder is listed again, for 30 seconds at most.
 pub(crate) fn names_of_one_moment<S: System>(system: &mut S, sub: Sub) -> io::Result<Vec<String>>
     ensures honest { S.honest system.old → S.honest system.new }
     ensures listed { S.honest system.old →
@@ -57,12 +57,12 @@ pub(crate) fn names_of_one_moment<S: System>(system: &mut S, sub: Sub) -> io::Re
     Err(io::Error::from(ErrorKind::TimedOut))
 }
 
-// What one look at a folder gave.
+// The result of one attempt.
 #[derive(Drop)]
 enum Look {
-    // The names as of one moment.
+    // The names at one moment.
     Taken(Vec<String>),
-    // The folder is changing: look again after this pause.
+    // The folder is changing: try again after this pause.
     Wait(Duration),
 }
 
@@ -95,7 +95,7 @@ fn take_names<S: System>(system: &mut S, sub: Sub) -> io::Result<Look>
     }
 }
 
-// The names of a folder that has this stamp once they are read.
+// The names of a folder, if it has this stamp after they were read.
 fn watched_names<S: System>(
     system: &mut S,
     sub: Sub,
@@ -119,14 +119,14 @@ fn watched_names<S: System>(
     }
 }
 
-// How the stamp of a folder stands to the clock.
+// How the stamp of a folder compares with the clock.
 #[derive(Clone, Copy)]
 enum Age {
-    // So old that no change from now on gives it.
+    // So old that no later change sets it.
     Settled,
-    // A change about now may give it; it has settled after this time.
+    // A change about now may set it; it has settled after this time.
     Young(Duration),
-    // So far ahead that no change up to now gave it.
+    // So far ahead that no earlier change has set it.
     Ahead,
 }
 
@@ -144,7 +144,7 @@ impl Age {
     }
 }
 
-// How far the stamp may be from the clock at the change that gave it.
+// How far the stamp may be from the clock at the change that set it.
 fn margin_of(stamp: SystemTime) -> Duration
     ensures { as_nanos result ≡ margin_of (system_time_nanos stamp) }
 {

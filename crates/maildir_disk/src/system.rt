@@ -19,36 +19,36 @@ use maildir_run::Sub;
 use std::io;
 use std::time::{Duration, Instant, SystemTime};
 
-/// A file system as far as one Maildir needs it. Other programs may act before, within and after each call.
+/// The calls that one Maildir needs of a file system. Other programs may act before, within and after each call.
 pub trait System {
     /// A file of `tmp` that is open for writing.
     type File: Drop;
 
-    /// The files, the clock and the stamps as they are.
+    /// The files, the clock and the stamps.
     ghost world: { Self → World };
 
-    /// Under this name of `tmp` the file was opened.
+    /// The name in `tmp` under which the file was opened.
     ghost name_of: { Self.File → List ℕ };
 
-    /// No file was made under its name since it was opened.
+    /// No file was created under its name since it was opened.
     ghost is_current: { Self → Self.File → Type 0 };
 
     /// What a power cut may leave, now or later, of what has happened until now; what the system does by itself later adds
-    /// nothing to it. In `new` and `cur` it is the files that are found then, and of `tmp` what each file that is there now
-    /// would be found to hold, wherever it is found.
+    /// nothing to it. For `new` and `cur`: the files that a reader finds after the cut. For `tmp`: what each file that is there
+    /// now would hold, wherever a reader finds it.
     ghost may_leave: { Self → Files → Type 0 };
 
-    /// A power cut leaves the Maildir and its three folders.
+    /// A power cut leaves the Maildir and its three folders in place.
     ghost rooted: { Self → Type 0 };
 
-    /// Its calls do what their contracts say, and no sync of a folder has failed.
+    /// The calls do what their contracts say, and no sync of a folder has failed.
     ghost honest: { Self → Type 0 };
 
-    /// Its calls do what their contracts say, no other program acts, and each call has its own effect alone: once where it
-    /// answers Ok, and with an error any number of times, or none.
+    /// The calls do what their contracts say, no other program acts, and each call has only its own effect: once if it returns
+    /// Ok, and after an error any number of times, or never.
     ghost quiet: { Self → Type 0 };
 
-    /// The names of a folder, read in several steps.
+    /// readdir(3) of a folder, in several steps: the names of its entries.
     fn names(&mut self, sub: Sub) -> io::Result<Vec<String>>
         ensures honest { honest self.old → honest self.new }
         ensures passes { honest self.old → Passes sub (world self.old) (world self.new) }
@@ -60,7 +60,7 @@ pub trait System {
         ensures quietly { quiet self.old → SameFiles (world self.old) (world self.new) }
         ensures exact { quiet self.old → IfOk result (AreNames sub (world self.old).files) };
 
-    /// When a folder was last changed.
+    /// The time at which a folder was last changed: ctime of stat(2).
     fn stamp(&mut self, sub: Sub) -> io::Result<SystemTime>
         ensures honest { honest self.old → honest self.new }
         ensures passes { honest self.old → Passes sub (world self.old) (world self.new) }
@@ -82,7 +82,7 @@ pub trait System {
         ensures quiet { quiet self.old → quiet self.new }
         ensures quietly { quiet self.old → SameFiles (world self.old) (world self.new) };
 
-    /// The clock by which patience is measured, and which nobody sets.
+    /// The monotonic clock, which nobody sets.
     fn instant(&mut self) -> io::Result<Instant>
         ensures honest { honest self.old → honest self.new }
         ensures acts { honest self.old → Acts (world self.old) (world self.new) }
@@ -100,7 +100,7 @@ pub trait System {
         ensures quiet { quiet self.old → quiet self.new }
         ensures quietly { quiet self.old → SameFiles (world self.old) (world self.new) };
 
-    /// Makes a file of `tmp`, or empties it where it is there, and opens it for writing.
+    /// Creates a file of `tmp`, or truncates it if it is there, and opens it for writing.
     fn create(&mut self, name: &str) -> io::Result<Self::File>
         ensures honest { honest self.old → honest self.new }
         ensures name { honest self.old → IfOk result (λ file. name_of file ≡ name.now) }
@@ -112,7 +112,7 @@ pub trait System {
         ensures quietly { quiet self.old →
             CalledQuietly (Writing name.now []) (world self.old).files result (world self.new).files };
 
-    /// Appends a front of the bytes, and answers how many.
+    /// Appends a prefix of the bytes, and returns how many: write(2).
     fn append(&mut self, file: &mut Self::File, bytes: &[u8]) -> io::Result<usize>
         ensures most { IfOk result (λ n. n ≤ length bytes.now) }
         ensures honest { honest self.old → honest self.new }
@@ -126,7 +126,7 @@ pub trait System {
         ensures quietly { quiet self.old → is_current self.old file.old →
             AppendedQuietly (name_of file.old) bytes.now (world self.old).files result (world self.new).files };
 
-    /// Asks the system to keep what the file holds.
+    /// fsync(2) of a file.
     fn sync_file(&mut self, file: &Self::File) -> io::Result<()>
         ensures honest { honest self.old → honest self.new }
         ensures acts { honest self.old → Acts (world self.old) (world self.new) }
@@ -137,7 +137,7 @@ pub trait System {
         ensures quiet { quiet self.old → quiet self.new }
         ensures quietly { quiet self.old → SameFiles (world self.old) (world self.new) };
 
-    /// Moves a file out of `tmp`, by one rename.
+    /// Moves a file out of `tmp`, by one rename(2).
     fn rename(&mut self, name: &str, place: Place, target: &str) -> io::Result<()>
         ensures honest { honest self.old → honest self.new }
         ensures called { honest self.old →
@@ -150,7 +150,7 @@ pub trait System {
         ensures quietly { quiet self.old →
             CalledQuietly (Placing name.now place target.now) (world self.old).files result (world self.new).files };
 
-    /// Removes a file of `tmp`. Ok also where there was none.
+    /// Removes a file of `tmp`. Returns Ok also if there was none.
     fn unlink(&mut self, name: &str) -> io::Result<()>
         ensures honest { honest self.old → honest self.new }
         ensures called { honest self.old →
@@ -161,8 +161,8 @@ pub trait System {
         ensures quietly { quiet self.old →
             CalledQuietly (Removing name.now) (world self.old).files result (world self.new).files };
 
-    /// Asks the system to keep the names in `new` or `cur` as they are. After an error nothing is assumed of the calls that
-    /// follow: the error is told once, and the next sync may answer Ok though what failed was given up.
+    /// fsync(2) of the directory `new` or `cur`. After an error nothing is assumed of later calls: Linux reports a writeback
+    /// error once; a later fsync may succeed though the data is lost.
     fn sync_folder(&mut self, place: Place) -> io::Result<()>
         ensures honest { honest self.old → OnOk result (honest self.new) }
         ensures acts { honest self.old → Acts (world self.old) (world self.new) }
@@ -174,7 +174,8 @@ pub trait System {
         ensures quiet { quiet self.old → OnOk result (quiet self.new) }
         ensures quietly { quiet self.old → SameFiles (world self.old) (world self.new) };
 
-    /// Asks the system to keep the Maildir and its three folders. After an error nothing is assumed, as behind `sync_folder`.
+    /// fsync(2) of the Maildir, so that it and its three folders are durable. After an error nothing is assumed, as for
+    /// `sync_folder`.
     fn sync_root(&mut self) -> io::Result<()>
         ensures honest { honest self.old → OnOk result (honest self.new) }
         ensures acts { honest self.old → Acts (world self.old) (world self.new) }

@@ -1,4 +1,4 @@
-// A file of `tmp`, written and kept.
+// Writing and syncing a file of `tmp`.
 ghost use Rattle.maildir_run.specs.Calls.{Called, CalledQuietly};
 ghost use Rattle.maildir_run.specs.Calls.Call.{Writing};
 ghost use Rattle.maildir_run.specs.Cuts.{Follows, LeavesOf};
@@ -7,8 +7,8 @@ use crate::system::System;
 use std::io;
 use std::io::ErrorKind;
 
-/// Makes the file `name` of `tmp` hold these bytes, in place of what it held, and asks the system to keep them. A write
-/// that takes a front of the bytes is followed by one of the rest, and one that was interrupted is made again.
+/// Writes these bytes to the file `name` of `tmp`, in place of what it held, and syncs it. After a write(2) of a prefix the
+/// rest follows, and an interrupted one is retried.
 pub(crate) fn write_synced<S: System>(system: &mut S, name: &str, bytes: &[u8]) -> io::Result<()>
     ensures honest { S.honest system.old → S.honest system.new }
     ensures called { S.honest system.old →

@@ -1,4 +1,4 @@
--- The path that a Maildir on the file system was opened at.
+-- The path at which a Maildir on the file system was opened.
 pub mod Paths
--- Words of the contracts of private functions and of proofs. No public contract reaches them, and no reader need believe them.
+-- Definitions for private functions and proofs. No public contract uses them, and no reader need believe them.
 pub mod Private

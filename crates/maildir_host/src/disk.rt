@@ -1,4 +1,4 @@
-// What is asked of the file system, a step each.
+// The system calls, one function each.
 ghost use Rattle.std.specs.Prelude.{◌≡◌, ◌+◌, ◌*◌, IfSome};
 ghost use Rattle.std.specs.Time.{system_time_nanos};
 
@@ -10,12 +10,12 @@ use std::rt::Files;
 use std::time::{Duration, SystemTime, UNIX_EPOCH};
 use std::{fs, io};
 
-// Mail is private: nobody but its owner reads what is made here, whatever the umask allows.
+// Mail is private: only its owner can read what is created here, whatever the umask allows.
 const FOLDER_MODE: u32 = 0o700;
 
 const FILE_MODE: u32 = 0o600;
 
-/// Makes a folder where there is none, and tells whether it did. Its parent must be there.
+/// Makes a folder if there is none, and returns whether it did. Its parent must exist.
 pub(crate) fn make_folder(files: &impl Files, path: &str) -> io::Result<bool> {
     let mut builder = DirBuilder::new();
     builder.mode(FOLDER_MODE);
@@ -53,8 +53,8 @@ fn name_of<R: Files + Drop>(alloc: Global, entry: io::Result<DirEntry<R>>) -> io
     Ok(String::from_str(alloc, entry?.file_name())?)
 }
 
-/// When a folder's names were last changed, or else its owner, its mode or another of its times: the time that stat(2) calls
-/// ctime. No program can set it, as it can set the time of modification.
+/// The time of the last change of a folder's entries, owner, mode or other times: ctime of stat(2). Unlike the time of
+/// modification, no program can set it.
 pub(crate) fn time_of_change(files: &impl Files, path: &str) -> io::Result<SystemTime> {
     let found = fs::metadata(files, path)?;
     let time = match (
@@ -68,7 +68,7 @@ pub(crate) fn time_of_change(files: &impl Files, path: &str) -> io::Result<Syste
     time.ok_or(io::Error::other("the file system keeps no time of change"))
 }
 
-// The time so long after 1970 began.
+// The time this long after the beginning of 1970.
 fn time_of(seconds: u64, nanos: u64) -> Option<SystemTime>
     ensures { IfSome result (λ time. system_time_nanos time ≡ seconds * 1_000_000_000 + nanos) }
 {
@@ -77,9 +77,9 @@ fn time_of(seconds: u64, nanos: u64) -> Option<SystemTime>
         .checked_add(Duration::from_nanos(nanos))
 }
 
-/// Makes the file `path` of `folder`, or empties it where it is there, and opens it for writing. It is made by O_EXCL, which
-/// follows no link and opens no FIFO. Where anything but a file of our own has the name, as what others put there, it is an
-/// error, and nothing is changed.
+/// Creates the file `path` of `folder`, or truncates it if it is there, and opens it for writing. It is created with O_EXCL,
+/// which follows no link and opens no FIFO. If anything but a file of our own has the name, it is an error, and nothing is
+/// changed.
 pub(crate) fn create<R: Files>(files: &R, folder: &str, path: &str) -> io::Result<R::File> {
     let mut options = OpenOptions::new();
     options.write(true).create_new(true);
@@ -90,18 +90,18 @@ pub(crate) fn create<R: Files>(files: &R, folder: &str, path: &str) -> io::Resul
     }
 }
 
-// Empties a file of our own, and opens it for writing. It is looked at before it is opened, since a device may do something
-// when it is opened, and again through the handle, since by then another may have its name.
+// Truncates a file of our own, and opens it for writing. It is checked before it is opened, since opening a device may have
+// an effect, and again through the handle, since by then another file may have its name.
 fn empty<R: Files>(files: &R, folder: &str, path: &str) -> io::Result<R::File> {
     let found = own_file(files, folder, path)?;
     let mut options = OpenOptions::new();
-    // for reading too: a FIFO that has come meanwhile is then not waited for (fifo(7))
+    // for reading too: opening a FIFO for writing alone blocks until a reader opens it (fifo(7))
     let file = options.read(true).write(true).open(files, path)?;
     empty_same(&file, &found)?;
     Ok(file)
 }
 
-// What has this name, where it is a file of our own.
+// The file with this name, if it is our own.
 fn own_file(files: &impl Files, folder: &str, path: &str) -> io::Result<Metadata> {
     let owner = fs::metadata(files, folder)?.uid();
     let found = fs::symlink_metadata(files, path)?;
@@ -112,7 +112,7 @@ fn own_file(files: &impl Files, folder: &str, path: &str) -> io::Result<Metadata
     }
 }
 
-// Empties the file that is open, where it is the one that was found.
+// Truncates the open file, if it is the one that was checked.
 fn empty_same(file: &impl OpenFile, found: &Metadata) -> io::Result<()> {
     let opened = file.metadata()?;
     if is_own(&opened, found.uid()) && opened.dev() == found.dev() && opened.ino() == found.ino() {
@@ -122,8 +122,8 @@ fn empty_same(file: &impl OpenFile, found: &Metadata) -> io::Result<()> {
     }
 }
 
-// Whether it is a file as the converter makes one: it has one name, it belongs to the owner of the folder, and nobody else may
-// open it. Where another could, one may have done so already, and would read the message as it is written.
+// Whether the converter may have created it: it has one name, it belongs to the owner of the folder, and nobody else may open
+// it. If others could, one may have opened it already, and would read the message as it is written.
 fn is_own(found: &Metadata, owner: u32) -> bool {
     found.is_file()
         && found.nlink() == 1
@@ -131,7 +131,7 @@ fn is_own(found: &Metadata, owner: u32) -> bool {
         && found.mode() & 0o7777 == FILE_MODE
 }
 
-/// Moves a file, by one rename. The error is of the kind `NotFound` only where no file was there to be moved.
+/// Moves a file by one rename(2). The error is of the kind `NotFound` only if there was no file to move.
 pub(crate) fn rename(files: &impl Files, from: &str, to: &str) -> io::Result<()> {
     match fs::rename(files, from, to) {
         Err(error)
@@ -142,7 +142,7 @@ pub(crate) fn rename(files: &impl Files, from: &str, to: &str) -> io::Result<()>
     }
 }
 
-/// Removes a file where there is one.
+/// Removes a file, if there is one.
 pub(crate) fn remove(files: &impl Files, path: &str) -> io::Result<()> {
     match fs::remove_file(files, path) {
         Err(error) if error.kind() == ErrorKind::NotFound => Ok(()),
@@ -150,13 +150,13 @@ pub(crate) fn remove(files: &impl Files, path: &str) -> io::Result<()> {
     }
 }
 
-/// Asks the system to keep the names in a folder as they are.
+/// fsync(2) of a directory.
 pub(crate) fn sync_folder(files: &impl Files, path: &str) -> io::Result<()> {
     fs::open(files, path)?.sync_all()
 }
 
-/// As `sync_folder`, and Ok where the system cannot be asked: where the folder may not be opened, and on a file system that
-/// has no sync for it (fsync(2): EINVAL, EROFS).
+/// As `sync_folder`, but Ok if the folder cannot be synced: it may not be opened, or the file system has no fsync for it
+/// (fsync(2): EINVAL, EROFS).
 pub(crate) fn sync_folder_if_possible(files: &impl Files, path: &str) -> io::Result<()> {
     match fs::open(files, path) {
         Err(error) if error.kind() == ErrorKind::PermissionDenied => Ok(()),

@@ -1,4 +1,4 @@
-// A Maildir's calls on the file system, and the folder over them.
+// The system calls of a Maildir at a path.
 ghost use Rattle.std.specs.Prelude.{◌≡◌, [], ◌++◌, ◌∷◌, IfErr, IfOk, string_bytes};
 ghost use Rattle.maildir_disk.specs.Paths.{folder_of_place};
 ghost use Rattle.maildir_host.specs.Paths.{root_at, root_of};
@@ -16,29 +16,29 @@ use std::rt::{Clock, Files};
 use std::time::{Duration, Instant, SystemTime};
 use std::{io, thread};
 
-/// The calls of one Maildir on the file system.
+/// The system calls of one Maildir.
 #[derive(Drop)]
 pub struct Host<'a, R> {
     rt: &'a R,
     alloc: Global,
     root: String,
-    // whether the Maildir was made as it was opened
+    // whether opening the Maildir created it
     made: bool,
-    // held as long as the Maildir is open
+    // locked while the Maildir is open
     _lock: File,
 }
 
 impl<'a, R: Files<File = File> + Clock> Host<'a, R> {
-    /// The calls of the Maildir at `path`. The folder, and `tmp`, `new` and `cur` in it, are made where they are missing,
-    /// with mode 0700. The parent of `path` must be there. The folder stays locked as long as it is open, where the
-    /// file system has a lock for it.
+    /// Opens the Maildir at `path`. The folder, and `tmp`, `new` and `cur` in it, are created with mode 0700 if they are
+    /// missing. The parent of `path` must exist. The folder stays locked while it is open, if the file system has locks for
+    /// folders.
     ///
     /// # Errors
     ///
-    /// [`OpenFault::Locked`] where another holds the lock; nothing in the folder was looked at or changed.
-    /// [`FolderFault::Failed`] where the Maildir may not be opened to be locked, and nothing in it was changed; and where one
-    /// of the four is no folder and cannot be made one. Those that were made stay.
-    /// [`FolderFault::OutOfMemory`] where a growth was refused.
+    /// [`OpenFault::Locked`] if another program holds the lock; nothing in the folder was read or changed.
+    /// [`FolderFault::Failed`] if the Maildir cannot be opened to be locked, and then nothing in it was changed; or if one of
+    /// the four is no folder and cannot be created. Those that were created stay.
+    /// [`FolderFault::OutOfMemory`] if an allocation failed.
     pub fn open_at(rt: &'a R, alloc: Global, path: &str) -> Result<Self, OpenFault>
         ensures path { IfOk result (λ system. root_at system ≡ path.now) }
         ensures not_absent { IfErr result (λ fault. ¬ (fault ≡ OpenFault.Folder FolderFault.Absent)) }
@@ -58,7 +58,7 @@ impl<'a, R: Files<File = File> + Clock> Host<'a, R> {
     }
 }
 
-/// A folder of the engine at a path of the file system.
+/// A folder that can be opened at a path.
 pub trait OpenAt<'a, R>: Sized {
     /// Opens the Maildir at `path`, as [`Host::open_at`] does.
     fn open_at(rt: &'a R, alloc: Global, path: &str) -> Result<Self, OpenFault>;
@@ -100,7 +100,7 @@ impl<'a, R: Files + Clock> Host<'a, R> {
     }
 }
 
-// What a real file system does, no proof knows.
+// No proof knows what a real file system does.
 impl<'a, R: Files + Clock> System for Host<'a, R> {
     ghost use Rattle.maildir_disk.specs.World.{no_world};
 

@@ -7,12 +7,12 @@ use std::fs::{File, TryLockError};
 use std::rt::Files;
 use std::{fs, io};
 
-// How Linux says that a file system has no lock for a folder: by EBADF (a network file system that locks what may be
-// written alone), ENOLCK, ENOSYS and EOPNOTSUPP.
+// The errors by which Linux reports that a file system has no lock for a folder: EBADF (a network file system that locks only
+// files open for writing), ENOLCK, ENOSYS and EOPNOTSUPP.
 const NO_LOCKS: [i32; 4] = [9, 37, 38, 95];
 
-/// Opens a folder, and locks it as long as the answer lives, by flock(2): the lock is gone when the process is, however it
-/// ends. Where the file system has no locks there is none.
+/// Opens a folder, and locks it with flock(2) as long as the returned file lives: the lock ends with the process, however that
+/// ends. If the file system has no locks there is none.
 pub(crate) fn lock_folder<R: Files<File = File>>(files: &R, path: &str) -> Result<File, OpenFault>
     ensures not_absent { IfErr result (λ fault. ¬ (fault ≡ OpenFault.Folder FolderFault.Absent)) }
 {

@@ -1,4 +1,4 @@
--- The words that the proofs cite, passed on from one place. Declares nothing.
+-- The definitions and lemmas that the proofs use, imported in one place. Declares nothing.
 pub use Rattle.std.proofs.lemmas.Bool.{cases_lt}
 pub use Rattle.std.proofs.lemmas.List.Elements.{All-append, All-contains, Contains-append_cases, Contains-append_left, Contains-append_right}
 pub use Rattle.std.proofs.lemmas.List.Elements.{Contains-get_or}

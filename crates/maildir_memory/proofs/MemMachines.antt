@@ -1,20 +1,32 @@
 -- Maildirs in memory under their words, where one of them is taken or put back.
-use Rattle.std.proofs.Common.{◌≡◌, ℕ, cond, List, Option, Some, None, Ok, Err, IsSome, IsTrue, String, rules, refl, sym, ap, subst, ◌∙◌, inl, inr}
+use Rattle.std.proofs.Common.{◌≡◌, ◌⊎◌, ℕ, cond, List, [], Option, Some, None, Ok, Err, IfSome, IsSome, IsTrue, String}
+use Rattle.std.proofs.Common.{rules, refl, sym, ap, subst, ◌∙◌, inl, inr}
 use Rattle.std.proofs.lemmas.Bool.{cases_Bool, false≢true}
 use Rattle.std.proofs.lemmas.Slice.Eq.{bytes_eq-Decides}
 use Rattle.std.specs.BTreeMap.{BTreeMap, get_by_text}
 use Rattle.std.specs.Map.{update}
 use Rattle.std.specs.Str.{bytes_eq}
-use Rattle.maildir_run.specs.declared.folder.FolderFault.TheVariants.{Failed}
+use Rattle.maildir_run.specs.MemFiles.{no_files}
+use Rattle.maildir_run.specs.declared.folder.FolderFault.{FolderFault}
+use Rattle.maildir_run.specs.declared.folder.FolderFault.TheVariants.{Failed, OutOfMemory}
 use Rattle.maildir_run.specs.MemFolder.{IsQuiet}
 use Rattle.maildir_disk.specs.declared.faults.OpenFault.TheVariants.{Folder, Locked}
 use Rattle.maildir_memory.specs.declared.mem_system.MemSystem.{MemSystem}
 use Rattle.maildir_memory.specs.MemSystem.{HasNoTurns}
 use Rattle.maildir_memory.specs.declared.mem_machine.NamedText.{NamedText}
-use Rattle.maildir_commands.specs.Machines.{Rests}
-use Rattle.maildir_memory.specs.MemMachines.{AreAll, IsRefusedAt, held_at, held_under_word, open_in_memory, seen_in_memory}
+use Rattle.maildir_commands.specs.Machines.{Rests, nothing_held}
+use Rattle.maildir_memory.specs.MemMachines.{AreAll, IsFresh, IsFreshQuietly, IsRefusedAt, held_at, held_under_word, open_in_memory, seen_in_memory}
 use Rattle.maildir_commands.specs.Opening.{ClosesMaildir, OpensMaildir}
 use Rattle.maildir_commands.proofs.Resting.{rest_same}
+
+-- a fresh Maildir has what is where none is
+rest_fresh : {system : MemSystem} → IsFresh system → Rests nothing_held (open_in_memory system).held
+rest_fresh {system} fresh = record {
+  actions = [];
+  files_are = fresh.empty;
+  left = λ left may. (no_files, refl, record { kept = []; are = fresh.none_left left may });
+  found = λ h. absurd h;
+}
 
 module _ {X : Type 0} (old new : BTreeMap (String X) (Option MemSystem)) (path : List ℕ) (slot : Option MemSystem)
     (looked : (word : List ℕ) → get_by_text new word ≡ update bytes_eq (get_by_text old) path (Some slot) word) where
@@ -52,21 +64,21 @@ module _ {X : Type 0} (old new : BTreeMap (String X) (Option MemSystem)) (path :
   others_files word other = ap (λ found. (held_at found).files) (off_path word other)
 
   -- ---- a Maildir that is not open is taken
-  module _ (texts : List NamedText) (is_taken : slot ≡ None) where
+  module _ (texts : List NamedText) (fresh : Option MemSystem) (is_taken : slot ≡ None) where
     pub takes : {system : MemSystem} → get_by_text old path ≡ Some (Some system)
-        → OpensMaildir open_in_memory path (Ok system) (seen_in_memory texts old) (seen_in_memory texts new)
+        → OpensMaildir open_in_memory path (Ok system) (seen_in_memory texts old fresh) (seen_in_memory texts new fresh)
     takes {system} is = record {
-      honest = λ h. still_all h is_taken;
+      honest = λ h. (still_all h.0 is_taken, h.1);
       texts = λ h. refl;
       refusals = λ h word refused. refused;
       is_open = λ h. subst IsSome (sym at_path) refl;
-      works = λ h. h path system is;
+      works = λ h. h.0 path system is;
       opens = λ h. subst (λ found. Rests (held_at found) (held_at (Some (Some system)))) (sym is) rest_same;
       refused = λ h. tt;
       rests = λ h. tt;
       others = λ h. others_rest;
-      quiet = λ q. still_all q is_taken;
-      works_quietly = λ q. q path system is;
+      quiet = λ q. (still_all q.0 is_taken, q.1);
+      works_quietly = λ q. q.0 path system is;
       opens_quietly = λ q. sym (ap (λ found. (held_at found).files) is);
       rests_quietly = λ q. tt;
       others_quietly = λ q. others_files;
@@ -74,11 +86,11 @@ module _ {X : Type 0} (old new : BTreeMap (String X) (Option MemSystem)) (path :
 
     -- it is open
     pub takes_none : get_by_text old path ≡ Some None
-        → OpensMaildir open_in_memory path (Err Locked) (seen_in_memory texts old) (seen_in_memory texts new)
+        → OpensMaildir open_in_memory path (Err Locked) (seen_in_memory texts old fresh) (seen_in_memory texts new fresh)
     takes_none is =
         let same : get_by_text new path ≡ get_by_text old path = at_path ∙ (ap Some is_taken ∙ sym is) in
         record {
-          honest = λ h. still_all h is_taken;
+          honest = λ h. (still_all h.0 is_taken, h.1);
           texts = λ h. refl;
           refusals = λ h word refused. refused;
           is_open = λ h. tt;
@@ -87,7 +99,7 @@ module _ {X : Type 0} (old new : BTreeMap (String X) (Option MemSystem)) (path :
           refused = λ h. subst (λ found. IsRefusedAt found Locked) (sym is) refl;
           rests = λ h. subst (λ found. Rests (held_under_word old path) (held_at found)) (sym same) rest_same;
           others = λ h. others_rest;
-          quiet = λ q. still_all q is_taken;
+          quiet = λ q. (still_all q.0 is_taken, q.1);
           works_quietly = λ q. tt;
           opens_quietly = λ q. tt;
           rests_quietly = λ q. ap (λ found. (held_at found).files) same;
@@ -95,12 +107,12 @@ module _ {X : Type 0} (old new : BTreeMap (String X) (Option MemSystem)) (path :
         }
 
   -- ---- a Maildir that is open is put back
-  pub puts : (texts : List NamedText) {system : MemSystem} → slot ≡ Some system
-      → ClosesMaildir path (open_in_memory system) (seen_in_memory texts old) (seen_in_memory texts new)
-  puts texts {system} is_put =
+  pub puts : (texts : List NamedText) (fresh : Option MemSystem) {system : MemSystem} → slot ≡ Some system
+      → ClosesMaildir path (open_in_memory system) (seen_in_memory texts old fresh) (seen_in_memory texts new fresh)
+  puts texts fresh {system} is_put =
       let at : get_by_text new path ≡ Some (Some system) = at_path ∙ ap Some is_put in
       record {
-        honest = λ h working. put_all (λ system. IsQuiet system.folder) h is_put working;
+        honest = λ h working. (put_all (λ system. IsQuiet system.folder) h.0 is_put working, h.1);
         texts = λ h. refl;
         closes = λ h is. subst (λ found. Rests (held_at (Some (Some system))) (held_at found)) (sym at) rest_same;
         others = λ h. others_rest;
@@ -108,37 +120,78 @@ module _ {X : Type 0} (old new : BTreeMap (String X) (Option MemSystem)) (path :
         others_quietly = λ q. others_files;
       }
 
+  -- ---- a Maildir that was missing is made, and open
+  makes : (texts : List NamedText) (system : MemSystem) (now : Option MemSystem) → now ≡ None → slot ≡ None → get_by_text old path ≡ None
+      → OpensMaildir open_in_memory path (Ok system) (seen_in_memory texts old (Some system)) (seen_in_memory texts new now)
+  makes texts system now none is_taken missing = record {
+    honest = λ h. (still_all h.0 is_taken, subst (λ fresh. IfSome fresh IsFresh) (sym none) tt);
+    texts = λ h. refl;
+    refusals = λ h word refused. refused;
+    is_open = λ h. subst IsSome (sym at_path) refl;
+    works = λ h. h.1.honest;
+    opens = λ h. subst (λ found. Rests (held_at found) (open_in_memory system).held) (sym missing) (rest_fresh h.1);
+    refused = λ h. tt;
+    rests = λ h. tt;
+    others = λ h. others_rest;
+    quiet = λ q. (still_all q.0 is_taken, subst (λ fresh. IfSome fresh IsFreshQuietly) (sym none) tt);
+    works_quietly = λ q. q.1.quiet;
+    opens_quietly = λ q. q.1.fresh.empty ∙ sym (ap (λ found. (held_at found).files) missing);
+    rests_quietly = λ q. tt;
+    others_quietly = λ q. others_files;
+  }
+
+  pub makes_of : (texts : List NamedText) (was : Option MemSystem) (system : MemSystem) (now : Option MemSystem) → was ≡ Some system → now ≡ None
+      → slot ≡ None → get_by_text old path ≡ None
+      → OpensMaildir open_in_memory path (Ok system) (seen_in_memory texts old was) (seen_in_memory texts new now)
+  makes_of texts was system now is none is_taken missing =
+      subst (λ fresh. OpensMaildir open_in_memory path (Ok system) (seen_in_memory texts old fresh) (seen_in_memory texts new now)) (sym is)
+      (makes texts system now none is_taken missing)
+
 -- ---- none is there
-module _ {X : Type 0} (texts : List NamedText) (old new : BTreeMap (String X) (Option MemSystem)) (path : List ℕ) (same : new ≡ old) where
+pub same_entries : {X : Type 0} (old new : BTreeMap (String X) (Option MemSystem)) → new.entries ≡ old.entries
+    → (word : List ℕ) → get_by_text new word ≡ get_by_text old word
+same_entries old new same word = rw same refl
+
+module _ {X : Type 0} (texts : List NamedText) (old new : BTreeMap (String X) (Option MemSystem)) (path : List ℕ)
+    (same : (word : List ℕ) → get_by_text new word ≡ get_by_text old word) where
   same_rests : (word : List ℕ) → Rests (held_under_word old word) (held_under_word new word)
-  same_rests word = subst (λ maildirs. Rests (held_under_word old word) (held_under_word maildirs word)) (sym same) rest_same
+  same_rests word = subst (λ found. Rests (held_under_word old word) (held_at found)) (sym (same word)) rest_same
 
   same_files : (word : List ℕ) → (held_under_word new word).files ≡ (held_under_word old word).files
-  same_files word = ap (λ maildirs. (held_under_word maildirs word).files) same
+  same_files word = ap (λ found. (held_at found).files) (same word)
 
-  pub finds_none : get_by_text old path ≡ None
-      → OpensMaildir open_in_memory path (Err (Folder Failed)) (seen_in_memory texts old) (seen_in_memory texts new)
-  finds_none none = record {
-    honest = λ h. subst (AreAll (λ system. IsQuiet system.folder)) (sym same) h;
+  same_all : (P : MemSystem → Type 0) → AreAll P old → AreAll P new
+  same_all P all word system is = all word system (sym (same word) ∙ is)
+
+  -- and none can be made
+  pub makes_none : (fresh now : Option MemSystem) → now ≡ None → get_by_text old path ≡ None → (fault : FolderFault)
+      → (fault ≡ Failed) ⊎ (fault ≡ OutOfMemory)
+      → OpensMaildir open_in_memory path (Err (Folder fault)) (seen_in_memory texts old fresh) (seen_in_memory texts new now)
+  makes_none fresh now none missing fault is = record {
+    honest = λ h. (same_all (λ system. IsQuiet system.folder) h.0, subst (λ fresh. IfSome fresh IsFresh) (sym none) tt);
     texts = λ h. refl;
     refusals = λ h word refused. refused;
     is_open = λ h. tt;
     works = λ h. tt;
     opens = λ h. tt;
-    refused = λ h. subst (λ found. IsRefusedAt found (Folder Failed)) (sym none) refl;
+    refused = λ h. subst (λ found. IsRefusedAt found (Folder fault)) (sym missing)
+        (elim is as (λ _. (Folder fault ≡ Folder Failed) ⊎ (Folder fault ≡ Folder OutOfMemory)) [
+          | inl failed ↦ inl (ap Folder failed)
+          | inr memory ↦ inr (ap Folder memory)
+        ]);
     rests = λ h. same_rests path;
     others = λ h word other. same_rests word;
-    quiet = λ q. subst (AreAll HasNoTurns) (sym same) q;
+    quiet = λ q. (same_all HasNoTurns q.0, subst (λ fresh. IfSome fresh IsFreshQuietly) (sym none) tt);
     works_quietly = λ q. tt;
     opens_quietly = λ q. tt;
     rests_quietly = λ q. same_files path;
     others_quietly = λ q word other. same_files word;
   }
 
-  pub puts_none : (system : MemSystem) → get_by_text old path ≡ None
-      → ClosesMaildir path (open_in_memory system) (seen_in_memory texts old) (seen_in_memory texts new)
-  puts_none system none = record {
-    honest = λ h working. subst (AreAll (λ system. IsQuiet system.folder)) (sym same) h;
+  pub puts_none : (fresh : Option MemSystem) (system : MemSystem) → get_by_text old path ≡ None
+      → ClosesMaildir path (open_in_memory system) (seen_in_memory texts old fresh) (seen_in_memory texts new fresh)
+  puts_none fresh system none = record {
+    honest = λ h working. (same_all (λ system. IsQuiet system.folder) h.0, h.1);
     texts = λ h. refl;
     closes = λ h is. absurd (false≢true (subst IsSome none is));
     others = λ h word other. same_rests word;

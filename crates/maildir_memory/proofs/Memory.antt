@@ -1,6 +1,6 @@
--- The system in memory: what each change adds to what a cut may leave.
+-- The system in memory: what each change adds to what a power cut may leave.
 
 -- Lists of cases: what is added, and what stays.
 pub mod CaseLists
--- Changes of a Maildir in memory: what each leaves, and of which call it is.
+-- Changes of a Maildir in memory: what each may leave, and to which call it belongs.
 pub mod Changes

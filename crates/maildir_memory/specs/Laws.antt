@@ -1,15 +1,17 @@
 -- Proofs of laws of the trait `Machine`, for the machine in memory.
 use Rattle.std.proofs.Common.{inl, refl, subst}
 use Rattle.std.proofs.lemmas.Slice.Eq.{bytes_eq-Decides}
-use Rattle.std.specs.Prelude.{ℕ, List, Option, Some, None, String, IsTrue}
+use Rattle.std.specs.Prelude.{ℕ, List, Option, Some, None, String, IfSome, IsTrue}
 use Rattle.std.specs.BTreeMap.{BTreeMap}
 use Rattle.std.specs.Str.{bytes_eq}
 use Rattle.maildir_commands.specs.Machines.{AreAt}
 use Rattle.maildir_commands.proofs.Resting.{same_at}
 use Rattle.maildir_memory.specs.declared.mem_system.MemSystem.{MemSystem}
-use Rattle.maildir_memory.specs.MemMachines.{held_at, held_under_word}
+use Rattle.maildir_memory.specs.MemMachines.{AreAll, IsFresh, IsFreshQuietly, held_at, held_under_word}
+use Rattle.maildir_memory.specs.MemSystem.{HasNoTurns}
+use Rattle.maildir_run.specs.MemFolder.{IsQuiet}
 
--- a power cut may leave its files as they are
+-- a power cut may leave the files as they are
 pub held_may_stay : (found : Option (Option MemSystem)) → (held_at found).may_leave (held_at found).files
 held_may_stay None = refl
 held_may_stay (Some None) = refl
@@ -20,3 +22,9 @@ pub held_alike : {X : Type 0} (maildirs : BTreeMap (String X) (Option MemSystem)
     → AreAt (held_under_word maildirs word) (held_under_word maildirs other)
 held_alike maildirs word other same =
     subst (λ w. AreAt (held_under_word maildirs word) (held_under_word maildirs w)) ((bytes_eq-Decides word other).0 same) same_at
+
+-- where it is quiet, it does as assumed
+pub quiet_in_memory : {X : Type 0} (maildirs : BTreeMap (String X) (Option MemSystem)) (fresh : Option MemSystem)
+    → AreAll HasNoTurns maildirs × IfSome fresh IsFreshQuietly → AreAll (λ system. IsQuiet system.folder) maildirs × IfSome fresh IsFresh
+quiet_in_memory maildirs None (all, none) = (λ word system is. (all word system is).no_script, tt)
+quiet_in_memory maildirs (Some system) (all, one) = (λ word system is. (all word system is).no_script, one.fresh)

@@ -1,10 +1,10 @@
 -- The cases of what a power cut may leave of a Maildir in memory.
 pub mod Cases
--- What a Maildir in memory with a clock shows.
+-- What contracts see of a Maildir in memory.
 pub mod MemSystem
 -- What a machine in memory has under a word.
 pub mod MemMachines
 -- Proofs of laws of the trait `Machine`, for the machine in memory.
 pub mod Laws
--- Words of the contracts of private functions and of proofs. No public contract reaches them, and no reader need believe them.
+-- Definitions for private functions and proofs. No public contract uses them, and no reader need believe them.
 pub mod Private

@@ -1,9 +1,11 @@
 -- What a machine in memory has under a word.
-use Rattle.std.specs.Prelude.{◌≡◌, ℕ, Bool, true, false, List, [], ◌∷◌, Option, Some, None, String, IsSome, IsTrue, if◌then◌else◌}
+use Rattle.std.specs.Prelude.{◌≡◌, ◌⊎◌, ℕ, Bool, true, false, List, [], ◌∷◌, Option, Some, None, String, IfSome, IsSome, IsTrue, if◌then◌else◌}
 use Rattle.std.specs.BTreeMap.{BTreeMap, get_by_text}
 use Rattle.std.specs.Str.{bytes_eq}
-use Rattle.maildir_run.specs.MemFolder.{IsQuiet}
-use Rattle.maildir_run.specs.declared.folder.FolderFault.TheVariants.{Failed}
+use Rattle.maildir_run.specs.MemFolder.{IsQuiet, files_of}
+use Rattle.maildir_run.specs.Files.{Files}
+use Rattle.maildir_run.specs.MemFiles.{no_files}
+use Rattle.maildir_run.specs.declared.folder.FolderFault.TheVariants.{Failed, OutOfMemory}
 use Rattle.maildir_disk.specs.declared.faults.OpenFault.{OpenFault}
 use Rattle.maildir_disk.specs.declared.faults.OpenFault.TheVariants.{Folder, Locked}
 use Rattle.maildir_memory.specs.declared.mem_system.MemSystem.{MemSystem}
@@ -22,9 +24,9 @@ abbrev pub has_text : List NamedText → List ℕ → Bool
 has_text [] word = false
 has_text (named ∷ texts) word = if bytes_eq named.name.now word then true else has_text texts word
 
--- why the Maildir is refused: none is there, or it is open
+-- why the Maildir is refused: none is there, and none can be made, or it is open
 abbrev pub IsRefusedAt : Option (Option MemSystem) → OpenFault → Type 0
-IsRefusedAt None fault = fault ≡ Folder Failed
+IsRefusedAt None fault = (fault ≡ Folder Failed) ⊎ (fault ≡ Folder OutOfMemory)
 IsRefusedAt (Some None) fault = fault ≡ Locked
 IsRefusedAt (Some (Some _)) fault = ⊥
 
@@ -50,11 +52,22 @@ held_under_word maildirs word = held_at (get_by_text maildirs word)
 abbrev pub AreAll : {X : Type 0} → (MemSystem → Type 0) → BTreeMap (String X) (Option MemSystem) → Type 0
 AreAll P maildirs = (word : List ℕ) (system : MemSystem) → get_by_text maildirs word ≡ Some (Some system) → P system
 
--- what is seen of the machine with these texts and Maildirs
-abbrev pub seen_in_memory : {X : Type 0} → List NamedText → BTreeMap (String X) (Option MemSystem) → SeenMachine
-seen_in_memory texts maildirs = record {
-  honest = AreAll (λ system. IsQuiet system.folder) maildirs;
-  quiet = AreAll HasNoTurns maildirs;
+-- A Maildir that holds nothing, and of which a power cut leaves nothing.
+pub record IsFresh (system : MemSystem) : Type 0 where
+  pub honest : IsQuiet system.folder
+  pub empty : files_of system.folder ≡ no_files
+  pub none_left : (left : Files) → may_be_left system left → left ≡ no_files
+
+-- and no other program has a turn
+pub record IsFreshQuietly (system : MemSystem) : Type 0 where
+  pub fresh : IsFresh system
+  pub quiet : HasNoTurns system
+
+-- what is seen of the machine with these texts and Maildirs, and of which the next one is made
+abbrev pub seen_in_memory : {X : Type 0} → List NamedText → BTreeMap (String X) (Option MemSystem) → Option MemSystem → SeenMachine
+seen_in_memory texts maildirs fresh = record {
+  honest = AreAll (λ system. IsQuiet system.folder) maildirs × IfSome fresh IsFresh;
+  quiet = AreAll HasNoTurns maildirs × IfSome fresh IsFreshQuietly;
   text_of = text_under texts;
   refuses_source = λ word. has_text texts word ≡ false;
   maildir_at = held_under_word maildirs;

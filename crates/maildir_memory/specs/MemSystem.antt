@@ -1,4 +1,4 @@
--- What a Maildir in memory with a clock shows.
+-- What contracts see of a Maildir in memory.
 use Rattle.std.specs.Prelude.{◌≡◌, ◌<◌, ◌≤◌, ◌++◌, ◌∷◌, ℕ, List, [], take, if◌then◌else◌}
 use Rattle.std.specs.Time.{system_time_nanos}
 use Rattle.std.specs.String.{string_bytes}
@@ -11,7 +11,7 @@ use Rattle.maildir_memory.specs.Cases.{lefts_of, may_find}
 use Rattle.maildir_disk.specs.World.{World}
 use Rattle.maildir_disk.specs.Writing.{changed}
 
--- its files, its clock and the stamp of each folder
+-- the files, the clock and the stamp of each folder
 abbrev pub world_of : MemSystem → World
 world_of system = record { files = files_of system.folder; time = system_time_nanos system.clock; stamp_of = λ _. system_time_nanos system.stamp }
 
@@ -19,25 +19,25 @@ world_of system = record { files = files_of system.folder; time = system_time_na
 abbrev pub opened_as : MemFile → List ℕ
 opened_as file = string_bytes file.name
 
--- a cut may leave the files as they are, or one of the cases that are kept in mind
+-- a power cut may leave the files as they are, or one of the recorded cases
 abbrev pub may_be_left : MemSystem → Files → Type 0
 may_be_left system = may_find system.folder system.cases
 
--- each case of what a cut leaves: those, the files as they are, and no Maildir where it was not kept
+-- all that a power cut may leave: the recorded cases, the files as they are, and no Maildir if it was not synced
 abbrev pub cases_of : MemSystem → List Files
 cases_of system = lefts_of system.cases ++ (files_of system.folder ∷ (if system.is_rooted then [] else no_files ∷ []))
 
--- Whatever a cut might have left before a change, it may leave after it without the change, and with it.
+-- Whatever a power cut might have left before the change, it may leave afterwards with the change or without it.
 pub record MayLose (change : Files → Files) (old new : MemSystem) : Type 0 where
   pub without : (left : Files) → may_be_left old left → may_be_left new left
   pub also : (left : Files) → may_be_left old left → may_be_left new (change left)
 
--- So it is of each front of the bytes that were appended to what a file held.
+-- The same of each prefix of the bytes that were appended to a file.
 pub record MayLoseFronts (name bytes : List ℕ) (n : ℕ) (old new : MemSystem) : Type 0 where
   pub held : List ℕ
   pub fronts : (k : ℕ) → 0 < k → k ≤ n → MayLose (changed name (λ _. held ++ take k bytes)) old new
 
--- Its folder follows no script, and no other program has a turn.
+-- The folder follows no script, and no other program has a turn.
 pub record HasNoTurns (system : MemSystem) : Type 0 where
   pub no_script : IsQuiet system.folder
   pub no_turns : system.turns.items ≡ []

@@ -1,4 +1,4 @@
-// What a power cut may leave of a Maildir in memory, beside the files as they are.
+// What a power cut may leave of a Maildir in memory, besides the files as they are.
 ghost use Rattle.std.specs.Prelude.{◌≡◌, ◌<◌, ◌≤◌, ◌↔◌, List, [], Contains, IfErr, OnOk, length};
 ghost use Rattle.std.specs.FinMap.{get, keys};
 ghost use Rattle.maildir_run.specs.Calls.{folder_of};
@@ -15,10 +15,10 @@ use maildir_name::Place;
 use maildir_run::{Act, Folder, FolderFault, MemFolder, Sub};
 use std::alloc::Global;
 
-/// What comes to the files of a Maildir at one moment, and is kept or lost as a whole.
+/// A change of the files of a Maildir at one moment, which a power cut keeps or loses as a whole.
 #[derive(Clone, Copy)]
 pub(crate) enum Change<'a> {
-    /// A file of `tmp` is made, or emptied where it is there.
+    /// A file of `tmp` is created, or truncated if it is there.
     Make(&'a str),
     /// A file of `tmp` that is there holds these bytes.
     Hold(&'a str, &'a [u8]),
@@ -28,11 +28,11 @@ pub(crate) enum Change<'a> {
     Remove(&'a str),
     /// Another program acts.
     Other(&'a Act),
-    /// Another program does half of this.
+    /// Another program does half of this act.
     Half(&'a Act),
 }
 
-/// The cases of what a cut may leave, each as a folder, up to a number of them. There is none where nothing is lost.
+/// The cases of what a power cut may leave, each as a folder, up to a number of them; none if nothing can be lost.
 #[derive(Drop)]
 pub(crate) struct Cases {
     pub folders: Vec<MemFolder>,
@@ -51,7 +51,7 @@ impl Cases {
         }
     }
 
-    /// From now on each case may be left with the change or without it, and so may the files as they are.
+    /// A power cut may now leave each case, and the files as they are, with the change or without it.
     pub(crate) fn may_lose(
         &mut self,
         folder: &MemFolder,
@@ -71,8 +71,8 @@ impl Cases {
         self.add(folder.copy()?)
     }
 
-    /// The file `name` of `tmp`, where it is there, may be left with any front of the bytes that it is to hold, from those
-    /// that it holds on.
+    /// A power cut may now leave the file `name` of `tmp`, if it is there, with any prefix of the bytes that it will hold, from
+    /// those that it holds on.
     pub(crate) fn may_lose_bytes(
         &mut self,
         folder: &MemFolder,
@@ -106,7 +106,7 @@ impl Cases {
         self.add(folder)
     }
 
-    // Adds a case where there is room and it is not there.
+    // Adds a case, if there is room and it is new.
     fn add(&mut self, folder: MemFolder) -> Result<(), FolderFault>
         ensures room { self.new.room ≡ self.old.room }
         ensures one { Adds (λ left. left ≡ files_of folder) (lefts_of self.old) (lefts_of self.new) }
@@ -124,7 +124,7 @@ impl Cases {
         Ok(())
     }
 
-    /// Other programs do this in the folder. Each of their acts may be lost, or left in half.
+    /// Other programs do this in the folder. A power cut may lose each of their acts, or leave half of it.
     pub(crate) fn act(&mut self, folder: &mut MemFolder, acts: &[Act]) -> Result<(), FolderFault>
         ensures script { SameScript folder.old folder.new }
         ensures acts { (actions : List Action) × (files_of folder.new ≡ all_acted actions (files_of folder.old)) }
@@ -152,7 +152,7 @@ impl Cases {
         folder.act(act)
     }
 
-    /// Only the cases stay in which this file of `tmp` holds what it holds, or is not there either.
+    /// A sync of a file of `tmp`: the cases stay in which the file is as it is now.
     pub(crate) fn keep_file(&mut self, folder: &MemFolder, name: &str)
         ensures room { self.new.room ≡ self.old.room }
         ensures stays { (left : Files) → Contains (lefts_of self.new) left
@@ -162,7 +162,7 @@ impl Cases {
             .retain(|left| left.has_file_of(folder, Sub::Tmp, name));
     }
 
-    /// Only the cases stay in which this folder has the names that it has.
+    /// A sync of a folder: the cases stay in which it has the names that it has now.
     pub(crate) fn keep_names(&mut self, folder: &MemFolder, sub: Sub)
         ensures room { self.new.room ≡ self.old.room }
         ensures stays { (left : Files) → Contains (lefts_of self.new) left

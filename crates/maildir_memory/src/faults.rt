@@ -1,4 +1,4 @@
-// The error that is told for a fault of the folder in memory.
+// The errors of system calls in memory.
 ghost use Rattle.std.specs.Prelude.{◌≡◌};
 ghost use Rattle.std.specs.IoError.{error_kind};
 ghost use Rattle.std.specs.declared.io.ErrorKind.TheVariants.{NotFound};
@@ -7,7 +7,7 @@ use maildir_run::FolderFault;
 use std::io;
 use std::io::ErrorKind;
 
-/// The error of a system in memory whose folder told this fault.
+/// The error of a system in memory for this fault of its folder.
 pub(crate) fn error_of(fault: FolderFault) -> io::Error
     ensures { error_kind result ≡ NotFound → fault ≡ FolderFault.Absent }
 {

@@ -1,6 +1,8 @@
 // A machine in memory.
 ghost use Rattle.std.specs.Prelude.{◌≡◌, ℕ, List, None, Some, IfSome, IsNone, OnOk, string_bytes};
 ghost use Rattle.std.specs.BTreeMap.{get_by_text};
+ghost use Rattle.maildir_commands.specs.Opening.{OpensMaildir};
+ghost use Rattle.maildir_memory.specs.MemMachines.{open_in_memory, seen_in_memory};
 
 use crate::mem_system::MemSystem;
 use maildir_commands::Machine;
@@ -23,9 +25,12 @@ pub struct NamedText<'a> {
 /// A machine in memory, with texts and with Maildirs, each under its own word.
 #[derive(Drop)]
 pub struct MemMachine<'a> {
+    alloc: Global,
     texts: &'a [NamedText<'a>],
     // none while it is open
     maildirs: BTreeMap<String, Option<MemSystem>>,
+    // of which the next Maildir is made that is missing
+    fresh: Option<MemSystem>,
 }
 
 impl<'a> MemMachine<'a> {
@@ -33,11 +38,21 @@ impl<'a> MemMachine<'a> {
     pub fn new(alloc: Global, texts: &'a [NamedText<'a>]) -> Self
         ensures texts { result.texts.now ≡ texts.now }
         ensures none { (word : List ℕ) → get_by_text result.maildirs word ≡ None }
+        ensures makes_none { result.fresh ≡ None }
     {
         MemMachine {
+            alloc,
             texts,
             maildirs: BTreeMap::new(alloc),
+            fresh: None,
         }
+    }
+
+    /// The next Maildir that is missing is made of this one, which holds nothing. Until then a missing one is refused.
+    pub fn make_of(&mut self, fresh: MemSystem)
+        ensures { self.new ≡ record self.old { fresh = Some fresh } }
+    {
+        self.fresh = Some(fresh);
     }
 
     /// Puts a Maildir under a word.
@@ -53,6 +68,25 @@ impl<'a> MemMachine<'a> {
         Ok(())
     }
 
+    // Makes a Maildir that is missing, which is open then.
+    fn make(&mut self, path: &str) -> Result<MemSystem, OpenFault>
+        requires { get_by_text self.old.maildirs path.now ≡ None }
+        ensures { OpensMaildir open_in_memory path.now result
+            (seen_in_memory self.old.texts.now self.old.maildirs self.old.fresh)
+            (seen_in_memory self.new.texts.now self.new.maildirs self.new.fresh) }
+    {
+        let Some(fresh) = self.fresh.take() else {
+            return Err(OpenFault::Folder(FolderFault::Failed));
+        };
+        let Ok(word) = String::from_str(self.alloc, path) else {
+            return Err(OpenFault::Folder(FolderFault::OutOfMemory));
+        };
+        let Ok(_) = self.maildirs.insert(word, None) else {
+            return Err(OpenFault::Folder(FolderFault::OutOfMemory));
+        };
+        Ok(fresh)
+    }
+
     /// The Maildir under a word.
     pub fn maildir(&self, word: &str) -> Option<&MemSystem>
         ensures there { IfSome result (λ maildir. get_by_text self.now.maildirs word.now ≡ Some (Some maildir.now)) }
@@ -66,16 +100,15 @@ impl<'a> MemMachine<'a> {
 }
 
 impl<'a> Machine for MemMachine<'a> {
-    ghost use Rattle.maildir_memory.specs.MemMachines.{seen_in_memory};
-    ghost use Rattle.maildir_memory.specs.Laws.{held_alike, held_may_stay};
+    ghost use Rattle.maildir_memory.specs.Laws.{held_alike, held_may_stay, quiet_in_memory};
 
     type Source = &'a [u8];
 
     type Maildir = MemSystem;
 
-    ghost at = { λ machine. seen_in_memory machine.texts.now machine.maildirs };
+    ghost at = { λ machine. seen_in_memory machine.texts.now machine.maildirs machine.fresh };
 
-    ghost quiet_is_honest = { λ _ quiet word system is. (quiet word system is).no_script };
+    ghost quiet_is_honest = { λ machine. quiet_in_memory machine.maildirs machine.fresh };
 
     ghost same_words = { λ _ _ _ _ same. same };
 
@@ -95,7 +128,7 @@ impl<'a> Machine for MemMachine<'a> {
 
     fn open_maildir(&mut self, path: &str) -> Result<MemSystem, OpenFault> {
         let Some(slot) = self.maildirs.get_mut(path) else {
-            return Err(OpenFault::Folder(FolderFault::Failed));
+            return self.make(path);
         };
         match slot.take() {
             Some(maildir) => Ok(maildir),

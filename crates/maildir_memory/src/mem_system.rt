@@ -33,13 +33,12 @@ pub struct MemFile {
     name: String,
 }
 
-/// A Maildir in memory, with clocks. In each call that only looks, and before each step of a write, other programs act
-/// once, as the turns say, which are taken from the end. A folder that is changed while it is read gives no names, and a
-/// write takes half of its bytes.
+/// A Maildir in memory, with clocks. Each call that only reads, and each step of a write, pops one turn and performs its acts,
+/// which are other programs'. A listing of a folder that changes meanwhile returns no names, and a write takes half of its
+/// bytes.
 ///
-/// Once it may [`lose`](MemSystem::lose), a power cut leaves each change or loses it until a sync keeps it: a file that was
-/// made, any front of the bytes that were appended, a rename, half of another program's. Before the Maildir is synced it
-/// may be gone.
+/// After [`lose`](MemSystem::lose), a power cut may lose each change that was not synced: a created file, the appended bytes
+/// after any prefix, a rename, half of another program's act. Until the Maildir is synced, it may lose all of it.
 #[derive(Drop)]
 pub struct MemSystem {
     alloc: Global,
@@ -50,15 +49,15 @@ pub struct MemSystem {
     // of each of the three folders
     stamp: SystemTime,
     turns: Vec<Vec<Act>>,
-    // what a cut may leave, beside the files as they are
+    // what a power cut may leave, besides the files as they are
     cases: Cases,
     is_rooted: bool,
-    // before each call fails
+    // then each call fails
     calls_left: u64,
 }
 
 impl MemSystem {
-    /// A Maildir that was last changed at this time, by the clocks as they are. A power cut takes nothing from it.
+    /// A Maildir that was last changed at this time of its clock. A power cut loses nothing of it.
     pub fn new(
         alloc: Global,
         mut folder: MemFolder,
@@ -90,8 +89,8 @@ impl MemSystem {
         }
     }
 
-    /// From now on a power cut may lose what was not synced, and the Maildir itself. So many cases of what it leaves are
-    /// kept in mind beside the files as they are; there is none beyond them.
+    /// From now on a power cut may lose what was not synced, and the Maildir itself. At most `room` cases of what it leaves are
+    /// recorded, besides the files as they are; it leaves no other.
     pub fn lose(&mut self, room: usize)
         ensures honest { ⟦<MemSystem as System>⟧.honest self.old → ⟦<MemSystem as System>⟧.honest self.new }
         ensures quiet { ⟦<MemSystem as System>⟧.quiet self.old → ⟦<MemSystem as System>⟧.quiet self.new }
@@ -104,7 +103,7 @@ impl MemSystem {
         self.is_rooted = false;
     }
 
-    /// So many calls are answered, and from then on each one fails without effect. To wait is no call.
+    /// This many calls work, and from then on each one fails without effect. Sleeping is no call.
     pub fn fail_after(&mut self, calls: u64)
         ensures { self.new ≡ record self.old { calls_left = calls } }
     {
@@ -118,7 +117,7 @@ impl MemSystem {
         &self.folder
     }
 
-    /// How many cases there are of what a power cut leaves.
+    /// How many cases of what a power cut leaves there are.
     pub fn cases(&self) -> usize
         ensures { result ≡ length (cases_of self.now) }
     {
@@ -128,7 +127,7 @@ impl MemSystem {
             .saturating_add(if self.is_rooted { 1 } else { 2 })
     }
 
-    /// A power cut, which leaves the case of this number, or the files as they are where there are not so many.
+    /// A power cut that leaves the case with this number, or the files as they are if there are fewer.
     pub fn cut(&mut self, case: usize)
         ensures honest { ⟦<MemSystem as System>⟧.honest self.new }
         ensures quiet { ⟦<MemSystem as System>⟧.quiet self.old → ⟦<MemSystem as System>⟧.quiet self.new }

@@ -1,4 +1,4 @@
-// The clocks and stamps of a system in memory, and the calls that it answers.
+// The clocks and stamps of a system in memory, and its failing calls.
 ghost use Rattle.std.specs.Prelude.{◌≡◌, ◌≤◌, ◌+◌, ◌↔◌, IfErr, IsErr, OnOk};
 ghost use Rattle.std.specs.IoError.{error_kind};
 ghost use Rattle.std.specs.Time.{system_time_nanos};
@@ -7,16 +7,16 @@ ghost use Rattle.maildir_disk.specs.World.{IsOfChange};
 use std::io::{self, ErrorKind};
 use std::time::{Duration, Instant, SystemTime, UNIX_EPOCH};
 
-/// Which stamps a system in memory gives.
+/// How fine the stamps of a system in memory are.
 #[derive(Clone, Copy, PartialEq, Eq)]
 pub enum Stamps {
-    /// The clock as it is.
+    /// Nanoseconds.
     Fine,
-    /// The clock without its part of a second.
+    /// Whole seconds.
     WholeSeconds,
 }
 
-/// A call begins, or fails where none is left.
+/// Begins a call, which fails if no calls are left.
 pub(crate) fn begin(calls_left: &mut u64) -> io::Result<()>
     ensures fails { IsErr result ↔ (calls_left.old ≡ 0) }
     ensures kind { IfErr result (λ error. error_kind error ≡ ErrorKind.Other) }
@@ -29,7 +29,7 @@ pub(crate) fn begin(calls_left: &mut u64) -> io::Result<()>
     Ok(())
 }
 
-/// Both clocks go on, as far as they go.
+/// Advances both clocks, up to their greatest values.
 pub(crate) fn tick(clock: &mut SystemTime, instant: &mut Instant, pause: Duration)
     ensures { system_time_nanos clock.old ≤ system_time_nanos clock.new }
 {

@@ -1,4 +1,4 @@
--- The words that the proofs cite, passed on from one place. Declares nothing.
+-- The definitions and lemmas that the proofs use, imported in one place. Declares nothing.
 pub use Rattle.std.proofs.KnownBytes.{Appends-nil, Appends-trans, Consumes-kept, Consumes-nil, Consumes-trans}
 pub use Rattle.std.proofs.Math.Bool.{or-false, or-true}
 pub use Rattle.std.proofs.Math.Seq.{drop-append_seam, drop-cons, drop-nil, get_or-append_seam, take-length}

@@ -1,4 +1,4 @@
--- The words that the proofs cite, passed on from one place. Declares nothing.
+-- The definitions and lemmas that the proofs use, imported in one place. Declares nothing.
 pub mod Common
 -- Names and bases, in finite maps and sets.
 pub mod Names

@@ -99,7 +99,7 @@ pub record Succeeded (call : Call) (old new : Files) : Type 0 where
   pub whole : IsWhole rest
   pub left : new ≡ after old call (before ++ Again ∷ rest)
 
--- The call answered a fault: any moves were made, or none.
+-- The call failed: any moves were made, or none.
 pub record AnyMoves (call : Call) (old new : Files) : Type 0 where
   pub moves : List Move
   pub left : new ≡ after old call moves
@@ -127,7 +127,7 @@ abbrev pub Listed : {E : Type 0} → Sub → Files → Result (Vec (String Globa
 Listed sub old (Ok names) new = Lists sub old (names_of names) new
 Listed sub old (Err _) new = AnyMoves (Listing sub) old new
 
--- in a quiet folder no other program acts, and what answered Ok had its effect once
+-- in a quiet folder no other program acts, and a call that returned Ok had its effect once
 abbrev pub CalledQuietly : {A E : Type 0} → Call → Files → Result A E → Files → Type 0
 CalledQuietly call old (Ok _) new = IsReady call old × (new ≡ effect call old)
 CalledQuietly call old (Err _) new = (moves : List Move) × IsOwn moves × (new ≡ after old call moves)
@@ -142,7 +142,7 @@ CountsFailure (Err Absent) old new = GoesUp old new
 CountsFailure (Err fault.Failed) old new = GoesUp old new
 CountsFailure other old new = new ≡ old
 
--- an answer is not `Absent`
+-- a result is not `Absent`
 abbrev pub IsNotAbsent : {A : Type 0} → Result A FolderFault → Type 0
 IsNotAbsent (Err Absent) = ⊥
 IsNotAbsent other = Unit {0}

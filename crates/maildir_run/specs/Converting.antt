@@ -20,7 +20,7 @@ use Rattle.maildir_run.specs.Texts.{MessagesOf}
 
 -- A run delivered the messages of its source, of which it may make so many reads, into a folder.
 pub record Converts (before after : Option (List ℕ)) (reads : ℕ) (old new : Seen) (result : Result Report RunFault) : Type 0 where
-  -- where the folder takes effect as reported
+  -- if the folder is honest
   pub honest : old.honest → new.honest
   pub as_planned : old.honest → (t : List ℕ) (ms : List Message) → Possible before after t → MessagesOf t ms
       → (names : Listings) × Performs honestly (planned_tasks names ms) old.files result new.files
@@ -30,7 +30,7 @@ pub record Converts (before after : Option (List ℕ)) (reads : ℕ) (old new : 
   pub owes : old.honest → (t : List ℕ) → length t < 2 ^ 63 → Possible before after t → IsRun t old.files result new.files
   pub restartable : old.honest → (t : List ℕ) (ms : List Message) (links : List Link) (start : Files) → length t < 2 ^ 63 → Possible before after t
       → MessagesOf t ms → All (IsMissing start) ms → Runs t links start old.files → OnOk result (Delivered ms new.files)
-  -- where it is quiet
+  -- if the folder is quiet
   pub quiet : old.quiet → new.quiet
   pub alone : old.quiet → (t : List ℕ) (ms : List Message) → Possible before after t → MessagesOf t ms
       → IfOk result (λ report. (new.files ≡ alone_after ms old.files) × (report.swept ≡ leftover_count old.files))

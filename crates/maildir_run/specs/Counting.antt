@@ -33,7 +33,7 @@ abbrev pub HasCallNumber : Option RunFault → ℕ → Type 0
 HasCallNumber (Some (FolderFailed n)) number = n ≡ number
 HasCallNumber other number = Unit {0}
 
--- what a folder call of a run may be refused for, or a growth
+-- the faults of a folder call of a run, and of an allocation
 abbrev pub IsOfFolder : RunFault → Type 0
 IsOfFolder FolderAbsent = Unit {0}
 IsOfFolder (FolderFailed _) = Unit {0}

@@ -1,5 +1,5 @@
--- What a power cut may leave of a folder, from one call to the next. In `new` and `cur` it is the files that are found then;
--- of `tmp` it is what each file that is there now would be found to hold, wherever it is found.
+-- What a power cut may leave of a folder, from one call to the next.
+-- For `new` and `cur`: the files that a reader finds after the cut. For `tmp`: what each file that is there now would hold, wherever a reader finds it.
 use Rattle.std.specs.Prelude.{◌≡◌, ℕ, List, [], ◌∷◌, IsTrue, Option, Some, None, Result, Ok, Err, if◌then◌else◌}
 use Rattle.std.specs.FinMap.{get, insert}
 use Rattle.maildir_name.specs.Names.{is_converter_name}
@@ -30,21 +30,21 @@ left_after s call [] = s
 left_after s call (Came move ∷ kept) = left_after (moved call move s) call kept
 left_after s call (Doubled action ∷ kept) = left_after (doubled action s) call kept
 
--- Of a call a cut leaves any of its moves, each by itself, or none.
+-- A power cut leaves any of the moves of a call, each by itself, or none.
 pub record Leaves (call : Call) (old new : Files) : Type 0 where
   pub kept : List CutMove
   pub are : new ≡ left_after old call kept
 
--- a file that was written is found with its bytes, wherever it is found
+-- a reader finds a written file with its bytes, wherever it finds it
 abbrev pub IsFoundWhole : Call → Files → Type 0
 IsFoundWhole (Writing name bytes) s = IsTrue (is_converter_name name) → (held : List ℕ) → get s.tmp name ≡ Some held → held ≡ bytes
 IsFoundWhole other s = Unit {0}
 
--- what a cut leaves of a call with this answer
+-- what a power cut leaves of a call with this result
 abbrev pub LeavesOf : {A E : Type 0} → Call → Files → Result A E → Files → Type 0
 LeavesOf call old (Ok _) new = Leaves call old new × IsFoundWhole call new
 LeavesOf call old (Err _) new = Leaves call old new
 
--- whatever a cut may leave now is this of something that a cut might have left before
+-- whatever a power cut may leave now follows from something that a cut might have left before
 abbrev pub Follows : (Files → Files → Type 0) → (Files → Type 0) → (Files → Type 0) → Type 0
 Follows of before now = (new : Files) → now new → (old : Files) × before old × of old new

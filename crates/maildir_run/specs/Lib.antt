@@ -4,19 +4,19 @@ pub mod Files
 pub mod Delivery
 -- The messages of a text, as a folder is to have them.
 pub mod Texts
--- What one run owes, and what may follow one another: runs with any answers, and other programs' actions.
+-- What one run owes, and sequences of runs, with any results, and other programs' actions.
 pub mod Runs
 -- The calls of a folder: the effect of each, and what may happen before, within and after it.
 pub mod Calls
--- What is seen of a folder, and what a call does to that.
+-- What contracts see of a folder, and what a call does to that.
 pub mod Seen
--- What a power cut may leave of a folder, from one call to the next. In `new` and `cur` it is the files that are found then;
+-- What a power cut may leave of a folder, from one call to the next.
 pub mod Cuts
 -- The steps of a run, from what is listed and what is owed.
 pub mod Plan
 -- Which calls each part of a run makes.
 pub mod Parts
--- What a run did with its folder: calls that were planned, in order, up to the first that was refused.
+-- What a run did with its folder: planned calls, in order, up to the first that failed.
 pub mod Tasks
 -- What a run did.
 pub mod Converting
@@ -26,7 +26,7 @@ pub mod Counting
 pub mod Alone
 -- What a quiet run keeps of other programs' files.
 pub mod Foreign
--- How much a call reads of its source, and what it may be refused for.
+-- How much a call reads of its source, and the faults of reading.
 pub mod Reading
 -- Several texts that go into one Maildir: what is sound for all of them, and what runs over any of them leave.
 pub mod Several
@@ -42,5 +42,5 @@ pub mod MemFiles
 pub mod Script
 -- What a folder in memory shows.
 pub mod MemFolder
--- Words of the contracts of private functions and of proofs. No public contract reaches them, and no reader need believe them.
+-- Definitions for private functions and proofs. No public contract uses them, and no reader need believe them.
 pub mod Private

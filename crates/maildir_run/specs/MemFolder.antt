@@ -1,6 +1,5 @@
 -- What a folder in memory shows.
-use Rattle.std.specs.Prelude.{◌≡◌, ◌⊎◌, ℕ, ◌+◌, ◌-◌, ◌^◌, min, List, [], Option, IsFalse, Result, IsErrOf, IfOk, OnOk, OnErr}
-use Rattle.std.specs.declared.alloc.AllocError.{AllocError}
+use Rattle.std.specs.Prelude.{◌≡◌, ◌⊎◌, ℕ, ◌+◌, ◌-◌, ◌^◌, min, List, [], Option, IsFalse, Result, IsErrOf}
 use Rattle.maildir_run.specs.declared.folder.FolderFault.{FolderFault}
 use Rattle.maildir_run.specs.declared.folder.FolderFault.TheVariants.{OutOfMemory}
 use Rattle.maildir_run.specs.declared.mem_folder.MemFolder.{MemFolder}
@@ -8,7 +7,7 @@ use Rattle.maildir_run.specs.declared.script.Act.{Act}
 use Rattle.maildir_run.specs.declared.script.Mode.{Mode}
 use Rattle.maildir_run.specs.declared.script.Mode.TheVariants.{Plain}
 use Rattle.maildir_run.specs.declared.script.ScriptLine.{ScriptLine}
-use Rattle.maildir_run.specs.Calls.{Call, GoesUp}
+use Rattle.maildir_run.specs.Calls.{Call}
 use Rattle.maildir_run.specs.Files.{Files}
 use Rattle.maildir_run.specs.MemFiles.{files_in}
 use Rattle.maildir_run.specs.Seen.{Seen}
@@ -96,16 +95,6 @@ pub record Scripted {A : Type 0} (call : Call) (old : MemFolder) (result : Resul
   pub plain : HasNoScript old → Answers Plain call (files_of old) result (files_of new)
   pub script : SameScript old new
   pub told : CountsCall old new
-
--- A call was counted and the acts before it were made, or one of them found no memory. It answers in this mode.
-pub record BeginsCall (old : MemFolder) (result : Result Mode AllocError) (new : MemFolder) : Type 0 where
-  pub mode : IfOk result (λ mode. mode ≡ next_mode old)
-  pub ok : OnOk result (files_of new ≡ next_files old)
-  pub err : OnErr result (IsCutShort (next_acts old) (files_of old) (files_of new))
-  pub script : SameScript old new
-  pub told : CountsCall old new
-  pub counted : GoesUp (all_call_count old) (all_call_count new)
-  pub failures : failure_count new ≡ failure_count old
 
 -- what is seen of it as of any folder: it takes effect as reported, and a power cut takes nothing from it
 abbrev pub seen_of : MemFolder → Seen

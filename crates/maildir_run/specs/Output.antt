@@ -14,7 +14,7 @@ abbrev pub GivesAll : (List Entry → List ℕ) → Option (List ℕ) → Option
 GivesAll output source was is count =
     IfSome source (λ t. (entries : List Entry) × Mbox t entries × (count ≡ length entries) × Appends was is (output entries))
 
--- for each text that the source may have had, a front of what belongs to its messages was written
+-- for each text that the source may have had, a prefix of what belongs to its messages was written
 abbrev pub GivesFront : (List Entry → List ℕ) → Option (List ℕ) → Option (List ℕ) → Option (List ℕ) → Option (List ℕ) → Type 0
 GivesFront output before after was is = (t : List ℕ) (entries : List Entry) → Possible before after t → Mbox t entries → AppendsFront was is (output entries)
 

@@ -1,4 +1,4 @@
--- Words of the contracts of private functions and of proofs. No public contract reaches them, and no reader need believe them.
+-- Definitions for private functions and proofs. No public contract uses them, and no reader need believe them.
 
 -- The bases of names, as a set.
 pub mod Bases
@@ -18,3 +18,5 @@ pub mod Progress
 pub mod TableSoFar
 -- Whether half of a rename comes.
 pub mod Script
+-- How a call of the folder in memory begins.
+pub mod MemFolder

@@ -1,4 +1,4 @@
--- How much a call reads of its source, and what it may be refused for.
+-- How much a call reads of its source, and the faults of reading.
 use Rattle.std.specs.Prelude.{◌≡◌, ℕ, ◌≤◌, ◌⊎◌, List, length, Option}
 use Rattle.std.specs.Io.KnownBytes.{Consumes}
 use Rattle.maildir_run.specs.declared.fault.RunFault.{RunFault}
@@ -12,6 +12,6 @@ ReadsAtMost before after most = (read : List ℕ) × Consumes before after read 
 abbrev pub ReadsAtLeast : Option (List ℕ) → Option (List ℕ) → ℕ → Type 0
 ReadsAtLeast before after least = (read : List ℕ) × Consumes before after read × (least ≤ length read)
 
--- what a read may be refused for
+-- the faults of a read
 abbrev pub IsReading : RunFault → Type 0
 IsReading fault = (fault ≡ NoFromLine) ⊎ ((fault ≡ ReadFault) ⊎ ((fault ≡ TooManyReads) ⊎ (fault ≡ OutOfMemory)))

@@ -1,4 +1,4 @@
--- What one run owes, and what may follow one another: runs with any answers, and other programs' actions.
+-- What one run owes, and sequences of runs, with any results, and other programs' actions.
 use Rattle.std.specs.Prelude.{◌≡◌, ℕ, ◌+◌, ◌*◌, ◌-◌, ◌%◌, ◌^◌, ◌≤◌, List, [], ◌∷◌, ◌++◌, length, All, AllPairs, IfOk, OnOk, Option, Some, Result}
 use Rattle.mbox_text.specs.declared.entry.Entry.{Entry}
 use Rattle.mbox_text.specs.Mbox.{Mbox}
@@ -8,8 +8,8 @@ use Rattle.maildir_run.specs.Files.{Files, Action, acted}
 use Rattle.maildir_run.specs.Delivery.{Message, HasHome, IsMissing, Sound, Delivered, there_count, leftover_count}
 use Rattle.maildir_run.specs.Texts.{MessagesOf}
 
--- A text is possible for a call that read from a source: what was read is its front, and all of it where the source
--- has nothing left. The source tells what it has left before the call and after it, with what it failed to give.
+-- A text is possible for a call that read from a source: what was read is a prefix of it, and all of it if the source has
+-- nothing left. The arguments are what the source has left before the call and after it, with what it failed to return.
 pub record Possible (before after : Option (List ℕ)) (t : List ℕ) : Type 0 where
   pub read : List ℕ
   pub left : List ℕ
@@ -31,7 +31,7 @@ pub record EndedWell (ms : List Message) (old : Files) (report : Report) (new : 
   pub delivered : Delivered ms new
   pub reports : ReportsMessages ms old report
 
--- What a run over these messages owes, whatever it answered.
+-- What a run over these messages owes, whatever it returned.
 pub record Keeps (ms : List Message) (old : Files) (answer : Result Report RunFault) (new : Files) : Type 0 where
   -- the folder is sound, as against the run's start
   pub sound : Sound ms old new
@@ -41,23 +41,23 @@ pub record Keeps (ms : List Message) (old : Files) (answer : Result Report RunFa
   pub in_order : AllPairs (λ m n. IsMissing old n → HasHome new n → HasHome new m) ms
   pub ends : IfOk answer (λ report. EndedWell ms old report new)
 
--- One run over a text, in a folder that is sound for the text's messages as it begins (compared with itself: each is missing, or at home):
--- it keeps what it owes to them, and with Ok the text is in `Mbox`.
+-- One run over a text, starting from a folder where each message is missing or correctly delivered:
+-- it keeps what it owes to the messages, and with Ok the text is in `Mbox`.
 pub record IsRun (t : List ℕ) (old : Files) (answer : Result Report RunFault) (new : Files) : Type 0 where
   pub keeps : (ms : List Message) → MessagesOf t ms → Sound ms old old → Keeps ms old answer new
   pub is_read : OnOk answer ((entries : List Entry) × Mbox t entries)
 
--- the calls of a run that answered Ok: three listings, one removal for each name that was swept,
--- and a write and a placement for each message that was placed; the count is one of 128 bits
+-- the calls of a run that returned Ok: three listings, one removal for each swept name,
+-- and a write and a placement for each placed message; the count has 128 bits
 abbrev pub CountsRun : Report → ℕ → ℕ → Type 0
 CountsRun report old new = new % 2 ^ 128 ≡ (old + (3 + report.swept + 2 * report.placed)) % 2 ^ 128
 
--- a finite chain of links, each from one moment to the next
+-- a finite sequence of links, each from one moment to the next
 abbrev pub Chain : {L S : Type 0} → (L → S → S → Type 0) → List L → S → S → Type 0
 Chain step [] old new = new ≡ old
 Chain {L} {S} step (link ∷ links) old new = (mid : S) × step link old mid × Chain step links mid new
 
--- a link of a chain: a run with this answer, or an action of another program
+-- a link of a sequence: a run with this result, or an action of another program
 pub data Link : Type 0 where
   Ran : (answer : Result Report RunFault) → Link
   Acted : (action : Action) → Link
@@ -67,6 +67,6 @@ abbrev pub Linked : List ℕ → Link → Files → Files → Type 0
 Linked t (Ran answer) old new = IsRun t old answer new
 Linked t (Acted action) old new = new ≡ acted action old
 
--- a finite chain of runs over a text, with any answers, and of other programs' actions
+-- a finite sequence of runs over a text, with any results, and of other programs' actions
 abbrev pub Runs : List ℕ → List Link → Files → Files → Type 0
 Runs t = Chain (Linked t)

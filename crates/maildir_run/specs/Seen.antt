@@ -1,4 +1,4 @@
--- What is seen of a folder, and what a call does to that.
+-- What contracts see of a folder, and what a call does to that.
 use Rattle.std.specs.Prelude.{ℕ, IfOk, IsPermutation, Result}
 use Rattle.std.specs.FinMap.{keys}
 use Rattle.std.specs.declared.vec.Vec.{Vec}
@@ -10,7 +10,7 @@ use Rattle.maildir_run.specs.Calls.{Call, Listing, Called, Listed, CalledQuietly
 use Rattle.maildir_run.specs.Cuts.{Follows, LeavesOf}
 use Rattle.maildir_run.specs.Files.{Files}
 
--- what is seen of a folder at one moment
+-- what contracts see of a folder at one moment
 pub record Seen : Type 1 where
   -- it takes effect as reported
   pub honest : Type 0
@@ -30,12 +30,12 @@ pub record Seen : Type 1 where
 
 -- A call was made, and answered this.
 pub record CallOf {A : Type 0} (call : Call) (old : Seen) (result : Result A FolderFault) (new : Seen) : Type 0 where
-  -- where the folder takes effect as reported
+  -- if the folder is honest
   pub honest : old.honest → new.honest
   pub called : old.honest → Called call old.files result new.files
   pub left : old.honest → Follows (λ before now. LeavesOf call before result now) old.may_leave new.may_leave
   pub still_rooted : old.honest → old.rooted → new.rooted
-  -- where it is quiet
+  -- if the folder is quiet
   pub quiet : old.quiet → new.quiet
   pub quietly : old.quiet → CalledQuietly call old.files result new.files
   -- whatever the folder does

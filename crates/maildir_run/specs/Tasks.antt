@@ -1,4 +1,4 @@
--- What a run did with its folder: calls that were planned, in order, up to the first that was refused.
+-- What a run did with its folder: planned calls, in order, up to the first that failed.
 use Rattle.std.specs.Prelude.{◌≡◌, ℕ, ◌⊎◌, List, [], ◌∷◌, ◌++◌, map, take, drop, Option, Some, None, Result}
 use Rattle.std.specs.List.{flat_map}
 use Rattle.maildir_run.specs.declared.folder.Sub.{Sub}
@@ -17,53 +17,53 @@ pub data Task : Type 0 where
   Ask : (sub : Sub) → (names : List (List ℕ)) → Task
   Do : (call : Call) → Task
 
--- its call
+-- the call of a task
 abbrev pub call_of : Task → Call
 call_of (Ask sub names) = Listing sub
 call_of (Do call) = call
 
--- it answered Ok, in a folder that takes effect as reported
+-- the task's call returned Ok, in an honest folder
 abbrev pub Done : Task → Files → Files → Type 0
 Done (Ask sub names) old new = Lists sub old names new
 Done (Do call) old new = Succeeded call old new
 
--- it was refused, or not made
+-- the task's call failed, or was not made
 abbrev pub TaskRefused : Task → Files → Files → Type 0
 TaskRefused task old new = AnyMoves (call_of task) old new
 
--- a way in which tasks are done and refused
+-- how tasks succeed or fail
 pub record Way : Type 1 where
   pub done : Task → Files → Files → Type 0
   pub refused : Task → Files → Files → Type 0
 
--- as reported
+-- how tasks succeed or fail in an honest folder
 abbrev pub honestly : Way
 honestly = record { done = Done; refused = TaskRefused }
 
--- what a cut leaves of a task that was done
+-- what a power cut leaves of a task that succeeded
 abbrev pub LeavesDone : Task → Files → Files → Type 0
 LeavesDone task old new = Leaves (call_of task) old new × IsFoundWhole (call_of task) new
 
--- as a cut leaves it
+-- how tasks succeed or fail in what a power cut leaves
 abbrev pub leaving : Way
 leaving = record { done = LeavesDone; refused = λ task. Leaves (call_of task) }
 
--- all were done, in order
+-- all tasks succeeded, in order
 abbrev pub AllDone : Way → List Task → Files → Files → Type 0
 AllDone w [] old new = new ≡ old
 AllDone w (task ∷ tasks) old new = (mid : Files) × w.done task old mid × AllDone w tasks mid new
 
--- the first of them were done, and the next was refused or not made
+-- a prefix of the tasks succeeded, and the next failed or was not made
 abbrev pub Stopped : Way → List Task → Files → Files → Type 0
 Stopped w [] old new = new ≡ old
 Stopped w (task ∷ tasks) old new = w.refused task old new ⊎ ((mid : Files) × w.done task old mid × Stopped w tasks mid new)
 
--- all with no fault, and a front of them with one
+-- all tasks if there is no fault, else a prefix of them
 abbrev pub DoneUntil : {E : Type 0} → Way → List Task → Files → Option E → Files → Type 0
 DoneUntil w tasks old None new = AllDone w tasks old new
 DoneUntil w tasks old (Some _) new = Stopped w tasks old new
 
--- all after Ok, and a front of them after a fault
+-- all tasks after Ok, else a prefix of them
 abbrev pub Performs : {A E : Type 0} → Way → List Task → Files → Result A E → Files → Type 0
 Performs w tasks old result new = DoneUntil w tasks old (fault_of result) new
 
@@ -88,6 +88,6 @@ task_of ms (Place i) = map (λ m. Do (Placing m.target.base m.target.place m.tar
 abbrev pub tasks_of : List Message → List Step → List Task
 tasks_of ms steps = flat_map (task_of ms) steps
 
--- what is planned for these messages: the three listings, and the steps for what they answered
+-- the plan for these messages: the three listings, and the steps for the names that they returned
 abbrev pub planned_tasks : Listings → List Message → List Task
 planned_tasks names ms = listing_tasks names ++ tasks_of ms (planned names.tmp names.new names.cur (map (λ m. m.target) ms))

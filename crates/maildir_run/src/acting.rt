@@ -17,7 +17,7 @@ use maildir_name::{base_of, is_converter_name};
 use std::alloc::AllocError;
 
 impl MemFiles {
-    /// Makes the acts of each line with this number, in order. A refused growth ends them.
+    /// Performs the acts of each line with this number, in order, until an allocation fails.
     pub(crate) fn act_before(&mut self, call: u64, lines: &[ScriptLine]) -> Result<(), AllocError>
         ensures ok { OnOk result (files_in self.new ≡ all_performed (acts_at call lines.now) (files_in self.old)) }
         ensures err { OnErr result (IsCutShort (acts_at call lines.now) (files_in self.old) (files_in self.new)) }
@@ -101,7 +101,7 @@ impl MemFiles {
         Ok(())
     }
 
-    // Puts a file under a free name of the same base in `cur` too. Answers whether it did.
+    // Puts a file under a free name of the same base in `cur` too. Returns whether it did.
     fn link(&mut self, sub: Sub, name: &str, target: &str) -> Result<bool, AllocError>
         ensures ok { OnOk result (files_in self.new ≡ linked (files_in self.old) name.now target.now
             (get (folder_of sub (files_in self.old)) name.now)) }

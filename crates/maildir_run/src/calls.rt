@@ -24,7 +24,7 @@ impl Calls {
         Calls { made: 0 }
     }
 
-    /// Counts a call with this answer, and gives the answer as the run's: a call that failed has its number in the fault.
+    /// Counts a call with this result, and returns it as the run's: the fault of a call that failed has its number.
     pub(crate) fn answer<T>(&mut self, answer: Result<T, FolderFault>) -> Result<T, RunFault>
         ensures made { self.new.made ≡ capped (self.old.made + 1) }
         ensures is { result ≡ run_answer self.new.made answer }

@@ -17,15 +17,14 @@ use mbox_text::Entry;
 use std::alloc::Global;
 use std::io::Read;
 
-/// Delivers the messages of the source's text that have no home in the folder, and reports what it did. The source is
-/// read until a message is whole; then `tmp`, `new` and `cur` are listed, in this order, and what broken runs left in
-/// `tmp` is removed, as `plan` says for these lists and no targets; then each message that is missing is written and
-/// placed as soon as it is whole, in their order. At most `reads` reads are made, each for at most 65,536 bytes, and none
-/// between a message's write and its placement. Held are the message that is not yet whole, those that the last read
-/// made whole, the listed names and the digests.
+/// Delivers the messages of the source's text that have no home in the folder, and reports what it did. Reads the source
+/// until a message is complete; lists `tmp`, `new` and `cur`, in this order; removes what earlier runs left in `tmp`, as `plan`
+/// says for these lists and no targets; then writes and places each missing message as soon as it is complete, in order.
+/// Makes at most `reads` reads, each of at most 65,536 bytes, and none between a message's write and its placement. Keeps in
+/// memory: the partial message, those that the last read completed, the listed names and the digests.
 ///
-/// Errors: `NoFromLine` where the text is not empty and doesn't begin with `From `, and then no folder call was made;
-/// `ReadFault`; `TooManyReads` where `reads` reads didn't meet the end; `FolderAbsent`; `FolderFailed` with the number of
+/// Errors: `NoFromLine` if the text is not empty and doesn't begin with `From `, and then no folder call was made;
+/// `ReadFault`; `TooManyReads` if `reads` reads didn't reach the end; `FolderAbsent`; `FolderFailed` with the number of
 /// the call; `OutOfMemory`. The first fault ends the run, and a later run goes on from there.
 pub fn convert<F: Folder, R: Read>(
     alloc: Global,
@@ -70,8 +69,8 @@ fn deliver_all<F: Folder, R: Read>(
     }
 }
 
-/// Reads until a message is whole or the source is at its end, and tells whether it is. By then the first bytes have
-/// told whether the text is an mbox text.
+/// Reads until a message is complete or the source has ended, and returns whether it has. By then the first bytes have
+/// decided whether the text is an mbox text.
 fn read_first<R: Read>(
     reader: &mut Reader,
     source: &mut R,

@@ -15,7 +15,7 @@ pub enum RunFault {
     /// The source failed.
     #[error("the source could not be read")]
     ReadFault,
-    /// All reads that were allowed were made, and none met the end.
+    /// All allowed reads were made, and none reached the end.
     #[error("too many reads")]
     TooManyReads,
     /// A placement found no file in `tmp`.
@@ -24,10 +24,10 @@ pub enum RunFault {
     /// The folder call of this number in the run, counted from 1, failed.
     #[error("folder call {0} failed")]
     FolderFailed(u64),
-    /// The writer failed, or took no byte of a piece.
+    /// The writer failed, or took no byte though some were offered.
     #[error("the output could not be written")]
     OutputFault,
-    /// A growth was refused.
+    /// An allocation failed.
     #[error("out of memory")]
     OutOfMemory,
 }

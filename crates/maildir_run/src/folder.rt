@@ -19,16 +19,16 @@ pub enum Sub {
     Cur,
 }
 
-/// Why a call of a folder did not answer Ok.
+/// Why a call of a folder failed.
 #[derive(Clone, Copy, Debug, Drop, Error, PartialEq, Eq)]
 pub enum FolderFault {
     /// `place` alone: it found no file in `tmp`.
     #[error("a file in tmp is gone")]
     Absent,
-    /// The call failed. Its effect may have come, any number of times, or not; a write may have left other bytes.
+    /// The call failed. Its effect may have happened, any number of times, or not; a write may have left other bytes.
     #[error("the folder call failed")]
     Failed,
-    /// A growth was refused.
+    /// An allocation failed.
     #[error("out of memory")]
     OutOfMemory,
 }
@@ -51,14 +51,14 @@ impl<T: Drop> From<AllocFailed<T>> for FolderFault {
 
 /// The files of a Maildir. Other programs may change them before, within and after each call.
 pub trait Folder {
-    /// What is seen of it at one moment.
+    /// What contracts see of it at one moment.
     ghost at: { Self → Seen };
 
     /// The names in one folder, each once, in any order, as of one moment of the call.
     ///
     /// # Errors
     ///
-    /// [`FolderFault::Failed`], and [`FolderFault::OutOfMemory`] where a growth was refused in this call.
+    /// [`FolderFault::Failed`]; [`FolderFault::OutOfMemory`] if an allocation failed in this call.
     fn list(&mut self, sub: Sub) -> Result<Vec<String>, FolderFault>
         ensures lists { ListingOf sub (at self.old) result (at self.new) };
 
@@ -74,11 +74,11 @@ pub trait Folder {
     ///
     /// # Errors
     ///
-    /// [`FolderFault::Absent`] where no file was found, and those of [`Folder::list`].
+    /// [`FolderFault::Absent`] if there was no such file; those of [`Folder::list`].
     fn place(&mut self, name: &str, place: Place, target: &str) -> Result<(), FolderFault>
         ensures places { CallOf (Placing name.now place target.now) (at self.old) result (at self.new) };
 
-    /// Removes the file `name` of `tmp`. Ok also where there was none.
+    /// Removes the file `name` of `tmp`. Returns Ok also if there was none.
     ///
     /// # Errors
     ///

@@ -1,4 +1,4 @@
-//! Laws over the definitions alone. Each law is the contract of a function, and no function here does anything.
+//! Laws over the definitions alone. Each function's contract is a law; its body is empty.
 ghost use Rattle.std.specs.Prelude.{◌≡◌, ◌↔◌, ℕ, map, ◌<◌, ◌≤◌, ◌+◌, ◌%◌, ◌^◌, length, List, [], ◌∷◌};
 ghost use Rattle.std.specs.Prelude.{◌++◌, Some, Ok, All, Contains, IsTrue, IsFalse, IsPermutation};
 ghost use Rattle.std.specs.List.{list_any};
@@ -74,7 +74,7 @@ pub fn only_write_adds()
         StaysOrGoes name s (after s call moves) }
 {}
 
-/// No action of another program makes the converter's names in `tmp` more.
+/// No action of another program adds a converter's name to `tmp`.
 pub fn leftovers_never_grow()
     ensures { (action : Action) (s : Files) → leftover_count (acted action s) ≤ leftover_count s }
 {}
@@ -95,9 +95,8 @@ pub fn messages_have_bases()
         AreDistinct ms }
 {}
 
-/// Whatever runs over a text, with any answers, and other programs' actions follow one another: a folder that
-/// had none of the text's messages is sound. One more run that answers Ok delivers them, and no other program
-/// takes that away.
+/// After any sequence of runs over a text, with any results, and other programs' actions: a folder that had none of
+/// the text's messages is sound. One more run that returns Ok delivers them, and no other program undoes that.
 pub fn after_any_runs()
     ensures sound { (t : List ℕ) (ms : List Message) (links : List Link) (old new : Files) →
         MessagesOf t ms → length t < 2 ^ 63 → All (IsMissing old) ms → Runs t links old new →
@@ -109,11 +108,11 @@ pub fn after_any_runs()
         MessagesOf t ms → length t < 2 ^ 63 → Delivered ms s → Delivered ms (acted action s) }
 {}
 
-/// Whatever runs over any of several texts, with any answers, and other programs' actions follow one another: a folder
-/// in which no converter's base had the digest of a body of theirs is sound for all of them, and each body has the
-/// numbers 1 to n, and no others. It is there at least as often as in each text of which a run answered Ok, and at most
-/// as often as in one of which a run was made; and each message of a text of which a run answered Ok is at home. Distinct
-/// bodies are to have distinct digests.
+/// After any sequence of runs over several texts, with any results, and other programs' actions: a folder in which no
+/// converter's base had the digest of one of their bodies is sound for all of them, and each body has the numbers 1 to n,
+/// and no others. It is there at least as often as in each text of which a run returned Ok, and at most as often as in
+/// one of which a run was made; each message of a text of which a run returned Ok is at home. The premise: distinct bodies
+/// have distinct digests.
 pub fn several_texts()
     ensures sound { (texts : List Mailbox) (links : List LinkOver) (old new : Files) →
         AreFresh texts old → RunsOver texts links old new → SoundForAll texts old new }
@@ -136,8 +135,8 @@ pub fn one_text()
         Runs text.bytes links old new → RunsOver (text ∷ []) (map (link_over text) links) old new }
 {}
 
-/// Where the messages are delivered, a quiet run leaves all files as they are, and a run that ends with Ok places
-/// nothing, sweeps nothing and makes three calls, the listings.
+/// If the messages are delivered, a quiet run changes no file, and a run that returns Ok places nothing, sweeps nothing
+/// and makes three calls, the listings.
 pub fn nothing_left_to_do()
     ensures same { (ms : List Message) (s : Files) → Delivered ms s → alone ms s ≡ s }
     ensures three_calls { (t : List ℕ) (ms : List Message) (s new : Files) (report : Report) → MessagesOf t ms → Delivered ms s →

@@ -123,7 +123,7 @@ impl MemFiles {
         self.in_tmp.set(name, bytes)
     }
 
-    // Whether the file was there. The copy comes first, so that a refused growth leaves all as it was.
+    // Returns whether the file was there. The copy comes first, so that nothing changes if an allocation fails.
     pub(crate) fn rename(
         &mut self,
         name: &str,

@@ -7,7 +7,8 @@ ghost use Rattle.maildir_run.specs.Calls.{folder_of, names_of, CountsFailure};
 ghost use Rattle.maildir_run.specs.Calls.Call.{Listing, Writing, Placing, Removing};
 ghost use Rattle.maildir_run.specs.MemFiles.{no_files, with_file};
 ghost use Rattle.maildir_run.specs.MemFolder.{files_of, call_count, all_call_count, failure_count, lines_of, seen_of};
-ghost use Rattle.maildir_run.specs.MemFolder.{fail_from_of, BeginsCall, IsQuiet, Scripted, SameCounts, SameScript, IsUnchanged};
+ghost use Rattle.maildir_run.specs.MemFolder.{fail_from_of, IsQuiet, Scripted, SameCounts, SameScript, IsUnchanged};
+ghost use Rattle.maildir_run.specs.Private.MemFolder.{BeginsCall};
 ghost use Rattle.maildir_run.specs.Script.{half_performed, performed};
 ghost use Rattle.maildir_run.specs.Seen.{CallOf, ListingOf};
 

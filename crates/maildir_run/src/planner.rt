@@ -25,7 +25,7 @@ pub enum Step {
 ///
 /// # Errors
 ///
-/// [`RunFault::OutOfMemory`] alone, where a growth was refused.
+/// [`RunFault::OutOfMemory`] alone, if an allocation failed.
 pub fn plan(
     alloc: Global,
     tmp: &[String],

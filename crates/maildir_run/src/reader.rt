@@ -79,7 +79,7 @@ fn spend(reads: &mut u64) -> Result<(), RunFault>
     }
 }
 
-/// Makes one read into the buffer, and says how many bytes it gave: none only at the source's end.
+/// Makes one read into the buffer, and returns how many bytes it took: none only at the source's end.
 fn read_piece<R: Read>(source: &mut R, buffer: &mut [u8]) -> Result<usize, RunFault>
     requires { 0 < length buffer.old }
     ensures gave { MatchResult result
@@ -93,7 +93,7 @@ fn read_piece<R: Read>(source: &mut R, buffer: &mut [u8]) -> Result<usize, RunFa
     }
 }
 
-/// Feeds a splitter that no call refused.
+/// Feeds a splitter of which no call failed.
 fn feed(splitter: &mut Splitter, piece: &[u8], out: &mut Vec<Entry>) -> Result<(), RunFault>
     ensures fed { OnOk result (Takes splitter.old piece.now out.old.items out.new.items splitter.new) }
     ensures no_from_line { IsErrOf result RunFault.NoFromLine → NeverBegins splitter.old piece.now out.old.items out.new.items }
@@ -106,7 +106,7 @@ fn feed(splitter: &mut Splitter, piece: &[u8], out: &mut Vec<Entry>) -> Result<(
     }
 }
 
-/// Appends the last message of a splitter that no call refused.
+/// Appends the last message of a splitter of which no call failed.
 fn finish(splitter: Splitter, out: &mut Vec<Entry>) -> Result<(), RunFault>
     ensures last { OnOk result ((last : Option Entry) × (out.new.items ≡ out.old.items ++ option_to_list last) × GivesLast splitter last) }
     ensures no_from_line { IsErrOf result RunFault.NoFromLine →

@@ -1,4 +1,4 @@
-// What a run tells when it has ended.
+// The report of a run.
 
 /// What a run that ended with Ok did.
 #[derive(Clone, Copy, Debug, PartialEq, Eq)]

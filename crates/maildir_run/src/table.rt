@@ -14,14 +14,14 @@ use mbox_text::{Entry, write_bytes};
 use std::alloc::Global;
 use std::io::{Read, Write};
 
-/// Writes one row for each message of the source's text, in their order, and answers how many there are: the message's
+/// Writes one row for each message of the source's text, in order, and returns how many there are: the message's
 /// number from 1, its base, its place (`new` or `cur`), its info or `-`, the size of its body in bytes, and its sender with
-/// `?` for each byte outside 0x21 to 0x7E, or `-`. At most `reads` reads are made, each for at most 65,536 bytes. One
-/// message is held at a time, beside what one read gave and the digests that were given.
+/// `?` for each byte outside 0x21 to 0x7E, or `-`. Makes at most `reads` reads, each of at most 65,536 bytes. Keeps in
+/// memory: one message, what one read returned, and the digests so far.
 ///
-/// Errors: `NoFromLine` where the text is not empty and doesn't begin with `From `, told as soon as the bytes decide, and
-/// then nothing was written; `ReadFault`; `TooManyReads` where `reads` reads didn't meet the end; `OutputFault`;
-/// `OutOfMemory`. What was written then is a front of what belongs to the text.
+/// Errors: `NoFromLine` if the text is not empty and doesn't begin with `From `, as soon as the bytes decide, and then
+/// nothing was written; `ReadFault`; `TooManyReads` if `reads` reads didn't reach the end; `OutputFault`; `OutOfMemory`. What
+/// was written by then is a prefix of what belongs to the text.
 pub fn list_text<R: Read, W: Write>(
     alloc: Global,
     source: &mut R,

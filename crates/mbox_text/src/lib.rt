@@ -13,10 +13,11 @@
 //! ```rust
 //! use mbox_text::{split_all, write_entry};
 //!
-//! let entries = split_all(alloc, b"From x\n>From a\nabc")?;
-//! assert!(rt; entries[0].body.as_slice() == b"From a\nabc".as_slice());
 //! let mut out = Vec::new(alloc);
-//! write_entry(&entries[0], &mut out)?;
+//! for entry in &split_all(alloc, b"From x\n>From a\nabc")? {
+//!     assert!(rt; entry.body.as_slice() == b"From a\nabc".as_slice());
+//!     write_entry(entry, &mut out)?;
+//! }
 //! assert!(rt; out.as_slice() == b"From x\n>From a\nabc\n\n".as_slice());
 //! ```
 //!

@@ -22,6 +22,8 @@ mod disk_folder;
 #[cfg(test)]
 mod disturbed;
 #[cfg(test)]
+mod examples;
+#[cfg(test)]
 mod fault_texts;
 #[cfg(test)]
 mod flags;

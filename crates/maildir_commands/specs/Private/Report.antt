@@ -1,7 +1,9 @@
 -- What came of delivering texts.
 use Rattle.std.specs.Prelude.{◌≡◌, ◌⊎◌, ℕ, ◌+◌, List, [], ◌∷◌, length, map, IfErr, OnErr, OnOk, Option, Some, Result}
 use Rattle.std.specs.Io.KnownBytes.{Keeps}
+use Rattle.mbox_text.specs.Writing.{AppendsFront}
 use Rattle.maildir_run.specs.Delivery.{IsSwept, has_home, leftover_count}
+use Rattle.maildir_run.specs.declared.report.Report.{Report}
 use Rattle.maildir_run.specs.Foreign.{KeepsForeign}
 use Rattle.maildir_run.specs.Several.{Mailbox}
 use Rattle.maildir_commands.specs.Machines.{AreFit, HasAlso, HeldMaildir, IsSafeIn, IsSoundFor, OthersStay, bytes_of}
@@ -9,9 +11,16 @@ use Rattle.maildir_commands.specs.declared.fault.Fault.{Fault}
 use Rattle.maildir_commands.specs.Private.Causes.{IsOfFiles}
 use Rattle.maildir_commands.specs.Opening.{OpensSources}
 use Rattle.maildir_commands.specs.Program.{Delivers}
-use Rattle.maildir_commands.specs.Report.{IsReportOf, PrintsOne, PrintsReport, PrintsReports}
+use Rattle.maildir_commands.specs.Report.{IsReportOf, PrintsReport, PrintsReports, report_line}
 use Rattle.maildir_commands.specs.Seen.{SeenMachine}
 use Rattle.maildir_commands.specs.Sources.{SeenMaildir}
+
+-- The line of a true report of the text was written, or a front of it, and the text is in the Maildir, and survives a power cut.
+pub record PrintsOne (old new : HeldMaildir) (text : Mailbox) (was is : Option (List ℕ)) : Type 0 where
+  pub report : Report
+  pub true_of : IsReportOf (has_home old.files) (leftover_count old.files) text report
+  pub safe : IsSafeIn new text
+  pub line : AppendsFront was is (report_line report)
 
 -- What came of delivering one text.
 pub record DeliversOne {A E : Type 0} (answer : Result A E) (text : Mailbox) (old new : HeldMaildir) (was is : Option (List ℕ)) : Type 0 where

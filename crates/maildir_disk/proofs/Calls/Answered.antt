@@ -1,4 +1,4 @@
--- What a call of the folder did, by what the call of the system did that it answers.
+-- What a call of the folder did, from what its last system call did.
 use Rattle.std.proofs.Common.{◌≡◌, [], ◌∷◌, ◌++◌, List, Result, Ok, Err, IfOk, IfErr, IsErr, IsErrOf, OnErr, Vec, String, Global}
 use Rattle.maildir_run.specs.declared.folder.FolderFault.{FolderFault}
 use Rattle.maildir_run.specs.Calls.{CountsFailure, GoesUp, MayAnswer}
@@ -24,7 +24,7 @@ quietly_answered call a b (Ok x) (Err f) ok err h = cc
 quietly_answered call a b (Err e) (Ok y) ok err h = cc
 quietly_answered call a b (Err e) (Err f) ok err h = h
 
--- a call of the system that did this, which the folder counted and answered
+-- a system call with this effect, which the folder counted and whose result it returned
 module _ {S File A E : Type 0} (f : Ghosts S File) (call : Call) (old new : DiskFolder S) {mid : S} (outcome : Result A E)
     {answer result : Result A FolderFault} (is : result ≡ answer) (system : new.system ≡ mid) (ok : IfOk outcome (λ value. answer ≡ Ok value))
     (err : OnErr outcome (IsErr answer)) (counted : GoesUp old.calls new.calls) (cause : CountsFailure answer old.failures new.failures) where
@@ -46,7 +46,7 @@ module _ {S File A E : Type 0} (f : Ghosts S File) (call : Call) (old new : Disk
     answers = answers;
   })
 
--- what an error of the system tells, where the folder answers this fault for none but such errors
+-- what an error of the system says about a fault of the folder that comes from such errors alone
 pub fault_tells : {S A E F : Type 0} {s t : S} (fault : F) (such : E → Type 0) (told : S → Type 0) (outcome : Result A E) (answer : Result A F)
     → t ≡ s → IfOk outcome (λ value. answer ≡ Ok value) → IfErr outcome (λ error. IsErrOf answer fault → such error)
     → IfErr outcome (λ error. such error → told s) → IsErrOf answer fault → told t
@@ -77,13 +77,15 @@ pub same_quietly : {A E : Type 0} (sub : Sub) {old : Files} (result : Result A E
 same_quietly sub (Ok x) same = (tt, same)
 same_quietly sub (Err e) same = ([], tt, same)
 
-listed_answered : {E : Type 0} (sub : Sub) (a b : Files) (outcome : Result (Vec (String Global) Global) E) (answer : Result (Vec (String Global) Global) FolderFault)
+listed_answered : {E : Type 0} (sub : Sub) (a b : Files) (outcome : Result (Vec (String Global) Global) E)
+    (answer : Result (Vec (String Global) Global) FolderFault)
     → IfOk outcome (λ names. answer ≡ Ok names) → OnErr outcome (IsErr answer) → Listed sub a outcome b → Listed sub a answer b
 listed_answered sub a b (Ok x) answer ok err h = rw ok h
 listed_answered sub a b (Err e) (Ok y) ok err h = cc
 listed_answered sub a b (Err e) (Err f) ok err h = h
 
-names_answered : {E : Type 0} (sub : Sub) (a : Files) (outcome : Result (Vec (String Global) Global) E) (answer : Result (Vec (String Global) Global) FolderFault)
+names_answered : {E : Type 0} (sub : Sub) (a : Files) (outcome : Result (Vec (String Global) Global) E)
+    (answer : Result (Vec (String Global) Global) FolderFault)
     → IfOk outcome (λ names. answer ≡ Ok names) → OnErr outcome (IsErr answer) → IfOk outcome (AreNames sub a) → IfOk answer (AreNames sub a)
 names_answered sub a (Ok x) answer ok err h = rw ok h
 names_answered sub a (Err e) (Ok y) ok err h = cc

@@ -1,4 +1,4 @@
--- What follows from what is assumed of a system.
+-- Consequences of what is assumed of a system.
 use Rattle.std.proofs.Common.{◌≡◌, inl, inr, ℕ, ◌+◌, ◌≤◌, ◌<◌, List, [], ◌∷◌, ◌++◌, map, append_assoc, refl, sym, ◌∙◌, ap}
 use Rattle.std.proofs.Common.{subst, arith, IsPermutation, Result, Ok, Err, IsErr, IfOk, Vec, String, Global, rules}
 use Rattle.std.proofs.lemmas.Bool.{false≢true}
@@ -24,7 +24,7 @@ pub others_whole : (xs : List Action) → IsWhole (map Other xs)
 others_whole [] = tt
 others_whole (a ∷ xs) = others_whole xs
 
--- no other program acts, or some and then others do
+-- no other program acts, or some act and then others
 pub acts_none : {a : World} → Acts a a
 acts_none = grind arith
 
@@ -35,14 +35,14 @@ acts_on {a} p q = grind (arith, all_acted-append p.actions q.actions a.files)
 pub passes_none : {sub : Sub} {a : World} → Passes sub a a
 passes_none = search (rules, acts_none)
 
--- a stamp of a change in a part of a time is one of a change in all of it
+-- the stamp of a change within a part of an interval is that of a change within the interval
 pub longer : {s t u v stamp : ℕ} → s ≤ t → u ≤ v → IsOfChange t u stamp → IsOfChange s v stamp
 longer before after change = grind arith
 
 pub passes_on : {sub : Sub} {a b c : World} → Passes sub a b → Passes sub b c → Passes sub a c
 passes_on {a} {c} p q = grind (arith, acts_on, longer)
 
--- a look that failed
+-- an attempt at a listing that failed
 pub looked_fault : {E : Type 0} (sub : Sub) {a b : World} (outcome : Result Look E) → IsErr outcome → Acts a b → LookGives sub a outcome b
 looked_fault sub (Ok _) is_err p = absurd (false≢true is_err)
 looked_fault sub (Err _) is_err p = p
@@ -60,7 +60,7 @@ pub listed_fault : {E : Type 0} (sub : Sub) {a b : World} (outcome : Result (Vec
 listed_fault sub (Ok _) is_err p = absurd (false≢true is_err)
 listed_fault sub (Err _) is_err p = failed_listing p
 
--- names as of a moment
+-- the names of one moment
 pub lists_at : {sub : Sub} {a b c : World} {names : List (List ℕ)} → Acts a b → Acts b c
     → IsPermutation names (keys (folder_of sub b.files)) → Lists sub a.files names c.files
 lists_at {sub} {a} {b} {names} p q are =
@@ -78,7 +78,7 @@ lists_at {sub} {a} {b} {names} p q are =
           q.files_are ∙ (sym (after-others q.actions call b.files) ∙ (ap (λ s. after s call rest) at ∙ sym (after-append call before (Again ∷ rest) a.files)));
     }
 
--- names as of a moment of a later part of the call
+-- the names of one moment of a later part of the call
 others_first : (xs : List Action) (call : Call) (ns : List Move) (a : Files) {b : Files}
     → b ≡ all_acted xs a → after a call (map Other xs ++ ns) ≡ after b call ns
 others_first xs call ns a e = grind (arith, after-append, after-others)
@@ -109,12 +109,12 @@ pub watched : {sub : Sub} {b c d : World} {names : List (List ℕ)} {stamp : ℕ
 watched p q (inl exact) tells = record { acts = acts_on p.acts q.acts; are = inl exact }
 watched {sub} {b} {c} {d} {stamp} p q (inr change) tells = grind (arith, longer, acts_on)
 
--- what was read is exact where the stamp was settled before the reading
+-- the names are exact if the stamp had settled before they were read
 pub exact_if_settled : {sub : Sub} {b d : World} {names : List (List ℕ)} {now stamp : ℕ} → IsSettled stamp now
     → now ≤ b.time → Watched sub stamp b names d → IsPermutation names (keys (folder_of sub b.files))
 exact_if_settled settled le w = grind arith
 
--- and where it was far ahead of the clock after the reading
+-- the names are exact if the stamp is far ahead of the clock after they were read
 pub exact_if_ahead : {sub : Sub} {b d : World} {names : List (List ℕ)} {later stamp : ℕ} → IsFarAhead stamp later
     → d.time ≤ later → Watched sub stamp b names d → IsPermutation names (keys (folder_of sub b.files))
 exact_if_ahead ahead le w = grind arith

@@ -1,4 +1,4 @@
--- A write that comes in pieces, between which other programs act, is one write at the moment when its file was made.
+-- A write that appends in several steps, between which other programs act, is one write at the moment when its file was created.
 use Rattle.std.proofs.Common.{◌≡◌, ◌⊎◌, inl, inr, ℕ, Bool, true, false, cond, not, List, [], ◌∷◌, ◌++◌, map, Option, Some, None, refl, sym, ◌∙◌, ap, IsErr}
 use Rattle.std.proofs.Common.{Result, Ok, Err, take, arith, rules}
 use Rattle.maildir_disk.proofs.Common.{Error, get, insert, remove, get-insert, get-remove, same_map, cases_Bool, false_from_ne_true, is_converter_name, Files}
@@ -35,7 +35,7 @@ acted_on (Reflag _ _) m = m
 acted_on (DropTmp name) m = cond (is_converter_name name) (remove m name) m
 acted_on (Outside files) m = outsiders_of m files.tmp
 
--- a test that one name passes and another doesn't tells them apart
+-- two names are distinct if one passes a test and the other does not
 apart : (p : List ℕ → Bool) (k q : List ℕ) → p k ≡ false → p q ≡ true → is_name q k ≡ false
 apart p k q off on = false_from_ne_true (is_name q k) (λ e. let same_test : p q ≡ p k = alike p q k e in cc)
 
@@ -91,7 +91,7 @@ all_acted_then_changed : (xs : List Action) (name : List ℕ) (change : List ℕ
 all_acted_then_changed [] name change s ours = refl
 all_acted_then_changed (a ∷ xs) name change s ours = grind (arith, all_acted_then_changed xs name change (acted a s) ours, acted_then_changed)
 
--- two files of one name, one after the other
+-- two writes of one name
 pub again : {X : Type 0} (here : Bool) (x y : Option X) (z : Option X) → cond here x (cond here y z) ≡ cond here x z
 again true x y z = refl
 again false x y z = refl
@@ -126,7 +126,7 @@ changed_leaves name change {s} theirs = record {
   cur_alike = λ q ours. refl;
 }
 
--- and a write to it is undone by one
+-- another program can undo a write to such a name
 undone : (name bytes : List ℕ) {s : Files} → is_converter_name name ≡ false → KeepsConverters (effect (Writing name bytes) s) s
 undone name bytes {s} theirs = grind (arith, writing_leaves name bytes {s = s} theirs)
 
@@ -223,14 +223,14 @@ pub write_called : {A E : Type 0} (name bytes : List ℕ) {a b : World} (outcome
 write_called name bytes (Ok _) written = write_succeeded written
 write_called name bytes (Err _) written = write_failed bytes written
 
--- a file that was not made, or only tried
+-- a create that failed
 pub not_created : {A E : Type 0} (name bytes : List ℕ) {a b : World} (outcome : Result A E) → IsErr outcome
     → Acts a b ⊎ Comes (effect (Writing name [])) a b → Called (Writing name bytes) a.files outcome b.files
 not_created name bytes (Ok _) is_err created = cc
 not_created name bytes (Err _) is_err (inl acts) = acts_failed acts
 not_created name bytes (Err _) is_err (inr comes) = write_failed [] (inl comes)
 
--- what an append leaves, however it ended
+-- what an append leaves, whether it succeeded or failed
 pub written_appended : (name held piece : List ℕ) {a b c : World} (outcome : Result ℕ Error)
     → Written name held a b → Appended name piece b outcome c → (left : List ℕ) × Written name left a c
 written_appended name held piece (Ok n) written comes = (held ++ take n piece, written_changed name held (λ had. had ++ take n piece) written comes)

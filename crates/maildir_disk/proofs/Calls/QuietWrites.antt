@@ -1,9 +1,9 @@
--- A write that comes in pieces while no other program acts.
+-- A write that appends in several steps while no other program acts.
 use Rattle.std.proofs.Common.{◌≡◌, inl, inr, ℕ, List, [], ◌∷◌, ◌++◌, refl, ◌∙◌, IsErr, Result, Ok, Err, take, rules}
 use Rattle.maildir_disk.proofs.Common.{Error, Files, Writing, Move, Other, Again, Torn, after, effect, IsOwn, CalledQuietly, AppendedQuietly, changed}
 use Rattle.maildir_disk.proofs.Calls.Pieces.{changed_again}
 
--- what a write of other bytes would do, as if it were torn
+-- the effect of a torn write, as a write of other bytes
 abbrev as_torn : List ℕ → List Move → List Move
 as_torn bytes [] = []
 as_torn bytes (Other action ∷ ms) = Other action ∷ as_torn bytes ms
@@ -23,7 +23,7 @@ after_torn name whole bytes (Other action ∷ ms) s own = absurd own
 after_torn name whole bytes (Again ∷ ms) s own = after_torn name whole bytes ms (effect (Writing name bytes) s) own
 after_torn name whole bytes (Torn held ∷ ms) s own = after_torn name whole bytes ms (effect (Writing name held) s) own
 
--- what a write left that ended early
+-- what a failed write leaves
 abbrev pub WriteEndedEarly : List ℕ → List ℕ → Files → Files → Type 0
 WriteEndedEarly name bytes old new = (moves : List Move) × IsOwn moves × (new ≡ after old (Writing name bytes) moves)
 

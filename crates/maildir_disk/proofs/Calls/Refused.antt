@@ -1,4 +1,4 @@
--- A call that answered an error.
+-- Calls that failed.
 use Rattle.std.proofs.Common.{◌≡◌, refl, Result, Ok, Err, IsErr}
 use Rattle.std.proofs.lemmas.Bool.{false≢true}
 use Rattle.maildir_disk.proofs.Common.{Follows}
@@ -8,12 +8,12 @@ use Rattle.maildir_disk.specs.Quiet.{SameFiles}
 use Rattle.maildir_disk.specs.Seen.{SyncsMaildir}
 use Rattle.maildir_disk.specs.World.{Acts}
 
--- by this a clause that tells an answer from an error is that of the error
+-- a clause on an error applies to a call that failed
 pub an_error : {A E : Type 0} (outcome : Result A E) → IsErr outcome → (e : E) × (outcome ≡ Err e)
 an_error (Ok x) is_err = cc
 an_error (Err e) is_err = (e, refl)
 
--- a sync of which a part failed
+-- a sync of which one step failed
 pub sync_failed : {S File A E : Type 0} (f : Ghosts S File) {old new : S} (result : Result A E) → IsErr result
     → (f.honest old → Acts (f.world old) (f.world new)) → (f.honest old → Follows LeftByOthers (f.may_leave old) (f.may_leave new))
     → (f.honest old → f.rooted old → f.rooted new) → (f.quiet old → SameFiles (f.world old) (f.world new)) → SyncsMaildir f old result new

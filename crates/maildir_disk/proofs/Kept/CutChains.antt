@@ -1,4 +1,4 @@
--- What runs over any of several texts, actions, syncs and power cuts leave that follow one another.
+-- What any sequence of runs over several texts, actions, syncs and power cuts leaves.
 use Rattle.std.proofs.Common.{◌≡◌, ℕ, true, List, [], ◌∷◌, ◌++◌, map, get_or, All, Any, Contains, IsTrue, IsPermutation, Result, Ok, refl, sym, ap, subst}
 use Rattle.std.proofs.Common.{inl, inr, arith, rules}
 use Rattle.maildir_disk.proofs.Common.{cases_Bool, All-contains, All-cons, All-head, All-nil, Contains-append_right, Contains-get_or, is_converter_base}
@@ -21,12 +21,12 @@ pub record Known (texts : List Mailbox) (m : Message) : Type 0 where
   pub named : IsTrue (is_converter_base m.target.base)
   pub alike : OfEach (λ n. n.target.base ≡ m.target.base → n.body ≡ m.body) texts
 
--- a message is sound, and so is what a cut would leave of it
+-- a message is sound, and a power cut would leave it intact
 pub record StandsAt (moment : FilesAndLeft) (m : Message) : Type 0 where
   pub sound : IsSoundAt moment.files m
   pub intact : IsIntact moment.left m
 
--- a message is at home, and what a cut would leave of it has its body
+-- a message is at home, and a power cut would leave it with its body
 pub record IsSafeAt (moment : FilesAndLeft) (m : Message) : Type 0 where
   pub home : IsHome moment.files m
   pub body : HasBody moment.left m
@@ -39,7 +39,7 @@ pub moved_sound : (m : Message) (s t : Files) → IsPermutation (homes s m.targe
 moved_sound m s t kept (inl none) = inl (homes_none _ s t kept none)
 moved_sound m s t kept (inr home) = inr (homes_one _ m.body s t kept home)
 
--- a home where there is one
+-- a message that has a home
 at_home : (m : Message) (s : Files) → HasHome s m → IsSoundAt s m → IsHome s m
 at_home m s has (inl none) = grind arith
 at_home m s has (inr home) = home
@@ -47,11 +47,11 @@ at_home m s has (inr home) = home
 missing_intact : (m : Message) (s : Files) → IsMissing s m → IsIntact s m
 missing_intact m s none bytes has = grind (arith, none_in)
 
--- the message that a base is of
+-- the message that has this base
 found_any : (ms : List Message) {b : List ℕ} → Any (λ n. is_name n.target.base b ≡ true) ms → (n : Message) × Contains ms n × (n.target.base ≡ b)
 found_any ms {b} (k, x, below, at, holds) = grind (arith, is_name-true)
 
--- a message, of whose base no message of a run has another body
+-- a message whose base has the same body in a run
 pub kept_by_run : {ms : List Message} {old new : Files} {answer : Result Report RunFault} → Keeps ms old answer new
     → (m : Message) → IsTrue (is_converter_base m.target.base) → All (λ n. n.target.base ≡ m.target.base → n.body ≡ m.body) ms
     → (IsSoundAt old m → IsSoundAt new m) × (IsHome old m → IsHome new m)
@@ -110,7 +110,7 @@ module _ (texts : List Mailbox) where
         steady_kept m.target.base m.body old.left new.left
         (IsPermutation-trans _ _ _ (cut.found.kept m.target.base known.named) (cut.stays.kept m.target.base known.named))
 
-    -- what a cut would leave of it, after each event
+    -- what a power cut would leave of the message after each event
     holds_at : (event : EventOver) (old new : FilesAndLeft) → All IsMailbox texts
         → HappensOver texts event old new → SteadyAt m.target.base m.body old.left new.left
     holds_at (RanOver text answer) old new are (among, happens) =
@@ -122,7 +122,7 @@ module _ (texts : List Mailbox) where
         steady_then m.target.base m.body old.left synced.mid.left new.left (kept_holds synced.first) (kept_holds synced.then)
     holds_at CutOver old new are cut = cut_holds cut
 
-    -- and what there is of it, until a cut
+    -- what there is of the message, until a power cut
     kept_at : (event : EventOver) (old new : FilesAndLeft) → All IsMailbox texts → Stand old → (event ≡ CutOver → ⊥)
         → HappensOver texts event old new → (IsSoundAt old.files m → IsSoundAt new.files m) × (IsHome old.files m → IsHome new.files m)
     kept_at (RanOver text answer) old new are stand uncut (among, happens) =
@@ -150,7 +150,7 @@ module _ (texts : List Mailbox) where
       intact = intact_on m old.left new.left (holds_at event old new are happens) at.intact;
     }
 
-    -- once it is at home and would survive a cut it stays there
+    -- a message that is at home and would survive a power cut stays at home
     safe_at : (event : EventOver) {old new : FilesAndLeft} → All IsMailbox texts → Stand old → HappensOver texts event old new → IsSafeAt old m → IsSafeAt new m
     safe_at CutOver {old} {new} are stand cut safe = record {
       home =
@@ -164,7 +164,7 @@ module _ (texts : List Mailbox) where
     synced_safe : {old new : FilesAndLeft} → StandsAt old m → IsHome old.files m → Syncs old.files old.left new.files new.left → IsSafeAt new m
     synced_safe {old} {new} at home synced = grind (arith, still_home m known.named, kept_names m known.named home at.intact synced.first synced.then)
 
-  -- ---- chains
+  -- ---- sequences of events
   module _ (are : All IsMailbox texts) (alike : OfEach (λ m. OfEach (λ n. n.target.base ≡ m.target.base → n.body ≡ m.body) texts) texts) where
     known : OfEach (Known texts) texts
     known k d below j e inside = grind (arith, text_named)
@@ -193,7 +193,7 @@ module _ (texts : List Mailbox) where
             λ k d below. safe_at (get_or ms k d) (knows k d below) e are at.0 happens (at.1 k d below),
           )) events old new (stand, safe) happen).1
 
-      -- from messages at home on
+      -- sequences that begin with the messages at home
       home_synced : (between rest : List EventOver) (old new : FilesAndLeft)
           → ((m : Message) (moment : FilesAndLeft) → Stand moment → Contains ms m → StandsAt moment m) → Stand old → ¬ Contains between CutOver
           → HappenOver texts (between ++ (SyncedOver ∷ rest)) old new → All (IsHome old.files) ms → All (IsSafeAt new) ms

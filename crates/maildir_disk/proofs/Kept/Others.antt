@@ -27,7 +27,7 @@ stays_beside : {others : List Message} → AreNamed others → {old new : World}
     → Acts old new → Follows LeftByOthers before now → Stays others old.files before new.files now
 stays_beside {others} named {old} {new} {before} {now} acts left = search (rules, stays_acted)
 
--- one after the other
+-- two steps in sequence
 pub stays_then : (others : List Message) (r : Files) (a : Files → Type 0) (s : Files) (b : Files → Type 0) (t : Files) (c : Files → Type 0)
     → Stays others r a s b → Stays others s b t c → Stays others r a t c
 stays_then others r a s b t c first then = record {

@@ -1,4 +1,4 @@
--- A run, and then a sync: what a cut leaves of the run's messages.
+-- A run, and then a sync: what a power cut leaves of the run's messages.
 use Rattle.std.proofs.Common.{ℕ, ◌<◌, ◌^◌, List, length, All, Ok, Result, OnOk, IsOk, arith, rules}
 use Rattle.maildir_disk.proofs.Common.{RunFault, Report, Follows, Message, AreNamed, IsHome, IsSoundAt, Files, ReportsMessages, IsRun, MessagesOf, text_named}
 use Rattle.maildir_disk.proofs.Common.{AreAlike, AreIntact, AreSafe, LeftByOthers, Survive, Syncs, World, Acts, sound_now}

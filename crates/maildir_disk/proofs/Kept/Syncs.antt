@@ -1,4 +1,4 @@
--- What a cut leaves after the names in `new` were kept, and then those in `cur`.
+-- What a power cut leaves after a sync of `new`, and then of `cur`.
 use Rattle.std.proofs.Common.{◌≡◌, ℕ, false, List, [], ◌∷◌, ◌++◌, Option, Some, None, IsTrue, All, refl, sym, ap, subst, ◌∙◌, Contains, is_some, arith}
 use Rattle.std.proofs.Common.{rules}
 use Rattle.maildir_disk.proofs.Common.{contains_key, Contains-append_left, Contains-append_right, is_converter_name, is_converter_base, Sub, New}
@@ -9,7 +9,7 @@ use Rattle.maildir_disk.proofs.Left.Lefts.{leaves_then}
 use Rattle.maildir_run.proofs.Call.ListedNowhere.{all_acted_new}
 use Rattle.maildir_disk.proofs.Left.LeftHomes.{first_in, intact_on, others_hold}
 
--- what is there, where one thing alone may be
+-- what a list holds if it can hold one thing alone
 only : {x : List ℕ} (found : List (List ℕ)) → ((y : List ℕ) → Contains found y → y ≡ x) → (found ≡ [] → ⊥) → Contains found x
 only [] is some = absurd (some refl)
 only (y ∷ found) is some = search (rules, first_in)
@@ -19,7 +19,7 @@ none_if_not_some None e = refl
 none_if_not_some (Some x) e = cc
 
 module _ (m : Message) (named : IsTrue (is_converter_base m.target.base)) where
-  -- two folders with the same converter's names
+  -- two folders that have the same converter's names
   abbrev Alike : FileMap → FileMap → Type 0
   Alike there moment = (name : List ℕ) → IsTrue (is_converter_name name) → contains_key there name ≡ contains_key moment name
 
@@ -65,7 +65,7 @@ pub synced_bodies : (ms : List Message) → AreNamed ms → {old before new left
     → All (IsHome old) ms → All (IsIntact before) ms → Syncs old before new left → All (HasBody left) ms
 synced_bodies ms named home intact syncs k d below = search (rules, kept_names)
 
--- names that were kept, and then what others did
+-- a sync of one folder, and then what other programs did
 pub kept_later : {sub : Sub} {s before : Files} {t u : World} {mid left : Files}
     → KeepsNames sub s before t.files mid → Acts t u → LeftByOthers mid left → KeepsNames sub s before u.files left
 kept_later keeps acts leaves = record {

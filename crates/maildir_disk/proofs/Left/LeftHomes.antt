@@ -1,4 +1,4 @@
--- What a cut leaves of the files of one base, from one move to the next.
+-- What a power cut leaves of the files of one base, from one move to the next.
 use Rattle.std.proofs.Common.{◌≡◌, ℕ, true, false, cond, zero, suc, List, [], ◌∷◌, ◌++◌, ◌⊎◌, Option, Some, None, All, get_or, IsPermutation, IsTrue, refl, sym}
 use Rattle.std.proofs.Common.{ap, subst, ◌∙◌, inl, inr, arith, Contains, rules}
 use Rattle.maildir_disk.proofs.Common.{get, insert, remove, get-insert, get-remove, same_map, cases_Bool, and_parts, Contains-push, Contains-append_left}
@@ -23,7 +23,7 @@ pub first_or : {X : Type 0} {x : X} (xs : List X) {y : X} → Contains (x ∷ xs
 first_or xs (zero, below, at) = inl (sym at)
 first_or xs (suc k, below, at) = inr (k, omega (arith, below), at)
 
--- ---- one folder, where a file comes under a name of the base
+-- ---- one folder, with a new file under a name of the base
 remove_inserted : (m : FileMap) (k v : List ℕ) → remove (insert m k v) k ≡ remove m k
 remove_inserted m k v =
     same_map total same _ _ (λ q.
@@ -56,7 +56,7 @@ module _ (b : List ℕ) (m : FileMap) (k v : List ℕ) (on : has_base b k ≡ tr
             ]
       ] refl
 
--- ---- lists, as against one element
+-- ---- lists that gain one element
 -- each element was one before, or is this one; and this one stays
 pub record Steady (x : List ℕ) (old new : List (List ℕ)) : Type 0 where
   pub within : (y : List ℕ) → Contains new y → (y ≡ x) ⊎ Contains old y
@@ -84,11 +84,11 @@ steady_right {x} {old} {new} first steady = record {
       h) [ inl there ↦ Contains-append_left first new x there | inr there ↦ Contains-append_right first new x (steady.still there) ];
 }
 
--- ---- the homes of a base, as against some bytes
+-- ---- the homes of a base, and some bytes
 abbrev pub SteadyAt : (b x : List ℕ) (old new : Files) → Type 0
 SteadyAt b x old new = Steady x (homes old b) (homes new b)
 
--- a file that was written is found whole as long as nothing writes it
+-- a file that was written survives whole as long as no call writes it again
 whole_on : (name : List ℕ) {x : List ℕ} (s t : Files) → StaysOrGoes name s t → IsFoundWhole (Writing name x) s → IsFoundWhole (Writing name x) t
 whole_on name s t (inl stays) whole = grind arith
 whole_on name s t (inr gone) whole = grind arith
@@ -119,7 +119,7 @@ module _ (b x : List ℕ) where
     still = Contains-permutation _ _ x kept;
   }
 
-  -- a file of the base is under one more of its names
+  -- a file of the base under one more name of that base
   linked_in : (s : Files) (target : List ℕ) {bytes : List ℕ} → has_base b target ≡ true → get s.cur target ≡ None
       → Contains (homes s b) bytes → SteadyAt b x s (record s { cur = insert s.cur target bytes })
   linked_in s target {bytes} on free has = record {
@@ -159,7 +159,7 @@ module _ (b x : List ℕ) where
   doubled_steady (DropTmp name) s = steady_same s
   doubled_steady (Outside files) s = steady_same s
 
-  -- these bytes come under a name of the base, also one that is taken
+  -- a file with these bytes under a name of the base, which may have been taken
   inserted_steady : (m : FileMap) (target : List ℕ) → has_base b target ≡ true → Steady x (held_under b m) (held_under b (insert m target x))
   inserted_steady m target on = search (rules, inserted_or, inserted_in)
 
@@ -182,7 +182,7 @@ module _ (b x : List ℕ) where
     pub leaves_elsewhere : {call : Call} → PlacesElsewhere b call → {s t : Files} → Leaves call s t → SteadyAt b x s t
     leaves_elsewhere {call} off {s} leaves = search (rules, left_elsewhere)
 
-    -- a call that places there what `tmp` has under a name, where these bytes were written
+    -- a call that places a file of `tmp` at the base, which was written with these bytes
     module _ (name : List ℕ) (p : Place) (target : List ℕ) (ours : IsTrue (is_converter_name name)) (on : has_base b target ≡ true) where
       placing_moved : (move : Move) (s : Files) → IsFoundWhole (Writing name x) s → SteadyAt b x s (moved (Placing name p target) move s)
       placing_moved (Other action) s whole = grind (arith, steady_kept, acted_kept)
@@ -203,14 +203,14 @@ module _ (b x : List ℕ) where
       pub leaves_placing : {s t : Files} → IsFoundWhole (Writing name x) s → Leaves (Placing name p target) s t → SteadyAt b x s t
       leaves_placing {s} whole leaves = search (rules, left_placing)
 
--- ---- a message, of whose base this holds
+-- ---- a message with this base
 pub intact_on : (m : Message) (s t : Files) → SteadyAt m.target.base m.body s t → IsIntact s m → IsIntact t m
 intact_on m s t holds intact bytes h = elim (holds.within bytes h) [ inl is ↦ is | inr there ↦ intact bytes there ]
 
 pub others_hold : (m : Message) → IsTrue (is_converter_base m.target.base) → {s t : Files} → LeftByOthers s t → SteadyAt m.target.base m.body s t
 others_hold m named leaves = leaves_elsewhere m.target.base m.body named tt leaves
 
--- ---- messages, of each of which this holds
+-- ---- several messages
 abbrev pub AllHold : List Message → Files → Files → Type 0
 AllHold ms s t = All (λ m. SteadyAt m.target.base m.body s t) ms
 

@@ -1,4 +1,4 @@
--- What a cut leaves of the tasks of a run.
+-- What a power cut leaves of the tasks of a run.
 use Rattle.std.proofs.Common.{◌≡◌, ℕ, ◌<◌, ◌^◌, length, get_or, Bool, true, false, cond, List, [], ◌∷◌, ◌++◌, ◌⊎◌, All, IsTrue, IsFalse, Result, Ok, Err, sym}
 use Rattle.std.proofs.Common.{ap, subst, inl, inr, arith}
 use Rattle.maildir_disk.proofs.Common.{cases_Bool, cases_order, false≢true, All-head, All-tail, is_converter_name, is_converter_base, Writing, Placing}
@@ -15,7 +15,7 @@ use Rattle.maildir_run.proofs.Tasks.TaskEffects.{EachTask, PlacesNone, all_parts
 use Rattle.maildir_disk.proofs.Left.LeftHomes.{SteadyAt, steady_same, steady_then, leaves_elsewhere, leaves_placing, AllHold}
 
 -- ---- the parts of a list of tasks
--- what a cut leaves of tasks that were all done, or of which one was refused
+-- what a power cut leaves of tasks that all succeeded, or of which one failed
 abbrev pub LeavesTasks : (ended : Bool) → List Task → Files → Files → Type 0
 LeavesTasks true tasks old new = AllDone leaving tasks old new
 LeavesTasks false tasks old new = Stopped leaving tasks old new
@@ -32,7 +32,7 @@ one_left true task {old} {new} h = (one_done task old new h).0
 one_left false task (inl refused) = refused
 one_left false task {old} {new} (inr done) = (one_done task old new done).0
 
--- a front of the first part, or all of it and then of the other
+-- the tasks failed within the first part, or after it
 abbrev pub InParts : (ended : Bool) (xs ys : List Task) (old new : Files) → Type 0
 InParts ended xs ys old new = LeavesTasks ended xs old new ⊎ ((mid : Files) × LeavesTasks true xs old mid × LeavesTasks ended ys mid new)
 
@@ -45,9 +45,9 @@ performs_left : {A E : Type 0} {tasks : List Task} {old new : Files} (r : Result
 performs_left (Ok _) h = (true, h)
 performs_left (Err _) h = (false, h)
 
--- ---- a base of which no message has another body than these bytes
+-- ---- a base at which no message has another body than these bytes
 module _ (b x : List ℕ) (named : IsTrue (is_converter_base b)) where
-  -- whatever a cut leaves of these tasks, of the base it leaves what was there, or these bytes
+  -- after these tasks, a power cut leaves at the base what it left before, or these bytes
   abbrev pub AreSteady : List Task → Type 0
   AreSteady tasks = (ended : Bool) (old new : Files) → LeavesTasks ended tasks old new → SteadyAt b x old new
 
@@ -74,7 +74,7 @@ module _ (b x : List ℕ) (named : IsTrue (is_converter_base b)) where
       both_steady (Do (Writing t.base body) ∷ []) (Do (Placing t.base t.place t.name) ∷ [])
       (elsewhere_steady (Do (Writing t.base body)) tt) (elsewhere_steady (Do (Placing t.base t.place t.name)) off)
 
-  -- a message of the base, which is placed once it was written
+  -- a message of the base, which is placed after it was written
   own_steady : (t : Target) → IsTrue (is_converter_name t.base) → has_base b t.name ≡ true → AreSteady (delivery_of t x)
   own_steady t ours on ended old new h =
       let write = Do (Writing t.base x) in

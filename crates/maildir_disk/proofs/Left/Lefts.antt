@@ -1,10 +1,10 @@
--- What a cut leaves, from one moment of a call to the next.
+-- What a power cut leaves, from one moment of a call to the next.
 use Rattle.std.proofs.Common.{◌≡◌, inl, inr, ℕ, List, [], ◌∷◌, ◌++◌, refl, ap, sym, ◌∙◌, IsErr, IsOk, OnErr, OnOk, Result, Ok, Err}
 use Rattle.std.proofs.lemmas.Bool.{false≢true}
 use Rattle.maildir_disk.proofs.Common.{Tmp, Call, Listing, Writing, Other, Again, Torn, Succeeded, moved, CutMove, Came, Doubled, Leaves, LeavesOf}
 use Rattle.maildir_disk.proofs.Common.{IsFoundWhole, Follows, left_after, doubled, Files, left_as, writing_ok, LeftByOthers, KeepsHeld}
 
--- ---- one after the other
+-- ---- two steps in sequence
 left_after-append : (call : Call) (xs ys : List CutMove) (s : Files) → left_after s call (xs ++ ys) ≡ left_after (left_after s call xs) call ys
 left_after-append call [] ys s = refl
 left_after-append call (Came move ∷ xs) ys s = left_after-append call xs ys (moved call move s)
@@ -19,7 +19,7 @@ leaves_then {call} {a} first then = record {
   are = then.are ∙ (ap (λ s. left_after s call then.kept) first.are ∙ sym (left_after-append call first.kept then.kept a));
 }
 
--- ---- what others do within any call
+-- ---- what other programs do within any call
 of_others : List CutMove → List CutMove
 of_others [] = []
 of_others (Came (Other action) ∷ kept) = Came (Other action) ∷ of_others kept
@@ -77,7 +77,7 @@ left_none new may = (new, may, leaves_none)
 pub left_by_others_then : {a b c : Files → Type 0} → Follows LeftByOthers a b → Follows LeftByOthers b c → Follows LeftByOthers a c
 left_by_others_then = left_both
 
--- ---- where a call answered Ok
+-- ---- a call that returned Ok
 pub on_ok : {A E : Type 0} (P : Type 0) (outcome : Result A E) → P → OnOk outcome P
 on_ok P (Ok x) h = h
 on_ok P (Err e) h = tt
@@ -95,13 +95,13 @@ pub left_fault : {A E : Type 0} {call : Call} (outcome : Result A E) {a b : File
 left_fault (Ok x) is_err h = absurd (false≢true is_err)
 left_fault (Err e) is_err h = h
 
--- nothing is to be found whole
+-- a call that syncs nothing
 pub left_always : {A E : Type 0} {call : Call} (outcome : Result A E) {a b : Files → Type 0} → ((s : Files) → IsFoundWhole call s)
     → Follows (Leaves call) a b → Follows (λ before now. LeavesOf call before outcome now) a b
 left_always {call} (Ok x) {a} {b} whole h = left_as (Leaves call) _ a b (λ old new leaves. (leaves, whole new)) h
 left_always (Err e) whole h = h
 
--- the answer of a folder for that of the system
+-- the result of the folder's call, from that of the system call
 pub left_answered : {A E F : Type 0} (call : Call) (outcome : Result A E) (answer : Result A F) {a b : Files → Type 0} → OnErr outcome (IsErr answer)
     → Follows (λ before now. LeavesOf call before outcome now) a b → Follows (λ before now. LeavesOf call before answer now) a b
 left_answered call (Ok x) (Ok y) is h = h
@@ -109,7 +109,7 @@ left_answered call (Ok x) (Err f) {a} {b} is h = left_as _ (Leaves call) a b (λ
 left_answered call (Err e) (Ok y) is h = absurd (false≢true is)
 left_answered call (Err e) (Err f) is h = h
 
--- a file that was written and kept
+-- a file that was written and synced
 pub left_written : {A E : Type 0} {name bytes : List ℕ} (outcome : Result A E) {a b : Files → Type 0} {old new : Files}
     → Succeeded (Writing name bytes) old new → OnOk outcome (KeepsHeld name new b)
     → Follows (Leaves (Writing name bytes)) a b → Follows (λ before now. LeavesOf (Writing name bytes) before outcome now) a b

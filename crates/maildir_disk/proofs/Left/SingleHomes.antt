@@ -1,4 +1,4 @@
--- What a cut leaves of a message where it leaves each file under one name.
+-- What a power cut leaves of a message if it leaves no file under two names.
 use Rattle.std.proofs.Common.{◌≡◌, ℕ, ◌≤◌, List, [], ◌∷◌, ◌⊎◌, length, IsTrue, ap, inl, inr, arith, refl, Contains}
 use Rattle.maildir_disk.proofs.Common.{is_converter_base, Message, IsHome, IsSoundAt, Files, homes, IsIntact, HasBody, IsSingle}
 use Rattle.maildir_disk.proofs.Left.LeftHomes.{none_in, first_in}

@@ -1,4 +1,4 @@
--- What a look at a folder gives.
+-- What one attempt at a listing returns.
 use Rattle.std.specs.Prelude.{ℕ, ◌+◌, ◌≤◌, List, Result, Ok, Err, Option, Some, None}
 use Rattle.std.specs.declared.vec.Vec.{Vec}
 use Rattle.std.specs.declared.string.String.{String}
@@ -15,35 +15,35 @@ use Rattle.maildir_disk.specs.World.{World, Acts, AreUnless, margin_of}
 use Rattle.maildir_disk.specs.Look.{IsFarAhead, IsSettled}
 use Rattle.maildir_disk.specs.Quiet.{AreNames}
 
--- how a stamp stands to the clock; a young one is waited for until it has settled, and no longer
+-- how the stamp of a folder compares with the clock; the pause lasts until the stamp has settled, and no longer
 abbrev pub IsAged : ℕ → ℕ → Age → Type 0
 IsAged stamp now Settled = IsSettled stamp now
 IsAged stamp now Ahead = IsFarAhead stamp now
 IsAged stamp now (Young pause) = now + as_nanos pause ≤ stamp + margin_of stamp
 
--- These names were read, and then the folder had this stamp: they are its names, or the stamp is of a change meanwhile.
+-- These names were read, and then the folder had this stamp: they are its names, or the stamp is that of a change meanwhile.
 pub record Watched (sub : Sub) (stamp : ℕ) (old : World) (names : List (List ℕ)) (new : World) : Type 0 where
   pub acts : Acts old new
   pub are : AreUnless sub old names new.time stamp
 
--- the names with this stamp after them, or nothing but what others did
+-- the names, if the folder had this stamp after them; other programs may have acted
 abbrev pub WatchedOr : {E : Type 0} → Sub → ℕ → World → Result (Option (Vec (String Global) Global)) E → World → Type 0
 WatchedOr sub stamp old (Ok (Some names)) new = Watched sub stamp old (names_of names) new
 WatchedOr sub stamp old (Ok None) new = Acts old new
 WatchedOr sub stamp old (Err _) new = Acts old new
 
--- the names as of one moment, or nothing but what others did
+-- the names of one moment, or none; other programs may have acted
 abbrev pub LookGives : {E : Type 0} → Sub → World → Result Look E → World → Type 0
 LookGives sub old (Ok (Taken names)) new = Lists sub old.files (names_of names) new.files
 LookGives sub old (Ok (Wait _)) new = Acts old new
 LookGives sub old (Err _) new = Acts old new
 
--- what was found of a folder: its names, or nothing
+-- the folder's names, if any are returned
 abbrev pub FoundNames : Sub → Files → Option (Vec (String Global) Global) → Type 0
 FoundNames sub s (Some names) = AreNames sub s names
 FoundNames sub s None = Unit {0}
 
--- what a look at a folder gave: its names, or nothing
+-- the folder's names, if the attempt returned names
 abbrev pub LookGivesQuietly : Sub → Files → Look → Type 0
 LookGivesQuietly sub s (Taken names) = AreNames sub s names
 LookGivesQuietly sub s (Wait _) = Unit {0}

@@ -49,7 +49,7 @@ module _ (change : Change) (old : Cases) where
   abbrev pub With : Files → Type 0
   With left = (was : Files) × Contains (lefts_of old) was × (left ≡ made change was)
 
-  -- so many of the cases are there with the change
+  -- the first n cases have been added with the change
   abbrev pub AreWith : ℕ → Cases → Type 0
   AreWith n cases = (k : ℕ) → k < n → Contains (lefts_of cases) (made change (nth_left k old))
 
@@ -71,7 +71,7 @@ module _ (change : Change) (old : Cases) where
             (subst (λ left. Contains (lefts_of new) (made change left)) (same_place more at no_files below) there)
       ]
 
-  -- all of them, and then the files as they are
+  -- all cases have been added, and then the files as they are
   pub all_more : (mid new : Cases) {now x : Files} → x ≡ now → Adds With (lefts_of old) (lefts_of mid)
       → Adds (λ left. left ≡ x) (lefts_of mid) (lefts_of new) → Adds (IsAdded change now old) (lefts_of old) (lefts_of new)
   all_more mid new is more last =
@@ -93,7 +93,7 @@ module _ (change : Change) (old : Cases) where
 
 -- ---- appended bytes
 module _ (name holds : List ℕ) (held : ℕ) (folder : MemFolder) (old : Cases) where
-  -- so far the file may be left with these fronts
+  -- the file may be left with these prefixes so far
   pub record LosesUpTo (end : ℕ) (now : Cases) : Type 0 where
     pub without : held < end → (left : Files) → may_find folder old left → Contains (lefts_of now) left
     pub fronts : (n : ℕ) → held < n → n < end → (left : Files) → may_find folder old left → Contains (lefts_of now) (changed name (λ _. take n holds) left)

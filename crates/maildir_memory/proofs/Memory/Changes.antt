@@ -1,4 +1,4 @@
--- Changes of a Maildir in memory: what each leaves, and of which call it is.
+-- Changes of a Maildir in memory: what each may leave, and to which call it belongs.
 use Rattle.std.proofs.Common.{◌≡◌, ◌⊎◌, ◌↔◌, ◌+◌, ◌<◌, ◌≤◌, ℕ, List, [], ◌∷◌, ◌++◌, length, take, Contains, Option, Some, None, Result, Ok, Err, OnOk, OnErr}
 use Rattle.std.proofs.Common.{refl, sym, ◌∙◌, ap, subst, inl, inr, arith, string_bytes, take-take, rules}
 use Rattle.maildir_memory.proofs.Common.{get, keys, contains_key, contains_key-keys, Sub, Tmp, MemFolder, Call, Listing, Writing, Placing, Removing, Again}
@@ -16,7 +16,7 @@ use Rattle.maildir_disk.proofs.Calls.Passing.{all_acted-append}
 use Rattle.maildir_run.specs.declared.script.Act.TheVariants as act
 use Rattle.maildir_memory.specs.declared.cases.Change.TheVariants as change
 
--- the call that a change is of; what other programs do comes in a listing
+-- the call that a change belongs to; what other programs do counts as part of a listing
 abbrev pub call_of_change : Change → Call
 call_of_change (Make name) = Writing name.now []
 call_of_change (Hold name bytes) = Writing name.now []
@@ -45,7 +45,7 @@ made_leaves (Half act) = half_leaves act.now
 
 -- ---- what a cut may leave
 module _ (change : Change) (folder then : MemFolder) (old new : Cases) (more : Adds (IsAdded change (files_of folder) old) (lefts_of old) (lefts_of new)) where
-  -- a call whose change may be lost, as it leaves the folder
+  -- how a call whose change may be lost leaves the folder
   pub left_by_change : Leaves (call_of_change change) (files_of folder) (files_of then)
       → Follows (Leaves (call_of_change change)) (may_find folder old) (may_find then new)
   left_by_change own left (inl e) = (files_of folder, inl refl, subst (Leaves (call_of_change change) (files_of folder)) (sym e) own)
@@ -73,27 +73,27 @@ called_leaves {call} {a} (Ok x) {b} h = grind (arith, leaves_moves)
 called_leaves {call} {a} (Err e) {b} h = leaves_moves call a b h.moves h.left
 
 -- ---- calls
--- a change after others acted, with what came of its call
+-- a change after other programs acted, with the result of its call
 pub left_made : {A E : Type 0} (change : Change) {before : Files → Type 0} (folder then : MemFolder) (old new : Cases) (outcome : Result A E)
     → Follows LeftByOthers before (may_find folder old) → Adds (IsAdded change (files_of folder) old) (lefts_of old) (lefts_of new)
     → Called (call_of_change change) (files_of folder) outcome (files_of then) → Follows (Leaves (call_of_change change)) before (may_find then new)
 left_made change folder then old new outcome first more called =
     left_both (left_early first) (left_by_change change folder then old new more (called_leaves outcome called))
 
--- and where it was not made
+-- a call that made no change
 pub left_unmade : (change : Change) {before : Files → Type 0} (folder : MemFolder) (old new : Cases) → Follows LeftByOthers before (may_find folder old)
     → Adds (IsAdded change (files_of folder) old) (lefts_of old) (lefts_of new) → Follows (Leaves (call_of_change change)) before (may_find folder new)
 left_unmade change folder old new first more =
     left_both (left_early first) (left_by_change change folder folder old new more leaves_none)
 
--- where nothing but the script of the folder changed
+-- only the script of the folder changed
 pub same_found : {of : Files → Files → Type 0} (folder same : MemFolder) (cases : Cases) {now : Files → Type 0}
     → files_of same ≡ files_of folder → Follows of (may_find same cases) now → Follows of (may_find folder cases) now
 same_found folder same cases e h left may =
     let r = h left may in
     (r.0, elim r.1 [ inl is ↦ inl (is ∙ e) | inr has ↦ inr has ], r.2)
 
--- a change that may be lost, behind what keeps the cases
+-- a change that may be lost, after steps that keep the cases
 pub lost_after : {change : Change} {before : Files → Type 0} (folder then : MemFolder) {old mid new : Cases} → KeepsCases before (may_find folder mid) old mid
     → Adds (IsAdded change (files_of folder) mid) (lefts_of mid) (lefts_of new) → new.room ≡ mid.room → (HasRoom new → Loses change (files_of folder) mid new)
     → files_of then ≡ made change (files_of folder) → HasRoom new → (left : Files) → before left → may_find then new left × may_find then new (made change left)
@@ -135,7 +135,7 @@ pub bytes_after : {name holds : List ℕ} {held : ℕ} {before : Files → Type 
     → (left : Files) → before left → may_find then new left × may_find then new (changed name (λ _. take n holds) left)
 bytes_after then {mid} keeps longer room loses has {n} above below left may = grind arith
 
--- another program's act, or what is left of it where it found no memory
+-- another program's act, or what it leaves if an allocation failed
 pub acts_of_act : {E : Type 0} (a : Act) (old : Files) (outcome : Result (Unit {0}) E) {new : Files}
     → OnOk outcome (new ≡ performed a old) → OnErr outcome (new ≡ old) → (actions : List Action) × (new ≡ all_acted actions old)
 acts_of_act a old (Ok x) ok err = let action = an_action a old in (action.0 ∷ [], ok ∙ action.1)

@@ -20,7 +20,7 @@ made (Remove name) s = effect (Removing name.now) s
 made (Other act) s = performed act.now s
 made (Half act) s = half_performed act.now s
 
--- those of the case of this number
+-- the files of the case with this number
 abbrev pub nth_left : ℕ → Cases → Files
 nth_left at cases = get_or (lefts_of cases) at no_files
 
@@ -30,23 +30,23 @@ pub record Adds (P : Files → Type 0) (old new : List Files) : Type 0 where
   pub are : new ≡ old ++ more
   pub each : All P more
 
--- what a change adds: the files as they are, or a case with the change
+-- a change adds the files as they are, or a case with the change
 abbrev pub IsAdded : Change → Files → Cases → Files → Type 0
 IsAdded change now old left = (left ≡ now) ⊎ ((was : Files) × Contains (lefts_of old) was × (left ≡ made change was))
 
--- The change may be lost: the files as they are are a case then, and so is each case with the change. Without it the cases are there too.
+-- The change may be lost: the files as they are, each case with the change, and each case without it are now cases.
 pub record Loses (change : Change) (now : Files) (old new : Cases) : Type 0 where
   pub as_they_are : Contains (lefts_of new) now
   pub without : (left : Files) → Contains (lefts_of old) left → Contains (lefts_of new) left
   pub also : (left : Files) → Contains (lefts_of old) left → Contains (lefts_of new) (made change left)
 
--- The bytes that are appended to a file may be lost: each case, and the files as they are, are there without them, and with any front of them.
+-- The appended bytes may be lost: each case, and the files as they are, are now cases without them and with each prefix of them.
 pub record LosesBytes (name holds : List ℕ) (held : ℕ) (folder : MemFolder) (old new : Cases) : Type 0 where
   pub without : (left : Files) → may_find folder old left → Contains (lefts_of new) left
   pub fronts : (n : ℕ) → held < n → n ≤ length holds → (left : Files) → may_find folder old left
       → Contains (lefts_of new) (changed name (λ _. take n holds) left)
 
--- What a cut might have left it may leave still, as far as there is room.
+-- What a power cut might have left it may still leave, as long as there is room.
 pub record KeepsCases (before now : Files → Type 0) (old new : Cases) : Type 0 where
   pub room : new.room ≡ old.room
   pub no_fewer : length (lefts_of old) ≤ length (lefts_of new)

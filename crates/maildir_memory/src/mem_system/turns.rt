@@ -1,4 +1,4 @@
-// What goes on in a Maildir in memory beside its calls: time passes, and other programs have their turns.
+// What happens in a Maildir in memory during its calls: time passes, and other programs act.
 ghost use Rattle.std.specs.Prelude.{◌≡◌, ◌+◌, IfErr, OnOk};
 ghost use Rattle.maildir_run.specs.Cuts.{Follows};
 ghost use Rattle.maildir_run.specs.MemFolder.{IsQuiet, files_of};
@@ -20,7 +20,7 @@ use std::time::Duration;
 const CALL_MICROS: u64 = 10;
 
 impl MemSystem {
-    /// Time passes, and other programs have their turn.
+    /// Time passes, and other programs perform the acts of the next turn.
     pub(super) fn pass(&mut self, pause: Duration) -> Result<(), FolderFault>
         ensures honest { IsQuiet self.old.folder → IsQuiet self.new.folder }
         ensures acts { Acts (world_of self.old) (world_of self.new) }
@@ -41,7 +41,7 @@ impl MemSystem {
         }
     }
 
-    /// A call that takes a while, or fails.
+    /// A call that takes some time, or fails.
     pub(super) fn pass_shortly(&mut self) -> io::Result<()>
         ensures honest { IsQuiet self.old.folder → IsQuiet self.new.folder }
         ensures acts { Acts (world_of self.old) (world_of self.new) }
@@ -59,7 +59,7 @@ impl MemSystem {
             .map_err(error_of)
     }
 
-    // Other programs do this, and the folders are stamped.
+    // Other programs perform these acts, and the folders are stamped.
     fn act(&mut self, acts: &[Act]) -> Result<(), FolderFault>
         ensures honest { IsQuiet self.old.folder → IsQuiet self.new.folder }
         ensures acts { Acts (world_of self.old) (world_of self.new) }

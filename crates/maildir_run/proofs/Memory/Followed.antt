@@ -11,8 +11,10 @@ use Rattle.maildir_run.specs.declared.folder.FolderFault.TheVariants as fault
 use Rattle.maildir_run.specs.declared.mem_files.MemFiles.{MemFiles}
 use Rattle.maildir_run.specs.declared.mem_folder.MemFolder.{MemFolder}
 use Rattle.maildir_run.specs.MemFiles.{files_in}
-use Rattle.maildir_run.specs.MemFolder.{files_of, lines_of, fail_from_of, call_count, all_call_count, failure_count, next_call, next_acts, next_files, next_mode}
-use Rattle.maildir_run.specs.MemFolder.{IsQuiet, HasNoScript, FollowsScript, Scripted, BeginsCall, seen_of}
+use Rattle.maildir_run.specs.MemFolder.{files_of, lines_of, fail_from_of, call_count, all_call_count, failure_count}
+use Rattle.maildir_run.specs.MemFolder.{next_call, next_acts, next_files, next_mode}
+use Rattle.maildir_run.specs.MemFolder.{IsQuiet, HasNoScript, FollowsScript, Scripted, seen_of}
+use Rattle.maildir_run.specs.Private.MemFolder.{BeginsCall}
 use Rattle.maildir_run.specs.Script.{is_from, mode_of}
 use Rattle.maildir_run.proofs.Call.Cuts.{called_left}
 use Rattle.maildir_run.proofs.Memory.Scripts.{answered, called_then, cut_fails, listed_then, not_cut}

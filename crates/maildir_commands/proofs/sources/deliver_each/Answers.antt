@@ -82,7 +82,8 @@ loop-path-preserved g c =
           more_delivered texts fit _ _ (i + 1) no_text _ _ _ _ _ inside so_far (one_of now next is_text possible one c.in_ok-deliver_one-2.ensures.does),
       λ q.
           let so_far = kept.4 q in
-          (c.in_ok-deliver_one-2.ensures.does.printed.said.quiet so_far.0, foreign_then _ _ _ so_far.1 (c.deliver_one-in-loop-path.ensures.does.keeps.foreign so_far.0)),
+          let foreign = c.deliver_one-in-loop-path.ensures.does.keeps.foreign so_far.0 in
+          (c.in_ok-deliver_one-2.ensures.does.printed.said.quiet so_far.0, foreign_then _ _ _ so_far.1 foreign),
     )
 
 -- a file was not opened
@@ -96,7 +97,8 @@ returns-in_err-source g c =
             of_fault _ _ c.from_residual-in_err-source.ensures.1
             (refused_file (g.M.Machine.at c.args.machine.now) name _ (string_bytes c.path-item.result)
             (holds_behind string_bytes _ c.loop-path-test.true (sym c.path-item.is)) _ c.in_err-source.ensures.causes
-            (λ e. kept.1.refusals h _ (subst (g.M.Machine.at c.loop-path.machine).refuses_source c.as_str.ensures.value (c.in_err-source.ensures.opens.refused (kept.1.honest h) e))));
+            (λ e. kept.1.refusals h _
+            (subst (g.M.Machine.at c.loop-path.machine).refuses_source c.as_str.ensures.value (c.in_err-source.ensures.opens.refused (kept.1.honest h) e))));
         foreign = λ q. (kept.4 q).1;
         printed = no_value c.from_residual-in_err-source.result _ c.from_residual-in_err-source.ensures.0;
         honest = λ h s. no_value c.from_residual-in_err-source.result _ c.from_residual-in_err-source.ensures.0;

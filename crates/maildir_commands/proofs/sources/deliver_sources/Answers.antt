@@ -24,7 +24,8 @@ returns-in_err-open_maildir g c =
     record {
       does = ended _ c.from_residual.ensures.1
           (none_into _ _ _ _ _ _
-          (λ h. of_maildir (ToConvert c.args.maildir.now (map string_bytes c.args.files.now)) old old.input c.args.maildir.now (λ P is. is) _ (_, refl, folder.refused h))
+          (λ h. of_maildir (ToConvert c.args.maildir.now (map string_bytes c.args.files.now)) old old.input c.args.maildir.now (λ P is. is) _
+          (_, refl, folder.refused h))
           folder.texts folder.rests folder.rests_quietly folder.others folder.others_quietly);
     }
 
@@ -122,7 +123,8 @@ returns g c =
     record {
       does = named_as named (record {
         works = record {
-          printed = subst (λ n. OnOk c.deliver_each-answer.result (PrintsReports old.output (writer_contents g.W.Write.contents c.deliver_each-answer.new.out) n))
+          printed = subst
+              (λ n. OnOk c.deliver_each-answer.result (PrintsReports old.output (writer_contents g.W.Write.contents c.deliver_each-answer.new.out) n))
               (one_each first rest) each.printed;
           delivers = λ h texts given fit sound.
               let opens = rest_then (sources.rests h c.args.maildir.now) (folder.opens (sources.honest h)) in

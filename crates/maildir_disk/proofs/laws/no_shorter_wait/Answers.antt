@@ -19,7 +19,7 @@ missed h =
 abbrev moment : ℕ → ℕ → World
 moment time stamp = record { files = record { tmp = empty; new = one_file; cur = empty }; time = time; stamp_of = λ _. stamp }
 
--- a change when the clock is as near to the stamp as the times allow
+-- a change at the time in the listing that is nearest to the stamp
 change : (now later stamp : ℕ) → now ≤ later → ¬ IsSettled stamp now → ¬ IsFarAhead stamp later → IsOfChange now later stamp
 change now later stamp le young near =
     let some = within stamp in

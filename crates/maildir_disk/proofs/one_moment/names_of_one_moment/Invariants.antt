@@ -1,7 +1,7 @@
 use Rattle.maildir_disk.proofs.Common.{Follows, SameFiles, LeftByOthers, Acts}
 use Rattle.maildir_disk.proofs.one_moment.names_of_one_moment.Given as goal
 
--- the system stays honest, and nothing but other programs acted; where it is quiet, it stays so, and none did
+-- the system stays honest, and only other programs acted; if it is quiet it stays quiet, and none acted
 abbrev pub invariant-loop : goal.invariant-loop
 invariant-loop g l = record {
   acted : g.S.System.honest l.fn.system → record {

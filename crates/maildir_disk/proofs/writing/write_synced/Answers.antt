@@ -6,7 +6,7 @@ use Rattle.maildir_disk.proofs.Calls.QuietWrites.{grown_quietly, not_created_qui
 use Rattle.maildir_disk.proofs.writing.write_synced.Goals.{in-Ok, in-Err+else-ne}
 use Rattle.maildir_disk.proofs.writing.write_synced.Goals as goal
 
--- a front of the bytes, and then one of the rest
+-- a prefix of the bytes, and then a prefix of the rest
 taken : (bytes : List ℕ) (at n : ℕ) → take at bytes ++ take n (take (length bytes - at) (drop at bytes)) ≡ take (at + n) bytes
 taken bytes at n = grind (arith, take_all, length-drop, take-add)
 

@@ -11,5 +11,6 @@ returns g c =
     record {
       removes =
           call_answered g.S.System (Removing c.args.name.now) c.args.self.now c.count_call.new.self _ count.same count.system answer.ok answer.err
-          count.calls count.failures answer.not_absent did.honest did.called (λ honest. left_always _ (λ s. tt) (did.left honest)) did.still_rooted did.quiet did.quietly;
+          count.calls count.failures answer.not_absent did.honest did.called
+          (λ honest. left_always _ (λ s. tt) (did.left honest)) did.still_rooted did.quiet did.quietly;
     }

@@ -9,6 +9,7 @@ returns g c =
     let count = c.count_call.ensures in
     record {
       writes =
-          call_answered g.S.System (Writing c.args.name.now c.args.bytes.now) c.args.self.now c.count_call.new.self _ count.same count.system answer.ok answer.err
+          call_answered g.S.System (Writing c.args.name.now c.args.bytes.now) c.args.self.now c.count_call.new.self _
+          count.same count.system answer.ok answer.err
           count.calls count.failures answer.not_absent did.honest did.called did.left did.still_rooted did.quiet did.quietly;
     }

@@ -1,5 +1,8 @@
-use Rattle.std.proofs.Common.{Some, refl, rules}
+use Rattle.std.proofs.Common.{Option, Some, String, refl, ap, rules}
 use Rattle.std.proofs.lemmas.Map.Text.{btree_map_updates_text}
+use Rattle.std.specs.BTreeMap.{BTreeMap, get_by_text}
+use Rattle.std.specs.declared.alloc.Global.{Global}
+use Rattle.maildir_memory.specs.declared.mem_system.MemSystem.{MemSystem}
 use Rattle.maildir_memory.proofs.MemMachines.{puts, puts_none}
 use Rattle.maildir_memory.proofs.mem_machine.MemMachineMachine.close_maildir.Goals as goal
 
@@ -8,8 +11,10 @@ returns-in-Some c =
     let slot = Some c.args.maildir in
     puts c.args.self.now.maildirs (c.get_mut.follows.lender slot) c.args.path.now slot
     (btree_map_updates_text c.args.path.now c.args.self.now.maildirs
-    (c.get_mut.follows.lender slot) (Some slot) ((c.get_mut.follows.holds slot).3 (search rules))) c.args.self.now.texts.now refl
+    (c.get_mut.follows.lender slot) (Some slot) ((c.get_mut.follows.holds slot).3 (search rules))) c.args.self.now.texts.now c.args.self.now.fresh refl
 
 pub returns-in_default : goal.returns-in_default
 returns-in_default c =
-    puts_none c.args.self.now.texts.now c.args.self.now.maildirs _ c.args.path.now c.get_mut.follows.holds-at-none c.args.maildir (search rules)
+    puts_none c.args.self.now.texts.now c.args.self.now.maildirs c.get_mut.follows.lender-at-none c.args.path.now
+    (λ word. ap (λ (m : BTreeMap (String Global) (Option MemSystem)). get_by_text m word) c.get_mut.follows.holds-at-none)
+    c.args.self.now.fresh c.args.maildir (search rules)

@@ -1,12 +1,25 @@
-use Rattle.std.proofs.Common.{Some, sym, ap, rules, ◌∙◌}
+use Rattle.std.proofs.Common.{◌≡◌, Option, None, Some, String, sym, ap, subst, rules, ◌∙◌}
 use Rattle.std.proofs.lemmas.Map.Text.{btree_map_updates_text}
-use Rattle.maildir_memory.proofs.MemMachines.{finds_none, takes, takes_none}
+use Rattle.std.specs.BTreeMap.{BTreeMap, get_by_text}
+use Rattle.std.specs.declared.alloc.Global.{Global}
+use Rattle.maildir_commands.specs.Opening.{OpensMaildir}
+use Rattle.maildir_memory.specs.declared.mem_system.MemSystem.{MemSystem}
+use Rattle.maildir_memory.specs.MemMachines.{open_in_memory, seen_in_memory}
+use Rattle.maildir_memory.proofs.MemMachines.{takes, takes_none}
 use Rattle.maildir_memory.proofs.mem_machine.MemMachineMachine.open_maildir.Goals as goal
 
 -- none is there
+pub make-requires : goal.make-requires
+make-requires c =
+    let none : get_by_text c.args.self.now.maildirs c.args.path.now ≡ None = search rules in
+    subst (λ (m : BTreeMap (String Global) (Option MemSystem)). get_by_text m c.args.path.now ≡ None) (sym c.get_mut.follows.holds-at-none) none
+
 pub returns-in_default : goal.returns-in_default
 returns-in_default c =
-    finds_none c.args.self.now.texts.now c.args.self.now.maildirs _ c.args.path.now c.get_mut.follows.holds-at-none (search rules)
+    let made = c.make.new.self in
+    subst (λ (m : BTreeMap (String Global) (Option MemSystem)).
+    OpensMaildir open_in_memory c.args.path.now c.make.result (seen_in_memory c.args.self.now.texts.now m c.args.self.now.fresh)
+    (seen_in_memory made.texts.now made.maildirs made.fresh)) c.get_mut.follows.holds-at-none c.make.ensures
 
 -- it is taken
 pub returns-in-Some-take : goal.returns-in-Some-take
@@ -14,7 +27,7 @@ returns-in-Some-take c =
     takes c.args.self.now.maildirs (c.get_mut.follows.lender c.take.new.self) c.args.path.now c.take.new.self
     (btree_map_updates_text c.args.path.now c.args.self.now.maildirs (c.get_mut.follows.lender c.take.new.self)
     (Some c.take.new.self) ((c.get_mut.follows.holds c.take.new.self).3 (search rules)))
-    c.args.self.now.texts.now c.take.ensures.after
+    c.args.self.now.texts.now c.args.self.now.fresh c.take.ensures.after
     (sym c.in-Some.ensures.value ∙ ap Some (sym c.take.ensures.value ∙ c.in-Some-take.is))
 
 -- it is open
@@ -23,5 +36,5 @@ returns-in-None c =
     takes_none c.args.self.now.maildirs (c.get_mut.follows.lender c.take.new.self) c.args.path.now c.take.new.self
     (btree_map_updates_text c.args.path.now c.args.self.now.maildirs (c.get_mut.follows.lender c.take.new.self)
     (Some c.take.new.self) ((c.get_mut.follows.holds c.take.new.self).3 (search rules)))
-    c.args.self.now.texts.now c.take.ensures.after
+    c.args.self.now.texts.now c.args.self.now.fresh c.take.ensures.after
     (sym c.in-Some.ensures.value ∙ ap Some (sym c.take.ensures.value ∙ c.in-None.is))

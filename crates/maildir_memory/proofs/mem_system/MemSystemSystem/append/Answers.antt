@@ -119,7 +119,8 @@ returns c = record {
   current = λ honest current. current;
   appended = λ honest current.
       let acts = c.pass_shortly.ensures.acts in
-      inl (record { actions = acts.actions; files_are = quiet_fault _ _ _ _ (c.pass_shortly.ensures.honest honest) c.in-Err.ensures.scripted ∙ acts.files_are });
+      let same = quiet_fault _ _ _ _ (c.pass_shortly.ensures.honest honest) c.in-Err.ensures.scripted in
+      inl (record { actions = acts.actions; files_are = same ∙ acts.files_are });
   left = λ honest.
       let mid = c.pass_shortly.new.self in
       let written = rw (c.as_str-3.ensures.value) at (leaves_torn {bytes = []} (called_leaves _ (c.write.ensures.writes.called tt))) in

@@ -61,7 +61,8 @@ returns-in-Ok c = record {
   left = λ honest.
       let mid = c.pass_shortly.new.self in
       left_made (Make c.args.name)
-      mid.folder c.write.new.self mid.cases c.may_lose.new.self c.write.result c.pass_shortly.ensures.left c.may_lose.ensures.more (c.write.ensures.writes.called tt);
+      mid.folder c.write.new.self mid.cases c.may_lose.new.self c.write.result
+      c.pass_shortly.ensures.left c.may_lose.ensures.more (c.write.ensures.writes.called tt);
   still_rooted = λ honest rooted. rw c.pass_shortly.ensures.root rooted;
   quiet = λ quiet.
       let still = c.pass_shortly.ensures.quiet quiet in
@@ -85,11 +86,13 @@ returns-in-Err c = record {
   current = λ honest. tt;
   created = λ honest.
       let acts = c.pass_shortly.ensures.acts in
-      inl (record { actions = acts.actions; files_are = quiet_fault _ _ _ _ (c.pass_shortly.ensures.honest honest) c.in-Err.ensures.scripted ∙ acts.files_are });
+      let same = quiet_fault _ _ _ _ (c.pass_shortly.ensures.honest honest) c.in-Err.ensures.scripted in
+      inl (record { actions = acts.actions; files_are = same ∙ acts.files_are });
   left = λ honest.
       let mid = c.pass_shortly.new.self in
       left_made (Make c.args.name)
-      mid.folder c.write.new.self mid.cases c.may_lose.new.self c.write.result c.pass_shortly.ensures.left c.may_lose.ensures.more (c.write.ensures.writes.called tt);
+      mid.folder c.write.new.self mid.cases c.may_lose.new.self c.write.result
+      c.pass_shortly.ensures.left c.may_lose.ensures.more (c.write.ensures.writes.called tt);
   still_rooted = λ honest rooted. rw c.pass_shortly.ensures.root rooted;
   quiet = λ quiet.
       let still = c.pass_shortly.ensures.quiet quiet in

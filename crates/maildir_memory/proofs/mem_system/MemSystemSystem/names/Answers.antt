@@ -51,7 +51,7 @@ returns-in-Err-clause-left c = λ honest.
     let old = c.args.self.now in
     same_found old.folder c.list.new.self old.cases (rw c.in-Err.is at (quiet_fault _ _ _ _ honest c.list.ensures.scripted)) left_none
 
--- nothing was listed
+-- no names were listed
 pub returns-in-Err-clause-passes : goal.returns-in-Err-clause-passes
 returns-in-Err-clause-passes c = λ honest.
     let same = rw c.in-Err.is at (quiet_fault _ _ _ _ honest c.list.ensures.scripted) in
