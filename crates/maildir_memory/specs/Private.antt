@@ -4,3 +4,5 @@
 pub mod Cases
 -- Proofs of laws of the trait `Machine`, for the machine in memory.
 pub mod Laws
+-- What other programs do to a Maildir in memory while time passes.
+pub mod Turns

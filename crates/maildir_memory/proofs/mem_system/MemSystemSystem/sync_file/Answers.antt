@@ -9,4 +9,4 @@ returns-clause-left c = λ honest.
     let mid = c.pass_shortly.new.self in
     let name = c.as_str.result.now in
     let alike = λ (s : Files). get s.tmp name ≡ get (files_of mid.folder).tmp name in
-    left_by_others_then c.pass_shortly.ensures.left (left_stayed alike mid.folder mid.cases c.keep_file.new.self c.keep_file.ensures.stays)
+    left_by_others_then c.pass_shortly.ensures.others.left (left_stayed alike mid.folder mid.cases c.keep_file.new.self c.keep_file.ensures.stays)
