@@ -6,6 +6,8 @@ pub mod Writing
 pub mod Placing
 -- The folder of a place, and the system of a folder.
 pub mod Paths
+-- What is seen of a system at one moment, and what its calls do to that.
+pub mod SeenSystem
 -- What is seen of a Maildir on a file system, and what a sync of it does.
 pub mod Seen
 -- What a power cut may leave of the messages of a text.

@@ -4,3 +4,5 @@
 pub mod CaseLists
 -- Changes of a Maildir in memory: what each leaves, and of which call it is.
 pub mod Changes
+-- What is seen of a Maildir in memory after a call that only looks.
+pub mod Looking
