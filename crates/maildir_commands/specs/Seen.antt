@@ -42,9 +42,9 @@ pub record OpenMaildir : Type 1 where
 -- what these say of a system of calls
 abbrev pub opened : {S File : Type 0} → Ghosts S File → S → OpenMaildir
 opened f s = record {
-  honest = f.honest s;
-  quiet = f.quiet s;
-  held = record { files = (f.world s).files; may_leave = f.may_leave s; rooted = f.rooted s };
+  honest = (f.at s).honest;
+  quiet = (f.at s).quiet;
+  held = record { files = (f.at s).world.files; may_leave = (f.at s).may_leave; rooted = (f.at s).rooted };
 }
 
 -- what is seen of a machine, and of what is left of standard input and was written to standard output, where these are known

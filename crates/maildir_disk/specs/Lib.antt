@@ -6,7 +6,9 @@ pub mod Writing
 pub mod Placing
 -- The folder of a place.
 pub mod Paths
--- What contracts see of a Maildir on a file system, and what a sync of it does.
+-- What is seen of a system at one moment, and what its calls do to that.
+pub mod SeenSystem
+-- What is seen of a Maildir on a file system, and what a sync of it does.
 pub mod Seen
 -- What a power cut may leave of the messages of a text.
 pub mod PowerCuts

@@ -33,14 +33,14 @@ const PAUSE_MILLIS: u64 = 1;
 /// if no change before the end of the listing could have set the stamp that the folder has before and after it; otherwise
 /// the folder is listed again, for 30 seconds at most.
 pub(crate) fn names_of_one_moment<S: System>(system: &mut S, sub: Sub) -> io::Result<Vec<String>>
-    ensures honest { S.honest system.old → S.honest system.new }
-    ensures listed { S.honest system.old →
-        Listed sub (S.world system.old).files result (S.world system.new).files }
-    ensures left { S.honest system.old → Follows LeftByOthers (S.may_leave system.old) (S.may_leave system.new) }
-    ensures still_rooted { S.honest system.old → S.rooted system.old → S.rooted system.new }
-    ensures quiet { S.quiet system.old → S.quiet system.new }
-    ensures quietly { S.quiet system.old → SameFiles (S.world system.old) (S.world system.new) }
-    ensures exact { S.quiet system.old → IfOk result (AreNames sub (S.world system.old).files) }
+    ensures honest { (S.at system.old).honest → (S.at system.new).honest }
+    ensures listed { (S.at system.old).honest →
+        Listed sub (S.at system.old).world.files result (S.at system.new).world.files }
+    ensures left { (S.at system.old).honest → Follows LeftByOthers (S.at system.old).may_leave (S.at system.new).may_leave }
+    ensures still_rooted { (S.at system.old).honest → (S.at system.old).rooted → (S.at system.new).rooted }
+    ensures quiet { (S.at system.old).quiet → (S.at system.new).quiet }
+    ensures quietly { (S.at system.old).quiet → SameFiles (S.at system.old).world (S.at system.new).world }
+    ensures exact { (S.at system.old).quiet → IfOk result (AreNames sub (S.at system.old).world.files) }
 {
     let patience = Duration::from_secs(PATIENCE_SECS);
     let start = system.instant()?;
@@ -67,13 +67,13 @@ enum Look {
 }
 
 fn take_names<S: System>(system: &mut S, sub: Sub) -> io::Result<Look>
-    ensures honest { S.honest system.old → S.honest system.new }
-    ensures looked { S.honest system.old → LookGives sub (S.world system.old) result (S.world system.new) }
-    ensures left { S.honest system.old → Follows LeftByOthers (S.may_leave system.old) (S.may_leave system.new) }
-    ensures still_rooted { S.honest system.old → S.rooted system.old → S.rooted system.new }
-    ensures quiet { S.quiet system.old → S.quiet system.new }
-    ensures quietly { S.quiet system.old → SameFiles (S.world system.old) (S.world system.new) }
-    ensures exact { S.quiet system.old → IfOk result (LookGivesQuietly sub (S.world system.old).files) }
+    ensures honest { (S.at system.old).honest → (S.at system.new).honest }
+    ensures looked { (S.at system.old).honest → LookGives sub (S.at system.old).world result (S.at system.new).world }
+    ensures left { (S.at system.old).honest → Follows LeftByOthers (S.at system.old).may_leave (S.at system.new).may_leave }
+    ensures still_rooted { (S.at system.old).honest → (S.at system.old).rooted → (S.at system.new).rooted }
+    ensures quiet { (S.at system.old).quiet → (S.at system.new).quiet }
+    ensures quietly { (S.at system.old).quiet → SameFiles (S.at system.old).world (S.at system.new).world }
+    ensures exact { (S.at system.old).quiet → IfOk result (LookGivesQuietly sub (S.at system.old).world.files) }
 {
     let stamp = system.stamp(sub)?;
     let now = system.now()?;
@@ -101,14 +101,14 @@ fn watched_names<S: System>(
     sub: Sub,
     stamp: SystemTime,
 ) -> io::Result<Option<Vec<String>>>
-    ensures honest { S.honest system.old → S.honest system.new }
-    ensures watched { S.honest system.old →
-        WatchedOr sub (system_time_nanos stamp) (S.world system.old) result (S.world system.new) }
-    ensures left { S.honest system.old → Follows LeftByOthers (S.may_leave system.old) (S.may_leave system.new) }
-    ensures still_rooted { S.honest system.old → S.rooted system.old → S.rooted system.new }
-    ensures quiet { S.quiet system.old → S.quiet system.new }
-    ensures quietly { S.quiet system.old → SameFiles (S.world system.old) (S.world system.new) }
-    ensures exact { S.quiet system.old → IfOk result (FoundNames sub (S.world system.old).files) }
+    ensures honest { (S.at system.old).honest → (S.at system.new).honest }
+    ensures watched { (S.at system.old).honest →
+        WatchedOr sub (system_time_nanos stamp) (S.at system.old).world result (S.at system.new).world }
+    ensures left { (S.at system.old).honest → Follows LeftByOthers (S.at system.old).may_leave (S.at system.new).may_leave }
+    ensures still_rooted { (S.at system.old).honest → (S.at system.old).rooted → (S.at system.new).rooted }
+    ensures quiet { (S.at system.old).quiet → (S.at system.new).quiet }
+    ensures quietly { (S.at system.old).quiet → SameFiles (S.at system.old).world (S.at system.new).world }
+    ensures exact { (S.at system.old).quiet → IfOk result (FoundNames sub (S.at system.old).world.files) }
 {
     let names = system.names(sub)?;
     let after = system.stamp(sub)?;

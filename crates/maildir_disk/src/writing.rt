@@ -10,15 +10,15 @@ use std::io::ErrorKind;
 /// Writes these bytes to the file `name` of `tmp`, in place of what it held, and syncs it. After a write(2) of a prefix the
 /// rest follows, and an interrupted one is retried.
 pub(crate) fn write_synced<S: System>(system: &mut S, name: &str, bytes: &[u8]) -> io::Result<()>
-    ensures honest { S.honest system.old → S.honest system.new }
-    ensures called { S.honest system.old →
-        Called (Writing name.now bytes.now) (S.world system.old).files result (S.world system.new).files }
-    ensures left { S.honest system.old → Follows (λ before now. LeavesOf (Writing name.now bytes.now) before result now)
-        (S.may_leave system.old) (S.may_leave system.new) }
-    ensures still_rooted { S.honest system.old → S.rooted system.old → S.rooted system.new }
-    ensures quiet { S.quiet system.old → S.quiet system.new }
-    ensures quietly { S.quiet system.old →
-        CalledQuietly (Writing name.now bytes.now) (S.world system.old).files result (S.world system.new).files }
+    ensures honest { (S.at system.old).honest → (S.at system.new).honest }
+    ensures called { (S.at system.old).honest →
+        Called (Writing name.now bytes.now) (S.at system.old).world.files result (S.at system.new).world.files }
+    ensures left { (S.at system.old).honest → Follows (λ before now. LeavesOf (Writing name.now bytes.now) before result now)
+        (S.at system.old).may_leave (S.at system.new).may_leave }
+    ensures still_rooted { (S.at system.old).honest → (S.at system.old).rooted → (S.at system.new).rooted }
+    ensures quiet { (S.at system.old).quiet → (S.at system.new).quiet }
+    ensures quietly { (S.at system.old).quiet →
+        CalledQuietly (Writing name.now bytes.now) (S.at system.old).world.files result (S.at system.new).world.files }
 {
     let mut file = system.create(name)?;
     let mut at = 0;

@@ -102,23 +102,15 @@ impl<'a, R: Files + Clock> Host<'a, R> {
 
 // No proof knows what a real file system does.
 impl<'a, R: Files + Clock> System for Host<'a, R> {
-    ghost use Rattle.maildir_disk.specs.World.{no_world};
+    ghost use Rattle.maildir_disk.specs.SeenSystem.{no_system};
 
     type File = R::File;
 
-    ghost world = { λ _. no_world };
+    ghost at = { λ _. no_system };
 
     ghost name_of = { λ _. [] };
 
     ghost is_current = { λ _ _. ⊥ };
-
-    ghost may_leave = { λ _ _. ⊥ };
-
-    ghost rooted = { λ _. ⊥ };
-
-    ghost honest = { λ _. ⊥ };
-
-    ghost quiet = { λ _. ⊥ };
 
     ghost quiet_is_honest = { λ _ quiet. quiet };
 

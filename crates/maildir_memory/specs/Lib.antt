@@ -6,5 +6,5 @@ pub mod MemSystem
 pub mod MemMachines
 -- Proofs of laws of the trait `Machine`, for the machine in memory.
 pub mod Laws
--- Definitions for private functions and proofs. No public contract uses them, and no reader need believe them.
+-- Words of the contracts of private functions and of proofs. No public contract reaches them, and no reader need believe them.
 pub mod Private

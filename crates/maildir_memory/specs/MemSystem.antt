@@ -1,5 +1,5 @@
 -- What contracts see of a Maildir in memory.
-use Rattle.std.specs.Prelude.{◌≡◌, ◌<◌, ◌≤◌, ◌++◌, ◌∷◌, ℕ, List, [], take, if◌then◌else◌}
+use Rattle.std.specs.Prelude.{◌≡◌, ◌<◌, ◌≤◌, ◌++◌, ◌∷◌, ℕ, List, [], take, if◌then◌else◌, IsTrue}
 use Rattle.std.specs.Time.{system_time_nanos}
 use Rattle.std.specs.String.{string_bytes}
 use Rattle.maildir_run.specs.Files.{Files}
@@ -8,6 +8,7 @@ use Rattle.maildir_run.specs.MemFolder.{IsQuiet, files_of}
 use Rattle.maildir_memory.specs.declared.mem_system.MemSystem.{MemSystem}
 use Rattle.maildir_memory.specs.declared.mem_system.MemFile.{MemFile}
 use Rattle.maildir_memory.specs.Cases.{lefts_of, may_find}
+use Rattle.maildir_disk.specs.SeenSystem.{SeenSystem}
 use Rattle.maildir_disk.specs.World.{World}
 use Rattle.maildir_disk.specs.Writing.{changed}
 
@@ -41,3 +42,13 @@ pub record MayLoseFronts (name bytes : List ℕ) (n : ℕ) (old new : MemSystem)
 pub record HasNoTurns (system : MemSystem) : Type 0 where
   pub no_script : IsQuiet system.folder
   pub no_turns : system.turns.items ≡ []
+
+-- what is seen of it as of any system
+abbrev pub seen_system : MemSystem → SeenSystem
+seen_system system = record {
+  honest = IsQuiet system.folder;
+  quiet = HasNoTurns system;
+  world = world_of system;
+  may_leave = may_be_left system;
+  rooted = IsTrue system.is_rooted;
+}

@@ -1,4 +1,6 @@
--- Definitions for private functions and proofs. No public contract uses them, and no reader need believe them.
+-- Words of the contracts of private functions and of proofs. No public contract reaches them, and no reader need believe them.
 
 -- What a change adds to the cases of what a power cut may leave.
 pub mod Cases
+-- What other programs do to a Maildir in memory while time passes.
+pub mod Turns

@@ -1,19 +1,17 @@
 // The system calls of a Maildir in memory.
-ghost use Rattle.std.specs.Prelude.{◌≡◌, ◌≤◌, ◌+◌, ◌++◌, ◌∷◌, [], All, IfErr, IfOk, IsTrue, OnOk, get_or, length};
+ghost use Rattle.std.specs.Prelude.{◌≡◌, ◌≤◌, ◌++◌, ◌∷◌, [], All, IfErr, IfOk, IsTrue, OnOk, get_or, length};
 ghost use Rattle.std.specs.FinMap.{contains_key};
 ghost use Rattle.std.specs.IoError.{error_kind};
 ghost use Rattle.std.specs.declared.io.ErrorKind.TheVariants.{NotFound};
-ghost use Rattle.maildir_run.specs.Calls.{Called, CalledQuietly, effect};
+ghost use Rattle.maildir_run.specs.Calls.{effect};
 ghost use Rattle.maildir_run.specs.Calls.Call.{Writing, Placing, Removing};
-ghost use Rattle.maildir_run.specs.Cuts.{Leaves, Follows};
 ghost use Rattle.maildir_run.specs.MemFiles.{no_files};
 ghost use Rattle.maildir_run.specs.MemFolder.{IsQuiet, files_of};
 ghost use Rattle.maildir_memory.specs.Cases.{HasRoom, lefts_of};
 ghost use Rattle.maildir_disk.specs.Paths.{folder_of_place};
 ghost use Rattle.maildir_disk.specs.Placing.{WasGone};
-ghost use Rattle.maildir_disk.specs.Quiet.{AppendedQuietly};
-ghost use Rattle.maildir_disk.specs.Writing.{Appended, Created};
-ghost use Rattle.maildir_memory.specs.MemSystem.{HasNoTurns, MayLose, MayLoseFronts, cases_of, may_be_left, opened_as, world_of};
+ghost use Rattle.maildir_disk.specs.SeenSystem.{Appends, MakesFile, TakesFromTmp};
+ghost use Rattle.maildir_memory.specs.MemSystem.{MayLose, MayLoseFronts, cases_of, opened_as, seen_system};
 
 use crate::cases::{Cases, Change};
 use crate::faults::error_of;
@@ -66,8 +64,8 @@ impl MemSystem {
         instant: Instant,
         turns: Vec<Vec<Act>>,
     ) -> Self
-        ensures honest { ⟦<MemSystem as System>⟧.honest result }
-        ensures quiet { turns.items ≡ [] → ⟦<MemSystem as System>⟧.quiet result }
+        ensures honest { (⟦<MemSystem as System>⟧.at result).honest }
+        ensures quiet { turns.items ≡ [] → (⟦<MemSystem as System>⟧.at result).quiet }
         ensures files { files_of result.folder ≡ files_of folder }
         ensures clock { result.clock ≡ clock }
         ensures turns { result.turns ≡ turns }
@@ -92,8 +90,8 @@ impl MemSystem {
     /// From now on a power cut may lose what was not synced, and the Maildir itself. At most `room` cases of what it leaves are
     /// recorded, besides the files as they are; it leaves no other.
     pub fn lose(&mut self, room: usize)
-        ensures honest { ⟦<MemSystem as System>⟧.honest self.old → ⟦<MemSystem as System>⟧.honest self.new }
-        ensures quiet { ⟦<MemSystem as System>⟧.quiet self.old → ⟦<MemSystem as System>⟧.quiet self.new }
+        ensures honest { (⟦<MemSystem as System>⟧.at self.old).honest → (⟦<MemSystem as System>⟧.at self.new).honest }
+        ensures quiet { (⟦<MemSystem as System>⟧.at self.old).quiet → (⟦<MemSystem as System>⟧.at self.new).quiet }
         ensures files { files_of self.new.folder ≡ files_of self.old.folder }
         ensures room { self.new.cases.room ≡ room }
         ensures calls { self.new.calls_left ≡ self.old.calls_left }
@@ -129,11 +127,11 @@ impl MemSystem {
 
     /// A power cut that leaves the case with this number, or the files as they are if there are fewer.
     pub fn cut(&mut self, case: usize)
-        ensures honest { ⟦<MemSystem as System>⟧.honest self.new }
-        ensures quiet { ⟦<MemSystem as System>⟧.quiet self.old → ⟦<MemSystem as System>⟧.quiet self.new }
+        ensures honest { (⟦<MemSystem as System>⟧.at self.new).honest }
+        ensures quiet { (⟦<MemSystem as System>⟧.at self.old).quiet → (⟦<MemSystem as System>⟧.at self.new).quiet }
         ensures found { files_of self.new.folder ≡ get_or (cases_of self.old) case (files_of self.old.folder) }
         ensures stays { All (λ left. left ≡ files_of self.new.folder) (cases_of self.new) }
-        ensures still_rooted { ⟦<MemSystem as System>⟧.rooted self.old → ⟦<MemSystem as System>⟧.rooted self.new }
+        ensures still_rooted { (⟦<MemSystem as System>⟧.at self.old).rooted → (⟦<MemSystem as System>⟧.at self.new).rooted }
         ensures calls { self.new.calls_left ≡ self.old.calls_left }
     {
         let behind = case.saturating_sub(self.cases.folders.len());
@@ -150,23 +148,15 @@ impl MemSystem {
 
 impl System for MemSystem {
     ghost use Rattle.std.proofs.Common.{inl, refl};
-    ghost use Rattle.maildir_memory.specs.MemSystem.{HasNoTurns, may_be_left, opened_as, world_of};
+    ghost use Rattle.maildir_memory.specs.MemSystem.{opened_as, seen_system};
 
     type File = MemFile;
 
-    ghost world = { world_of };
+    ghost at = { seen_system };
 
     ghost name_of = { opened_as };
 
     ghost is_current = { λ _ _. Unit {0} };
-
-    ghost may_leave = { may_be_left };
-
-    ghost rooted = { λ system. IsTrue system.is_rooted };
-
-    ghost honest = { λ system. IsQuiet system.folder };
-
-    ghost quiet = { HasNoTurns };
 
     ghost quiet_is_honest = { λ _ quiet. quiet.no_script };
 
@@ -207,15 +197,9 @@ impl System for MemSystem {
     }
 
     fn create(&mut self, name: &str) -> io::Result<MemFile>
-        ensures honest { IsQuiet self.old.folder → IsQuiet self.new.folder }
+        ensures makes { MakesFile name.now (seen_system self.old) result (seen_system self.new) }
         ensures name { IsQuiet self.old.folder → IfOk result (λ file. opened_as file ≡ name.now) }
         ensures current { IsQuiet self.old.folder → IfOk result (λ file. Unit {0}) }
-        ensures created { IsQuiet self.old.folder → Created name.now (world_of self.old) result (world_of self.new) }
-        ensures left { IsQuiet self.old.folder → Follows (Leaves (Writing name.now [])) (may_be_left self.old) (may_be_left self.new) }
-        ensures still_rooted { IsQuiet self.old.folder → IsTrue self.old.is_rooted → IsTrue self.new.is_rooted }
-        ensures quiet { HasNoTurns self.old → HasNoTurns self.new }
-        ensures quietly { HasNoTurns self.old →
-            CalledQuietly (Writing name.now []) (files_of self.old.folder) result (files_of self.new.folder) }
         ensures loses { IsQuiet self.old.folder →
             OnOk result (HasRoom self.new.cases → MayLose (effect (Writing name.now [])) self.old self.new) }
     {
@@ -235,17 +219,9 @@ impl System for MemSystem {
 
     fn append(&mut self, file: &mut MemFile, bytes: &[u8]) -> io::Result<usize>
         ensures most { IfOk result (λ n. n ≤ length bytes.now) }
-        ensures honest { IsQuiet self.old.folder → IsQuiet self.new.folder }
+        ensures appends { Appends (opened_as file.old) (Unit {0}) bytes.now (seen_system self.old) result (seen_system self.new) }
         ensures name { opened_as file.new ≡ opened_as file.old }
         ensures current { IsQuiet self.old.folder → Unit {0} → Unit {0} }
-        ensures appended { IsQuiet self.old.folder → Unit {0} →
-            Appended (opened_as file.old) bytes.now (world_of self.old) result (world_of self.new) }
-        ensures left { IsQuiet self.old.folder →
-            Follows (Leaves (Writing (opened_as file.old) [])) (may_be_left self.old) (may_be_left self.new) }
-        ensures still_rooted { IsQuiet self.old.folder → IsTrue self.old.is_rooted → IsTrue self.new.is_rooted }
-        ensures quiet { HasNoTurns self.old → HasNoTurns self.new }
-        ensures quietly { HasNoTurns self.old → Unit {0} →
-            AppendedQuietly (opened_as file.old) bytes.now (files_of self.old.folder) result (files_of self.new.folder) }
         ensures loses { IsQuiet self.old.folder → IfOk result (λ n. HasRoom self.new.cases →
             IsTrue (contains_key (files_of self.new.folder).tmp (opened_as file.old)) →
             MayLoseFronts (opened_as file.old) bytes.now n self.old self.new) }
@@ -273,17 +249,9 @@ impl System for MemSystem {
     }
 
     fn rename(&mut self, name: &str, place: Place, target: &str) -> io::Result<()>
-        ensures honest { IsQuiet self.old.folder → IsQuiet self.new.folder }
-        ensures called { IsQuiet self.old.folder →
-            Called (Placing name.now place target.now) (files_of self.old.folder) result (files_of self.new.folder) }
+        ensures places { TakesFromTmp (Placing name.now place target.now) (seen_system self.old) result (seen_system self.new) }
         ensures gone { IsQuiet self.old.folder → IfErr result (λ error. error_kind error ≡ NotFound →
             WasGone name.now (Placing name.now place target.now) (files_of self.old.folder) (files_of self.new.folder)) }
-        ensures left { IsQuiet self.old.folder →
-            Follows (Leaves (Placing name.now place target.now)) (may_be_left self.old) (may_be_left self.new) }
-        ensures still_rooted { IsQuiet self.old.folder → IsTrue self.old.is_rooted → IsTrue self.new.is_rooted }
-        ensures quiet { HasNoTurns self.old → HasNoTurns self.new }
-        ensures quietly { HasNoTurns self.old →
-            CalledQuietly (Placing name.now place target.now) (files_of self.old.folder) result (files_of self.new.folder) }
         ensures loses { IsQuiet self.old.folder →
             OnOk result (HasRoom self.new.cases → MayLose (effect (Placing name.now place target.now)) self.old self.new) }
     {
@@ -299,14 +267,7 @@ impl System for MemSystem {
     }
 
     fn unlink(&mut self, name: &str) -> io::Result<()>
-        ensures honest { IsQuiet self.old.folder → IsQuiet self.new.folder }
-        ensures called { IsQuiet self.old.folder →
-            Called (Removing name.now) (files_of self.old.folder) result (files_of self.new.folder) }
-        ensures left { IsQuiet self.old.folder → Follows (Leaves (Removing name.now)) (may_be_left self.old) (may_be_left self.new) }
-        ensures still_rooted { IsQuiet self.old.folder → IsTrue self.old.is_rooted → IsTrue self.new.is_rooted }
-        ensures quiet { HasNoTurns self.old → HasNoTurns self.new }
-        ensures quietly { HasNoTurns self.old →
-            CalledQuietly (Removing name.now) (files_of self.old.folder) result (files_of self.new.folder) }
+        ensures removes { TakesFromTmp (Removing name.now) (seen_system self.old) result (seen_system self.new) }
         ensures loses { IsQuiet self.old.folder →
             OnOk result (HasRoom self.new.cases → MayLose (effect (Removing name.now)) self.old self.new) }
     {

@@ -28,11 +28,11 @@ quietly_answered call a b (Err e) (Err f) ok err h = h
 module _ {S File A E : Type 0} (f : Ghosts S File) (call : Call) (old new : DiskFolder S) {mid : S} (outcome : Result A E)
     {answer result : Result A FolderFault} (is : result ≡ answer) (system : new.system ≡ mid) (ok : IfOk outcome (λ value. answer ≡ Ok value))
     (err : OnErr outcome (IsErr answer)) (counted : GoesUp old.calls new.calls) (cause : CountsFailure answer old.failures new.failures) where
-  pub call_answered : MayAnswer call answer → (f.honest old.system → f.honest mid)
-      → (f.honest old.system → Called call (f.world old.system).files outcome (f.world mid).files)
-      → (f.honest old.system → Follows (λ before now. LeavesOf call before outcome now) (f.may_leave old.system) (f.may_leave mid))
-      → (f.honest old.system → f.rooted old.system → f.rooted mid) → (f.quiet old.system → f.quiet mid)
-      → (f.quiet old.system → CalledQuietly call (f.world old.system).files outcome (f.world mid).files)
+  pub call_answered : MayAnswer call answer → ((f.at old.system).honest → (f.at mid).honest)
+      → ((f.at old.system).honest → Called call (f.at old.system).world.files outcome (f.at mid).world.files)
+      → ((f.at old.system).honest → Follows (λ before now. LeavesOf call before outcome now) (f.at old.system).may_leave (f.at mid).may_leave)
+      → ((f.at old.system).honest → (f.at old.system).rooted → (f.at mid).rooted) → ((f.at old.system).quiet → (f.at mid).quiet)
+      → ((f.at old.system).quiet → CalledQuietly call (f.at old.system).world.files outcome (f.at mid).world.files)
       → CallOf call (seen_of f old) result (seen_of f new)
   call_answered answers honest called left rooted quiet quietly = rw is (record {
     honest = λ h. rw system (honest h);
@@ -94,8 +94,8 @@ names_answered sub a (Err e) (Err f) ok err h = tt
 pub listing_answered : {S File E : Type 0} (f : Ghosts S File) (sub : Sub) (old new : DiskFolder S) {mid : S}
     (outcome : Result (Vec (String Global) Global) E) {answer result : Result (Vec (String Global) Global) FolderFault} → result ≡ answer → new.system ≡ mid
     → IfOk outcome (λ names. answer ≡ Ok names) → OnErr outcome (IsErr answer) → CallOf (Listing sub) (seen_of f old) result (seen_of f new)
-    → (f.honest old.system → Listed sub (f.world old.system).files outcome (f.world mid).files)
-    → (f.quiet old.system → IfOk outcome (AreNames sub (f.world old.system).files)) → ListingOf sub (seen_of f old) result (seen_of f new)
+    → ((f.at old.system).honest → Listed sub (f.at old.system).world.files outcome (f.at mid).world.files)
+    → ((f.at old.system).quiet → IfOk outcome (AreNames sub (f.at old.system).world.files)) → ListingOf sub (seen_of f old) result (seen_of f new)
 listing_answered f sub old new outcome {answer} is system ok err call listed exact = record {
   call = call;
   listed = λ h. rw (is, system) (listed_answered sub _ _ outcome answer ok err (listed h));

@@ -15,8 +15,9 @@ an_error (Err e) is_err = (e, refl)
 
 -- a sync of which one step failed
 pub sync_failed : {S File A E : Type 0} (f : Ghosts S File) {old new : S} (result : Result A E) → IsErr result
-    → (f.honest old → Acts (f.world old) (f.world new)) → (f.honest old → Follows LeftByOthers (f.may_leave old) (f.may_leave new))
-    → (f.honest old → f.rooted old → f.rooted new) → (f.quiet old → SameFiles (f.world old) (f.world new)) → SyncsMaildir f old result new
+    → ((f.at old).honest → Acts (f.at old).world (f.at new).world) → ((f.at old).honest → Follows LeftByOthers (f.at old).may_leave (f.at new).may_leave)
+    → ((f.at old).honest → (f.at old).rooted → (f.at new).rooted) → ((f.at old).quiet → SameFiles (f.at old).world (f.at new).world)
+    → SyncsMaildir f old result new
 sync_failed f (Ok x) is acts left still_rooted quietly = absurd (false≢true is)
 sync_failed f (Err e) is acts left still_rooted quietly = record {
   honest = λ h. tt;

@@ -1,13 +1,10 @@
 // What happens in a Maildir in memory during its calls: time passes, and other programs act.
 ghost use Rattle.std.specs.Prelude.{◌≡◌, ◌+◌, IfErr, OnOk};
-ghost use Rattle.maildir_run.specs.Cuts.{Follows};
-ghost use Rattle.maildir_run.specs.MemFolder.{IsQuiet, files_of};
+ghost use Rattle.maildir_run.specs.MemFolder.{files_of};
 ghost use Rattle.maildir_run.specs.Script.{all_performed};
-ghost use Rattle.maildir_memory.specs.Private.Cases.{KeepsCases};
-ghost use Rattle.maildir_disk.specs.World.{Acts, Passes};
+ghost use Rattle.maildir_memory.specs.Private.Turns.{OthersAct};
 ghost use Rattle.maildir_disk.specs.Quiet.{SameFiles};
-ghost use Rattle.maildir_memory.specs.MemSystem.{HasNoTurns, may_be_left, world_of};
-ghost use Rattle.maildir_disk.specs.PowerCuts.{LeftByOthers};
+ghost use Rattle.maildir_memory.specs.MemSystem.{HasNoTurns, world_of};
 
 use super::MemSystem;
 use crate::faults::error_of;
@@ -22,15 +19,10 @@ const CALL_MICROS: u64 = 10;
 impl MemSystem {
     /// Time passes, and other programs perform the acts of the next turn.
     pub(super) fn pass(&mut self, pause: Duration) -> Result<(), FolderFault>
-        ensures honest { IsQuiet self.old.folder → IsQuiet self.new.folder }
-        ensures acts { Acts (world_of self.old) (world_of self.new) }
-        ensures passes { (sub : Sub) → Passes sub (world_of self.old) (world_of self.new) }
+        ensures others { OthersAct self.old result self.new }
         ensures quiet { HasNoTurns self.old → HasNoTurns self.new }
         ensures quietly { HasNoTurns self.old → SameFiles (world_of self.old) (world_of self.new) }
         ensures same { HasNoTurns self.old → self.new.stamp ≡ self.old.stamp }
-        ensures left { Follows LeftByOthers (may_be_left self.old) (may_be_left self.new) }
-        ensures keeps { OnOk result (KeepsCases (may_be_left self.old) (may_be_left self.new) self.old.cases self.new.cases) }
-        ensures root { self.new.is_rooted ≡ self.old.is_rooted }
         ensures calls { self.new.calls_left ≡ self.old.calls_left }
         ensures refused { IfErr result (λ fault. fault ≡ FolderFault.OutOfMemory) }
     {
@@ -43,15 +35,10 @@ impl MemSystem {
 
     /// A call that takes some time, or fails.
     pub(super) fn pass_shortly(&mut self) -> io::Result<()>
-        ensures honest { IsQuiet self.old.folder → IsQuiet self.new.folder }
-        ensures acts { Acts (world_of self.old) (world_of self.new) }
-        ensures passes { (sub : Sub) → Passes sub (world_of self.old) (world_of self.new) }
-        ensures left { Follows LeftByOthers (may_be_left self.old) (may_be_left self.new) }
+        ensures others { OthersAct self.old result self.new }
         ensures quiet { HasNoTurns self.old → HasNoTurns self.new }
         ensures quietly { HasNoTurns self.old → SameFiles (world_of self.old) (world_of self.new) }
         ensures same { HasNoTurns self.old → self.new.stamp ≡ self.old.stamp }
-        ensures keeps { OnOk result (KeepsCases (may_be_left self.old) (may_be_left self.new) self.old.cases self.new.cases) }
-        ensures root { self.new.is_rooted ≡ self.old.is_rooted }
         ensures calls { OnOk result (self.old.calls_left ≡ self.new.calls_left + 1) }
     {
         begin(&mut self.calls_left)?;
@@ -61,13 +48,8 @@ impl MemSystem {
 
     // Other programs perform these acts, and the folders are stamped.
     fn act(&mut self, acts: &[Act]) -> Result<(), FolderFault>
-        ensures honest { IsQuiet self.old.folder → IsQuiet self.new.folder }
-        ensures acts { Acts (world_of self.old) (world_of self.new) }
-        ensures passes { (sub : Sub) → Passes sub (world_of self.old) (world_of self.new) }
-        ensures left { Follows LeftByOthers (may_be_left self.old) (may_be_left self.new) }
-        ensures keeps { OnOk result (KeepsCases (may_be_left self.old) (may_be_left self.new) self.old.cases self.new.cases) }
+        ensures others { OthersAct self.old result self.new }
         ensures done { OnOk result (files_of self.new.folder ≡ all_performed acts.now (files_of self.old.folder)) }
-        ensures root { self.new.is_rooted ≡ self.old.is_rooted }
         ensures calls { self.new.calls_left ≡ self.old.calls_left }
         ensures refused { IfErr result (λ fault. fault ≡ FolderFault.OutOfMemory) }
     {

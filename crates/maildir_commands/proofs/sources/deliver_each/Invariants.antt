@@ -13,13 +13,13 @@ abbrev pub invariant-loop-path : goal.invariant-loop-path
 invariant-loop-path g l =
     PrintsReports (writer_contents g.W.Write.contents l.fn.out) (writer_contents g.W.Write.contents l.out) (1 + l.path-index)
     × OpensSources (g.M.Machine.at l.fn.machine) (g.M.Machine.at l.machine)
-    × ((g.M.Machine.at l.fn.machine).honest → g.M.Maildir.System.honest l.fn.folder.system → g.M.Maildir.System.honest l.folder.system)
-    × ((g.M.Machine.at l.fn.machine).honest → g.M.Maildir.System.honest l.fn.folder.system
+    × ((g.M.Machine.at l.fn.machine).honest → (g.M.Maildir.System.at l.fn.folder.system).honest → (g.M.Maildir.System.at l.folder.system).honest)
+    × ((g.M.Machine.at l.fn.machine).honest → (g.M.Maildir.System.at l.fn.folder.system).honest
     → (texts : List Mailbox) (text : List ℕ) → g.M.Source.Read.remaining l.fn.first ≡ Some text →
     bytes_of texts ≡ text ∷ map (g.M.Machine.at l.fn.machine).text_of (map string_bytes l.rest) → AreFit texts →
     IsSoundFor texts (opened g.M.Maildir.System l.fn.folder.system).held →
     UpTo (l.path-index + 1) texts (opened g.M.Maildir.System l.fn.folder.system).held
     (opened g.M.Maildir.System l.folder.system).held
     (writer_contents g.W.Write.contents l.fn.out) (writer_contents g.W.Write.contents l.out))
-    × (g.M.Maildir.System.quiet l.fn.folder.system → g.M.Maildir.System.quiet l.folder.system
-    × KeepsForeign (g.M.Maildir.System.world l.fn.folder.system).files (g.M.Maildir.System.world l.folder.system).files)
+    × ((g.M.Maildir.System.at l.fn.folder.system).quiet → (g.M.Maildir.System.at l.folder.system).quiet
+    × KeepsForeign (g.M.Maildir.System.at l.fn.folder.system).world.files (g.M.Maildir.System.at l.folder.system).world.files)

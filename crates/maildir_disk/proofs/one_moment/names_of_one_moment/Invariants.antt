@@ -4,11 +4,11 @@ use Rattle.maildir_disk.proofs.one_moment.names_of_one_moment.Given as goal
 -- the system stays honest, and only other programs acted; if it is quiet it stays quiet, and none acted
 abbrev pub invariant-loop : goal.invariant-loop
 invariant-loop g l = record {
-  acted : g.S.System.honest l.fn.system → record {
-    honest : g.S.System.honest l.system;
-    acts : Acts (g.S.System.world l.fn.system) (g.S.System.world l.system);
-    left : Follows LeftByOthers (g.S.System.may_leave l.fn.system) (g.S.System.may_leave l.system);
-    still_rooted : g.S.System.rooted l.fn.system → g.S.System.rooted l.system;
+  acted : (g.S.System.at l.fn.system).honest → record {
+    honest : (g.S.System.at l.system).honest;
+    acts : Acts (g.S.System.at l.fn.system).world (g.S.System.at l.system).world;
+    left : Follows LeftByOthers (g.S.System.at l.fn.system).may_leave (g.S.System.at l.system).may_leave;
+    still_rooted : (g.S.System.at l.fn.system).rooted → (g.S.System.at l.system).rooted;
   };
-  quietly : g.S.System.quiet l.fn.system → g.S.System.quiet l.system × SameFiles (g.S.System.world l.fn.system) (g.S.System.world l.system);
+  quietly : (g.S.System.at l.fn.system).quiet → (g.S.System.at l.system).quiet × SameFiles (g.S.System.at l.fn.system).world (g.S.System.at l.system).world;
 }

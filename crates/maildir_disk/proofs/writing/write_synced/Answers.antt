@@ -14,14 +14,14 @@ pub loop-init : goal.loop-init
 loop-init g c = record {
   within = search rules;
   written = λ honest. record {
-    honest = c.create.ensures.honest honest;
+    honest = c.create.ensures.makes.honest honest;
     named = c.in_ok-file.ensures.name honest;
     current = c.in_ok-file.ensures.current honest;
-    holds = inl (c.in_ok-file.ensures.created honest);
-    left = c.create.ensures.left honest;
-    still_rooted = c.create.ensures.still_rooted honest;
+    holds = inl (c.in_ok-file.ensures.makes.created honest);
+    left = c.create.ensures.makes.left honest;
+    still_rooted = c.create.ensures.makes.still_rooted honest;
   };
-  quietly = λ quiet. record { quiet = c.create.ensures.quiet quiet; holds = (c.in_ok-file.ensures.quietly quiet).1 };
+  quietly = λ quiet. record { quiet = c.create.ensures.makes.quiet quiet; holds = (c.in_ok-file.ensures.makes.quietly quiet).1 };
 }
 
 pub loop-preserved : goal.loop-preserved
@@ -37,23 +37,23 @@ loop-preserved g c =
             written = λ honest.
                 let kept = c.loop.invariant.written honest in
                 record {
-                  honest = c.append.ensures.honest kept.honest;
+                  honest = c.append.ensures.appends.honest kept.honest;
                   named = c.append.ensures.name ∙ kept.named;
                   current = c.append.ensures.current kept.honest kept.current;
                   holds =
                       rw (w.at-is, ← taken bytes at n)
-                      (written_changed _ _ more kept.holds (rw kept.named at (w.in-Ok.ensures.appended kept.honest kept.current)));
-                  left = left_both kept.left (rw kept.named at (c.append.ensures.left kept.honest));
-                  still_rooted = λ rooted. c.append.ensures.still_rooted kept.honest (kept.still_rooted rooted);
+                      (written_changed _ _ more kept.holds (rw kept.named at (w.in-Ok.ensures.appends.appended kept.honest kept.current)));
+                  left = left_both kept.left (rw kept.named at (c.append.ensures.appends.left kept.honest));
+                  still_rooted = λ rooted. c.append.ensures.appends.still_rooted kept.honest (kept.still_rooted rooted);
                 };
             quietly = λ quiet.
                 let kept = c.loop.invariant.quietly quiet in
                 let was = c.loop.invariant.written (g.met.S.System.quiet_is_honest _ quiet) in
                 record {
-                  quiet = c.append.ensures.quiet kept.quiet;
+                  quiet = c.append.ensures.appends.quiet kept.quiet;
                   holds =
                       rw (w.at-is, ← taken bytes at n)
-                      (grown_quietly _ _ more _ kept.holds (rw was.named at (w.in-Ok.ensures.quietly kept.quiet was.current)));
+                      (grown_quietly _ _ more _ kept.holds (rw was.named at (w.in-Ok.ensures.appends.quietly kept.quiet was.current)));
                 };
           }
       | in-Err+else-ne w ↦ record {
@@ -61,22 +61,22 @@ loop-preserved g c =
         written = λ honest.
             let kept = c.loop.invariant.written honest in
             record {
-              honest = c.append.ensures.honest kept.honest;
+              honest = c.append.ensures.appends.honest kept.honest;
               named = c.append.ensures.name ∙ kept.named;
               current = c.append.ensures.current kept.honest kept.current;
-              holds = elim (rw kept.named at (w.in-Err.ensures.appended kept.honest kept.current)) [
+              holds = elim (rw kept.named at (w.in-Err.ensures.appends.appended kept.honest kept.current)) [
                 | inl acts ↦ rw w.at-is (written_on c.args.name.now _ kept.holds acts)
                 | inr other ↦ absurd (other.0 (search rules))
               ];
-              left = left_both kept.left (rw kept.named at (c.append.ensures.left kept.honest));
-              still_rooted = λ rooted. c.append.ensures.still_rooted kept.honest (kept.still_rooted rooted);
+              left = left_both kept.left (rw kept.named at (c.append.ensures.appends.left kept.honest));
+              still_rooted = λ rooted. c.append.ensures.appends.still_rooted kept.honest (kept.still_rooted rooted);
             };
         quietly = λ quiet.
             let kept = c.loop.invariant.quietly quiet in
             let was = c.loop.invariant.written (g.met.S.System.quiet_is_honest _ quiet) in
             record {
-              quiet = c.append.ensures.quiet kept.quiet;
-              holds = elim (w.in-Err.ensures.quietly kept.quiet was.current) [
+              quiet = c.append.ensures.appends.quiet kept.quiet;
+              holds = elim (w.in-Err.ensures.appends.quietly kept.quiet was.current) [
                 | inl same ↦ rw w.at-is (same ∙ kept.holds)
                 | inr other ↦ absurd (other.0 (search rules))
               ];
@@ -86,76 +86,76 @@ loop-preserved g c =
 
 pub returns-in_err-file : goal.returns-in_err-file
 returns-in_err-file g c = record {
-  honest = c.create.ensures.honest;
+  honest = c.create.ensures.makes.honest;
   called = λ honest.
-      not_created _ _ _ c.from_residual.ensures.0 (c.in_err-file.ensures.created honest);
-  left = λ honest. left_fault _ c.from_residual.ensures.0 (left_torn (c.create.ensures.left honest));
-  still_rooted = c.create.ensures.still_rooted;
-  quiet = c.create.ensures.quiet;
+      not_created _ _ _ c.from_residual.ensures.0 (c.in_err-file.ensures.makes.created honest);
+  left = λ honest. left_fault _ c.from_residual.ensures.0 (left_torn (c.create.ensures.makes.left honest));
+  still_rooted = c.create.ensures.makes.still_rooted;
+  quiet = c.create.ensures.makes.quiet;
   quietly = λ quiet.
-      not_created_quietly _ _ _ _ _ c.from_residual.ensures.0 (c.in_err-file.ensures.quietly quiet);
+      not_created_quietly _ _ _ _ _ c.from_residual.ensures.0 (c.in_err-file.ensures.makes.quietly quiet);
 }
 
 pub returns-then-at-bytes : goal.returns-then-at-bytes
 returns-then-at-bytes g c = record {
-  honest = λ honest. c.sync_file.ensures.honest (c.loop.invariant.written honest).honest;
+  honest = λ honest. c.sync_file.ensures.looks.honest (c.loop.invariant.written honest).honest;
   called = λ honest.
       let kept = c.loop.invariant.written honest in
       let all = rw (take_all c.loop.at c.args.bytes.now (search rules)) at kept.holds in
-      write_called _ _ c.sync_file.result (written_on c.args.name.now c.args.bytes.now all (c.sync_file.ensures.acts kept.honest));
+      write_called _ _ c.sync_file.result (written_on c.args.name.now c.args.bytes.now all (c.sync_file.ensures.looks.acts kept.honest));
   left = λ honest.
       let name = c.args.name.now in
       let bytes = c.args.bytes.now in
       let kept = c.loop.invariant.written honest in
       let all = rw (take_all c.loop.at bytes (search rules)) at kept.holds in
-      left_written _ (write_succeeded (written_on name bytes all (c.sync_file.ensures.acts kept.honest)))
-      (rw kept.named at (c.sync_file.ensures.kept kept.honest kept.current)) (left_torn (left_more kept.left (c.sync_file.ensures.left kept.honest)));
+      left_written _ (write_succeeded (written_on name bytes all (c.sync_file.ensures.looks.acts kept.honest)))
+      (rw kept.named at (c.sync_file.ensures.kept kept.honest kept.current)) (left_torn (left_more kept.left (c.sync_file.ensures.looks.left kept.honest)));
   still_rooted = λ honest rooted.
       let kept = c.loop.invariant.written honest in
-      c.sync_file.ensures.still_rooted kept.honest (kept.still_rooted rooted);
-  quiet = λ quiet. c.sync_file.ensures.quiet (c.loop.invariant.quietly quiet).quiet;
+      c.sync_file.ensures.looks.still_rooted kept.honest (kept.still_rooted rooted);
+  quiet = λ quiet. c.sync_file.ensures.looks.quiet (c.loop.invariant.quietly quiet).quiet;
   quietly = λ quiet.
       let kept = c.loop.invariant.quietly quiet in
       let all = rw (take_all c.loop.at c.args.bytes.now (search rules)) at kept.holds in
-      written_quietly _ _ _ c.sync_file.result ((c.sync_file.ensures.quietly kept.quiet) ∙ all);
+      written_quietly _ _ _ c.sync_file.result ((c.sync_file.ensures.looks.quietly kept.quiet) ∙ all);
 }
 
 pub returns-in-Ok-eq0 : goal.returns-in-Ok-eq0
 returns-in-Ok-eq0 g c = record {
-  honest = λ honest. c.append.ensures.honest (c.loop.invariant.written honest).honest;
+  honest = λ honest. c.append.ensures.appends.honest (c.loop.invariant.written honest).honest;
   called = λ honest.
       let kept = c.loop.invariant.written honest in
-      append_failed _ _ _ _ kept.holds (rw kept.named at (c.append.ensures.appended kept.honest kept.current));
+      append_failed _ _ _ _ kept.holds (rw kept.named at (c.append.ensures.appends.appended kept.honest kept.current));
   left = λ honest.
       let kept = c.loop.invariant.written honest in
-      left_torn (left_both kept.left (rw kept.named at (c.append.ensures.left kept.honest)));
+      left_torn (left_both kept.left (rw kept.named at (c.append.ensures.appends.left kept.honest)));
   still_rooted = λ honest rooted.
       let kept = c.loop.invariant.written honest in
-      c.append.ensures.still_rooted kept.honest (kept.still_rooted rooted);
-  quiet = λ quiet. c.append.ensures.quiet (c.loop.invariant.quietly quiet).quiet;
+      c.append.ensures.appends.still_rooted kept.honest (kept.still_rooted rooted);
+  quiet = λ quiet. c.append.ensures.appends.quiet (c.loop.invariant.quietly quiet).quiet;
   quietly = λ quiet.
       let kept = c.loop.invariant.quietly quiet in
       let was = c.loop.invariant.written (g.met.S.System.quiet_is_honest _ quiet) in
-      appended_quietly _ _ _ kept.holds (rw was.named at (c.append.ensures.quietly kept.quiet was.current));
+      appended_quietly _ _ _ kept.holds (rw was.named at (c.append.ensures.appends.quietly kept.quiet was.current));
 }
 
 pub returns-then-ne : goal.returns-then-ne
 returns-then-ne g c = record {
-  honest = λ honest. c.append.ensures.honest (c.loop.invariant.written honest).honest;
+  honest = λ honest. c.append.ensures.appends.honest (c.loop.invariant.written honest).honest;
   called = λ honest.
       let kept = c.loop.invariant.written honest in
-      append_failed _ _ _ _ kept.holds (rw kept.named at (c.append.ensures.appended kept.honest kept.current));
+      append_failed _ _ _ _ kept.holds (rw kept.named at (c.append.ensures.appends.appended kept.honest kept.current));
   left = λ honest.
       let kept = c.loop.invariant.written honest in
-      left_torn (left_both kept.left (rw kept.named at (c.append.ensures.left kept.honest)));
+      left_torn (left_both kept.left (rw kept.named at (c.append.ensures.appends.left kept.honest)));
   still_rooted = λ honest rooted.
       let kept = c.loop.invariant.written honest in
-      c.append.ensures.still_rooted kept.honest (kept.still_rooted rooted);
-  quiet = λ quiet. c.append.ensures.quiet (c.loop.invariant.quietly quiet).quiet;
+      c.append.ensures.appends.still_rooted kept.honest (kept.still_rooted rooted);
+  quiet = λ quiet. c.append.ensures.appends.quiet (c.loop.invariant.quietly quiet).quiet;
   quietly = λ quiet.
       let kept = c.loop.invariant.quietly quiet in
       let was = c.loop.invariant.written (g.met.S.System.quiet_is_honest _ quiet) in
-      appended_quietly _ _ _ kept.holds (rw was.named at (c.append.ensures.quietly kept.quiet was.current));
+      appended_quietly _ _ _ kept.holds (rw was.named at (c.append.ensures.appends.quietly kept.quiet was.current));
 }
 
 pub returns : goal.returns

@@ -6,16 +6,16 @@ use Rattle.maildir_disk.proofs.writing.write_synced.Given as goal
 abbrev pub invariant-loop : goal.invariant-loop
 invariant-loop g l = record {
   within : l.at ≤ length l.bytes;
-  written : g.S.System.honest l.fn.system → record {
-    honest : g.S.System.honest l.system;
+  written : (g.S.System.at l.fn.system).honest → record {
+    honest : (g.S.System.at l.system).honest;
     named : g.S.System.name_of l.file ≡ l.name;
     current : g.S.System.is_current l.system l.file;
-    holds : Written l.name (take l.at l.bytes) (g.S.System.world l.fn.system) (g.S.System.world l.system);
-    left : Follows (Leaves (Writing l.name [])) (g.S.System.may_leave l.fn.system) (g.S.System.may_leave l.system);
-    still_rooted : g.S.System.rooted l.fn.system → g.S.System.rooted l.system;
+    holds : Written l.name (take l.at l.bytes) (g.S.System.at l.fn.system).world (g.S.System.at l.system).world;
+    left : Follows (Leaves (Writing l.name [])) (g.S.System.at l.fn.system).may_leave (g.S.System.at l.system).may_leave;
+    still_rooted : (g.S.System.at l.fn.system).rooted → (g.S.System.at l.system).rooted;
   };
-  quietly : g.S.System.quiet l.fn.system → record {
-    quiet : g.S.System.quiet l.system;
-    holds : (g.S.System.world l.system).files ≡ effect (Writing l.name (take l.at l.bytes)) (g.S.System.world l.fn.system).files;
+  quietly : (g.S.System.at l.fn.system).quiet → record {
+    quiet : (g.S.System.at l.system).quiet;
+    holds : (g.S.System.at l.system).world.files ≡ effect (Writing l.name (take l.at l.bytes)) (g.S.System.at l.fn.system).world.files;
   };
 }

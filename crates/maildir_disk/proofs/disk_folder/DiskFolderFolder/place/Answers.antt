@@ -10,7 +10,7 @@ use Rattle.maildir_disk.proofs.disk_folder.DiskFolderFolder.place.Goals as goal
 
 pub returns : goal.returns
 returns g c =
-    let did = c.rename.ensures in
+    let did = c.rename.ensures.places in
     let count = c.count_call.ensures in
     let call = Placing c.args.name.now c.args.place c.args.target.now in
     let ok : IfOk c.rename.result (λ value. c.match-rename.answer ≡ Ok value) = search rules in
@@ -23,6 +23,6 @@ returns g c =
       gone = λ honest.
           rw count.same
           (fault_tells Absent (λ error. error_kind error ≡ NotFound)
-          (λ system. WasGone c.args.name.now call (g.S.System.world c.args.self.now.system).files (g.S.System.world system).files)
-          _ _ count.system ok only (did.gone honest));
+          (λ system. WasGone c.args.name.now call (g.S.System.at c.args.self.now.system).world.files (g.S.System.at system).world.files)
+          _ _ count.system ok only (c.rename.ensures.gone honest));
     }

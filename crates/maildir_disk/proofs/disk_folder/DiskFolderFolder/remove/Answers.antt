@@ -5,7 +5,7 @@ use Rattle.maildir_disk.proofs.disk_folder.DiskFolderFolder.remove.Goals as goal
 
 pub returns : goal.returns
 returns g c =
-    let did = c.unlink.ensures in
+    let did = c.unlink.ensures.removes in
     let answer = c.answer_of-answer.ensures in
     let count = c.count_call.ensures in
     record {

@@ -1,61 +1,84 @@
-use Rattle.std.proofs.Common.{◌≡◌, [], refl, inl, inr, arith, true}
+use Rattle.std.proofs.Common.{◌≡◌, ◌∙◌, [], refl, inl, inr, arith, true}
 use Rattle.std.specs.Duration.{as_nanos}
-use Rattle.maildir_disk.proofs.Calls.Passing.{passes_on}
-use Rattle.maildir_run.proofs.Memory.Followed.{quiet_fault}
-use Rattle.maildir_memory.proofs.Memory.Changes.{same_found}
+use Rattle.maildir_disk.proofs.Calls.Refused.{an_error}
 use Rattle.maildir_disk.proofs.Left.Lefts.{left_none}
+use Rattle.maildir_run.proofs.Memory.Followed.{quiet_fault}
+use Rattle.maildir_run.specs.MemFolder.{IsQuiet}
+use Rattle.maildir_memory.proofs.Common.{files_of}
+use Rattle.maildir_memory.proofs.Memory.Changes.{same_found}
+use Rattle.maildir_memory.proofs.Memory.Looking.{looks_listed}
 use Rattle.maildir_memory.proofs.mem_system.MemSystemSystem.names.Goals as goal
 
-pub returns-in_err-pass_shortly-in-Ok-clause-passes : goal.returns-in_err-pass_shortly-in-Ok-clause-passes
-returns-in_err-pass_shortly-in-Ok-clause-passes c = λ honest.
-    let same = (rw c.in-Ok.is at (c.list.ensures.lists.call.quietly honest)).1 in
-    passes_on (record { acts = record { actions = []; files_are = same }; later = omega arith; stamp_is = inl refl }) (c.pass_shortly.ensures.passes c.args.sub)
-
-pub returns-in-Ok-duration_since-clause-passes : goal.returns-in-Ok-duration_since-clause-passes
-returns-in-Ok-duration_since-clause-passes c = λ honest.
-    let same = (rw c.in-Ok.is at (c.list.ensures.lists.call.quietly honest)).1 in
-    passes_on (record { acts = record { actions = []; files_are = same }; later = omega arith; stamp_is = inl refl }) (c.pass_shortly.ensures.passes c.args.sub)
-
-pub returns-in_default-clause-passes : goal.returns-in_default-clause-passes
-returns-in_default-clause-passes c = λ honest.
-    let same = (rw c.in-Ok.is at (c.list.ensures.lists.call.quietly honest)).1 in
-    passes_on (record { acts = record { actions = []; files_are = same }; later = omega arith; stamp_is = inl refl }) (c.pass_shortly.ensures.passes c.args.sub)
-
-pub returns-in-Ok-duration_since-clause-names : goal.returns-in-Ok-duration_since-clause-names
-returns-in-Ok-duration_since-clause-names c = λ honest.
-    elim (c.pass_shortly.ensures.passes c.args.sub).stamp_is [
-      | inl same ↦
-          let none : as_nanos c.in-Ok-duration_since.later ≡ 0 = omega (arith, same, c.in-Ok-duration_since.ensures.ok) in
-          let zero : c.is_zero.result ≡ true = c.is_zero.ensures.1 none in
-          cc
-      | inr since ↦ inr since
-    ]
-
-pub returns-in_err-pass_shortly-in-Ok-clause-left : goal.returns-in_err-pass_shortly-in-Ok-clause-left
-returns-in_err-pass_shortly-in-Ok-clause-left c = λ honest.
+pub returns-in_err-pass_shortly-in-Ok : goal.returns-in_err-pass_shortly-in-Ok
+returns-in_err-pass_shortly-in-Ok c =
+    let failed = (an_error c.from_residual.result c.from_residual.ensures.0).1 in
     let old = c.args.self.now in
-    same_found old.folder c.list.new.self old.cases (rw c.in-Ok.is at (c.list.ensures.lists.call.quietly honest)).1 c.pass_shortly.ensures.left
+    let did = c.pass_shortly.ensures in
+    let same : IsQuiet old.folder → files_of c.list.new.self ≡ files_of old.folder = λ honest.
+    (rw c.in-Ok.is at (c.list.ensures.lists.call.quietly honest)).1 in
+    let script : IsQuiet old.folder → IsQuiet c.list.new.self = λ honest. c.list.ensures.scripted.script.lines ∙ honest in
+    let told = looks_listed old c.pass_shortly.new.self c.list.new.self script same did.others c.args.sub did.quiet did.quietly in
+    record {
+      looks = told.0;
+      passes = told.1;
+      names = λ honest. rw failed tt;
+      exact = λ quiet. rw failed tt;
+    }
 
-pub returns-in-Ok-duration_since-clause-left : goal.returns-in-Ok-duration_since-clause-left
-returns-in-Ok-duration_since-clause-left c = λ honest.
+-- another program changed the folder meanwhile
+pub returns-in-Ok-duration_since : goal.returns-in-Ok-duration_since
+returns-in-Ok-duration_since c =
     let old = c.args.self.now in
-    same_found old.folder c.list.new.self old.cases (rw c.in-Ok.is at (c.list.ensures.lists.call.quietly honest)).1 c.pass_shortly.ensures.left
+    let did = c.pass_shortly.ensures in
+    let same : IsQuiet old.folder → files_of c.list.new.self ≡ files_of old.folder = λ honest.
+    (rw c.in-Ok.is at (c.list.ensures.lists.call.quietly honest)).1 in
+    let script : IsQuiet old.folder → IsQuiet c.list.new.self = λ honest. c.list.ensures.scripted.script.lines ∙ honest in
+    let told = looks_listed old c.pass_shortly.new.self c.list.new.self script same did.others c.args.sub did.quiet did.quietly in
+    record {
+      looks = told.0;
+      passes = told.1;
+      names = λ honest. elim (did.others.passes c.args.sub).stamp_is [
+        | inl same ↦
+            let none : as_nanos c.in-Ok-duration_since.later ≡ 0 = omega (arith, same, c.in-Ok-duration_since.ensures.ok) in
+            let zero : c.is_zero.result ≡ true = c.is_zero.ensures.1 none in
+            cc
+        | inr since ↦ inr since
+      ];
+      exact = λ quiet. grind arith;
+    }
 
-pub returns-in_default-clause-left : goal.returns-in_default-clause-left
-returns-in_default-clause-left c = λ honest.
+pub returns-in_default : goal.returns-in_default
+returns-in_default c =
     let old = c.args.self.now in
-    same_found old.folder c.list.new.self old.cases (rw c.in-Ok.is at (c.list.ensures.lists.call.quietly honest)).1 c.pass_shortly.ensures.left
+    let did = c.pass_shortly.ensures in
+    let same : IsQuiet old.folder → files_of c.list.new.self ≡ files_of old.folder = λ honest.
+    (rw c.in-Ok.is at (c.list.ensures.lists.call.quietly honest)).1 in
+    let script : IsQuiet old.folder → IsQuiet c.list.new.self = λ honest. c.list.ensures.scripted.script.lines ∙ honest in
+    let told = looks_listed old c.pass_shortly.new.self c.list.new.self script same did.others c.args.sub did.quiet did.quietly in
+    record {
+      looks = told.0;
+      passes = told.1;
+      names = λ honest. inl (rw c.in-Ok.is at (c.list.ensures.lists.names honest));
+      exact = λ quiet. rw c.in-Ok.is at (c.list.ensures.lists.names quiet.no_script);
+    }
 
-pub returns-in-Err-clause-left : goal.returns-in-Err-clause-left
-returns-in-Err-clause-left c = λ honest.
+-- nothing was listed
+pub returns-in-Err : goal.returns-in-Err
+returns-in-Err c =
     let old = c.args.self.now in
-    same_found old.folder c.list.new.self old.cases (rw c.in-Err.is at (quiet_fault _ _ _ _ honest c.list.ensures.scripted)) left_none
-
--- no names were listed
-pub returns-in-Err-clause-passes : goal.returns-in-Err-clause-passes
-returns-in-Err-clause-passes c = λ honest.
-    let same = rw c.in-Err.is at (quiet_fault _ _ _ _ honest c.list.ensures.scripted) in
-    record { acts = record { actions = []; files_are = same }; later = omega arith; stamp_is = inl refl }
-
-pub returns-in-Err-clause-quietly : goal.returns-in-Err-clause-quietly
-returns-in-Err-clause-quietly c = λ quiet. rw c.in-Err.is at (quiet_fault _ _ _ _ quiet.no_script c.list.ensures.scripted)
+    let script : IsQuiet old.folder → IsQuiet c.list.new.self = λ honest. c.list.ensures.scripted.script.lines ∙ honest in
+    let same : IsQuiet old.folder → files_of c.list.new.self ≡ files_of old.folder = λ honest.
+    rw c.in-Err.is at (quiet_fault _ _ _ _ honest c.list.ensures.scripted) in
+    record {
+      looks = record {
+        honest = script;
+        acts = λ honest. record { actions = []; files_are = same honest };
+        left = λ honest. same_found old.folder c.list.new.self old.cases (same honest) left_none;
+        still_rooted = λ honest rooted. rooted;
+        quiet = λ quiet. record { no_script = script quiet.no_script; no_turns = quiet.no_turns };
+        quietly = λ quiet. same quiet.no_script;
+      };
+      passes = λ honest. record { acts = record { actions = []; files_are = same honest }; later = omega arith; stamp_is = inl refl };
+      names = λ honest. tt;
+      exact = λ quiet. tt;
+    }

@@ -7,42 +7,48 @@ use Rattle.maildir_memory.proofs.mem_system.MemSystemSystem.rename.Goals as goal
 
 pub returns-in_err-begin : goal.returns-in_err-begin
 returns-in_err-begin c = let failed = (an_error c.from_residual.result c.from_residual.ensures.0).1 in record {
-  honest = λ honest. honest;
-  called = λ honest. rw failed (record { moves = []; left = refl });
+  places = record {
+    honest = λ honest. honest;
+    called = λ honest. rw failed (record { moves = []; left = refl });
+    left = λ honest. left_none;
+    still_rooted = λ honest rooted. rooted;
+    quiet = λ quiet. record { no_script = quiet.no_script; no_turns = quiet.no_turns };
+    quietly = λ quiet. rw failed ([], tt, refl);
+  };
   gone = grind arith;
-  left = λ honest. left_none;
-  still_rooted = λ honest rooted. rooted;
-  quiet = λ quiet. record { no_script = quiet.no_script; no_turns = quiet.no_turns };
-  quietly = λ quiet. rw failed ([], tt, refl);
   loses = λ honest. rw failed tt;
 }
 
 pub returns-in_err-map_err : goal.returns-in_err-map_err
 returns-in_err-map_err c = let failed = (an_error c.from_residual-in_err-map_err.result c.from_residual-in_err-map_err.ensures.0).1 in record {
-  honest = λ honest. honest;
-  called = λ honest. rw failed (record { moves = []; left = refl });
+  places = record {
+    honest = λ honest. honest;
+    called = λ honest. rw failed (record { moves = []; left = refl });
+    left = λ honest.
+        let old = c.args.self.now in
+        left_unmade (Place c.args.name c.args.place c.args.target) old.folder old.cases c.may_lose.new.self left_none c.may_lose.ensures.more;
+    still_rooted = λ honest rooted. rooted;
+    quiet = λ quiet. record { no_script = quiet.no_script; no_turns = quiet.no_turns };
+    quietly = λ quiet. rw failed ([], tt, refl);
+  };
   gone = grind arith;
-  left = λ honest.
-      let old = c.args.self.now in
-      left_unmade (Place c.args.name c.args.place c.args.target) old.folder old.cases c.may_lose.new.self left_none c.may_lose.ensures.more;
-  still_rooted = λ honest rooted. rooted;
-  quiet = λ quiet. record { no_script = quiet.no_script; no_turns = quiet.no_turns };
-  quietly = λ quiet. rw failed ([], tt, refl);
   loses = λ honest. rw failed tt;
 }
 
 pub returns-in-Ok : goal.returns-in-Ok
 returns-in-Ok c = record {
-  honest = λ honest. c.place.ensures.scripted.script.lines ∙ honest;
-  called = λ honest. c.in-Ok.ensures.places.called tt;
+  places = record {
+    honest = λ honest. c.place.ensures.scripted.script.lines ∙ honest;
+    called = λ honest. c.in-Ok.ensures.places.called tt;
+    left = λ honest.
+        let old = c.args.self.now in
+        left_made (Place c.args.name c.args.place c.args.target)
+        old.folder c.place.new.self old.cases c.may_lose.new.self c.place.result left_none c.may_lose.ensures.more (c.place.ensures.places.called tt);
+    still_rooted = λ honest rooted. rooted;
+    quiet = λ quiet. record { no_script = c.place.ensures.scripted.script.lines ∙ quiet.no_script; no_turns = quiet.no_turns };
+    quietly = λ quiet. c.in-Ok.ensures.places.quietly quiet.no_script;
+  };
   gone = λ honest. tt;
-  left = λ honest.
-      let old = c.args.self.now in
-      left_made (Place c.args.name c.args.place c.args.target)
-      old.folder c.place.new.self old.cases c.may_lose.new.self c.place.result left_none c.may_lose.ensures.more (c.place.ensures.places.called tt);
-  still_rooted = λ honest rooted. rooted;
-  quiet = λ quiet. record { no_script = c.place.ensures.scripted.script.lines ∙ quiet.no_script; no_turns = quiet.no_turns };
-  quietly = λ quiet. c.in-Ok.ensures.places.quietly quiet.no_script;
   loses = λ honest has.
       let old = c.args.self.now in
       let placed = (c.in-Ok.ensures.places.quietly honest).1 in
@@ -54,15 +60,17 @@ returns-in-Ok c = record {
 
 pub returns-in-Err : goal.returns-in-Err
 returns-in-Err c = record {
-  honest = λ honest. c.place.ensures.scripted.script.lines ∙ honest;
-  called = λ honest. c.in-Err.ensures.places.called tt;
+  places = record {
+    honest = λ honest. c.place.ensures.scripted.script.lines ∙ honest;
+    called = λ honest. c.in-Err.ensures.places.called tt;
+    left = λ honest.
+        let old = c.args.self.now in
+        left_made (Place c.args.name c.args.place c.args.target)
+        old.folder c.place.new.self old.cases c.may_lose.new.self c.place.result left_none c.may_lose.ensures.more (c.place.ensures.places.called tt);
+    still_rooted = λ honest rooted. rooted;
+    quiet = λ quiet. record { no_script = c.place.ensures.scripted.script.lines ∙ quiet.no_script; no_turns = quiet.no_turns };
+    quietly = λ quiet. c.in-Err.ensures.places.quietly quiet.no_script;
+  };
   gone = grind arith;
-  left = λ honest.
-      let old = c.args.self.now in
-      left_made (Place c.args.name c.args.place c.args.target)
-      old.folder c.place.new.self old.cases c.may_lose.new.self c.place.result left_none c.may_lose.ensures.more (c.place.ensures.places.called tt);
-  still_rooted = λ honest rooted. rooted;
-  quiet = λ quiet. record { no_script = c.place.ensures.scripted.script.lines ∙ quiet.no_script; no_turns = quiet.no_turns };
-  quietly = λ quiet. c.in-Err.ensures.places.quietly quiet.no_script;
   loses = λ honest. tt;
 }

@@ -1,14 +1,26 @@
 use Rattle.std.proofs.Common.{refl}
-use Rattle.maildir_memory.proofs.Common.{world_of}
 use Rattle.maildir_disk.proofs.Calls.Passing.{passes_none}
+use Rattle.maildir_disk.proofs.Calls.Refused.{an_error}
+use Rattle.maildir_memory.proofs.Common.{world_of}
+use Rattle.maildir_memory.proofs.Memory.Looking.{looks_short}
 use Rattle.maildir_memory.proofs.mem_system.MemSystemSystem.stamp.Goals as goal
 
-pub returns-in_err-pass_shortly-clause-passes : goal.returns-in_err-pass_shortly-clause-passes
-returns-in_err-pass_shortly-clause-passes c = λ honest. c.pass_shortly.ensures.passes c.args._sub
+pub returns-in_err-pass_shortly : goal.returns-in_err-pass_shortly
+returns-in_err-pass_shortly c =
+    let failed = (an_error c.from_residual.result c.from_residual.ensures.0).1 in
+    let did = c.pass_shortly.ensures in
+    record {
+      looks = looks_short did.others did.quiet did.quietly;
+      passes = λ honest. did.others.passes c.args._sub;
+      stamp = λ honest. rw failed tt;
+    }
 
-pub returns-clause-passes : goal.returns-clause-passes
-returns-clause-passes c = λ honest. c.pass_shortly.ensures.passes c.args._sub
-
-pub returns-clause-stamp : goal.returns-clause-stamp
-returns-clause-stamp c = λ honest.
-    record { moment = world_of c.args.self.now; before = passes_none; rest = c.pass_shortly.ensures.passes c.args._sub; is = refl }
+pub returns : goal.returns
+returns c =
+    let did = c.pass_shortly.ensures in
+    let passes = did.others.passes c.args._sub in
+    record {
+      looks = looks_short did.others did.quiet did.quietly;
+      passes = λ honest. passes;
+      stamp = λ honest. record { moment = world_of c.args.self.now; before = passes_none; rest = passes; is = refl };
+    }
