@@ -8,8 +8,8 @@ use maildir_run::Sub;
 use std::io::BufWriter;
 use std::test::Fail;
 
-// How many calls are answered at most before all others fail: more than the words make.
-const CALLS: u64 = 90;
+// So often the calls fail at another place, each four calls later: the last is behind all that the words make.
+const STOPS: u64 = 23;
 
 // Of so many cases each power cut leaves one.
 const CASES: usize = 64;
@@ -93,12 +93,11 @@ fn at_home(system: &MemSystem) -> Option<usize> {
     }
 }
 
-// The words are given, so many calls of the Maildir are answered, and a power cut leaves this case; then they are given again, and
-// once more. The first status, how many cases there were, and whether each command left what it owes.
+// The words name a Maildir that is missing, and is made. So many of its calls are answered, and a power cut leaves this case; then
+// they are given again, and once more. The first status, how many cases there were, and whether each command left what it owes.
 fn history(rt: HostRuntime, calls: u64, case: usize) -> Result<(u8, usize, bool), Fail> {
-    let word = String::from_str(rt.alloc(), "M")?;
     let mut machine = MemMachine::new(rt.alloc(), TEXTS);
-    machine.put(word, losing(rt, &[], 1)?)?;
+    machine.make_of(losing(rt, &[], 1)?);
     let (status, cases, first) = command(rt, &mut machine, calls, case)?;
     let (again, _, second) = command(rt, &mut machine, u64::MAX, 0)?;
     let (_, _, third) = command(rt, &mut machine, 5, 1)?;
@@ -111,7 +110,8 @@ fn history(rt: HostRuntime, calls: u64, case: usize) -> Result<(u8, usize, bool)
 fn commands_and_power_cuts(rt: HostRuntime) -> Result<(), Fail> {
     let mut done = 0usize;
     let mut stopped = 0usize;
-    for calls in 0u64..CALLS {
+    for stop in 0u64..STOPS {
+        let calls = 4 * stop;
         for case in 0usize..CASES {
             let (status, cases, is_kept) = history(rt, calls, case)?;
             assert!(rt; is_kept, "after {calls} calls and cut {case}");
