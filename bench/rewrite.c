@@ -38,7 +38,7 @@ static void put(const char *bytes, size_t len) {
 static char head[5];
 static size_t length;
 
-/* Whether a message was begun, and whether its last whole line is a blank one behind its From_ line. */
+/* Whether a message was begun, and whether its last whole line is a blank one after its From_ line. */
 static int in_message, blank;
 
 static void end_message(void) {

@@ -2,12 +2,12 @@
    file 3, a line each, by the path that was opened or by the name of the stream, and lets go wrong what the environment
    says. FAIL is the number of a call that fails, counted from 1, with ERROR as its error's number; a `close` or a `sleep`
    has no number. CLOCK is what the clocks show, in milliseconds since 1970, and each sleep moves it on at once. FOLDER is
-   the path of a folder with a slash behind it: its first CHANGES readings see it change, and each takes READING
+   the path of a folder with a slash after it: its first CHANGES readings see it change, and each takes READING
    milliseconds. OUTPUT is how many bytes standard output takes. Where SHORT is set, a read and a write move one byte at
    most and every other write is interrupted; where GONE is set, what is to be moved is removed before. PLANTED is put where
    a file is to be made, and REPLACED in place of what is opened to be written and is there: by the first letter a link or
-   a hard link to the path behind it, a pipe, a directory, a file, or one that others may read. The time of modification is shown as the time of change,
-   which no test can set, and 1970 in its place. It needs no headers, so that any C compiler makes it. */
+   a hard link to the path after it, a pipe, a directory, a file, or one that others may read. The time of modification is
+   shown as the time of change, which no test can set, and 1970 in its place. It needs no headers, so that any C compiler makes it. */
 typedef unsigned long size_t;
 typedef long ssize_t;
 

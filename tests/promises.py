@@ -40,7 +40,7 @@ class Functions:
             self.read(path.read_text(encoding="utf-8"))
 
     def read(self, text):
-        # a block of a type or a trait ends at a brace at the front of a line
+        # a block of a type or a trait ends at a brace at the start of a line
         for block in re.split(r"(?<=^\}\n)", text, flags=re.MULTILINE):
             # an item before it in the same block is a constant, or an import
             header = OWNER.search(block)

@@ -1,5 +1,5 @@
-/* Refuses growths of the program that it is loaded into (LD_PRELOAD). REFUSE is the number of one, counted from 1 over
-   the calls of malloc and realloc; with `..` behind it, all that follow are refused too. For each that is refused a
+/* Refuses allocations of the program that it is loaded into (LD_PRELOAD). REFUSE is the number of one, counted from 1 over
+   the calls of malloc and realloc; with `..` after it, all that follow are refused too. For each that is refused a
    byte goes to the file 3, so a test can tell whether the program came so far. It needs no headers, so that any C
    compiler makes it. */
 typedef unsigned long size_t;

@@ -57,7 +57,7 @@ def exported_types(crate):
 
 
 def items(text):
-    """The items of a file of code, each with its head: it ends at a brace at the front of a line."""
+    """The items of a file of code, each with its head: it ends at a brace at the start of a line."""
     for block in re.split(r"(?<=^\}\n)|(?<=^\{\}\n)", text, flags=re.MULTILINE):
         match = ITEM.search(block)
         if match:
@@ -112,7 +112,7 @@ class Specs:
                 self.scopes[path] = scope
 
     def cited(self, text, scope):
-        """The definitions that a text cites by names of this scope; behind a dot stands a field, or what a module has."""
+        """The definitions that a text cites by names of this scope; after a dot stands a field, or what a module has."""
         for token in TOKEN.findall(text):
             names = token.strip(".").split(".")
             for count in range(1, len(names) + 1):

@@ -102,7 +102,7 @@ long_enough (Some xs) (Some ys) reads p =
     let a = ap length had in
     let b = ap length reads.1 in
     let d = ap length has in
-    let e = ap length p.front in
+    let e = ap length p.prefix in
     let most = reads.2 in
     omega (arith, split, taken, whole, a, b, d, e, most)
 
@@ -119,9 +119,9 @@ of_reads {before} {after} was is {fault} causes none long =
 pub holds_first : {file : List ℕ} (files : List (List ℕ)) → Contains (file ∷ files) file
 holds_first files = (0, omega arith, refl)
 
-pub holds_behind : {X : Type 0} (f : X → List ℕ) (xs : List X) {file : List ℕ} {i : ℕ} {x : X}
+pub holds_after : {X : Type 0} (f : X → List ℕ) (xs : List X) {file : List ℕ} {i : ℕ} {x : X}
     → i < length xs → get_or xs i x ≡ x → Contains (file ∷ map f xs) (f x)
-holds_behind f xs {i} {x} below is =
+holds_after f xs {i} {x} below is =
     let same = length-map xs f in
     (i + 1, omega (arith, same, below), rw add-one (get_or-map f xs i x (f x) below ∙ ap f is))
 

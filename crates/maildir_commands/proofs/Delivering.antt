@@ -3,7 +3,7 @@ use Rattle.std.proofs.Common.{◌≡◌, ◌⊎◌, List, [], ◌∷◌, Option,
 use Rattle.std.proofs.KnownBytes.{Appends-kept, Keeps-refl}
 use Rattle.std.proofs.lemmas.List.Elements.{All-head}
 use Rattle.std.specs.Io.KnownBytes.{Keeps}
-use Rattle.mbox_text.specs.Writing.{AppendsFront}
+use Rattle.mbox_text.specs.Writing.{AppendsPrefix}
 use Rattle.maildir_run.specs.declared.fault.RunFault.TheVariants as run
 use Rattle.maildir_run.specs.declared.report.Report.{Report}
 use Rattle.maildir_run.specs.Runs.{Possible}
@@ -17,7 +17,7 @@ use Rattle.maildir_commands.specs.Report.{PrintsReport, report_line}
 use Rattle.maildir_commands.specs.Sources.{DeliversSource, KeepsSource, SeenMaildir, StopsSource, StoresSource}
 use Rattle.maildir_commands.proofs.Causes.{of_output, output_no_call}
 use Rattle.maildir_commands.proofs.Known.{of_reports}
-use Rattle.maildir_commands.proofs.Several.{front_of_all, intact_of_one, on_ok_then, sound_of_one}
+use Rattle.maildir_commands.proofs.Several.{prefix_of_all, intact_of_one, on_ok_then, sound_of_one}
 
 -- where `?` answered this fault
 pub source_ended : (answer : Result Unit Fault) {fault : Fault} {before after was is : Option (List ℕ)} {old new : SeenMaildir}
@@ -35,13 +35,13 @@ stops_output {before = before} {after} is =
 module _ {before after : Option (List ℕ)} {old new : SeenMaildir} (keeps : KeepsSource before after old new) where
   -- nothing was written
   pub not_stored : {fault : Fault} {was : Option (List ℕ)} → StopsSource fault before after old new → DeliversSource (Err fault) before after was was old new
-  not_stored {was = was} stopped = record { keeps = keeps; printed = tt; stopped = stopped; front = inl (Keeps-refl was) }
+  not_stored {was = was} stopped = record { keeps = keeps; printed = tt; stopped = stopped; prefix = inl (Keeps-refl was) }
 
   -- it was delivered, and its line was written, or was not
   pub not_printed : {fault : Fault} {was is : Option (List ℕ)} (report : Report) → StoresSource report before after old new
-      → fault ≡ Run run.OutputFault → AppendsFront was is (report_line report) → DeliversSource (Err fault) before after was is old new
-  not_printed report stored is_output front =
-      record { keeps = keeps; printed = tt; stopped = stops_output is_output; front = inr (report, stored, front) }
+      → fault ≡ Run run.OutputFault → AppendsPrefix was is (report_line report) → DeliversSource (Err fault) before after was is old new
+  not_printed report stored is_output prefix =
+      record { keeps = keeps; printed = tt; stopped = stops_output is_output; prefix = inr (report, stored, prefix) }
 
 -- and where its line is handed on, or is not
 pub source_handed : {before after was given kept : Option (List ℕ)} {old new : SeenMaildir} → Keeps given kept
@@ -55,22 +55,22 @@ source_handed {was = was} {given} {kept} keeps did (Ok tt) causes = record {
     said = did.printed.said;
   };
   stopped = tt;
-  front = tt;
+  prefix = tt;
 }
 source_handed {was = was} {given} {kept} keeps did (Err fault) is_output =
     let line = Appends-kept was given kept (report_line did.printed.report) did.printed.line keeps in
-    not_printed did.keeps did.printed.report did.printed.said is_output (front_of_all was kept line)
+    not_printed did.keeps did.printed.report did.printed.said is_output (prefix_of_all was kept line)
 
 -- ---- a text that the source may have had, and for which the Maildir is sound
 one_stopped : (before after was is : Option (List ℕ)) (old new : SeenMaildir) → old.honest → (text : Mailbox) → IsMailbox text
     → Possible before after text.bytes → IsSoundFor (text ∷ []) old.held → (answer : Result Unit Fault)
-    → IfErr answer (λ fault. Keeps was is ⊎ ((report : Report) × StoresSource report before after old new × AppendsFront was is (report_line report)))
+    → IfErr answer (λ fault. Keeps was is ⊎ ((report : Report) × StoresSource report before after old new × AppendsPrefix was is (report_line report)))
     → OnErr answer (Keeps was is ⊎ PrintsOne old.held new.held text was is)
-one_stopped before after was is old new h text are possible is_sound (Ok _) front = tt
+one_stopped before after was is old new h text are possible is_sound (Ok _) prefix = tt
 one_stopped before after was is old new h text are possible is_sound (Err _) (inl keeps) = inl keeps
-one_stopped before after was is old new h text are possible is_sound (Err _) (inr (report, stored, front)) =
+one_stopped before after was is old new h text are possible is_sound (Err _) (inr (report, stored, prefix)) =
     let stores = stored.texts h text are possible (sound_of_one is_sound) in
-    inr (record { report = report; true_of = of_reports stores.reports; safe = stores.safe (intact_of_one is_sound); line = front })
+    inr (record { report = report; true_of = of_reports stores.reports; safe = stores.safe (intact_of_one is_sound); line = prefix })
 
 module _ {before after was is : Option (List ℕ)} {old new : SeenMaildir} (h : old.honest) (text : Mailbox) (are : IsMailbox text)
     (possible : Possible before after text.bytes) (is_sound : IsSoundFor (text ∷ []) old.held) where
@@ -88,7 +88,7 @@ module _ {before after was is : Option (List ℕ)} {old new : SeenMaildir} (h : 
         }) did.printed;
         known = on_ok_then answer (λ printed. (stores printed).known) did.printed;
         swept = on_ok_then answer (λ printed. (stores printed).swept) did.printed;
-        stopped = one_stopped before after was is old new h text are possible is_sound answer did.front;
+        stopped = one_stopped before after was is old new h text are possible is_sound answer did.prefix;
         stays = λ others named alike. kept.stays sound others named (All-head (λ (t : Mailbox). AreAlike others t.messages) text [] alike);
         still_rooted = did.keeps.still_rooted h;
       }

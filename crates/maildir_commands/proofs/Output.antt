@@ -5,15 +5,15 @@ use Rattle.std.proofs.KnownBytes.{Appends-kept, Appends-nil}
 use Rattle.std.proofs.Math.Seq.{take-length}
 use Rattle.std.specs.Io.KnownBytes.{Appends, IsAtEnd, Keeps}
 use Rattle.std.specs.List.{flat_map}
-use Rattle.mbox_text.specs.Writing.{AppendsFront}
+use Rattle.mbox_text.specs.Writing.{AppendsPrefix}
 use Rattle.mbox_text.specs.declared.entry.Entry.{Entry}
 use Rattle.mbox_text.proofs.Reading.OneReading.{mbox-one}
-use Rattle.maildir_run.specs.Output.{GivesFront}
+use Rattle.maildir_run.specs.Output.{GivesPrefix}
 use Rattle.maildir_commands.specs.Report.{AreTrueOf, PrintsEach, PrintsReports, PrintsSome, report_line}
-use Rattle.maildir_commands.specs.Output.{WritesAll, WritesFront}
+use Rattle.maildir_commands.specs.Output.{WritesAll, WritesPrefix}
 use Rattle.maildir_commands.specs.Machines.{AreAllSafe, HeldMaildir}
 use Rattle.maildir_run.specs.Several.{Mailbox}
-use Rattle.maildir_commands.proofs.Several.{front_of_all}
+use Rattle.maildir_commands.proofs.Several.{prefix_of_all}
 
 -- what was given to a buffer that was handed on whole
 pub handed_all : (output : List Entry → List ℕ) (source was given inner : Option (List ℕ))
@@ -30,30 +30,30 @@ pub handed_each : (old : HeldMaildir) (texts : List Mailbox) (was given inner : 
 handed_each old texts was given inner each keeps =
     record { reports = each.reports; true_of = each.true_of; lines = Appends-kept was given inner _ each.lines keeps }
 
-pub front_kept : (was given kept : Option (List ℕ)) {bytes : List ℕ} → Keeps given kept → AppendsFront was given bytes → AppendsFront was kept bytes
-front_kept was given kept keeps (taken, rest, are, line) = (taken, rest, are, Appends-kept was given kept taken line keeps)
+pub prefix_kept : (was given kept : Option (List ℕ)) {bytes : List ℕ} → Keeps given kept → AppendsPrefix was given bytes → AppendsPrefix was kept bytes
+prefix_kept was given kept keeps (taken, rest, are, line) = (taken, rest, are, Appends-kept was given kept taken line keeps)
 
 -- what was written whole, and then not handed on
-pub all_front : (output : List Entry → List ℕ) (t : List ℕ) (was given kept : Option (List ℕ))
-    → Keeps given kept → WritesAll output (Some t) was given → WritesFront output t was kept
-all_front output t was given kept keeps (count, (these, mbox, many, grown)) entries is =
-    front_of_all was kept
+pub all_prefix : (output : List Entry → List ℕ) (t : List ℕ) (was given kept : Option (List ℕ))
+    → Keeps given kept → WritesAll output (Some t) was given → WritesPrefix output t was kept
+all_prefix output t was given kept keeps (count, (these, mbox, many, grown)) entries is =
+    prefix_of_all was kept
     (Appends-kept was given kept (output entries) (subst (λ es. Appends was given (output es)) (mbox-one t these entries mbox is) grown) keeps)
 
 -- and so of a source that was read to its end
 pub all_given : (output : List Entry → List ℕ) (before after was given kept : Option (List ℕ))
     → Keeps given kept → IsAtEnd after → WritesAll output before was given
-    → GivesFront output before after was kept
+    → GivesPrefix output before after was kept
 all_given output before after was given kept keeps ended all t entries possible mbox =
     let left : possible.left ≡ [] = subst IsAtEnd possible.has ended in
-    let front : t ≡ possible.read = possible.front ∙ (ap (λ more. possible.read ++ more) (possible.whole left) ∙ append-nil possible.read) in
-    let is : before ≡ Some t = possible.had ∙ ap Some (ap (λ more. possible.read ++ more) left ∙ (append-nil possible.read ∙ sym front)) in
-    all_front output t was given kept keeps (subst (λ source. WritesAll output source was given) is all) entries mbox
+    let prefix : t ≡ possible.read = possible.prefix ∙ (ap (λ more. possible.read ++ more) (possible.whole left) ∙ append-nil possible.read) in
+    let is : before ≡ Some t = possible.had ∙ ap Some (ap (λ more. possible.read ++ more) left ∙ (append-nil possible.read ∙ sym prefix)) in
+    all_prefix output t was given kept keeps (subst (λ source. WritesAll output source was given) is all) entries mbox
 
 pub some_kept : (old new : HeldMaildir) (texts : List Mailbox) (was given kept : Option (List ℕ))
     → Keeps given kept → PrintsSome old new texts was given → PrintsSome old new texts was kept
 some_kept old new texts was given kept keeps some =
-    record { n = some.n; reports = some.reports; true_of = some.true_of; safe = some.safe; lines = front_kept was given kept keeps some.lines }
+    record { n = some.n; reports = some.reports; true_of = some.true_of; safe = some.safe; lines = prefix_kept was given kept keeps some.lines }
 
 pub each_some : {old new : HeldMaildir} {texts : List Mailbox} {was given kept : Option (List ℕ)}
     → Keeps given kept → PrintsEach old texts was given → AreAllSafe texts new → PrintsSome old new texts was kept
@@ -64,12 +64,12 @@ each_some {old} {new} {texts} {was} {given} {kept} keeps each safe =
       reports = each.reports;
       true_of = subst (λ ts. AreTrueOf old.files ts each.reports) (sym whole) each.true_of;
       safe = subst (λ ts. AreAllSafe ts new) (sym whole) safe;
-      lines = front_of_all was kept (Appends-kept was given kept (flat_map report_line each.reports) each.lines keeps);
+      lines = prefix_of_all was kept (Appends-kept was given kept (flat_map report_line each.reports) each.lines keeps);
     }
 
 -- where nothing was written
-pub nothing_front : (output : List Entry → List ℕ) (t : List ℕ) (was : Option (List ℕ)) → WritesFront output t was was
-nothing_front output t was entries mbox = ([], output entries, refl, Appends-nil was)
+pub nothing_prefix : (output : List Entry → List ℕ) (t : List ℕ) (was : Option (List ℕ)) → WritesPrefix output t was was
+nothing_prefix output t was entries mbox = ([], output entries, refl, Appends-nil was)
 
 -- `?` answers a fault
 pub no_value : {A E : Type 0} (answer : Result A E) (Q : Type 0) → IsErr answer → OnOk answer Q

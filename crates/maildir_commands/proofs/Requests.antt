@@ -15,7 +15,7 @@ use Rattle.maildir_commands.specs.declared.fault.Fault.{Fault}
 use Rattle.maildir_commands.specs.declared.fault.Fault.TheVariants.{Source, Run}
 use Rattle.maildir_commands.specs.Causes.{IsCauseOf}
 use Rattle.maildir_commands.specs.Machines.{HeldMaildir, Rests}
-use Rattle.maildir_commands.specs.Output.{WritesAll, WritesFront, output_of}
+use Rattle.maildir_commands.specs.Output.{WritesAll, WritesPrefix, output_of}
 use Rattle.maildir_commands.specs.Opening.{OpensSources}
 use Rattle.maildir_commands.specs.Private.Words.{name_of, request}
 use Rattle.maildir_commands.specs.Program.{Delivers, Did, Does, Works, WritesOut, source_of}
@@ -25,7 +25,7 @@ use Rattle.maildir_commands.specs.Words.Request.{ToWrite, ToConvert}
 use Rattle.maildir_commands.proofs.Causes.{of_opening, of_read_file, of_read_input, of_reads}
 use Rattle.maildir_commands.proofs.Delivered.{none_delivered}
 use Rattle.maildir_commands.proofs.Forms.{one_request}
-use Rattle.maildir_commands.proofs.Output.{all_front, all_given, each_some, front_kept, handed_all, handed_each, handed_reports, nothing_front, some_kept}
+use Rattle.maildir_commands.proofs.Output.{all_prefix, all_given, each_some, prefix_kept, handed_all, handed_each, handed_reports, nothing_prefix, some_kept}
 use Rattle.maildir_commands.proofs.Resting.{foreign_same, rest_same}
 use Rattle.maildir_commands.proofs.Several.{on_ok_then, possible_whole}
 
@@ -69,7 +69,7 @@ module _ (form : Form) (machine : SeenMachine) (before after was is : Option (Li
   input_stopped fault did = record {
     works = record {
       all = λ h. tt;
-      front = λ h t possible entries mbox. did.front t entries possible mbox;
+      prefix = λ h t possible entries mbox. did.prefix t entries possible mbox;
       rests = λ h word. rest_same;
       quietly = λ q word. refl;
     };
@@ -85,7 +85,7 @@ module _ (form : Form) (machine : SeenMachine) (before after was is : Option (Li
   input_done count did = record {
     works = record {
       all = λ h. (count, did.all);
-      front = λ h t possible entries mbox.
+      prefix = λ h t possible entries mbox.
           all_given (output_of form) before after was is is (Keeps-refl is) did.end (count, did.all) t entries possible mbox;
       rests = λ h word. rest_same;
       quietly = λ q word. refl;
@@ -102,7 +102,7 @@ module _ (form : Form) (file : List ℕ) (old new : SeenMachine) (opens : OpensS
       → (old.honest → fault ≡ Source → old.refuses_source file)
       → Does (ToWrite form (Some file)) (Err fault) (seen_with old input was) (seen_with new input was)
   not_opened was causes refused = record {
-    works = record { all = λ h. tt; front = λ h t is. nothing_front (output_of form) t was; rests = opens.rests; quietly = opens.quietly };
+    works = record { all = λ h. tt; prefix = λ h t is. nothing_prefix (output_of form) t was; rests = opens.rests; quietly = opens.quietly };
     cause = λ h. of_opening (ToWrite form (Some file)) (seen_with old input was) input file refl causes (refused h);
     unread = λ named. refl;
     texts = opens.texts;
@@ -115,8 +115,8 @@ module _ (form : Form) (file : List ℕ) (old new : SeenMachine) (opens : OpensS
     file_stopped fault did = record {
       works = record {
         all = λ h. tt;
-        front = λ h t same entries mbox.
-            did.front t entries (possible_whole before after (subst (λ t. before ≡ Some t) (sym same) (text h)) did.budget) mbox;
+        prefix = λ h t same entries mbox.
+            did.prefix t entries (possible_whole before after (subst (λ t. before ≡ Some t) (sym same) (text h)) did.budget) mbox;
         rests = opens.rests;
         quietly = opens.quietly;
       };
@@ -137,8 +137,8 @@ module _ (form : Form) (file : List ℕ) (old new : SeenMachine) (opens : OpensS
         record {
           works = record {
             all = given;
-            front = λ h t same. subst (λ t. WritesFront output t was is) (sym same)
-                (all_front output (old.text_of file) was is is (Keeps-refl is) (given h));
+            prefix = λ h t same. subst (λ t. WritesPrefix output t was is) (sym same)
+                (all_prefix output (old.text_of file) was is is (Keeps-refl is) (given h));
             rests = opens.rests;
             quietly = opens.quietly;
           };
@@ -176,7 +176,7 @@ writes_kept : {old : Seen} {machine : SeenMachine} {input given kept : Option (L
     → WritesOut output file answer old (seen_with machine input given) → WritesOut output file answer old (seen_with machine input kept)
 writes_kept {old} {given} {kept} keeps output file answer did = record {
   all = λ h. on_ok_then answer (λ all. handed_all output (source_of file old) old.output given kept all keeps) (did.all h);
-  front = λ h t had entries mbox. front_kept old.output given kept keeps (did.front h t had entries mbox);
+  prefix = λ h t had entries mbox. prefix_kept old.output given kept keeps (did.prefix h t had entries mbox);
   rests = did.rests;
   quietly = did.quietly;
 }
@@ -186,7 +186,7 @@ writes_stopped : {old : Seen} {machine : SeenMachine} {input given kept : Option
     → WritesOut output file (Ok tt) old (seen_with machine input given) → WritesOut output file (Err fault) old (seen_with machine input kept)
 writes_stopped {old} {given} {kept} keeps output file fault did = record {
   all = λ h. tt;
-  front = λ h t had entries mbox. front_kept old.output given kept keeps (did.front h t had entries mbox);
+  prefix = λ h t had entries mbox. prefix_kept old.output given kept keeps (did.prefix h t had entries mbox);
   rests = did.rests;
   quietly = did.quietly;
 }

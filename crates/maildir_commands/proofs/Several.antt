@@ -8,7 +8,7 @@ use Rattle.std.proofs.lemmas.List.{get_or_default, get_or-map, get_or-take, leng
 use Rattle.std.proofs.lemmas.List.Concat.{flat_map-append}
 use Rattle.std.specs.Io.KnownBytes.{Appends, Keeps}
 use Rattle.std.specs.List.{flat_map}
-use Rattle.mbox_text.specs.Writing.{AppendsFront}
+use Rattle.mbox_text.specs.Writing.{AppendsPrefix}
 use Rattle.maildir_run.specs.Delivery.{Message, AreNamed, IsSoundAt, IsSwept, has_home, leftover_count}
 use Rattle.maildir_run.specs.Files.{Files}
 use Rattle.maildir_run.specs.Reading.{ReadsAtMost}
@@ -43,7 +43,7 @@ possible_whole (Some xs) (Some left) {t} e reads =
       more = left;
       had = ap Some reads.1;
       has = refl;
-      front = sym same ∙ reads.1;
+      prefix = sym same ∙ reads.1;
       whole = λ e. e;
     }
 
@@ -168,12 +168,12 @@ more_lines was mid is reports report before line =
     (Appends-trans was mid is (flat_map report_line reports) (flat_map report_line (report ∷ []))
     before (subst (Appends mid is) (sym (append-nil (report_line report))) line))
 
-pub front_of_all : (was is : Option (List ℕ)) {bytes : List ℕ} → Appends was is bytes → AppendsFront was is bytes
-front_of_all was is {bytes} all = (bytes, [], sym (append-nil bytes), all)
+pub prefix_of_all : (was is : Option (List ℕ)) {bytes : List ℕ} → Appends was is bytes → AppendsPrefix was is bytes
+prefix_of_all was is {bytes} all = (bytes, [], sym (append-nil bytes), all)
 
-more_front : (was mid is : Option (List ℕ)) (reports : List Report) (report : Report) → Appends was mid (flat_map report_line reports)
-    → AppendsFront mid is (report_line report) → AppendsFront was is (flat_map report_line (reports ++ report ∷ []))
-more_front was mid is reports report before (taken, rest, are, line) = (
+more_prefix : (was mid is : Option (List ℕ)) (reports : List Report) (report : Report) → Appends was mid (flat_map report_line reports)
+    → AppendsPrefix mid is (report_line report) → AppendsPrefix was is (flat_map report_line (reports ++ report ∷ []))
+more_prefix was mid is reports report before (taken, rest, are, line) = (
   flat_map report_line reports ++ taken,
   rest,
   flat_map-append report_line reports (report ∷ []) ∙ (ap (λ bytes. flat_map report_line reports ++ bytes) (append-nil (report_line report) ∙ are)
@@ -266,7 +266,7 @@ module _ (texts : List Mailbox) (fit : AreFit texts) where
     reports = up.reports;
     true_of = up.true_of;
     safe = first_safe n new (λ k d less below. safe_stay (others_at n e old new inside stay k d below) rooted (up.safe k d less below));
-    lines = front_of_all was is (Appends-kept was mid is (flat_map report_line up.reports) up.lines keeps);
+    lines = prefix_of_all was is (Appends-kept was mid is (flat_map report_line up.reports) up.lines keeps);
   }
   then_stopped n e start old new was mid is inside up rooted stay (inr one) =
       let text = get_or texts n e in
@@ -280,7 +280,7 @@ module _ (texts : List Mailbox) (fit : AreFit texts) where
             (report_agree (λ b named. sym (up.has b named)) up.left (named_all texts fit.are n e inside) one.true_of));
         safe = first_safe (n + 1) new (safe_more n e new
             (λ k d less below. safe_stay (others_at n e old new inside stay k d below) rooted (up.safe k d less below)) one.safe);
-        lines = more_front was mid is _ _ up.lines one.line;
+        lines = more_prefix was mid is _ _ up.lines one.line;
       }
 
   -- the next text could not be opened
@@ -290,7 +290,7 @@ module _ (texts : List Mailbox) (fit : AreFit texts) where
     reports = up.reports;
     true_of = up.true_of;
     safe = first_safe n now up.safe;
-    lines = front_of_all was is up.lines;
+    lines = prefix_of_all was is up.lines;
   }
 
 -- ---- at the end
@@ -320,15 +320,15 @@ no_text = record { bytes = []; messages = [] }
 
 -- the first text, and those after it
 module _ {X : Type 0} (texts : List Mailbox) (text : List ℕ) (f : X → List ℕ) (rest : List X) (are : bytes_of texts ≡ text ∷ map f rest) where
-  pub behind_length : length texts ≡ length rest + 1
-  behind_length = bytes_length texts are ∙ (ap suc (length-map rest f) ∙ sym (add-one _))
+  pub after_length : length texts ≡ length rest + 1
+  after_length = bytes_length texts are ∙ (ap suc (length-map rest f) ∙ sym (add-one _))
 
   pub first_text : Some text ≡ Some (get_or texts 0 no_text).bytes
-  first_text = ap Some (sym (bytes_at texts are no_text text (omega (arith, behind_length))))
+  first_text = ap Some (sym (bytes_at texts are no_text text (omega (arith, after_length))))
 
-  pub text_behind : (i : ℕ) (x : X) → i < length rest → f (get_or rest i x) ≡ (get_or texts (i + 1) no_text).bytes
-  text_behind i x below =
-      let inside : i + 1 < length texts = omega (arith, behind_length, below) in
+  pub text_after : (i : ℕ) (x : X) → i < length rest → f (get_or rest i x) ≡ (get_or texts (i + 1) no_text).bytes
+  text_after i x below =
+      let inside : i + 1 < length texts = omega (arith, after_length, below) in
       sym (bytes_at texts are no_text (f x) inside ∙ rw add-one (get_or-map f rest i x (f x) below))
 
 -- what follows from what an answer says

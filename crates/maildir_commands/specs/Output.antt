@@ -4,7 +4,7 @@ use Rattle.std.specs.List.{flat_map}
 use Rattle.mbox_text.specs.declared.entry.Entry.{Entry}
 use Rattle.mbox_text.specs.Mbox.{Mbox}
 use Rattle.mbox_text.specs.Spelling.{spelling}
-use Rattle.mbox_text.specs.Writing.{AppendsFront}
+use Rattle.mbox_text.specs.Writing.{AppendsPrefix}
 use Rattle.maildir_run.specs.Output.{GivesAll}
 use Rattle.maildir_run.specs.Table.{table_of}
 use Rattle.maildir_commands.specs.declared.command.Form.{Form}
@@ -21,5 +21,5 @@ abbrev pub WritesAll : (List Entry → List ℕ) → Option (List ℕ) → Optio
 WritesAll output source was is = (count : ℕ) × GivesAll output source was is count
 
 -- a prefix was written of what belongs to the messages of the text, if it is an mbox text
-abbrev pub WritesFront : (List Entry → List ℕ) → List ℕ → Option (List ℕ) → Option (List ℕ) → Type 0
-WritesFront output text was is = (entries : List Entry) → Mbox text entries → AppendsFront was is (output entries)
+abbrev pub WritesPrefix : (List Entry → List ℕ) → List ℕ → Option (List ℕ) → Option (List ℕ) → Type 0
+WritesPrefix output text was is = (entries : List Entry) → Mbox text entries → AppendsPrefix was is (output entries)

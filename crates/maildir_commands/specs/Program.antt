@@ -14,7 +14,7 @@ use Rattle.maildir_commands.specs.Causes.{IsCauseOf}
 use Rattle.maildir_commands.specs.Endings.{status_of}
 use Rattle.maildir_commands.specs.Faults.{fault_text, told}
 use Rattle.maildir_commands.specs.Machines.{AreAllSafe, AreFit, GivesTexts, HeldMaildir, IsSoundFor, OthersStay, Rests}
-use Rattle.maildir_commands.specs.Output.{WritesAll, WritesFront, output_of}
+use Rattle.maildir_commands.specs.Output.{WritesAll, WritesPrefix, output_of}
 use Rattle.maildir_commands.specs.Report.{PrintsEach, PrintsReports, PrintsSome}
 use Rattle.maildir_commands.specs.Seen.{Seen, SeenMachine, Streams, seen_at}
 use Rattle.maildir_commands.specs.Words.{AreOfAForm, AskFor, Request, files_of}
@@ -40,7 +40,7 @@ pub record WritesOut (output : List Entry → List ℕ) (file : Option (List ℕ
   -- with Ok all of it
   pub all : IsKnown file old → OnOk answer (WritesAll output (source_of file old) old.output new.output)
   -- in any case a prefix
-  pub front : IsKnown file old → (t : List ℕ) → MayHaveHad file old new.input t → WritesFront output t old.output new.output
+  pub prefix : IsKnown file old → (t : List ℕ) → MayHaveHad file old new.input t → WritesPrefix output t old.output new.output
   pub rests : old.machine.honest → (word : List ℕ) → Rests (old.machine.maildir_at word) (new.machine.maildir_at word)
   pub quietly : old.machine.quiet → (word : List ℕ) → (new.machine.maildir_at word).files ≡ (old.machine.maildir_at word).files
 

@@ -3,7 +3,7 @@ use Rattle.std.specs.Prelude.{◌≡◌, ◌≤◌, ℕ, ◌-◌, ◌||◌, Bool
 use Rattle.std.specs.Fmt.{decimal}
 use Rattle.std.specs.Io.KnownBytes.{Appends}
 use Rattle.std.specs.List.{flat_map}
-use Rattle.mbox_text.specs.Writing.{AppendsFront}
+use Rattle.mbox_text.specs.Writing.{AppendsPrefix}
 use Rattle.maildir_run.specs.Delivery.{has_home, is_base_of, leftover_count}
 use Rattle.maildir_run.specs.Files.{Files}
 use Rattle.maildir_run.specs.declared.report.Report.{Report}
@@ -65,4 +65,4 @@ pub record PrintsSome (old new : HeldMaildir) (texts : List Mailbox) (was is : O
   pub reports : List Report
   pub true_of : AreTrueOf old.files (take n texts) reports
   pub safe : AreAllSafe (take n texts) new
-  pub lines : AppendsFront was is (flat_map report_line reports)
+  pub lines : AppendsPrefix was is (flat_map report_line reports)

@@ -1,11 +1,11 @@
 // Why a command was not done.
 ghost use Rattle.std.specs.Prelude.{◌≡◌, ◌+◌, ◌-◌, ◌^◌, min};
 ghost use Rattle.maildir_run.specs.declared.fault.RunFault.TheVariants.{OutOfMemory};
-ghost use Rattle.maildir_disk.specs.Faults.{IsRefusedGrowth};
+ghost use Rattle.maildir_disk.specs.Faults.{IsFailedAllocation};
 ghost use Rattle.maildir_commands.specs.declared.fault.Fault.TheVariants.{Run};
 ghost use Rattle.maildir_commands.specs.Faults.{fault_of_opening, fault_or};
 
-use maildir_disk::{OpenFault, is_refused_growth};
+use maildir_disk::{OpenFault, is_failed_allocation};
 use maildir_run::{FolderFault, RunFault};
 use std::alloc::AllocError;
 use std::io;
@@ -59,10 +59,10 @@ impl From<OpenFault> for Fault {
 impl Fault {
     /// The fault of a source that could not be opened.
     pub fn of_source(error: &io::Error) -> Fault
-        ensures growth { IsRefusedGrowth error.now → result ≡ Fault.Run RunFault.OutOfMemory }
-        ensures others { ¬ IsRefusedGrowth error.now → result ≡ Fault.Source }
+        ensures allocation { IsFailedAllocation error.now → result ≡ Fault.Run RunFault.OutOfMemory }
+        ensures others { ¬ IsFailedAllocation error.now → result ≡ Fault.Source }
     {
-        if is_refused_growth(error) {
+        if is_failed_allocation(error) {
             return Fault::Run(RunFault::OutOfMemory);
         }
         Fault::Source

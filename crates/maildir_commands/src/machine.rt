@@ -1,6 +1,6 @@
 // What the program asks of the machine that it runs on.
 ghost use Rattle.std.specs.Prelude.{ℕ, List};
-ghost use Rattle.maildir_disk.specs.Faults.{IsRefusedGrowth};
+ghost use Rattle.maildir_disk.specs.Faults.{IsFailedAllocation};
 ghost use Rattle.maildir_commands.specs.Machines.{AreAt};
 ghost use Rattle.maildir_commands.specs.Opening.{ClosesMaildir, OpensMaildir, OpensSource};
 ghost use Rattle.maildir_commands.specs.Seen.{SeenMachine, opened};
@@ -23,7 +23,7 @@ pub trait Machine {
 
     /// Opens a source. An allocation that failed is no refusal.
     fn open_source(&mut self, path: &str) -> io::Result<Self::Source>
-        ensures { OpensSource Self.Source.remaining (λ error. ¬ IsRefusedGrowth error) path.now result (at self.old) (at self.new) };
+        ensures { OpensSource Self.Source.remaining (λ error. ¬ IsFailedAllocation error) path.now result (at self.old) (at self.new) };
 
     /// Opens a Maildir, which is made where it is missing.
     fn open_maildir(&mut self, path: &str) -> Result<Self::Maildir, OpenFault>

@@ -80,7 +80,7 @@ pub record MakesFile {A E : Type 0} (name : List ℕ) (old : SeenSystem) (result
   pub quiet : old.quiet → new.quiet
   pub quietly : old.quiet → CalledQuietly (Writing name []) old.world.files result new.world.files
 
--- A front of the bytes was appended to the file that was opened under this name, if none was made under it since then.
+-- A prefix of the bytes was appended to the file that was opened under this name, if none was made under it since then.
 pub record Appends (name : List ℕ) (is_current : Type 0) (bytes : List ℕ) (old : SeenSystem) (result : Result ℕ Error) (new : SeenSystem) : Type 0 where
   pub honest : old.honest → new.honest
   pub appended : old.honest → is_current → Appended name bytes old.world result new.world

@@ -28,7 +28,7 @@ pub record IsOfChange (start end stamp : ℕ) : Type 0 where
   pub time : ℕ
   pub no_earlier : start ≤ time
   pub no_later : time ≤ end
-  pub less_behind : time < stamp + margin_of stamp
+  pub less_after : time < stamp + margin_of stamp
   pub less_ahead : stamp < time + margin_of stamp
 
 -- Other programs may have acted.

@@ -2,7 +2,7 @@
 ghost use Rattle.std.specs.Prelude.{◌≡◌, ◌⊎◌, ◌↔◌, IfErr, IfOk, OnErr, IsErr, IsTrue};
 ghost use Rattle.maildir_run.specs.Calls.{IsNotAbsent};
 ghost use Rattle.maildir_run.specs.declared.folder.FolderFault.TheVariants.{Failed, OutOfMemory};
-ghost use Rattle.maildir_disk.specs.Faults.{IsRefusedGrowth};
+ghost use Rattle.maildir_disk.specs.Faults.{IsFailedAllocation};
 ghost use Rattle.maildir_disk.specs.declared.faults.OpenFault.TheVariants.{Folder};
 
 use maildir_run::FolderFault;
@@ -22,11 +22,11 @@ pub enum OpenFault {
 }
 
 impl From<io::Error> for OpenFault {
-    ghost from_gives = { λ error given. (IsRefusedGrowth error × (given ≡ Folder OutOfMemory))
-        ⊎ (¬ IsRefusedGrowth error × (given ≡ Folder Failed)) };
+    ghost from_gives = { λ error given. (IsFailedAllocation error × (given ≡ Folder OutOfMemory))
+        ⊎ (¬ IsFailedAllocation error × (given ≡ Folder Failed)) };
 
     fn from(error: io::Error) -> OpenFault {
-        if is_refused_growth(&error) {
+        if is_failed_allocation(&error) {
             OpenFault::Folder(FolderFault::OutOfMemory)
         } else {
             OpenFault::Folder(FolderFault::Failed)
@@ -37,21 +37,21 @@ impl From<io::Error> for OpenFault {
 // The fault of a call that failed.
 pub(crate) fn answer_of<T>(outcome: io::Result<T>) -> Result<T, FolderFault>
     ensures ok { IfOk outcome (λ value. result ≡ Ok value) }
-    ensures growth { IfErr outcome (λ error. IsRefusedGrowth error → result ≡ Err FolderFault.OutOfMemory) }
-    ensures others { IfErr outcome (λ error. ¬ IsRefusedGrowth error → result ≡ Err FolderFault.Failed) }
+    ensures allocation { IfErr outcome (λ error. IsFailedAllocation error → result ≡ Err FolderFault.OutOfMemory) }
+    ensures others { IfErr outcome (λ error. ¬ IsFailedAllocation error → result ≡ Err FolderFault.Failed) }
     ensures err { OnErr outcome (IsErr result) }
     ensures not_absent { IsNotAbsent result }
 {
     match outcome {
         Ok(value) => Ok(value),
-        Err(error) if is_refused_growth(&error) => Err(FolderFault::OutOfMemory),
+        Err(error) if is_failed_allocation(&error) => Err(FolderFault::OutOfMemory),
         Err(_) => Err(FolderFault::Failed),
     }
 }
 
 /// Whether an allocation of ours failed: the error is of the kind `OutOfMemory`, and has no errno.
-pub fn is_refused_growth(error: &io::Error) -> bool
-    ensures { IsTrue result ↔ IsRefusedGrowth error.now }
+pub fn is_failed_allocation(error: &io::Error) -> bool
+    ensures { IsTrue result ↔ IsFailedAllocation error.now }
 {
     error.kind() == ErrorKind::OutOfMemory && error.raw_os_error().is_none()
 }

@@ -33,5 +33,5 @@ mod system;
 mod writing;
 
 pub use disk_folder::DiskFolder;
-pub use faults::{OpenFault, is_refused_growth};
+pub use faults::{OpenFault, is_failed_allocation};
 pub use system::System;

@@ -35,7 +35,7 @@ module _ (old new : MemSystem) (case : ℕ) (found : files_of new.folder ≡ get
   among : Contains (cases_of old) left → may_be_left old left ⊎ ((¬ IsTrue old.is_rooted) × (left ≡ no_files))
   among has = elim (Contains-append_cases (lefts_of old.cases) _ left has) as (λ _. may_be_left old left ⊎ ((¬ IsTrue old.is_rooted) × (left ≡ no_files))) [
     | inl case ↦ inl (inr case)
-    | inr behind ↦ elim (first_or _ behind) as (λ _. may_be_left old left ⊎ ((¬ IsTrue old.is_rooted) × (left ≡ no_files))) [
+    | inr after ↦ elim (first_or _ after) as (λ _. may_be_left old left ⊎ ((¬ IsTrue old.is_rooted) × (left ≡ no_files))) [
       | inl is ↦ inl (inl is)
       | inr gone ↦ inr (none_but old.is_rooted left gone)
     ]

@@ -34,9 +34,9 @@ pub record MayLose (change : Files → Files) (old new : MemSystem) : Type 0 whe
   pub also : (left : Files) → may_be_left old left → may_be_left new (change left)
 
 -- The same of each prefix of the bytes that were appended to a file.
-pub record MayLoseFronts (name bytes : List ℕ) (n : ℕ) (old new : MemSystem) : Type 0 where
+pub record MayLosePrefixes (name bytes : List ℕ) (n : ℕ) (old new : MemSystem) : Type 0 where
   pub held : List ℕ
-  pub fronts : (k : ℕ) → 0 < k → k ≤ n → MayLose (changed name (λ _. held ++ take k bytes)) old new
+  pub prefixes : (k : ℕ) → 0 < k → k ≤ n → MayLose (changed name (λ _. held ++ take k bytes)) old new
 
 -- The folder follows no script, and no other program has a turn.
 pub record HasNoTurns (system : MemSystem) : Type 0 where

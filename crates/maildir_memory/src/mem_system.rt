@@ -11,7 +11,7 @@ ghost use Rattle.maildir_memory.specs.Cases.{HasRoom, lefts_of};
 ghost use Rattle.maildir_disk.specs.Paths.{folder_of_place};
 ghost use Rattle.maildir_disk.specs.Placing.{WasGone};
 ghost use Rattle.maildir_disk.specs.SeenSystem.{Appends, MakesFile, TakesFromTmp};
-ghost use Rattle.maildir_memory.specs.MemSystem.{MayLose, MayLoseFronts, cases_of, opened_as, seen_system};
+ghost use Rattle.maildir_memory.specs.MemSystem.{MayLose, MayLosePrefixes, cases_of, opened_as, seen_system};
 
 use crate::cases::{Cases, Change};
 use crate::faults::error_of;
@@ -134,15 +134,15 @@ impl MemSystem {
         ensures still_rooted { (⟦<MemSystem as System>⟧.at self.old).rooted → (⟦<MemSystem as System>⟧.at self.new).rooted }
         ensures calls { self.new.calls_left ≡ self.old.calls_left }
     {
-        let behind = case.saturating_sub(self.cases.folders.len());
+        let place = case.saturating_sub(self.cases.folders.len());
         if case < self.cases.folders.len() {
             self.folder = self.cases.folders.swap_remove(case);
-        } else if behind == 1 && !self.is_rooted {
+        } else if place == 1 && !self.is_rooted {
             self.folder = MemFolder::new(self.alloc);
         }
         self.folder.script(Vec::new(self.alloc), None);
         self.cases.folders.clear();
-        self.is_rooted = self.is_rooted || behind != 1;
+        self.is_rooted = self.is_rooted || place != 1;
     }
 }
 
@@ -224,7 +224,7 @@ impl System for MemSystem {
         ensures current { IsQuiet self.old.folder → Unit {0} → Unit {0} }
         ensures loses { IsQuiet self.old.folder → IfOk result (λ n. HasRoom self.new.cases →
             IsTrue (contains_key (files_of self.new.folder).tmp (opened_as file.old)) →
-            MayLoseFronts (opened_as file.old) bytes.now n self.old self.new) }
+            MayLosePrefixes (opened_as file.old) bytes.now n self.old self.new) }
     {
         self.pass_shortly()?;
         let taken = bytes.len() - bytes.len() / 2;
@@ -304,10 +304,10 @@ fn sub_of(place: Place) -> Sub
     }
 }
 
-fn joined(alloc: Global, front: &[u8], rest: &[u8]) -> io::Result<Vec<u8>>
-    ensures { IfOk result (λ bytes. bytes.items ≡ front.now ++ rest.now) }
+fn joined(alloc: Global, prefix: &[u8], rest: &[u8]) -> io::Result<Vec<u8>>
+    ensures { IfOk result (λ bytes. bytes.items ≡ prefix.now ++ rest.now) }
 {
-    let mut bytes = Vec::from_slice(alloc, front)?;
+    let mut bytes = Vec::from_slice(alloc, prefix)?;
     bytes.extend_from_slice(rest)?;
     Ok(bytes)
 }

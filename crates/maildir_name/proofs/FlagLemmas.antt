@@ -70,12 +70,12 @@ field-passed name line more b = rw b refl
 pub record FieldRead (name body rest line after : List ℕ) (n : ℕ) : Type 0 where
   pub same : field name (header rest) ≡ field name (header body)
   pub first : lines rest ≡ take n rest ∷ lines (drop n rest)
-  pub front : line ≡ take n rest
+  pub prefix : line ≡ take n rest
   pub back : after ≡ drop n rest
 
 module _ {name body rest line after : List ℕ} {n : ℕ} (r : FieldRead name body rest line after n) where
   reads_line : lines rest ≡ line ∷ lines after
-  reads_line = rw (r.front, r.back) r.first
+  reads_line = rw (r.prefix, r.back) r.first
 
   pub field_blank : {blank : Bool} → blank ≡ is_blank line → blank ≡ true → [] ≡ field name (header body)
   field_blank e t = grind (arith, field-nil, header-blank, reads_line)

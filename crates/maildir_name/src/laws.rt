@@ -25,7 +25,7 @@ pub fn own_bases()
 /// There are as many targets as bodies, and one more body adds one target after the others.
 pub fn one_more_target()
     ensures as_many { (bodies : List (List ℕ)) → length (targets bodies) ≡ length bodies }
-    ensures behind { (bodies : List (List ℕ)) (body : List ℕ) →
+    ensures added { (bodies : List (List ℕ)) (body : List ℕ) →
         targets (bodies ++ body ∷ []) ≡ targets bodies ++ target bodies body ∷ [] }
 {}
 

@@ -27,15 +27,15 @@ pub use Rattle.maildir_name.specs.Named.{Counts, Named}
 pub use Rattle.maildir_name.specs.Names.{base, is_colon, is_converter_base, is_converter_name, IsConverterBase}
 pub use Rattle.maildir_name.specs.Targets.{digest_text, numbered, same_digest, target, targets}
 pub use Rattle.maildir_name.specs.declared.target.Target.{Target}
-pub use Rattle.mbox_text.proofs.Written.Appended.{front_more, front_then}
+pub use Rattle.mbox_text.proofs.Written.Appended.{prefix_more, prefix_then}
 pub use Rattle.mbox_text.proofs.TextLines.LineLemmas.{begins_from-more}
 pub use Rattle.mbox_text.proofs.Reading.OneReading.{mbox-one}
 pub use Rattle.mbox_text.specs.Fed.{Fed, IsTooShort, NeverBegins}
 pub use Rattle.mbox_text.specs.FromLine.{IsFromLine, sender}
-pub use Rattle.mbox_text.specs.Fronts.{AllButLast, NeverFrom}
+pub use Rattle.mbox_text.specs.Prefixes.{AllButLast, NeverFrom}
 pub use Rattle.mbox_text.specs.Mbox.{Block, IsUnreadable, Mbox, unended}
 pub use Rattle.mbox_text.specs.Spelling.{FromLines, spelling}
-pub use Rattle.mbox_text.specs.Writing.{AppendsFront, Writes}
+pub use Rattle.mbox_text.specs.Writing.{AppendsPrefix, Writes}
 pub use Rattle.mbox_text.specs.declared.entry.Entry.{Entry}
 pub use Rattle.mbox_text.specs.declared.splitter.Splitter.{Splitter}
 pub use Rattle.maildir_run.specs.Alone.{added, alone, filled, swept}
@@ -50,7 +50,7 @@ pub use Rattle.maildir_run.specs.Delivery.{AreDistinct, AreNamed, Delivered, has
 pub use Rattle.maildir_run.specs.Delivery.{IsMissing, IsSoundAt, IsSwept, leftover_count, Message, Sound, there_count}
 pub use Rattle.maildir_run.specs.Files.{acted, Action, AgreeOnConverters, all_acted, DropTmp, FileMap, Files, has_base, held_under, homes, is_name}
 pub use Rattle.maildir_run.specs.Files.{KeepsConverters, may_take, name_cmp, Outside, outsiders_of, Reflag, reflag, to_cur, ToCur, KeepsHomes}
-pub use Rattle.maildir_run.specs.Private.Given.{IsFrontOf, Gave, GaveAll, IsGiven, SourceStopped}
+pub use Rattle.maildir_run.specs.Private.Given.{IsPrefixOf, Gave, GaveAll, IsGiven, SourceStopped}
 pub use Rattle.maildir_run.specs.Private.TableSoFar.{HasListed}
 pub use Rattle.maildir_run.specs.Table.{info, table_of, message_row, place_word, shown_byte, shown_sender}
 pub use Rattle.maildir_run.specs.MemFiles.{files_in, with_file, without_file}

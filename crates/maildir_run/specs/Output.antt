@@ -3,7 +3,7 @@ use Rattle.std.specs.Prelude.{◌≡◌, ◌⊎◌, ◌*◌, ℕ, List, length, 
 use Rattle.std.specs.Io.KnownBytes.{Appends, Keeps, IsAtEnd}
 use Rattle.mbox_text.specs.declared.entry.Entry.{Entry}
 use Rattle.mbox_text.specs.Mbox.{Mbox}
-use Rattle.mbox_text.specs.Writing.{AppendsFront}
+use Rattle.mbox_text.specs.Writing.{AppendsPrefix}
 use Rattle.maildir_run.specs.declared.fault.RunFault.{RunFault}
 use Rattle.maildir_run.specs.declared.fault.RunFault.TheVariants.{NoFromLine, TooManyReads, OutputFault}
 use Rattle.maildir_run.specs.Reading.{IsReading, ReadsAtLeast, ReadsAtMost}
@@ -15,8 +15,8 @@ GivesAll output source was is count =
     IfSome source (λ t. (entries : List Entry) × Mbox t entries × (count ≡ length entries) × Appends was is (output entries))
 
 -- for each text that the source may have had, a prefix of what belongs to its messages was written
-abbrev pub GivesFront : (List Entry → List ℕ) → Option (List ℕ) → Option (List ℕ) → Option (List ℕ) → Option (List ℕ) → Type 0
-GivesFront output before after was is = (t : List ℕ) (entries : List Entry) → Possible before after t → Mbox t entries → AppendsFront was is (output entries)
+abbrev pub GivesPrefix : (List Entry → List ℕ) → Option (List ℕ) → Option (List ℕ) → Option (List ℕ) → Option (List ℕ) → Type 0
+GivesPrefix output before after was is = (t : List ℕ) (entries : List Entry) → Possible before after t → Mbox t entries → AppendsPrefix was is (output entries)
 
 -- no text that the source may have had is an mbox text, and nothing was written
 abbrev pub GivesNothing : Option (List ℕ) → Option (List ℕ) → Option (List ℕ) → Option (List ℕ) → Type 0
@@ -28,7 +28,7 @@ pub record WritesMessages (output : List Entry → List ℕ) (before after was i
   pub all : IfOk result (GivesAll output before was is)
   pub end : OnOk result (IsAtEnd after)
   -- with a fault
-  pub front : OnErr result (GivesFront output before after was is)
+  pub prefix : OnErr result (GivesPrefix output before after was is)
   pub no_from_line : IsErrOf result NoFromLine → GivesNothing before after was is
   pub spent : IsErrOf result TooManyReads → ReadsAtLeast before after reads
   pub causes : IfErr result (λ fault. IsReading fault ⊎ (fault ≡ OutputFault))

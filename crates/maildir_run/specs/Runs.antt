@@ -16,7 +16,7 @@ pub record Possible (before after : Option (List ℕ)) (t : List ℕ) : Type 0 w
   pub more : List ℕ
   pub had : before ≡ Some (read ++ left)
   pub has : after ≡ Some left
-  pub front : t ≡ read ++ more
+  pub prefix : t ≡ read ++ more
   pub whole : left ≡ [] → more ≡ []
 
 -- A report is true of a run over these messages from these files.

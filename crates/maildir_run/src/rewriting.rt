@@ -42,7 +42,7 @@ pub fn rewrite<R: Read, W: Write>(
 }
 
 /// Writes messages in their regular spelling.
-#[tactic(auto, using(crate::proofs::Output::Each::each_front))]
+#[tactic(auto, using(crate::proofs::Output::Each::each_prefix))]
 fn write_entries<W: Write>(entries: &[Entry], out: &mut W) -> Result<(), RunFault>
     ensures written { Writes (W.contents out.old) (W.contents out.new) result (flat_map spelling entries.now) }
     ensures causes { IfErr result (λ fault. fault ≡ RunFault.OutputFault) }

@@ -19,16 +19,16 @@ pub(crate) fn row_of(
     requires { IsFromLine entry.now.from_line }
     ensures { IfOk result (λ row. row.items ≡ message_row index entry.now target.now) }
 {
-    let front = front_of(alloc, index, target, entry.body.as_slice().len())?;
-    let mut row = Vec::from_slice(alloc, front.as_bytes())?;
+    let prefix = prefix_of(alloc, index, target, entry.body.as_slice().len())?;
+    let mut row = Vec::from_slice(alloc, prefix.as_bytes())?;
     add_sender(&mut row, sender_of(entry.from_line.as_slice()))?;
     row.push(b'\n')?;
     Ok(row)
 }
 
 // The row up to the sender.
-fn front_of(alloc: Global, index: u64, target: &Target, size: usize) -> Result<String, AllocError>
-    ensures { IfOk result (λ front. string_bytes front ≡ decimal index ++ 32 ∷ (target.now.base ++ 32 ∷ (place_word target.now.place
+fn prefix_of(alloc: Global, index: u64, target: &Target, size: usize) -> Result<String, AllocError>
+    ensures { IfOk result (λ prefix. string_bytes prefix ≡ decimal index ++ 32 ∷ (target.now.base ++ 32 ∷ (place_word target.now.place
         ++ 32 ∷ (info target.now.name ++ 32 ∷ (decimal size ++ 32 ∷ []))))) }
 {
     let base = target.base.as_str();

@@ -2,7 +2,7 @@
 #![tactic(auto)]
 
 use maildir_commands::{Fault, run, tell_fault, tell_wrong_words};
-use maildir_disk::is_refused_growth;
+use maildir_disk::is_failed_allocation;
 use maildir_host::Computer;
 use maildir_run::RunFault;
 use std::io::{BufWriter, Write};
@@ -27,7 +27,7 @@ fn main(rt: HostRuntime) -> ExitCode {
             ),
             Err(_) => out_of_memory(&mut err),
         },
-        Err(error) if is_refused_growth(&error) => out_of_memory(&mut err),
+        Err(error) if is_failed_allocation(&error) => out_of_memory(&mut err),
         Err(_) => {
             let _ = tell_wrong_words(&mut err);
             2

@@ -5,7 +5,7 @@ use Rattle.mbox_text.specs.declared.fault.TextFault.{TextFault}
 use Rattle.mbox_text.specs.declared.fault.TextFault.TheVariants.{NoFromLine, Failed, OutOfMemory}
 use Rattle.mbox_text.specs.declared.splitter.Splitter.{Splitter}
 use Rattle.mbox_text.specs.Mbox.{Mbox}
-use Rattle.mbox_text.specs.Fronts.{AllButLast, NeverFrom}
+use Rattle.mbox_text.specs.Prefixes.{AllButLast, NeverFrom}
 use Rattle.mbox_text.specs.Held.{HasFailed, HeldIn}
 
 -- The splitter was fed this text, no feed failed, and it has returned these messages.

@@ -7,7 +7,7 @@ pub mod FromLine
 -- The messages of an mbox text (mbox(5)).
 pub mod Mbox
 -- What a prefix of a text says of the messages of the whole text.
-pub mod Fronts
+pub mod Prefixes
 -- What a splitter keeps in memory of the text so far; no caller need read it.
 pub mod Held
 -- What a splitter has been fed, and which messages it has returned.

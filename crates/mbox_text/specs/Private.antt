@@ -3,7 +3,7 @@
 -- The first line of a text, and the first line of a body that is to be quoted.
 pub mod Lines
 -- Messages that stay the same, whatever comes after the text.
-pub mod Fronts
+pub mod Prefixes
 -- How a splitter changes with a part of the text: it moves on, or refuses the part.
 pub mod Moved
 -- What the steps of `split_all` leave.

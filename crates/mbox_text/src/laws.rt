@@ -3,7 +3,7 @@ ghost use Rattle.std.specs.Prelude.{◌≡◌, ℕ, ◌++◌, [], ◌∷◌, ◌
 ghost use Rattle.std.specs.List.{flat_map};
 ghost use Rattle.mbox_text.specs.FromLine.{built, cleaned, past_spaces, rest, sender};
 ghost use Rattle.mbox_text.specs.Quoting.{begins_from, quoted, unquoted};
-ghost use Rattle.mbox_text.specs.Fronts.{IsProperPrefix};
+ghost use Rattle.mbox_text.specs.Prefixes.{IsProperPrefix};
 ghost use Rattle.mbox_text.specs.Mbox.{IsMboxText, Mbox};
 ghost use Rattle.mbox_text.specs.Spelling.{FromLines, completed, spelling};
 ghost use Rattle.mbox_text.specs.declared.entry.Entry.{Entry};

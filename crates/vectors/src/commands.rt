@@ -1,4 +1,4 @@
-// The same words given again and again, broken off at each call, with a power cut behind each command.
+// The same words given again and again, broken off at each call, with a power cut after each command.
 use crate::cuts::losing;
 use crate::planning::names;
 use crate::streams::{Cut, Narrow, Then};
@@ -8,7 +8,7 @@ use maildir_run::Sub;
 use std::io::BufWriter;
 use std::test::Fail;
 
-// So often the calls fail at another place, each four calls later: the last is behind all that the words make.
+// So often the calls fail at another place, each four calls later: the last is after all that the words make.
 const STOPS: u64 = 23;
 
 // Of so many cases each power cut leaves one.

@@ -162,7 +162,7 @@ fn quiet_runs(rt: HostRuntime) {
     assert!(rt; wrong.is_none(), "{}", wrong.unwrap_or(""));
 }
 
-// Whether a run over a source that breaks off behind so many bytes of a text leaves these files, and the next one, over
+// Whether a run over a source that breaks off after so many bytes of a text leaves these files, and the next one, over
 // the whole text, goes so.
 fn goes_on(alloc: Global, bytes: usize, piece: usize, left: &[File<'_>], next: Run<'_>) -> bool {
     let mut folder = MemFolder::new(alloc);
@@ -172,9 +172,9 @@ fn goes_on(alloc: Global, bytes: usize, piece: usize, left: &[File<'_>], next: R
         && goes(alloc, &mut folder, next)
 }
 
-// A text whose source breaks off behind each of so many bytes, in pieces of each of these sizes, and what is left then; the
+// A text whose source breaks off after each of so many bytes, in pieces of each of these sizes, and what is left then; the
 // report of the next run, its calls, and the files that it leaves.
-type Front<'a> = (
+type Prefix<'a> = (
     &'a str,
     &'a [u8],
     (usize, usize),
@@ -196,7 +196,7 @@ const ALL_THREE: &[File<'_>] = &[
     (Sub::New, ABC, "abc"),
 ];
 
-const FRONTS: &[Front<'_>] = &[
+const PREFIXES: &[Prefix<'_>] = &[
     (
         "source_fails",
         b"From x\nabc\n\nFrom y\nhello\n",
@@ -209,7 +209,7 @@ const FRONTS: &[Front<'_>] = &[
     ),
     // the first is whole with the second `From `, and the second with the third
     (
-        "every_front_of_a_text, none whole",
+        "every_prefix_of_a_text, none whole",
         THREE,
         (0, 12),
         &[1],
@@ -219,7 +219,7 @@ const FRONTS: &[Front<'_>] = &[
         ALL_THREE,
     ),
     (
-        "every_front_of_a_text, one whole",
+        "every_prefix_of_a_text, one whole",
         THREE,
         (13, 20),
         &[1],
@@ -229,7 +229,7 @@ const FRONTS: &[Front<'_>] = &[
         ALL_THREE,
     ),
     (
-        "every_front_of_a_text, two whole",
+        "every_prefix_of_a_text, two whole",
         THREE,
         (21, THREE.len()),
         &[1],
@@ -241,8 +241,8 @@ const FRONTS: &[Front<'_>] = &[
 ];
 
 #[test]
-fn fronts(rt: HostRuntime) {
-    for &(name, text, (first, last), pieces, left, report, calls, files) in FRONTS {
+fn prefixes(rt: HostRuntime) {
+    for &(name, text, (first, last), pieces, left, report, calls, files) in PREFIXES {
         let next = (&[] as &[Row<'_>], text, Ok(report), calls, files);
         for piece in pieces {
             for bytes in first..=last {

@@ -2,7 +2,7 @@
 use mbox_text::{TextFault, build_from, is_from_line, is_quotable, rest_of, sender_of};
 use std::alloc::Global;
 
-/// Whether this From_ line is built. It may be tried again where a growth was refused.
+/// Whether this From_ line is built. It may be tried again where an allocation was refused.
 pub(crate) fn builds(alloc: Global, again: bool, sender: &[u8], rest: &[u8], want: &[u8]) -> bool {
     let answer = match build_from(alloc, sender, rest) {
         Err(TextFault::OutOfMemory) if again => build_from(alloc, sender, rest),

@@ -1,7 +1,7 @@
 //! The worked rows on the calls of the libraries but the commands', as tests: texts that are split, written, listed and
 //! rewritten, From_ lines, flags, names and plans; runs over the folder in memory, quiet, broken off at each call,
 //! with a mail reader at work, and at random; runs over a system in memory; what a power cut leaves, also of the commands
-//! over a machine in memory; and each call again after a growth that was refused.
+//! over a machine in memory; and each call again after an allocation that was refused.
 //!
 //! They have a crate of their own, since to build tests is to prove all of their crate once more. A table is a constant
 //! slice, which the prover takes in one step; an array in a body costs it a step for each cell.

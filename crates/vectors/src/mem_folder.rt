@@ -14,7 +14,7 @@ pub(crate) fn are_named(names: &[String], want: &[&str]) -> bool {
     names.len() == want.len()
 }
 
-/// Whether a folder lists these names, in this order. As all calls here, it may be made again where a growth was refused.
+/// Whether a folder lists these names, in this order. As all calls here, it may be made again where an allocation was refused.
 pub(crate) fn lists<F: Folder>(folder: &mut F, again: bool, sub: Sub, want: &[&str]) -> bool {
     let answer = match folder.list(sub) {
         Err(FolderFault::OutOfMemory) if again => folder.list(sub),

@@ -33,10 +33,10 @@ const LINES: &[u8] =
 
 // The messages of a text that is fed in two pieces.
 fn split_at(alloc: Global, text: &[u8], cut: usize) -> Result<Vec<Entry>, TextFault> {
-    let (front, rest) = text.split_at(cut.min(text.len()));
+    let (prefix, rest) = text.split_at(cut.min(text.len()));
     let mut splitter = Splitter::new(alloc);
     let mut entries = Vec::new(alloc);
-    splitter.feed(front, &mut entries)?;
+    splitter.feed(prefix, &mut entries)?;
     splitter.feed(rest, &mut entries)?;
     finish_into(splitter, &mut entries)?;
     Ok(entries)
@@ -68,9 +68,9 @@ fn any_pieces(rt: HostRuntime) {
         Cut::new(QUOTED, 1, Then::Ends),
     );
     assert!(rt; is_shown(rt.alloc(), &mut first, &mut again));
-    // cut behind the first `>Fro`
-    let (front, rest) = QUOTED.split_at(11);
-    assert!(rt; is_shown(rt.alloc(), &mut front.chain(rest), &mut front.chain(rest)));
+    // cut after the first `>Fro`
+    let (prefix, rest) = QUOTED.split_at(11);
+    assert!(rt; is_shown(rt.alloc(), &mut prefix.chain(rest), &mut prefix.chain(rest)));
 }
 
 // A first message that puts the byte with this index in the lines at the end of a piece of 65,536 bytes.
@@ -84,8 +84,8 @@ fn text_before_lines(alloc: Global, before: usize) -> Result<Vec<u8>, AllocError
     Ok(text)
 }
 
-// Whether the lines behind such a first message have the same messages where a piece ends in them.
-fn is_the_same_behind(alloc: Global, before: usize) -> Result<bool, TextFault>
+// Whether the lines after such a first message have the same messages where a piece ends in them.
+fn is_the_same_after(alloc: Global, before: usize) -> Result<bool, TextFault>
     requires { before ≤ 65536 }
 {
     let text = text_before_lines(alloc, before)?;
@@ -102,7 +102,7 @@ fn pieces_cut_every_line(rt: HostRuntime) {
     }
     for before in 0..LINES.len() {
         assert!(rt;
-            is_the_same_behind(rt.alloc(), before) == Ok(true),
+            is_the_same_after(rt.alloc(), before) == Ok(true),
             "{before}"
         );
     }

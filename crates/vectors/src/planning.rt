@@ -49,7 +49,7 @@ fn two_targets(alloc: Global) -> Result<Vec<Target>, RunFault> {
     Ok(targets)
 }
 
-/// Whether three lists lead to these steps. With `again` the plan is made once more where a growth was refused.
+/// Whether three lists lead to these steps. With `again` the plan is made once more where an allocation was refused.
 pub(crate) fn plans(
     alloc: Global,
     again: bool,

@@ -4,15 +4,15 @@ ghost use Rattle.std.specs.List.{flat_map};
 ghost use Rattle.mbox_text.specs.declared.entry.Entry.{Entry};
 ghost use Rattle.mbox_text.specs.Mbox.{Mbox};
 ghost use Rattle.mbox_text.specs.Spelling.{spelling};
-ghost use Rattle.mbox_text.specs.Writing.{AppendsFront};
+ghost use Rattle.mbox_text.specs.Writing.{AppendsPrefix};
 
 use crate::runs::LIMIT;
 use crate::streams::Cut;
 use maildir_run::{RunFault, rewrite};
 use std::alloc::Global;
 
-// Writes a text whose source breaks off behind so many bytes. It is possible for what was read, with what is lost of it,
-// so what is written is a front of what belongs to all of it.
+// Writes a text whose source breaks off after so many bytes. It is possible for what was read, with what is lost of it,
+// so what is written is a prefix of what belongs to all of it.
 fn rewrite_broken(
     alloc: Global,
     text: &[u8],
@@ -21,7 +21,7 @@ fn rewrite_broken(
     out: &mut Vec<u8>,
 ) -> Result<u64, RunFault>
     ensures { OnErr result ((entries : List Entry) → Mbox text.now entries →
-        AppendsFront (Some out.old.items) (Some out.new.items) (flat_map spelling entries)) }
+        AppendsPrefix (Some out.old.items) (Some out.new.items) (flat_map spelling entries)) }
 {
     let mut source = Cut::broken(text, bytes, piece);
     rewrite(alloc, &mut source, out, LIMIT)

@@ -14,7 +14,7 @@ pub(crate) enum Then {
     GoesOn,
 }
 
-/// A source that gives its bytes in pieces of at most a size. Where it fails behind them, the text is its bytes and then
+/// A source that gives its bytes in pieces of at most a size. Where it fails after them, the text is its bytes and then
 /// what is lost.
 #[derive(Drop)]
 pub(crate) struct Cut<'a> {
@@ -36,7 +36,7 @@ impl<'a> Cut<'a> {
         }
     }
 
-    /// A source that breaks off behind so many bytes of a text, or at its end.
+    /// A source that breaks off after so many bytes of a text, or at its end.
     pub(crate) fn broken(text: &'a [u8], bytes: usize, piece: usize) -> Cut<'a>
         ensures fails { result.then ≡ Fails }
         ensures text { result.bytes.now ++ result.lost.now ≡ text.now }
@@ -63,8 +63,8 @@ impl Read for Cut<'_> {
     fn read(&mut self, buf: &mut [u8]) -> io::Result<usize> {
         self.reads = self.reads.saturating_add(1);
         let n = self.piece.max(1).min(buf.len()).min(self.bytes.len());
-        let (front, rest) = self.bytes.split_at(n);
-        buf[..n].copy_from_slice(front);
+        let (prefix, rest) = self.bytes.split_at(n);
+        buf[..n].copy_from_slice(prefix);
         self.bytes = rest;
         if n > 0 {
             return Ok(n);

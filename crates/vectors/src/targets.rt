@@ -11,8 +11,8 @@ fn is_made_of(name: &str, digits: &str, rest: &str) -> bool {
     name.strip_prefix(digits) == Some(rest)
 }
 
-/// Whether the next target has these digits, this number and place, and this name behind the digits. It may be asked
-/// for again where a growth was refused.
+/// Whether the next target has these digits, this number and place, and this name after the digits. It may be asked
+/// for again where an allocation was refused.
 pub(crate) fn targets(
     namer: &mut Namer,
     again: bool,

@@ -1,7 +1,7 @@
 -- What came of delivering texts.
 use Rattle.std.specs.Prelude.{◌≡◌, ◌⊎◌, ℕ, ◌+◌, List, [], ◌∷◌, length, map, IfErr, OnErr, OnOk, Option, Some, Result}
 use Rattle.std.specs.Io.KnownBytes.{Keeps}
-use Rattle.mbox_text.specs.Writing.{AppendsFront}
+use Rattle.mbox_text.specs.Writing.{AppendsPrefix}
 use Rattle.maildir_run.specs.Delivery.{IsSwept, has_home, leftover_count}
 use Rattle.maildir_run.specs.declared.report.Report.{Report}
 use Rattle.maildir_run.specs.Foreign.{KeepsForeign}
@@ -20,7 +20,7 @@ pub record PrintsOne (old new : HeldMaildir) (text : Mailbox) (was is : Option (
   pub report : Report
   pub true_of : IsReportOf (has_home old.files) (leftover_count old.files) text report
   pub safe : IsSafeIn new text
-  pub line : AppendsFront was is (report_line report)
+  pub line : AppendsPrefix was is (report_line report)
 
 -- What came of delivering one text.
 pub record DeliversOne {A E : Type 0} (answer : Result A E) (text : Mailbox) (old new : HeldMaildir) (was is : Option (List ℕ)) : Type 0 where

@@ -57,7 +57,7 @@ module _ (b x : List ℕ) (named : IsTrue (is_converter_base b)) where
   both_steady : (xs ys : List Task) → AreSteady xs → AreSteady ys → AreSteady (xs ++ ys)
   both_steady xs ys first then ended old new h =
       elim (parts_left ended xs ys old new h) [
-        | inl front ↦ first ended old new front
+        | inl prefix ↦ first ended old new prefix
         | inr (mid, all, more) ↦ steady_then b x old mid new (first true old mid all) (then ended mid new more)
       ]
 
@@ -80,7 +80,7 @@ module _ (b x : List ℕ) (named : IsTrue (is_converter_base b)) where
       let write = Do (Writing t.base x) in
       let place = Do (Placing t.base t.place t.name) in
       elim (parts_left ended _ _ old new h) [
-        | inl front ↦ elsewhere_steady write tt ended old new front
+        | inl prefix ↦ elsewhere_steady write tt ended old new prefix
         | inr (mid, wrote, put) ↦
             steady_then b x old mid new (elsewhere_steady write tt true old mid wrote)
             (leaves_placing b x named t.base t.place t.name ours on (one_done write old mid wrote).1 (one_left ended place put))

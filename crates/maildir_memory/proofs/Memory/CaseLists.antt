@@ -96,20 +96,20 @@ module _ (name holds : List ℕ) (held : ℕ) (folder : MemFolder) (old : Cases)
   -- the file may be left with these prefixes so far
   pub record LosesUpTo (end : ℕ) (now : Cases) : Type 0 where
     pub without : held < end → (left : Files) → may_find folder old left → Contains (lefts_of now) left
-    pub fronts : (n : ℕ) → held < n → n < end → (left : Files) → may_find folder old left → Contains (lefts_of now) (changed name (λ _. take n holds) left)
+    pub prefixes : (n : ℕ) → held < n → n < end → (left : Files) → may_find folder old left → Contains (lefts_of now) (changed name (λ _. take n holds) left)
 
-  pub one_front : {change : Change} {mid new : Cases} {end : ℕ} → held ≤ end → ((s : Files) → made change s ≡ changed name (λ _. take end holds) s)
+  pub one_prefix : {change : Change} {mid new : Cases} {end : ℕ} → held ≤ end → ((s : Files) → made change s ≡ changed name (λ _. take end holds) s)
       → ((left : Files) → Contains (lefts_of old) left → Contains (lefts_of mid) left)
       → LosesUpTo end mid → Loses change (files_of folder) mid new → LosesUpTo (end + 1) new
-  one_front {new} {end} from is still before loses = record { without = without; fronts = fronts } where
+  one_prefix {new} {end} from is still before loses = record { without = without; prefixes = prefixes } where
     without : held < end + 1 → (left : Files) → may_find folder old left → Contains (lefts_of new) left
     without lt left (inl e) = subst (Contains (lefts_of new)) (sym e) loses.as_they_are
     without lt left (inr has) = loses.without left (still left has)
 
-    fronts : (n : ℕ) → held < n → n < end + 1 → (left : Files) → may_find folder old left → Contains (lefts_of new) (changed name (λ _. take n holds) left)
-    fronts n above below left may =
+    prefixes : (n : ℕ) → held < n → n < end + 1 → (left : Files) → may_find folder old left → Contains (lefts_of new) (changed name (λ _. take n holds) left)
+    prefixes n above below left may =
         elim (cases_lt n end) [
-          | inl less ↦ loses.without (changed name (λ _. take n holds) left) (before.fronts n above less left may)
+          | inl less ↦ loses.without (changed name (λ _. take n holds) left) (before.prefixes n above less left may)
           | inr ge ↦
               let same : end ≡ n = omega (arith, ge, below) in
               subst (λ k. Contains (lefts_of new) (changed name (λ _. take k holds) left)) same

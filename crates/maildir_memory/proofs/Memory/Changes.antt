@@ -126,8 +126,8 @@ left_of_bytes {name} folder then old new first bytes own = left_both (left_early
   each left (inl e) = (files_of folder, inl refl, subst (Leaves (Writing name []) (files_of folder)) (sym e) own)
   each left (inr has) = bytes left has
 
-pub front_of_appended : (held bytes : List ℕ) {n k : ℕ} → k ≤ n → take (length held + k) (held ++ take n bytes) ≡ held ++ take k bytes
-front_of_appended held bytes {n} {k} le = search (rules, take-append-add, take-take)
+pub prefix_of_appended : (held bytes : List ℕ) {n k : ℕ} → k ≤ n → take (length held + k) (held ++ take n bytes) ≡ held ++ take k bytes
+prefix_of_appended held bytes {n} {k} le = search (rules, take-append-add, take-take)
 
 pub bytes_after : {name holds : List ℕ} {held : ℕ} {before : Files → Type 0} {folder : MemFolder} (then : MemFolder) {old mid new : Cases}
     → KeepsCases before (may_find folder mid) old mid → length (lefts_of mid) ≤ length (lefts_of new) → new.room ≡ mid.room

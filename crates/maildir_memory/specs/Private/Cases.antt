@@ -43,7 +43,7 @@ pub record Loses (change : Change) (now : Files) (old new : Cases) : Type 0 wher
 -- The appended bytes may be lost: each case, and the files as they are, are now cases without them and with each prefix of them.
 pub record LosesBytes (name holds : List ℕ) (held : ℕ) (folder : MemFolder) (old new : Cases) : Type 0 where
   pub without : (left : Files) → may_find folder old left → Contains (lefts_of new) left
-  pub fronts : (n : ℕ) → held < n → n ≤ length holds → (left : Files) → may_find folder old left
+  pub prefixes : (n : ℕ) → held < n → n ≤ length holds → (left : Files) → may_find folder old left
       → Contains (lefts_of new) (changed name (λ _. take n holds) left)
 
 -- What a power cut might have left it may still leave, as long as there is room.

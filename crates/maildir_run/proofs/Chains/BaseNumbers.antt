@@ -38,18 +38,18 @@ messages_numbered bodies i d below =
     let ms = messages_of bodies in
     let m = get_or ms i d in
     let body = get_or bodies i [] in
-    let front = take i bodies in
+    let prefix = take i bodies in
     let are : map (λ (n : Message). n.body) ms ≡ bodies = bodies_are _ bodies (length-targets bodies) in
     let body_is : body ≡ m.body = ap (λ bs. get_or bs i []) (sym are) ∙ get_or-map (λ (n : Message). n.body) ms i d [] below in
-    let front_is : front ≡ map (λ (n : Message). n.body) (take i ms) = ap (take i) (sym are) ∙ take-map (λ (n : Message). n.body) i ms in
+    let prefix_is : prefix ≡ map (λ (n : Message). n.body) (take i ms) = ap (take i) (sym are) ∙ take-map (λ (n : Message). n.body) i ms in
     let target_is : get_or (targets bodies) i d.target ≡ m.target =
     ap (λ ts. get_or ts i d.target) (sym (targets_of _ bodies (length-targets bodies)))
     ∙ get_or-map (λ (n : Message). n.target) ms i d d.target below in
     ap (λ (t : Target). t.base) (sym target_is ∙ get_or-targets bodies i d.target (omega (arith, below, length-messages_of bodies)))
-    ∙ target-base front body
-    ∙ ap (numbered body) (number_after-is front body)
-    ∙ ap (λ b. numbered b (count_by (same_digest b) front + 1)) body_is
-    ∙ ap (λ n. numbered m.body (n + 1)) (ap (count_by (same_digest m.body)) front_is ∙ count-bodies (same_digest m.body) (take i ms))
+    ∙ target-base prefix body
+    ∙ ap (numbered body) (number_after-is prefix body)
+    ∙ ap (λ b. numbered b (count_by (same_digest b) prefix + 1)) body_is
+    ∙ ap (λ n. numbered m.body (n + 1)) (ap (count_by (same_digest m.body)) prefix_is ∙ count-bodies (same_digest m.body) (take i ms))
 
 pub text_numbered : (t : List ℕ) {ms : List Message} → MessagesOf t ms → AreNumbered ms
 text_numbered t (inl (entries, is, e)) = subst AreNumbered (sym e) (messages_numbered (bodies_of entries))
@@ -90,8 +90,8 @@ module _ {X : Type 0} (p : X → Bool) where
             record { i = suc s.i; below = omega (arith, s.below); hit = s.hit; before = omega (arith, s.before, count-cons x (take s.i xs) false off) }
       ]
 
-  pub count-front : (xs : List X) (i : ℕ) (d : X) → i < length xs → p (get_or xs i d) ≡ true → count_by p (take i xs) < count_by p xs
-  count-front xs i d below on =
+  pub count-taken : (xs : List X) (i : ℕ) (d : X) → i < length xs → p (get_or xs i d) ≡ true → count_by p (take i xs) < count_by p xs
+  count-taken xs i d below on =
       let more = count_by_more_yes p xs i d below on in
       let le = sum_by-take-le (λ x. cond (p x) 1 0) xs (i + 1) in
       omega (arith, more, le)

@@ -9,7 +9,7 @@ use Rattle.maildir_run.specs.Several.{IsThere}
 use Rattle.maildir_run.proofs.Names.Maps.{is_name-true}
 use Rattle.maildir_run.proofs.Call.Moves.{homes_none, homes_one}
 use Rattle.maildir_run.proofs.Call.Homes.{none_of}
-use Rattle.maildir_run.proofs.Chains.BaseNumbers.{has_digest_of, with_digest, AreNumbered, select, count-front, fewer_before, few_with_digest, any_at, Gap, gap}
+use Rattle.maildir_run.proofs.Chains.BaseNumbers.{has_digest_of, with_digest, AreNumbered, select, count-taken, fewer_before, few_with_digest, any_at, Gap, gap}
 
 -- a body is there so often
 pub record Level (b : List ℕ) (s : Files) : Type 0 where
@@ -91,7 +91,7 @@ module _ (d : Message) (ms : List Message) (b : List ℕ) (nums : AreNumbered ms
       let hit : has_digest_of b m ≡ true = rw body_is (same_digest-refl b) in
       record {
         k = with_digest b (take a.0 ms);
-        below = count-front (has_digest_of b) ms a.0 d a.1 hit;
+        below = count-taken (has_digest_of b) ms a.0 d a.1 hit;
         is = sym same ∙ base_at a.0 a.1 body_is;
         at = record { i = a.0; below = a.1; before = refl; body_is = body_is; base_is = same };
       }

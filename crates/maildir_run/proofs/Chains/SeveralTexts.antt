@@ -15,7 +15,7 @@ use Rattle.maildir_run.proofs.Chains.Chains.{chain_fold, chain_keeps, chain_at, 
 use Rattle.maildir_run.proofs.Call.Homes.{acted_kept}
 use Rattle.maildir_run.proofs.Call.Moves.{homes_none, homes_one}
 use Rattle.maildir_run.proofs.Chains.MessageLemmas.{text_named}
-use Rattle.maildir_run.proofs.Chains.BaseNumbers.{has_digest_of, with_digest, count-cons, count-front, text_numbered, text_few}
+use Rattle.maildir_run.proofs.Chains.BaseNumbers.{has_digest_of, with_digest, count-cons, count-taken, text_numbered, text_few}
 use Rattle.maildir_run.proofs.Chains.Levels.{Level, Rise, home_level, sound_level, rise}
 
 -- ---- a count of bodies is one of digests
@@ -254,7 +254,7 @@ module _ (texts : List Mailbox) (are : All IsMailbox texts) (own : HaveOwnDigest
       let g = chain_grown links old new runs start b is (start b is) in
       let count = delivered_count b links text report ran in
       let alike = counts_alike ms (own_in text among b is) in
-      let before = count-front (has_digest_of b) ms i d below (same_digest-refl b) in
+      let before = count-taken (has_digest_of b) ms i d below (same_digest-refl b) in
       home_level ms (text_numbered _ t.are) d below g.level (omega (arith, count, alike, before, g.at_least))
 
   pub chain_sound : (links : List LinkOver) (old new : Files) → OfEach (λ m. IsUnknown old m.body) texts

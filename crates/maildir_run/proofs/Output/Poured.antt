@@ -4,23 +4,23 @@ use Rattle.std.proofs.Common.{◌++◌, ◌⊎◌, inl, inr, length, refl, sym, 
 use Rattle.maildir_run.proofs.Common.{flat_map-append, spelling, FromLines, Appends, Consumes-nil, Appends-trans, Appends-nil, Entry, Splitter, Fed}
 use Rattle.maildir_run.proofs.Common.{IsAtEnd, RunFault, NoFromLine, OutOfMemory, IsReading, ReadsAtMost}
 use Rattle.maildir_run.specs.declared.fault.RunFault.TheVariants.{OutputFault}
-use Rattle.maildir_run.proofs.Common.{AppendsFront, front_more, front_then, Reader, IsFrontOf, Gave, GaveAll, SourceStopped, Breaks, Went}
+use Rattle.maildir_run.proofs.Common.{AppendsPrefix, prefix_more, prefix_then, Reader, IsPrefixOf, Gave, GaveAll, SourceStopped, Breaks, Went}
 use Rattle.std.specs.Io.KnownBytes.{Keeps}
-use Rattle.maildir_run.proofs.Source.Givens.{read_nothing, refused_front, given-from_lines, read_is, gave_more, gave_refused, given_front, broken_front}
-use Rattle.maildir_run.specs.Output.{GivesAll, GivesFront, GivesNothing, WritesMessages}
+use Rattle.maildir_run.proofs.Source.Givens.{read_nothing, refused_prefix, given-from_lines, read_is, gave_more, gave_refused, given_prefix, broken_prefix}
+use Rattle.maildir_run.specs.Output.{GivesAll, GivesPrefix, GivesNothing, WritesMessages}
 
 -- what is written for the first messages is a prefix of what is written for all
 pub record IsOutput (output : List Entry → List ℕ) : Type 0 where
   pub none : output [] ≡ []
-  pub front : (a b : List Entry) → (rest : List ℕ) × (output (a ++ b) ≡ output a ++ rest)
+  pub prefix : (a b : List Entry) → (rest : List ℕ) × (output (a ++ b) ≡ output a ++ rest)
 
-gives_front : {output : List Entry → List ℕ} {before now : Option (List ℕ)} (was is : Option (List ℕ)) {reads : ℕ} {given : List Entry}
-    → IsOutput output → IsFrontOf before now reads given → AppendsFront was is (output given) → GivesFront output before now was is
-gives_front {output} {before} {now} was is {given = given} o f h t entries p m =
-    let e : t ≡ f.text ++ p.more = rw (← read_is before now f.text t f.read p) p.front in
+gives_prefix : {output : List Entry → List ℕ} {before now : Option (List ℕ)} (was is : Option (List ℕ)) {reads : ℕ} {given : List Entry}
+    → IsOutput output → IsPrefixOf before now reads given → AppendsPrefix was is (output given) → GivesPrefix output before now was is
+gives_prefix {output} {before} {now} was is {given = given} o f h t entries p m =
+    let e : t ≡ f.text ++ p.more = rw (← read_is before now f.text t f.read p) p.prefix in
     let r = f.tells p.more p.left entries p.has p.whole (rw e at m) in
-    let z = o.front given r.0 in
-    front_more was is _ z.0 _ h (ap output r.1 ∙ z.1)
+    let z = o.prefix given r.0 in
+    prefix_more was is _ z.0 _ h (ap output r.1 ∙ z.1)
 
 appends_nothing : (was is : Option (List ℕ)) → Appends was is [] → Keeps was is
 appends_nothing None is h = tt
@@ -37,7 +37,7 @@ pub record Poured (output : List Entry → List ℕ) (given : List Entry) (befor
 
 -- a read that was refused
 pub record Broken (output : List Entry → List ℕ) (before now was is : Option (List ℕ)) (reads : ℕ) (fault : RunFault) : Type 0 where
-  pub front : GivesFront output before now was is
+  pub prefix : GivesPrefix output before now was is
   pub nothing : fault ≡ NoFromLine → GivesNothing before now was is
   pub refused : SourceStopped before now reads fault
 
@@ -48,7 +48,7 @@ pub read_broken : {output : List Entry → List ℕ} {given : List Entry} {befor
 read_broken {output} {given} {now} {was} {is} messages {fault} o p b =
     let refused = gave_refused now messages fault p.gave b in
     record {
-      front = gives_front was is o (broken_front messages p.gave b) (output given, [], sym (append-nil (output given)), p.written);
+      prefix = gives_prefix was is o (broken_prefix messages p.gave b) (output given, [], sym (append-nil (output given)), p.written);
       nothing = λ e.
           let out : output given ≡ [] = ap output (b.3 e p.gave.text given p.gave.fed).0 ∙ o.none in
           (appends_nothing was is (rw out at p.written), refused.unreadable e);
@@ -64,7 +64,7 @@ unread {before = before} {was} {reads} o =
       unreadable = λ e. absurd (cc);
     } in
     record {
-      front = gives_front was was o (refused_front refused) ([], [], o.none, Appends-nil was);
+      prefix = gives_prefix was was o (refused_prefix refused) ([], [], o.none, Appends-nil was);
       nothing = λ e. absurd (cc);
       refused = refused;
     }
@@ -78,7 +78,7 @@ module _ {output : List Entry → List ℕ} {before now was is : Option (List �
     | Err e ↦ λ h. rw h (record {
       all = tt;
       end = tt;
-      front = b.front;
+      prefix = b.prefix;
       no_from_line = λ f. b.nothing cc;
       spent = λ f. b.refused.spent cc;
       causes = inl reading;
@@ -86,14 +86,14 @@ module _ {output : List Entry → List ℕ} {before now was is : Option (List �
     })
   ] at
 
-  pub writing_failed : (fault ≡ OutputFault) ⊎ (fault ≡ OutOfMemory) → GivesFront output before now was is
+  pub writing_failed : (fault ≡ OutputFault) ⊎ (fault ≡ OutOfMemory) → GivesPrefix output before now was is
       → ReadsAtMost before now (65536 * reads) → WritesMessages output before now was is reads result
-  writing_failed cause front budget = elim result as (λ r. IsErrAnd r (λ e. e ≡ fault) → WritesMessages output before now was is reads r) [
+  writing_failed cause prefix budget = elim result as (λ r. IsErrAnd r (λ e. e ≡ fault) → WritesMessages output before now was is reads r) [
     | Ok count ↦ λ h. absurd h
     | Err e ↦ λ h. rw h (record {
       all = tt;
       end = tt;
-      front = front;
+      prefix = prefix;
       no_from_line = λ f. absurd (elim cause [ inl is ↦ cc | inr is ↦ cc ]);
       spent = λ f. absurd (elim cause [ inl is ↦ cc | inr is ↦ cc ]);
       causes = elim cause [ inl is ↦ inr is | inr is ↦ inl (inr (inr (inr is))) ];
@@ -106,7 +106,7 @@ pub all_written : {output : List Entry → List ℕ} {before now was is : Option
 all_written all end budget = record {
   all = all;
   end = end;
-  front = tt;
+  prefix = tt;
   no_from_line = λ e. absurd (cc);
   spent = λ e. absurd (cc);
   causes = tt;
@@ -115,7 +115,7 @@ all_written all end budget = record {
 
 -- a read, and what became whole by it
 pub record Batch (output : List Entry → List ℕ) (given : List Entry) (before now was is : Option (List ℕ)) (whole : List Entry) (reads count : ℕ) : Type 0 where
-  pub front : IsFrontOf before now reads (given ++ whole)
+  pub prefix : IsPrefixOf before now reads (given ++ whole)
   pub written : Appends was is (output given)
   pub count_is : count ≡ length given
   pub from_lines : FromLines whole
@@ -127,7 +127,7 @@ pub batch : {output : List Entry → List ℕ} {given : List Entry} {before mid 
 batch {given = given} {before} {now} messages splitter left {old} {whole} {reads} ended p w =
     let more = gave_more ended now messages splitter left old whole p.empty p.gave w in
     record {
-      front = given_front ended before now splitter left reads _ more;
+      prefix = given_prefix ended before now splitter left reads _ more;
       written = p.written;
       count_is = p.count_is;
       from_lines = given-from_lines ended before now splitter left reads given whole more;
@@ -137,18 +137,18 @@ module _ {output : List Entry → List ℕ} {given : List Entry} {before now was
     {whole : List Entry} {reads count : ℕ} (b : Batch output given before now was is whole reads count) where
   -- the count is far from its type's end
   pub count_fits : reads ≤ 2 ^ 40 → count + length whole < 2 ^ 64
-  count_fits most = omega (arith, length-append given whole, b.front.few, b.front.budget, b.count_is)
+  count_fits most = omega (arith, length-append given whole, b.prefix.few, b.prefix.budget, b.count_is)
 
   -- there are numbers for all messages
   pub names_fit : reads ≤ 2 ^ 40 → length (given ++ whole) < 2 ^ 63
-  names_fit most = omega (arith, b.front.few, b.front.budget)
+  names_fit most = omega (arith, b.prefix.few, b.prefix.budget)
 
   -- the writer failed in the batch
   pub batch_broken : (is' : Option (List ℕ)) (bytes : List ℕ) → IsOutput output
-      → output (given ++ whole) ≡ output given ++ bytes → AppendsFront is is' bytes → GivesFront output before now was is'
+      → output (given ++ whole) ≡ output given ++ bytes → AppendsPrefix is is' bytes → GivesPrefix output before now was is'
   batch_broken is' bytes o e h =
-      gives_front was is' o b.front
-      (front_then was is is' _ bytes [] _ b.written h (e ∙ ap (λ z. output given ++ z) (sym (append-nil bytes))))
+      gives_prefix was is' o b.prefix
+      (prefix_then was is is' _ bytes [] _ b.written h (e ∙ ap (λ z. output given ++ z) (sym (append-nil bytes))))
 
 -- nothing is left of the source
 all_given : (output : List Entry → List ℕ) (before now was is : Option (List ℕ)) {reads : ℕ} (all : List Entry) {count : ℕ}
@@ -188,7 +188,7 @@ poured_none output {before} {was} o f l none = grind (arith, Consumes-nil before
 
 -- what each message is written as is an output
 pub flat_output : IsOutput (flat_map spelling)
-flat_output = record { none = refl; front = λ a b. (flat_map spelling b, flat_map-append spelling a b) }
+flat_output = record { none = refl; prefix = λ a b. (flat_map spelling b, flat_map-append spelling a b) }
 
 -- what went out of a batch
 pub flat_more : (given : List Entry) {whole entries : List Entry} → entries ≡ whole

@@ -3,7 +3,7 @@ use Rattle.std.proofs.Common.{◌≡◌, ℕ, ◌+◌, ◌^◌, ◌<◌, ◌≤�
 use Rattle.std.proofs.Common.{refl, arith}
 use Rattle.std.proofs.Common.{sym, ◌∙◌, ap, arith, append_assoc, MatchResult, IsErr, append-nil, length-append, take-append-drop, take_all, length-take-le}
 use Rattle.maildir_run.proofs.Common.{Appends, Appends-trans, Appends-nil, false≢true, length-map, map-append, take_more}
-use Rattle.maildir_run.proofs.Common.{Entry, sender, AppendsFront, Writes, front_then, Target, Counts, Named, targets}
+use Rattle.maildir_run.proofs.Common.{Entry, sender, AppendsPrefix, Writes, prefix_then, Target, Counts, Named, targets}
 use Rattle.maildir_run.proofs.Common.{length-targets, targets-prefix, HasListed, info, place_word, shown_byte, shown_sender}
 use Rattle.std.specs.Fmt.{decimal}
 use Rattle.maildir_run.specs.Table.{message_row, rows_from, table_of}
@@ -28,8 +28,8 @@ rows-append index (x ∷ es) more (t ∷ ts) others e =
 targets-parts : (es more : List Entry) → targets (bodies (es ++ more)) ≡ targets (bodies es) ++ drop (length (bodies es)) (targets (bodies (es ++ more)))
 targets-parts es more =
     let all : bodies (es ++ more) ≡ bodies es ++ bodies more = map-append (λ entry. entry.body) es more in
-    let front : take (length (bodies es)) (targets (bodies (es ++ more))) ≡ targets (bodies es) = rw all (targets-prefix (bodies es) (bodies more)) in
-    sym (take-append-drop (length (bodies es)) (targets (bodies (es ++ more)))) ∙ ap (λ z. z ++ drop (length (bodies es)) (targets (bodies (es ++ more)))) front
+    let taken : take (length (bodies es)) (targets (bodies (es ++ more))) ≡ targets (bodies es) = rw all (targets-prefix (bodies es) (bodies more)) in
+    sym (take-append-drop (length (bodies es)) (targets (bodies (es ++ more)))) ∙ ap (λ z. z ++ drop (length (bodies es)) (targets (bodies (es ++ more)))) taken
 
 many : (es : List Entry) → length es ≡ length (targets (bodies es))
 many es = sym (length-targets (bodies es) ∙ length-map es (λ entry. entry.body))
@@ -38,7 +38,7 @@ pub listing_output : IsOutput table_of
 unfolding table_of rows_from
 listing_output = record {
   none = refl;
-  front = λ a b. (
+  prefix = λ a b. (
     rows_from (1 + length a) b (drop (length (bodies a)) (targets (bodies (a ++ b)))),
     ap (λ ts. rows_from 1 (a ++ b) ts) (targets-parts a b)
         ∙ rows-append 1 a b _ (drop (length (bodies a)) (targets (bodies (a ++ b)))) (many a),
@@ -63,8 +63,8 @@ sender-some (c ∷ sender) e = refl
 
 -- nothing went out
 pub lists_none : (given entries : List Entry) (was : Option (List ℕ))
-    → (lines : List ℕ) × (table_of (given ++ entries) ≡ table_of given ++ lines) × AppendsFront was was lines
-lists_none given entries was = let f = listing_output.front given entries in (f.0, f.1, ([], f.0, refl, Appends-nil was))
+    → (lines : List ℕ) × (table_of (given ++ entries) ≡ table_of given ++ lines) × AppendsPrefix was was lines
+lists_none given entries was = let f = listing_output.prefix given entries in (f.0, f.1, ([], f.0, refl, Appends-nil was))
 
 pub lists_err : {E : Type 0} (r : Result (Unit {0}) E) (given entries : List Entry) (was : Option (List ℕ)) (P : Type 0) → IsErr r
     → (lines : List ℕ) × (table_of (given ++ entries) ≡ table_of given ++ lines) × Writes was was r lines × MatchResult r (λ _. P) (λ _. Unit {0})
@@ -99,8 +99,8 @@ module _ (given entries : List Entry) (i : ℕ) (e : Entry) where
   next l is =
       append_assoc given (take i entries) (e ∷ []) ∙ ap (λ z. given ++ z) (ap (λ x. take i entries ++ x ∷ []) is ∙ sym (take_more entries i e l))
 
-  behind : i < length entries → e ≡ get_or entries i e → given ++ entries ≡ ((given ++ take i entries) ++ e ∷ []) ++ drop (i + 1) entries
-  behind l is =
+  after : i < length entries → e ≡ get_or entries i e → given ++ entries ≡ ((given ++ take i entries) ++ e ∷ []) ++ drop (i + 1) entries
+  after l is =
       ap (λ z. given ++ z) (sym (take-append-drop (i + 1) entries)) ∙ sym (append_assoc given (take (i + 1) entries) (drop (i + 1) entries))
       ∙ ap (λ z. z ++ drop (i + 1) entries) (sym (next l is))
 
@@ -110,17 +110,17 @@ module _ (given entries : List Entry) (i : ℕ) (e : Entry) where
   listed_to_more was is is' namer namer' count count' line l at t eq out h =
       grind (arith, next l at, append_assoc (table_of given) t.lines line, Appends-trans was is is' t.lines line t.out out)
 
-  pub listed_to_front : (was is is' : Option (List ℕ)) (namer : Counts) (count : ℕ) (line : List ℕ) → i < length entries → e ≡ get_or entries i e
+  pub listed_to_prefix : (was is is' : Option (List ℕ)) (namer : Counts) (count : ℕ) (line : List ℕ) → i < length entries → e ≡ get_or entries i e
       → (t : ListedTo given entries i was is namer count) → table_of ((given ++ take i entries) ++ e ∷ []) ≡ table_of (given ++ take i entries) ++ line
-      → AppendsFront is is' line → (lines : List ℕ) × (table_of (given ++ entries) ≡ table_of given ++ lines) × AppendsFront was is' lines
-  listed_to_front was is is' namer count line l at t eq out =
-      let b = behind l at in
-      let f = listing_output.front ((given ++ take i entries) ++ e ∷ []) (drop (i + 1) entries) in (
+      → AppendsPrefix is is' line → (lines : List ℕ) × (table_of (given ++ entries) ≡ table_of given ++ lines) × AppendsPrefix was is' lines
+  listed_to_prefix was is is' namer count line l at t eq out =
+      let b = after l at in
+      let f = listing_output.prefix ((given ++ take i entries) ++ e ∷ []) (drop (i + 1) entries) in (
         t.lines ++ (line ++ f.0),
         ap table_of b ∙ f.1 ∙ ap (λ z. z ++ f.0) (eq ∙ ap (λ z. z ++ line) t.are ∙ append_assoc (table_of given) t.lines line)
             ∙ append_assoc (table_of given) (t.lines ++ line) f.0
             ∙ ap (λ z. table_of given ++ z) (append_assoc t.lines line f.0),
-        front_then was is is' t.lines line f.0 _ t.out out refl,
+        prefix_then was is is' t.lines line f.0 _ t.out out refl,
       )
 
 pub listed_to_all : {given entries : List Entry} {i : ℕ} {was is : Option (List ℕ)} {namer : Counts} {count : ℕ}
@@ -131,16 +131,16 @@ listed_to_all {entries} {i} l t =
     (t.lines, rw whole at t.are, t.out, rw whole at t.has_listed)
 
 -- the line from its parts
-pub row-is : (index size : ℕ) (entry : Entry) (target : Target) (front sent line line' line'' : List ℕ)
-    → front ≡ decimal index ++ 32 ∷ (target.base ++ 32 ∷ (place_word target.place ++ 32 ∷ (info target.name ++ 32 ∷ (decimal size ++ 32 ∷ []))))
-    → size ≡ length entry.body → line ≡ front → sent ≡ sender entry.from_line
+pub row-is : (index size : ℕ) (entry : Entry) (target : Target) (prefix sent line line' line'' : List ℕ)
+    → prefix ≡ decimal index ++ 32 ∷ (target.base ++ 32 ∷ (place_word target.place ++ 32 ∷ (info target.name ++ 32 ∷ (decimal size ++ 32 ∷ []))))
+    → size ≡ length entry.body → line ≡ prefix → sent ≡ sender entry.from_line
     → line' ≡ line ++ shown_sender sent → line'' ≡ line' ++ 10 ∷ [] → line'' ≡ message_row index entry target
 unfolding message_row
-row-is index size entry target front sent line line' line'' is_front is_size is_line is_sent is_more is_all =
-    rw (is_all, is_more, is_line, is_front, is_sent, is_size) (simp append_assoc)
+row-is index size entry target prefix sent line line' line'' is_prefix is_size is_line is_sent is_more is_all =
+    rw (is_all, is_more, is_line, is_prefix, is_sent, is_size) (simp append_assoc)
 
 pub lists_broken : {E : Type 0} (r : Result (Unit {0}) E) (given entries : List Entry) (was is : Option (List ℕ)) (P : Type 0) → IsErr r
-    → (lines : List ℕ) × (table_of (given ++ entries) ≡ table_of given ++ lines) × AppendsFront was is lines
+    → (lines : List ℕ) × (table_of (given ++ entries) ≡ table_of given ++ lines) × AppendsPrefix was is lines
     → (lines : List ℕ) × (table_of (given ++ entries) ≡ table_of given ++ lines) × Writes was is r lines × MatchResult r (λ _. P) (λ _. Unit {0})
 lists_broken (Ok x) given entries was is P e h = absurd (false≢true e)
 lists_broken (Err x) given entries was is P e h = (h.0, h.1, h.2, tt)

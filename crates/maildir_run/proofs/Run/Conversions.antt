@@ -3,12 +3,12 @@ use Rattle.std.proofs.Common.{◌≡◌, ℕ, ◌+◌, ◌-◌, ◌*◌, ◌<◌
 use Rattle.std.proofs.Common.{[], ◌∷◌, ◌++◌, length, Result, refl, sym, ap, ◌∙◌, arith, IsErrAnd, ◌⊎◌, inl}
 use Rattle.maildir_run.proofs.Common.{contains_key, length-map, Entry, Counts, Named, RunFault, NoFromLine, Report, BaseSet}
 use Rattle.maildir_run.proofs.Common.{Conversion, ReportsTasks, run_tasks, Seen, Performed, DeliversMessages, sweep_of}
-use Rattle.maildir_run.proofs.Common.{messages_after, delivery_of, delivery_if, deliveries_of, IsOfFolder, Message, IsFrontOf}
+use Rattle.maildir_run.proofs.Common.{messages_after, delivery_of, delivery_if, deliveries_of, IsOfFolder, Message, IsPrefixOf}
 use Rattle.maildir_run.proofs.Common.{SourceStopped, is_listed, IsReading, Task, Listings, listing_tasks, messages_of, bodies_of}
 use Rattle.std.proofs.lemmas.Result.{err_from_is_err_and}
 use Rattle.maildir_run.proofs.Run.Delivering.{delivers_then}
 use Rattle.maildir_run.proofs.Run.Batches.{all_messages}
-use Rattle.maildir_run.proofs.Source.Givens.{refused_front}
+use Rattle.maildir_run.proofs.Source.Givens.{refused_prefix}
 use Rattle.maildir_run.proofs.Chains.MessageLemmas.{length-messages_of}
 use Rattle.maildir_run.proofs.Source.PossibleMessages.{batch_bodies, batch_few}
 use Rattle.maildir_run.proofs.Tasks.Tasks.{ran_nothing, ran_then}
@@ -16,22 +16,22 @@ use Rattle.maildir_run.proofs.Tasks.Tasks.{ran_nothing, ran_then}
 -- ---- at a fault
 module _ (before now : Option (List ℕ)) (reads : ℕ) (old new : Seen) (r : Result Report RunFault) (fault : RunFault) (is : IsErrAnd r (λ e. e ≡ fault)) where
   pub stops : SourceStopped before now reads fault → IsReading fault ⊎ IsOfFolder fault → (fault ≡ NoFromLine → new.calls ≡ old.calls) → (given : List Entry)
-      → IsFrontOf before now reads given → (names : Listings) → length names.tmp < 2 ^ 64 → (begun made : ℕ) → begun ≡ 0
+      → IsPrefixOf before now reads given → (names : Listings) → length names.tmp < 2 ^ 64 → (begun made : ℕ) → begun ≡ 0
       → Performed (run_tasks names (messages_of (bodies_of given))) old new begun made (Some fault) → Conversion before now reads old new r
-  stops refused cause untouched given front names few begun made none ran = grind (arith, err_from_is_err_and r is)
+  stops refused cause untouched given prefix names few begun made none ran = grind (arith, err_from_is_err_and r is)
 
   -- the fault of a folder call, or of an allocation
-  pub stops_in_folder : IsOfFolder fault → (given : List Entry) → IsFrontOf before now reads given
+  pub stops_in_folder : IsOfFolder fault → (given : List Entry) → IsPrefixOf before now reads given
       → (names : Listings) → length names.tmp < 2 ^ 64 → (begun made : ℕ) → begun ≡ 0
       → Performed (run_tasks names (messages_of (bodies_of given))) old new begun made (Some fault) → Conversion before now reads old new r
-  stops_in_folder of given front = grind (arith)
+  stops_in_folder of given prefix = grind (arith)
 
 -- before anything was done
 pub stops_unread : {before now : Option (List ℕ)} {reads : ℕ} {s : Seen} {r : Result Report RunFault} {fault : RunFault}
     → IsErrAnd r (λ e. e ≡ fault) → IsReading fault → SourceStopped before now reads fault → Conversion before now reads s s r
 stops_unread {before} {now} {reads} {s} {r} {fault} is reading refused =
     let names : Listings = record { tmp = []; new = []; cur = [] } in
-    stops before now reads s s r fault is refused (inl reading) (λ e. refl) [] (refused_front refused) names (omega arith) 0 0 refl
+    stops before now reads s s r fault is refused (inl reading) (λ e. refl) [] (refused_prefix refused) names (omega arith) 0 0 refl
     (ran_nothing reading)
 
 -- ---- the set of bases tells what was listed

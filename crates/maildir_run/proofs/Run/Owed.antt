@@ -16,7 +16,7 @@ use Rattle.maildir_run.proofs.Names.Maps.{is_name-true}
 use Rattle.maildir_run.proofs.Chains.MessageLemmas.{text_named, text_distinct, text_targets, messages_distinct, messages_targets, length-messages_of}
 use Rattle.maildir_run.proofs.Call.Cuts.{left_as}
 use Rattle.maildir_run.proofs.Chains.Chains.{chain_delivered}
-use Rattle.maildir_run.proofs.Source.PossibleMessages.{stands_keeps, front_stands, whole_text, given_of, none_done}
+use Rattle.maildir_run.proofs.Source.PossibleMessages.{stands_keeps, prefix_stands, whole_text, given_of, none_done}
 use Rattle.maildir_run.proofs.Tasks.QuietRuns.{swept_exact, swept_free}
 use Rattle.maildir_run.proofs.Call.Steps.{leaves_trans}
 use Rattle.maildir_run.proofs.Call.FolderListings.{filter-length}
@@ -117,7 +117,7 @@ module _ (names : Listings) (ms : List Message) (distinct : AreDistinct ms) (are
   stands : (now : Files) → Stopped honestly (run_tasks names ms) start now → Sound ms start start → (fault : RunFault) → Keeps ms start (Err fault) now
   stands now h sound fault =
       let came = come_to fault now h sound.own in
-      stands_keeps (front_stands came.rest (λ k d lt. (are k d lt).named) distinct sound came.is came.progress)
+      stands_keeps (prefix_stands came.rest (λ k d lt. (are k d lt).named) distinct sound came.is came.progress)
 
   pub keeps : (now : Files) (r : Result Report RunFault) → Performs honestly (run_tasks names ms) start r now
       → IfOk r (ReportsTasks names ms) → Sound ms start start → Keeps ms start r now
@@ -128,7 +128,7 @@ module _ (names : Listings) (ms : List Message) (distinct : AreDistinct ms) (are
       let b = began one.0 two.0 one.1 two.1 in
       let look = known_by_listings one.1 in
       let end = all_progress start (is_listed names.new names.cur) look.knows ms distinct are sound.own [] ms two.0 now refl b.0 b.1 two.2 in
-      let s = front_stands [] (λ k d lt. (are k d lt).named) distinct sound (sym (append-nil ms)) end.0 in
+      let s = prefix_stands [] (λ k d lt. (are k d lt).named) distinct sound (sym (append-nil ms)) end.0 in
       let count = deliveries_count start (is_listed names.new names.cur) look.knows ms are in
       let messages = tells.messages in
       let placed = tells.placed in
@@ -176,8 +176,8 @@ both_ok (Err e) f p q = tt
 
 -- ---- with these messages of those that a text has, which are all with Ok
 module _ (names : Listings) (these more ms : List Message) (e : ms ≡ these ++ more) where
-  planned_front : planned_tasks names ms ≡ run_tasks names these ++ deliveries_of (is_listed names.new names.cur) more
-  planned_front =
+  planned_prefix : planned_tasks names ms ≡ run_tasks names these ++ deliveries_of (is_listed names.new names.cur) more
+  planned_prefix =
       let is_there = is_listed names.new names.cur in
       planned_are names ms ∙ ap (run_tasks names) e
       ∙ ap (λ ts. listing_tasks names ++ (sweep_of names.tmp ++ ts)) (flat_map-append (delivery_if is_there) these more)
@@ -187,7 +187,7 @@ module _ (names : Listings) (these more ms : List Message) (e : ms ≡ these ++ 
       → Performs w (run_tasks names these) start r now → Performs w (planned_tasks names ms) start r now
   planned_performs w still (Ok x) same start now h = subst (λ ts. AllDone w ts start now) (sym (planned_are names ms ∙ ap (run_tasks names) same)) h
   planned_performs w still (Err fault) same start now h =
-      subst (λ ts. Stopped w ts start now) (sym planned_front)
+      subst (λ ts. Stopped w ts start now) (sym planned_prefix)
       (stopped_before w still (run_tasks names these) (deliveries_of (is_listed names.new names.cur) more) start now h)
 
 -- the calls are those of the report
@@ -227,11 +227,11 @@ module _ {before after : Option (List ℕ)} {reads : ℕ} {start now : Seen} {r 
   bodies = bodies_of run.given
 
   few_bodies : length (bodies_of run.given) ≤ 2 ^ 63
-  few_bodies = omega (arith, run.front.few, run.front.budget, length-map run.given (λ (e : Entry). e.body))
+  few_bodies = omega (arith, run.prefix.few, run.prefix.budget, length-map run.given (λ (e : Entry). e.body))
 
   given_here : (t : List ℕ) (ms : List Message) → Possible before after t → MessagesOf t ms
       → (more : List Message) × (ms ≡ messages_of (bodies_of run.given) ++ more) × OnOk r (ms ≡ messages_of (bodies_of run.given))
-  given_here = given_of r run.front run.whole
+  given_here = given_of r run.prefix run.whole
 
   module _ (h : start.honest) (t : List ℕ) (ms : List Message) (p : Possible before after t) (of : MessagesOf t ms) where
     performs_here : Performs honestly (planned_tasks run.names ms) start.files r now.files
@@ -312,7 +312,7 @@ module _ {before after : Option (List ℕ)} {reads : ℕ} {start now : Seen} {r 
     cause = run.ran.cause;
     call_number = owes_numbers;
     end = owes_end;
-    budget = (run.front.text, run.front.read, run.front.budget);
+    budget = (run.prefix.text, run.prefix.read, run.prefix.budget);
     untouched = run.untouched;
     no_from_line = owes_unread;
     spent = owes_spent;

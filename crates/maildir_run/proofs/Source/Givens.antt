@@ -2,9 +2,9 @@
 use Rattle.std.proofs.Common.{◌≡◌, ℕ, ◌*◌, ◌<◌, ◌≤◌, Bool, true, false, Option, Some, Ok, List, [], ◌∷◌, ◌++◌, length, refl, sym, arith}
 use Rattle.std.proofs.Common.{◌∙◌, ap, arith, append_assoc, ◌==◌, eqb-true, eq-eqb, append-nil, length-append, inl, inr, suc, cond}
 use Rattle.maildir_run.proofs.Common.{Consumes, IsAtEnd, Consumes-trans, append_cancel_right, Entry, Splitter, mbox-one, RunFault, NoFromLine}
-use Rattle.maildir_run.proofs.Common.{Reader, Breaks, Went, IsFrontOf, Gave, IsGiven, SourceStopped, Possible, FromLines, Consumes-nil, ReadsAtMost}
+use Rattle.maildir_run.proofs.Common.{Reader, Breaks, Went, IsPrefixOf, Gave, IsGiven, SourceStopped, Possible, FromLines, Consumes-nil, ReadsAtMost}
 use Rattle.mbox_text.proofs.Reading.FirstGiven.{few_given, first_of, unread_none, mbox-length}
-use Rattle.mbox_text.proofs.FromLine.FromLines.{from_lines-before, from_lines-behind, mbox-from_lines}
+use Rattle.mbox_text.proofs.FromLine.FromLines.{from_lines-before, from_lines-after, mbox-from_lines}
 
 -- ---- what was read
 consumed : {before now : Option (List ℕ)} {had left : List ℕ} (text : List ℕ) → before ≡ Some had → now ≡ Some left
@@ -41,7 +41,7 @@ module _ {before mid : Option (List ℕ)} (now : Option (List ℕ)) (old : Reade
         spent = λ e. (p.text ++ b.0, read, omega (arith, spent, length-append p.text b.0, b.4 e));
         unreadable = λ e t entries q m.
             let never = (b.3 e p.text given p.fed).1 in
-            let is : t ≡ p.text ++ b.0 ++ q.more = rw (← read_is before now _ t read q) q.front in
+            let is : t ≡ p.text ++ b.0 ++ q.more = rw (← read_is before now _ t read q) q.prefix in
             never q.more q.left q.has q.whole entries (rw is at m);
       }
 
@@ -56,9 +56,9 @@ read_nothing source = ([], Consumes-nil source, omega arith)
 at_end_same : {text more left : List ℕ} {now : Option (List ℕ)} → IsAtEnd now → now ≡ Some left → (left ≡ [] → more ≡ []) → text ++ more ≡ text
 at_end_same {text} {left} end has whole = let none : left ≡ [] = rw has at end in rw (whole none) (append-nil text)
 
-pub given_front : (ended : Bool) (before now : Option (List ℕ)) (splitter : Splitter) (left reads : ℕ) (given : List Entry)
-    → IsGiven ended before now splitter left reads given → IsFrontOf before now reads given
-given_front false before now splitter left reads given p =
+pub given_prefix : (ended : Bool) (before now : Option (List ℕ)) (splitter : Splitter) (left reads : ℕ) (given : List Entry)
+    → IsGiven ended before now splitter left reads given → IsPrefixOf before now reads given
+given_prefix false before now splitter left reads given p =
     let within = p.budget in
     record {
       text = p.text;
@@ -68,7 +68,7 @@ given_front false before now splitter left reads given p =
       tells = λ more rest entries has whole m. first_of p.text more given entries p.fed.given_are m;
       none = λ more rest has whole none. unread_none p.text more given p.fed.given_are none;
     }
-given_front true before now splitter left reads given p = record {
+given_prefix true before now splitter left reads given p = record {
   text = p.text;
   read = p.read;
   budget = p.budget;
@@ -78,13 +78,13 @@ given_front true before now splitter left reads given p = record {
   none = λ more rest has whole none. absurd (none given (rw (at_end_same p.end has whole) p.all));
 }
 
-pub front_few : {before now : Option (List ℕ)} {reads : ℕ} {given : List Entry} → IsFrontOf before now reads given → length given ≤ 65536 * reads
-front_few front = omega (arith, front.few, front.budget)
+pub prefix_few : {before now : Option (List ℕ)} {reads : ℕ} {given : List Entry} → IsPrefixOf before now reads given → length given ≤ 65536 * reads
+prefix_few prefix = omega (arith, prefix.few, prefix.budget)
 
 -- a read failed after these messages
-pub broken_front : {before mid now : Option (List ℕ)} (old : Reader) {reads : ℕ} {given : List Entry} {fault : RunFault}
-    → Gave before mid old.splitter old.reads_left reads given → Breaks old mid now fault → IsFrontOf before now reads given
-broken_front {before} {mid} {now} old {given = given} p b =
+pub broken_prefix : {before mid now : Option (List ℕ)} (old : Reader) {reads : ℕ} {given : List Entry} {fault : RunFault}
+    → Gave before mid old.splitter old.reads_left reads given → Breaks old mid now fault → IsPrefixOf before now reads given
+broken_prefix {before} {mid} {now} old {given = given} p b =
     let within = p.budget in
     let few = few_given p.text given p.fed.given_are in
     record {
@@ -97,8 +97,8 @@ broken_front {before} {mid} {now} old {given = given} p b =
     }
 
 -- nothing was given before a read was refused
-pub refused_front : {before now : Option (List ℕ)} {reads : ℕ} {fault : RunFault} → SourceStopped before now reads fault → IsFrontOf before now reads []
-refused_front refused = grind (arith)
+pub refused_prefix : {before now : Option (List ℕ)} {reads : ℕ} {fault : RunFault} → SourceStopped before now reads fault → IsPrefixOf before now reads []
+refused_prefix refused = grind (arith)
 
 -- whether a list is empty, by its length
 pub none_whole : (items : List Entry) {n : ℕ} {b : Bool} → b ≡ (n == 0) → b ≡ true → n ≡ length items → items ≡ []
@@ -109,16 +109,16 @@ pub some_left : (items : List Entry) {n : ℕ} {b : Bool} → b ≡ (n == 0) →
 some_left [] {n} {b} is off e = let f = eq-eqb n 0 e in let g : b ≡ true = is ∙ f in cc
 some_left (x ∷ xs) is off e = omega arith
 
-none_behind : (given whole : List Entry) → given ++ whole ≡ [] → FromLines whole
-none_behind [] whole e = rw e tt
-none_behind (g ∷ given) whole e = absurd (cc)
+none_after : (given whole : List Entry) → given ++ whole ≡ [] → FromLines whole
+none_after [] whole e = rw e tt
+none_after (g ∷ given) whole e = absurd (cc)
 
 pub given-from_lines : (ended : Bool) (before now : Option (List ℕ)) (splitter : Splitter) (left reads : ℕ) (given whole : List Entry)
     → IsGiven ended before now splitter left reads (given ++ whole) → FromLines whole
-given-from_lines true before now splitter left reads given whole p = from_lines-behind given whole (mbox-from_lines p.text _ p.all)
+given-from_lines true before now splitter left reads given whole p = from_lines-after given whole (mbox-from_lines p.text _ p.all)
 given-from_lines false before now splitter left reads given whole p = elim p.fed.given_are [
-  | inl a ↦ from_lines-behind given whole (from_lines-before _ _ (mbox-from_lines p.text _ a.1.1))
-  | inr a ↦ none_behind given whole a.1
+  | inl a ↦ from_lines-after given whole (from_lines-before _ _ (mbox-from_lines p.text _ a.1.1))
+  | inr a ↦ none_after given whole a.1
 ]
 
 -- ---- one more read

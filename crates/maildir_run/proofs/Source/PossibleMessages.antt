@@ -2,7 +2,7 @@
 use Rattle.std.proofs.Common.{◌≡◌, ℕ, ◌+◌, ◌*◌, ◌≤◌, ◌^◌, Option, Result, Ok, Err, OnOk, List, [], ◌++◌}
 use Rattle.std.proofs.Common.{length, sym, ap, subst, ◌∙◌, inl, inr, arith, append-nil, length-append}
 use Rattle.maildir_run.proofs.Common.{map-append, length-map, All-nil, Entry, Mbox, mbox-one, RunFault, Files, Message, IsHome, AreNamed, AreDistinct}
-use Rattle.maildir_run.proofs.Common.{Sound, messages_of, bodies_of, MessagesOf, messages_after, Possible, Keeps, KeepsHomes, Progress, IsFrontOf, GaveAll}
+use Rattle.maildir_run.proofs.Common.{Sound, messages_of, bodies_of, MessagesOf, messages_after, Possible, Keeps, KeepsHomes, Progress, IsPrefixOf, GaveAll}
 use Rattle.maildir_run.proofs.Tasks.Progress.{KeptSoFar, progress_stands}
 use Rattle.maildir_run.proofs.Run.Batches.{after_these, no_messages}
 use Rattle.maildir_run.proofs.Source.Givens.{read_is}
@@ -14,9 +14,9 @@ pub stands_keeps : {ms : List Message} {start now : Files} {fault : RunFault} �
 stands_keeps s = record { sound = s.sound; still = s.still; in_order = s.in_order; ends = tt }
 
 -- messages of which the first are done
-pub front_stands : {ms done : List Message} (more : List Message) {start now : Files} → AreNamed ms → AreDistinct ms
+pub prefix_stands : {ms done : List Message} (more : List Message) {start now : Files} → AreNamed ms → AreDistinct ms
     → Sound ms start start → ms ≡ done ++ more → Progress done start now → KeptSoFar ms start now
-front_stands {done} more {start} {now} named distinct sound e p =
+prefix_stands {done} more {start} {now} named distinct sound e p =
     rw e (progress_stands done more start now (subst AreNamed e named) (subst AreDistinct e distinct) (rw e at sound) p)
 
 bodies_parts : (all rest : List Entry) → bodies_of (all ++ rest) ≡ bodies_of all ++ bodies_of rest
@@ -24,10 +24,10 @@ bodies_parts all rest = map-append (λ (e : Entry). e.body) all rest
 
 -- ---- the messages of each text that a source may have had
 -- those that were given are the first of them
-front_of_text : {before after : Option (List ℕ)} {reads : ℕ} {given : List Entry} → IsFrontOf before after reads given → {t : List ℕ} {ms : List Message}
+prefix_of_text : {before after : Option (List ℕ)} {reads : ℕ} {given : List Entry} → IsPrefixOf before after reads given → {t : List ℕ} {ms : List Message}
     → Possible before after t → MessagesOf t ms → (more : List Message) × (ms ≡ messages_of (bodies_of given) ++ more)
-front_of_text {before} {after} {given} f {t} p of =
-    let is : t ≡ f.text ++ p.more = rw (← read_is before after f.text t f.read p) p.front in
+prefix_of_text {before} {after} {given} f {t} p of =
+    let is : t ≡ f.text ++ p.more = rw (← read_is before after f.text t f.read p) p.prefix in
     elim of [
       | inl (entries, m, e) ↦
           let r = f.tells p.more p.left entries p.has p.whole (rw is at m) in (
@@ -46,7 +46,7 @@ pub whole_text : {before after : Option (List ℕ)} {reads : ℕ} {all : List En
     → GaveAll before after reads all → {t : List ℕ} → Possible before after t → Mbox t all
 whole_text {before} {after} gave {t} p =
     let at_end : p.left ≡ [] = rw p.has at gave.end in
-    let is : t ≡ gave.text = rw (← read_is before after _ t gave.read p) p.front ∙ ap (λ xs. gave.text ++ xs) (p.whole at_end) ∙ append-nil gave.text in
+    let is : t ≡ gave.text = rw (← read_is before after _ t gave.read p) p.prefix ∙ ap (λ xs. gave.text ++ xs) (p.whole at_end) ∙ append-nil gave.text in
     rw is gave.all
 
 pub whole_messages : (t : List ℕ) (all : List Entry) → Mbox t all → {ms : List Message} → MessagesOf t ms → ms ≡ messages_of (bodies_of all)
@@ -54,13 +54,13 @@ whole_messages t all whole (inl (entries, m, e)) = e ∙ ap (λ es. messages_of 
 whole_messages t all whole (inr (none, e)) = absurd (none all whole)
 
 -- the messages that were given, and those that were not; with Ok there are no others
-pub given_of : {A E : Type 0} (r : Result A E) {before after : Option (List ℕ)} {reads : ℕ} {given : List Entry} → IsFrontOf before after reads given
+pub given_of : {A E : Type 0} (r : Result A E) {before after : Option (List ℕ)} {reads : ℕ} {given : List Entry} → IsPrefixOf before after reads given
     → OnOk r (GaveAll before after reads given) → (t : List ℕ) (ms : List Message) → Possible before after t → MessagesOf t ms
     → (more : List Message) × (ms ≡ messages_of (bodies_of given) ++ more) × OnOk r (ms ≡ messages_of (bodies_of given))
-given_of (Ok x) {given} front whole t ms p of =
+given_of (Ok x) {given} prefix whole t ms p of =
     let same = whole_messages t given (whole_text whole p) of in
     ([], same ∙ sym (append-nil (messages_of (bodies_of given))), same)
-given_of (Err e) {before} {after} {reads} {given} front whole t ms p of = let f = front_of_text front p of in (f.0, f.1, tt)
+given_of (Err e) {before} {after} {reads} {given} prefix whole t ms p of = let f = prefix_of_text prefix p of in (f.0, f.1, tt)
 
 -- ---- a batch
 pub batch_bodies : (given : List Entry) {whole entries : List Entry} → entries ≡ whole → bodies_of given ++ bodies_of entries ≡ bodies_of (given ++ whole)

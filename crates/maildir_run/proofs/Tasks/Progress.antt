@@ -136,9 +136,9 @@ progress_or_more {done} {m} {old} {mid} {now} named apart was delivers p =
     ]
 
 -- ---- messages that were done
-pub apart_front : (done : List Message) (m : Message) (later : List Message)
+pub apart_prefix : (done : List Message) (m : Message) (later : List Message)
     → AreDistinct (done ++ m ∷ later) → All (λ n. IsFalse (is_name m.target.base n.target.base)) done
-apart_front done m later distinct =
+apart_prefix done m later distinct =
     All-from_get_or (λ n. IsFalse (is_name m.target.base n.target.base)) done m (λ i lt.
     let h : IsFalse (is_name (get_or (done ++ m ∷ later) i m).target.base (get_or (done ++ m ∷ later) (length done) m).target.base) =
     distinct i (length done) m lt (omega (arith, length-append done (m ∷ later))) in

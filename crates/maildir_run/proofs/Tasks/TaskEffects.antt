@@ -9,7 +9,7 @@ use Rattle.maildir_run.proofs.Common.{Progress, Knows, IsTarget, KeepsForeign, T
 use Rattle.maildir_run.proofs.Common.{Stopped, Listings, listing_tasks, DoneUntil, sweep_of, delivery_of, delivery_if, deliveries_of}
 use Rattle.maildir_run.specs.Tasks.{TaskRefused}
 use Rattle.maildir_run.proofs.Names.Maps.{is_name-true}
-use Rattle.maildir_run.proofs.Tasks.Progress.{progress_home, progress_delivered, progress_or_more, apart_front, still_missing, still_there}
+use Rattle.maildir_run.proofs.Tasks.Progress.{progress_home, progress_delivered, progress_or_more, apart_prefix, still_missing, still_there}
 use Rattle.maildir_run.proofs.Tasks.QuietRuns.{OfConverter, others_same, foreign_then, effect_others, own_others, delivers_exact, step_tmp}
 use Rattle.maildir_run.proofs.Call.Homes.{none_of, home_known}
 use Rattle.maildir_run.proofs.Call.Steps.{ok_moves, called_kept, write_delivers, write_ok, place_delivers, place_home}
@@ -168,7 +168,7 @@ module _ (start : Files) (is_there : List ℕ → Bool) (knows : Knows is_there 
     at P holds done ms m e = subst P (get_or-append_seam done m ms m) (subst (All P) e holds (length done) m (omega (arith, length-append done (m ∷ ms))))
 
     apart : (done ms : List Message) (m : Message) → all ≡ done ++ m ∷ ms → All (λ n. IsFalse (is_name m.target.base n.target.base)) done
-    apart done ms m e = apart_front done m ms (subst AreDistinct e distinct)
+    apart done ms m e = apart_prefix done m ms (subst AreDistinct e distinct)
 
     done_named : (done ms : List Message) → all ≡ done ++ ms → AreNamed done
     done_named done ms e = λ k d h.

@@ -32,7 +32,7 @@ IsGiven false before now splitter left reads given = Gave before now splitter le
 IsGiven true before now splitter left reads given = GaveAll before now reads given
 
 -- this text was read, and these messages are the first of each text that may begin so; one that has none begins with none
-pub record IsFrontOf (before now : Option (List ℕ)) (reads : ℕ) (given : List Entry) : Type 0 where
+pub record IsPrefixOf (before now : Option (List ℕ)) (reads : ℕ) (given : List Entry) : Type 0 where
   pub text : List ℕ
   pub read : Consumes before now text
   pub budget : length text ≤ 65536 * reads

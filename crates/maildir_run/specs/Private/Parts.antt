@@ -16,7 +16,7 @@ use Rattle.maildir_run.specs.Counting.{GoesUpWith, HasCallNumber, IsOfFolder, fa
 use Rattle.maildir_run.specs.Cuts.{Follows}
 use Rattle.maildir_run.specs.Delivery.{Message}
 use Rattle.maildir_run.specs.Seen.{Seen}
-use Rattle.maildir_run.specs.Private.Given.{IsFrontOf, GaveAll, SourceStopped}
+use Rattle.maildir_run.specs.Private.Given.{IsPrefixOf, GaveAll, SourceStopped}
 use Rattle.maildir_run.specs.Plan.{is_listed}
 use Rattle.maildir_run.specs.Private.Progress.{message_at}
 use Rattle.maildir_run.specs.Reading.{IsReading}
@@ -73,7 +73,7 @@ pub record ReportsTasks (names : Listings) (ms : List Message) (report : Report)
 -- A run was given these first messages of its source, all of them with Ok, and performed the tasks of a run over them: all with Ok, else a prefix.
 pub record Conversion (before now : Option (List ℕ)) (reads : ℕ) (old new : Seen) (result : Result Report RunFault) : Type 0 where
   pub given : List Entry
-  pub front : IsFrontOf before now reads given
+  pub prefix : IsPrefixOf before now reads given
   pub whole : OnOk result (GaveAll before now reads given)
   pub refused : IfErr result (SourceStopped before now reads)
   pub untouched : IsErrOf result NoFromLine → new.calls ≡ old.calls

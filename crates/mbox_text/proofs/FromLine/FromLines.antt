@@ -33,9 +33,9 @@ unfolding Mbox
 mbox-from_lines text [] h = tt
 mbox-from_lines text (e ∷ es) h = (block-from_line h.3, mbox-from_lines h.1 es h.5)
 
-pub from_lines-behind : (prefix after : List Entry) → FromLines (prefix ++ after) → FromLines after
-from_lines-behind [] after h = h
-from_lines-behind (e ∷ prefix) after h = from_lines-behind prefix after h.1
+pub from_lines-after : (prefix after : List Entry) → FromLines (prefix ++ after) → FromLines after
+from_lines-after [] after h = h
+from_lines-after (e ∷ prefix) after h = from_lines-after prefix after h.1
 
 pub from_lines-before : (prefix after : List Entry) → FromLines (prefix ++ after) → FromLines prefix
 from_lines-before [] after h = tt

@@ -3,7 +3,7 @@ use Rattle.std.proofs.Common.{◌≡◌, ℕ, true, eqb, List, [], ◌∷◌, �
 use Rattle.std.proofs.lemmas.Bool.{both_ways, cases_Bool, eqb-true}
 use Rattle.mbox_text.specs.declared.entry.Entry.{Entry}
 use Rattle.mbox_text.specs.Quoting.{unquoted, begins_with, begins_from, from_bytes}
-use Rattle.mbox_text.specs.Fronts.{AllButLast, NeverFrom}
+use Rattle.mbox_text.specs.Prefixes.{AllButLast, NeverFrom}
 use Rattle.mbox_text.specs.Mbox.{Mbox, IsMboxText}
 use Rattle.mbox_text.specs.Private.Moved.{chopped}
 use Rattle.mbox_text.specs.Held.{AtHead, InBody, Closed}

@@ -3,7 +3,7 @@ use Rattle.std.proofs.Common.{ℕ, ◌<◌, ◌≤◌, List, [], ◌∷◌, leng
 use Rattle.mbox_text.specs.declared.entry.Entry.{Entry}
 use Rattle.mbox_text.specs.Mbox.{Block, Mbox, IsUnreadable}
 use Rattle.mbox_text.specs.Lines.{lines}
-use Rattle.mbox_text.specs.Fronts.{AllButLast}
+use Rattle.mbox_text.specs.Prefixes.{AllButLast}
 use Rattle.mbox_text.proofs.TextLines.LineLemmas.{begins_from-more}
 use Rattle.mbox_text.proofs.Reading.Existence.{read_where}
 use Rattle.mbox_text.proofs.Splitting.Giving.{all_stay}

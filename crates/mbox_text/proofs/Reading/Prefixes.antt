@@ -3,7 +3,7 @@ use Rattle.std.proofs.Common.{◌≡◌, ℕ, true, List, [], ◌∷◌, ◌++�
 use Rattle.mbox_text.specs.declared.entry.Entry.{Entry}
 use Rattle.mbox_text.specs.Lines.{lines, Ended}
 use Rattle.mbox_text.specs.Quoting.{begins_from}
-use Rattle.mbox_text.specs.Fronts.{IsProperPrefix}
+use Rattle.mbox_text.specs.Prefixes.{IsProperPrefix}
 use Rattle.mbox_text.specs.Mbox.{Block, Mbox}
 use Rattle.mbox_text.specs.Held.{Closed}
 use Rattle.mbox_text.proofs.TextLines.LineLemmas.{lines-append, begins_from-more}

@@ -3,7 +3,7 @@ use Rattle.std.proofs.Common.{◌≡◌, ℕ, true, List, [], ◌++◌, length, 
 use Rattle.std.proofs.lemmas.Bool.{both_ways}
 use Rattle.mbox_text.specs.declared.entry.Entry.{Entry}
 use Rattle.mbox_text.specs.Mbox.{IsUnreadable}
-use Rattle.mbox_text.specs.Fronts.{AllButLast, NeverFrom}
+use Rattle.mbox_text.specs.Prefixes.{AllButLast, NeverFrom}
 use Rattle.mbox_text.specs.Fed.{IsTooShort}
 use Rattle.mbox_text.specs.Quoting.{begins_from, begins_with, from_bytes}
 use Rattle.mbox_text.proofs.TextLines.LineLemmas.{begins_from-more}

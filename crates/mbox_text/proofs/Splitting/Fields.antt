@@ -8,7 +8,7 @@ use Rattle.mbox_text.specs.declared.entry.Entry.{Entry}
 use Rattle.mbox_text.specs.declared.partial_message.PartialMessage.{PartialMessage}
 use Rattle.mbox_text.specs.Lines.{lines, Ended, NoEnd}
 use Rattle.mbox_text.specs.Quoting.{unquoted, begins_from, begins_with, from_bytes}
-use Rattle.mbox_text.specs.Fronts.{NeverFrom}
+use Rattle.mbox_text.specs.Prefixes.{NeverFrom}
 use Rattle.mbox_text.specs.Mbox.{NoFrom}
 use Rattle.mbox_text.specs.Private.Moved.{chopped}
 use Rattle.mbox_text.specs.Held.{AtHead, InBody, Held, Closed}

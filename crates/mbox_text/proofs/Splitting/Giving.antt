@@ -9,8 +9,8 @@ use Rattle.mbox_text.specs.declared.fault.TextFault.{TextFault}
 use Rattle.mbox_text.specs.declared.fault.TextFault.TheVariants.{NoFromLine, LineEndInRest, Failed, OutOfMemory, WriteFault}
 use Rattle.mbox_text.specs.declared.splitter.Splitter.{Splitter}
 use Rattle.mbox_text.specs.Quoting.{begins_from, from_bytes}
-use Rattle.mbox_text.specs.Fronts.{AllButLast, NeverFrom}
-use Rattle.mbox_text.specs.Private.Fronts.{Stay}
+use Rattle.mbox_text.specs.Prefixes.{AllButLast, NeverFrom}
+use Rattle.mbox_text.specs.Private.Prefixes.{Stay}
 use Rattle.mbox_text.specs.Mbox.{Mbox, without_blank}
 use Rattle.mbox_text.specs.Held.{Held, HeldIn}
 use Rattle.mbox_text.specs.Private.Moved.{Moves, Gives, Refuses, Stops}

@@ -11,10 +11,10 @@ use Rattle.mbox_text.specs.Lines.{lines, Ended}
 use Rattle.mbox_text.specs.Private.Lines.{IsLine, NoneQuotable, FirstQuotable}
 use Rattle.mbox_text.specs.Quoting.{quotable, quoted}
 use Rattle.mbox_text.specs.Spelling.{missing_end}
-use Rattle.mbox_text.specs.Writing.{AppendsFront, Writes}
+use Rattle.mbox_text.specs.Writing.{AppendsPrefix, Writes}
 use Rattle.mbox_text.proofs.TextLines.LineLemmas.{lines-append, concat-lines, quotable-cut, missing-ended, missing-part}
 use Rattle.mbox_text.proofs.Splitting.HeldLemmas.{Ended-append}
-use Rattle.mbox_text.proofs.Written.Appended.{front_then, wrote}
+use Rattle.mbox_text.proofs.Written.Appended.{prefix_then, wrote}
 
 quotable-ended : {a : List ℕ} (x : List ℕ) → Ended a → 0 < length a → quotable (a ++ x) ≡ quotable a
 quotable-ended x (inl e) l = absurd (omega (arith, ap length e))
@@ -112,12 +112,12 @@ written_line {body} {new} at {n} {len} w found line h =
 
 pub written_prefix : {body : List ℕ} {old mid : Option (List ℕ)} (new : Option (List ℕ)) {at n : ℕ} {bytes : List ℕ}
     → WrittenTo body old mid at → Part (drop at body) n bytes
-    → AppendsFront mid new bytes → AppendsFront old new (flat_map quoted (lines body))
+    → AppendsPrefix mid new bytes → AppendsPrefix old new (flat_map quoted (lines body))
 written_prefix {body} {old} {mid} new {at} {n} {bytes} w p h =
     let D = drop at body in
     let F = flat_map quoted (lines (take at body)) in
     let R = flat_map quoted (lines (drop n D)) in
-    front_then old mid new F bytes R _ w.written h
+    prefix_then old mid new F bytes R _ w.written h
     (split-at body w.ends ∙ ap (λ z. F ++ z) (split-at D p.ends ∙ ap (λ z. z ++ R) p.is))
 
 -- the lines after the last quotable one

@@ -4,7 +4,7 @@ use Rattle.mbox_text.specs.declared.entry.Entry.{Entry}
 use Rattle.mbox_text.specs.declared.fault.TextFault.{TextFault}
 use Rattle.mbox_text.specs.declared.fault.TextFault.TheVariants.{NoFromLine, OutOfMemory}
 use Rattle.mbox_text.specs.declared.splitter.Splitter.{Splitter}
-use Rattle.mbox_text.specs.Fronts.{NeverFrom}
+use Rattle.mbox_text.specs.Prefixes.{NeverFrom}
 use Rattle.mbox_text.specs.Held.{HeldIn}
 
 -- the text without its last line if that is `\n` alone; the flag says whether the text starts at the beginning of a line

@@ -20,7 +20,7 @@ fn memory_folder_again(rt: HostRuntime) {
     );
 }
 
-// Whether a file of `tmp` is set; where a growth was refused, all is as before.
+// Whether a file of `tmp` is set; where an allocation was refused, all is as before.
 fn is_put(
     alloc: Global,
     folder: &mut MemFolder,

@@ -44,8 +44,8 @@ fn split_all_again(rt: HostRuntime) {
     assert!(rt; splitting::is_refused(rt.alloc(), b"Subject: x\n"));
 }
 
-// Whether the messages come by pieces of this size. `OutOfMemory` says that a growth was refused, that a splitter which
-// was refused answers `Failed` then, and that a front of the messages came.
+// Whether the messages come by pieces of this size. `OutOfMemory` says that an allocation was refused, that a splitter which
+// was refused answers `Failed` then, and that a prefix of the messages came.
 fn comes(alloc: Global, text: &[u8], size: usize, want: &[Message<'_>]) -> Result<bool, TextFault>
     requires { 0 < size }
 {
@@ -67,7 +67,7 @@ fn comes(alloc: Global, text: &[u8], size: usize, want: &[Message<'_>]) -> Resul
     Ok(fed.is_ok() && end.is_ok() && are(&out, want))
 }
 
-// Whether the messages come, and once more where a growth was refused.
+// Whether the messages come, and once more where an allocation was refused.
 fn comes_again(alloc: Global, text: &[u8], size: usize, want: &[Message<'_>]) -> bool
     requires { 0 < size }
 {

@@ -24,6 +24,6 @@ returns g c = record {
     keeps = c.store.ensures.keeps;
     printed = record { report = c.in_ok-report.report; line = c.in_ok-print_report.ensures.printed; said = c.in_ok-report.ensures.stored };
     stopped = tt;
-    front = tt;
+    prefix = tt;
   };
 }

@@ -3,14 +3,14 @@ use Rattle.std.proofs.lemmas.List.{length-map}
 use Rattle.std.specs.Io.Buffered.{writer_contents}
 use Rattle.maildir_run.proofs.Tasks.QuietRuns.{foreign_then}
 use Rattle.maildir_commands.specs.Report.{PrintsReports}
-use Rattle.maildir_commands.proofs.Causes.{delivered_file, holds_behind, holds_first, of_fault, refused_file}
+use Rattle.maildir_commands.proofs.Causes.{delivered_file, holds_after, holds_first, of_fault, refused_file}
 use Rattle.maildir_commands.proofs.Delivered.{all_delivered, more_delivered, stopped_delivered, then_delivered}
 use Rattle.maildir_commands.proofs.Forms.{of_names}
 use Rattle.maildir_commands.proofs.Output.{no_value}
 use Rattle.maildir_commands.proofs.Resting.{opens_none, opens_then}
 use Rattle.maildir_commands.proofs.Reports.{more_reports, one_report}
 use Rattle.maildir_commands.proofs.Delivering.{one_of}
-use Rattle.maildir_commands.proofs.Several.{behind_length, first_text, no_text, none_printed, possible_whole, sound_of, text_behind, text_read}
+use Rattle.maildir_commands.proofs.Several.{after_length, first_text, no_text, none_printed, possible_whole, sound_of, text_after, text_read}
 use Rattle.maildir_commands.proofs.sources.deliver_each.Goals as goal
 
 -- the first text is not delivered
@@ -28,7 +28,7 @@ returns-in_err-deliver_one g c =
         honest = λ h s. no_value c.from_residual.result _ c.from_residual.ensures.0;
         delivers = λ h s texts text is names fit sound.
             let are = of_names (g.M.Machine.at c.args.machine.now).text_of string_bytes c.args.rest.now names in
-            let inside : 0 < length texts = omega (arith, behind_length texts text _ _ are) in
+            let inside : 0 < length texts = omega (arith, after_length texts text _ _ are) in
             let possible = possible_whole _ _ (is ∙ first_text texts text _ _ are) c.deliver_one.ensures.does.keeps.budget in
             then_delivered texts fit _ c.from_residual.result _ 0 no_text _ _ _ _ _ c.from_residual.ensures.0 inside (none_printed sound)
             (one_of s (get_or texts 0 no_text) (fit.are 0 no_text inside) possible (sound_of no_text inside sound) c.in_err-deliver_one.ensures.does);
@@ -43,7 +43,7 @@ loop-path-init g c = (
   λ h s. c.in_ok-deliver_one.ensures.does.printed.said.honest s,
   λ h s texts text is names fit sound.
       let are = of_names (g.M.Machine.at c.args.machine.now).text_of string_bytes c.args.rest.now names in
-      let inside : 0 < length texts = omega (arith, behind_length texts text _ _ are) in
+      let inside : 0 < length texts = omega (arith, after_length texts text _ _ are) in
       let first = get_or texts 0 no_text in
       let possible = possible_whole _ _ (is ∙ first_text texts text _ _ are) c.deliver_one.ensures.does.keeps.budget in
       let one = sound_of no_text inside sound in
@@ -69,8 +69,8 @@ loop-path-preserved g c =
           let are = of_names (g.M.Machine.at c.args.machine.now).text_of string_bytes c.args.rest.now names in
           let now = kept.2 h s in
           let below : i < length c.args.rest.now = c.loop-path-test.true in
-          let many = behind_length texts text _ _ are in
-          let at = text_behind texts text _ _ are i c.path-item.result below in
+          let many = after_length texts text _ _ are in
+          let at = text_after texts text _ _ are i c.path-item.result below in
           let inside : i + 1 < length texts = omega (arith, many, below) in
           let this = text_read (c.in_ok-source.ensures.opens.text (kept.1.honest h)) (kept.1.texts h) c.as_str.ensures.value
           ∙ ap (λ file. Some ((g.M.Machine.at c.args.machine.now).text_of (string_bytes file))) c.path-item.is ∙ ap Some at in
@@ -96,7 +96,7 @@ returns-in_err-source g c =
         cause = λ h name is.
             of_fault _ _ c.from_residual-in_err-source.ensures.1
             (refused_file (g.M.Machine.at c.args.machine.now) name _ (string_bytes c.path-item.result)
-            (holds_behind string_bytes _ c.loop-path-test.true (sym c.path-item.is)) _ c.in_err-source.ensures.causes
+            (holds_after string_bytes _ c.loop-path-test.true (sym c.path-item.is)) _ c.in_err-source.ensures.causes
             (λ e. kept.1.refusals h _
             (subst (g.M.Machine.at c.loop-path.machine).refuses_source c.as_str.ensures.value (c.in_err-source.ensures.opens.refused (kept.1.honest h) e))));
         foreign = λ q. (kept.4 q).1;
@@ -119,7 +119,7 @@ returns-in_err-deliver_one-2 g c =
             let reads = text_read (c.in_ok-source.ensures.opens.text (kept.1.honest h)) (kept.1.texts h) c.as_str.ensures.value in
             of_fault _ _ c.from_residual-in_err-deliver_one-2.ensures.1
             (delivered_file (g.M.Machine.at c.args.machine.now) name _ _ _ _
-            (string_bytes c.path-item.result) (holds_behind string_bytes _ c.loop-path-test.true (sym c.path-item.is)) reads
+            (string_bytes c.path-item.result) (holds_after string_bytes _ c.loop-path-test.true (sym c.path-item.is)) reads
             c.deliver_one-in-loop-path.ensures.does.keeps.budget _ c.in_err-deliver_one-2.ensures.does.stopped.cause);
         foreign = λ q.
             let so_far = kept.4 q in
@@ -130,8 +130,8 @@ returns-in_err-deliver_one-2 g c =
             let are = of_names (g.M.Machine.at c.args.machine.now).text_of string_bytes c.args.rest.now names in
             let i = c.loop-path.path-index in
             let below : i < length c.args.rest.now = c.loop-path-test.true in
-            let many = behind_length texts text _ _ are in
-            let at = text_behind texts text _ _ are i c.path-item.result below in
+            let many = after_length texts text _ _ are in
+            let at = text_after texts text _ _ are i c.path-item.result below in
             let inside : i + 1 < length texts = omega (arith, many, below) in
             let this = text_read (c.in_ok-source.ensures.opens.text (kept.1.honest h)) (kept.1.texts h) c.as_str.ensures.value
             ∙ ap (λ file. Some ((g.M.Machine.at c.args.machine.now).text_of (string_bytes file))) c.path-item.is ∙ ap Some at in
@@ -159,6 +159,6 @@ returns g c =
         delivers = λ h s texts text is names fit sound.
             let are = of_names (g.M.Machine.at c.args.machine.now).text_of string_bytes c.args.rest.now names in
             all_delivered texts fit _ _ (c.loop-path.path-index + 1) _ _ _ (omega arith)
-            (omega (arith, behind_length texts text _ _ are, c.loop-path-test.false)) (kept.3 h s texts text is names fit sound);
+            (omega (arith, after_length texts text _ _ are, c.loop-path-test.false)) (kept.3 h s texts text is names fit sound);
       };
     }

@@ -27,7 +27,7 @@ change now later stamp le young near =
       time = max now (min stamp later);
       no_earlier = omega arith;
       no_later = omega (arith, le);
-      less_behind = omega (arith, young, some);
+      less_after = omega (arith, young, some);
       less_ahead = omega (arith, near, some, le);
     }
 

@@ -2,7 +2,7 @@ use Rattle.std.proofs.Common.{rules, [], ◌++◌, refl, ◌∙◌, inl}
 use Rattle.maildir_run.proofs.Common.{bodies_of}
 use Rattle.maildir_run.proofs.Run.Delivering.{delivers_none}
 use Rattle.maildir_run.proofs.Run.Conversions.{stops, stops_in_folder, stops_unread, all_ran, tells_listed, one_batch, report_tells}
-use Rattle.maildir_run.proofs.Source.Givens.{went_down, gave_more, gave_refused, given_front, front_few, broken_front, never_again}
+use Rattle.maildir_run.proofs.Source.Givens.{went_down, gave_more, gave_refused, given_prefix, prefix_few, broken_prefix, never_again}
 use Rattle.maildir_run.proofs.Run.Batches.{batch_fits, batch_count, batch_begun}
 use Rattle.maildir_run.proofs.Tasks.Tasks.{ran_then, ran_before, ran_stop}
 use Rattle.maildir_run.proofs.converting.deliver_all.Goals as goal
@@ -18,7 +18,7 @@ returns-in_err-listings g c =
     let begins = c.in_ok-ended.ensures.begins in
     let look = c.in_err-listings.ensures.ran in
     stops_in_folder _ _ _ _ _ _ _ is c.in_err-listings.ensures.causes _
-    (given_front _ _ _ _ _ _ _ begins.gave) look.0 look.1 _ _ c.new-calls.ensures
+    (given_prefix _ _ _ _ _ _ _ begins.gave) look.0 look.1 _ _ c.new-calls.ensures
     (ran_before _ look.2)
 
 pub returns-in_err-engine : goal.returns-in_err-engine
@@ -28,7 +28,7 @@ returns-in_err-engine g c =
     let look = c.in_ok-listings.ensures.ran in
     let sweep = rw look.3.0 at c.in_err-engine.ensures.ran.1 in
     stops_in_folder _ _ _ _ _ _ _ is c.in_err-engine.ensures.causes _
-    (given_front _ _ _ _ _ _ _ begins.gave) look.0 look.1 _ _ c.new-calls.ensures
+    (given_prefix _ _ _ _ _ _ _ begins.gave) look.0 look.1 _ _ c.new-calls.ensures
     (ran_then look.2 (ran_before _ sweep))
 
 pub pieces-init : goal.pieces-init
@@ -47,7 +47,7 @@ pieces-init g c =
 pub deliver_entries-requires : goal.deliver_entries-requires
 deliver_entries-requires g c =
     let i = c.pieces.invariant in
-    let few = front_few (given_front _ _ _ _ _ _ _ i.gave) in
+    let few = prefix_few (given_prefix _ _ _ _ _ _ _ i.gave) in
     batch_fits i.given i.count few c.requires.few c.deref.ensures.value
 
 pub pieces-preserved : goal.pieces-preserved
@@ -56,7 +56,7 @@ pieces-preserved g c =
     let whole = c.pieces.whole.items in
     let entries = c.deref.result.now in
     let is = c.deref.ensures.value in
-    let few = front_few (given_front _ _ _ _ _ _ _ i.gave) in
+    let few = prefix_few (given_prefix _ _ _ _ _ _ _ i.gave) in
     record {
       given = i.given ++ whole;
       gave =
@@ -76,12 +76,12 @@ returns-in_err-deliver_entries g c =
     let given = i.given ++ c.pieces.whole.items in
     let look = c.in_ok-listings.ensures.ran in
     let begin = c.in_ok-engine.ensures.ran in
-    let front = given_front _ _ _ _ _ _ given i.gave in
-    let few = front_few front in
+    let prefix = given_prefix _ _ _ _ _ _ given i.gave in
+    let few = prefix_few prefix in
     let listed = tells_listed _ _ _ look.0 (bodies_of given) c.in_ok-engine.ensures.there look.3.1 look.3.2 in
     let delivers = one_batch i.given _ _ _ i.there
     c.deref.ensures.value few c.requires.few i.delivers c.in_err-deliver_entries.ensures.delivers in
-    stops_in_folder _ _ _ _ _ _ _ is c.in_err-deliver_entries.ensures.causes given front look.0 look.1 _ _ refl
+    stops_in_folder _ _ _ _ _ _ _ is c.in_err-deliver_entries.ensures.causes given prefix look.0 look.1 _ _ refl
     (all_ran look.0 _ c.new-calls.ensures look.3.0 begin.2 listed look.2 begin.1 delivers.ran)
 
 pub returns-in_err-ended-2 : goal.returns-in_err-ended-2
@@ -92,8 +92,8 @@ returns-in_err-ended-2 g c =
     let given = i.given ++ c.pieces.whole.items in
     let look = c.in_ok-listings.ensures.ran in
     let begin = c.in_ok-engine.ensures.ran in
-    let front = given_front _ _ _ _ _ _ given i.gave in
-    let few = front_few front in
+    let prefix = given_prefix _ _ _ _ _ _ given i.gave in
+    let few = prefix_few prefix in
     let listed = tells_listed _ _ _ look.0 (bodies_of given) c.in_ok-engine.ensures.there look.3.1 look.3.2 in
     let delivers = one_batch i.given _ _ _ i.there
     c.deref.ensures.value few c.requires.few i.delivers c.in_ok-deliver_entries.ensures.delivers in
@@ -101,7 +101,7 @@ returns-in_err-ended-2 g c =
     let went = c.in_err-ended-2.ensures.went in
     stops _ _ _ _ _ _ fault is (gave_refused _ c.pieces.reader fault gave went)
     (inl c.in_err-ended-2.ensures.causes) (λ e. absurd (never_again _ c.pieces.reader fault gave (i.begun c.if-ended.false) went e))
-    given (broken_front c.pieces.reader gave went) look.0 look.1 _ _ refl
+    given (broken_prefix c.pieces.reader gave went) look.0 look.1 _ _ refl
     (ran_stop c.in_err-ended-2.ensures.causes (all_ran look.0 _ c.new-calls.ensures look.3.0 begin.2 listed look.2 begin.1 delivers.ran))
 
 pub returns-then-ended : goal.returns-then-ended
@@ -112,8 +112,8 @@ returns-then-ended g c =
     let look = c.in_ok-listings.ensures.ran in
     let begin = c.in_ok-engine.ensures.ran in
     let counts = c.in_ok-engine.ensures.counts in
-    let front = given_front _ _ _ _ _ _ given i.gave in
-    let few = front_few front in
+    let prefix = given_prefix _ _ _ _ _ _ given i.gave in
+    let few = prefix_few prefix in
     let listed = tells_listed _ _ _ look.0 (bodies_of given) c.in_ok-engine.ensures.there look.3.1 look.3.2 in
     let delivers = one_batch i.given _ entries _ i.there
     c.deref.ensures.value few c.requires.few i.delivers c.in_ok-deliver_entries.ensures.delivers in
@@ -121,7 +121,7 @@ returns-then-ended g c =
     _ entries i.count c.in_ok-deliver_entries.ensures.all c.deref.ensures.value in
     record {
       given = given;
-      front = front;
+      prefix = prefix;
       whole = rw c.if-ended.true at i.gave;
       refused = tt;
       untouched = λ e. absurd (cc);

@@ -20,7 +20,7 @@ returns-in_err-write_entries g c =
     writing_failed _ c.from_residual-in_err-write_entries.ensures.1 (inl c.in_err-write_entries.ensures.causes)
     (batch_broken b _ (flat_map spelling c.deref.result.now) flat_output
     (flat_more c.pieces.invariant.0 c.deref.ensures.value) c.in_err-write_entries.ensures.written)
-    (b.front.text, b.front.read, b.front.budget)
+    (b.prefix.text, b.prefix.read, b.prefix.budget)
 
 pub overflow_add-count : goal.overflow_add-count
 overflow_add-count g c =
@@ -39,7 +39,7 @@ returns-then-ended g c =
     let all = poured_all _ _ c.pieces.reader c.read.new.self.splitter c.read.new.self.reads_left c.read.new.out.items (flat_map spelling c.deref.result.now)
     p (flat_more c.pieces.invariant.0 c.deref.ensures.value) c.in_ok-write_entries.ensures.written went in
     let len : c.len.result ≡ length c.read.new.out.items = omega (arith, c.len.ensures, c.read.new.out.ok.0) in
-    all_written (rw len all) went.2 (b.front.text, b.front.read, b.front.budget)
+    all_written (rw len all) went.2 (b.prefix.text, b.prefix.read, b.prefix.budget)
 
 pub pieces-preserved : goal.pieces-preserved
 pieces-preserved g c =

@@ -6,7 +6,7 @@ use Rattle.maildir_run.proofs.row.row_of.Goals as goal
 pub returns : goal.returns
 returns c =
     row-is _ _ _ _ _ _
-    _ _ _ c.in_ok-front.ensures
+    _ _ _ c.in_ok-prefix.ensures
     (ap length c.as_slice.ensures) (c.in_ok-row.ensures.items ∙ c.as_bytes.ensures.value)
     (c.sender_of.ensures ∙ ap sender c.as_slice-2.ensures) c.in_ok-add_sender.ensures
     c.in_ok-push.ensures.items

@@ -37,7 +37,7 @@ returns-in_err-list g c =
     let fit = names_fit b c.requires in
     let s = rw c.deref.ensures.value at (c.in_err-list.ensures.lists given c.pieces.invariant.2 (rw c.deref.ensures.value fit)) in
     writing_failed _ c.from_residual-in_err-list.ensures.1 c.in_err-list.ensures.causes
-    (batch_broken b _ s.0 listing_output s.1 s.2) (b.front.text, b.front.read, b.front.budget)
+    (batch_broken b _ s.0 listing_output s.1 s.2) (b.prefix.text, b.prefix.read, b.prefix.budget)
 
 pub returns-then-ended : goal.returns-then-ended
 returns-then-ended g c =
@@ -50,7 +50,7 @@ returns-then-ended g c =
     let all = poured_all _ _ c.pieces.reader c.read.new.self.splitter c.read.new.self.reads_left c.read.new.out.items s.0 c.pieces.invariant.1 s.1 s.2 went in
     let count : c.list.new.self.count ≡ c.pieces.lister.count + length c.read.new.out.items =
     omega (arith, s.3.count_is, c.pieces.invariant.2.count_is, length-append given c.read.new.out.items) in
-    all_written (rw count all) went.2 (b.front.text, b.front.read, b.front.budget)
+    all_written (rw count all) went.2 (b.prefix.text, b.prefix.read, b.prefix.budget)
 
 pub pieces-preserved : goal.pieces-preserved
 pieces-preserved g c =

@@ -5,6 +5,6 @@ use Rattle.vectors.proofs.rewriting.rewrite_broken.Goals as goal
 pub returns : goal.returns
 returns c =
     on_err c.rewrite.result _ _
-    (λ front entries read. front c.args.text.now entries
+    (λ prefix entries read. prefix c.args.text.now entries
     (possible c.args.text.now _ _ _ c.rewrite.ensures.budget (rw c.broken-source.ensures.fails (ap Some c.broken-source.ensures.text))) read)
-    c.rewrite.ensures.front
+    c.rewrite.ensures.prefix

@@ -1,6 +1,6 @@
 use Rattle.std.proofs.Common.{◌≤◌, ◌∙◌, length, take, refl, inr, arith}
 use Rattle.maildir_memory.proofs.Common.{HasRoom, lefts_of}
-use Rattle.maildir_memory.proofs.Memory.CaseLists.{no_fewer, one_front, still_there}
+use Rattle.maildir_memory.proofs.Memory.CaseLists.{no_fewer, one_prefix, still_there}
 use Rattle.maildir_memory.proofs.Memory.Changes.{left_by_bytes}
 use Rattle.maildir_disk.proofs.Left.Lefts.{leaves_none}
 use Rattle.maildir_memory.proofs.cases.Cases.may_lose_bytes.Goals as goal
@@ -11,7 +11,7 @@ loop-end-init c = record {
   no_fewer = omega arith;
   still = λ left has. has;
   left = λ left has. (left, inr has, leaves_none);
-  loses = λ room. record { without = λ lt. absurd (omega (arith, lt)); fronts = λ n above below. absurd (omega (arith, above, below)) };
+  loses = λ room. record { without = λ lt. absurd (omega (arith, lt)); prefixes = λ n above below. absurd (omega (arith, above, below)) };
 }
 
 pub returns-in_err-may_lose-clause-left : goal.returns-in_err-may_lose-clause-left
@@ -32,7 +32,7 @@ loop-end-preserved c =
       left = left_by_bytes bytes c.args.folder.now c.args.self.now mid new c.loop-end.invariant.left c.may_lose.ensures.more;
       loses = λ room.
           let before : HasRoom mid = omega (arith, room, longer, c.may_lose.ensures.room) in
-          one_front c.args.name.now c.args.holds.now c.args.held c.args.folder.now c.args.self.now c.loop-end.auto.end
+          one_prefix c.args.name.now c.args.holds.now c.args.held c.args.folder.now c.args.self.now c.loop-end.auto.end
           (λ s. refl) c.loop-end.invariant.still (c.loop-end.invariant.loses before) (c.in_ok-may_lose.ensures.loses room);
     }
 
@@ -41,5 +41,5 @@ returns-clause-loses c = λ room.
     let all = c.loop-end.invariant.loses room in
     record {
       without = all.without (omega (arith, c.loop-end-test.false, c.requires));
-      fronts = λ n above below. all.fronts n above (omega (arith, c.loop-end-test.false, below));
+      prefixes = λ n above below. all.prefixes n above (omega (arith, c.loop-end-test.false, below));
     }

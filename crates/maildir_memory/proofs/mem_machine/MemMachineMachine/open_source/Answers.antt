@@ -7,4 +7,4 @@ pub returns-then-eq : goal.returns-then-eq
 returns-then-eq c = record { opens = opens_none; text = λ h. grind (arith, common_steps); refused = λ h. tt }
 
 pub returns : goal.returns
-returns c = record { opens = opens_none; text = λ h. tt; refused = λ h growth. grind (arith, common_steps) }
+returns c = record { opens = opens_none; text = λ h. tt; refused = λ h allocation. grind (arith, common_steps) }

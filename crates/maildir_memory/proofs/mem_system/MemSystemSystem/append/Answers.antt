@@ -3,7 +3,7 @@ use Rattle.std.proofs.Common.{inl, length-take}
 use Rattle.maildir_run.proofs.Memory.Followed.{quiet_fault}
 use Rattle.maildir_memory.proofs.Common.{opened_as, HasRoom, may_find, LosesBytes, changed}
 use Rattle.maildir_disk.proofs.Calls.Refused.{an_error}
-use Rattle.maildir_memory.proofs.Memory.Changes.{bytes_after, front_of_appended, called_leaves, left_of_bytes}
+use Rattle.maildir_memory.proofs.Memory.Changes.{bytes_after, prefix_of_appended, called_leaves, left_of_bytes}
 use Rattle.maildir_disk.proofs.Left.Lefts.{if_ok, left_early, leaves_none, leaves_torn}
 use Rattle.maildir_memory.proofs.mem_system.MemSystemSystem.append.Goals as goal
 
@@ -109,7 +109,7 @@ returns-in-Ok c = record {
       (subst (λ by. HasRoom new → LosesBytes by c.deref.result.now (length held) mid.folder mid.cases new) c.as_str-2.ensures.value told) in
       record {
         held = held;
-        fronts = λ k above below.
+        prefixes = λ k above below.
             let long : length held + k ≤ length (held ++ take n bytes) = simp (length-append, length-take) (omega (arith, below)) in
             let each = bytes_after c.write.new.self c.in_ok-pass_shortly.ensures.others.keeps c.may_lose_bytes.ensures.no_fewer
             c.may_lose_bytes.ensures.room loses has
@@ -117,7 +117,7 @@ returns-in-Ok c = record {
             record {
               without = λ left may. (each left may).0;
               also = λ left may.
-                  subst (λ front. may_find c.write.new.self new (changed name (λ _. front) left)) (front_of_appended held bytes below) (each left may).1;
+                  subst (λ prefix. may_find c.write.new.self new (changed name (λ _. prefix) left)) (prefix_of_appended held bytes below) (each left may).1;
             };
       };
 }

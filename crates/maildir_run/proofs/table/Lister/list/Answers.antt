@@ -1,7 +1,7 @@
 use Rattle.std.proofs.Common.{ℕ, ◌++◌, List, take, sym, subst}
 use Rattle.maildir_run.proofs.Common.{Entry, IsFromLine}
 use Rattle.mbox_text.proofs.FromLine.FromLines.{from_line-at}
-use Rattle.maildir_run.proofs.Output.TableRows.{listed_to_none, listed_to_more, listed_to_front, listed_to_all, lists_broken, room}
+use Rattle.maildir_run.proofs.Output.TableRows.{listed_to_none, listed_to_more, listed_to_prefix, listed_to_all, lists_broken, room}
 use Rattle.maildir_run.proofs.table.Lister.list.Goals as goal
 
 pub list_one-requires : goal.list_one-requires
@@ -27,7 +27,7 @@ returns-in_err-list_one-clause-lists g c = λ given h l.
     let t = c.loop-entry.invariant given h l in
     let s = c.in_err-list_one.ensures.lists (given ++ take i entries) t.has_listed (room given entries i c.entry-item.result c.loop-entry-test.true l) in
     lists_broken _ given entries _ _ _ c.from_residual.ensures.0
-    (listed_to_front given entries i c.entry-item.result _ _ _ _ _ s.0 c.loop-entry-test.true c.entry-item.is t s.1 s.2)
+    (listed_to_prefix given entries i c.entry-item.result _ _ _ _ _ s.0 c.loop-entry-test.true c.entry-item.is t s.1 s.2)
 
 pub returns-clause-lists : goal.returns-clause-lists
 returns-clause-lists g c = λ given h l.
