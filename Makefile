@@ -1,6 +1,6 @@
 # make            prove the crates and build build/mbox2maildir
 # make run        deliver the example mailboxes to a fresh Maildir under build/, and show what it holds
-# make test       prove and test everything from nothing: the gate of the repository
+# make test       prove what was not proved here before, or has changed, and test everything: the gate of the repository
 # make install    copy the program, its companion, their pages and completions below PREFIX
 # make uninstall  remove what install has copied there
 # make deb        make a Debian package of the same, in build/; make rpm one of RPM, and make tarball a plain one
