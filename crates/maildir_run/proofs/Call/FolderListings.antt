@@ -1,5 +1,5 @@
 -- What the three listings tell together.
-use Rattle.std.proofs.Common.{◌≡◌, ℕ, ◌≤◌, Bool, List, [], ◌∷◌, ◌++◌, IsPermutation, IsTrue, length, cond, sym, ap, ◌∙◌, inl, inr, arith, filter}
+use Rattle.std.proofs.Common.{◌≡◌, ℕ, ◌≤◌, Bool, List, [], ◌∷◌, ◌++◌, IsPermutation, IsTrue, length, sym, ap, ◌∙◌, inl, inr, arith, filter}
 use Rattle.maildir_run.proofs.Common.{list_any, len, retain_keys, or_parts, or_cases, cases_Bool, length-filter}
 use Rattle.maildir_run.proofs.Common.{IsPermutation-trans, sum_by-IsPermutation, Sub, Tmp, New, Cur, is_converter_base}
 use Rattle.maildir_run.proofs.Common.{is_converter_name, Files, has_base, held_under, homes, Listing, Move, Other, Again, Torn}
@@ -63,7 +63,7 @@ listing_count [] s = omega arith
 listing_count (m ∷ ms) s = let one = moved_count m s in let more = listing_count ms (moved (Listing Tmp) m s) in omega arith
 
 pub filter-length : (p : List ℕ → Bool) {xs ys : List (List ℕ)} → IsPermutation xs ys → length (filter p xs) ≡ length (filter p ys)
-filter-length p {xs} {ys} h = length-filter p xs ∙ sym (sum_by-IsPermutation (λ x. cond (p x) 1 0) xs ys h) ∙ sym (length-filter p ys)
+filter-length p {xs} {ys} h = grind (arith, length-filter, sum_by-IsPermutation)
 
 pub few_listed : {old : Files} {names : List (List ℕ)} {new : Files} → Lists Tmp old names new → length (filter is_converter_name names) ≤ leftover_count old
 few_listed {old} {names} listed =

@@ -1,11 +1,11 @@
 -- What a call's moves leave: of the homes of a base, and of a name in tmp.
-use Rattle.std.proofs.Common.{◌≡◌, ℕ, true, false, cond, List, [], ◌∷◌, ◌++◌, ◌⊎◌, Option, Some, None}
-use Rattle.std.proofs.Common.{IsPermutation, IsTrue, refl, sym, ap, subst, ◌∙◌, inl, inr, map, arith, is_some}
+use Rattle.std.proofs.Common.{◌≡◌, ℕ, true, false, List, [], ◌∷◌, ◌++◌, ◌⊎◌, Option, Some, None}
+use Rattle.std.proofs.Common.{IsPermutation, IsTrue, refl, sym, ap, ◌∙◌, inl, inr, map, arith}
 use Rattle.maildir_run.proofs.Common.{get, insert, remove, values, contains_key, entries, retain_keys, empty, get-entries, get-insert, get-empty}
 use Rattle.maildir_run.proofs.Common.{same_map, len, len-empty, len-entries, cases_Bool, All-nil, All-cons, nil_from_length, IsPermutation-refl}
 use Rattle.maildir_run.proofs.Common.{IsPermutation-sym, IsPermutation-trans, IsPermutation-middle, IsPermutation-append_left}
 use Rattle.maildir_run.proofs.Common.{IsPermutation-append_right, length_permutation, All-permutation, is_converter_name, is_converter_base, name_cmp}
-use Rattle.maildir_run.proofs.Common.{is_name, FileMap, Files, has_base, held_under, homes, Action, ToCur, Reflag, DropTmp, Outside, may_take}
+use Rattle.maildir_run.proofs.Common.{is_name, FileMap, Files, has_base, held_under, homes, Action, ToCur, Reflag, DropTmp, Outside}
 use Rattle.maildir_run.proofs.Common.{to_cur, reflag, acted, Call, Listing, Writing, Placing, Removing, Move, Other, Again, Torn, placed, effect}
 use Rattle.maildir_run.proofs.Common.{torn, moved, after, IsOthers, IsWhole, Succeeded, PlacesElsewhere, WritesElsewhere, StaysOrGoes, IsReady}
 use Rattle.maildir_name.specs.declared.target.Place.{Place}
@@ -17,8 +17,8 @@ use Rattle.maildir_run.proofs.Call.Homes.{KeepsHomesOf, equally, acted_kept, hel
 placed_kept : (b : List ℕ) (name : List ℕ) (p : Place) (target : List ℕ) → has_base b target ≡ false
     → (o : Option (List ℕ)) (s : Files) → KeepsHomesOf b s (placed s name p target o)
 placed_kept b name p target off None s = IsPermutation-refl _
-placed_kept b name New target off (Some bytes) s = equally b s (placed s name New target (Some bytes)) (rw (held-insert_other b s.new target bytes off) refl)
-placed_kept b name Cur target off (Some bytes) s = equally b s (placed s name Cur target (Some bytes)) (rw (held-insert_other b s.cur target bytes off) refl)
+placed_kept b name New target off (Some bytes) s = grind (arith, equally, held-insert_other)
+placed_kept b name Cur target off (Some bytes) s = grind (arith, equally, held-insert_other)
 
 effect_kept : (b : List ℕ) (call : Call) → PlacesElsewhere b call → (s : Files) → KeepsHomesOf b s (effect call s)
 effect_kept b (Placing name p target) h s = placed_kept b name p target h (get s.tmp name) s
@@ -49,27 +49,21 @@ stays_trans q a b c (inr e) (inl f) = inr (f ∙ e)
 stays_trans q a b c (inr e) (inr f) = inr f
 
 dropped : (q name : List ℕ) (s : Files) → StaysOrGoes q s (record s { tmp = remove s.tmp name })
-dropped q name s =
-    elim (cases_Bool (is_name q name)) [ inl e ↦ inr (get_removed s.tmp name q ∙ rw e refl) | inr e ↦ inl (get_removed s.tmp name q ∙ rw e refl) ]
+dropped q name s = grind (arith, cases_Bool, get_removed)
 
 module _ (s : Files) (name target : List ℕ) where
   pub to_cur_tmp : (o : Option (List ℕ)) → (to_cur s name target o).tmp ≡ s.tmp
   to_cur_tmp None = refl
-  to_cur_tmp (Some bytes) =
-      elim (may_take s.cur name target)
-      as (λ t. (cond t (record s { new = remove s.new name; cur = insert s.cur target bytes }) s).tmp ≡ s.tmp) [ true ↦ refl | false ↦ refl ]
+  to_cur_tmp (Some bytes) = grind arith
 
   pub reflag_tmp : (o : Option (List ℕ)) → (reflag s name target o).tmp ≡ s.tmp
   reflag_tmp None = refl
-  reflag_tmp (Some bytes) =
-      elim (may_take s.cur name target)
-      as (λ t. (cond t (record s { cur = insert (remove s.cur name) target bytes }) s).tmp ≡ s.tmp) [ true ↦ refl | false ↦ refl ]
+  reflag_tmp (Some bytes) = grind arith
 
 pub acted_tmp : (q : List ℕ) → IsTrue (is_converter_name q) → (action : Action) (s : Files) → StaysOrGoes q s (acted action s)
 acted_tmp q ours (ToCur name target) s = inl (ap (λ m. get m q) (to_cur_tmp s name target (get s.new name)))
 acted_tmp q ours (Reflag name target) s = inl (ap (λ m. get m q) (reflag_tmp s name target (get s.cur name)))
-acted_tmp q ours (DropTmp name) s =
-    elim (is_converter_name name) as (λ t. StaysOrGoes q s (cond t (record s { tmp = remove s.tmp name }) s)) [ true ↦ dropped q name s | false ↦ inl refl ]
+acted_tmp q ours (DropTmp name) s = grind (arith, dropped)
 acted_tmp q ours (Outside files) s = inl (get-outsiders_of s.tmp files.tmp q ours)
 
 written_elsewhere : (q name bytes : List ℕ) (s : Files) → is_name q name ≡ false → StaysOrGoes q s (record s { tmp = insert s.tmp name bytes })
@@ -179,13 +173,7 @@ module _ (b name : List ℕ) (had : Option (List ℕ)) (s t : Files) (kept : Kee
       }
 
   arrived_on : StaysOrGoes name s t → Arrived b name had s → Arrived b name had t
-  arrived_on stays a =
-      record {
-        bytes = a.bytes;
-        was = a.was;
-        homes_are = homes_one b a.bytes s t kept a.homes_are;
-        gone = elim stays [ inl e ↦ e ∙ a.gone | inr e ↦ e ];
-      }
+  arrived_on stays a = grind (arith, homes_one, stays)
 
 pub placed_gone : (s : Files) (name : List ℕ) (p : Place) (target bytes : List ℕ) → get (placed s name p target (Some bytes)).tmp name ≡ None
 placed_gone s name New target bytes = get-remove_same s.tmp name
@@ -194,13 +182,7 @@ placed_gone s name Cur target bytes = get-remove_same s.tmp name
 -- the effect, where tmp has the file
 arrives : {b name : List ℕ} (p : Place) (target : List ℕ) {had : Option (List ℕ)} {s : Files} → has_base b target ≡ true
     → Waits b name had s → {bytes : List ℕ} → get s.tmp name ≡ Some bytes → Arrived b name had (placed s name p target (Some bytes))
-arrives {b} {name} p target {s} on w {bytes} has =
-    record {
-      bytes = bytes;
-      was = elim w.waiting [ inl e ↦ sym e ∙ has | inr e ↦ cc ];
-      homes_are = placed_first b name p target bytes s on w.homes_are;
-      gone = placed_gone s name p target bytes;
-    }
+arrives {b} {name} p target {s} on w {bytes} has = grind (arith, placed_first, placed_gone)
 
 abbrev pub Stage : (b name : List ℕ) (had : Option (List ℕ)) (s : Files) → Type 0
 Stage b name had s = Waits b name had s ⊎ Arrived b name had s
@@ -211,11 +193,7 @@ module _ (b name : List ℕ) (p : Place) (target : List ℕ) (named : IsTrue (is
   arrived_again s a = rw a.gone a
 
   waits_again : (s : Files) → Waits b name had s → Stage b name had (effect (Placing name p target) s)
-  waits_again s w =
-      elim (get s.tmp name) as (λ o. get s.tmp name ≡ o → Stage b name had (placed s name p target o)) [
-        | None ↦ λ has. inl w
-        | Some bytes ↦ λ has. inr (arrives p target on w has)
-      ] refl
+  waits_again s w = grind (arith, arrives)
 
   arrived_moved : (m : Move) (s : Files) → Arrived b name had s → Arrived b name had (moved (Placing name p target) m s)
   arrived_moved (Other action) s a = arrived_on b name had s (acted action s) (acted_kept b named action s) (acted_tmp name ours action s) a
@@ -244,11 +222,7 @@ module _ (b name : List ℕ) (p : Place) (target : List ℕ) (named : IsTrue (is
   waits_after (other ∷ ms) s others w = absurd others
 
   ready : (s : Files) → Waits b name had s → IsTrue (contains_key s.tmp name) → Arrived b name had (effect (Placing name p target) s)
-  ready s w has =
-      elim (get s.tmp name) as (λ o. get s.tmp name ≡ o → IsTrue (is_some o) → Arrived b name had (placed s name p target o)) [
-        | None ↦ λ is has. cc
-        | Some bytes ↦ λ is has. arrives p target on w is
-      ] refl has
+  ready s w has = grind (arith, arrives)
 
 pub after-append : (s : Files) (call : Call) (ms ns : List Move) → after s call (ms ++ ns) ≡ after (after s call ms) call ns
 after-append s call [] ns = refl
@@ -258,7 +232,7 @@ after-append s call (m ∷ ms) ns = after-append (moved call m s) call ms ns
 module _ (b name : List ℕ) (p : Place) (target : List ℕ) (named : IsTrue (is_converter_base b))
     (ours : IsTrue (is_converter_name name)) (on : has_base b target ≡ true) where
   pub placing : (ms : List Move) (s : Files) → homes s b ≡ [] → Stage b name (get s.tmp name) (after s (Placing name p target) ms)
-  placing ms s e = stage_after b name p target named ours on (get s.tmp name) ms s (inl record { homes_are = e; waiting = inl refl })
+  placing ms s e = grind (arith, stage_after)
 
   -- and with Ok
   pub placing_ok : (old new : Files) → Succeeded (Placing name p target) old new → homes old b ≡ [] → Arrived b name (get old.tmp name) new
@@ -267,8 +241,7 @@ module _ (b name : List ℕ) (p : Place) (target : List ℕ) (named : IsTrue (is
       let call = Placing name p target in
       let mid = after old call done.before in
       let w : Waits b name had mid = waits_after b name p target named ours on had done.before old done.others (record { homes_are = e; waiting = inl refl }) in
-      subst (Arrived b name had) (sym (done.left ∙ after-append old call done.before (Again ∷ done.rest)))
-      (arrived_after b name p target named ours on had done.rest (effect call mid) (ready b name p target named ours on had mid w done.ready))
+      grind (arith, after-append, arrived_after, ready)
 
 -- ---- what was written
 module _ (name bytes : List ℕ) where
@@ -289,11 +262,7 @@ module _ (name bytes : List ℕ) where
   written_after ours (Torn _ ∷ ms) s whole w = absurd whole
 
   pub writing_ok : IsTrue (is_converter_name name) → (old new : Files) → Succeeded (Writing name bytes) old new → WrittenOrGone new
-  writing_ok ours old new done =
-      let call = Writing name bytes in
-      let mid = after old call done.before in
-      subst (WrittenOrGone) (sym (done.left ∙ after-append old call done.before (Again ∷ done.rest)))
-      (written_after ours done.rest (effect call mid) done.whole (inl (get-insert_same mid.tmp name bytes)))
+  writing_ok ours old new done = grind (arith, after-append, written_after, get-insert_same)
 
 pub once : (call : Call) (old new : Files) → IsReady call old → new ≡ effect call old → Succeeded call old new
 once call old new ready left = record { before = []; rest = []; others = tt; ready = ready; whole = tt; left = left }

@@ -56,10 +56,7 @@ text_numbered t (inl (entries, is, e)) = subst AreNumbered (sym e) (messages_num
 text_numbered t (inr (none, e)) = subst AreNumbered (sym e) (λ i d below. absurd (omega (arith, below)))
 
 pub text_few : (t : List ℕ) {ms : List Message} → MessagesOf t ms → length t < 2 ^ 63 → length ms ≤ 2 ^ 63
-text_few t (inl (entries, is, e)) small =
-    let few = few_bodies_of_text t entries is small in
-    let len = length-messages_of (bodies_of entries) in
-    omega (arith, ap length e, len, few)
+text_few t (inl (entries, is, e)) small = grind (arith, few_bodies_of_text, length-messages_of)
 text_few t (inr (none, e)) small = omega (arith, ap length e)
 
 -- ---- the elements that pass a test, by their number
@@ -107,10 +104,7 @@ module _ {X : Type 0} (p : X → Bool) where
       ]
 
 pub few_with_digest : (b : List ℕ) (ms : List Message) (i : ℕ) → with_digest b (take i ms) ≤ length ms
-few_with_digest b ms i =
-    let part = sum_by-take-le (λ m. cond (has_digest_of b m) 1 0) ms i in
-    let all = count_by-le-length (has_digest_of b) ms in
-    omega (arith, part, all)
+few_with_digest b ms i = grind (arith, sum_by-take-le, count_by-le-length)
 
 pub any_at : {X : Type 0} (p : X → Bool) (xs : List X) (d : X) → list_any p xs ≡ true → (i : ℕ) × (i < length xs) × (p (get_or xs i d) ≡ true)
 any_at p [] d e = cc

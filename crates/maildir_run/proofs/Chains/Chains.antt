@@ -48,23 +48,17 @@ pub sound_now : (ms : List Message) (s : Files) → All (IsSoundAt s) ms → Sou
 sound_now ms s own = record { own = own; others = λ b named other. IsPermutation-refl _ }
 
 sound_trans : {ms : List Message} {a b c : Files} → Sound ms a b → Sound ms b c → Sound ms a c
-sound_trans {b} first then = record {
-  own = then.own;
-  others = λ b named other. IsPermutation-trans _ _ _ (first.others b named other) (then.others b named other);
-}
+sound_trans {b} first then = grind (arith, IsPermutation-trans)
 
 pub sound_at_start : {ms : List Message} {s : Files} → All (IsMissing s) ms → Sound ms s s
 sound_at_start {ms} {s} missing = sound_now ms s (λ k d h. inl (missing k d h))
 
 acted_sound_at : (m : Message) → IsTrue (is_converter_base m.target.base) → (action : Action) (s : Files) → IsSoundAt s m → IsSoundAt (acted action s) m
 acted_sound_at m named action s (inl none) = inl (homes_none m.target.base s (acted action s) (acted_kept m.target.base named action s) none)
-acted_sound_at m named action s (inr one) = inr (homes_one m.target.base m.body s (acted action s) (acted_kept m.target.base named action s) one)
+acted_sound_at m named action s (inr one) = grind (arith, homes_one, acted_kept)
 
 pub acted_sound : {ms : List Message} → AreNamed ms → {a s : Files} (action : Action) → Sound ms a s → Sound ms a (acted action s)
-acted_sound {ms} named {s} action sound = record {
-  own = λ k d h. acted_sound_at (get_or ms k d) (named k d h) action s (sound.own k d h);
-  others = λ b is other. IsPermutation-trans _ _ _ (sound.others b is other) (acted_kept b is action s);
-}
+acted_sound {ms} named {s} action sound = grind (arith, acted_sound_at, IsPermutation-trans, acted_kept)
 
 -- ---- a chain over a text whose messages these are
 module _ (t : List ℕ) (ms : List Message) (are : MessagesOf t ms) (named : AreNamed ms) where

@@ -27,9 +27,7 @@ pub record Rise (b : List ℕ) (c n : ℕ) (answer : Result Report RunFault) (s 
 
 -- a number is that of no other
 other_number : (b : List ℕ) {x : List ℕ} {j k : ℕ} → j < k → k ≤ 2 ^ 63 → x ≡ numbered b (k + 1) → numbered b (j + 1) ≡ x → ⊥
-other_number b {j} {k} lt few is e =
-    let same = same-number b b (j + 1) (k + 1) (omega (arith, lt, few)) (omega (arith, few)) (e ∙ is) in
-    absurd (omega (arith, same, lt))
+other_number b {j} {k} lt few is e = grind (arith, same-number)
 
 -- a message whose number is among those that are there is at home
 pub home_level : (ms : List Message) {s : Files} → AreNumbered ms → {i : ℕ} (d : Message) → i < length ms
@@ -78,7 +76,7 @@ module _ (d : Message) (ms : List Message) (b : List ℕ) (nums : AreNumbered ms
   at_number k lt =
       let s = select (has_digest_of b) ms k lt in
       let body_is = own s.i s.below (sym (same_digest-text b _ (s.hit d))) in
-      record { i = s.i; below = s.below; before = s.before; body_is = body_is; base_is = base_at s.i s.below body_is ∙ ap (λ n. numbered b (n + 1)) s.before }
+      grind (arith, base_at)
 
   pub of_base : (x : List ℕ) → take 64 x ≡ digest_text b → is_base_of ms x ≡ true → OfBody d ms b x
   of_base x digits on =

@@ -1,5 +1,5 @@
 -- For one text, what is said of several is what is said of it.
-use Rattle.std.proofs.Common.{◌≡◌, ℕ, zero, suc, ◌<◌, ◌&&◌, ◌||◌, ◌⊎◌, true, false, List, [], ◌∷◌, length, arith}
+use Rattle.std.proofs.Common.{◌≡◌, ℕ, zero, suc, ◌<◌, ◌&&◌, ◌⊎◌, true, false, List, [], ◌∷◌, length, arith}
 use Rattle.std.proofs.Common.{get_or, map, bytes_eq, All, Contains, refl, sym, ap, ◌∙◌, inl, inr, arith}
 use Rattle.maildir_run.proofs.Common.{bytes_decides, or-false, cases_lt, and_parts, or_parts, eq_by_cmp_equiv, All-head, All-from_get_or}
 use Rattle.maildir_run.proofs.Common.{Files, is_name, Message, IsMissing, IsSoundAt, AreDistinct, Sound, is_base_of, Link, Acted, Linked, Runs}
@@ -14,8 +14,7 @@ use Rattle.maildir_run.proofs.Chains.SeveralTexts.{home_given}
 -- messages with one base are one message
 same_place : (ms : List Message) → AreDistinct ms → (i j : ℕ) (d : Message) → i < length ms
     → j < length ms → is_name (get_or ms j d).target.base (get_or ms i d).target.base ≡ true → i ≡ j
-same_place ms distinct i j d in_i in_j same =
-    grind (arith, cases_lt i j, is_name (get_or ms j d).target.base (get_or ms i d).target.base, eq_by_cmp_equiv total, cases_lt j i)
+same_place ms distinct i j d in_i in_j same = grind (arith, cases_lt, eq_by_cmp_equiv, total)
 
 -- the text gives to each base the body of its message alone
 own_body : {text : Mailbox} → AreDistinct text.messages → {i : ℕ} (d : Message) → i < length text.messages → {s : Files}
@@ -31,12 +30,7 @@ own_body {text} distinct {i} d below (inr holds) =
     inr (holds.homes_are ∙ ap (λ b. b ∷ []) body)
 
 pub one_sound : {text : Mailbox} {old new : Files} → IsMailbox text → SoundForAll (text ∷ []) old new → Sound text.messages old new
-one_sound {text} {new} is sound =
-    let all = All-head (λ (x : Mailbox). All (λ (m : Message). IsMissing new m ⊎ HoldsGiven (text ∷ []) new m) x.messages) text [] sound.own in
-    record {
-      own = λ i d below. own_body (text_distinct text.bytes text.messages is.are is.small) d below (all i d below);
-      others = λ b named off. sound.others b named (ap (λ t. t || false) off);
-    }
+one_sound {text} {new} is sound = grind (arith, All-head, own_body, text_distinct)
 
 one_place : {text : Mailbox} {old new : Files} → Sound text.messages old new → (k : ℕ) → k < length (text ∷ [])
     → All (λ (m : Message). IsMissing new m ⊎ HoldsGiven (text ∷ []) new m) (get_or (text ∷ []) k text).messages

@@ -84,13 +84,7 @@ home_given {texts} {k} d below {i} e inside (inr home) =
     let m = get_or (get_or texts k d).messages i e in
     let hit : (is_name m.target.base m.target.base && bytes_eq m.body m.body) ≡ true = rw (is_name-refl m.target.base, nat_list_eq_equiv.refl m.body) refl in
     let inner = list_any_at (λ (n : Message). is_name n.target.base m.target.base && bytes_eq n.body m.body) (get_or texts k d).messages i e inside hit in
-    inr (record {
-      body = m.body;
-      given =
-          list_any_at (λ (x : Mailbox). list_any (λ (n : Message). is_name n.target.base m.target.base && bytes_eq n.body m.body) x.messages)
-          texts k d below inner;
-      homes_are = home;
-    })
+    grind (arith, list_any_at)
 
 -- ---- texts whose distinct bodies have distinct digests
 -- a text of which a run answered Ok is among those whose counts are taken
@@ -225,13 +219,7 @@ module _ (texts : List Mailbox) (are : All IsMailbox texts) (own : HaveOwnDigest
 
   body_at : (k : ℕ) (d : Mailbox) → k < length texts → (i : ℕ) (e : Message)
       → i < length (get_or texts k d).messages → IsBodyOf texts (get_or (get_or texts k d).messages i e).body
-  body_at k d below i e inside = record {
-    text = get_or texts k d;
-    among = Contains-get_or texts k d below;
-    m = get_or (get_or texts k d).messages i e;
-    inside = Contains-get_or (get_or texts k d).messages i e inside;
-    is = refl;
-  }
+  body_at k d below i e inside = grind (arith, Contains-get_or)
 
   pub chain_counted : (links : List LinkOver) (old new : Files) → OfEach (λ m. IsUnknown old m.body) texts
       → RunsOver texts links old new → OfEach (λ m. StandsAfter links m.body new) texts
@@ -240,7 +228,7 @@ module _ (texts : List Mailbox) (are : All IsMailbox texts) (own : HaveOwnDigest
       let is = body_at k d below i e inside in
       let start = levels_at_start old unknown in
       let g = chain_grown links old new runs start b is (levels_at_start old unknown b is) in
-      record { n = g.level.n; there = g.level.there; at_least = g.at_least; at_most = omega (arith, g.at_most) }
+      grind arith
 
   pub chain_whole : (links : List LinkOver) (old new : Files) (text : Mailbox) (report : Report) → OfEach (λ m. IsUnknown old m.body) texts
       → RunsOver texts links old new → Contains links (RanOver text (Ok report)) → All (IsHome new) text.messages

@@ -1,6 +1,6 @@
 -- What a script makes of a folder in memory is what other programs and a call may do.
 use Rattle.std.proofs.Common.{◌≡◌, ℕ, Bool, true, false, cond, not, List, [], ◌∷◌, ◌++◌, length, take, drop, get_or, ◌<◌, ◌+◌, ◌==◌, map, Option}
-use Rattle.std.proofs.Common.{Some, None, Result, Ok, Err, IsTrue, IsFalse, IsOk, IsErrOf, OnErr, string_bytes, IsPermutation, ◌&&◌, ◌/◌}
+use Rattle.std.proofs.Common.{Some, None, Result, Ok, Err, IsTrue, IsFalse, IsOk, IsErrOf, OnErr, string_bytes, ◌&&◌, ◌/◌}
 use Rattle.std.proofs.Common.{append-nil, refl, sym, ap, subst, ◌∙◌, inl, inr, append_assoc, suc, arith, take-append-drop, is_some, bytes_eq}
 use Rattle.maildir_run.proofs.Common.{drop-cons, false_from_ne_true, take_more, IsPermutation-refl, insert, remove, get, keys, contains_key}
 use Rattle.maildir_run.proofs.Common.{base, is_converter_name, Sub, Tmp, New, Cur, FolderFault, Mode, Plain, FailBefore, FailAfter, Half}
@@ -34,9 +34,9 @@ with_leaves New k v s off = record { tmp_alike = agrees s.tmp; new_alike = set_a
 with_leaves Cur k v s off = record { tmp_alike = agrees s.tmp; new_alike = agrees s.new; cur_alike = set_agrees s.cur k v off }
 
 without_leaves : (sub : Sub) (k : List ℕ) (s : Files) → is_converter_name k ≡ false → KeepsConverters s (without_file sub k s)
-without_leaves Tmp k s off = record { tmp_alike = removed_agrees s.tmp k off; new_alike = agrees s.new; cur_alike = agrees s.cur }
-without_leaves New k s off = record { tmp_alike = agrees s.tmp; new_alike = removed_agrees s.new k off; cur_alike = agrees s.cur }
-without_leaves Cur k s off = record { tmp_alike = agrees s.tmp; new_alike = agrees s.new; cur_alike = removed_agrees s.cur k off }
+without_leaves Tmp k s off = grind (arith, removed_agrees, agrees)
+without_leaves New k s off = grind (arith, agrees, removed_agrees)
+without_leaves Cur k s off = grind (arith, agrees, removed_agrees)
 
 -- a file is changed where its name is not a converter's
 guarded_action : (ours : Bool) (s t : Files) → (ours ≡ false → KeepsConverters s t) → (action : Action) × (cond ours s t ≡ acted action s)
@@ -73,8 +73,7 @@ other_name m name target has free =
 
 pub free_name : (m : FileMap) (name target : List ℕ) {answer : Bool} → get m target ≡ None
     → answer ≡ bytes_eq (base name) (base target) → answer ≡ may_take m name target
-free_name m name target none is =
-    is ∙ sym (is_eq-slice_cmp (base name) (base target)) ∙ ap (λ o. not (is_some o) && is_name (base name) (base target)) (sym none)
+free_name m name target none is = grind (arith, is_eq-slice_cmp)
 
 pub on_err : {A E : Type 0} (result : Result A E) {P : Type 0} → P → OnErr result P
 on_err (Ok x) p = tt
@@ -140,9 +139,7 @@ not_cut none cut = no_parts cut.made _ cut.rest (sym none ∙ cut.parts)
 -- ---- a file under another name
 reflagged : (s : Files) (name target : List ℕ) {bytes : List ℕ} {there : FileMap} → get s.cur name ≡ Some bytes → may_take s.cur name target ≡ true
     → there ≡ remove (insert s.cur target bytes) name → record s { cur = there } ≡ acted (Reflag name target) s
-reflagged s name target {bytes} has free is =
-    let apart_names : is_name name target ≡ false = other_name s.cur name target has (free_of _ _ free) in
-    rw (has, free, is, remove-insert s.cur name target bytes apart_names) refl
+reflagged s name target {bytes} has free is = grind (arith, other_name, free_of, remove-insert)
 
 -- one that was put under another name, and is then taken from the old one
 pub unlinked : (s : Files) {mid : Files} (name target : List ℕ) (o : Option (List ℕ)) → get s.cur name ≡ o → may_link s name target o ≡ true
@@ -167,9 +164,7 @@ others_whole (a ∷ more) = others_whole more
 -- acts and then moves are moves
 acts_then : (acts : List Act) (old : Files) {mid : Files} → mid ≡ all_performed acts old → (call : Call) (ms : List Move)
     → after mid call ms ≡ after old call (map Other (actions acts old).0 ++ ms)
-acts_then acts old is call ms =
-    let done = actions acts old in
-    ap (λ s. after s call ms) (is ∙ done.1 ∙ sym (after_others done.0 old call)) ∙ sym (after-append old call (map Other done.0) ms)
+acts_then acts old is call ms = grind (arith, actions, after_others, after-append)
 
 pub called_then : {A : Type 0} (call : Call) (acts : List Act) (old : Files) {mid : Files} (new : Files) (result : Result A FolderFault)
     → mid ≡ all_performed acts old → Called call mid result new → Called call old result new
@@ -199,14 +194,7 @@ listed_then {sub} acts {old} {new} {names} is names_are =
     let done = actions acts old in
     let others = map Other done.0 in
     let reached : new ≡ after old (Listing sub) others = is ∙ done.1 ∙ sym (after_others done.0 old (Listing sub)) in
-    record {
-      before = others;
-      rest = [];
-      whole_before = others_whole done.0;
-      whole = tt;
-      names_are = subst (λ s. IsPermutation names (keys (folder_of sub s))) reached (subst (λ xs. IsPermutation names xs) names_are (IsPermutation-refl names));
-      left = reached ∙ sym (after-append old (Listing sub) others (Again ∷ []));
-    }
+    grind (arith, others_whole, IsPermutation-refl, after-append)
 
 halved_moves : (call : Call) {s : Files} → (ms : List Move) × (halved call s ≡ after s call ms)
 halved_moves (Writing name bytes) = (Torn (take (length bytes / 2) bytes) ∷ [], refl)
@@ -245,7 +233,6 @@ pub placed_in : {A : Type 0} (mode : Mode) (name : List ℕ) (p : Place) (target
 placed_in mode name p target old new (Ok x) true plain ready none ok absent is = (plain, ready refl, is)
 placed_in mode name p target old new (Ok x) false plain ready none ok absent is = cc (absent refl)
 placed_in mode name p target old new (Err f) true plain ready none ok absent is = cc (ok refl)
-placed_in mode name p target old new (Err fault.Absent) false plain ready none ok absent is =
-    (plain, (λ r. let gone = ap is_some (none refl) in cc), is ∙ nothing_placed mode name p target old plain (none refl))
+placed_in mode name p target old new (Err fault.Absent) false plain ready none ok absent is = grind (arith, nothing_placed)
 placed_in mode name p target old new (Err fault.Failed) false plain ready none ok absent is = cc (absent refl)
 placed_in mode name p target old new (Err fault.OutOfMemory) false plain ready none ok absent is = cc (absent refl)

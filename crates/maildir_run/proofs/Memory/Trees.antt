@@ -33,7 +33,7 @@ found q [] = refl
 found q (e ∷ es) = grind (arith, is_name q (string_bytes e.0), found q es)
 
 pub get-map_of : (tree : Tree) (q : List ℕ) → get (map_of tree) q ≡ bytes_in (get_by_text tree q)
-get-map_of tree q = get-from_entries total (map (λ e. (string_bytes e.0, e.1.items)) tree.entries) q ∙ found q tree.entries
+get-map_of tree q = grind (arith, get-from_entries, total, found)
 
 -- ---- a change under one name
 inside : (t : Bool) (w o : Option (Vec ℕ Global)) → bytes_in (cond t w o) ≡ cond t (bytes_in w) (bytes_in o)
@@ -86,23 +86,17 @@ pub keys-map_of : (m : Tree) → IsOrdered string_cmp m → keys (map_of m) ≡ 
 keys-map_of m ordered = ap (map (λ e. e.0)) (ordered_entries _ ordered) ∙ names_in_order m.entries
 
 pub len-map_of : (m : Tree) → IsOrdered string_cmp m → len (map_of m) ≡ length m.entries
-len-map_of m ordered = len-entries (map_of m) ∙ ap length (ordered_entries _ ordered) ∙ length-map m.entries (λ e. (string_bytes e.0, e.1.items))
+len-map_of m ordered = grind (arith, len-entries, ordered_entries, length-map)
 
 -- ---- the loop over the names
 pub one_listed : (listed : List (String Global)) {rest after : List (String Global)} {name : String Global} (copy : String Global) {all : List (List ℕ)}
     → map string_bytes listed ++ map string_bytes rest ≡ all → rest ≡ name ∷ after
     → string_bytes copy ≡ string_bytes name → map string_bytes (listed ++ copy ∷ []) ++ map string_bytes after ≡ all
-one_listed listed {after} copy so_far left same_bytes =
-    ap (λ xs. xs ++ map string_bytes after) (map-append string_bytes listed (copy ∷ []))
-    ∙ append_assoc (map string_bytes listed) (string_bytes copy ∷ []) (map string_bytes after)
-    ∙ ap (λ b. map string_bytes listed ++ b ∷ map string_bytes after) same_bytes
-    ∙ ap (λ xs. map string_bytes listed ++ map string_bytes xs) (sym left)
-    ∙ so_far
+one_listed listed {after} copy so_far left same_bytes = grind (arith, map-append, append_assoc)
 
 pub all_listed : (listed : List (String Global)) {rest : List (String Global)} {all : List (List ℕ)}
     → map string_bytes listed ++ map string_bytes rest ≡ all → rest ≡ [] → map string_bytes listed ≡ all
-all_listed listed so_far left =
-    sym (append-nil (map string_bytes listed)) ∙ ap (λ xs. map string_bytes listed ++ map string_bytes xs) (sym left) ∙ so_far
+all_listed listed so_far left = grind (arith, append-nil)
 
 -- ---- a copy of a tree
 pub copied_pairs : (es fs : List (String Global × Vec ℕ Global))
@@ -165,19 +159,9 @@ TellsSame r s t = (r ≡ true → map string_bytes s ≡ map string_bytes t) × 
 
 last_names : (s t u v : List (String Global)) (o p : Option (Bor (String Global))) {r : Bool} → Step s o u → Step t p v → Last o p r → TellsSame r s t
 last_names s t u v None None first then last = (λ _. ap (map string_bytes) (first.0 ∙ sym then.0), λ _. last)
-last_names s t u v None (Some y) first then last = (λ on. cc, λ names. let a = ap (map string_bytes) first.0 in let b = ap (map string_bytes) then in cc)
-last_names s t u v (Some x) None first then last =
-    (λ on. let off = last.0 in cc, λ names. let a = ap (map string_bytes) first in let b = ap (map string_bytes) then.0 in cc)
-last_names s t u v (Some x) (Some y) first then last = (
-  λ on. let off = last.0 in cc,
-  λ names.
-      let a = ap (map string_bytes) first in
-      let b = ap (map string_bytes) then in
-      let name : string_bytes x.now ≡ string_bytes y.now = cc in
-      let on = bytes_alike name in
-      let off = last.1 in
-      cc,
-)
+last_names s t u v None (Some y) first then last = grind arith
+last_names s t u v (Some x) None first then last = grind arith
+last_names s t u v (Some x) (Some y) first then last = grind (arith, bytes_alike)
 
 pub names_compared : (s t s' t' u v : List (String Global)) (xs ys : List (Bor (String Global))) (o p : Option (Bor (String Global))) {r : Bool}
     → Yields Step s xs s' → Step s' o u → Yields Step t ys t' → Step t' p v
@@ -191,4 +175,4 @@ names_compared s t s' t' u v (x ∷ xs) (y ∷ ys) o p {r} (j, first_s, from_s) 
     let a = ap (map string_bytes) first_s in
     let b = ap (map string_bytes) first_t in
     let name : string_bytes x.now ≡ string_bytes y.now = (bytes_decides (string_bytes x.now) (string_bytes y.now)).0 same.0 in
-    (λ on. let after = rest.0 on in cc, λ all. let names : map string_bytes j ≡ map string_bytes k = cc in rest.1 names)
+    grind arith

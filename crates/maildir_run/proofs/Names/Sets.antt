@@ -61,9 +61,7 @@ contains_key-with_bases s (name ∷ names) b =
     ∙ turned (is_name b (base name)) (contains_key s b) _
 
 pub contains_key-listed : (new cur : List (List ℕ)) (b : List ℕ) → contains_key (with_bases (with_bases empty new) cur) b ≡ is_listed new cur b
-contains_key-listed new cur b =
-    contains_key-with_bases (with_bases empty new) cur b
-    ∙ ap (λ t. t || list_any (has_base b) cur) (contains_key-with_bases empty new b ∙ ap (λ o. is_some o || list_any (has_base b) new) (get-empty name_cmp b))
+contains_key-listed new cur b = grind (arith, contains_key-with_bases, get-empty)
 
 pub with_bases-push : (s : BaseSet) (names : List (List ℕ)) (name : List ℕ)
     → with_bases s (names ++ name ∷ []) ≡ insert (with_bases s names) (base name) (tt {0})

@@ -1,8 +1,8 @@
 -- What a run owes where it ends, from the tasks that it performed.
 use Rattle.std.proofs.Common.{◌≡◌, ℕ, ◌+◌, ◌*◌, ◌<◌, ◌≤◌, ◌^◌, Bool, true, false, cond, Option, Some, None, List, [], ◌∷◌, ◌++◌, length, All, Result, Ok, arith}
 use Rattle.std.proofs.Common.{Err, IfOk, OnOk, IsTrue, refl, sym, ap, subst, ◌∙◌, inl, inr, arith, append_assoc, length-append, IsErrOf, filter, append-nil}
-use Rattle.maildir_run.proofs.Common.{get, length-map, All-head, All-tail, length-filter, count_by-le-length, IsAtEnd, Entry, Target}
-use Rattle.maildir_run.proofs.Common.{is_converter_name, is_converter_base, RunFault, NoFromLine, TooManyReads, Report, swept, filled}
+use Rattle.maildir_run.proofs.Common.{length-map, All-head, All-tail, length-filter, count_by-le-length, IsAtEnd, Entry, Target}
+use Rattle.maildir_run.proofs.Common.{is_converter_name, is_converter_base, RunFault, NoFromLine, TooManyReads, Report, swept}
 use Rattle.maildir_run.proofs.Common.{alone, Conversion, ReportsTasks, run_tasks, Seen, Performed, sweep_of, delivery_of, delivery_if}
 use Rattle.maildir_run.proofs.Common.{deliveries_of, fault_of, capped, HasCallNumber, CallNumber, Follows, Message, IsSoundAt, IsMissing}
 use Rattle.maildir_run.proofs.Common.{Delivered, AreDistinct, Sound, has_home, there_count, leftover_count, Files, GaveAll, SourceStopped}
@@ -51,13 +51,7 @@ deliveries_count start is_there knows (m ∷ ms) are =
     let is = All-head (λ (x : Message). IsTarget x.target) m ms are in
     let count = count-cons (λ (x : Message). has_home start x.target.base) m ms (is_there m.target.base) (sym (knows m.target.base is.named)) in
     let parts = length-append (delivery_if is_there m) (deliveries_of is_there ms) in
-    elim (is_there m.target.base)
-    as (λ t. length (deliveries_of is_there (m ∷ ms)) ≡ length (cond t [] (delivery_of m.target m.body)) + length (deliveries_of is_there ms)
-    → there_count start (m ∷ ms) ≡ cond t 1 0 + there_count start ms
-    → length (deliveries_of is_there (m ∷ ms)) + 2 * there_count start (m ∷ ms) ≡ 2 * length (m ∷ ms)) [
-      | true ↦ λ e f. omega (arith, more, e, f)
-      | false ↦ λ e f. omega (arith, more, e, f)
-    ] parts count
+    grind arith
 
 pub sweep_count : (names : List (List ℕ)) → length (sweep_of names) ≡ length (filter is_converter_name names)
 sweep_count names = length-map (filter is_converter_name names) (λ name. Do (Removing name))
@@ -76,20 +70,10 @@ ran_numbers {r} ran e few =
 
 -- ---- what the tasks of a run leave
 early_none : (names : Listings) → EachTask PlacesNone (listing_tasks names ++ sweep_of names.tmp)
-early_none names = each_of_both PlacesNone (listing_tasks names) (sweep_of names.tmp) (listings_place_none names) (sweep_places_none names.tmp)
+early_none names = grind (arith, each_of_both, listings_place_none, sweep_places_none)
 
 run_ours : (names : Listings) (ms : List Message) → All (λ m. IsTarget m.target) ms → EachTask IsOurs (run_tasks names ms)
-run_ours names ms are = (
-  tt,
-  (
-    tt,
-    (
-      tt,
-      each_of_both IsOurs _ _
-          (sweep_ours names.tmp) (deliveries_ours (is_listed names.new names.cur) ms are),
-    ),
-  ),
-)
+run_ours names ms are = grind (arith, each_of_both, sweep_ours, deliveries_ours)
 
 module _ (names : Listings) (ms : List Message) (distinct : AreDistinct ms) (are : All (λ m. IsTarget m.target) ms) (start : Files) where
   began : (mid now : Files) → AllDone honestly (listing_tasks names) start mid
@@ -132,20 +116,7 @@ module _ (names : Listings) (ms : List Message) (distinct : AreDistinct ms) (are
       let count = deliveries_count start (is_listed names.new names.cur) look.knows ms are in
       let messages = tells.messages in
       let placed = tells.placed in
-      record {
-        sound = s.sound;
-        still = s.still;
-        in_order = s.in_order;
-        ends = record {
-          delivered = record { homes_are = end.0.homes_are; swept = λ name ours. end.1.gone name ours refl };
-          reports = record {
-            messages = messages;
-            there = tells.there ∙ (omega (arith, messages, placed, count));
-            placed = omega (arith, messages, placed, count);
-            swept = rw (tells.swept ∙ sweep_count names.tmp) look.few;
-          };
-        };
-      }
+      grind (arith, sweep_count)
 
   filled_all : (now : Files) (r : Result Report RunFault) → Performs honestly (run_tasks names ms) start r now
       → Performs quietly (run_tasks names ms) start r now → IfOk r (ReportsTasks names ms)
@@ -157,11 +128,8 @@ module _ (names : Listings) (ms : List Message) (distinct : AreDistinct ms) (are
       let one = all_parts quietly (listing_tasks names) (sweep_of names.tmp ++ deliveries_of (is_listed names.new names.cur) ms) start now h in
       let two = all_parts quietly (sweep_of names.tmp) (deliveries_of (is_listed names.new names.cur) ms) one.0 now one.2 in
       let l = listed_quietly one.1 in
-      let clean : two.0 ≡ swept start = swept_exact one.0 (rw l.0 l.1) two.1 ∙ ap swept l.0 in (
-        all_filled start (is_listed names.new names.cur) look.knows ms are two.0 now
-            (λ name ours. ap (λ s. get s.tmp name) clean ∙ swept_free start name ours) two.2 ∙ ap (filled start ms) clean,
-        tells.swept ∙ sweep_count names.tmp ∙ filter-length is_converter_name l.1,
-      )
+      let clean : two.0 ≡ swept start = swept_exact one.0 (rw l.0 l.1) two.1 ∙ ap swept l.0 in
+      grind (arith, all_filled, swept_free, sweep_count, filter-length)
 
 -- a run after other runs
 restarted : (r : Result Report RunFault) {t : List ℕ} {ms : List Message} (links : List Link) (first : Files) {start now : Files} → length t < 2 ^ 63
@@ -177,11 +145,7 @@ both_ok (Err e) f p q = tt
 -- ---- with these messages of those that a text has, which are all with Ok
 module _ (names : Listings) (these more ms : List Message) (e : ms ≡ these ++ more) where
   planned_prefix : planned_tasks names ms ≡ run_tasks names these ++ deliveries_of (is_listed names.new names.cur) more
-  planned_prefix =
-      let is_there = is_listed names.new names.cur in
-      planned_are names ms ∙ ap (run_tasks names) e
-      ∙ ap (λ ts. listing_tasks names ++ (sweep_of names.tmp ++ ts)) (flat_map-append (delivery_if is_there) these more)
-      ∙ ap (λ ts. listing_tasks names ++ ts) (sym (append_assoc (sweep_of names.tmp) (deliveries_of is_there these) (deliveries_of is_there more)))
+  planned_prefix = grind (arith, planned_are, flat_map-append, append_assoc)
 
   planned_performs : (w : Way) → MayStop w → (r : Result Report RunFault) → OnOk r (ms ≡ these) → (start now : Files)
       → Performs w (run_tasks names these) start r now → Performs w (planned_tasks names ms) start r now
@@ -210,15 +174,7 @@ deliveries_most is_there (m ∷ ms) =
 few_tasks : (names : Listings) (bodies : List (List ℕ)) → length names.tmp < 2 ^ 64
     → length bodies ≤ 2 ^ 63 → length (run_tasks names (messages_of bodies)) < 2 ^ 66
 few_tasks names bodies small few =
-    let most = deliveries_most (is_listed names.new names.cur) (messages_of bodies) in
-    omega (
-      arith,
-      length-messages_of bodies,
-      length-append (sweep_of names.tmp) (deliveries_of (is_listed names.new names.cur) (messages_of bodies)),
-      sweep_count names.tmp,
-      length-filter is_converter_name names.tmp,
-      count_by-le-length is_converter_name names.tmp,
-    )
+    grind (arith, deliveries_most, bodies, length-messages_of, length-append, sweep_count, length-filter, count_by-le-length)
 
 -- ---- what a run owes, from what it was given and the tasks that it performed
 module _ {before after : Option (List ℕ)} {reads : ℕ} {start now : Seen} {r : Result Report RunFault}

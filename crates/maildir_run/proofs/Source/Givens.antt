@@ -1,6 +1,6 @@
 -- What one more read gives, and what a refused one leaves.
 use Rattle.std.proofs.Common.{◌≡◌, ℕ, ◌*◌, ◌<◌, ◌≤◌, Bool, true, false, Option, Some, Ok, List, [], ◌∷◌, ◌++◌, length, refl, sym, arith}
-use Rattle.std.proofs.Common.{◌∙◌, ap, arith, append_assoc, ◌==◌, eqb-true, eq-eqb, append-nil, length-append, inl, inr, suc, cond}
+use Rattle.std.proofs.Common.{◌∙◌, ap, arith, append_assoc, ◌==◌, eqb-true, eq-eqb, append-nil, length-append, suc, cond}
 use Rattle.maildir_run.proofs.Common.{Consumes, IsAtEnd, Consumes-trans, append_cancel_right, Entry, Splitter, mbox-one, RunFault, NoFromLine}
 use Rattle.maildir_run.proofs.Common.{Reader, Breaks, Went, IsPrefixOf, Gave, IsGiven, SourceStopped, Possible, FromLines, Consumes-nil, ReadsAtMost}
 use Rattle.mbox_text.proofs.Reading.FirstGiven.{few_given, first_of, unread_none, mbox-length}
@@ -9,10 +9,7 @@ use Rattle.mbox_text.proofs.FromLine.FromLines.{from_lines-before, from_lines-af
 -- ---- what was read
 consumed : {before now : Option (List ℕ)} {had left : List ℕ} (text : List ℕ) → before ≡ Some had → now ≡ Some left
     → Consumes before now text → had ≡ text ++ left
-consumed {now} {had} {left} text e f read =
-    let at_start : Consumes (Some had) now text = rw e at read in
-    let at_end : Consumes (Some had) (Some left) text = rw f at at_start in
-    at_end
+consumed {now} {had} {left} text e f read = grind arith
 
 -- what was read is a prefix of each possible text
 pub read_is : (before now : Option (List ℕ)) (text t : List ℕ) → Consumes before now text → (p : Possible before now t) → p.read ≡ text
@@ -116,10 +113,7 @@ none_after (g ∷ given) whole e = absurd (cc)
 pub given-from_lines : (ended : Bool) (before now : Option (List ℕ)) (splitter : Splitter) (left reads : ℕ) (given whole : List Entry)
     → IsGiven ended before now splitter left reads (given ++ whole) → FromLines whole
 given-from_lines true before now splitter left reads given whole p = from_lines-after given whole (mbox-from_lines p.text _ p.all)
-given-from_lines false before now splitter left reads given whole p = elim p.fed.given_are [
-  | inl a ↦ from_lines-after given whole (from_lines-before _ _ (mbox-from_lines p.text _ a.1.1))
-  | inr a ↦ none_after given whole a.1
-]
+given-from_lines false before now splitter left reads given whole p = grind (arith, from_lines-after, from_lines-before, mbox-from_lines, none_after)
 
 -- ---- one more read
 pub went_on : (ended : Bool) (before after : Option (List ℕ)) (old : Reader) (splitter : Splitter) (left : ℕ) (out out' : List Entry)

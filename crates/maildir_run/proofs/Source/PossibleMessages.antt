@@ -44,10 +44,7 @@ prefix_of_text {before} {after} {given} f {t} p of =
 -- and with Ok all of them
 pub whole_text : {before after : Option (List ℕ)} {reads : ℕ} {all : List Entry}
     → GaveAll before after reads all → {t : List ℕ} → Possible before after t → Mbox t all
-whole_text {before} {after} gave {t} p =
-    let at_end : p.left ≡ [] = rw p.has at gave.end in
-    let is : t ≡ gave.text = rw (← read_is before after _ t gave.read p) p.prefix ∙ ap (λ xs. gave.text ++ xs) (p.whole at_end) ∙ append-nil gave.text in
-    rw is gave.all
+whole_text {before} {after} gave {t} p = grind (arith, read_is, append-nil)
 
 pub whole_messages : (t : List ℕ) (all : List Entry) → Mbox t all → {ms : List Message} → MessagesOf t ms → ms ≡ messages_of (bodies_of all)
 whole_messages t all whole (inl (entries, m, e)) = e ∙ ap (λ es. messages_of (bodies_of es)) (mbox-one t entries all m whole)
@@ -59,7 +56,7 @@ pub given_of : {A E : Type 0} (r : Result A E) {before after : Option (List ℕ)
     → (more : List Message) × (ms ≡ messages_of (bodies_of given) ++ more) × OnOk r (ms ≡ messages_of (bodies_of given))
 given_of (Ok x) {given} prefix whole t ms p of =
     let same = whole_messages t given (whole_text whole p) of in
-    ([], same ∙ sym (append-nil (messages_of (bodies_of given))), same)
+    grind (arith, append-nil)
 given_of (Err e) {before} {after} {reads} {given} prefix whole t ms p of = let f = prefix_of_text prefix p of in (f.0, f.1, tt)
 
 -- ---- a batch

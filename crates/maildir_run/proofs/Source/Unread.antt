@@ -10,10 +10,7 @@ pub never_reads : (text : List ℕ) {after : Option (List ℕ)} → NeverFrom te
 never_reads text n more left has whole = never_unreadable _ (never-more text more n)
 
 pub short_reads : (text : List ℕ) {after : Option (List ℕ)} → IsTooShort text → IsAtEnd after → NeverReads (text ++ []) after
-short_reads text s end more left has whole entries h =
-    let none : left ≡ [] = rw has at end in
-    let all : (text ++ []) ++ more ≡ text = rw (whole none, append-nil text) (append-nil text) in
-    short_unreadable text s entries (rw all at h)
+short_reads text s end more left has whole entries h = grind (arith, append-nil, short_unreadable)
 
 -- a read that is refused
 pub breaks_went : (old : Reader) (before : Option (List ℕ)) {after : Option (List ℕ)} (out out' : List Entry) (splitter : Splitter)

@@ -43,4 +43,4 @@ three_calls t ms s new report are d run before after made =
     let leftovers : leftover_count s ≡ 0 = leftovers_are s.tmp ∙ ap len (no_converter_kept s.tmp d.swept) ∙ len-empty name_cmp (List ℕ) in
     let placed : report.placed ≡ 0 = omega (arith, is_placed, there) in
     let swept : report.swept ≡ 0 = omega (arith, is_swept, leftovers) in
-    (placed, swept, made ∙ ap (λ n. (before + n) % 2 ^ 128) (omega (arith, placed, swept)))
+    grind arith

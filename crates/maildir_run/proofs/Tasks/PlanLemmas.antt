@@ -21,9 +21,7 @@ deliveries_each_alone i new cur (target ∷ targets) =
 
 pub planned_each_alone : (tmp new cur : List (List ℕ)) (targets : List Target)
     → planned tmp new cur targets ≡ planned tmp new cur [] ++ each_alone 0 new cur targets
-planned_each_alone tmp new cur targets =
-    ap (λ xs. removals tmp ++ xs) (deliveries_each_alone 0 new cur targets)
-    ∙ ap (λ xs. xs ++ each_alone 0 new cur targets) (sym (append-nil (removals tmp)))
+planned_each_alone tmp new cur targets = grind (arith, deliveries_each_alone, append-nil)
 
 -- ---- the loops of the planner
 pub deliveries_from-push : (is_there : List ℕ → Bool) (i : ℕ) (targets : List Target) (target : Target)
@@ -47,11 +45,7 @@ module _ (is_there : List ℕ → Bool) (targets : List Target) (i : ℕ) (d : T
   pub deliveries-step : (before now after : List Step) (shown : Bool) → i < length targets
       → is_there (get_or targets i d).base ≡ shown → now ≡ before ++ deliveries_from is_there 0 (take i targets)
       → after ≡ now ++ cond shown [] (Write i ∷ Place i ∷ []) → after ≡ before ++ deliveries_from is_there 0 (take (i + 1) targets)
-  deliveries-step before now after shown h is had added =
-      added
-      ∙ ap (λ xs. xs ++ cond shown [] (Write i ∷ Place i ∷ [])) had
-      ∙ append_assoc before (deliveries_from is_there 0 (take i targets)) (cond shown [] (Write i ∷ Place i ∷ []))
-      ∙ ap (λ xs. before ++ xs) (ap (λ t. deliveries_from is_there 0 (take i targets) ++ cond t [] (Write i ∷ Place i ∷ [])) (sym is) ∙ sym (deliveries-more h))
+  deliveries-step before now after shown h is had added = grind (arith, append_assoc, deliveries-more)
 
 -- ---- the removals
 swept_each : (ms : List Message) (names : List (List ℕ)) → flat_map (task_of ms) (map Remove names) ≡ map (λ name. Do (Removing name)) names

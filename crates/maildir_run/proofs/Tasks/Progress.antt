@@ -17,9 +17,7 @@ progress_on {mid} {now} named leaves p = record {
 
 not_before : (done : List Message) (m : Message) (base : List ℕ) → IsFalse (is_base_of (done ++ m ∷ []) base)
     → IsFalse (is_base_of done base) × IsFalse (is_name m.target.base base)
-not_before done m base off =
-    let parts = or_parts (is_base_of done base) (is_base_of (m ∷ []) base) (sym (list_any-append (λ n. is_name n.target.base base) done (m ∷ [])) ∙ off) in
-    (parts.0, (or_parts (is_name m.target.base base) false parts.1).0)
+not_before done m base off = grind (arith, or_parts, list_any-append)
 
 -- one more message that is there
 pub progress_home : {done : List Message} (m : Message) {old now : Files} → IsHome now m → Progress done old now → Progress (done ++ m ∷ []) old now
@@ -107,7 +105,7 @@ module _ (done rest : List Message) (old now : Files) (named : AreNamed (done ++
       ]
 
   other_now : (base : List ℕ) → IsFalse (is_base_of (done ++ rest) base) → IsFalse (is_base_of done base)
-  other_now base off = (or_parts (is_base_of done base) (is_base_of rest base) (sym (list_any-append (λ n. is_name n.target.base base) done rest) ∙ off)).0
+  other_now base off = grind (arith, or_parts, list_any-append)
 
   pub progress_stands : KeptSoFar (done ++ rest) old now
   progress_stands = record {
@@ -118,13 +116,7 @@ module _ (done rest : List Message) (old now : Files) (named : AreNamed (done ++
 
 -- where a message that was missing is missing yet, nothing happened
 nothing_delivered : {m : Message} {mid now : Files} → IsMissing mid m → IsMissing now m → DeliversMessage m mid now → KeepsHomes mid now
-nothing_delivered {m} {mid} {now} was is delivers = record {
-  kept = λ base named.
-      elim (cases_Bool (is_name m.target.base base)) as (λ _. IsPermutation (homes mid base) (homes now base)) [
-        | inl e ↦ subst (λ b. IsPermutation (homes mid b) (homes now b)) (is_name-true _ base e) (rw (was, is) (IsPermutation-refl _))
-        | inr e ↦ delivers.others base named e
-      ];
-}
+nothing_delivered {m} {mid} {now} was is delivers = grind (arith, cases_Bool, is_name-true, IsPermutation-refl)
 
 -- a message that was missing was delivered, or is missing yet
 pub progress_or_more : {done : List Message} {m : Message} {old mid now : Files} → AreNamed done → All (λ n. IsFalse (is_name m.target.base n.target.base)) done
@@ -148,9 +140,7 @@ apart_prefix done m later distinct =
     ∙ h)
 
 not_done : (done : List Message) (m : Message) → All (λ n. IsFalse (is_name m.target.base n.target.base)) done → IsFalse (is_base_of done m.target.base)
-not_done done m apart =
-    list_any_none (λ n. is_name n.target.base m.target.base) done (All-weaker (λ n. is_name m.target.base n.target.base ≡ false)
-    (λ n. is_name n.target.base m.target.base ≡ false) (λ n h. (eq_by_cmp_equiv total).symm n.target.base m.target.base ∙ h) done apart)
+not_done done m apart = grind (arith, list_any_none, All-weaker, eq_by_cmp_equiv, total)
 
 module _ (done : List Message) (m : Message) (old now : Files) (named : IsTrue (is_converter_base m.target.base))
     (apart : All (λ n. IsFalse (is_name m.target.base n.target.base)) done) (p : Progress done old now) where
