@@ -1,9 +1,9 @@
 -- The table of messages that are listed one after the other.
 use Rattle.std.proofs.Common.{◌≡◌, ℕ, ◌+◌, ◌^◌, ◌<◌, ◌≤◌, false, eqb, Option, Result, Ok, Err, List, [], ◌∷◌, ◌++◌, length, map, take, drop, get_or}
 use Rattle.std.proofs.Common.{refl, arith}
-use Rattle.std.proofs.Common.{sym, ◌∙◌, ap, arith, append_assoc, MatchResult, IsErr, append-nil, length-append, take-append-drop, take_all, length-take-le}
-use Rattle.maildir_run.proofs.Common.{Appends, Appends-trans, Appends-nil, false≢true, length-map, map-append, take_more}
-use Rattle.maildir_run.proofs.Common.{Entry, sender, AppendsPrefix, Writes, prefix_then, Target, Counts, Named, targets}
+use Rattle.std.proofs.Common.{arith, append_assoc, MatchResult, IsErr, append-nil, length-append, take-append-drop, take_all, length-take-le}
+use Rattle.maildir_run.proofs.Common.{Appends, Appends-nil, false≢true, length-map, map-append, take_more}
+use Rattle.maildir_run.proofs.Common.{Entry, sender, AppendsPrefix, Writes, Target, Counts, Named, targets}
 use Rattle.maildir_run.proofs.Common.{length-targets, targets-prefix, HasListed, info, place_word, shown_byte, shown_sender}
 use Rattle.std.specs.Fmt.{decimal}
 use Rattle.maildir_run.specs.Table.{message_row, rows_from, table_of}
@@ -17,7 +17,7 @@ bodies entries = map (λ entry. entry.body) entries
 pub rows-append : (index : ℕ) (es more : List Entry) (ts others : List Target) → length es ≡ length ts
     → rows_from index (es ++ more) (ts ++ others) ≡ rows_from index es ts ++ rows_from (index + length es) more others
 unfolding rows_from
-rows-append index [] more [] others e = let n : index + 0 ≡ index = omega arith in rw n refl
+rows-append index [] more [] others e = grind arith
 rows-append index [] more (t ∷ ts) others e = absurd (omega (arith, e))
 rows-append index (x ∷ es) more [] others e = absurd (omega (arith, e))
 rows-append index (x ∷ es) more (t ∷ ts) others e =
@@ -28,11 +28,11 @@ rows-append index (x ∷ es) more (t ∷ ts) others e =
 targets-parts : (es more : List Entry) → targets (bodies (es ++ more)) ≡ targets (bodies es) ++ drop (length (bodies es)) (targets (bodies (es ++ more)))
 targets-parts es more =
     let all : bodies (es ++ more) ≡ bodies es ++ bodies more = map-append (λ entry. entry.body) es more in
-    let taken : take (length (bodies es)) (targets (bodies (es ++ more))) ≡ targets (bodies es) = rw all (targets-prefix (bodies es) (bodies more)) in
+    let taken : take (length (bodies es)) (targets (bodies (es ++ more))) ≡ targets (bodies es) = grind (arith, targets-prefix) in
     grind (arith, take-append-drop)
 
 many : (es : List Entry) → length es ≡ length (targets (bodies es))
-many es = sym (length-targets (bodies es) ∙ length-map es (λ entry. entry.body))
+many es = grind (arith, length-targets, length-map)
 
 pub listing_output : IsOutput table_of
 unfolding table_of rows_from
@@ -40,8 +40,7 @@ listing_output = record {
   none = refl;
   prefix = λ a b. (
     rows_from (1 + length a) b (drop (length (bodies a)) (targets (bodies (a ++ b)))),
-    ap (λ ts. rows_from 1 (a ++ b) ts) (targets-parts a b)
-        ∙ rows-append 1 a b _ (drop (length (bodies a)) (targets (bodies (a ++ b)))) (many a),
+    grind (arith, targets-parts, rows-append, many),
   );
 }
 
@@ -53,8 +52,7 @@ table-push given e target is = grind (arith, map-append, rows-append, many, appe
 
 -- a sender that is not empty
 pub sender-some : (sender : List ℕ) → eqb (length sender) 0 ≡ false → shown_sender sender ≡ map shown_byte sender
-sender-some [] e = absurd (cc)
-sender-some (c ∷ sender) e = refl
+sender-some sender e = grind arith
 
 -- nothing went out
 pub lists_none : (given entries : List Entry) (was : Option (List ℕ))
@@ -81,7 +79,7 @@ pub record ListedTo (given entries : List Entry) (i : ℕ) (was is : Option (Lis
 
 pub listed_to_none : {given entries : List Entry} {was : Option (List ℕ)} {namer : Counts} {count : ℕ}
     → HasListed given namer count → ListedTo given entries 0 was was namer count
-listed_to_none {given} {was} h = grind (arith, append-nil, Appends-nil)
+listed_to_none {given} {was} h = grind (arith, append-nil)
 
 module _ (given entries : List Entry) (i : ℕ) (e : Entry) where
   next : i < length entries → e ≡ get_or entries i e → (given ++ take i entries) ++ e ∷ [] ≡ given ++ take (i + 1) entries
@@ -93,7 +91,7 @@ module _ (given entries : List Entry) (i : ℕ) (e : Entry) where
   pub listed_to_more : (was is is' : Option (List ℕ)) (namer namer' : Counts) (count count' : ℕ) (line : List ℕ) → i < length entries → e ≡ get_or entries i e
       → (t : ListedTo given entries i was is namer count) → table_of ((given ++ take i entries) ++ e ∷ []) ≡ table_of (given ++ take i entries) ++ line
       → Appends is is' line → HasListed ((given ++ take i entries) ++ e ∷ []) namer' count' → ListedTo given entries (i + 1) was is' namer' count'
-  listed_to_more was is is' namer namer' count count' line l at t eq out h = grind (arith, next, append_assoc, Appends-trans)
+  listed_to_more was is is' namer namer' count count' line l at t eq out h = grind (arith, next, append_assoc)
 
   pub listed_to_prefix : (was is is' : Option (List ℕ)) (namer : Counts) (count : ℕ) (line : List ℕ) → i < length entries → e ≡ get_or entries i e
       → (t : ListedTo given entries i was is namer count) → table_of ((given ++ take i entries) ++ e ∷ []) ≡ table_of (given ++ take i entries) ++ line
@@ -101,7 +99,7 @@ module _ (given entries : List Entry) (i : ℕ) (e : Entry) where
   listed_to_prefix was is is' namer count line l at t eq out =
       let b = after l at in
       let f = listing_output.prefix ((given ++ take i entries) ++ e ∷ []) (drop (i + 1) entries) in
-      grind (arith, append_assoc, prefix_then)
+      grind (arith, append_assoc)
 
 pub listed_to_all : {given entries : List Entry} {i : ℕ} {was is : Option (List ℕ)} {namer : Counts} {count : ℕ}
     → length entries ≤ i → ListedTo given entries i was is namer count
@@ -114,14 +112,12 @@ pub row-is : (index size : ℕ) (entry : Entry) (target : Target) (prefix sent l
     → size ≡ length entry.body → line ≡ prefix → sent ≡ sender entry.from_line
     → line' ≡ line ++ shown_sender sent → line'' ≡ line' ++ 10 ∷ [] → line'' ≡ message_row index entry target
 unfolding message_row
-row-is index size entry target prefix sent line line' line'' is_prefix is_size is_line is_sent is_more is_all =
-    rw (is_all, is_more, is_line, is_prefix, is_sent, is_size) (simp append_assoc)
+row-is index size entry target prefix sent line line' line'' is_prefix is_size is_line is_sent is_more is_all = grind (arith, append_assoc)
 
 pub lists_broken : {E : Type 0} (r : Result (Unit {0}) E) (given entries : List Entry) (was is : Option (List ℕ)) (P : Type 0) → IsErr r
     → (lines : List ℕ) × (table_of (given ++ entries) ≡ table_of given ++ lines) × AppendsPrefix was is lines
     → (lines : List ℕ) × (table_of (given ++ entries) ≡ table_of given ++ lines) × Writes was is r lines × MatchResult r (λ _. P) (λ _. Unit {0})
-lists_broken (Ok x) given entries was is P e h = absurd (false≢true e)
-lists_broken (Err x) given entries was is P e h = (h.0, h.1, h.2, tt)
+lists_broken r given entries was is w e h = grind (arith, false≢true)
 
 -- there is room for one more
 pub room : (given entries : List Entry) (i : ℕ) (e : Entry) → i < length entries

@@ -9,7 +9,7 @@ pub no_messages : messages_of [] ≡ []
 no_messages = nil_from_length (messages_of []) (length-messages_of [])
 
 pub after_these : (xs ys : List (List ℕ)) → messages_of (xs ++ ys) ≡ messages_of xs ++ messages_after xs ys
-after_these xs [] = ap messages_of (append-nil xs) ∙ sym (append-nil (messages_of xs))
+after_these xs [] = grind (arith, append-nil)
 after_these xs (y ∷ ys) =
     let m = message_at (target xs y) y in
     ap messages_of (sym (append_assoc xs (y ∷ []) ys)) ∙ after_these (xs ++ y ∷ []) ys

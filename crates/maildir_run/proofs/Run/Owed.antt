@@ -5,12 +5,11 @@ use Rattle.maildir_run.proofs.Common.{length-map, All-head, All-tail, length-fil
 use Rattle.maildir_run.proofs.Common.{is_converter_name, is_converter_base, RunFault, NoFromLine, TooManyReads, Report, swept}
 use Rattle.maildir_run.proofs.Common.{alone, Conversion, ReportsTasks, run_tasks, Seen, Performed, sweep_of, delivery_of, delivery_if}
 use Rattle.maildir_run.proofs.Common.{deliveries_of, fault_of, capped, HasCallNumber, CallNumber, Follows, Message, IsSoundAt, IsMissing}
-use Rattle.maildir_run.proofs.Common.{Delivered, AreDistinct, Sound, has_home, there_count, leftover_count, Files, GaveAll, SourceStopped}
+use Rattle.maildir_run.proofs.Common.{Delivered, AreDistinct, Sound, has_home, there_count, leftover_count, Files, SourceStopped}
 use Rattle.maildir_run.proofs.Common.{is_listed, TmpWithin, Knows, Progress, IsTarget, KeepsForeign, ReadsAtLeast, Possible, Keeps, IsRun}
-use Rattle.maildir_run.proofs.Common.{CountsRun, Link, Runs, Mbox, Task, Do, Performs, AllDone, Stopped, honestly, quietly, Listings}
-use Rattle.maildir_run.proofs.Common.{listing_tasks, planned_tasks, Way, leaving, Removing, messages_of, bodies_of, MessagesOf, flat_map-append}
+use Rattle.maildir_run.proofs.Common.{CountsRun, Link, Runs, Mbox, Task, Performs, AllDone, Stopped, honestly, quietly, Listings}
+use Rattle.maildir_run.proofs.Common.{listing_tasks, planned_tasks, Way, leaving, messages_of, bodies_of, MessagesOf, flat_map-append}
 use Rattle.maildir_run.specs.Converting.{Converts}
-use Rattle.std.proofs.lemmas.Result.{on_ok_weaker, IfErr-at_err}
 use Rattle.maildir_run.proofs.Tasks.CallCounts.{run_counts}
 use Rattle.maildir_run.proofs.Names.Maps.{is_name-true}
 use Rattle.maildir_run.proofs.Chains.MessageLemmas.{text_named, text_distinct, text_targets, messages_distinct, messages_targets, length-messages_of}
@@ -54,7 +53,7 @@ deliveries_count start is_there knows (m ∷ ms) are =
     grind arith
 
 pub sweep_count : (names : List (List ℕ)) → length (sweep_of names) ≡ length (filter is_converter_name names)
-sweep_count names = length-map (filter is_converter_name names) (λ name. Do (Removing name))
+sweep_count names = grind (arith, length-map)
 
 -- ---- the answers' numbers
 pub ran_numbers : {A : Type 0} {tasks : List Task} {start now : Seen} {made made' : ℕ} {r : Result A RunFault}
@@ -70,7 +69,7 @@ ran_numbers {r} ran e few =
 
 -- ---- what the tasks of a run leave
 early_none : (names : Listings) → EachTask PlacesNone (listing_tasks names ++ sweep_of names.tmp)
-early_none names = grind (arith, each_of_both, listings_place_none, sweep_places_none)
+early_none names = grind (arith, each_of_both, sweep_places_none)
 
 run_ours : (names : Listings) (ms : List Message) → All (λ m. IsTarget m.target) ms → EachTask IsOurs (run_tasks names ms)
 run_ours names ms are = grind (arith, each_of_both, sweep_ours, deliveries_ours)
@@ -128,7 +127,7 @@ module _ (names : Listings) (ms : List Message) (distinct : AreDistinct ms) (are
       let one = all_parts quietly (listing_tasks names) (sweep_of names.tmp ++ deliveries_of (is_listed names.new names.cur) ms) start now h in
       let two = all_parts quietly (sweep_of names.tmp) (deliveries_of (is_listed names.new names.cur) ms) one.0 now one.2 in
       let l = listed_quietly one.1 in
-      let clean : two.0 ≡ swept start = swept_exact one.0 (rw l.0 l.1) two.1 ∙ ap swept l.0 in
+      let clean : two.0 ≡ swept start = grind (arith, swept_exact) in
       grind (arith, all_filled, swept_free, sweep_count, filter-length)
 
 -- a run after other runs
@@ -139,8 +138,7 @@ restarted (Ok report) {t} {ms} links first {start} {now} small of missing before
 restarted (Err fault) links first small of missing before run = tt
 
 both_ok : {A E P : Type 0} {Q R : A → Type 0} (r : Result A E) → (P → (x : A) → Q x → R x) → OnOk r P → IfOk r Q → IfOk r R
-both_ok (Ok x) f p q = f p x q
-both_ok (Err e) f p q = tt
+both_ok r f p q = grind arith
 
 -- ---- with these messages of those that a text has, which are all with Ok
 module _ (names : Listings) (these more ms : List Message) (e : ms ≡ these ++ more) where
@@ -161,8 +159,7 @@ calls_made : {names : Listings} (ms : List Message) {start now : Seen} {made mad
 calls_made ms (Err fault) ran tells = tt
 calls_made {names} ms {start} {now} {made} {made'} (Ok report) ran tells =
     let placed = tells.placed in
-    let all_made : ran.n ≡ 3 + length (sweep_of names.tmp) + 2 * report.placed =
-    ran.all refl ∙ (omega (arith, placed, length-append (sweep_of names.tmp) (deliveries_of (is_listed names.new names.cur) ms))) in
+    let all_made : ran.n ≡ 3 + length (sweep_of names.tmp) + 2 * report.placed = grind (arith, length-append) in
     run_counts report tells.swept refl (rw all_made at ran.makes)
 
 -- ---- how many the tasks are
@@ -173,8 +170,7 @@ deliveries_most is_there (m ∷ ms) =
 
 few_tasks : (names : Listings) (bodies : List (List ℕ)) → length names.tmp < 2 ^ 64
     → length bodies ≤ 2 ^ 63 → length (run_tasks names (messages_of bodies)) < 2 ^ 66
-few_tasks names bodies small few =
-    grind (arith, deliveries_most, bodies, length-messages_of, length-append, sweep_count, length-filter, count_by-le-length)
+few_tasks names bodies small few = grind (arith, deliveries_most, length-messages_of, length-append, sweep_count, length-filter, count_by-le-length)
 
 -- ---- what a run owes, from what it was given and the tasks that it performed
 module _ {before after : Option (List ℕ)} {reads : ℕ} {start now : Seen} {r : Result Report RunFault}
@@ -211,7 +207,7 @@ module _ {before after : Option (List ℕ)} {reads : ℕ} {start now : Seen} {r 
         keeps run.names ms (text_distinct t ms of small) (text_targets t ms of small)
         start.files now.files r (rw (planned_are run.names ms) at (performs_here h t ms p of))
         (both_ok r (λ (same : ms ≡ messages_of (bodies_of run.given)) report tells. rw same tells) (given_here t ms p of).2 run.tells) sound;
-    is_read = on_ok_weaker r (λ (w : GaveAll before after reads run.given). (run.given, whole_text w p)) run.whole;
+    is_read = grind (arith, whole_text);
   }
 
   owes_restart : start.honest → (t : List ℕ) (ms : List Message) (links : List Link) (first : Files) → length t < 2 ^ 63
@@ -223,7 +219,7 @@ module _ {before after : Option (List ℕ)} {reads : ℕ} {start now : Seen} {r 
   owes_alone honest_of q t ms p of =
       both_ok r (λ (same : ms ≡ messages_of (bodies_of run.given)) report (alone_is : (now.files ≡ alone (messages_of (bodies_of run.given)) start.files)
       × (report.swept ≡ leftover_count start.files)).
-      (alone_is.0 ∙ ap (λ x. alone x start.files) (sym same), alone_is.1)) (given_here t ms p of).2
+      (grind arith, alone_is.1)) (given_here t ms p of).2
       (filled_all run.names (messages_of (bodies_of run.given)) (messages_distinct (bodies_of run.given) few_bodies)
       (messages_targets (bodies_of run.given) few_bodies) start.files now.files r (run.ran.done_honestly (honest_of q)) (run.ran.done_quietly q) run.tells)
 
@@ -241,10 +237,10 @@ module _ {before after : Option (List ℕ)} {reads : ℕ} {start now : Seen} {r 
 
   -- ---- and of its source
   owes_end : OnOk r (IsAtEnd after)
-  owes_end = on_ok_weaker r (λ (w : GaveAll before after reads run.given). w.end) run.whole
+  owes_end = grind arith
 
   refused_as : (fault : RunFault) → IsErrOf r fault → SourceStopped before after reads fault
-  refused_as fault e = IfErr-at_err (SourceStopped before after reads) e run.refused
+  refused_as fault e = grind arith
 
   owes_unread : IsErrOf r NoFromLine → (t : List ℕ) (entries : List Entry) → Possible before after t → ¬ Mbox t entries
   owes_unread e = (refused_as NoFromLine e).unreadable refl
@@ -268,7 +264,7 @@ module _ {before after : Option (List ℕ)} {reads : ℕ} {start now : Seen} {r 
     cause = run.ran.cause;
     call_number = owes_numbers;
     end = owes_end;
-    budget = (run.prefix.text, run.prefix.read, run.prefix.budget);
+    budget = grind arith;
     untouched = run.untouched;
     no_from_line = owes_unread;
     spent = owes_spent;

@@ -1,5 +1,5 @@
 -- The count of a run's calls, as one more is made.
-use Rattle.std.proofs.Common.{◌≡◌, ℕ, zero, suc, ◌+◌, ◌*◌, ◌%◌, ◌^◌, refl, sym, ap, ◌∙◌, arith, add-suc}
+use Rattle.std.proofs.Common.{◌≡◌, ℕ, zero, suc, ◌+◌, ◌*◌, ◌%◌, ◌^◌, sym, ap, ◌∙◌, arith, add-suc}
 use Rattle.maildir_run.proofs.Common.{Report, CountsRun, GoesUp, raised, capped, Makes}
 use Rattle.std.proofs.Math.Nat.{mod-mod, mod-add-mod}
 
@@ -7,10 +7,10 @@ capped_once : (k : ℕ) → capped (capped k + 1) ≡ capped (k + 1)
 capped_once k = grind arith
 
 pub one_call : {made made' calls calls' : ℕ} → made' ≡ capped (made + 1) → GoesUp calls calls' → Makes 1 made made' calls calls'
-one_call e up = record { count_is = up; made_is = λ k is. e ∙ ap (λ m. capped (m + 1)) is ∙ capped_once k }
+one_call e up = grind arith
 
 pub no_call : {made calls : ℕ} → Makes 0 made made calls calls
-no_call = record { count_is = refl; made_is = λ k is. is ∙ ap capped (omega arith) }
+no_call = grind arith
 
 raised-add : (m n count : ℕ) → raised (m + n) count ≡ raised n (raised m count)
 raised-add m zero count = ap (λ k. raised k count) (omega arith)
