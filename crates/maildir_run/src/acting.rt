@@ -5,6 +5,7 @@ ghost use Rattle.maildir_run.specs.Calls.{folder_of};
 ghost use Rattle.maildir_run.specs.Cuts.{linked};
 ghost use Rattle.maildir_run.specs.Files.{acted, may_take};
 ghost use Rattle.maildir_run.specs.Files.Action.{ToCur, Reflag};
+ghost use Rattle.maildir_run.specs.declared.folder.Sub.TheVariants.{New, Cur};
 ghost use Rattle.maildir_run.specs.MemFiles.{files_in};
 ghost use Rattle.maildir_run.specs.Script.{acts_at, performed, half_performed, all_performed, IsCutShort};
 ghost use Rattle.maildir_run.specs.Private.Script.{may_link};
@@ -45,8 +46,8 @@ impl MemFiles {
         ensures err { OnErr result (files_in self.new ≡ files_in self.old) }
     {
         match act {
-            Act::ToCur(name, target) => self.move_to_cur(name.as_str(), target.as_str()),
-            Act::Reflag(name, target) => self.reflag(name.as_str(), target.as_str()),
+            Act::ToCur(name, target) => self.move_to_cur(Sub::New, name.as_str(), target.as_str()),
+            Act::Reflag(name, target) => self.move_to_cur(Sub::Cur, name.as_str(), target.as_str()),
             Act::DropTmp(name) => {
                 if is_converter_name(name.as_str()) {
                     self.remove(Sub::Tmp, name.as_str());
@@ -81,22 +82,14 @@ impl MemFiles {
         Ok(())
     }
 
-    fn move_to_cur(&mut self, name: &str, target: &str) -> Result<(), AllocError>
-        ensures ok { OnOk result (files_in self.new ≡ acted (ToCur name.now target.now) (files_in self.old)) }
+    // Moves a file of `new` to `cur`, or renames one of `cur`.
+    fn move_to_cur(&mut self, sub: Sub, name: &str, target: &str) -> Result<(), AllocError>
+        ensures to_cur { sub ≡ New → OnOk result (files_in self.new ≡ acted (ToCur name.now target.now) (files_in self.old)) }
+        ensures reflag { sub ≡ Cur → OnOk result (files_in self.new ≡ acted (Reflag name.now target.now) (files_in self.old)) }
         ensures err { OnErr result (files_in self.new ≡ files_in self.old) }
     {
-        if self.link(Sub::New, name, target)? {
-            self.in_new.remove(name);
-        }
-        Ok(())
-    }
-
-    fn reflag(&mut self, name: &str, target: &str) -> Result<(), AllocError>
-        ensures ok { OnOk result (files_in self.new ≡ acted (Reflag name.now target.now) (files_in self.old)) }
-        ensures err { OnErr result (files_in self.new ≡ files_in self.old) }
-    {
-        if self.link(Sub::Cur, name, target)? {
-            self.in_cur.remove(name);
+        if self.link(sub, name, target)? {
+            self.remove(sub, name);
         }
         Ok(())
     }
@@ -109,7 +102,7 @@ impl MemFiles {
             (get (folder_of sub (files_in self.old)) name.now)) }
         ensures err { OnErr result (files_in self.new ≡ files_in self.old) }
     {
-        let Some(bytes) = self.get(sub, name) else {
+        let Some(bytes) = self.of(sub).get(name) else {
             return Ok(false);
         };
         if !is_free(&self.in_cur, name, target) {

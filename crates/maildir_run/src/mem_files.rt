@@ -1,8 +1,7 @@
 // The files of a folder in memory, and the effect of each call on them.
 ghost use Rattle.std.specs.Prelude.{◌≡◌, ◌↔◌, IfOk, OnOk, OnErr, IsTrue, IsFalse, None, string_bytes};
-ghost use Rattle.std.specs.FinMap.{get, keys, len};
-ghost use Rattle.std.specs.Option.{option_copied};
-ghost use Rattle.maildir_run.specs.Calls.{effect, folder_of, names_of, IsReady};
+ghost use Rattle.std.specs.FinMap.{get};
+ghost use Rattle.maildir_run.specs.Calls.{effect, folder_of, IsReady};
 ghost use Rattle.maildir_run.specs.Calls.Call.{Placing, Writing};
 ghost use Rattle.maildir_run.specs.MemFiles.{files_in, no_files, with_file, without_file};
 
@@ -54,33 +53,14 @@ impl MemFiles {
         }
     }
 
-    pub(crate) fn get(&self, sub: Sub, name: &str) -> Option<&[u8]>
-        ensures { option_copied result ≡ get (folder_of sub (files_in self.now)) name.now }
+    /// The files of one folder.
+    pub(crate) fn of(&self, sub: Sub) -> &FileTree
+        ensures { result.now ≡ folder_of sub (files_in self.now) }
     {
         match sub {
-            Sub::Tmp => self.in_tmp.get(name),
-            Sub::New => self.in_new.get(name),
-            Sub::Cur => self.in_cur.get(name),
-        }
-    }
-
-    pub(crate) fn len(&self, sub: Sub) -> usize
-        ensures { result ≡ len (folder_of sub (files_in self.now)) }
-    {
-        match sub {
-            Sub::Tmp => self.in_tmp.len(),
-            Sub::New => self.in_new.len(),
-            Sub::Cur => self.in_cur.len(),
-        }
-    }
-
-    pub(crate) fn names(&self, sub: Sub) -> Result<Vec<String>, AllocError>
-        ensures { IfOk result (λ names. names_of names ≡ keys (folder_of sub (files_in self.now))) }
-    {
-        match sub {
-            Sub::Tmp => self.in_tmp.names(self.alloc),
-            Sub::New => self.in_new.names(self.alloc),
-            Sub::Cur => self.in_cur.names(self.alloc),
+            Sub::Tmp => &self.in_tmp,
+            Sub::New => &self.in_new,
+            Sub::Cur => &self.in_cur,
         }
     }
 
@@ -101,16 +81,6 @@ impl MemFiles {
         self.in_tmp.is_like(&other.in_tmp)
             && self.in_new.is_like(&other.in_new)
             && self.in_cur.is_like(&other.in_cur)
-    }
-
-    pub(crate) fn has_names_of(&self, other: &MemFiles, sub: Sub) -> bool
-        ensures { IsTrue result ↔ (keys (folder_of sub (files_in self.now)) ≡ keys (folder_of sub (files_in other.now))) }
-    {
-        match sub {
-            Sub::Tmp => self.in_tmp.has_names_of(&other.in_tmp),
-            Sub::New => self.in_new.has_names_of(&other.in_new),
-            Sub::Cur => self.in_cur.has_names_of(&other.in_cur),
-        }
     }
 
     pub(crate) fn write(&mut self, name: &str, bytes: &[u8]) -> Result<(), AllocError>

@@ -86,14 +86,14 @@ impl MemFolder {
     pub fn bytes_of(&self, sub: Sub, name: &str) -> Option<&[u8]>
         ensures { option_copied result ≡ get (folder_of sub (files_of self.now)) name.now }
     {
-        self.files.get(sub, name)
+        self.files.of(sub).get(name)
     }
 
     /// How many files a folder has.
     pub fn count(&self, sub: Sub) -> usize
         ensures { result ≡ len (folder_of sub (files_of self.now)) }
     {
-        self.files.len(sub)
+        self.files.of(sub).len()
     }
 
     /// Another program does this. No call is counted.
@@ -165,7 +165,7 @@ impl MemFolder {
     pub fn has_names_of(&self, other: &MemFolder, sub: Sub) -> bool
         ensures { IsTrue result ↔ (keys (folder_of sub (files_of self.now)) ≡ keys (folder_of sub (files_of other.now))) }
     {
-        self.files.has_names_of(&other.files, sub)
+        self.files.of(sub).has_names_of(other.files.of(sub))
     }
 
     /// How many calls of [`Folder`] were made since `script`, or since `new`; it stops at 2^64 - 1.

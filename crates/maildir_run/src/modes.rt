@@ -17,7 +17,7 @@ impl MemFiles {
         ensures in_order { IfOk result (λ names. names_of names ≡ keys (folder_of sub (files_in self.now))) }
     {
         match mode {
-            Mode::Plain | Mode::Twice => Ok(self.names(sub)?),
+            Mode::Plain | Mode::Twice => Ok(self.of(sub).names(self.alloc)?),
             Mode::FailBefore | Mode::FailAfter | Mode::Half => Err(FolderFault::Failed),
         }
     }

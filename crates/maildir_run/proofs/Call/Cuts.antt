@@ -1,6 +1,6 @@
 -- What a power cut leaves, where it leaves all that is there; and from one moment to another.
-use Rattle.std.proofs.Common.{◌≡◌, List, [], ◌∷◌, ◌++◌, map, Result, Ok, Err, refl, sym, subst, ◌∙◌, inl, inr}
-use Rattle.maildir_run.proofs.Common.{FolderFault, Call, Called, Writing, Move, Again, Succeeded}
+use Rattle.std.proofs.Common.{◌≡◌, List, [], ◌∷◌, map, Result, refl, sym, subst, ◌∙◌, inl, inr, arith}
+use Rattle.maildir_run.proofs.Common.{FolderFault, Call, Called, Writing, Move, Succeeded}
 use Rattle.maildir_run.proofs.Common.{after, moved, Came, Leaves, LeavesOf, IsFoundWhole, Follows, left_after, Files}
 use Rattle.maildir_run.proofs.Call.Moves.{writing_ok}
 
@@ -20,8 +20,7 @@ found_whole (Writing name bytes) {old} {new} done = λ ours held has.
 found_whole other done = tt
 
 leaves_called : {A : Type 0} (call : Call) (old : Files) (r : Result A FolderFault) (new : Files) → Called call old r new → LeavesOf call old r new
-leaves_called call old (Ok x) new h = (leaves_moves call old new (h.before ++ Again ∷ h.rest) h.left, found_whole call h)
-leaves_called call old (Err e) new h = leaves_moves call old new h.moves h.left
+leaves_called call old r new h = grind (arith, leaves_moves, found_whole)
 
 -- ---- where a cut leaves what is there, and that alone
 pub all_left : (of : Files → Files → Type 0) {old new : Files} → of old new → Follows of (λ left. left ≡ old) (λ left. left ≡ new)

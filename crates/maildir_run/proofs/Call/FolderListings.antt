@@ -1,9 +1,9 @@
 -- What the three listings tell together.
-use Rattle.std.proofs.Common.{◌≡◌, ℕ, ◌≤◌, Bool, List, [], ◌∷◌, ◌++◌, IsPermutation, IsTrue, length, cond, sym, ap, ◌∙◌, inl, inr, arith, filter}
+use Rattle.std.proofs.Common.{◌≡◌, ℕ, ◌≤◌, Bool, List, [], ◌∷◌, ◌++◌, IsPermutation, IsTrue, length, sym, ◌∙◌, inl, inr, arith, filter}
 use Rattle.maildir_run.proofs.Common.{list_any, len, retain_keys, or_parts, or_cases, cases_Bool, length-filter}
 use Rattle.maildir_run.proofs.Common.{IsPermutation-trans, sum_by-IsPermutation, Sub, Tmp, New, Cur, is_converter_base}
-use Rattle.maildir_run.proofs.Common.{is_converter_name, Files, has_base, held_under, homes, Listing, Move, Other, Again, Torn}
-use Rattle.maildir_run.proofs.Common.{moved, after, folder_of, Lists, has_home, is_any, leftover_count, is_listed, TmpWithin}
+use Rattle.maildir_run.proofs.Common.{is_converter_name, Files, has_base, held_under, homes, Listing, Move, Again}
+use Rattle.maildir_run.proofs.Common.{moved, after, folder_of, Lists, has_home, leftover_count, is_listed, TmpWithin}
 use Rattle.maildir_run.proofs.Call.Moves.{homes_none, both_none, after_kept}
 use Rattle.maildir_run.proofs.Call.ListedNowhere.{listed_new, listed_cur}
 use Rattle.maildir_run.proofs.Call.Leftovers.{leftovers_are, acted_count}
@@ -44,7 +44,7 @@ two_listings b named s t u in_new in_cur first second =
       | inr off ↦
           let parts = or_parts (list_any (has_base b) in_new) (list_any (has_base b) in_cur) off in
           let none : homes u b ≡ [] = listed_cur b named t in_cur u (listed_new b named s in_new t first parts.0) second parts.1 in
-          off ∙ sym (any_kept _ _ kept_both ∙ ap is_any none)
+          grind (arith, any_kept)
     ]
 
 pub three_listings : (b : List ℕ) → IsTrue (is_converter_base b) → {r s t u : Files} {in_tmp in_new in_cur : List (List ℕ)}
@@ -54,20 +54,18 @@ three_listings b named {r} {s} {t} {u} {in_tmp} {in_new} {in_cur} none first sec
 
 -- ---- how many are left over
 moved_count : (m : Move) (s : Files) → len (retain_keys (moved (Listing Tmp) m s).tmp is_converter_name) ≤ len (retain_keys s.tmp is_converter_name)
-moved_count (Other action) s = acted_count action s
-moved_count Again s = omega arith
-moved_count (Torn bytes) s = omega arith
+moved_count m s = grind (arith, acted_count)
 
 listing_count : (ms : List Move) (s : Files) → len (retain_keys (after s (Listing Tmp) ms).tmp is_converter_name) ≤ len (retain_keys s.tmp is_converter_name)
 listing_count [] s = omega arith
 listing_count (m ∷ ms) s = let one = moved_count m s in let more = listing_count ms (moved (Listing Tmp) m s) in omega arith
 
 pub filter-length : (p : List ℕ → Bool) {xs ys : List (List ℕ)} → IsPermutation xs ys → length (filter p xs) ≡ length (filter p ys)
-filter-length p {xs} {ys} h = length-filter p xs ∙ sym (sum_by-IsPermutation (λ x. cond (p x) 1 0) xs ys h) ∙ sym (length-filter p ys)
+filter-length p {xs} {ys} h = grind (arith, length-filter, sum_by-IsPermutation)
 
 pub few_listed : {old : Files} {names : List (List ℕ)} {new : Files} → Lists Tmp old names new → length (filter is_converter_name names) ≤ leftover_count old
 few_listed {old} {names} listed =
     let mid = after old (Listing Tmp) listed.before in
     let same = filter-length is_converter_name listed.names_are in
     let few = listing_count listed.before old in
-    rw (same, leftovers_are mid.tmp, leftovers_are old.tmp) few
+    grind (arith, leftovers_are)

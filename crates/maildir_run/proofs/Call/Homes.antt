@@ -1,34 +1,30 @@
 -- What the homes of a converter's base hold, after an action of another program.
-use Rattle.std.proofs.Common.{◌≡◌, ℕ, Bool, true, false, cond, not, List, [], ◌∷◌, ◌++◌, Option, Some}
-use Rattle.std.proofs.Common.{None, IsPermutation, IsTrue, refl, sym, ap, subst, ◌∙◌, inl, inr, is_some}
+use Rattle.std.proofs.Common.{◌≡◌, ℕ, Bool, true, false, cond, not, List, [], ◌∷◌, ◌++◌, Option, Some, arith}
+use Rattle.std.proofs.Common.{None, IsPermutation, IsTrue, refl, sym, ap, ◌∙◌, inl, inr, is_some}
 use Rattle.maildir_run.proofs.Common.{get, insert, remove, values, entries, retain_keys, find, get-entries, get-from_entries, get-remove}
 use Rattle.maildir_run.proofs.Common.{cases_Bool, and_parts, IsPermutation-refl, IsPermutation-sym, IsPermutation-trans, IsPermutation-middle}
 use Rattle.maildir_run.proofs.Common.{IsPermutation-append_left, IsPermutation-append_right, base, is_converter_name, is_converter_base}
-use Rattle.maildir_run.proofs.Common.{name_cmp, is_name, FileMap, Files, has_base, held_under, homes, Action, ToCur, Reflag, DropTmp}
-use Rattle.maildir_run.proofs.Common.{Outside, outsiders_of, may_take, to_cur, reflag, acted, Message, IsHome, IsSoundAt, is_any, has_home}
+use Rattle.maildir_run.proofs.Common.{name_cmp, is_name, FileMap, Files, has_base, held_under, homes, Action}
+use Rattle.maildir_run.proofs.Common.{outsiders_of, may_take, acted, Message, IsHome, IsSoundAt, is_any, has_home}
 use Rattle.maildir_run.proofs.Names.Maps.{total, is_name-true, get_under, under_same, under_insert, under_insert_other}
 use Rattle.maildir_run.proofs.Names.Maps.{under_remove, under_remove_other, values-insert, values-remove}
 
 -- ---- one folder, under one base
 pub held_same : (b : List ℕ) (m n : FileMap) → ((q : List ℕ) → has_base b q ≡ true → get m q ≡ get n q) → held_under b m ≡ held_under b n
-held_same b m n alike = ap values (under_same (has_base b) m n alike)
+held_same b m n alike = grind (arith, under_same)
 
 module _ (b : List ℕ) (m : FileMap) (k : List ℕ) where
   pub held-insert_other : (v : List ℕ) → has_base b k ≡ false → held_under b (insert m k v) ≡ held_under b m
-  held-insert_other v h = ap values (under_insert_other (has_base b) m k v h)
+  held-insert_other v h = grind (arith, under_insert_other)
 
   pub held-remove_other : has_base b k ≡ false → held_under b (remove m k) ≡ held_under b m
   held-remove_other h = ap values (under_remove_other (has_base b) m k h)
 
   pub held-insert_new : (v : List ℕ) → has_base b k ≡ true → get m k ≡ None → IsPermutation (v ∷ held_under b m) (held_under b (insert m k v))
-  held-insert_new v h none =
-      rw (under_insert (has_base b) m k v h)
-      (values-insert _ k (get_under (has_base b) m k ∙ rw h none))
+  held-insert_new v h none = grind (arith, under_insert, values-insert, get_under)
 
   pub held-remove_old : (v : List ℕ) → has_base b k ≡ true → get m k ≡ Some v → IsPermutation (v ∷ held_under b (remove m k)) (held_under b m)
-  held-remove_old v h has =
-      rw (under_remove (has_base b) m k h)
-      (values-remove _ k (get_under (has_base b) m k ∙ rw h has))
+  held-remove_old v h has = grind (arith, under_remove, values-remove, get_under)
 
 -- ---- the outsiders' step
 find-both : (q : List ℕ) (xs ys : List (List ℕ × List ℕ)) → find name_cmp q ys ≡ None → find name_cmp q (xs ++ ys) ≡ find name_cmp q xs
@@ -50,18 +46,17 @@ pub converters : (b q : List ℕ) → IsTrue (is_converter_base b) → has_base 
 converters b q named h = ap is_converter_base (sym (is_name-true b (base q) h)) ∙ named
 
 pub held-outsiders_of : (b : List ℕ) (ours theirs : FileMap) → IsTrue (is_converter_base b) → held_under b (outsiders_of ours theirs) ≡ held_under b ours
-held-outsiders_of b ours theirs named = held_same b _ _ (λ q h. get-outsiders_of ours theirs q (converters b q named h))
+held-outsiders_of b ours theirs named = grind (arith, held_same, get-outsiders_of, converters)
 
 -- ---- each action
 pub absent : (o : Option (List ℕ)) → not (is_some o) ≡ true → o ≡ None
-absent None h = refl
-absent (Some x) h = cc
+absent o h = grind arith
 
 abbrev pub KeepsHomesOf : List ℕ → Files → Files → Type 0
 KeepsHomesOf b old new = IsPermutation (homes old b) (homes new b)
 
 pub equally : (b : List ℕ) (old new : Files) → homes old b ≡ homes new b → KeepsHomesOf b old new
-equally b old new e = subst (λ hs. IsPermutation (homes old b) hs) e (IsPermutation-refl _)
+equally b old new e = grind arith
 
 to_cur_kept : (b : List ℕ) (s : Files) (name target : List ℕ) {bytes : List ℕ} → get s.new name ≡ Some bytes
     → may_take s.cur name target ≡ true → KeepsHomesOf b s (record s { new = remove s.new name; cur = insert s.cur target bytes })
@@ -76,13 +71,11 @@ to_cur_kept b s name target {bytes} has may =
           (IsPermutation-trans _ _ _
           (IsPermutation-sym _ _ (IsPermutation-middle (held_under b (remove s.new name)) bytes (held_under b s.cur)))
           (IsPermutation-append_right (held_under b (remove s.new name)) _ _ (held-insert_new b s.cur target bytes (alike ∙ on) free)))
-      | inr off ↦ equally b s (record s { new = remove s.new name; cur = insert s.cur target bytes })
-          (rw (held-remove_other b s.new name off, held-insert_other b s.cur target bytes (alike ∙ off)) refl)
+      | inr off ↦ grind (arith, held-remove_other, held-insert_other)
     ]
 
 pub same_both : {X : Type 0} (b : Bool) {o : Option X} → o ≡ None → cond b None o ≡ None
-same_both true e = refl
-same_both false e = e
+same_both b e = grind arith
 
 reflag_kept : (b : List ℕ) (s : Files) (name target : List ℕ) {bytes : List ℕ} → get s.cur name ≡ Some bytes
     → may_take s.cur name target ≡ true → KeepsHomesOf b s (record s { cur = insert (remove s.cur name) target bytes })
@@ -90,45 +83,18 @@ reflag_kept b s name target {bytes} has may =
     let parts = and_parts _ _ may in
     let free : get s.cur target ≡ None = absent _ parts.0 in
     let alike : has_base b target ≡ has_base b name = ap (is_name b) (sym (is_name-true _ _ parts.1)) in
-    let gone : get (remove s.cur name) target ≡ None = get-remove total s.cur name target ∙ same_both (is_name target name) free in
+    let gone : get (remove s.cur name) target ≡ None = grind (arith, get-remove, total) in
     elim (cases_Bool (has_base b name)) [
       | inl on ↦
           IsPermutation-append_right (held_under b s.new) _ _
           (IsPermutation-trans _ _ _
           (IsPermutation-sym _ _ (held-remove_old b s.cur name bytes on has))
           (held-insert_new b (remove s.cur name) target bytes (alike ∙ on) gone))
-      | inr off ↦ equally b s (record s { cur = insert (remove s.cur name) target bytes })
-          (rw (held-insert_other b (remove s.cur name) target bytes (alike ∙ off), held-remove_other b s.cur name off) refl)
+      | inr off ↦ grind (arith, held-insert_other, held-remove_other)
     ]
 
 pub acted_kept : (b : List ℕ) → IsTrue (is_converter_base b) → (action : Action) (s : Files) → KeepsHomesOf b s (acted action s)
-acted_kept b named (ToCur name target) s =
-    elim (get s.new name) as (λ o. get s.new name ≡ o → KeepsHomesOf b s (to_cur s name target o)) [
-      | None ↦ λ has. IsPermutation-refl _
-      | Some bytes ↦ λ has.
-          elim (may_take s.cur name target)
-          as (λ t. may_take s.cur name target ≡ t → KeepsHomesOf b s (cond t (record s { new = remove s.new name; cur = insert s.cur target bytes }) s)) [
-            | true ↦ λ may. to_cur_kept b s name target has may
-            | false ↦ λ may. IsPermutation-refl _
-          ] refl
-    ] refl
-acted_kept b named (Reflag name target) s =
-    elim (get s.cur name) as (λ o. get s.cur name ≡ o → KeepsHomesOf b s (reflag s name target o)) [
-      | None ↦ λ has. IsPermutation-refl _
-      | Some bytes ↦ λ has.
-          elim (may_take s.cur name target)
-          as (λ t. may_take s.cur name target ≡ t → KeepsHomesOf b s (cond t (record s { cur = insert (remove s.cur name) target bytes }) s)) [
-            | true ↦ λ may. reflag_kept b s name target has may
-            | false ↦ λ may. IsPermutation-refl _
-          ] refl
-    ] refl
-acted_kept b named (DropTmp name) s =
-    elim (is_converter_name name) as (λ t. KeepsHomesOf b s (cond t (record s { tmp = remove s.tmp name }) s)) [
-      | true ↦ IsPermutation-refl _
-      | false ↦ IsPermutation-refl _
-    ]
-acted_kept b named (Outside files) s =
-    equally b s (acted (Outside files) s) (rw (held-outsiders_of b s.new files.new named, held-outsiders_of b s.cur files.cur named) refl)
+acted_kept b named action s = grind (arith, IsPermutation-refl, to_cur_kept, reflag_kept, equally, held-outsiders_of)
 
 -- ---- messages that were done
 pub none_of : (xs : List (List ℕ)) → is_any xs ≡ false → xs ≡ []
@@ -136,5 +102,4 @@ none_of [] e = refl
 none_of (x ∷ xs) e = cc
 
 pub home_known : (m : Message) (s : Files) → has_home s m.target.base ≡ true → IsSoundAt s m → IsHome s m
-home_known m s on (inl none) = let off : has_home s m.target.base ≡ false = ap is_any none in cc
-home_known m s on (inr home) = home
+home_known m s on h = grind arith

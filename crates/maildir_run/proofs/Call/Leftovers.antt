@@ -1,8 +1,8 @@
 -- How many converter's names tmp has, as other programs act.
-use Rattle.std.proofs.Common.{◌≡◌, ℕ, suc, ◌≤◌, ◌-◌, Bool, true, false, cond, List, [], ◌∷◌, map, length, None, refl, sym, ap, ◌∙◌, inl, inr, arith, filter}
-use Rattle.maildir_run.proofs.Common.{get, remove, entries, keys, len, retain_keys, contains_key, from_sorted, same_map, get-entries}
-use Rattle.maildir_run.proofs.Common.{get-from_sorted, entries-from_sorted, entries_sorted, len-entries, len-remove, cases_Bool, is_converter_name}
-use Rattle.maildir_run.proofs.Common.{name_cmp, FileMap, Files, Action, ToCur, Reflag, DropTmp, Outside, acted, leftover_count}
+use Rattle.std.proofs.Common.{◌≡◌, ℕ, suc, ◌≤◌, ◌-◌, Bool, true, false, cond, List, [], ◌∷◌, map, length, None, refl, sym, ap, ◌∙◌, arith, filter}
+use Rattle.maildir_run.proofs.Common.{remove, entries, keys, len, retain_keys, from_sorted, same_map, get-entries}
+use Rattle.maildir_run.proofs.Common.{get-from_sorted, entries-from_sorted, entries_sorted, len-entries, len-remove, is_converter_name}
+use Rattle.maildir_run.proofs.Common.{name_cmp, FileMap, Files, Action, acted, leftover_count}
 use Rattle.std.specs.FinMap.Entries.{where_key, is_sorted-where_key, find-where_key}
 use Rattle.maildir_run.proofs.Names.Maps.{total, same, get_under, under_same, under_remove, under_remove_other}
 use Rattle.maildir_run.proofs.Call.Homes.{get-outsiders_of}
@@ -16,7 +16,7 @@ entries_under p m =
     get_under p m q ∙ ap (λ o. cond (p q) o None) (get-entries m q)
     ∙ sym (find-where_key name_cmp p q (λ x e. ap p (sym (same q x e))) (entries m))
     ∙ sym (get-from_sorted name_cmp es q sorted)) in
-    ap entries is ∙ entries-from_sorted name_cmp es sorted
+    grind (arith, entries-from_sorted)
 
 keys_filter : (p : List ℕ → Bool) (es : List (List ℕ × List ℕ)) → length (filter p (map (λ e. e.0) es)) ≡ length (where_key name_cmp p es)
 keys_filter p [] = refl
@@ -33,25 +33,13 @@ leftovers_are m =
     keys_filter is_converter_name (entries m) ∙ sym (len-entries (retain_keys m is_converter_name) ∙ ap length (entries_under is_converter_name m))
 
 one_less : (t : Bool) {n : ℕ} → cond t (n - 1) n ≤ n
-one_less true = omega arith
-one_less false = omega arith
+one_less t = grind arith
 
 pub dropped_count : (m : FileMap) (name : List ℕ) → len (retain_keys (remove m name) is_converter_name) ≤ len (retain_keys m is_converter_name)
-dropped_count m name =
-    elim (cases_Bool (is_converter_name name)) [
-      | inl on ↦ rw (under_remove is_converter_name m name on, len-remove total (retain_keys m is_converter_name) name)
-          (one_less (contains_key (retain_keys m is_converter_name) name))
-      | inr off ↦ rw (under_remove_other is_converter_name m name off) (omega arith)
-    ]
+dropped_count m name = grind (arith, under_remove, len-remove, total, one_less, under_remove_other)
 
 pub acted_count : (action : Action) (s : Files) → len (retain_keys (acted action s).tmp is_converter_name) ≤ len (retain_keys s.tmp is_converter_name)
-acted_count (ToCur name target) s = rw (to_cur_tmp s name target (get s.new name)) (omega arith)
-acted_count (Reflag name target) s = rw (reflag_tmp s name target (get s.cur name)) (omega arith)
-acted_count (DropTmp name) s =
-    elim (is_converter_name name) as (λ t. len (retain_keys (cond t (record s { tmp = remove s.tmp name }) s).tmp is_converter_name)
-    ≤ len (retain_keys s.tmp is_converter_name)) [ true ↦ dropped_count s.tmp name | false ↦ omega arith ]
-acted_count (Outside files) s =
-    rw (under_same is_converter_name _ s.tmp (λ q on. get-outsiders_of s.tmp files.tmp q on)) (omega arith)
+acted_count action s = grind (arith, to_cur_tmp, reflag_tmp, dropped_count, under_same, get-outsiders_of)
 
 pub leftovers : (action : Action) (s : Files) → leftover_count (acted action s) ≤ leftover_count s
-leftovers action s = let after = leftovers_are (acted action s).tmp in let before = leftovers_are s.tmp in omega (arith, after, before, acted_count action s)
+leftovers action s = grind (arith, leftovers_are, acted_count)

@@ -1,10 +1,10 @@
 -- A base that two listings do not show has no home.
-use Rattle.std.proofs.Common.{◌≡◌, ℕ, true, false, cond, List, [], ◌∷◌, Option, Some, None, IsPermutation, IsTrue, IsFalse, refl, sym, ap, ◌∙◌, inl, inr}
-use Rattle.maildir_run.proofs.Common.{list_any, get, remove, insert, keys, contains_key-keys, get-remove, or_parts, cases_Bool, list_any-IsPermutation, Sub}
-use Rattle.maildir_run.proofs.Common.{New, Cur, is_converter_base, is_converter_name, is_name, FileMap, Files, has_base, held_under, homes, Action, ToCur}
-use Rattle.maildir_run.proofs.Common.{Reflag, DropTmp, Outside, may_take, to_cur, reflag, acted, all_acted, Listing, Move, Other, Again, moved, after, Lists}
+use Rattle.std.proofs.Common.{◌≡◌, ℕ, true, false, List, [], ◌∷◌, Option, IsPermutation, IsTrue, IsFalse, refl, sym, ap, ◌∙◌, inl, inr, arith}
+use Rattle.maildir_run.proofs.Common.{list_any, remove, keys, contains_key-keys, get-remove, or_parts, cases_Bool, list_any-IsPermutation, Sub}
+use Rattle.maildir_run.proofs.Common.{New, Cur, is_converter_base, is_name, FileMap, Files, has_base, held_under, homes, Action}
+use Rattle.maildir_run.proofs.Common.{to_cur, reflag, acted, all_acted, Listing, Move, Again, moved, after, Lists}
 use Rattle.maildir_run.proofs.Names.Maps.{none_if_not_some, total, is_name-true}
-use Rattle.maildir_run.proofs.Call.Homes.{same_both, held-outsiders_of}
+use Rattle.maildir_run.proofs.Call.Homes.{held-outsiders_of}
 use Rattle.maildir_run.proofs.Call.Moves.{after_kept, after-append, homes_none, none_held, held_none}
 
 -- ---- what a listing shows
@@ -24,32 +24,21 @@ unlisted b m {names} listed off =
 
 -- ---- nobody brings a file of this base into `new`
 none_removed : (b : List ℕ) (m : FileMap) (name : List ℕ) → held_under b m ≡ [] → held_under b (remove m name) ≡ []
-none_removed b m name e = held_none b _ (λ q on. get-remove total m name q ∙ same_both (is_name q name) (none_held b m e q on))
+none_removed b m name e = grind (arith, held_none, get-remove, total, none_held)
 
 module _ (b : List ℕ) (s : Files) (name target : List ℕ) where
   to_cur_new : (o : Option (List ℕ)) → held_under b s.new ≡ [] → held_under b (to_cur s name target o).new ≡ []
-  to_cur_new None e = e
-  to_cur_new (Some bytes) e =
-      elim (may_take s.cur name target) as (λ t. held_under b (cond t (record s { new = remove s.new name; cur = insert s.cur target bytes }) s).new
-      ≡ []) [ true ↦ none_removed b s.new name e | false ↦ e ]
+  to_cur_new o e = grind (arith, none_removed)
 
   reflag_new : (o : Option (List ℕ)) → held_under b s.new ≡ [] → held_under b (reflag s name target o).new ≡ []
-  reflag_new None e = e
-  reflag_new (Some bytes) e =
-      elim (may_take s.cur name target)
-      as (λ t. held_under b (cond t (record s { cur = insert (remove s.cur name) target bytes }) s).new ≡ []) [ true ↦ e | false ↦ e ]
+  reflag_new o e = grind arith
 
 module _ (b : List ℕ) (named : IsTrue (is_converter_base b)) where
   pub acted_new : (action : Action) (s : Files) → held_under b s.new ≡ [] → held_under b (acted action s).new ≡ []
-  acted_new (ToCur name target) s e = to_cur_new b s name target (get s.new name) e
-  acted_new (Reflag name target) s e = reflag_new b s name target (get s.cur name) e
-  acted_new (DropTmp name) s e =
-      elim (is_converter_name name) as (λ t. held_under b (cond t (record s { tmp = remove s.tmp name }) s).new ≡ []) [ true ↦ e | false ↦ e ]
-  acted_new (Outside files) s e = held-outsiders_of b s.new files.new named ∙ e
+  acted_new action s e = grind (arith, to_cur_new, reflag_new, held-outsiders_of)
 
   moved_new : (sub : Sub) (m : Move) (s : Files) → held_under b s.new ≡ [] → held_under b (moved (Listing sub) m s).new ≡ []
-  moved_new sub (Other action) s e = acted_new action s e
-  moved_new sub other s e = e
+  moved_new sub m s e = grind (arith, acted_new)
 
   listing_new : (sub : Sub) (ms : List Move) (s : Files) → held_under b s.new ≡ [] → held_under b (after s (Listing sub) ms).new ≡ []
   listing_new sub [] s e = e

@@ -1,12 +1,12 @@
 -- What a call's moves leave: of the homes of a base, and of a name in tmp.
-use Rattle.std.proofs.Common.{◌≡◌, ℕ, true, false, cond, List, [], ◌∷◌, ◌++◌, ◌⊎◌, Option, Some, None}
-use Rattle.std.proofs.Common.{IsPermutation, IsTrue, refl, sym, ap, subst, ◌∙◌, inl, inr, map, arith, is_some}
-use Rattle.maildir_run.proofs.Common.{get, insert, remove, values, contains_key, entries, retain_keys, empty, get-entries, get-insert, get-empty}
-use Rattle.maildir_run.proofs.Common.{same_map, len, len-empty, len-entries, cases_Bool, All-nil, All-cons, nil_from_length, IsPermutation-refl}
+use Rattle.std.proofs.Common.{◌≡◌, ℕ, true, false, List, [], ◌∷◌, ◌++◌, ◌⊎◌, Option, Some, None}
+use Rattle.std.proofs.Common.{IsPermutation, IsTrue, refl, sym, ap, ◌∙◌, inl, inr, map, arith}
+use Rattle.maildir_run.proofs.Common.{get, insert, remove, values, contains_key, retain_keys, empty, get-entries, get-insert, get-empty}
+use Rattle.maildir_run.proofs.Common.{same_map, len, len-empty, len-entries, All-nil, All-cons, nil_from_length, IsPermutation-refl}
 use Rattle.maildir_run.proofs.Common.{IsPermutation-sym, IsPermutation-trans, IsPermutation-middle, IsPermutation-append_left}
 use Rattle.maildir_run.proofs.Common.{IsPermutation-append_right, length_permutation, All-permutation, is_converter_name, is_converter_base, name_cmp}
-use Rattle.maildir_run.proofs.Common.{is_name, FileMap, Files, has_base, held_under, homes, Action, ToCur, Reflag, DropTmp, Outside, may_take}
-use Rattle.maildir_run.proofs.Common.{to_cur, reflag, acted, Call, Listing, Writing, Placing, Removing, Move, Other, Again, Torn, placed, effect}
+use Rattle.maildir_run.proofs.Common.{is_name, FileMap, Files, has_base, held_under, homes, Action}
+use Rattle.maildir_run.proofs.Common.{to_cur, reflag, acted, Call, Writing, Placing, Move, Other, Again, Torn, placed, effect}
 use Rattle.maildir_run.proofs.Common.{torn, moved, after, IsOthers, IsWhole, Succeeded, PlacesElsewhere, WritesElsewhere, StaysOrGoes, IsReady}
 use Rattle.maildir_name.specs.declared.target.Place.{Place}
 use Rattle.maildir_name.specs.declared.target.Place.TheVariants.{New, Cur}
@@ -16,23 +16,17 @@ use Rattle.maildir_run.proofs.Call.Homes.{KeepsHomesOf, equally, acted_kept, hel
 -- ---- a base at which nothing is placed
 placed_kept : (b : List ℕ) (name : List ℕ) (p : Place) (target : List ℕ) → has_base b target ≡ false
     → (o : Option (List ℕ)) (s : Files) → KeepsHomesOf b s (placed s name p target o)
-placed_kept b name p target off None s = IsPermutation-refl _
-placed_kept b name New target off (Some bytes) s = equally b s (placed s name New target (Some bytes)) (rw (held-insert_other b s.new target bytes off) refl)
-placed_kept b name Cur target off (Some bytes) s = equally b s (placed s name Cur target (Some bytes)) (rw (held-insert_other b s.cur target bytes off) refl)
+placed_kept b name p target off o s = grind (arith, IsPermutation-refl, equally, held-insert_other)
 
 effect_kept : (b : List ℕ) (call : Call) → PlacesElsewhere b call → (s : Files) → KeepsHomesOf b s (effect call s)
-effect_kept b (Placing name p target) h s = placed_kept b name p target h (get s.tmp name) s
-effect_kept b other h s = IsPermutation-refl _
+effect_kept b call h s = grind (arith, placed_kept, IsPermutation-refl)
 
 pub torn_kept : (b : List ℕ) (call : Call) (bytes : List ℕ) (s : Files) → KeepsHomesOf b s (torn call bytes s)
-torn_kept b (Writing name _) bytes s = IsPermutation-refl _
-torn_kept b other bytes s = IsPermutation-refl _
+torn_kept b call bytes s = grind (arith, IsPermutation-refl)
 
 module _ (b : List ℕ) (named : IsTrue (is_converter_base b)) (call : Call) (h : PlacesElsewhere b call) where
   moved_kept : (m : Move) (s : Files) → KeepsHomesOf b s (moved call m s)
-  moved_kept (Other action) s = acted_kept b named action s
-  moved_kept Again s = effect_kept b call h s
-  moved_kept (Torn bytes) s = torn_kept b call bytes s
+  moved_kept m s = grind (arith, acted_kept, effect_kept, torn_kept)
 
   pub after_kept : (ms : List Move) (s : Files) → KeepsHomesOf b s (after s call ms)
   after_kept [] s = IsPermutation-refl _
@@ -43,58 +37,36 @@ pub stays : (q : List ℕ) (s : Files) → StaysOrGoes q s s
 stays q s = inl refl
 
 pub stays_trans : (q : List ℕ) (a b c : Files) → StaysOrGoes q a b → StaysOrGoes q b c → StaysOrGoes q a c
-stays_trans q a b c (inl e) (inl f) = inl (f ∙ e)
-stays_trans q a b c (inl e) (inr f) = inr f
-stays_trans q a b c (inr e) (inl f) = inr (f ∙ e)
-stays_trans q a b c (inr e) (inr f) = inr f
+stays_trans q a b c h w = grind arith
 
 dropped : (q name : List ℕ) (s : Files) → StaysOrGoes q s (record s { tmp = remove s.tmp name })
-dropped q name s =
-    elim (cases_Bool (is_name q name)) [ inl e ↦ inr (get_removed s.tmp name q ∙ rw e refl) | inr e ↦ inl (get_removed s.tmp name q ∙ rw e refl) ]
+dropped q name s = grind (arith, get_removed)
 
 module _ (s : Files) (name target : List ℕ) where
   pub to_cur_tmp : (o : Option (List ℕ)) → (to_cur s name target o).tmp ≡ s.tmp
-  to_cur_tmp None = refl
-  to_cur_tmp (Some bytes) =
-      elim (may_take s.cur name target)
-      as (λ t. (cond t (record s { new = remove s.new name; cur = insert s.cur target bytes }) s).tmp ≡ s.tmp) [ true ↦ refl | false ↦ refl ]
+  to_cur_tmp o = grind arith
 
   pub reflag_tmp : (o : Option (List ℕ)) → (reflag s name target o).tmp ≡ s.tmp
-  reflag_tmp None = refl
-  reflag_tmp (Some bytes) =
-      elim (may_take s.cur name target)
-      as (λ t. (cond t (record s { cur = insert (remove s.cur name) target bytes }) s).tmp ≡ s.tmp) [ true ↦ refl | false ↦ refl ]
+  reflag_tmp o = grind arith
 
 pub acted_tmp : (q : List ℕ) → IsTrue (is_converter_name q) → (action : Action) (s : Files) → StaysOrGoes q s (acted action s)
-acted_tmp q ours (ToCur name target) s = inl (ap (λ m. get m q) (to_cur_tmp s name target (get s.new name)))
-acted_tmp q ours (Reflag name target) s = inl (ap (λ m. get m q) (reflag_tmp s name target (get s.cur name)))
-acted_tmp q ours (DropTmp name) s =
-    elim (is_converter_name name) as (λ t. StaysOrGoes q s (cond t (record s { tmp = remove s.tmp name }) s)) [ true ↦ dropped q name s | false ↦ inl refl ]
-acted_tmp q ours (Outside files) s = inl (get-outsiders_of s.tmp files.tmp q ours)
+acted_tmp q ours action s = grind (arith, to_cur_tmp, reflag_tmp, dropped, get-outsiders_of)
 
 written_elsewhere : (q name bytes : List ℕ) (s : Files) → is_name q name ≡ false → StaysOrGoes q s (record s { tmp = insert s.tmp name bytes })
-written_elsewhere q name bytes s off = inl (get-insert total s.tmp name bytes q ∙ rw off refl)
+written_elsewhere q name bytes s off = grind (arith, get-insert, total)
 
 placed_tmp : (q name : List ℕ) (p : Place) (target : List ℕ) (o : Option (List ℕ)) (s : Files) → StaysOrGoes q s (placed s name p target o)
-placed_tmp q name p target None s = inl refl
-placed_tmp q name New target (Some bytes) s = dropped q name s
-placed_tmp q name Cur target (Some bytes) s = dropped q name s
+placed_tmp q name p target o s = grind (arith, dropped)
 
 effect_tmp : (q : List ℕ) (call : Call) → WritesElsewhere q call → (s : Files) → StaysOrGoes q s (effect call s)
-effect_tmp q (Listing sub) h s = inl refl
-effect_tmp q (Writing name bytes) h s = written_elsewhere q name bytes s h
-effect_tmp q (Placing name p target) h s = placed_tmp q name p target (get s.tmp name) s
-effect_tmp q (Removing name) h s = dropped q name s
+effect_tmp q call h s = grind (arith, written_elsewhere, placed_tmp, dropped)
 
 torn_tmp : (q : List ℕ) (call : Call) → WritesElsewhere q call → (bytes : List ℕ) (s : Files) → StaysOrGoes q s (torn call bytes s)
-torn_tmp q (Writing name _) h bytes s = written_elsewhere q name bytes s h
-torn_tmp q other h bytes s = inl refl
+torn_tmp q call h bytes s = grind (arith, written_elsewhere)
 
 module _ (q : List ℕ) (ours : IsTrue (is_converter_name q)) (call : Call) (h : WritesElsewhere q call) where
   moved_tmp : (m : Move) (s : Files) → StaysOrGoes q s (moved call m s)
-  moved_tmp (Other action) s = acted_tmp q ours action s
-  moved_tmp Again s = effect_tmp q call h s
-  moved_tmp (Torn bytes) s = torn_tmp q call h bytes s
+  moved_tmp m s = grind (arith, acted_tmp, effect_tmp, torn_tmp)
 
   pub after_tmp : (ms : List Move) (s : Files) → StaysOrGoes q s (after s call ms)
   after_tmp [] s = inl refl
@@ -128,12 +100,12 @@ none_held b m e q on =
     sym is ∙ get-entries kept q ∙ rw (no_entries _ e) refl
 
 no_values : (m : FileMap) → len m ≡ 0 → values m ≡ []
-no_values m e = rw (nil_from_length (entries m) (sym (len-entries m) ∙ e)) refl
+no_values m e = grind (arith, nil_from_length, len-entries)
 
 pub held_none : (b : List ℕ) (m : FileMap) → ((q : List ℕ) → has_base b q ≡ true → get m q ≡ None) → held_under b m ≡ []
 held_none b m none =
     let is : retain_keys m (has_base b) ≡ empty = same_map total same _ _ (λ q. grind (arith, get_under, none q, get-empty {X = List ℕ} name_cmp q)) in
-    no_values _ (ap len is ∙ len-empty name_cmp (List ℕ))
+    grind (arith, no_values, len-empty)
 
 -- ---- a base that has no home, at which a call places
 pub both_none : {X : Type 0} (xs ys : List X) → xs ++ ys ≡ [] → (xs ≡ []) × (ys ≡ [])
@@ -175,32 +147,19 @@ module _ (b name : List ℕ) (had : Option (List ℕ)) (s t : Files) (kept : Kee
   waits_on (inl stays) w =
       record {
         homes_are = homes_none b s t kept w.homes_are;
-        waiting = elim w.waiting [ inl e ↦ inl (stays ∙ e) | inr e ↦ inr (stays ∙ e) ];
+        waiting = grind arith;
       }
 
   arrived_on : StaysOrGoes name s t → Arrived b name had s → Arrived b name had t
-  arrived_on stays a =
-      record {
-        bytes = a.bytes;
-        was = a.was;
-        homes_are = homes_one b a.bytes s t kept a.homes_are;
-        gone = elim stays [ inl e ↦ e ∙ a.gone | inr e ↦ e ];
-      }
+  arrived_on stays a = grind (arith, homes_one)
 
 pub placed_gone : (s : Files) (name : List ℕ) (p : Place) (target bytes : List ℕ) → get (placed s name p target (Some bytes)).tmp name ≡ None
-placed_gone s name New target bytes = get-remove_same s.tmp name
-placed_gone s name Cur target bytes = get-remove_same s.tmp name
+placed_gone s name p target bytes = grind (arith, get-remove_same)
 
 -- the effect, where tmp has the file
 arrives : {b name : List ℕ} (p : Place) (target : List ℕ) {had : Option (List ℕ)} {s : Files} → has_base b target ≡ true
     → Waits b name had s → {bytes : List ℕ} → get s.tmp name ≡ Some bytes → Arrived b name had (placed s name p target (Some bytes))
-arrives {b} {name} p target {s} on w {bytes} has =
-    record {
-      bytes = bytes;
-      was = elim w.waiting [ inl e ↦ sym e ∙ has | inr e ↦ cc ];
-      homes_are = placed_first b name p target bytes s on w.homes_are;
-      gone = placed_gone s name p target bytes;
-    }
+arrives {b} {name} p target {s} on w {bytes} has = grind (arith, placed_first, placed_gone)
 
 abbrev pub Stage : (b name : List ℕ) (had : Option (List ℕ)) (s : Files) → Type 0
 Stage b name had s = Waits b name had s ⊎ Arrived b name had s
@@ -211,11 +170,7 @@ module _ (b name : List ℕ) (p : Place) (target : List ℕ) (named : IsTrue (is
   arrived_again s a = rw a.gone a
 
   waits_again : (s : Files) → Waits b name had s → Stage b name had (effect (Placing name p target) s)
-  waits_again s w =
-      elim (get s.tmp name) as (λ o. get s.tmp name ≡ o → Stage b name had (placed s name p target o)) [
-        | None ↦ λ has. inl w
-        | Some bytes ↦ λ has. inr (arrives p target on w has)
-      ] refl
+  waits_again s w = grind (arith, arrives)
 
   arrived_moved : (m : Move) (s : Files) → Arrived b name had s → Arrived b name had (moved (Placing name p target) m s)
   arrived_moved (Other action) s a = arrived_on b name had s (acted action s) (acted_kept b named action s) (acted_tmp name ours action s) a
@@ -244,11 +199,7 @@ module _ (b name : List ℕ) (p : Place) (target : List ℕ) (named : IsTrue (is
   waits_after (other ∷ ms) s others w = absurd others
 
   ready : (s : Files) → Waits b name had s → IsTrue (contains_key s.tmp name) → Arrived b name had (effect (Placing name p target) s)
-  ready s w has =
-      elim (get s.tmp name) as (λ o. get s.tmp name ≡ o → IsTrue (is_some o) → Arrived b name had (placed s name p target o)) [
-        | None ↦ λ is has. cc
-        | Some bytes ↦ λ is has. arrives p target on w is
-      ] refl has
+  ready s w has = grind (arith, arrives)
 
 pub after-append : (s : Files) (call : Call) (ms ns : List Move) → after s call (ms ++ ns) ≡ after (after s call ms) call ns
 after-append s call [] ns = refl
@@ -258,7 +209,7 @@ after-append s call (m ∷ ms) ns = after-append (moved call m s) call ms ns
 module _ (b name : List ℕ) (p : Place) (target : List ℕ) (named : IsTrue (is_converter_base b))
     (ours : IsTrue (is_converter_name name)) (on : has_base b target ≡ true) where
   pub placing : (ms : List Move) (s : Files) → homes s b ≡ [] → Stage b name (get s.tmp name) (after s (Placing name p target) ms)
-  placing ms s e = stage_after b name p target named ours on (get s.tmp name) ms s (inl record { homes_are = e; waiting = inl refl })
+  placing ms s e = grind (arith, stage_after)
 
   -- and with Ok
   pub placing_ok : (old new : Files) → Succeeded (Placing name p target) old new → homes old b ≡ [] → Arrived b name (get old.tmp name) new
@@ -267,8 +218,7 @@ module _ (b name : List ℕ) (p : Place) (target : List ℕ) (named : IsTrue (is
       let call = Placing name p target in
       let mid = after old call done.before in
       let w : Waits b name had mid = waits_after b name p target named ours on had done.before old done.others (record { homes_are = e; waiting = inl refl }) in
-      subst (Arrived b name had) (sym (done.left ∙ after-append old call done.before (Again ∷ done.rest)))
-      (arrived_after b name p target named ours on had done.rest (effect call mid) (ready b name p target named ours on had mid w done.ready))
+      grind (arith, after-append, arrived_after, ready)
 
 -- ---- what was written
 module _ (name bytes : List ℕ) where
@@ -276,9 +226,7 @@ module _ (name bytes : List ℕ) where
   WrittenOrGone s = (get s.tmp name ≡ Some bytes) ⊎ (get s.tmp name ≡ None)
 
   written_on : (s : Files) (t : Files) → StaysOrGoes name s t → WrittenOrGone s → WrittenOrGone t
-  written_on s t (inr gone) w = inr gone
-  written_on s t (inl stays) (inl e) = inl (stays ∙ e)
-  written_on s t (inl stays) (inr e) = inr (stays ∙ e)
+  written_on s t h w = grind (arith, stays)
 
   written_after : IsTrue (is_converter_name name) → (ms : List Move) (s : Files)
       → IsWhole ms → WrittenOrGone s → WrittenOrGone (after s (Writing name bytes) ms)
@@ -289,11 +237,7 @@ module _ (name bytes : List ℕ) where
   written_after ours (Torn _ ∷ ms) s whole w = absurd whole
 
   pub writing_ok : IsTrue (is_converter_name name) → (old new : Files) → Succeeded (Writing name bytes) old new → WrittenOrGone new
-  writing_ok ours old new done =
-      let call = Writing name bytes in
-      let mid = after old call done.before in
-      subst (WrittenOrGone) (sym (done.left ∙ after-append old call done.before (Again ∷ done.rest)))
-      (written_after ours done.rest (effect call mid) done.whole (inl (get-insert_same mid.tmp name bytes)))
+  writing_ok ours old new done = grind (arith, after-append, written_after, get-insert_same)
 
 pub once : (call : Call) (old new : Files) → IsReady call old → new ≡ effect call old → Succeeded call old new
 once call old new ready left = record { before = []; rest = []; others = tt; ready = ready; whole = tt; left = left }

@@ -1,5 +1,5 @@
 -- An action outside reaches just the states that leave the converter's names as they are.
-use Rattle.std.proofs.Common.{◌≡◌, ℕ, true, false, cond, not, List, [], ◌∷◌, ◌++◌, Some, None, refl, sym, ◌∙◌, inl, inr}
+use Rattle.std.proofs.Common.{◌≡◌, ℕ, true, false, cond, not, List, [], ◌∷◌, ◌++◌, Some, None, refl, sym, ◌∙◌, inl, inr, arith}
 use Rattle.maildir_run.proofs.Common.{get, entries, retain_keys, find, get-entries, get-from_entries, same_map, cases_Bool}
 use Rattle.maildir_run.proofs.Common.{is_converter_name, name_cmp, is_name, FileMap, Files, KeepsConverters, outsiders_of, Outside, acted}
 use Rattle.maildir_run.proofs.Names.Maps.{total, same, get_under}
@@ -33,16 +33,7 @@ outsiders_alike ours {theirs} alike =
     ])
 
 pub outside_leaves : (files s : Files) → KeepsConverters s (acted (Outside files) s)
-outside_leaves files s = record {
-  tmp_alike = λ name ours. get-outsiders_of s.tmp files.tmp name ours;
-  new_alike = λ name ours. get-outsiders_of s.new files.new name ours;
-  cur_alike = λ name ours. get-outsiders_of s.cur files.cur name ours;
-}
+outside_leaves files s = grind (arith, get-outsiders_of)
 
 pub outside_reaches : (s t : Files) → KeepsConverters s t → acted (Outside t) s ≡ t
-outside_reaches s t alike =
-    rw (
-      outsiders_alike s.tmp (λ q on. sym (alike.tmp_alike q on)),
-      outsiders_alike s.new (λ q on. sym (alike.new_alike q on)),
-      outsiders_alike s.cur (λ q on. sym (alike.cur_alike q on)),
-    ) refl
+outside_reaches s t alike = grind (arith, outsiders_alike)

@@ -1,10 +1,10 @@
 -- What one call of a run gives, in the words of a run.
-use Rattle.std.proofs.Common.{◌≡◌, ℕ, true, false, ◌||◌, List, [], ◌∷◌, ◌++◌, Some, None, IsPermutation}
-use Rattle.std.proofs.Common.{IsTrue, IsFalse, refl, sym, ap, subst, ◌∙◌, inl, inr, is_some}
-use Rattle.maildir_run.proofs.Common.{list_any, get, keys, contains_key-keys, or-true, or_parts, cases_Bool, false_from_ne_true}
-use Rattle.maildir_run.proofs.Common.{list_any-IsPermutation, IsPermutation-refl, IsPermutation-trans, Sub, Tmp, is_converter_name}
+use Rattle.std.proofs.Common.{◌≡◌, ℕ, true, false, ◌||◌, List, [], ◌∷◌, Some, None, IsPermutation, arith}
+use Rattle.std.proofs.Common.{IsTrue, IsFalse, refl, sym, ap, ◌∙◌, is_some}
+use Rattle.maildir_run.proofs.Common.{list_any, get, keys, contains_key-keys, or-true, or_parts}
+use Rattle.maildir_run.proofs.Common.{list_any-IsPermutation, IsPermutation-trans, Sub, Tmp, is_converter_name}
 use Rattle.maildir_run.proofs.Common.{is_converter_base, Files, FileMap, is_name, has_base, held_under, homes, Call, Listing, Writing}
-use Rattle.maildir_run.proofs.Common.{Placing, Removing, Again, after, effect, Succeeded, AnyMoves, Lists, PlacesElsewhere, WritesElsewhere}
+use Rattle.maildir_run.proofs.Common.{Placing, Removing, after, Succeeded, AnyMoves, Lists, PlacesElsewhere, WritesElsewhere}
 use Rattle.maildir_run.proofs.Common.{StaysOrGoes, Message, IsMissing, IsHome, KeepsHomes, TmpWithin, DeliversMessage, IsTarget}
 use Rattle.maildir_name.specs.declared.target.Place.{Place}
 use Rattle.maildir_run.proofs.Names.Maps.{none_if_not_some, is_name-true, is_name-refl, get-remove_same}
@@ -12,27 +12,23 @@ use Rattle.maildir_run.proofs.Call.Moves.{after_kept, after_tmp, after-append, h
 
 -- ---- any answer is some list of moves, which is what `AnyMoves` says
 pub ok_moves : {call : Call} {old new : Files} → Succeeded call old new → AnyMoves call old new
-ok_moves h = record { moves = h.before ++ Again ∷ h.rest; left = h.left }
+ok_moves h = grind arith
 
 pub called_kept : (b : List ℕ) → IsTrue (is_converter_base b) → {call : Call} → PlacesElsewhere b call
     → {old new : Files} → AnyMoves call old new → IsPermutation (homes old b) (homes new b)
-called_kept b named {call} h {old} c =
-    rw c.left (after_kept b named call h c.moves old)
+called_kept b named {call} h {old} c = grind (arith, after_kept)
 
 pub called_tmp : (q : List ℕ) → IsTrue (is_converter_name q) → {call : Call}
     → WritesElsewhere q call → {old new : Files} → AnyMoves call old new → StaysOrGoes q old new
-called_tmp q ours {call} h {old} c = rw c.left (after_tmp q ours call h c.moves old)
+called_tmp q ours {call} h {old} c = grind (arith, after_tmp)
 
 -- ---- tmp
 pub within_on : {names : List (List ℕ)} {old new : Files}
     → ((q : List ℕ) → IsTrue (is_converter_name q) → IsFalse (list_any (is_name q) names) → StaysOrGoes q old new) → TmpWithin names old → TmpWithin names new
-within_on stays within = record {
-  gone = λ q ours off.
-      elim (stays q ours off) [ inl e ↦ e ∙ within.gone q ours off | inr e ↦ e ];
-}
+within_on stays within = grind arith
 
 none_within : {names : List (List ℕ)} {s : Files} → TmpWithin [] s → TmpWithin names s
-none_within within = record { gone = λ q ours off. within.gone q ours refl }
+none_within within = grind arith
 
 one_off : (q name : List ℕ) → IsFalse (list_any (is_name q) (name ∷ [])) → IsFalse (is_name q name)
 one_off q name off = (or_parts (is_name q name) false off).0
@@ -43,23 +39,14 @@ writing_within {name} {bytes} {old} {new} c within =
 
 without : (name : List ℕ) (names : List (List ℕ)) (s : Files) → get s.tmp name ≡ None → TmpWithin (name ∷ names) s → TmpWithin names s
 without name names s gone within = record {
-  gone = λ q ours off.
-      elim (cases_Bool (is_name q name)) [
-        | inl e ↦ ap (get s.tmp) (is_name-true q name e) ∙ gone
-        | inr e ↦ within.gone q ours (rw e off)
-      ];
+  gone = grind (arith, is_name-true);
 }
 
 gone_on : (name : List ℕ) (old new : Files) → StaysOrGoes name old new → get old.tmp name ≡ None → get new.tmp name ≡ None
-gone_on name old new (inl e) h = e ∙ h
-gone_on name old new (inr e) h = e
+gone_on name old new w h = grind arith
 
 removing_gone : {name : List ℕ} → IsTrue (is_converter_name name) → {old new : Files} → Succeeded (Removing name) old new → get new.tmp name ≡ None
-removing_gone {name} ours {old} done =
-    let call = Removing name in
-    let mid = effect call (after old call done.before) in
-    rw (done.left ∙ after-append old call done.before (Again ∷ done.rest))
-    (gone_on name mid (after mid call done.rest) (after_tmp name ours call tt done.rest mid) (get-remove_same (after old call done.before).tmp name))
+removing_gone {name} ours {old} done = grind (arith, after-append, after_tmp, get-remove_same)
 
 pub removing_within : {name : List ℕ} {names : List (List ℕ)} → IsTrue (is_converter_name name)
     → {old new : Files} → Succeeded (Removing name) old new → TmpWithin (name ∷ names) old → TmpWithin names new
@@ -81,26 +68,18 @@ listing_within {old} {names} listed =
       gone = λ q ours off.
           none_if_not_some _ (contains_key-keys mid.tmp q ∙ sym (list_any-IsPermutation (is_name q) names (keys mid.tmp) listed.names_are) ∙ off);
     } in
-    subst (TmpWithin names) (sym (listed.left ∙ after-append old call listed.before (Again ∷ listed.rest)))
-    (within_on (λ q ours off. after_tmp q ours call tt listed.rest mid) here)
+    grind (arith, after-append, after_tmp)
 
 -- ---- the homes
 pub listing_keeps_homes : (sub : Sub) (old : Files) (names : List (List ℕ)) (new : Files) → Lists sub old names new → KeepsHomes old new
-listing_keeps_homes sub old names new listed = record {
-  kept = λ base named.
-      rw listed.left (after_kept base named (Listing sub) tt (listed.before ++ Again ∷ listed.rest) old);
-}
+listing_keeps_homes sub old names new listed = grind (arith, after_kept)
 
 elsewhere : (m : Message) (base target : List ℕ) → IsTrue (has_base m.target.base target)
     → IsFalse (is_name m.target.base base) → IsFalse (has_base base target)
-elsewhere m base target on off =
-    false_from_ne_true (has_base base target) (λ e.
-    let alike : is_name m.target.base base ≡ true =
-    subst (λ b. is_name m.target.base b ≡ true) (is_name-true _ _ on ∙ sym (is_name-true base _ e)) (is_name-refl m.target.base) in cc)
+elsewhere m base target on off = grind (arith, is_name-true, is_name-refl)
 
 body_of : (name : List ℕ) {body bytes : List ℕ} (s : Files) → WrittenOrGone name body s → get s.tmp name ≡ Some bytes → bytes ≡ body
-body_of name s (inl e) h = cc
-body_of name s (inr e) h = cc
+body_of name s w h = grind arith
 
 -- ---- what a listing shows is there
 shown : (b : List ℕ) (ks : List (List ℕ)) → list_any (has_base b) ks ≡ true → (q : List ℕ) × (has_base b q ≡ true) × (list_any (is_name q) ks ≡ true)
@@ -108,7 +87,7 @@ shown b [] e = cc
 shown b (k ∷ ks) e =
     elim (has_base b k)
     as (λ t. has_base b k ≡ t → (t || list_any (has_base b) ks) ≡ true → (q : List ℕ) × (has_base b q ≡ true) × (list_any (is_name q) (k ∷ ks) ≡ true)) [
-      | true ↦ λ on e. (k, on, ap (λ t. t || list_any (is_name k) ks) (is_name-refl k))
+      | true ↦ grind (arith, is_name-refl)
       | false ↦ λ off e. let r = shown b ks e in (r.0, r.1, rw r.2 (or-true (is_name r.0 k)))
     ] refl e
 
@@ -128,7 +107,7 @@ pub write_delivers : {m : Message} → IsTarget m.target → {old new : Files}
     → AnyMoves (Writing m.target.base m.body) old new → IsMissing old m → DeliversMessage m old new
 write_delivers {m} is {old} {new} c missing =
     let leaves = written_leaves c in
-    record { own = inl (homes_none _ old new (leaves.kept m.target.base is.named) missing); others = λ base named off. leaves.kept base named }
+    grind (arith, homes_none)
 
 -- the base is a converter's name
 pub base_name : (m : Message) → IsTarget m.target → IsTrue (is_converter_name m.target.base)
@@ -147,7 +126,7 @@ write_ok {m} is {old} {mid} done missing =
     let leaves = written_leaves moves in
     record {
       written = writing_ok m.target.base m.body (base_name m is) old mid done;
-      missing = homes_none _ old mid (leaves.kept m.target.base is.named) missing;
+      missing = grind (arith, homes_none);
       leaves = leaves;
       within = writing_within moves;
     }
@@ -159,10 +138,7 @@ module _ (m : Message) (is : IsTarget m.target) (old mid new : Files) (w : Writt
   pub place_delivers : AnyMoves put mid new → DeliversMessage m old new
   place_delivers c =
       record {
-        own = rw c.left (elim (placing m.target.base m.target.base m.target.place m.target.name is.named (base_name m is) is.under c.moves mid w.missing) [
-          | inl waits ↦ inl waits.homes_are
-          | inr a ↦ inr (a.homes_are ∙ ap (λ x. x ∷ []) (body_of _ mid w.written a.was))
-        ]);
+        own = grind (arith, placing, base_name);
         others = λ base named off.
             IsPermutation-trans _ _ _ (w.leaves.kept base named) (called_kept base named (elsewhere m base _ is.under off) c);
       }
@@ -170,13 +146,13 @@ module _ (m : Message) (is : IsTarget m.target) (old mid new : Files) (w : Writt
   pub place_home : Succeeded put mid new → IsHome new m × (TmpWithin [] old → TmpWithin [] new)
   place_home done =
       let a = placing_ok m.target.base m.target.base m.target.place m.target.name is.named (base_name m is) is.under mid new done w.missing in (
-        a.homes_are ∙ ap (λ x. x ∷ []) (body_of _ mid w.written a.was),
+        grind arith,
         λ within. placing_within done a.gone (w.within within),
       )
 
 -- ---- from one moment to another
 pub leaves_none : (s : Files) → KeepsHomes s s
-leaves_none s = record { kept = λ base named. IsPermutation-refl _ }
+leaves_none s = grind arith
 
 pub leaves_trans : (a b c : Files) → KeepsHomes a b → KeepsHomes b c → KeepsHomes a c
-leaves_trans a b c first then = record { kept = λ base named. IsPermutation-trans _ _ _ (first.kept base named) (then.kept base named) }
+leaves_trans a b c first then = grind (arith, IsPermutation-trans)

@@ -1,9 +1,9 @@
 -- Which number the base of each message of a text has.
 use Rattle.std.proofs.Common.{◌≡◌, ℕ, zero, suc, ◌+◌, ◌<◌, ◌≤◌, ◌^◌, Bool, true, false, cond, List, [], ◌∷◌, length}
-use Rattle.std.proofs.Common.{get_or, take, map, count_by, refl, sym, ap, subst, ◌∙◌, inl, inr, arith, take-take}
+use Rattle.std.proofs.Common.{get_or, take, map, count_by, refl, sym, ap, ◌∙◌, inl, inr, arith, take-take}
 use Rattle.maildir_run.proofs.Common.{list_any, cases_Bool, cases_lt, take-map, get_or-map, count_by_more_yes, sum_by-cons}
 use Rattle.maildir_run.proofs.Common.{sum_by-take-le, count_by-le-length, Target, numbered, same_digest, targets}
-use Rattle.maildir_run.proofs.Common.{length-targets, get_or-targets, Message, with_bodies, messages_of, bodies_of, MessagesOf}
+use Rattle.maildir_run.proofs.Common.{length-targets, get_or-targets, Message, with_bodies, messages_of, MessagesOf}
 use Rattle.maildir_name.proofs.DistinctBases.{number_after-is, target-base}
 use Rattle.maildir_run.proofs.Chains.MessageLemmas.{targets_of, length-messages_of, few_bodies_of_text}
 
@@ -40,8 +40,8 @@ messages_numbered bodies i d below =
     let body = get_or bodies i [] in
     let prefix = take i bodies in
     let are : map (λ (n : Message). n.body) ms ≡ bodies = bodies_are _ bodies (length-targets bodies) in
-    let body_is : body ≡ m.body = ap (λ bs. get_or bs i []) (sym are) ∙ get_or-map (λ (n : Message). n.body) ms i d [] below in
-    let prefix_is : prefix ≡ map (λ (n : Message). n.body) (take i ms) = ap (take i) (sym are) ∙ take-map (λ (n : Message). n.body) i ms in
+    let body_is : body ≡ m.body = grind (arith, get_or-map) in
+    let prefix_is : prefix ≡ map (λ (n : Message). n.body) (take i ms) = grind (arith, take-map) in
     let target_is : get_or (targets bodies) i d.target ≡ m.target =
     ap (λ ts. get_or ts i d.target) (sym (targets_of _ bodies (length-targets bodies)))
     ∙ get_or-map (λ (n : Message). n.target) ms i d d.target below in
@@ -52,15 +52,10 @@ messages_numbered bodies i d below =
     ∙ ap (λ n. numbered m.body (n + 1)) (ap (count_by (same_digest m.body)) prefix_is ∙ count-bodies (same_digest m.body) (take i ms))
 
 pub text_numbered : (t : List ℕ) {ms : List Message} → MessagesOf t ms → AreNumbered ms
-text_numbered t (inl (entries, is, e)) = subst AreNumbered (sym e) (messages_numbered (bodies_of entries))
-text_numbered t (inr (none, e)) = subst AreNumbered (sym e) (λ i d below. absurd (omega (arith, below)))
+text_numbered t h = grind (arith, messages_numbered)
 
 pub text_few : (t : List ℕ) {ms : List Message} → MessagesOf t ms → length t < 2 ^ 63 → length ms ≤ 2 ^ 63
-text_few t (inl (entries, is, e)) small =
-    let few = few_bodies_of_text t entries is small in
-    let len = length-messages_of (bodies_of entries) in
-    omega (arith, ap length e, len, few)
-text_few t (inr (none, e)) small = omega (arith, ap length e)
+text_few t h small = grind (arith, few_bodies_of_text, length-messages_of)
 
 -- ---- the elements that pass a test, by their number
 -- the element that passes a test after k others
@@ -75,7 +70,7 @@ module _ {X : Type 0} (p : X → Bool) where
   count-cons x xs t e = sum_by-cons (λ y. cond (p y) 1 0) x xs ∙ ap (λ b. cond b 1 0 + count_by p xs) e
 
   selected_here : (x : X) (xs : List X) (k : ℕ) → p x ≡ true → ((j : ℕ) → j < count_by p xs → Selected p xs j) → k < count_by p (x ∷ xs) → Selected p (x ∷ xs) k
-  selected_here x xs zero on later lt = record { i = 0; below = omega arith; hit = λ d. on; before = refl }
+  selected_here x xs zero on later lt = grind arith
   selected_here x xs (suc k) on later lt =
       let s = later k (omega (arith, lt, count-cons x xs true on)) in
       record { i = suc s.i; below = omega (arith, s.below); hit = s.hit; before = omega (arith, s.before, count-cons x (take s.i xs) true on) }
@@ -102,15 +97,12 @@ module _ {X : Type 0} (p : X → Bool) where
         | inl before ↦ before
         | inr ge ↦
             let within : take j (take i xs) ≡ take j xs = take-take j i xs ge in
-            let le : count_by p (take j xs) ≤ count_by p (take i xs) = rw within at (sum_by-take-le (λ x. cond (p x) 1 0) (take i xs) j) in
+            let le : count_by p (take j xs) ≤ count_by p (take i xs) = grind (arith, sum_by-take-le) in
             absurd (omega (arith, lt, le))
       ]
 
 pub few_with_digest : (b : List ℕ) (ms : List Message) (i : ℕ) → with_digest b (take i ms) ≤ length ms
-few_with_digest b ms i =
-    let part = sum_by-take-le (λ m. cond (has_digest_of b m) 1 0) ms i in
-    let all = count_by-le-length (has_digest_of b) ms in
-    omega (arith, part, all)
+few_with_digest b ms i = grind (arith, sum_by-take-le, count_by-le-length)
 
 pub any_at : {X : Type 0} (p : X → Bool) (xs : List X) (d : X) → list_any p xs ≡ true → (i : ℕ) × (i < length xs) × (p (get_or xs i d) ≡ true)
 any_at p [] d e = cc
@@ -141,15 +133,6 @@ gap p (suc n) low high e =
     elim (cases_Bool (p low)) as (λ _. Gap p low high) [
       | inl on ↦
           let g = gap p n (low + 1) high (omega (arith, e)) in
-          record {
-            j = g.j;
-            from = omega (arith, g.from);
-            to = g.to;
-            full = λ k ge lt. elim (cases_lt low k) as (λ _. p k ≡ true) [
-              | inl more ↦ g.full k (omega (arith, more)) lt
-              | inr le ↦ let is : k ≡ low = omega (arith, ge, le) in ap p is ∙ on
-            ];
-            ends = g.ends;
-          }
-      | inr off ↦ record { j = low; from = omega arith; to = omega (arith, e); full = λ k ge lt. absurd (omega (arith, ge, lt)); ends = λ lt. off }
+          grind arith
+      | inr off ↦ grind arith
     ]

@@ -1,6 +1,6 @@
 -- What any list of runs and actions leaves.
-use Rattle.std.proofs.Common.{◌≡◌, ℕ, zero, suc, List, [], ◌∷◌, ◌++◌, map, All, Contains, None, refl, IsTrue, Ok, get_or, sym, subst, ◌∙◌, inl, inr, arith}
-use Rattle.maildir_run.proofs.Common.{get, IsPermutation-refl, IsPermutation-trans, is_converter_name, is_converter_base, Files, Action, acted, Message}
+use Rattle.std.proofs.Common.{◌≡◌, ℕ, zero, suc, List, [], ◌∷◌, ◌++◌, map, All, Contains, None, refl, IsTrue, Ok, sym, subst, inl, inr, arith}
+use Rattle.maildir_run.proofs.Common.{get, IsPermutation-trans, is_converter_name, is_converter_base, Files, Action, acted, Message}
 use Rattle.maildir_run.proofs.Common.{IsMissing, IsSoundAt, AreNamed, Sound, Delivered, Report, MessagesOf, Chain, IsRun, Link, Acted, Linked, Runs}
 use Rattle.maildir_run.specs.Runs.{Ran}
 use Rattle.maildir_run.proofs.Call.Homes.{acted_kept}
@@ -45,26 +45,20 @@ chain_parts step [] ys old new chain = (old, refl, chain)
 chain_parts step (x ∷ xs) ys old new (next, first, then) = let r = chain_parts step xs ys next new then in (r.0, (next, first, r.1), r.2)
 
 pub sound_now : (ms : List Message) (s : Files) → All (IsSoundAt s) ms → Sound ms s s
-sound_now ms s own = record { own = own; others = λ b named other. IsPermutation-refl _ }
+sound_now ms s own = grind arith
 
 sound_trans : {ms : List Message} {a b c : Files} → Sound ms a b → Sound ms b c → Sound ms a c
-sound_trans {b} first then = record {
-  own = then.own;
-  others = λ b named other. IsPermutation-trans _ _ _ (first.others b named other) (then.others b named other);
-}
+sound_trans {b} first then = grind (arith, IsPermutation-trans)
 
 pub sound_at_start : {ms : List Message} {s : Files} → All (IsMissing s) ms → Sound ms s s
 sound_at_start {ms} {s} missing = sound_now ms s (λ k d h. inl (missing k d h))
 
 acted_sound_at : (m : Message) → IsTrue (is_converter_base m.target.base) → (action : Action) (s : Files) → IsSoundAt s m → IsSoundAt (acted action s) m
 acted_sound_at m named action s (inl none) = inl (homes_none m.target.base s (acted action s) (acted_kept m.target.base named action s) none)
-acted_sound_at m named action s (inr one) = inr (homes_one m.target.base m.body s (acted action s) (acted_kept m.target.base named action s) one)
+acted_sound_at m named action s (inr one) = grind (arith, homes_one, acted_kept)
 
 pub acted_sound : {ms : List Message} → AreNamed ms → {a s : Files} (action : Action) → Sound ms a s → Sound ms a (acted action s)
-acted_sound {ms} named {s} action sound = record {
-  own = λ k d h. acted_sound_at (get_or ms k d) (named k d h) action s (sound.own k d h);
-  others = λ b is other. IsPermutation-trans _ _ _ (sound.others b is other) (acted_kept b is action s);
-}
+acted_sound {ms} named {s} action sound = grind (arith, acted_sound_at, IsPermutation-trans, acted_kept)
 
 -- ---- a chain over a text whose messages these are
 module _ (t : List ℕ) (ms : List Message) (are : MessagesOf t ms) (named : AreNamed ms) where
@@ -82,13 +76,10 @@ module _ (t : List ℕ) (ms : List Message) (are : MessagesOf t ms) (named : Are
       (last.keeps ms are (sound_now ms mid (chain_sound links old mid missing runs).own)).ends.delivered
 
 still_swept : (name : List ℕ) → IsTrue (is_converter_name name) → (action : Action) (s : Files) → get s.tmp name ≡ None → get (acted action s).tmp name ≡ None
-still_swept name ours action s h =
-    elim (acted_tmp name ours action s) [ inl e ↦ e ∙ h | inr e ↦ e ]
+still_swept name ours action s h = grind (arith, acted_tmp)
 
 pub acted_delivered : {ms : List Message} → AreNamed ms → (action : Action) {s : Files} → Delivered ms s → Delivered ms (acted action s)
 acted_delivered {ms} named action {s} d = record {
-  homes_are = λ k e h.
-      homes_one (get_or ms k e).target.base (get_or ms k e).body s (acted action s)
-      (acted_kept _ (named k e h) action s) (d.homes_are k e h);
-  swept = λ name ours. still_swept name ours action s (d.swept name ours);
+  homes_are = grind (arith, homes_one, acted_kept);
+  swept = grind (arith, still_swept);
 }

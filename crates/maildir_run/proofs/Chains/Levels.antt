@@ -1,8 +1,8 @@
 -- How often a body is there, before a run over one of several texts and after it.
 use Rattle.std.proofs.Common.{◌≡◌, ℕ, ◌+◌, ◌-◌, ◌<◌, ◌≤◌, ◌^◌, true, false, List, [], ◌∷◌, length, get_or, take, arith}
-use Rattle.std.proofs.Common.{All, IsTrue, Result, Ok, Err, refl, sym, ap, subst, ◌∙◌, inl, inr, arith, OnOk}
+use Rattle.std.proofs.Common.{All, IsTrue, Result, refl, sym, ap, ◌∙◌, inl, inr, arith, OnOk}
 use Rattle.maildir_run.proofs.Common.{take-length, cases_Bool, cases_lt, is_converter_base, digest_text, numbered, RunFault, Report}
-use Rattle.maildir_run.proofs.Common.{Files, homes, is_name, Message, AreNamed, IsSoundAt, IsHome, is_any, has_home, is_base_of, Keeps}
+use Rattle.maildir_run.proofs.Common.{Files, homes, is_name, Message, AreNamed, IsSoundAt, IsHome, has_home, is_base_of, Keeps}
 use Rattle.maildir_name.proofs.Digests.{same_digest-refl, same_digest-text}
 use Rattle.maildir_name.proofs.BaseLemmas.{numbered-converter, numbered-digits, same-number}
 use Rattle.maildir_run.specs.Several.{IsThere}
@@ -27,9 +27,7 @@ pub record Rise (b : List ℕ) (c n : ℕ) (answer : Result Report RunFault) (s 
 
 -- a number is that of no other
 other_number : (b : List ℕ) {x : List ℕ} {j k : ℕ} → j < k → k ≤ 2 ^ 63 → x ≡ numbered b (k + 1) → numbered b (j + 1) ≡ x → ⊥
-other_number b {j} {k} lt few is e =
-    let same = same-number b b (j + 1) (k + 1) (omega (arith, lt, few)) (omega (arith, few)) (e ∙ is) in
-    absurd (omega (arith, same, lt))
+other_number b {j} {k} lt few is e = grind (arith, same-number)
 
 -- a message whose number is among those that are there is at home
 pub home_level : (ms : List Message) {s : Files} → AreNumbered ms → {i : ℕ} (d : Message) → i < length ms
@@ -72,28 +70,27 @@ IsOwnDigest d ms b = (i : ℕ) → i < length ms → digest_text (get_or ms i d)
 -- ---- the messages of one text with one body
 module _ (d : Message) (ms : List Message) (b : List ℕ) (nums : AreNumbered ms) (own : IsOwnDigest d ms b) where
   base_at : (i : ℕ) → i < length ms → (get_or ms i d).body ≡ b → (get_or ms i d).target.base ≡ numbered b (with_digest b (take i ms) + 1)
-  base_at i below e = nums i d below ∙ ap (λ x. numbered x (with_digest x (take i ms) + 1)) e
+  base_at i below e = grind arith
 
   pub at_number : (k : ℕ) → k < with_digest b ms → AtNumber d ms b (numbered b (k + 1)) k
   at_number k lt =
       let s = select (has_digest_of b) ms k lt in
       let body_is = own s.i s.below (sym (same_digest-text b _ (s.hit d))) in
-      record { i = s.i; below = s.below; before = s.before; body_is = body_is; base_is = base_at s.i s.below body_is ∙ ap (λ n. numbered b (n + 1)) s.before }
+      grind arith
 
   pub of_base : (x : List ℕ) → take 64 x ≡ digest_text b → is_base_of ms x ≡ true → OfBody d ms b x
   of_base x digits on =
       let a = any_at (λ (m : Message). is_name m.target.base x) ms d on in
       let m = get_or ms a.0 d in
       let same : m.target.base ≡ x = is_name-true _ x a.2 in
-      let text : digest_text m.body ≡ digest_text b =
-      sym (ap (take 64) (nums a.0 d a.1) ∙ numbered-digits m.body (with_digest m.body (take a.0 ms) + 1)) ∙ ap (take 64) same ∙ digits in
+      let text : digest_text m.body ≡ digest_text b = grind (arith, numbered-digits) in
       let body_is = own a.0 a.1 text in
       let hit : has_digest_of b m ≡ true = rw body_is (same_digest-refl b) in
       record {
         k = with_digest b (take a.0 ms);
         below = count-taken (has_digest_of b) ms a.0 d a.1 hit;
         is = sym same ∙ base_at a.0 a.1 body_is;
-        at = record { i = a.0; below = a.1; before = refl; body_is = body_is; base_is = same };
+        at = grind arith;
       }
 
 -- ---- one run over the text
@@ -103,7 +100,7 @@ module _ (d : Message) (ms : List Message) (b : List ℕ) (nums : AreNumbered ms
   most = rw (take-length ms) at (few_with_digest b ms (length ms))
 
   named_at : (k : ℕ) → k ≤ 2 ^ 63 → IsTrue (is_converter_base (numbered b (k + 1)))
-  named_at k le = numbered-converter b (k + 1) (omega arith) (omega (arith, le))
+  named_at k le = grind (arith, numbered-converter)
 
   at_home : (x : List ℕ) (k : ℕ) (a : AtNumber d ms b x k) → has_home new x ≡ true → homes new x ≡ b ∷ []
   at_home x k a on = grind (arith, has_home new, homes new)
@@ -115,9 +112,9 @@ module _ (d : Message) (ms : List Message) (b : List ℕ) (nums : AreNumbered ms
       elim (cases_Bool (is_base_of ms x)) [
         | inl on ↦
             let o = of_base d ms b nums own x (numbered-digits b (k + 1)) on in
-            let had : has_home old (get_or ms o.at.i d).target.base ≡ true = ap (has_home old) o.at.base_is ∙ ap is_any (there.up_to k lt) in
-            at_home x o.k o.at (ap (has_home new) (sym o.at.base_is) ∙ keeps.still o.at.i d o.at.below had)
-        | inr off ↦ homes_one x b old new (keeps.sound.others x (named_at k (omega (arith, lt, small))) off) (there.up_to k lt)
+            let had : has_home old (get_or ms o.at.i d).target.base ≡ true = grind arith in
+            grind arith
+        | inr off ↦ grind (arith, homes_one, named_at)
       ]
 
   risen : Gap (λ k. has_home new (numbered b (k + 1))) n (n + (with_digest b ms - n))
@@ -134,14 +131,12 @@ module _ (d : Message) (ms : List Message) (b : List ℕ) (nums : AreNumbered ms
   none_later : (x : List ℕ) (o : OfBody d ms b x) → IsTrue (is_converter_base x) → take 64 x ≡ digest_text b → risen.j ≤ o.k → homes new x ≡ []
   none_later x o named digits ge =
       let c = with_digest b ms in
-      let at_end : has_home new (numbered b (risen.j + 1)) ≡ false = risen.ends (omega (arith, ge, o.below, risen.from)) in
+      let at_end : has_home new (numbered b (risen.j + 1)) ≡ false = grind (arith, risen) in
       elim (cases_lt risen.j o.k) [
-        | inr le ↦ let same : o.k ≡ risen.j =
-            omega (arith, ge, le) in
-            none_of _ (ap (has_home new) (o.is ∙ ap (λ z. numbered b (z + 1)) same) ∙ at_end)
+        | inr le ↦ grind arith
         | inl lt ↦
             let a = at_number d ms b nums own risen.j (omega (arith, lt, o.below)) in
-            let before : a.i < o.at.i = fewer_before (has_digest_of b) ms a.i o.at.i (omega (arith, a.before, o.at.before, lt)) in
+            let before : a.i < o.at.i = grind (arith, fewer_before) in
             let missing : homes old (get_or ms o.at.i d).target.base ≡ [] =
             ap (homes old) o.at.base_is ∙ there.no_other x named digits
             (λ k below. other_number b (omega (arith, below, risen.from, ge)) (omega (arith, o.below, most, few)) o.is) in
@@ -159,7 +154,7 @@ module _ (d : Message) (ms : List Message) (b : List ℕ) (nums : AreNumbered ms
       → ((k : ℕ) → k < risen.j → numbered b (k + 1) ≡ x → ⊥) → homes new x ≡ []
   no_other_now x named digits apart =
       elim (cases_Bool (is_base_of ms x)) [
-        | inr off ↦ homes_none x old new (keeps.sound.others x named off) (there.no_other x named digits (λ k lt. apart k (omega (arith, lt, risen.from))))
+        | inr off ↦ grind (arith, homes_none)
         | inl on ↦
             let o = of_base d ms b nums own x digits on in
             elim (cases_lt o.k risen.j) [
@@ -174,14 +169,13 @@ module _ (d : Message) (ms : List Message) (b : List ℕ) (nums : AreNumbered ms
         | inr ge ↦ ge
         | inl lt ↦
             let a = at_number d ms b nums own risen.j lt in
-            let on : has_home new (numbered b (risen.j + 1)) ≡ true = ap (has_home new) (sym a.base_is) ∙ ap is_any (all a.i d a.below) in
+            let on : has_home new (numbered b (risen.j + 1)) ≡ true = grind arith in
             let off : has_home new (numbered b (risen.j + 1)) ≡ false = risen.ends (omega (arith, lt, risen.from)) in
             cc
       ]
 
   done_now : (r : Result Report RunFault) → r ≡ answer → OnOk r (with_digest b ms ≤ risen.j)
-  done_now (Ok report) e = all_home ((subst (λ a. Keeps ms old a new) (sym e) keeps).ends.delivered.homes_are)
-  done_now (Err fault) e = tt
+  done_now r e = grind (arith, all_home)
 
   pub rise : Rise b (with_digest b ms) n answer new
   rise = record {

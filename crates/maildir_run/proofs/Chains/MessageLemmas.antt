@@ -1,6 +1,6 @@
 -- The messages of a text: their bases are a converter's, and no two are the same.
-use Rattle.std.proofs.Common.{◌≡◌, ℕ, ◌<◌, ◌≤◌, ◌^◌, List, [], ◌∷◌, ◌++◌, map, length, get_or, All, IsTrue, IsFalse, refl, sym, ap, subst, ◌∙◌, inl, inr, arith}
-use Rattle.maildir_run.proofs.Common.{false_from_ne_true, length-map, get_or-map, All-nil, Entry, Target, base, is_converter_base}
+use Rattle.std.proofs.Common.{◌≡◌, ℕ, ◌<◌, ◌≤◌, ◌^◌, List, [], ◌∷◌, ◌++◌, map, length, get_or, All, IsFalse, refl, sym, ap, subst, ◌∙◌, inl, inr, arith}
+use Rattle.maildir_run.proofs.Common.{length-map, get_or-map, All-nil, Entry, Target, base}
 use Rattle.maildir_run.proofs.Common.{IsConverterBase, target, targets, length-targets, targets-push, is_name, Message}
 use Rattle.maildir_run.proofs.Common.{AreNamed, AreDistinct, with_bodies, messages_of, bodies_of, MessagesOf, IsTarget}
 use Rattle.mbox_text.specs.Mbox.{Mbox}
@@ -30,9 +30,7 @@ with_bodies-push (x ∷ ts) (b ∷ bodies) t body e = ap (λ ms. record { target
 -- one more body adds one message, after the others
 module _ (bodies : List (List ℕ)) where
   pub messages_of-push : (body : List ℕ) → messages_of (bodies ++ body ∷ []) ≡ messages_of bodies ++ record { target = target bodies body; body = body } ∷ []
-  messages_of-push body =
-      ap (λ ts. with_bodies ts (bodies ++ body ∷ [])) (targets-push bodies body)
-      ∙ with_bodies-push _ bodies (target bodies body) body (length-targets bodies)
+  messages_of-push body = grind (arith, targets-push, with_bodies-push, length-targets)
 
   -- ---- their bases
   get_target : (k : ℕ) (d : Message) → k < length (messages_of bodies) → get_or (targets bodies) k d.target ≡ (get_or (messages_of bodies) k d).target
@@ -48,11 +46,7 @@ module _ (bodies : List (List ℕ)) where
       rw (get_target k d below) at (named-targets bodies few k d.target (omega (arith, below, as_many))).converter
 
 pub target_is : {t : Target} → IsConverterBase t.base × (base t.base ≡ t.base) × (base t.name ≡ t.base) → IsTarget t
-target_is {t} h = record {
-  named = h.0;
-  whole = ap (is_name t.base) h.1 ∙ is_name-refl t.base;
-  under = ap (is_name t.base) h.2 ∙ is_name-refl t.base;
-}
+target_is {t} h = grind (arith, is_name-refl)
 
 pub messages_targets : (bodies : List (List ℕ)) → length bodies ≤ 2 ^ 63 → All (λ m. IsTarget m.target) (messages_of bodies)
 messages_targets bodies few k d below =
@@ -61,34 +55,26 @@ messages_targets bodies few k d below =
     target_is (named.converter, named.own_base, named.same_base))
 
 different : (a b : List ℕ) → (a ≡ b → ⊥) → IsFalse (is_name a b)
-different a b apart = false_from_ne_true (is_name a b) (λ e. apart (is_name-true a b e))
+different a b apart = grind (arith, is_name-true)
 
 pub messages_distinct : (bodies : List (List ℕ)) → length bodies ≤ 2 ^ 63 → AreDistinct (messages_of bodies)
 messages_distinct bodies few i j d lt below =
-    let base_i : (get_or (targets bodies) i d.target).base ≡ (get_or (messages_of bodies) i d).target.base =
-    ap (λ (t : Target). t.base) (get_target bodies i d (omega arith)) in
-    let base_j : (get_or (targets bodies) j d.target).base ≡ (get_or (messages_of bodies) j d).target.base =
-    ap (λ (t : Target). t.base) (get_target bodies j d below) in
-    different _ _
-    (λ e. distinct-targets bodies few i j d.target lt (omega (arith, below, as_many bodies)) (base_i ∙ (e ∙ sym base_j)))
+    let base_i : (get_or (targets bodies) i d.target).base ≡ (get_or (messages_of bodies) i d).target.base = grind (arith, get_target) in
+    let base_j : (get_or (targets bodies) j d.target).base ≡ (get_or (messages_of bodies) j d).target.base = grind (arith, get_target) in
+    grind (arith, different, distinct-targets, as_many)
 
 -- ---- a text has no more messages than bytes
 pub few_bodies_of_text : (t : List ℕ) (entries : List Entry) → Mbox t entries → length t < 2 ^ 63 → length (bodies_of entries) ≤ 2 ^ 63
-few_bodies_of_text t entries is small =
-    let few = mbox-length t entries is in
-    let len = length-map entries (λ (entry : Entry). entry.body) in
-    omega (arith, few, len)
+few_bodies_of_text t entries is small = grind (arith, mbox-length, length-map)
 
 module _ (t : List ℕ) (ms : List Message) where
   pub text_named : MessagesOf t ms → length t < 2 ^ 63 → AreNamed ms
-  text_named (inl (entries, is, e)) small = subst AreNamed (sym e) (messages_named (bodies_of entries) (few_bodies_of_text t entries is small))
-  text_named (inr (none, e)) small = subst AreNamed (sym e) (All-nil (λ (m : Message). IsTrue (is_converter_base m.target.base)))
+  text_named h small = grind (arith, messages_named, few_bodies_of_text, All-nil)
 
   pub text_distinct : MessagesOf t ms → length t < 2 ^ 63 → AreDistinct ms
-  text_distinct (inl (entries, is, e)) small = subst AreDistinct (sym e) (messages_distinct _ (few_bodies_of_text t entries is small))
-  text_distinct (inr (none, e)) small = subst AreDistinct (sym e) (λ i j d lt below. absurd (omega arith))
+  text_distinct h small = grind (arith, messages_distinct, few_bodies_of_text)
 
   pub text_targets : MessagesOf t ms → length t < 2 ^ 63 → All (λ m. IsTarget m.target) ms
   text_targets (inl (entries, is, e)) small =
       subst (All (λ m. IsTarget m.target)) (sym e) (messages_targets _ (omega (arith, few_bodies_of_text t entries is small)))
-  text_targets (inr (none, e)) small = subst (All (λ m. IsTarget m.target)) (sym e) (All-nil (λ (m : Message). IsTarget m.target))
+  text_targets (inr (none, e)) small = grind arith

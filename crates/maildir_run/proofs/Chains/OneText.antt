@@ -1,10 +1,9 @@
 -- For one text, what is said of several is what is said of it.
-use Rattle.std.proofs.Common.{◌≡◌, ℕ, zero, suc, ◌<◌, ◌&&◌, ◌||◌, ◌⊎◌, true, false, List, [], ◌∷◌, length, arith}
-use Rattle.std.proofs.Common.{get_or, map, bytes_eq, All, Contains, refl, sym, ap, ◌∙◌, inl, inr, arith}
-use Rattle.maildir_run.proofs.Common.{bytes_decides, or-false, cases_lt, and_parts, or_parts, eq_by_cmp_equiv, All-head, All-from_get_or}
-use Rattle.maildir_run.proofs.Common.{Files, is_name, Message, IsMissing, IsSoundAt, AreDistinct, Sound, is_base_of, Link, Acted, Linked, Runs}
-use Rattle.maildir_run.specs.Runs.{Ran}
-use Rattle.maildir_run.specs.Several.{Mailbox, IsMailbox, HoldsGiven, SoundForAll, LinkOver, RanOver, ActedOver, LinkedOver, RunsOver, link_over, link_of}
+use Rattle.std.proofs.Common.{◌≡◌, ℕ, zero, suc, ◌<◌, ◌&&◌, ◌⊎◌, true, List, [], ◌∷◌, length, arith}
+use Rattle.std.proofs.Common.{get_or, map, bytes_eq, All, Contains, sym, ap, ◌∙◌, inl, inr, arith}
+use Rattle.maildir_run.proofs.Common.{bytes_decides, or-false, cases_lt, and_parts, All-head, All-from_get_or}
+use Rattle.maildir_run.proofs.Common.{Files, is_name, Message, IsMissing, IsSoundAt, AreDistinct, Sound, Link, Linked, Runs}
+use Rattle.maildir_run.specs.Several.{Mailbox, IsMailbox, HoldsGiven, SoundForAll, LinkOver, LinkedOver, RunsOver, link_over, link_of}
 use Rattle.maildir_run.proofs.Chains.Chains.{chain_map}
 use Rattle.maildir_run.proofs.Names.Maps.{total}
 use Rattle.maildir_run.proofs.Chains.MessageLemmas.{text_distinct}
@@ -14,8 +13,7 @@ use Rattle.maildir_run.proofs.Chains.SeveralTexts.{home_given}
 -- messages with one base are one message
 same_place : (ms : List Message) → AreDistinct ms → (i j : ℕ) (d : Message) → i < length ms
     → j < length ms → is_name (get_or ms j d).target.base (get_or ms i d).target.base ≡ true → i ≡ j
-same_place ms distinct i j d in_i in_j same =
-    grind (arith, cases_lt i j, is_name (get_or ms j d).target.base (get_or ms i d).target.base, eq_by_cmp_equiv total, cases_lt j i)
+same_place ms distinct i j d in_i in_j same = grind (arith, cases_lt, total)
 
 -- the text gives to each base the body of its message alone
 own_body : {text : Mailbox} → AreDistinct text.messages → {i : ℕ} (d : Message) → i < length text.messages → {s : Files}
@@ -31,12 +29,7 @@ own_body {text} distinct {i} d below (inr holds) =
     inr (holds.homes_are ∙ ap (λ b. b ∷ []) body)
 
 pub one_sound : {text : Mailbox} {old new : Files} → IsMailbox text → SoundForAll (text ∷ []) old new → Sound text.messages old new
-one_sound {text} {new} is sound =
-    let all = All-head (λ (x : Mailbox). All (λ (m : Message). IsMissing new m ⊎ HoldsGiven (text ∷ []) new m) x.messages) text [] sound.own in
-    record {
-      own = λ i d below. own_body (text_distinct text.bytes text.messages is.are is.small) d below (all i d below);
-      others = λ b named off. sound.others b named (ap (λ t. t || false) off);
-    }
+one_sound {text} {new} is sound = grind (arith, All-head, own_body, text_distinct)
 
 one_place : {text : Mailbox} {old new : Files} → Sound text.messages old new → (k : ℕ) → k < length (text ∷ [])
     → All (λ (m : Message). IsMissing new m ⊎ HoldsGiven (text ∷ []) new m) (get_or (text ∷ []) k text).messages
@@ -48,25 +41,22 @@ sound_one {text} {new} sound = record {
   own =
       All-from_get_or (λ (x : Mailbox). All (λ (m : Message). IsMissing new m ⊎ HoldsGiven (text ∷ []) new m) x.messages)
       (text ∷ []) text (one_place sound);
-  others = λ b named off. sound.others b named (or_parts (is_base_of text.messages b) false off).0;
+  others = grind arith;
 }
 
 -- ---- chains
 only_one : (text other : Mailbox) → Contains (text ∷ []) other → other ≡ text
-only_one text other (zero, below, is) = sym is
-only_one text other (suc k, below, is) = absurd (omega (arith, below))
+only_one text other h = grind arith
 
 one_link : (text : Mailbox) (link : LinkOver) (a b : Files) → LinkedOver (text ∷ []) link a b → Linked text.bytes (link_of link) a b
-one_link text (RanOver other answer) a b (among, run) = rw (only_one text other among) at run
-one_link text (ActedOver action) a b e = e
+one_link text link a b e = grind (arith, only_one)
 
 link_one : (text : Mailbox) (link : Link) (a b : Files) → Linked text.bytes link a b → LinkedOver (text ∷ []) (link_over text link) a b
-link_one text (Ran answer) a b run = ((0, omega arith, refl), run)
-link_one text (Acted action) a b e = e
+link_one text link a b run = grind arith
 
 pub one_runs : (text : Mailbox) (links : List LinkOver) (old new : Files) → RunsOver (text ∷ []) links old new → Runs text.bytes (map link_of links) old new
-one_runs text = chain_map (LinkedOver (text ∷ [])) (Linked text.bytes) link_of (one_link text)
+one_runs text = grind (arith, chain_map)
 
 pub runs_one : (text : Mailbox) (links : List Link) (old new : Files)
     → Runs text.bytes links old new → RunsOver (text ∷ []) (map (link_over text) links) old new
-runs_one text = chain_map (Linked text.bytes) (LinkedOver (text ∷ [])) (link_over text) (link_one text)
+runs_one text = grind (arith, chain_map)

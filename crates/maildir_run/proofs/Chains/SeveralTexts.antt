@@ -39,7 +39,7 @@ counts_alike {b} (m ∷ ms) own =
 
 -- a test that no text passes fails at each
 none_at : {X : Type 0} (p : X → Bool) (xs : List X) {x : X} → list_any p xs ≡ false → Contains xs x → p x ≡ false
-none_at p xs {x} off (k, below, is) = false_from_ne_true (p x) (λ on. let any = list_any_at p xs k x below (ap p is ∙ on) in cc)
+none_at p xs {x} off (k, below, is) = grind (arith, list_any_at)
 
 -- a message for places past a list's end
 nobody : Message
@@ -84,13 +84,7 @@ home_given {texts} {k} d below {i} e inside (inr home) =
     let m = get_or (get_or texts k d).messages i e in
     let hit : (is_name m.target.base m.target.base && bytes_eq m.body m.body) ≡ true = rw (is_name-refl m.target.base, nat_list_eq_equiv.refl m.body) refl in
     let inner = list_any_at (λ (n : Message). is_name n.target.base m.target.base && bytes_eq n.body m.body) (get_or texts k d).messages i e inside hit in
-    inr (record {
-      body = m.body;
-      given =
-          list_any_at (λ (x : Mailbox). list_any (λ (n : Message). is_name n.target.base m.target.base && bytes_eq n.body m.body) x.messages)
-          texts k d below inner;
-      homes_are = home;
-    })
+    grind (arith, list_any_at)
 
 -- ---- texts whose distinct bodies have distinct digests
 -- a text of which a run answered Ok is among those whose counts are taken
@@ -207,7 +201,7 @@ module _ (texts : List Mailbox) (are : All IsMailbox texts) (own : HaveOwnDigest
   chain_others links old new levels runs x named off =
       (chain_keeps (LinkedOver texts) (λ s. AreLevel s × IsPermutation (homes old x) (homes s x)) (λ link a b at linked. (
         linked_levels link a b at.0 linked,
-        IsPermutation-trans _ _ _ at.1 (linked_others x named off link a b at.0 linked),
+        grind (arith, IsPermutation-trans, linked_others),
       )) links old new (levels, IsPermutation-refl _) runs).1
 
   abbrev levels_at_start : (s : Files) → OfEach (λ m. IsUnknown s m.body) texts → AreLevel s
@@ -225,13 +219,7 @@ module _ (texts : List Mailbox) (are : All IsMailbox texts) (own : HaveOwnDigest
 
   body_at : (k : ℕ) (d : Mailbox) → k < length texts → (i : ℕ) (e : Message)
       → i < length (get_or texts k d).messages → IsBodyOf texts (get_or (get_or texts k d).messages i e).body
-  body_at k d below i e inside = record {
-    text = get_or texts k d;
-    among = Contains-get_or texts k d below;
-    m = get_or (get_or texts k d).messages i e;
-    inside = Contains-get_or (get_or texts k d).messages i e inside;
-    is = refl;
-  }
+  body_at k d below i e inside = grind (arith, Contains-get_or)
 
   pub chain_counted : (links : List LinkOver) (old new : Files) → OfEach (λ m. IsUnknown old m.body) texts
       → RunsOver texts links old new → OfEach (λ m. StandsAfter links m.body new) texts
@@ -240,7 +228,7 @@ module _ (texts : List Mailbox) (are : All IsMailbox texts) (own : HaveOwnDigest
       let is = body_at k d below i e inside in
       let start = levels_at_start old unknown in
       let g = chain_grown links old new runs start b is (levels_at_start old unknown b is) in
-      record { n = g.level.n; there = g.level.there; at_least = g.at_least; at_most = omega (arith, g.at_most) }
+      grind arith
 
   pub chain_whole : (links : List LinkOver) (old new : Files) (text : Mailbox) (report : Report) → OfEach (λ m. IsUnknown old m.body) texts
       → RunsOver texts links old new → Contains links (RanOver text (Ok report)) → All (IsHome new) text.messages
@@ -249,7 +237,7 @@ module _ (texts : List Mailbox) (are : All IsMailbox texts) (own : HaveOwnDigest
       let b = (get_or ms i d).body in
       let among = (chain_at (LinkedOver texts) links old new runs ran).2.0 in
       let t = text_at text among in
-      let is : IsBodyOf texts b = record { text = text; among = among; m = get_or ms i d; inside = Contains-get_or ms i d below; is = refl } in
+      let is : IsBodyOf texts b = grind (arith, Contains-get_or) in
       let start = levels_at_start old unknown in
       let g = chain_grown links old new runs start b is (start b is) in
       let count = delivered_count b links text report ran in
@@ -265,5 +253,5 @@ module _ (texts : List Mailbox) (are : All IsMailbox texts) (own : HaveOwnDigest
       record {
         own = λ k d below i e inside.
             home_given d below e inside (level_sound_at (get_or texts k d) (Contains-get_or texts k d below) new levels i e inside);
-        others = λ x named off. chain_others links old new start runs x named off;
+        others = grind (arith, chain_others);
       }

@@ -1,56 +1,46 @@
 -- What a call of the folder in memory did that followed its script.
-use Rattle.std.proofs.Common.{◌≡◌, ℕ, Option, true, false, cond, Result, Ok, Err, IfOk, OnErr, IsErrAnd, IsErrOf, refl, sym, ap, subst, ◌∙◌, inl, inr}
+use Rattle.std.proofs.Common.{◌≡◌, ℕ, Option, Result, Ok, Err, IfOk, OnErr, IsErrAnd, IsErrOf, sym, ap, ◌∙◌, inl, inr, arith}
 use Rattle.std.proofs.Common.{◌⊎◌, [], String, Vec, Global}
 use Rattle.std.specs.declared.alloc.AllocError.{AllocError}
-use Rattle.maildir_run.proofs.Common.{keys, Sub, FolderFault, Mode, Plain, FailBefore, Twice, Files, Call, Listing, Placing, IsPermutation-refl}
+use Rattle.maildir_run.proofs.Common.{keys, Sub, FolderFault, Mode, Plain, FailBefore, Files, Call, Listing, IsPermutation-refl}
 use Rattle.maildir_run.proofs.Common.{Called, CalledQuietly, Listed, MayAnswer, CallOf, ListingOf, folder_of, names_of}
-use Rattle.maildir_run.proofs.Common.{IsCutShort, all_performed, acts_at, mode_at, Answers}
+use Rattle.maildir_run.proofs.Common.{IsCutShort, acts_at, Answers}
 use Rattle.std.proofs.Common.{IsPermutation}
 use Rattle.maildir_run.specs.Calls.{CountsFailure, GoesUp}
 use Rattle.maildir_run.specs.declared.folder.FolderFault.TheVariants as fault
 use Rattle.maildir_run.specs.declared.mem_files.MemFiles.{MemFiles}
 use Rattle.maildir_run.specs.declared.mem_folder.MemFolder.{MemFolder}
 use Rattle.maildir_run.specs.MemFiles.{files_in}
-use Rattle.maildir_run.specs.MemFolder.{files_of, lines_of, fail_from_of, call_count, all_call_count, failure_count}
+use Rattle.maildir_run.specs.MemFolder.{files_of, all_call_count, failure_count}
 use Rattle.maildir_run.specs.MemFolder.{next_call, next_acts, next_files, next_mode}
 use Rattle.maildir_run.specs.MemFolder.{IsQuiet, HasNoScript, FollowsScript, Scripted, seen_of}
 use Rattle.maildir_run.specs.Private.MemFolder.{BeginsCall}
-use Rattle.maildir_run.specs.Script.{is_from, mode_of}
+use Rattle.maildir_run.specs.Script.{mode_of}
 use Rattle.maildir_run.proofs.Call.Cuts.{called_left}
 use Rattle.maildir_run.proofs.Memory.Scripts.{answered, called_then, cut_fails, listed_then, not_cut}
 
 follows_called : {A : Type 0} (call : Call) (old new : MemFolder) (result : Result A FolderFault)
     → FollowsScript call old result new → Called call (files_of old) result (files_of new)
-follows_called call old new result (inl a) =
-    called_then call (next_acts old) (files_of old) (files_of new)
-    result refl (answered _ call _ _ result a)
+follows_called call old new result (inl a) = grind (arith, called_then, answered)
 follows_called call old new (Ok x) (inr w) = cc w.0
 follows_called call old new (Err f) (inr w) = cut_fails w.1
 
 -- a listing that answered Ok has left the files as the acts left them
 listing_changes_none : {A : Type 0} (mode : Mode) (sub : Sub) (s t : Files) (x : A) → Answers mode (Listing sub) s (Ok x) t → t ≡ s
-listing_changes_none Plain sub s t x a = a.2
-listing_changes_none Twice sub s t x a = a.2
-listing_changes_none other sub s t x a = cc a.0
+listing_changes_none mode sub s t x a = grind arith
 
 follows_listed : (sub : Sub) (old new : MemFolder) (result : Result (Vec (String Global) Global) FolderFault) → FollowsScript (Listing sub) old result new
     → IfOk result (λ names. names_of names ≡ keys (folder_of sub (files_of new))) → Listed sub (files_of old) result (files_of new)
-follows_listed sub old new (Ok names) (inl a) is =
-    listed_then (next_acts old)
-    (listing_changes_none _ sub _ _ names a) is
+follows_listed sub old new (Ok names) (inl a) is = grind (arith, listed_then)
 follows_listed sub old new (Ok names) (inr w) is = cc w.0
 follows_listed sub old new (Err f) follows is = follows_called {A = Vec (String Global) Global} _ old new (Err f) follows
 
 -- `Absent` comes from a placement alone
 may_answer : {A : Type 0} (mode : Mode) (call : Call) (s t : Files) (result : Result A FolderFault) → Answers mode call s result t → MayAnswer call result
-may_answer mode (Placing name place target) s t result a = tt
-may_answer mode call s t (Err fault.Absent) a = absurd (a.1 tt)
-may_answer mode call s t other a = tt
+may_answer mode call s t result a = grind arith
 
 follows_may : {A : Type 0} (call : Call) (old new : MemFolder) (result : Result A FolderFault) → FollowsScript call old result new → MayAnswer call result
-follows_may call old new result (inl a) = may_answer _ call _ _ result a
-follows_may (Placing name place target) old new result (inr w) = tt
-follows_may call old new result (inr w) = rw w.0 tt
+follows_may call old new result h = grind (arith, may_answer)
 
 -- ---- where the script has no line
 -- there is no act that could be refused
@@ -59,27 +49,14 @@ never_cut m {s} {t} quiet cut = not_cut (ap (acts_at (next_call m)) quiet) cut
 
 -- and a call is as it is, or fails before it has an effect
 no_lines : (fail_from : Option ℕ) (call : ℕ) → (mode_of [] fail_from call ≡ Plain) ⊎ (mode_of [] fail_from call ≡ FailBefore)
-no_lines fail_from call = elim (is_from fail_from call) as (λ b. (cond b FailBefore Plain ≡ Plain) ⊎ (cond b FailBefore Plain ≡ FailBefore)) [
-  | true ↦ inr refl
-  | false ↦ inl refl
-]
+no_lines fail_from call = grind arith
 
 plain_or_not : (m : MemFolder) → IsQuiet m → (next_mode m ≡ Plain) ⊎ (next_mode m ≡ FailBefore)
-plain_or_not m quiet =
-    let none = ap (λ lines. mode_of lines (fail_from_of m) (next_call m)) quiet in
-    elim (no_lines (fail_from_of m) (next_call m)) [
-      | inl is ↦ inl (none ∙ is)
-      | inr is ↦ inr (none ∙ is)
-    ]
+plain_or_not m quiet = grind arith
 
 same_on_err : (A : Type 0) (call : Call) (s t : Files) (f : FolderFault) {mode : Mode} → (mode ≡ Plain) ⊎ (mode ≡ FailBefore)
     → Answers {A = A} mode call s (Err f) t → t ≡ s
-same_on_err A call s t fault.Absent is a = a.2
-same_on_err A call s t fault.Failed (inl is) a = let b = rw is at a.0 in cc
-same_on_err A call s t fault.Failed (inr is) a = rw is at a.1
-same_on_err A call s t fault.OutOfMemory is (takes, inl same) = same
-same_on_err A call s t fault.OutOfMemory (inl is) (takes, inr once) = let twice = once.0 in cc
-same_on_err A call s t fault.OutOfMemory (inr is) (takes, inr once) = let twice = once.0 in cc
+same_on_err h call s t f is a = grind arith
 
 plainly : {A : Type 0} (call : Call) (s t : Files) (result : Result A FolderFault) {mode : Mode} → (mode ≡ Plain) ⊎ (mode ≡ FailBefore)
     → Answers mode call s result t → CalledQuietly call s result t
@@ -88,20 +65,17 @@ plainly call s t (Ok x) (inr is) a = let b = rw is at a.0 in cc
 plainly {A} call s t (Err f) is a = ([], tt, same_on_err A call s t f is a)
 
 quiet_files : (m : MemFolder) → IsQuiet m → next_files m ≡ files_of m
-quiet_files m quiet = ap (λ lines. all_performed (acts_at (next_call m) lines) (files_of m)) quiet
+quiet_files m quiet = grind arith
 
 follows_quietly : {A : Type 0} (call : Call) (old new : MemFolder) (result : Result A FolderFault) → IsQuiet old
     → FollowsScript call old result new → CalledQuietly call (files_of old) result (files_of new)
-follows_quietly call old new result quiet (inl a) = rw (quiet_files old quiet) at (plainly call _ _ result (plain_or_not old quiet) a)
+follows_quietly call old new result quiet (inl a) = grind arith
 follows_quietly call old new result quiet (inr w) = absurd (never_cut old quiet w.1)
 
 -- where nothing is scripted for it, it answers as `Plain` says
 unscripted : {A : Type 0} (call : Call) (old new : MemFolder) (result : Result A FolderFault)
     → FollowsScript call old result new → HasNoScript old → Answers Plain call (files_of old) result (files_of new)
-unscripted call old new result (inl a) none =
-    let plain : next_mode old ≡ Plain =
-    ap (λ late. cond late FailBefore (mode_at (lines_of old) (next_call old))) none.early ∙ ap (λ lines. mode_at lines (next_call old)) none.quiet in
-    rw (plain, quiet_files old none.quiet) at a
+unscripted call old new result (inl a) none = grind arith
 unscripted call old new result (inr w) none = absurd (never_cut old none.quiet w.1)
 
 -- a fault leaves the files as they were
@@ -109,17 +83,14 @@ pub quiet_fault : {A : Type 0} (call : Call) (old new : MemFolder) (result : Res
     → Scripted call old result new → OnErr result (files_of new ≡ files_of old)
 quiet_fault call old new (Ok x) quiet scripted = tt
 quiet_fault {A} call old new (Err f) quiet scripted = elim scripted.did [
-  | inl a ↦ same_on_err A call _ _ f (plain_or_not old quiet) a ∙ quiet_files old quiet
+  | inl a ↦ grind arith
   | inr w ↦ absurd (never_cut old quiet w.1)
 ]
 
 -- a listing has the names of the folder
 listed_names : (sub : Sub) (s t : Files) (result : Result (Vec (String Global) Global) FolderFault) → CalledQuietly (Listing sub) s result t
     → IfOk result (λ names. names_of names ≡ keys (folder_of sub t)) → IfOk result (λ names. IsPermutation (names_of names) (keys (folder_of sub s)))
-listed_names sub s t (Ok names) same is =
-    let all = is ∙ ap (λ s. keys (folder_of sub s)) same.1 in
-    subst (IsPermutation (names_of names)) all (IsPermutation-refl (names_of names))
-listed_names sub s t (Err f) same is = tt
+listed_names sub s t result same is = grind (arith, IsPermutation-refl)
 
 -- ---- a call as that of any folder
 call_made : {A : Type 0} (call : Call) (old new : MemFolder) (result : Result A FolderFault) → Scripted call old result new
@@ -133,7 +104,7 @@ call_made call old new result scripted counted cause =
       left = λ honest. called_left call result called;
       still_rooted = λ honest rooted. tt;
       quiet = λ quiet. scripted.script.lines ∙ quiet;
-      quietly = λ quiet. follows_quietly call old new result quiet scripted.did;
+      quietly = grind (arith, follows_quietly);
       counted = counted;
       cause = cause;
       answers = follows_may call old new result scripted.did;
@@ -142,17 +113,12 @@ call_made call old new result scripted counted cause =
 pub listing_made : (sub : Sub) (old new : MemFolder) (result : Result (Vec (String Global) Global) FolderFault)
     → Scripted (Listing sub) old result new → IfOk result (λ names. names_of names ≡ keys (folder_of sub (files_of new)))
     → CallOf (Listing sub) (seen_of old) result (seen_of new) → ListingOf sub (seen_of old) result (seen_of new)
-listing_made sub old new result scripted in_order call = record {
-  call = call;
-  listed = λ honest. follows_listed sub old new result scripted.did in_order;
-  names = λ quiet. listed_names sub _ _ result (call.quietly quiet) in_order;
-}
+listing_made sub old new result scripted in_order call = grind (arith, follows_listed, scripted)
 
 -- ---- at its exits
 -- an act found no memory
 no_memory : {A : Type 0} (r : Result A FolderFault) → IsErrAnd r (λ e. e ≡ fault.OutOfMemory) → IsErrOf r fault.OutOfMemory
-no_memory (Ok x) is = absurd is
-no_memory (Err f) is = ap Err is
+no_memory r is = grind arith
 
 counts_no_failure : {A : Type 0} (r : Result A FolderFault) {old new : ℕ} → IsErrOf r fault.OutOfMemory → new ≡ old → CountsFailure r old new
 counts_no_failure r is same = rw is same
@@ -160,9 +126,7 @@ counts_no_failure r is same = rw is same
 module _ {A : Type 0} (call : Call) {old new : MemFolder} (r : Result A FolderFault) {e : AllocError}
     (is : IsErrAnd r (λ e. e ≡ fault.OutOfMemory)) (begun : BeginsCall old (Err e) new) where
   pub cut_scripted : Scripted call old r new
-  cut_scripted =
-      let did : FollowsScript call old r new = inr (no_memory r is, begun.err) in
-      record { did = did; plain = unscripted call old new r did; script = begun.script; told = begun.told }
+  cut_scripted = grind (arith, unscripted)
 
   pub cut_made : CallOf call (seen_of old) r (seen_of new)
   cut_made = call_made call old new r cut_scripted begun.counted (counts_no_failure r (no_memory r is) begun.failures)
@@ -170,20 +134,13 @@ module _ {A : Type 0} (call : Call) {old new : MemFolder} (r : Result A FolderFa
 -- the call answered in its mode
 in_its_mode : {A : Type 0} (call : Call) (old new : MemFolder) {mode : Mode} {s t : Files} {r r' : Result A FolderFault} → Answers mode call s r t
     → mode ≡ next_mode old → s ≡ next_files old → r' ≡ r → files_of new ≡ t → FollowsScript call old r' new
-in_its_mode call old new a mode_is files_are r_is left = inl (rw (mode_is, files_are, sym r_is, sym left) at a)
+in_its_mode call old new a mode_is files_are r_is left = grind arith
 
 module _ {A : Type 0} (call : Call) {old mid new : MemFolder} {files : MemFiles} {mode : Mode} {r r' : Result A FolderFault}
     (begun : BeginsCall old (Ok mode) mid) (a : Answers mode call (files_of mid) r (files_in files)) (is : r' ≡ r)
     (rest : new ≡ record mid { files = files; failures = failure_count new }) where
   pub scripted : Scripted call old r' new
-  scripted =
-      let did = in_its_mode call old new a begun.mode begun.ok is (ap files_of rest) in
-      record {
-        did = did;
-        plain = unscripted call old new r' did;
-        script = record { lines = ap lines_of rest ∙ begun.script.lines; fail_from = ap fail_from_of rest ∙ begun.script.fail_from };
-        told = ap call_count rest ∙ begun.told;
-      }
+  scripted = grind arith
 
   pub made : CountsFailure r (failure_count mid) (failure_count new) → CallOf call (seen_of old) r' (seen_of new)
   made cause = call_made call old new r' scripted (ap all_call_count rest ∙ begun.counted) (rw (sym is, begun.failures) at cause)

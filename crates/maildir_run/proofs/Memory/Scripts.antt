@@ -1,12 +1,12 @@
 -- What a script makes of a folder in memory is what other programs and a call may do.
 use Rattle.std.proofs.Common.{◌≡◌, ℕ, Bool, true, false, cond, not, List, [], ◌∷◌, ◌++◌, length, take, drop, get_or, ◌<◌, ◌+◌, ◌==◌, map, Option}
-use Rattle.std.proofs.Common.{Some, None, Result, Ok, Err, IsTrue, IsFalse, IsOk, IsErrOf, OnErr, string_bytes, IsPermutation, ◌&&◌, ◌/◌}
-use Rattle.std.proofs.Common.{append-nil, refl, sym, ap, subst, ◌∙◌, inl, inr, append_assoc, suc, arith, take-append-drop, is_some, bytes_eq}
-use Rattle.maildir_run.proofs.Common.{drop-cons, false_from_ne_true, take_more, IsPermutation-refl, insert, remove, get, keys, contains_key}
+use Rattle.std.proofs.Common.{Some, None, Result, Ok, Err, IsTrue, IsFalse, IsOk, IsErrOf, OnErr, string_bytes, ◌&&◌, ◌/◌}
+use Rattle.std.proofs.Common.{append-nil, refl, sym, ap, ◌∙◌, inl, inr, append_assoc, suc, arith, take-append-drop, is_some, bytes_eq}
+use Rattle.maildir_run.proofs.Common.{drop-cons, false_from_ne_true, take_more, insert, remove, get, keys, contains_key}
 use Rattle.maildir_run.proofs.Common.{base, is_converter_name, Sub, Tmp, New, Cur, FolderFault, Mode, Plain, FailBefore, FailAfter, Half}
 use Rattle.maildir_run.proofs.Common.{Twice, Files, FileMap, Action, ToCur, Reflag, DropTmp, Outside, acted, all_acted, is_name, may_take}
-use Rattle.maildir_run.proofs.Common.{AgreeOnConverters, KeepsConverters, Call, Listing, Writing, Placing, Move, Other, Again, Torn, placed}
-use Rattle.maildir_run.proofs.Common.{effect, after, IsOthers, IsWhole, IsReady, folder_of, AnyMoves, Lists, Called, linked, with_file}
+use Rattle.maildir_run.proofs.Common.{AgreeOnConverters, KeepsConverters, Call, Listing, Writing, Placing, Move, Other, Again, Torn}
+use Rattle.maildir_run.proofs.Common.{after, IsOthers, IsWhole, IsReady, folder_of, AnyMoves, Lists, Called, linked, with_file}
 use Rattle.maildir_run.proofs.Common.{without_file, performed, all_performed, acts_at, may_link, IsCutShort, IsPart, Answers, halved, fails, done}
 use Rattle.std.proofs.lemmas.Map.Text.{is_eq-slice_cmp}
 use Rattle.maildir_name.specs.declared.target.Place.{Place}
@@ -29,19 +29,19 @@ agrees : (m : FileMap) → AgreeOnConverters m m
 agrees m = λ q ours. refl
 
 with_leaves : (sub : Sub) (k v : List ℕ) (s : Files) → is_converter_name k ≡ false → KeepsConverters s (with_file sub k v s)
-with_leaves Tmp k v s off = record { tmp_alike = set_agrees s.tmp k v off; new_alike = agrees s.new; cur_alike = agrees s.cur }
-with_leaves New k v s off = record { tmp_alike = agrees s.tmp; new_alike = set_agrees s.new k v off; cur_alike = agrees s.cur }
-with_leaves Cur k v s off = record { tmp_alike = agrees s.tmp; new_alike = agrees s.new; cur_alike = set_agrees s.cur k v off }
+with_leaves Tmp k v s off = grind (arith, set_agrees)
+with_leaves New k v s off = grind (arith, set_agrees)
+with_leaves Cur k v s off = grind (arith, set_agrees)
 
 without_leaves : (sub : Sub) (k : List ℕ) (s : Files) → is_converter_name k ≡ false → KeepsConverters s (without_file sub k s)
-without_leaves Tmp k s off = record { tmp_alike = removed_agrees s.tmp k off; new_alike = agrees s.new; cur_alike = agrees s.cur }
-without_leaves New k s off = record { tmp_alike = agrees s.tmp; new_alike = removed_agrees s.new k off; cur_alike = agrees s.cur }
-without_leaves Cur k s off = record { tmp_alike = agrees s.tmp; new_alike = agrees s.new; cur_alike = removed_agrees s.cur k off }
+without_leaves Tmp k s off = grind (arith, removed_agrees)
+without_leaves New k s off = grind (arith, removed_agrees)
+without_leaves Cur k s off = grind (arith, removed_agrees)
 
 -- a file is changed where its name is not a converter's
 guarded_action : (ours : Bool) (s t : Files) → (ours ≡ false → KeepsConverters s t) → (action : Action) × (cond ours s t ≡ acted action s)
 guarded_action true s t leaves =
-    (Outside s, sym (outside_reaches s s (record { tmp_alike = agrees s.tmp; new_alike = agrees s.new; cur_alike = agrees s.cur })))
+    (Outside s, grind (arith, outside_reaches))
 guarded_action false s t leaves = (Outside t, sym (outside_reaches s t (leaves refl)))
 
 pub an_action : (a : Act) (s : Files) → (action : Action) × (performed a s ≡ acted action s)
@@ -63,8 +63,7 @@ no_parts [] y zs e = cc
 no_parts (x ∷ xs) y zs e = cc
 
 free_of : (taken same : Bool) → (not taken && same) ≡ true → taken ≡ false
-free_of true same e = cc
-free_of false same e = refl
+free_of taken same e = grind arith
 
 other_name : (m : FileMap) (name target : List ℕ) {bytes : List ℕ} → get m name ≡ Some bytes → contains_key m target ≡ false → is_name name target ≡ false
 other_name m name target has free =
@@ -73,8 +72,7 @@ other_name m name target has free =
 
 pub free_name : (m : FileMap) (name target : List ℕ) {answer : Bool} → get m target ≡ None
     → answer ≡ bytes_eq (base name) (base target) → answer ≡ may_take m name target
-free_name m name target none is =
-    is ∙ sym (is_eq-slice_cmp (base name) (base target)) ∙ ap (λ o. not (is_some o) && is_name (base name) (base target)) (sym none)
+free_name m name target none is = grind (arith, is_eq-slice_cmp)
 
 pub on_err : {A E : Type 0} (result : Result A E) {P : Type 0} → P → OnErr result P
 on_err (Ok x) p = tt
@@ -96,7 +94,7 @@ cut_at {acts} {i} d lt is = record {
   made = take i acts;
   refused = get_or acts i d;
   rest = drop (suc i) acts;
-  parts = sym (take-append-drop i acts) ∙ ap (λ xs. take i acts ++ xs) (drop-cons acts i d lt);
+  parts = grind (arith, take-append-drop, drop-cons);
   left = is;
 }
 
@@ -131,25 +129,21 @@ lines_cut call lines {i} d {s} lt on is cut =
           ∙ ap (λ t. before ++ (cond t line.acts.items [] ++ rest)) on
           ∙ ap (λ xs. before ++ (xs ++ rest)) cut.parts
           ∙ simp append_assoc;
-      left = cut.left ∙ ap (all_performed cut.made) is ∙ sym (all_performed-append before cut.made s);
+      left = grind (arith, all_performed-append);
     }
 
 pub not_cut : {acts : List Act} {s t : Files} → acts ≡ [] → IsCutShort acts s t → ⊥
-not_cut none cut = no_parts cut.made _ cut.rest (sym none ∙ cut.parts)
+not_cut none cut = grind (arith, no_parts)
 
 -- ---- a file under another name
 reflagged : (s : Files) (name target : List ℕ) {bytes : List ℕ} {there : FileMap} → get s.cur name ≡ Some bytes → may_take s.cur name target ≡ true
     → there ≡ remove (insert s.cur target bytes) name → record s { cur = there } ≡ acted (Reflag name target) s
-reflagged s name target {bytes} has free is =
-    let apart_names : is_name name target ≡ false = other_name s.cur name target has (free_of _ _ free) in
-    rw (has, free, is, remove-insert s.cur name target bytes apart_names) refl
+reflagged s name target {bytes} has free is = grind (arith, other_name, remove-insert)
 
 -- one that was put under another name, and is then taken from the old one
 pub unlinked : (s : Files) {mid : Files} (name target : List ℕ) (o : Option (List ℕ)) → get s.cur name ≡ o → may_link s name target o ≡ true
     → mid ≡ linked s name target o → record mid { cur = remove mid.cur name } ≡ acted (Reflag name target) s
-unlinked s name target None has may is = cc
-unlinked s name target (Some bytes) has may is =
-    ap (λ (t : Files). record t { cur = remove t.cur name }) is ∙ rw may (reflagged s name target has may refl)
+unlinked s name target o has may is = grind (arith, reflagged)
 
 -- ---- calls
 after_others : (done : List Action) (s : Files) (call : Call) → after s call (map Other done) ≡ all_acted done s
@@ -167,9 +161,7 @@ others_whole (a ∷ more) = others_whole more
 -- acts and then moves are moves
 acts_then : (acts : List Act) (old : Files) {mid : Files} → mid ≡ all_performed acts old → (call : Call) (ms : List Move)
     → after mid call ms ≡ after old call (map Other (actions acts old).0 ++ ms)
-acts_then acts old is call ms =
-    let done = actions acts old in
-    ap (λ s. after s call ms) (is ∙ done.1 ∙ sym (after_others done.0 old call)) ∙ sym (after-append old call (map Other done.0) ms)
+acts_then acts old is call ms = grind (arith, after_others, after-append)
 
 pub called_then : {A : Type 0} (call : Call) (acts : List Act) (old : Files) {mid : Files} (new : Files) (result : Result A FolderFault)
     → mid ≡ all_performed acts old → Called call mid result new → Called call old result new
@@ -179,34 +171,25 @@ called_then call acts old {mid} new (Ok x) is done =
       before = others ++ done.before;
       rest = done.rest;
       others = others_before (actions acts old).0 _ done.others;
-      ready = subst (IsReady call) (acts_then acts old is call done.before) done.ready;
+      ready = grind (arith, acts_then);
       whole = done.whole;
-      left =
-          done.left ∙ acts_then acts old is call (done.before ++ Again ∷ done.rest)
-          ∙ ap (after old call) (sym (append_assoc others done.before (Again ∷ done.rest)));
+      left = grind (arith, acts_then, append_assoc);
     }
 called_then call acts old {mid} new (Err f) is done =
-    record { moves = map Other (actions acts old).0 ++ done.moves; left = done.left ∙ acts_then acts old is call done.moves }
+    record { moves = map Other (actions acts old).0 ++ done.moves; left = grind (arith, acts_then) }
 
 pub cut_fails : {call : Call} {acts : List Act} {old new : Files} → IsCutShort acts old new → AnyMoves call old new
 cut_fails {call} {old} cut =
     let done = actions cut.made old in
-    record { moves = map Other done.0; left = cut.left ∙ done.1 ∙ sym (after_others done.0 old call) }
+    record { moves = map Other done.0; left = grind (arith, after_others) }
 
 pub listed_then : {sub : Sub} (acts : List Act) {old new : Files} {names : List (List ℕ)}
     → new ≡ all_performed acts old → names ≡ keys (folder_of sub new) → Lists sub old names new
 listed_then {sub} acts {old} {new} {names} is names_are =
     let done = actions acts old in
     let others = map Other done.0 in
-    let reached : new ≡ after old (Listing sub) others = is ∙ done.1 ∙ sym (after_others done.0 old (Listing sub)) in
-    record {
-      before = others;
-      rest = [];
-      whole_before = others_whole done.0;
-      whole = tt;
-      names_are = subst (λ s. IsPermutation names (keys (folder_of sub s))) reached (subst (λ xs. IsPermutation names xs) names_are (IsPermutation-refl names));
-      left = reached ∙ sym (after-append old (Listing sub) others (Again ∷ []));
-    }
+    let reached : new ≡ after old (Listing sub) others = grind (arith, after_others) in
+    grind (arith, others_whole, after-append)
 
 halved_moves : (call : Call) {s : Files} → (ms : List Move) × (halved call s ≡ after s call ms)
 halved_moves (Writing name bytes) = (Torn (take (length bytes / 2) bytes) ∷ [], refl)
@@ -235,17 +218,9 @@ answered mode call old new (Err fault.OutOfMemory) a = let ms = part_moves a.1 i
 -- ---- placements
 nothing_placed : (mode : Mode) (name : List ℕ) (p : Place) (target : List ℕ) (s : Files)
     → IsFalse (fails mode) → get s.tmp name ≡ None → done mode (Placing name p target) s ≡ s
-nothing_placed Plain name p target s plain none = ap (placed s name p target) none
-nothing_placed Twice name p target s plain none = let once = ap (placed s name p target) none in ap (effect (Placing name p target)) once ∙ once
-nothing_placed other name p target s plain none = cc
+nothing_placed mode name p target s plain none = grind arith
 
 pub placed_in : {A : Type 0} (mode : Mode) (name : List ℕ) (p : Place) (target : List ℕ) (old new : Files) (result : Result A FolderFault) (there : Bool)
     → IsFalse (fails mode) → (IsTrue there → IsReady (Placing name p target) old) → (IsFalse there → get old.tmp name ≡ None) → (IsTrue there → IsOk result)
     → (IsFalse there → IsErrOf result fault.Absent) → new ≡ done mode (Placing name p target) old → Answers mode (Placing name p target) old result new
-placed_in mode name p target old new (Ok x) true plain ready none ok absent is = (plain, ready refl, is)
-placed_in mode name p target old new (Ok x) false plain ready none ok absent is = cc (absent refl)
-placed_in mode name p target old new (Err f) true plain ready none ok absent is = cc (ok refl)
-placed_in mode name p target old new (Err fault.Absent) false plain ready none ok absent is =
-    (plain, (λ r. let gone = ap is_some (none refl) in cc), is ∙ nothing_placed mode name p target old plain (none refl))
-placed_in mode name p target old new (Err fault.Failed) false plain ready none ok absent is = cc (absent refl)
-placed_in mode name p target old new (Err fault.OutOfMemory) false plain ready none ok absent is = cc (absent refl)
+placed_in mode name p target old new result there plain ready none ok absent is = grind (arith, nothing_placed)

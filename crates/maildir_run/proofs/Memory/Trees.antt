@@ -1,10 +1,10 @@
 -- Trees of files, seen as finite maps: what each change leaves.
-use Rattle.std.proofs.Common.{append_assoc, ◌≡◌, ◌&&◌, vec_len, ℕ, Bool, true, false, cond, List, [], ◌∷◌, ◌++◌, map, arith}
+use Rattle.std.proofs.Common.{◌≡◌, ◌&&◌, vec_len, ℕ, Bool, true, false, cond, List, [], ◌∷◌, map, arith}
 use Rattle.std.proofs.Common.{length, Option, Some, None, refl, sym, ap, ◌∙◌, Bor, String, Vec, Global, string_bytes}
-use Rattle.std.proofs.Common.{option_map, MatchOption, IfSome, is_eq, nat_cmp, string_cmp, string_eq, bytes_eq, append-nil}
+use Rattle.std.proofs.Common.{option_map, MatchOption, IfSome, is_eq, nat_cmp, string_cmp, string_eq, bytes_eq}
 use Rattle.maildir_run.proofs.Common.{AllZip, each_same, slice_cmp, nat_list_eq_equiv, bytes_decides, get, insert, remove, find, put, empty, entries}
 use Rattle.maildir_run.proofs.Common.{keys, len, from_entries, entries-insert, len-empty, len-entries, get-from_entries, get-insert, get-remove}
-use Rattle.maildir_run.proofs.Common.{same_map, Less, nil_from_length, length-map, map-append, and_parts, eq_by_cmp_equiv, name_cmp, is_name, FileMap}
+use Rattle.maildir_run.proofs.Common.{same_map, Less, nil_from_length, length-map, and_parts, eq_by_cmp_equiv, name_cmp, is_name, FileMap}
 use lib.Pointwise.{pointwise}
 use Rattle.std.specs.Iterator.{Yields}
 use Rattle.std.specs.Map.{lookup, keys_of}
@@ -33,12 +33,11 @@ found q [] = refl
 found q (e ∷ es) = grind (arith, is_name q (string_bytes e.0), found q es)
 
 pub get-map_of : (tree : Tree) (q : List ℕ) → get (map_of tree) q ≡ bytes_in (get_by_text tree q)
-get-map_of tree q = get-from_entries total (map (λ e. (string_bytes e.0, e.1.items)) tree.entries) q ∙ found q tree.entries
+get-map_of tree q = grind (arith, get-from_entries, total, found)
 
 -- ---- a change under one name
 inside : (t : Bool) (w o : Option (Vec ℕ Global)) → bytes_in (cond t w o) ≡ cond t (bytes_in w) (bytes_in o)
-inside true w o = refl
-inside false w o = refl
+inside t w o = grind arith
 
 updated : (m n : Tree) (k : List ℕ) (w : Option (Vec ℕ Global)) → UpdatesBy string_cmp (λ x. slice_cmp nat_cmp k (string_bytes x)) m n w
     → (q : List ℕ) → get (map_of n) q ≡ cond (is_name q k) (bytes_in w) (get (map_of m) q)
@@ -83,26 +82,10 @@ names_in_order [] = refl
 names_in_order (e ∷ es) = ap (λ xs. string_bytes e.0 ∷ xs) (names_in_order es)
 
 pub keys-map_of : (m : Tree) → IsOrdered string_cmp m → keys (map_of m) ≡ map string_bytes (tree.keys m)
-keys-map_of m ordered = ap (map (λ e. e.0)) (ordered_entries _ ordered) ∙ names_in_order m.entries
+keys-map_of m ordered = grind (arith, ordered_entries, names_in_order)
 
 pub len-map_of : (m : Tree) → IsOrdered string_cmp m → len (map_of m) ≡ length m.entries
-len-map_of m ordered = len-entries (map_of m) ∙ ap length (ordered_entries _ ordered) ∙ length-map m.entries (λ e. (string_bytes e.0, e.1.items))
-
--- ---- the loop over the names
-pub one_listed : (listed : List (String Global)) {rest after : List (String Global)} {name : String Global} (copy : String Global) {all : List (List ℕ)}
-    → map string_bytes listed ++ map string_bytes rest ≡ all → rest ≡ name ∷ after
-    → string_bytes copy ≡ string_bytes name → map string_bytes (listed ++ copy ∷ []) ++ map string_bytes after ≡ all
-one_listed listed {after} copy so_far left same_bytes =
-    ap (λ xs. xs ++ map string_bytes after) (map-append string_bytes listed (copy ∷ []))
-    ∙ append_assoc (map string_bytes listed) (string_bytes copy ∷ []) (map string_bytes after)
-    ∙ ap (λ b. map string_bytes listed ++ b ∷ map string_bytes after) same_bytes
-    ∙ ap (λ xs. map string_bytes listed ++ map string_bytes xs) (sym left)
-    ∙ so_far
-
-pub all_listed : (listed : List (String Global)) {rest : List (String Global)} {all : List (List ℕ)}
-    → map string_bytes listed ++ map string_bytes rest ≡ all → rest ≡ [] → map string_bytes listed ≡ all
-all_listed listed so_far left =
-    sym (append-nil (map string_bytes listed)) ∙ ap (λ xs. map string_bytes listed ++ map string_bytes xs) (sym left) ∙ so_far
+len-map_of m ordered = grind (arith, len-entries, ordered_entries, length-map)
 
 -- ---- a copy of a tree
 pub copied_pairs : (es fs : List (String Global × Vec ℕ Global))
@@ -150,8 +133,7 @@ pub trees_alike : (m n : Tree) → pointwise same_pair m.entries n.entries ≡ t
 trees_alike m n same = ap from_entries (alike_pairs _ _ same)
 
 pub alike_trees : (m n : Tree) → IsOrdered string_cmp m → IsOrdered string_cmp n → map_of m ≡ map_of n → pointwise same_pair m.entries n.entries ≡ true
-alike_trees m n m_ordered n_ordered same =
-    pairs_alike _ _ (sym (ordered_entries _ m_ordered) ∙ ap entries same ∙ ordered_entries _ n_ordered)
+alike_trees m n m_ordered n_ordered same = grind (arith, pairs_alike, ordered_entries)
 
 -- ---- the names of two trees, one after the other
 abbrev Step : List (String Global) → Option (Bor (String Global)) → List (String Global) → Type 0
@@ -164,20 +146,7 @@ abbrev TellsSame : Bool → List (String Global) → List (String Global) → Ty
 TellsSame r s t = (r ≡ true → map string_bytes s ≡ map string_bytes t) × (map string_bytes s ≡ map string_bytes t → r ≡ true)
 
 last_names : (s t u v : List (String Global)) (o p : Option (Bor (String Global))) {r : Bool} → Step s o u → Step t p v → Last o p r → TellsSame r s t
-last_names s t u v None None first then last = (λ _. ap (map string_bytes) (first.0 ∙ sym then.0), λ _. last)
-last_names s t u v None (Some y) first then last = (λ on. cc, λ names. let a = ap (map string_bytes) first.0 in let b = ap (map string_bytes) then in cc)
-last_names s t u v (Some x) None first then last =
-    (λ on. let off = last.0 in cc, λ names. let a = ap (map string_bytes) first in let b = ap (map string_bytes) then.0 in cc)
-last_names s t u v (Some x) (Some y) first then last = (
-  λ on. let off = last.0 in cc,
-  λ names.
-      let a = ap (map string_bytes) first in
-      let b = ap (map string_bytes) then in
-      let name : string_bytes x.now ≡ string_bytes y.now = cc in
-      let on = bytes_alike name in
-      let off = last.1 in
-      cc,
-)
+last_names s t u v o p first then last = grind (arith, bytes_alike)
 
 pub names_compared : (s t s' t' u v : List (String Global)) (xs ys : List (Bor (String Global))) (o p : Option (Bor (String Global))) {r : Bool}
     → Yields Step s xs s' → Step s' o u → Yields Step t ys t' → Step t' p v
@@ -191,4 +160,4 @@ names_compared s t s' t' u v (x ∷ xs) (y ∷ ys) o p {r} (j, first_s, from_s) 
     let a = ap (map string_bytes) first_s in
     let b = ap (map string_bytes) first_t in
     let name : string_bytes x.now ≡ string_bytes y.now = (bytes_decides (string_bytes x.now) (string_bytes y.now)).0 same.0 in
-    (λ on. let after = rest.0 on in cc, λ all. let names : map string_bytes j ≡ map string_bytes k = cc in rest.1 names)
+    grind arith

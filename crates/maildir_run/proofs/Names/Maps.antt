@@ -15,8 +15,7 @@ pub same : IsAntisymmetric name_cmp
 same = slice_cmp-IsAntisymmetric nat_cmp-IsAntisymmetric
 
 equal_of : (r : Ordering) → is_eq r ≡ true → r ≡ Equal
-equal_of Equal e = refl
-equal_of other e = cc
+equal_of r e = grind arith
 
 pub is_name-true : (a b : List ℕ) → is_name a b ≡ true → a ≡ b
 is_name-true a b e = same a b (equal_of _ e)
@@ -25,7 +24,7 @@ pub is_name-refl : (a : List ℕ) → is_name a a ≡ true
 is_name-refl a = (eq_by_cmp_equiv total).refl a
 
 pub get_under : (p : List ℕ → Bool) (m : FileMap) (q : List ℕ) → get (retain_keys m p) q ≡ cond (p q) (get m q) None
-get_under p m q = get-retain_keys m p q (λ x e. ap p (sym (same q x e)))
+get_under p m q = grind (arith, get-retain_keys, same)
 
 pub get_inserted : (m : FileMap) (k v q : List ℕ) → get (insert m k v) q ≡ cond (is_name q k) (Some v) (get m q)
 get_inserted m k v q = get-insert total m k v q
@@ -38,8 +37,7 @@ pub alike : (p : List ℕ → Bool) (q k : List ℕ) → is_name q k ≡ true �
 alike p q k e = ap p (is_name-true q k e)
 
 pub none_if_not_some : {X : Type 0} (o : Option X) → is_some o ≡ false → o ≡ None
-none_if_not_some None e = refl
-none_if_not_some (Some x) e = cc
+none_if_not_some o e = grind arith
 
 -- two folders that answer alike under the test hold the same there
 pub under_same : (p : List ℕ → Bool) (m n : FileMap) → ((q : List ℕ) → p q ≡ true → get m q ≡ get n q) → retain_keys m p ≡ retain_keys n p

@@ -1,5 +1,5 @@
 -- Sets of bases: what each change leaves in them.
-use Rattle.std.proofs.Common.{◌≡◌, ℕ, Bool, true, false, cond, ◌||◌, List, [], ◌∷◌, ◌++◌, map, Option, Some, None, refl, sym, arith}
+use Rattle.std.proofs.Common.{◌≡◌, ℕ, Bool, true, cond, ◌||◌, List, [], ◌∷◌, ◌++◌, map, Option, Some, refl, sym, arith}
 use Rattle.std.proofs.Common.{ap, ◌∙◌, Bor, take, get_or, length, ◌<◌, ◌+◌, String, Global, string_bytes, is_some, nat_cmp}
 use Rattle.maildir_run.proofs.Common.{list_any, slice_cmp, insert, empty, contains_key, find, get-from_entries, get-insert, get-empty, same_map, or-false}
 use Rattle.maildir_run.proofs.Common.{map-append, take_more, eq_by_cmp_equiv, base, name_cmp, is_name, has_base, is_listed, BaseSet, set_of, with_bases}
@@ -12,22 +12,17 @@ found b [] = refl
 found b (k ∷ ks) = grind (arith, is_name b k.now, found b ks)
 
 pub contains_key-set_of : (b : List ℕ) (ks : List (Bor (List ℕ))) → contains_key (set_of ks) b ≡ list_any (λ k. is_name b k.now) ks
-contains_key-set_of b ks = ap is_some (get-from_entries total (map (λ k. (k.now, tt {0})) ks) b) ∙ found b ks
+contains_key-set_of b ks = grind (arith, get-from_entries, total, found)
 
 -- ---- one more base
 unit_options : (o p : Option (Unit {0})) → is_some o ≡ is_some p → o ≡ p
-unit_options None None e = refl
-unit_options None (Some y) e = cc
-unit_options (Some x) None e = cc
-unit_options (Some x) (Some y) e = refl
+unit_options o p e = grind arith
 
 some_if : (t : Bool) (o : Option (Unit {0})) → is_some (cond t (Some (tt {0})) o) ≡ cond t true (is_some o)
-some_if true o = refl
-some_if false o = refl
+some_if t o = grind arith
 
 some_or : (t : Bool) (o : Option (Unit {0})) → is_some (cond t (Some (tt {0})) o) ≡ (t || is_some o)
-some_or true o = refl
-some_or false o = refl
+some_or t o = grind arith
 
 abbrev text_of : List ℕ → Bor (List ℕ)
 text_of b = record { ref_ptr = (0, 0); now = b }
@@ -45,12 +40,10 @@ set_of-insert old new k updates =
 
 -- ---- the bases of two lists
 contains_key-insert : (s : BaseSet) (k b : List ℕ) → contains_key (insert s k (tt {0})) b ≡ (is_name b k || contains_key s b)
-contains_key-insert s k b = ap is_some (get-insert total s k (tt {0}) b) ∙ some_or (is_name b k) _
+contains_key-insert s k b = grind (arith, get-insert, total)
 
 turned : (a s rest : Bool) → ((a || s) || rest) ≡ (s || (a || rest))
-turned true true rest = refl
-turned true false rest = refl
-turned false s rest = refl
+turned a s rest = grind arith
 
 pub contains_key-with_bases : (s : BaseSet) (names : List (List ℕ)) (b : List ℕ)
     → contains_key (with_bases s names) b ≡ (contains_key s b || list_any (has_base b) names)
@@ -61,9 +54,7 @@ contains_key-with_bases s (name ∷ names) b =
     ∙ turned (is_name b (base name)) (contains_key s b) _
 
 pub contains_key-listed : (new cur : List (List ℕ)) (b : List ℕ) → contains_key (with_bases (with_bases empty new) cur) b ≡ is_listed new cur b
-contains_key-listed new cur b =
-    contains_key-with_bases (with_bases empty new) cur b
-    ∙ ap (λ t. t || list_any (has_base b) cur) (contains_key-with_bases empty new b ∙ ap (λ o. is_some o || list_any (has_base b) new) (get-empty name_cmp b))
+contains_key-listed new cur b = grind (arith, contains_key-with_bases, get-empty)
 
 pub with_bases-push : (s : BaseSet) (names : List (List ℕ)) (name : List ℕ)
     → with_bases s (names ++ name ∷ []) ≡ insert (with_bases s names) (base name) (tt {0})

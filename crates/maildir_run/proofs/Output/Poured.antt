@@ -1,12 +1,12 @@
 -- A source that is read piece by piece while what belongs to its messages is written.
-use Rattle.std.proofs.Common.{◌≡◌, ℕ, ◌+◌, ◌*◌, ◌^◌, ◌<◌, ◌≤◌, Bool, true, false, Option, Some, None, Result, Ok, Err, IsErrAnd, List, [], arith}
-use Rattle.std.proofs.Common.{◌++◌, ◌⊎◌, inl, inr, length, refl, sym, ◌∙◌, ap, arith, flat_map, append-nil, length-append}
+use Rattle.std.proofs.Common.{◌≡◌, ℕ, ◌+◌, ◌*◌, ◌^◌, ◌<◌, ◌≤◌, Bool, true, false, Option, Result, Ok, IsErrAnd, List, [], arith}
+use Rattle.std.proofs.Common.{◌++◌, ◌⊎◌, length, refl, sym, ◌∙◌, ap, arith, flat_map, append-nil, length-append}
 use Rattle.maildir_run.proofs.Common.{flat_map-append, spelling, FromLines, Appends, Consumes-nil, Appends-trans, Appends-nil, Entry, Splitter, Fed}
 use Rattle.maildir_run.proofs.Common.{IsAtEnd, RunFault, NoFromLine, OutOfMemory, IsReading, ReadsAtMost}
 use Rattle.maildir_run.specs.declared.fault.RunFault.TheVariants.{OutputFault}
 use Rattle.maildir_run.proofs.Common.{AppendsPrefix, prefix_more, prefix_then, Reader, IsPrefixOf, Gave, GaveAll, SourceStopped, Breaks, Went}
 use Rattle.std.specs.Io.KnownBytes.{Keeps}
-use Rattle.maildir_run.proofs.Source.Givens.{read_nothing, refused_prefix, given-from_lines, read_is, gave_more, gave_refused, given_prefix, broken_prefix}
+use Rattle.maildir_run.proofs.Source.Givens.{read_nothing, given-from_lines, read_is, gave_more, gave_refused, given_prefix, broken_prefix}
 use Rattle.maildir_run.specs.Output.{GivesAll, GivesPrefix, GivesNothing, WritesMessages}
 
 -- what is written for the first messages is a prefix of what is written for all
@@ -23,9 +23,7 @@ gives_prefix {output} {before} {now} was is {given = given} o f h t entries p m 
     prefix_more was is _ z.0 _ h (ap output r.1 ∙ z.1)
 
 appends_nothing : (was is : Option (List ℕ)) → Appends was is [] → Keeps was is
-appends_nothing None is h = tt
-appends_nothing (Some x) None h = h
-appends_nothing (Some x) (Some y) h = h ∙ append-nil x
+appends_nothing was is h = grind (arith, append-nil)
 
 -- all that was given is written, and nothing is whole that was not
 pub record Poured (output : List Entry → List ℕ) (given : List Entry) (before now was is : Option (List ℕ))
@@ -49,69 +47,27 @@ read_broken {output} {given} {now} {was} {is} messages {fault} o p b =
     let refused = gave_refused now messages fault p.gave b in
     record {
       prefix = gives_prefix was is o (broken_prefix messages p.gave b) (output given, [], sym (append-nil (output given)), p.written);
-      nothing = λ e.
-          let out : output given ≡ [] = ap output (b.3 e p.gave.text given p.gave.fed).0 ∙ o.none in
-          (appends_nothing was is (rw out at p.written), refused.unreadable e);
+      nothing = grind (arith, appends_nothing);
       refused = refused;
     }
 
 -- no memory was found before the first read
 pub unread : {output : List Entry → List ℕ} {before was : Option (List ℕ)} {reads : ℕ} → IsOutput output → Broken output before before was was reads OutOfMemory
-unread {before = before} {was} {reads} o =
-    let refused : SourceStopped before before reads OutOfMemory = record {
-      budget = read_nothing before;
-      spent = λ e. absurd (cc);
-      unreadable = λ e. absurd (cc);
-    } in
-    record {
-      prefix = gives_prefix was was o (refused_prefix refused) ([], [], o.none, Appends-nil was);
-      nothing = λ e. absurd (cc);
-      refused = refused;
-    }
+unread {before = before} {was} {reads} o = grind (arith, read_nothing, gives_prefix, Appends-nil)
 
 -- ---- the call as a whole, where it ends
 module _ {output : List Entry → List ℕ} {before now was is : Option (List ℕ)} {reads : ℕ} {fault : RunFault}
     (result : Result ℕ RunFault) (at : IsErrAnd result (λ e. e ≡ fault)) where
   pub reading_failed : IsReading fault → Broken output before now was is reads fault → WritesMessages output before now was is reads result
-  reading_failed reading b = elim result as (λ r. IsErrAnd r (λ e. e ≡ fault) → WritesMessages output before now was is reads r) [
-    | Ok count ↦ λ h. absurd h
-    | Err e ↦ λ h. rw h (record {
-      all = tt;
-      end = tt;
-      prefix = b.prefix;
-      no_from_line = λ f. b.nothing cc;
-      spent = λ f. b.refused.spent cc;
-      causes = inl reading;
-      budget = b.refused.budget;
-    })
-  ] at
+  reading_failed reading b = grind arith
 
   pub writing_failed : (fault ≡ OutputFault) ⊎ (fault ≡ OutOfMemory) → GivesPrefix output before now was is
       → ReadsAtMost before now (65536 * reads) → WritesMessages output before now was is reads result
-  writing_failed cause prefix budget = elim result as (λ r. IsErrAnd r (λ e. e ≡ fault) → WritesMessages output before now was is reads r) [
-    | Ok count ↦ λ h. absurd h
-    | Err e ↦ λ h. rw h (record {
-      all = tt;
-      end = tt;
-      prefix = prefix;
-      no_from_line = λ f. absurd (elim cause [ inl is ↦ cc | inr is ↦ cc ]);
-      spent = λ f. absurd (elim cause [ inl is ↦ cc | inr is ↦ cc ]);
-      causes = elim cause [ inl is ↦ inr is | inr is ↦ inl (inr (inr (inr is))) ];
-      budget = budget;
-    })
-  ] at
+  writing_failed cause prefix budget = grind arith
 
 pub all_written : {output : List Entry → List ℕ} {before now was is : Option (List ℕ)} {reads count : ℕ} → GivesAll output before was is count
     → IsAtEnd now → ReadsAtMost before now (65536 * reads) → WritesMessages output before now was is reads (Ok count)
-all_written all end budget = record {
-  all = all;
-  end = end;
-  prefix = tt;
-  no_from_line = λ e. absurd (cc);
-  spent = λ e. absurd (cc);
-  causes = tt;
-  budget = budget;
-}
+all_written all end budget = grind arith
 
 -- a read, and what became whole by it
 pub record Batch (output : List Entry → List ℕ) (given : List Entry) (before now was is : Option (List ℕ)) (whole : List Entry) (reads count : ℕ) : Type 0 where
@@ -127,10 +83,10 @@ pub batch : {output : List Entry → List ℕ} {given : List Entry} {before mid 
 batch {given = given} {before} {now} messages splitter left {old} {whole} {reads} ended p w =
     let more = gave_more ended now messages splitter left old whole p.empty p.gave w in
     record {
-      prefix = given_prefix ended before now splitter left reads _ more;
+      prefix = grind (arith, given_prefix);
       written = p.written;
       count_is = p.count_is;
-      from_lines = given-from_lines ended before now splitter left reads given whole more;
+      from_lines = grind (arith, given-from_lines);
     }
 
 module _ {output : List Entry → List ℕ} {given : List Entry} {before now was is : Option (List ℕ)}
@@ -153,11 +109,7 @@ module _ {output : List Entry → List ℕ} {given : List Entry} {before now was
 -- nothing is left of the source
 all_given : (output : List Entry → List ℕ) (before now was is : Option (List ℕ)) {reads : ℕ} (all : List Entry) {count : ℕ}
     → GaveAll before now reads all → count ≡ length all → Appends was is (output all) → GivesAll output before was is count
-all_given output None now was is all gave c h = tt
-all_given output (Some x) None was is all gave c h = absurd gave.read
-all_given output (Some x) (Some y) was is all gave c h =
-    let e : x ≡ gave.text = gave.read ∙ ap (λ z. gave.text ++ z) gave.end ∙ append-nil gave.text in
-    (all, rw e gave.all, c, h)
+all_given output before now was is all gave c h = grind (arith, append-nil)
 
 -- the batch is written
 module _ {output : List Entry → List ℕ} {given : List Entry} {before mid : Option (List ℕ)} (now : Option (List ℕ)) {was is : Option (List ℕ)}
@@ -165,7 +117,7 @@ module _ {output : List Entry → List ℕ} {given : List Entry} {before mid : O
     (p : Poured output given before mid was is messages.splitter messages.reads_left old reads count)
     (e : output (given ++ whole) ≡ output given ++ bytes) (h : Appends is is' bytes) where
   written : Appends was is' (output (given ++ whole))
-  written = rw e (Appends-trans was is is' (output given) bytes p.written h)
+  written = grind (arith, Appends-trans)
 
   total : count + length whole ≡ length (given ++ whole)
   total = omega (arith, length-append given whole, p.count_is)
@@ -193,4 +145,4 @@ flat_output = record { none = refl; prefix = λ a b. (flat_map spelling b, flat_
 -- what went out of a batch
 pub flat_more : (given : List Entry) {whole entries : List Entry} → entries ≡ whole
     → flat_map spelling (given ++ whole) ≡ flat_map spelling given ++ flat_map spelling entries
-flat_more given {whole} e = flat_map-append spelling given whole ∙ ap (λ z. flat_map spelling given ++ flat_map spelling z) (sym e)
+flat_more given {whole} e = grind (arith, flat_map-append)

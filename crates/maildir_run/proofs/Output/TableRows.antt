@@ -1,9 +1,9 @@
 -- The table of messages that are listed one after the other.
 use Rattle.std.proofs.Common.{◌≡◌, ℕ, ◌+◌, ◌^◌, ◌<◌, ◌≤◌, false, eqb, Option, Result, Ok, Err, List, [], ◌∷◌, ◌++◌, length, map, take, drop, get_or}
 use Rattle.std.proofs.Common.{refl, arith}
-use Rattle.std.proofs.Common.{sym, ◌∙◌, ap, arith, append_assoc, MatchResult, IsErr, append-nil, length-append, take-append-drop, take_all, length-take-le}
-use Rattle.maildir_run.proofs.Common.{Appends, Appends-trans, Appends-nil, false≢true, length-map, map-append, take_more}
-use Rattle.maildir_run.proofs.Common.{Entry, sender, AppendsPrefix, Writes, prefix_then, Target, Counts, Named, targets}
+use Rattle.std.proofs.Common.{arith, append_assoc, MatchResult, IsErr, append-nil, length-append, take-append-drop, take_all, length-take-le}
+use Rattle.maildir_run.proofs.Common.{Appends, Appends-nil, false≢true, length-map, map-append, take_more}
+use Rattle.maildir_run.proofs.Common.{Entry, sender, AppendsPrefix, Writes, Target, Counts, Named, targets}
 use Rattle.maildir_run.proofs.Common.{length-targets, targets-prefix, HasListed, info, place_word, shown_byte, shown_sender}
 use Rattle.std.specs.Fmt.{decimal}
 use Rattle.maildir_run.specs.Table.{message_row, rows_from, table_of}
@@ -17,22 +17,22 @@ bodies entries = map (λ entry. entry.body) entries
 pub rows-append : (index : ℕ) (es more : List Entry) (ts others : List Target) → length es ≡ length ts
     → rows_from index (es ++ more) (ts ++ others) ≡ rows_from index es ts ++ rows_from (index + length es) more others
 unfolding rows_from
-rows-append index [] more [] others e = let n : index + 0 ≡ index = omega arith in rw n refl
+rows-append index [] more [] others e = grind arith
 rows-append index [] more (t ∷ ts) others e = absurd (omega (arith, e))
 rows-append index (x ∷ es) more [] others e = absurd (omega (arith, e))
 rows-append index (x ∷ es) more (t ∷ ts) others e =
     let n : (index + 1) + length es ≡ index + length (x ∷ es) = omega arith in
     let ih = rows-append (index + 1) es more ts others (omega (arith, e)) in
-    rw (ih, n) (sym (append_assoc (message_row index x t) (rows_from (index + 1) es ts) (rows_from (index + length (x ∷ es)) more others)))
+    grind (arith, append_assoc)
 
 targets-parts : (es more : List Entry) → targets (bodies (es ++ more)) ≡ targets (bodies es) ++ drop (length (bodies es)) (targets (bodies (es ++ more)))
 targets-parts es more =
     let all : bodies (es ++ more) ≡ bodies es ++ bodies more = map-append (λ entry. entry.body) es more in
-    let taken : take (length (bodies es)) (targets (bodies (es ++ more))) ≡ targets (bodies es) = rw all (targets-prefix (bodies es) (bodies more)) in
-    sym (take-append-drop (length (bodies es)) (targets (bodies (es ++ more)))) ∙ ap (λ z. z ++ drop (length (bodies es)) (targets (bodies (es ++ more)))) taken
+    let taken : take (length (bodies es)) (targets (bodies (es ++ more))) ≡ targets (bodies es) = grind (arith, targets-prefix) in
+    grind (arith, take-append-drop)
 
 many : (es : List Entry) → length es ≡ length (targets (bodies es))
-many es = sym (length-targets (bodies es) ∙ length-map es (λ entry. entry.body))
+many es = grind (arith, length-targets, length-map)
 
 pub listing_output : IsOutput table_of
 unfolding table_of rows_from
@@ -40,8 +40,7 @@ listing_output = record {
   none = refl;
   prefix = λ a b. (
     rows_from (1 + length a) b (drop (length (bodies a)) (targets (bodies (a ++ b)))),
-    ap (λ ts. rows_from 1 (a ++ b) ts) (targets-parts a b)
-        ∙ rows-append 1 a b _ (drop (length (bodies a)) (targets (bodies (a ++ b)))) (many a),
+    grind (arith, targets-parts, rows-append, many),
   );
 }
 
@@ -49,17 +48,11 @@ listing_output = record {
 pub table-push : (given : List Entry) (e : Entry) (target : Target) → targets (bodies given ++ e.body ∷ []) ≡ targets (bodies given) ++ target ∷ []
     → table_of (given ++ e ∷ []) ≡ table_of given ++ message_row (length given + 1) e target
 unfolding table_of rows_from
-table-push given e target is =
-    let all : bodies (given ++ e ∷ []) ≡ bodies given ++ e.body ∷ [] = map-append (λ entry. entry.body) given (e ∷ []) in
-    let n : 1 + length given ≡ length given + 1 = omega arith in
-    ap (λ bs. rows_from 1 (given ++ e ∷ []) (targets bs)) all ∙ ap (λ ts. rows_from 1 (given ++ e ∷ []) ts) is
-    ∙ rows-append 1 given (e ∷ []) _ (target ∷ []) (many given)
-    ∙ ap (λ z. rows_from 1 given (targets (bodies given)) ++ z) (append-nil (message_row (1 + length given) e target) ∙ ap (λ k. message_row k e target) n)
+table-push given e target is = grind (arith, map-append, rows-append, many, append-nil)
 
 -- a sender that is not empty
 pub sender-some : (sender : List ℕ) → eqb (length sender) 0 ≡ false → shown_sender sender ≡ map shown_byte sender
-sender-some [] e = absurd (cc)
-sender-some (c ∷ sender) e = refl
+sender-some sender e = grind arith
 
 -- nothing went out
 pub lists_none : (given entries : List Entry) (was : Option (List ℕ))
@@ -75,12 +68,7 @@ lists_err (Err x) given entries was P e = let n = lists_none given entries was i
 pub listed_more : {given : List Entry} {namer namer' : Counts} {count count' : ℕ} (e : Entry) {body : List ℕ}
     → HasListed given namer count → body ≡ e.body → Named (bodies given ++ body ∷ []) namer' → count' ≡ length given + 1
     → HasListed (given ++ e ∷ []) namer' count'
-listed_more {given} e h is named count_goes =
-    let all : bodies (given ++ e ∷ []) ≡ bodies given ++ e.body ∷ [] = map-append (λ entry. entry.body) given (e ∷ []) in
-    record {
-      named = rw (all, ← is) named;
-      count_is = omega (arith, count_goes, length-append given (e ∷ []));
-    }
+listed_more {given} e h is named count_goes = grind (arith, map-append, length-append)
 
 -- the messages up to a place were listed
 pub record ListedTo (given entries : List Entry) (i : ℕ) (was is : Option (List ℕ)) (namer : Counts) (count : ℕ) : Type 0 where
@@ -91,44 +79,32 @@ pub record ListedTo (given entries : List Entry) (i : ℕ) (was is : Option (Lis
 
 pub listed_to_none : {given entries : List Entry} {was : Option (List ℕ)} {namer : Counts} {count : ℕ}
     → HasListed given namer count → ListedTo given entries 0 was was namer count
-listed_to_none {given} {was} h =
-    record { lines = []; are = ap table_of (append-nil given) ∙ sym (append-nil (table_of given)); out = Appends-nil was; has_listed = rw (append-nil given) h }
+listed_to_none {given} {was} h = grind (arith, append-nil)
 
 module _ (given entries : List Entry) (i : ℕ) (e : Entry) where
   next : i < length entries → e ≡ get_or entries i e → (given ++ take i entries) ++ e ∷ [] ≡ given ++ take (i + 1) entries
-  next l is =
-      append_assoc given (take i entries) (e ∷ []) ∙ ap (λ z. given ++ z) (ap (λ x. take i entries ++ x ∷ []) is ∙ sym (take_more entries i e l))
+  next l is = grind (arith, append_assoc, take_more)
 
   after : i < length entries → e ≡ get_or entries i e → given ++ entries ≡ ((given ++ take i entries) ++ e ∷ []) ++ drop (i + 1) entries
-  after l is =
-      ap (λ z. given ++ z) (sym (take-append-drop (i + 1) entries)) ∙ sym (append_assoc given (take (i + 1) entries) (drop (i + 1) entries))
-      ∙ ap (λ z. z ++ drop (i + 1) entries) (sym (next l is))
+  after l is = grind (arith, take-append-drop, append_assoc, next)
 
   pub listed_to_more : (was is is' : Option (List ℕ)) (namer namer' : Counts) (count count' : ℕ) (line : List ℕ) → i < length entries → e ≡ get_or entries i e
       → (t : ListedTo given entries i was is namer count) → table_of ((given ++ take i entries) ++ e ∷ []) ≡ table_of (given ++ take i entries) ++ line
       → Appends is is' line → HasListed ((given ++ take i entries) ++ e ∷ []) namer' count' → ListedTo given entries (i + 1) was is' namer' count'
-  listed_to_more was is is' namer namer' count count' line l at t eq out h =
-      grind (arith, next l at, append_assoc (table_of given) t.lines line, Appends-trans was is is' t.lines line t.out out)
+  listed_to_more was is is' namer namer' count count' line l at t eq out h = grind (arith, next, append_assoc)
 
   pub listed_to_prefix : (was is is' : Option (List ℕ)) (namer : Counts) (count : ℕ) (line : List ℕ) → i < length entries → e ≡ get_or entries i e
       → (t : ListedTo given entries i was is namer count) → table_of ((given ++ take i entries) ++ e ∷ []) ≡ table_of (given ++ take i entries) ++ line
       → AppendsPrefix is is' line → (lines : List ℕ) × (table_of (given ++ entries) ≡ table_of given ++ lines) × AppendsPrefix was is' lines
   listed_to_prefix was is is' namer count line l at t eq out =
       let b = after l at in
-      let f = listing_output.prefix ((given ++ take i entries) ++ e ∷ []) (drop (i + 1) entries) in (
-        t.lines ++ (line ++ f.0),
-        ap table_of b ∙ f.1 ∙ ap (λ z. z ++ f.0) (eq ∙ ap (λ z. z ++ line) t.are ∙ append_assoc (table_of given) t.lines line)
-            ∙ append_assoc (table_of given) (t.lines ++ line) f.0
-            ∙ ap (λ z. table_of given ++ z) (append_assoc t.lines line f.0),
-        prefix_then was is is' t.lines line f.0 _ t.out out refl,
-      )
+      let f = listing_output.prefix ((given ++ take i entries) ++ e ∷ []) (drop (i + 1) entries) in
+      grind (arith, append_assoc)
 
 pub listed_to_all : {given entries : List Entry} {i : ℕ} {was is : Option (List ℕ)} {namer : Counts} {count : ℕ}
     → length entries ≤ i → ListedTo given entries i was is namer count
     → (lines : List ℕ) × (table_of (given ++ entries) ≡ table_of given ++ lines) × Appends was is lines × HasListed (given ++ entries) namer count
-listed_to_all {entries} {i} l t =
-    let whole : take i entries ≡ entries = take_all i entries l in
-    (t.lines, rw whole at t.are, t.out, rw whole at t.has_listed)
+listed_to_all {entries} {i} l t = grind (arith, take_all)
 
 -- the line from its parts
 pub row-is : (index size : ℕ) (entry : Entry) (target : Target) (prefix sent line line' line'' : List ℕ)
@@ -136,19 +112,14 @@ pub row-is : (index size : ℕ) (entry : Entry) (target : Target) (prefix sent l
     → size ≡ length entry.body → line ≡ prefix → sent ≡ sender entry.from_line
     → line' ≡ line ++ shown_sender sent → line'' ≡ line' ++ 10 ∷ [] → line'' ≡ message_row index entry target
 unfolding message_row
-row-is index size entry target prefix sent line line' line'' is_prefix is_size is_line is_sent is_more is_all =
-    rw (is_all, is_more, is_line, is_prefix, is_sent, is_size) (simp append_assoc)
+row-is index size entry target prefix sent line line' line'' is_prefix is_size is_line is_sent is_more is_all = grind (arith, append_assoc)
 
 pub lists_broken : {E : Type 0} (r : Result (Unit {0}) E) (given entries : List Entry) (was is : Option (List ℕ)) (P : Type 0) → IsErr r
     → (lines : List ℕ) × (table_of (given ++ entries) ≡ table_of given ++ lines) × AppendsPrefix was is lines
     → (lines : List ℕ) × (table_of (given ++ entries) ≡ table_of given ++ lines) × Writes was is r lines × MatchResult r (λ _. P) (λ _. Unit {0})
-lists_broken (Ok x) given entries was is P e h = absurd (false≢true e)
-lists_broken (Err x) given entries was is P e h = (h.0, h.1, h.2, tt)
+lists_broken r given entries was is w e h = grind (arith, false≢true)
 
 -- there is room for one more
 pub room : (given entries : List Entry) (i : ℕ) (e : Entry) → i < length entries
     → length (given ++ entries) < 2 ^ 63 → length ((given ++ take i entries) ++ e ∷ []) < 2 ^ 63
-room given entries i e l h =
-    let le : i ≤ length entries = omega arith in
-    omega
-    (arith, h, length-append given entries, length-append (given ++ take i entries) (e ∷ []), length-append given (take i entries), length-take-le i entries le)
+room given entries i e l h = grind (arith, length-append, length-take-le)

@@ -9,7 +9,7 @@ pub no_messages : messages_of [] ≡ []
 no_messages = nil_from_length (messages_of []) (length-messages_of [])
 
 pub after_these : (xs ys : List (List ℕ)) → messages_of (xs ++ ys) ≡ messages_of xs ++ messages_after xs ys
-after_these xs [] = ap messages_of (append-nil xs) ∙ sym (append-nil (messages_of xs))
+after_these xs [] = grind (arith, append-nil)
 after_these xs (y ∷ ys) =
     let m = message_at (target xs y) y in
     ap messages_of (sym (append_assoc xs (y ∷ []) ys)) ∙ after_these (xs ++ y ∷ []) ys
@@ -37,9 +37,7 @@ module _ (entries : List Entry) (i : ℕ) (entry : Entry) (h : i < length entrie
       ∙ ap (λ xs. xs ++ bodies_of (drop (i + 1) entries)) (bodies_next bodies)
 
   pub few_next : (bodies : List (List ℕ)) → length bodies + length entries ≤ 2 ^ 63 → length (bodies ++ bodies_of (take i entries)) < 2 ^ 63
-  few_next bodies few =
-      omega
-      (arith, length-append bodies (bodies_of (take i entries)), length-map (take i entries) (λ (e : Entry). e.body), length-take-le i entries (omega arith))
+  few_next bodies few = grind (arith, length-append, length-map, length-take-le)
 
 -- ---- the numbers of a run
 -- one more batch

@@ -1,9 +1,9 @@
 -- A run at its exits, from its parts.
-use Rattle.std.proofs.Common.{◌≡◌, ℕ, ◌+◌, ◌-◌, ◌*◌, ◌<◌, ◌≤◌, ◌^◌, Bool, cond, Option, Some, None, List, arith}
-use Rattle.std.proofs.Common.{[], ◌∷◌, ◌++◌, length, Result, refl, sym, ap, ◌∙◌, arith, IsErrAnd, ◌⊎◌, inl}
+use Rattle.std.proofs.Common.{◌≡◌, ℕ, ◌+◌, ◌-◌, ◌*◌, ◌<◌, ◌≤◌, ◌^◌, Bool, Option, Some, None, List, arith}
+use Rattle.std.proofs.Common.{[], ◌++◌, length, Result, refl, arith, IsErrAnd, ◌⊎◌, inl}
 use Rattle.maildir_run.proofs.Common.{contains_key, length-map, Entry, Counts, Named, RunFault, NoFromLine, Report, BaseSet}
 use Rattle.maildir_run.proofs.Common.{Conversion, ReportsTasks, run_tasks, Seen, Performed, DeliversMessages, sweep_of}
-use Rattle.maildir_run.proofs.Common.{messages_after, delivery_of, delivery_if, deliveries_of, IsOfFolder, Message, IsPrefixOf}
+use Rattle.maildir_run.proofs.Common.{messages_after, deliveries_of, IsOfFolder, Message, IsPrefixOf}
 use Rattle.maildir_run.proofs.Common.{SourceStopped, is_listed, IsReading, Task, Listings, listing_tasks, messages_of, bodies_of}
 use Rattle.std.proofs.lemmas.Result.{err_from_is_err_and}
 use Rattle.maildir_run.proofs.Run.Delivering.{delivers_then}
@@ -36,18 +36,12 @@ stops_unread {before} {now} {reads} {s} {r} {fault} is reading refused =
 
 -- ---- the set of bases tells what was listed
 same_deliveries : (f g : List ℕ → Bool) → ((b : List ℕ) → f b ≡ g b) → (ms : List Message) → deliveries_of f ms ≡ deliveries_of g ms
-same_deliveries f g same [] = refl
-same_deliveries f g same (m ∷ ms) =
-    ap (λ t. cond t [] (delivery_of m.target m.body) ++ deliveries_of f ms) (same m.target.base)
-    ∙ ap (λ ts. delivery_if g m ++ ts) (same_deliveries f g same ms)
+same_deliveries f g same ms = grind arith
 
 pub tells_listed : (there : BaseSet) (new cur : List (List ℕ)) (names : Listings) (bodies : List (List ℕ))
     → ((b : List ℕ) → contains_key there b ≡ is_listed new cur b) → new ≡ names.new → cur ≡ names.cur
     → deliveries_of (contains_key there) (messages_after [] bodies) ≡ deliveries_of (is_listed names.new names.cur) (messages_of bodies)
-tells_listed there new cur names bodies told new_is cur_is =
-    ap (deliveries_of (contains_key there)) (all_messages bodies)
-    ∙ same_deliveries (contains_key there) (is_listed names.new names.cur)
-    (λ b. told b ∙ ap (λ l. is_listed l cur b) new_is ∙ ap (λ l. is_listed names.new l b) cur_is) (messages_of bodies)
+tells_listed there new cur names bodies told new_is cur_is = grind (arith, all_messages)
 
 -- ---- the listings, the sweep and some messages
 pub all_ran : {tasks : List Task} {tmp : List (List ℕ)} {a b c d : Seen} {made mid swept begun made' : ℕ} {fault : Option RunFault}
@@ -71,9 +65,4 @@ pub report_tells : (names : Listings) (all : List Entry) (report : Report) (task
     → tasks ≡ deliveries_of (is_listed names.new names.cur) (messages_of (bodies_of all)) → messages ≡ length all
     → before ≡ 0 → 2 * placed ≡ 2 * before + length tasks → report.messages ≡ messages → report.there ≡ messages - placed
     → report.placed ≡ placed → report.swept ≡ length (sweep_of names.tmp) → ReportsTasks names (messages_of (bodies_of all)) report
-report_tells names all report tasks messages placed before is count none delivers e1 e2 e3 e4 = record {
-  messages = e1 ∙ count ∙ sym (length-messages_of (bodies_of all) ∙ length-map all (λ (x : Entry). x.body));
-  there = rw (e1, e3) e2;
-  placed = omega (arith, e3, delivers, none, ap length is);
-  swept = e4;
-}
+report_tells names all report tasks messages placed before is count none delivers e1 e2 e3 e4 = grind (arith, length-messages_of, length-map)

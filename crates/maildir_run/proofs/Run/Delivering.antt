@@ -1,8 +1,8 @@
 -- Messages that are delivered one after the other.
 use Rattle.std.proofs.Common.{◌≡◌, ℕ, ◌+◌, Bool, true, false, cond, List, [], ◌∷◌, ◌++◌, length, Option, Some, None, Result}
-use Rattle.std.proofs.Common.{Ok, Err, refl, sym, ap, inr, ◌∙◌, arith, append_assoc, length-append, IsErrAnd, append-nil}
+use Rattle.std.proofs.Common.{Ok, Err, sym, ap, inr, ◌∙◌, arith, append_assoc, length-append, IsErrAnd, append-nil}
 use Rattle.maildir_run.proofs.Common.{flat_map-append, Target, Counts, Named, target, targets, targets-push, RunFault, OutOfMemory, fault_of}
-use Rattle.maildir_run.proofs.Common.{message_at, Seen, Performed, DeliversMessages, messages_after, delivery_of, delivery_if, deliveries_of}
+use Rattle.maildir_run.proofs.Common.{message_at, Seen, Performed, DeliversMessages, messages_after, delivery_of, deliveries_of}
 use Rattle.maildir_run.proofs.Tasks.Tasks.{ran_none, ran_nothing, ran_then, ran_before}
 
 pub last_is : (ts : List Target) {a b : Target} → ts ++ a ∷ [] ≡ ts ++ b ∷ [] → a ≡ b
@@ -11,7 +11,7 @@ last_is (t ∷ ts) {a} {b} e = let inner : ts ++ a ∷ [] ≡ ts ++ b ∷ [] = c
 
 -- ---- messages that follow one another
 messages_after-append : (before xs ys : List (List ℕ)) → messages_after before (xs ++ ys) ≡ messages_after before xs ++ messages_after (before ++ xs) ys
-messages_after-append before [] ys = ap (λ b. messages_after b ys) (sym (append-nil before))
+messages_after-append before [] ys = grind (arith, append-nil)
 messages_after-append before (x ∷ xs) ys =
     let m = message_at (target before x) x in
     ap (λ ms. m ∷ ms)
@@ -19,9 +19,7 @@ messages_after-append before (x ∷ xs) ys =
 
 parts : (is_there : List ℕ → Bool) (before xs ys : List (List ℕ)) → deliveries_of is_there (messages_after before (xs ++ ys))
     ≡ deliveries_of is_there (messages_after before xs) ++ deliveries_of is_there (messages_after (before ++ xs) ys)
-parts is_there before xs ys =
-    ap (deliveries_of is_there) (messages_after-append before xs ys)
-    ∙ flat_map-append (delivery_if is_there) (messages_after before xs) (messages_after (before ++ xs) ys)
+parts is_there before xs ys = grind (arith, messages_after-append, flat_map-append)
 
 -- none
 pub delivers_none : (is_there : List ℕ → Bool) {before : List (List ℕ)} {s : Seen} {made placed : ℕ} {namer : Counts}
@@ -51,14 +49,8 @@ delivers_then {is_there} {before} {xs} {ys} {a} {b} {c} {made} {mid} {made'} {p}
     let all = parts is_there before xs ys in
     record {
       ran = rw all (ran_then first.ran then.ran);
-      named = λ e. rw (append_assoc before xs ys) at (then.named e);
-      placed_are = λ e. omega (
-        arith,
-        first.placed_are refl,
-        then.placed_are e,
-        ap length all,
-        length-append (deliveries_of is_there (messages_after before xs)) (deliveries_of is_there (messages_after (before ++ xs) ys)),
-      );
+      named = grind (arith, append_assoc);
+      placed_are = grind (arith, length-append);
     }
 
 -- refused before the others
@@ -80,9 +72,7 @@ module _ (is_there : List ℕ → Bool) (before : List (List ℕ)) (body : List 
   target_is_next = last_is _ (sym (targets-push before body) ∙ next)
 
   one_delivery : (shown : Bool) → is_there t.base ≡ shown → deliveries_of is_there (messages_after before (body ∷ [])) ≡ cond shown [] (delivery_of t body)
-  one_delivery shown is =
-      ap (λ x. delivery_if is_there (message_at x body) ++ []) target_is_next ∙ append-nil (delivery_if is_there (message_at t body))
-      ∙ ap (λ b. cond b [] (delivery_of t body)) is
+  one_delivery shown is = grind (arith, target_is_next)
 
   pub delivers_one : {a b : Seen} {made made' : ℕ} {fault : Option RunFault} (p q : ℕ) (namer : Counts)
       → is_there t.base ≡ false → Performed (delivery_of t body) a b made made' fault → Named (before ++ body ∷ []) namer

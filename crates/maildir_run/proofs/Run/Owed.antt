@@ -1,16 +1,15 @@
 -- What a run owes where it ends, from the tasks that it performed.
 use Rattle.std.proofs.Common.{◌≡◌, ℕ, ◌+◌, ◌*◌, ◌<◌, ◌≤◌, ◌^◌, Bool, true, false, cond, Option, Some, None, List, [], ◌∷◌, ◌++◌, length, All, Result, Ok, arith}
 use Rattle.std.proofs.Common.{Err, IfOk, OnOk, IsTrue, refl, sym, ap, subst, ◌∙◌, inl, inr, arith, append_assoc, length-append, IsErrOf, filter, append-nil}
-use Rattle.maildir_run.proofs.Common.{get, length-map, All-head, All-tail, length-filter, count_by-le-length, IsAtEnd, Entry, Target}
-use Rattle.maildir_run.proofs.Common.{is_converter_name, is_converter_base, RunFault, NoFromLine, TooManyReads, Report, swept, filled}
+use Rattle.maildir_run.proofs.Common.{length-map, All-head, All-tail, length-filter, count_by-le-length, IsAtEnd, Entry, Target}
+use Rattle.maildir_run.proofs.Common.{is_converter_name, is_converter_base, RunFault, NoFromLine, TooManyReads, Report, swept}
 use Rattle.maildir_run.proofs.Common.{alone, Conversion, ReportsTasks, run_tasks, Seen, Performed, sweep_of, delivery_of, delivery_if}
 use Rattle.maildir_run.proofs.Common.{deliveries_of, fault_of, capped, HasCallNumber, CallNumber, Follows, Message, IsSoundAt, IsMissing}
-use Rattle.maildir_run.proofs.Common.{Delivered, AreDistinct, Sound, has_home, there_count, leftover_count, Files, GaveAll, SourceStopped}
+use Rattle.maildir_run.proofs.Common.{Delivered, AreDistinct, Sound, has_home, there_count, leftover_count, Files, SourceStopped}
 use Rattle.maildir_run.proofs.Common.{is_listed, TmpWithin, Knows, Progress, IsTarget, KeepsForeign, ReadsAtLeast, Possible, Keeps, IsRun}
-use Rattle.maildir_run.proofs.Common.{CountsRun, Link, Runs, Mbox, Task, Do, Performs, AllDone, Stopped, honestly, quietly, Listings}
-use Rattle.maildir_run.proofs.Common.{listing_tasks, planned_tasks, Way, leaving, Removing, messages_of, bodies_of, MessagesOf, flat_map-append}
+use Rattle.maildir_run.proofs.Common.{CountsRun, Link, Runs, Mbox, Task, Performs, AllDone, Stopped, honestly, quietly, Listings}
+use Rattle.maildir_run.proofs.Common.{listing_tasks, planned_tasks, Way, leaving, messages_of, bodies_of, MessagesOf, flat_map-append}
 use Rattle.maildir_run.specs.Converting.{Converts}
-use Rattle.std.proofs.lemmas.Result.{on_ok_weaker, IfErr-at_err}
 use Rattle.maildir_run.proofs.Tasks.CallCounts.{run_counts}
 use Rattle.maildir_run.proofs.Names.Maps.{is_name-true}
 use Rattle.maildir_run.proofs.Chains.MessageLemmas.{text_named, text_distinct, text_targets, messages_distinct, messages_targets, length-messages_of}
@@ -51,16 +50,10 @@ deliveries_count start is_there knows (m ∷ ms) are =
     let is = All-head (λ (x : Message). IsTarget x.target) m ms are in
     let count = count-cons (λ (x : Message). has_home start x.target.base) m ms (is_there m.target.base) (sym (knows m.target.base is.named)) in
     let parts = length-append (delivery_if is_there m) (deliveries_of is_there ms) in
-    elim (is_there m.target.base)
-    as (λ t. length (deliveries_of is_there (m ∷ ms)) ≡ length (cond t [] (delivery_of m.target m.body)) + length (deliveries_of is_there ms)
-    → there_count start (m ∷ ms) ≡ cond t 1 0 + there_count start ms
-    → length (deliveries_of is_there (m ∷ ms)) + 2 * there_count start (m ∷ ms) ≡ 2 * length (m ∷ ms)) [
-      | true ↦ λ e f. omega (arith, more, e, f)
-      | false ↦ λ e f. omega (arith, more, e, f)
-    ] parts count
+    grind arith
 
 pub sweep_count : (names : List (List ℕ)) → length (sweep_of names) ≡ length (filter is_converter_name names)
-sweep_count names = length-map (filter is_converter_name names) (λ name. Do (Removing name))
+sweep_count names = grind (arith, length-map)
 
 -- ---- the answers' numbers
 pub ran_numbers : {A : Type 0} {tasks : List Task} {start now : Seen} {made made' : ℕ} {r : Result A RunFault}
@@ -76,20 +69,10 @@ ran_numbers {r} ran e few =
 
 -- ---- what the tasks of a run leave
 early_none : (names : Listings) → EachTask PlacesNone (listing_tasks names ++ sweep_of names.tmp)
-early_none names = each_of_both PlacesNone (listing_tasks names) (sweep_of names.tmp) (listings_place_none names) (sweep_places_none names.tmp)
+early_none names = grind (arith, each_of_both, sweep_places_none)
 
 run_ours : (names : Listings) (ms : List Message) → All (λ m. IsTarget m.target) ms → EachTask IsOurs (run_tasks names ms)
-run_ours names ms are = (
-  tt,
-  (
-    tt,
-    (
-      tt,
-      each_of_both IsOurs _ _
-          (sweep_ours names.tmp) (deliveries_ours (is_listed names.new names.cur) ms are),
-    ),
-  ),
-)
+run_ours names ms are = grind (arith, each_of_both, sweep_ours, deliveries_ours)
 
 module _ (names : Listings) (ms : List Message) (distinct : AreDistinct ms) (are : All (λ m. IsTarget m.target) ms) (start : Files) where
   began : (mid now : Files) → AllDone honestly (listing_tasks names) start mid
@@ -132,20 +115,7 @@ module _ (names : Listings) (ms : List Message) (distinct : AreDistinct ms) (are
       let count = deliveries_count start (is_listed names.new names.cur) look.knows ms are in
       let messages = tells.messages in
       let placed = tells.placed in
-      record {
-        sound = s.sound;
-        still = s.still;
-        in_order = s.in_order;
-        ends = record {
-          delivered = record { homes_are = end.0.homes_are; swept = λ name ours. end.1.gone name ours refl };
-          reports = record {
-            messages = messages;
-            there = tells.there ∙ (omega (arith, messages, placed, count));
-            placed = omega (arith, messages, placed, count);
-            swept = rw (tells.swept ∙ sweep_count names.tmp) look.few;
-          };
-        };
-      }
+      grind (arith, sweep_count)
 
   filled_all : (now : Files) (r : Result Report RunFault) → Performs honestly (run_tasks names ms) start r now
       → Performs quietly (run_tasks names ms) start r now → IfOk r (ReportsTasks names ms)
@@ -157,11 +127,8 @@ module _ (names : Listings) (ms : List Message) (distinct : AreDistinct ms) (are
       let one = all_parts quietly (listing_tasks names) (sweep_of names.tmp ++ deliveries_of (is_listed names.new names.cur) ms) start now h in
       let two = all_parts quietly (sweep_of names.tmp) (deliveries_of (is_listed names.new names.cur) ms) one.0 now one.2 in
       let l = listed_quietly one.1 in
-      let clean : two.0 ≡ swept start = swept_exact one.0 (rw l.0 l.1) two.1 ∙ ap swept l.0 in (
-        all_filled start (is_listed names.new names.cur) look.knows ms are two.0 now
-            (λ name ours. ap (λ s. get s.tmp name) clean ∙ swept_free start name ours) two.2 ∙ ap (filled start ms) clean,
-        tells.swept ∙ sweep_count names.tmp ∙ filter-length is_converter_name l.1,
-      )
+      let clean : two.0 ≡ swept start = grind (arith, swept_exact) in
+      grind (arith, all_filled, swept_free, sweep_count, filter-length)
 
 -- a run after other runs
 restarted : (r : Result Report RunFault) {t : List ℕ} {ms : List Message} (links : List Link) (first : Files) {start now : Files} → length t < 2 ^ 63
@@ -171,17 +138,12 @@ restarted (Ok report) {t} {ms} links first {start} {now} small of missing before
 restarted (Err fault) links first small of missing before run = tt
 
 both_ok : {A E P : Type 0} {Q R : A → Type 0} (r : Result A E) → (P → (x : A) → Q x → R x) → OnOk r P → IfOk r Q → IfOk r R
-both_ok (Ok x) f p q = f p x q
-both_ok (Err e) f p q = tt
+both_ok r f p q = grind arith
 
 -- ---- with these messages of those that a text has, which are all with Ok
 module _ (names : Listings) (these more ms : List Message) (e : ms ≡ these ++ more) where
   planned_prefix : planned_tasks names ms ≡ run_tasks names these ++ deliveries_of (is_listed names.new names.cur) more
-  planned_prefix =
-      let is_there = is_listed names.new names.cur in
-      planned_are names ms ∙ ap (run_tasks names) e
-      ∙ ap (λ ts. listing_tasks names ++ (sweep_of names.tmp ++ ts)) (flat_map-append (delivery_if is_there) these more)
-      ∙ ap (λ ts. listing_tasks names ++ ts) (sym (append_assoc (sweep_of names.tmp) (deliveries_of is_there these) (deliveries_of is_there more)))
+  planned_prefix = grind (arith, planned_are, flat_map-append, append_assoc)
 
   planned_performs : (w : Way) → MayStop w → (r : Result Report RunFault) → OnOk r (ms ≡ these) → (start now : Files)
       → Performs w (run_tasks names these) start r now → Performs w (planned_tasks names ms) start r now
@@ -197,8 +159,7 @@ calls_made : {names : Listings} (ms : List Message) {start now : Seen} {made mad
 calls_made ms (Err fault) ran tells = tt
 calls_made {names} ms {start} {now} {made} {made'} (Ok report) ran tells =
     let placed = tells.placed in
-    let all_made : ran.n ≡ 3 + length (sweep_of names.tmp) + 2 * report.placed =
-    ran.all refl ∙ (omega (arith, placed, length-append (sweep_of names.tmp) (deliveries_of (is_listed names.new names.cur) ms))) in
+    let all_made : ran.n ≡ 3 + length (sweep_of names.tmp) + 2 * report.placed = grind (arith, length-append) in
     run_counts report tells.swept refl (rw all_made at ran.makes)
 
 -- ---- how many the tasks are
@@ -209,16 +170,7 @@ deliveries_most is_there (m ∷ ms) =
 
 few_tasks : (names : Listings) (bodies : List (List ℕ)) → length names.tmp < 2 ^ 64
     → length bodies ≤ 2 ^ 63 → length (run_tasks names (messages_of bodies)) < 2 ^ 66
-few_tasks names bodies small few =
-    let most = deliveries_most (is_listed names.new names.cur) (messages_of bodies) in
-    omega (
-      arith,
-      length-messages_of bodies,
-      length-append (sweep_of names.tmp) (deliveries_of (is_listed names.new names.cur) (messages_of bodies)),
-      sweep_count names.tmp,
-      length-filter is_converter_name names.tmp,
-      count_by-le-length is_converter_name names.tmp,
-    )
+few_tasks names bodies small few = grind (arith, deliveries_most, length-messages_of, length-append, sweep_count, length-filter, count_by-le-length)
 
 -- ---- what a run owes, from what it was given and the tasks that it performed
 module _ {before after : Option (List ℕ)} {reads : ℕ} {start now : Seen} {r : Result Report RunFault}
@@ -255,7 +207,7 @@ module _ {before after : Option (List ℕ)} {reads : ℕ} {start now : Seen} {r 
         keeps run.names ms (text_distinct t ms of small) (text_targets t ms of small)
         start.files now.files r (rw (planned_are run.names ms) at (performs_here h t ms p of))
         (both_ok r (λ (same : ms ≡ messages_of (bodies_of run.given)) report tells. rw same tells) (given_here t ms p of).2 run.tells) sound;
-    is_read = on_ok_weaker r (λ (w : GaveAll before after reads run.given). (run.given, whole_text w p)) run.whole;
+    is_read = grind (arith, whole_text);
   }
 
   owes_restart : start.honest → (t : List ℕ) (ms : List Message) (links : List Link) (first : Files) → length t < 2 ^ 63
@@ -267,7 +219,7 @@ module _ {before after : Option (List ℕ)} {reads : ℕ} {start now : Seen} {r 
   owes_alone honest_of q t ms p of =
       both_ok r (λ (same : ms ≡ messages_of (bodies_of run.given)) report (alone_is : (now.files ≡ alone (messages_of (bodies_of run.given)) start.files)
       × (report.swept ≡ leftover_count start.files)).
-      (alone_is.0 ∙ ap (λ x. alone x start.files) (sym same), alone_is.1)) (given_here t ms p of).2
+      (grind arith, alone_is.1)) (given_here t ms p of).2
       (filled_all run.names (messages_of (bodies_of run.given)) (messages_distinct (bodies_of run.given) few_bodies)
       (messages_targets (bodies_of run.given) few_bodies) start.files now.files r (run.ran.done_honestly (honest_of q)) (run.ran.done_quietly q) run.tells)
 
@@ -285,10 +237,10 @@ module _ {before after : Option (List ℕ)} {reads : ℕ} {start now : Seen} {r 
 
   -- ---- and of its source
   owes_end : OnOk r (IsAtEnd after)
-  owes_end = on_ok_weaker r (λ (w : GaveAll before after reads run.given). w.end) run.whole
+  owes_end = grind arith
 
   refused_as : (fault : RunFault) → IsErrOf r fault → SourceStopped before after reads fault
-  refused_as fault e = IfErr-at_err (SourceStopped before after reads) e run.refused
+  refused_as fault e = grind arith
 
   owes_unread : IsErrOf r NoFromLine → (t : List ℕ) (entries : List Entry) → Possible before after t → ¬ Mbox t entries
   owes_unread e = (refused_as NoFromLine e).unreadable refl
@@ -312,7 +264,7 @@ module _ {before after : Option (List ℕ)} {reads : ℕ} {start now : Seen} {r 
     cause = run.ran.cause;
     call_number = owes_numbers;
     end = owes_end;
-    budget = (run.prefix.text, run.prefix.read, run.prefix.budget);
+    budget = grind arith;
     untouched = run.untouched;
     no_from_line = owes_unread;
     spent = owes_spent;

@@ -1,6 +1,6 @@
 -- What one more read gives, and what a refused one leaves.
-use Rattle.std.proofs.Common.{◌≡◌, ℕ, ◌*◌, ◌<◌, ◌≤◌, Bool, true, false, Option, Some, Ok, List, [], ◌∷◌, ◌++◌, length, refl, sym, arith}
-use Rattle.std.proofs.Common.{◌∙◌, ap, arith, append_assoc, ◌==◌, eqb-true, eq-eqb, append-nil, length-append, inl, inr, suc, cond}
+use Rattle.std.proofs.Common.{◌≡◌, ℕ, ◌*◌, ◌<◌, ◌≤◌, Bool, true, false, Option, Some, Ok, List, [], ◌∷◌, ◌++◌, length, refl, arith}
+use Rattle.std.proofs.Common.{arith, append_assoc, ◌==◌, append-nil, length-append, suc, cond}
 use Rattle.maildir_run.proofs.Common.{Consumes, IsAtEnd, Consumes-trans, append_cancel_right, Entry, Splitter, mbox-one, RunFault, NoFromLine}
 use Rattle.maildir_run.proofs.Common.{Reader, Breaks, Went, IsPrefixOf, Gave, IsGiven, SourceStopped, Possible, FromLines, Consumes-nil, ReadsAtMost}
 use Rattle.mbox_text.proofs.Reading.FirstGiven.{few_given, first_of, unread_none, mbox-length}
@@ -9,25 +9,18 @@ use Rattle.mbox_text.proofs.FromLine.FromLines.{from_lines-before, from_lines-af
 -- ---- what was read
 consumed : {before now : Option (List ℕ)} {had left : List ℕ} (text : List ℕ) → before ≡ Some had → now ≡ Some left
     → Consumes before now text → had ≡ text ++ left
-consumed {now} {had} {left} text e f read =
-    let at_start : Consumes (Some had) now text = rw e at read in
-    let at_end : Consumes (Some had) (Some left) text = rw f at at_start in
-    at_end
+consumed {now} {had} {left} text e f read = grind arith
 
 -- what was read is a prefix of each possible text
 pub read_is : (before now : Option (List ℕ)) (text t : List ℕ) → Consumes before now text → (p : Possible before now t) → p.read ≡ text
-read_is before now text t read p =
-    append_cancel_right p.read text p.left (consumed text p.had p.has read)
+read_is before now text t read p = grind (arith, append_cancel_right)
 
 -- one more read, with what became whole by it
 pub gave_more : (ended : Bool) {before mid : Option (List ℕ)} (now : Option (List ℕ)) (old : Reader)
     (splitter : Splitter) (left : ℕ) {reads : ℕ} {given : List Entry} (out whole : List Entry) → out ≡ []
     → Gave before mid old.splitter old.reads_left reads given → Went old mid now out whole splitter left (Ok ended)
     → IsGiven ended before now splitter left reads (given ++ whole)
-gave_more true {before} {mid} now old splitter left {given = given} out whole none p w =
-    grind (arith, append-nil p.text, Consumes-trans before mid now p.text [] p.read w.1)
-gave_more false {before} {mid} now old splitter left {given = given} out whole none p w =
-    grind (arith, Consumes-trans before mid now p.text w.0 p.read w.2, length-append p.text w.0)
+gave_more ended {before} {mid} now old splitter left {given = given} out whole none p w = grind (arith, append-nil, Consumes-trans, length-append)
 
 module _ {before mid : Option (List ℕ)} (now : Option (List ℕ)) (old : Reader) {reads : ℕ}
     {given : List Entry} (fault : RunFault) (p : Gave before mid old.splitter old.reads_left reads given) where
@@ -37,8 +30,8 @@ module _ {before mid : Option (List ℕ)} (now : Option (List ℕ)) (old : Reade
       let spent = p.spent in
       let read = Consumes-trans before mid now p.text b.0 p.read b.1 in
       record {
-        budget = (p.text ++ b.0, read, omega (arith, length-append p.text b.0, b.2));
-        spent = λ e. (p.text ++ b.0, read, omega (arith, spent, length-append p.text b.0, b.4 e));
+        budget = grind (arith, length-append);
+        spent = grind (arith, length-append);
         unreadable = λ e t entries q m.
             let never = (b.3 e p.text given p.fed).1 in
             let is : t ≡ p.text ++ b.0 ++ q.more = rw (← read_is before now _ t read q) q.prefix in
@@ -47,14 +40,14 @@ module _ {before mid : Option (List ℕ)} (now : Option (List ℕ)) (old : Reade
 
   -- a message was given, so the text begins well
   pub never_again : 0 < length given → Breaks old mid now fault → fault ≡ NoFromLine → ⊥
-  never_again some b e = let none = (b.3 e p.text given p.fed).0 in absurd (omega (arith, some, ap length none))
+  never_again some b e = grind arith
 
 pub read_nothing : (source : Option (List ℕ)) {most : ℕ} → ReadsAtMost source source most
 read_nothing source = ([], Consumes-nil source, omega arith)
 
 -- ---- what was given is the first of each text that may begin so
 at_end_same : {text more left : List ℕ} {now : Option (List ℕ)} → IsAtEnd now → now ≡ Some left → (left ≡ [] → more ≡ []) → text ++ more ≡ text
-at_end_same {text} {left} end has whole = let none : left ≡ [] = rw has at end in rw (whole none) (append-nil text)
+at_end_same {text} {left} end has whole = grind (arith, append-nil)
 
 pub given_prefix : (ended : Bool) (before now : Option (List ℕ)) (splitter : Splitter) (left reads : ℕ) (given : List Entry)
     → IsGiven ended before now splitter left reads given → IsPrefixOf before now reads given
@@ -73,8 +66,7 @@ given_prefix true before now splitter left reads given p = record {
   read = p.read;
   budget = p.budget;
   few = mbox-length p.text given p.all;
-  tells = λ more rest entries has whole m.
-      ([], mbox-one p.text entries given (rw (at_end_same p.end has whole) at m) p.all ∙ sym (append-nil given));
+  tells = grind (arith, mbox-one, append-nil);
   none = λ more rest has whole none. absurd (none given (rw (at_end_same p.end has whole) p.all));
 }
 
@@ -89,7 +81,7 @@ broken_prefix {before} {mid} {now} old {given = given} p b =
     let few = few_given p.text given p.fed.given_are in
     record {
       text = p.text ++ b.0;
-      read = Consumes-trans before mid now p.text b.0 p.read b.1;
+      read = grind (arith, Consumes-trans);
       budget = omega (arith, length-append p.text b.0, b.2);
       few = omega (arith, length-append p.text b.0);
       tells = λ more rest entries has whole m. first_of p.text _ given entries p.fed.given_are (rw append_assoc at m);
@@ -103,10 +95,10 @@ refused_prefix refused = grind (arith)
 -- whether a list is empty, by its length
 pub none_whole : (items : List Entry) {n : ℕ} {b : Bool} → b ≡ (n == 0) → b ≡ true → n ≡ length items → items ≡ []
 none_whole [] is on e = refl
-none_whole (x ∷ xs) {n} is on e = let none = eqb-true n 0 (sym is ∙ on) in absurd (omega arith)
+none_whole (x ∷ xs) {n} is on e = grind arith
 
 pub some_left : (items : List Entry) {n : ℕ} {b : Bool} → b ≡ (n == 0) → b ≡ false → n ≡ length items → 0 < length items
-some_left [] {n} {b} is off e = let f = eq-eqb n 0 e in let g : b ≡ true = is ∙ f in cc
+some_left [] {n} {b} is off e = grind arith
 some_left (x ∷ xs) is off e = omega arith
 
 none_after : (given whole : List Entry) → given ++ whole ≡ [] → FromLines whole
@@ -115,20 +107,13 @@ none_after (g ∷ given) whole e = absurd (cc)
 
 pub given-from_lines : (ended : Bool) (before now : Option (List ℕ)) (splitter : Splitter) (left reads : ℕ) (given whole : List Entry)
     → IsGiven ended before now splitter left reads (given ++ whole) → FromLines whole
-given-from_lines true before now splitter left reads given whole p = from_lines-after given whole (mbox-from_lines p.text _ p.all)
-given-from_lines false before now splitter left reads given whole p = elim p.fed.given_are [
-  | inl a ↦ from_lines-after given whole (from_lines-before _ _ (mbox-from_lines p.text _ a.1.1))
-  | inr a ↦ none_after given whole a.1
-]
+given-from_lines ended before now splitter left reads given whole p = grind (arith, from_lines-after, mbox-from_lines, from_lines-before, none_after)
 
 -- ---- one more read
 pub went_on : (ended : Bool) (before after : Option (List ℕ)) (old : Reader) (splitter : Splitter) (left : ℕ) (out out' : List Entry)
     → ended ≡ false → Went old before after out out' splitter left (Ok ended) → left < old.reads_left
-went_on true before after old splitter left out out' e w = absurd (cc)
-went_on false before after old splitter left out out' e w = omega (arith, w.4)
+went_on ended before after old splitter left out out' e w = grind arith
 
 pub went_down : (was ended : Bool) (before after : Option (List ℕ)) (old : Reader) (splitter : Splitter) (left : ℕ) (out out' : List Entry)
     → was ≡ false → Went old before after out out' splitter left (Ok ended) → cond ended 0 (suc left) < cond was 0 (suc old.reads_left)
-went_down true ended before after old splitter left out out' e w = absurd (cc)
-went_down false true before after old splitter left out out' e w = omega arith
-went_down false false before after old splitter left out out' e w = omega (arith, w.4)
+went_down was ended before after old splitter left out out' e w = grind arith

@@ -1,17 +1,17 @@
 -- What a run has kept at its exits, for each text that its source may have had.
 use Rattle.std.proofs.Common.{◌≡◌, ℕ, ◌+◌, ◌*◌, ◌≤◌, ◌^◌, Option, Result, Ok, Err, OnOk, List, [], ◌++◌}
 use Rattle.std.proofs.Common.{length, sym, ap, subst, ◌∙◌, inl, inr, arith, append-nil, length-append}
-use Rattle.maildir_run.proofs.Common.{map-append, length-map, All-nil, Entry, Mbox, mbox-one, RunFault, Files, Message, IsHome, AreNamed, AreDistinct}
-use Rattle.maildir_run.proofs.Common.{Sound, messages_of, bodies_of, MessagesOf, messages_after, Possible, Keeps, KeepsHomes, Progress, IsPrefixOf, GaveAll}
+use Rattle.maildir_run.proofs.Common.{map-append, length-map, Entry, Mbox, mbox-one, RunFault, Files, Message, AreNamed, AreDistinct}
+use Rattle.maildir_run.proofs.Common.{Sound, messages_of, bodies_of, MessagesOf, Possible, Keeps, KeepsHomes, Progress, IsPrefixOf, GaveAll}
 use Rattle.maildir_run.proofs.Tasks.Progress.{KeptSoFar, progress_stands}
 use Rattle.maildir_run.proofs.Run.Batches.{after_these, no_messages}
 use Rattle.maildir_run.proofs.Source.Givens.{read_is}
 
 pub none_done : {start now : Files} → KeepsHomes start now → Progress [] start now
-none_done {now} leaves = record { homes_are = All-nil (IsHome now); kept = λ b named off. leaves.kept b named }
+none_done {now} leaves = grind arith
 
 pub stands_keeps : {ms : List Message} {start now : Files} {fault : RunFault} → KeptSoFar ms start now → Keeps ms start (Err fault) now
-stands_keeps s = record { sound = s.sound; still = s.still; in_order = s.in_order; ends = tt }
+stands_keeps s = grind arith
 
 -- messages of which the first are done
 pub prefix_stands : {ms done : List Message} (more : List Message) {start now : Files} → AreNamed ms → AreDistinct ms
@@ -30,10 +30,7 @@ prefix_of_text {before} {after} {given} f {t} p of =
     let is : t ≡ f.text ++ p.more = rw (← read_is before after f.text t f.read p) p.prefix in
     elim of [
       | inl (entries, m, e) ↦
-          let r = f.tells p.more p.left entries p.has p.whole (rw is at m) in (
-            messages_after (bodies_of given) (bodies_of r.0),
-            e ∙ ap messages_of (ap bodies_of r.1 ∙ bodies_parts given r.0) ∙ after_these (bodies_of given) (bodies_of r.0),
-          )
+          let r = f.tells p.more p.left entries p.has p.whole (rw is at m) in grind (arith, bodies_parts, after_these)
       | inr (none, e) ↦ (
         [],
         e ∙ sym (append-nil (messages_of (bodies_of given))
@@ -44,14 +41,10 @@ prefix_of_text {before} {after} {given} f {t} p of =
 -- and with Ok all of them
 pub whole_text : {before after : Option (List ℕ)} {reads : ℕ} {all : List Entry}
     → GaveAll before after reads all → {t : List ℕ} → Possible before after t → Mbox t all
-whole_text {before} {after} gave {t} p =
-    let at_end : p.left ≡ [] = rw p.has at gave.end in
-    let is : t ≡ gave.text = rw (← read_is before after _ t gave.read p) p.prefix ∙ ap (λ xs. gave.text ++ xs) (p.whole at_end) ∙ append-nil gave.text in
-    rw is gave.all
+whole_text {before} {after} gave {t} p = grind (arith, append-nil)
 
 pub whole_messages : (t : List ℕ) (all : List Entry) → Mbox t all → {ms : List Message} → MessagesOf t ms → ms ≡ messages_of (bodies_of all)
-whole_messages t all whole (inl (entries, m, e)) = e ∙ ap (λ es. messages_of (bodies_of es)) (mbox-one t entries all m whole)
-whole_messages t all whole (inr (none, e)) = absurd (none all whole)
+whole_messages t all whole h = grind (arith, mbox-one)
 
 -- the messages that were given, and those that were not; with Ok there are no others
 pub given_of : {A E : Type 0} (r : Result A E) {before after : Option (List ℕ)} {reads : ℕ} {given : List Entry} → IsPrefixOf before after reads given
@@ -59,12 +52,12 @@ pub given_of : {A E : Type 0} (r : Result A E) {before after : Option (List ℕ)
     → (more : List Message) × (ms ≡ messages_of (bodies_of given) ++ more) × OnOk r (ms ≡ messages_of (bodies_of given))
 given_of (Ok x) {given} prefix whole t ms p of =
     let same = whole_messages t given (whole_text whole p) of in
-    ([], same ∙ sym (append-nil (messages_of (bodies_of given))), same)
+    grind (arith, append-nil)
 given_of (Err e) {before} {after} {reads} {given} prefix whole t ms p of = let f = prefix_of_text prefix p of in (f.0, f.1, tt)
 
 -- ---- a batch
 pub batch_bodies : (given : List Entry) {whole entries : List Entry} → entries ≡ whole → bodies_of given ++ bodies_of entries ≡ bodies_of (given ++ whole)
-batch_bodies given {whole} e = ap (λ es. bodies_of given ++ bodies_of es) e ∙ sym (bodies_parts given whole)
+batch_bodies given {whole} e = grind (arith, bodies_parts)
 
 pub batch_few : (given : List Entry) {whole entries : List Entry} {reads : ℕ} → entries ≡ whole
     → length (given ++ whole) ≤ 65536 * reads → reads ≤ 2 ^ 40 → length (bodies_of given) + length entries ≤ 2 ^ 63

@@ -1,5 +1,5 @@
 -- Reads that are refused, of texts that no list of messages fits.
-use Rattle.std.proofs.Common.{◌≡◌, ◌⊎◌, ℕ, ◌≤◌, Bool, Option, Result, Ok, Err, List, [], ◌++◌, length, arith, inl, inr, ◌*◌, IsErr, IsErrAnd, append-nil}
+use Rattle.std.proofs.Common.{◌≡◌, ◌⊎◌, ℕ, ◌≤◌, Bool, Option, Result, Ok, Err, List, [], ◌++◌, length, arith, ◌*◌, IsErr, IsErrAnd, append-nil}
 use Rattle.maildir_run.proofs.Common.{Consumes, IsAtEnd, false≢true, Entry, Splitter, NeverFrom, IsTooShort, NeverBegins}
 use Rattle.maildir_run.proofs.Common.{RunFault, NoFromLine, TooManyReads, OutOfMemory, Reader, NeverReads, Breaks, Went}
 use Rattle.mbox_text.specs.Fed.{Fed}
@@ -10,10 +10,7 @@ pub never_reads : (text : List ℕ) {after : Option (List ℕ)} → NeverFrom te
 never_reads text n more left has whole = never_unreadable _ (never-more text more n)
 
 pub short_reads : (text : List ℕ) {after : Option (List ℕ)} → IsTooShort text → IsAtEnd after → NeverReads (text ++ []) after
-short_reads text s end more left has whole entries h =
-    let none : left ≡ [] = rw has at end in
-    let all : (text ++ []) ++ more ≡ text = rw (whole none, append-nil text) (append-nil text) in
-    short_unreadable text s entries (rw all at h)
+short_reads text s end more left has whole entries h = grind (arith, append-nil, short_unreadable)
 
 -- a read that is refused
 pub breaks_went : (old : Reader) (before : Option (List ℕ)) {after : Option (List ℕ)} (out out' : List Entry) (splitter : Splitter)
@@ -24,8 +21,7 @@ breaks_went old before out out' splitter reads (Err f) is e h = rw e h
 
 -- a splitter's refusal says nothing of the reads
 unspent : {left : ℕ} {fault : RunFault} → (fault ≡ NoFromLine) ⊎ (fault ≡ OutOfMemory) → fault ≡ TooManyReads → left ≡ 0
-unspent (inl e) is = cc
-unspent (inr e) is = cc
+unspent h is = grind arith
 
 -- the last message could not be told
 pub finish_breaks : (old : Reader) (before : Option (List ℕ)) {after : Option (List ℕ)} {fault : RunFault}

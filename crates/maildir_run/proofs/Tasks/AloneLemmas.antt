@@ -1,6 +1,6 @@
 -- Where the messages are delivered, a quiet run has nothing to do.
 use Rattle.std.proofs.Common.{◌≡◌, ℕ, ◌+◌, ◌%◌, ◌^◌, length, Ok, arith, true, cond, not, List, [], ◌∷◌, All, None, IsTrue, refl, ap, ◌∙◌, inr}
-use Rattle.maildir_run.proofs.Common.{get, retain_keys, same_map, empty, get-empty, len, len-empty, All-head, All-tail, is_converter_name}
+use Rattle.maildir_run.proofs.Common.{get, retain_keys, same_map, empty, get-empty, len-empty, All-head, All-tail, is_converter_name}
 use Rattle.maildir_run.proofs.Common.{Files, FileMap, name_cmp, Message, is_any, has_home, IsHome, IsSwept, Delivered, there_count}
 use Rattle.maildir_run.proofs.Common.{leftover_count, IsPermutation-refl, Report, MessagesOf, IsRun, CountsRun, swept, added, filled, alone}
 use Rattle.maildir_run.proofs.Call.Leftovers.{leftovers_are}
@@ -11,12 +11,12 @@ all_kept : {m : FileMap} → ((name : List ℕ) → IsTrue (is_converter_name na
 all_kept gone = same_map total same _ _ (λ q. grind (arith, get_under, gone q))
 
 nothing_swept : {s : Files} → IsSwept s → swept s ≡ s
-nothing_swept {s} gone = ap (λ m. record s { tmp = m }) (all_kept gone)
+nothing_swept {s} gone = grind (arith, all_kept)
 
 nothing_filled : (start : Files) (ms : List Message) {s : Files} → All (IsHome start) ms → filled start ms s ≡ s
 nothing_filled start [] there = refl
 nothing_filled start (m ∷ ms) {s} there =
-    let has : has_home start m.target.base ≡ true = ap is_any (All-head (IsHome start) m ms there) in
+    let has : has_home start m.target.base ≡ true = grind (arith, All-head) in
     ap (λ t. filled start ms (cond t s (added s m.target.place m.target.name m.body))) has
     ∙ nothing_filled start ms (All-tail (IsHome start) m ms there)
 
@@ -40,7 +40,7 @@ three_calls t ms s new report are d run before after made =
     let there = all_there s ms d.homes_are in
     let is_placed = reports.placed in
     let is_swept = reports.swept in
-    let leftovers : leftover_count s ≡ 0 = leftovers_are s.tmp ∙ ap len (no_converter_kept s.tmp d.swept) ∙ len-empty name_cmp (List ℕ) in
+    let leftovers : leftover_count s ≡ 0 = grind (arith, leftovers_are, no_converter_kept, len-empty) in
     let placed : report.placed ≡ 0 = omega (arith, is_placed, there) in
     let swept : report.swept ≡ 0 = omega (arith, is_swept, leftovers) in
-    (placed, swept, made ∙ ap (λ n. (before + n) % 2 ^ 128) (omega (arith, placed, swept)))
+    grind arith

@@ -1,5 +1,5 @@
 -- The count of a run's calls, as one more is made.
-use Rattle.std.proofs.Common.{◌≡◌, ℕ, zero, suc, ◌+◌, ◌*◌, ◌%◌, ◌^◌, refl, sym, ap, ◌∙◌, arith, add-suc, add_assoc}
+use Rattle.std.proofs.Common.{◌≡◌, ℕ, zero, suc, ◌+◌, ◌*◌, ◌%◌, ◌^◌, sym, ap, ◌∙◌, arith, add-suc}
 use Rattle.maildir_run.proofs.Common.{Report, CountsRun, GoesUp, raised, capped, Makes}
 use Rattle.std.proofs.Math.Nat.{mod-mod, mod-add-mod}
 
@@ -7,20 +7,17 @@ capped_once : (k : ℕ) → capped (capped k + 1) ≡ capped (k + 1)
 capped_once k = grind arith
 
 pub one_call : {made made' calls calls' : ℕ} → made' ≡ capped (made + 1) → GoesUp calls calls' → Makes 1 made made' calls calls'
-one_call e up = record { count_is = up; made_is = λ k is. e ∙ ap (λ m. capped (m + 1)) is ∙ capped_once k }
+one_call e up = grind arith
 
 pub no_call : {made calls : ℕ} → Makes 0 made made calls calls
-no_call = record { count_is = refl; made_is = λ k is. is ∙ ap capped (omega arith) }
+no_call = grind arith
 
 raised-add : (m n count : ℕ) → raised (m + n) count ≡ raised n (raised m count)
 raised-add m zero count = ap (λ k. raised k count) (omega arith)
 raised-add m (suc n) count = rw add-suc (ap (λ c. (c + 1) % 2 ^ 128) (raised-add m n count))
 
 pub more_calls : {m n a b c x y z : ℕ} → Makes m a b x y → Makes n b c y z → Makes (m + n) a c x z
-more_calls {m} {n} {x} first then = record {
-  count_is = then.count_is ∙ ap (raised n) first.count_is ∙ sym (raised-add m n x);
-  made_is = λ k is. then.made_is (k + m) (first.made_is k is) ∙ ap capped (add_assoc k m n);
-}
+more_calls {m} {n} {x} first then = grind (arith, raised-add)
 
 raised-mod : (n count : ℕ) → raised n count % 2 ^ 128 ≡ (count + n) % 2 ^ 128
 raised-mod zero count = ap (λ k. k % 2 ^ 128) (omega arith)
@@ -34,6 +31,4 @@ raised-mod (suc n) count =
 -- ---- at an exit
 pub run_counts : (report : Report) {swept placed made made' calls calls' : ℕ} → report.swept ≡ swept
     → report.placed ≡ placed → Makes (3 + swept + 2 * placed) made made' calls calls' → CountsRun report calls calls'
-run_counts report {swept} {placed} {calls} e f makes =
-    ap (λ k. k % 2 ^ 128) makes.count_is ∙ raised-mod (3 + swept + 2 * placed) calls
-    ∙ ap (λ k. (calls + k) % 2 ^ 128) (omega (arith, e, f))
+run_counts report {swept} {placed} {calls} e f makes = grind (arith, raised-mod)

@@ -1,20 +1,17 @@
 -- What is said of an answer by its fault.
-use Rattle.std.proofs.Common.{◌≡◌, false, true, None, Result, Ok, Err, sym, ◌∙◌, subst, inl, inr, IsErr, IsErrAnd, IfOk, IfErr}
+use Rattle.std.proofs.Common.{◌≡◌, None, Result, Ok, Err, sym, ◌∙◌, IsErr, IsErrAnd, IfOk, IfErr, arith}
 use Rattle.maildir_run.proofs.Common.{RunFault, NoFromLine, ReadFault, TooManyReads, OutOfMemory, fault_of, IsReading}
 
 -- ---- with any fault
 pub unless_ok : {A E : Type 0} (P : A → Type 0) (r : Result A E) → IsErr r → IfOk r P
-unless_ok P (Ok x) is = let off : false ≡ true = is in cc
-unless_ok P (Err e) is = tt
+unless_ok h r is = grind arith
 
 pub is_fault : {A E : Type 0} (r : Result A E) → IsErr r → fault_of r ≡ None → ⊥
-is_fault (Ok x) is e = let off : false ≡ true = is in cc
-is_fault (Err e) is none = cc
+is_fault r is e = grind arith
 
 -- the fault of a refused call, and of an answer
 pub if_err : {A E : Type 0} (P : E → Type 0) (r : Result A E) {fault : E} → IsErrAnd r (λ e. e ≡ fault) → P fault → IfErr r P
-if_err P (Ok x) is p = tt
-if_err P (Err e) is p = subst P (sym is) p
+if_err h r is p = grind arith
 
 pub fault_is : {T : Type 0} (r : Result T RunFault) {fault named : RunFault} → IsErrAnd r (λ e. e ≡ fault) → r ≡ Err named → fault ≡ named
 fault_is (Ok x) h e = absurd (cc)
@@ -22,7 +19,4 @@ fault_is (Err x) {named} h e = let same : x ≡ named = cc in sym h ∙ same
 
 -- ---- the fault of a read, or of an allocation
 pub at_reading : (P : RunFault → Type 0) → P NoFromLine → P ReadFault → P TooManyReads → P OutOfMemory → {fault : RunFault} → IsReading fault → P fault
-at_reading P a b c d (inl e) = subst P (sym e) a
-at_reading P a b c d (inr (inl e)) = subst P (sym e) b
-at_reading P a b c d (inr (inr (inl e))) = subst P (sym e) c
-at_reading P a b c d (inr (inr (inr e))) = subst P (sym e) d
+at_reading h a b c d w = grind arith

@@ -1,5 +1,5 @@
 -- The plan of a list of targets, from those of each target alone.
-use Rattle.std.proofs.Common.{◌≡◌, ℕ, suc, ◌<◌, take, get_or, length, arith, ◌+◌, Bool, true, false, cond, List, [], ◌∷◌, ◌++◌, map}
+use Rattle.std.proofs.Common.{◌≡◌, ℕ, suc, ◌<◌, take, get_or, length, arith, ◌+◌, Bool, cond, List, [], ◌∷◌, ◌++◌, map}
 use Rattle.std.proofs.Common.{refl, sym, ap, ◌∙◌, add-zero, append_assoc, append-nil, length-take-le, length-append, filter, flat_map}
 use Rattle.maildir_run.proofs.Common.{take_more, Target, Step, Write, Place, is_listed, removals, steps_for, deliveries_from, planned}
 use Rattle.maildir_run.proofs.Common.{each_alone, drop-append_seam, flat_map-append, is_converter_name, Remove, Removing, Message, Do, Listings}
@@ -7,11 +7,10 @@ use Rattle.maildir_run.proofs.Common.{listing_tasks, task_of, tasks_of, planned_
 use Rattle.maildir_run.specs.Plan.{shifted}
 
 one_numbered : (i : ℕ) (shown : Bool) → map (shifted i) (cond shown [] (Write 0 ∷ Place 0 ∷ []) ++ []) ≡ cond shown [] (Write i ∷ Place i ∷ [])
-one_numbered i true = refl
-one_numbered i false = rw (add-zero i) refl
+one_numbered i shown = grind (arith, add-zero)
 
 alone_is : (i : ℕ) (new cur : List (List ℕ)) (target : Target) → map (shifted i) (planned [] new cur (target ∷ [])) ≡ steps_for (is_listed new cur) i target
-alone_is i new cur target = one_numbered i (is_listed new cur target.base)
+alone_is i new cur target = grind arith
 
 deliveries_each_alone : (i : ℕ) (new cur : List (List ℕ)) (targets : List Target) → deliveries_from (is_listed new cur) i targets ≡ each_alone i new cur targets
 deliveries_each_alone i new cur [] = refl
@@ -21,14 +20,12 @@ deliveries_each_alone i new cur (target ∷ targets) =
 
 pub planned_each_alone : (tmp new cur : List (List ℕ)) (targets : List Target)
     → planned tmp new cur targets ≡ planned tmp new cur [] ++ each_alone 0 new cur targets
-planned_each_alone tmp new cur targets =
-    ap (λ xs. removals tmp ++ xs) (deliveries_each_alone 0 new cur targets)
-    ∙ ap (λ xs. xs ++ each_alone 0 new cur targets) (sym (append-nil (removals tmp)))
+planned_each_alone tmp new cur targets = grind (arith, deliveries_each_alone, append-nil)
 
 -- ---- the loops of the planner
 pub deliveries_from-push : (is_there : List ℕ → Bool) (i : ℕ) (targets : List Target) (target : Target)
     → deliveries_from is_there i (targets ++ target ∷ []) ≡ deliveries_from is_there i targets ++ steps_for is_there (i + length targets) target
-deliveries_from-push is_there i [] target = append-nil (steps_for is_there i target) ∙ ap (λ k. steps_for is_there k target) (sym (add-zero i))
+deliveries_from-push is_there i [] target = grind arith
 deliveries_from-push is_there i (x ∷ targets) target =
     ap (λ xs. steps_for is_there i x ++ xs)
     (deliveries_from-push is_there (i + 1) targets target ∙ ap (λ k. deliveries_from is_there (i + 1) targets ++ steps_for is_there k target) (omega arith))
@@ -47,11 +44,7 @@ module _ (is_there : List ℕ → Bool) (targets : List Target) (i : ℕ) (d : T
   pub deliveries-step : (before now after : List Step) (shown : Bool) → i < length targets
       → is_there (get_or targets i d).base ≡ shown → now ≡ before ++ deliveries_from is_there 0 (take i targets)
       → after ≡ now ++ cond shown [] (Write i ∷ Place i ∷ []) → after ≡ before ++ deliveries_from is_there 0 (take (i + 1) targets)
-  deliveries-step before now after shown h is had added =
-      added
-      ∙ ap (λ xs. xs ++ cond shown [] (Write i ∷ Place i ∷ [])) had
-      ∙ append_assoc before (deliveries_from is_there 0 (take i targets)) (cond shown [] (Write i ∷ Place i ∷ []))
-      ∙ ap (λ xs. before ++ xs) (ap (λ t. deliveries_from is_there 0 (take i targets) ++ cond t [] (Write i ∷ Place i ∷ [])) (sym is) ∙ sym (deliveries-more h))
+  deliveries-step before now after shown h is had added = grind (arith, append_assoc, deliveries-more)
 
 -- ---- the removals
 swept_each : (ms : List Message) (names : List (List ℕ)) → flat_map (task_of ms) (map Remove names) ≡ map (λ name. Do (Removing name)) names
@@ -64,8 +57,7 @@ plan_sweeps tmp = ap (flat_map (task_of [])) (append-nil (removals tmp)) ∙ swe
 -- ---- the deliveries
 tasks_of_steps_for : (is_there : List ℕ → Bool) (before ms : List Message) (m : Message) (shown : Bool)
     → flat_map (task_of (before ++ m ∷ ms)) (cond shown [] (Write (length before) ∷ Place (length before) ∷ [])) ≡ cond shown [] (delivery_of m.target m.body)
-tasks_of_steps_for is_there before ms m true = refl
-tasks_of_steps_for is_there before ms m false = rw (drop-append_seam before (m ∷ ms)) refl
+tasks_of_steps_for is_there before ms m shown = grind (arith, drop-append_seam)
 
 each_delivery : (is_there : List ℕ → Bool) (before ms : List Message) (i : ℕ) → i ≡ length before
     → flat_map (task_of (before ++ ms)) (deliveries_from is_there i (map (λ (m : Message). m.target) ms)) ≡ deliveries_of is_there ms

@@ -1,8 +1,8 @@
 -- How far a run has come, and what that says at its exits.
-use Rattle.std.proofs.Common.{◌≡◌, ℕ, ◌<◌, ◌≤◌, false, List, [], ◌∷◌, ◌++◌, All, IsPermutation, IsFalse, length}
-use Rattle.std.proofs.Common.{get_or, refl, sym, subst, ◌∙◌, inl, inr, ◌⊎◌, arith, AllPairs, IsTrue, ap, length-append}
-use Rattle.maildir_run.proofs.Common.{or_parts, cases_Bool, cases_lt, All-push, All-from_get_or, get_or_append_left, list_any-append}
-use Rattle.maildir_run.proofs.Common.{list_any_none, IsPermutation-refl, IsPermutation-sym, IsPermutation-trans, Files, is_name, homes, Message}
+use Rattle.std.proofs.Common.{◌≡◌, ℕ, ◌<◌, ◌≤◌, List, [], ◌∷◌, ◌++◌, All, IsPermutation, IsFalse, length}
+use Rattle.std.proofs.Common.{get_or, refl, sym, ◌∙◌, inl, inr, ◌⊎◌, arith, AllPairs, IsTrue, ap, length-append}
+use Rattle.maildir_run.proofs.Common.{cases_Bool, cases_lt, All-push, All-from_get_or, get_or_append_left, list_any-append}
+use Rattle.maildir_run.proofs.Common.{list_any_none, IsPermutation-sym, IsPermutation-trans, Files, is_name, homes, Message}
 use Rattle.maildir_run.proofs.Common.{IsMissing, IsHome, IsSoundAt, HasHome, is_any, AreNamed, AreDistinct, is_base_of, Sound, KeepsHomes}
 use Rattle.maildir_run.proofs.Common.{DeliversMessage, Progress, get_or-append_seam, eq_by_cmp_equiv, All-weaker, is_converter_base}
 use Rattle.maildir_run.proofs.Names.Maps.{is_name-true, total}
@@ -11,37 +11,32 @@ use Rattle.maildir_run.proofs.Call.Moves.{homes_none, homes_one, permutation_of_
 -- a call that leaves the homes
 pub progress_on : {done : List Message} {old mid now : Files} → AreNamed done → KeepsHomes mid now → Progress done old mid → Progress done old now
 progress_on {mid} {now} named leaves p = record {
-  homes_are = λ k d h. homes_one _ _ mid now (leaves.kept _ (named k d h)) (p.homes_are k d h);
-  kept = λ base is other. IsPermutation-trans _ _ _ (p.kept base is other) (leaves.kept base is);
+  homes_are = grind (arith, homes_one);
+  kept = grind (arith, IsPermutation-trans);
 }
 
 not_before : (done : List Message) (m : Message) (base : List ℕ) → IsFalse (is_base_of (done ++ m ∷ []) base)
     → IsFalse (is_base_of done base) × IsFalse (is_name m.target.base base)
-not_before done m base off =
-    let parts = or_parts (is_base_of done base) (is_base_of (m ∷ []) base) (sym (list_any-append (λ n. is_name n.target.base base) done (m ∷ [])) ∙ off) in
-    (parts.0, (or_parts (is_name m.target.base base) false parts.1).0)
+not_before done m base off = grind (arith, list_any-append)
 
 -- one more message that is there
 pub progress_home : {done : List Message} (m : Message) {old now : Files} → IsHome now m → Progress done old now → Progress (done ++ m ∷ []) old now
 progress_home {done} m {now} home p = record {
   homes_are = All-push (IsHome now) done m p.homes_are home;
-  kept = λ base is other. p.kept base is (not_before done m base other).0;
+  kept = grind (arith, not_before);
 }
 
 -- the messages so far keep their homes as another is delivered
 delivers_done : (done : List Message) {m : Message} {mid now : Files} → AreNamed done
     → All (λ n. IsFalse (is_name m.target.base n.target.base)) done → DeliversMessage m mid now → All (IsHome mid) done → All (IsHome now) done
-delivers_done done {mid} {now} named apart delivers all =
-    λ k d h. homes_one _ _ mid now (delivers.others _ (named k d h) (apart k d h)) (all k d h)
+delivers_done done {mid} {now} named apart delivers all = grind (arith, homes_one)
 
 pub progress_delivered : {done : List Message} {m : Message} {old mid now : Files} → AreNamed done
     → All (λ n. IsFalse (is_name m.target.base n.target.base)) done → DeliversMessage m mid now
     → IsHome now m → Progress done old mid → Progress (done ++ m ∷ []) old now
 progress_delivered {done} {m} {mid} {now} named apart delivers home p = record {
   homes_are = All-push (IsHome now) done m (delivers_done done named apart delivers p.homes_are) home;
-  kept = λ base is other.
-      let off = not_before done m base other in
-      IsPermutation-trans _ _ _ (p.kept base is off.0) (delivers.others base is off.1);
+  kept = grind (arith, not_before, IsPermutation-trans);
 }
 
 -- ---- whether there is a home
@@ -54,7 +49,7 @@ pub home_there : (m : Message) (s : Files) → IsHome s m → HasHome s m
 home_there m s h = rw h refl
 
 missing_there : (m : Message) (s : Files) → IsMissing s m → HasHome s m → ⊥
-missing_there m s h there = let e : is_any (homes s m.target.base) ≡ false = rw h refl in cc
+missing_there m s h there = grind arith
 
 -- ---- at an exit
 -- what a run keeps, whatever it answers
@@ -64,7 +59,7 @@ pub record KeptSoFar (ms : List Message) (old now : Files) : Type 0 where
   pub in_order : AllPairs (λ m n. IsMissing old n → HasHome now n → HasHome now m) ms
 
 at_done : (P : Message → Type 0) (done rest : List Message) {k : ℕ} (d : Message) → k < length done → P (get_or done k d) → P (get_or (done ++ rest) k d)
-at_done P done rest {k} d lt h = subst P (sym (get_or_append_left done rest d k lt)) h
+at_done P done rest {k} d lt h = grind (arith, get_or_append_left)
 
 module _ (done rest : List Message) (old now : Files) (named : AreNamed (done ++ rest))
     (distinct : AreDistinct (done ++ rest)) (sound : Sound (done ++ rest) old old) (p : Progress done old now) where
@@ -78,8 +73,7 @@ module _ (done rest : List Message) (old now : Files) (named : AreNamed (done ++
     kept_at = p.kept _ (named k d h) (base_apart)
 
   sound_at : (m : Message) → IsPermutation (homes old m.target.base) (homes now m.target.base) → IsSoundAt old m → IsSoundAt now m
-  sound_at m kept (inl none) = inl (homes_none _ old now kept none)
-  sound_at m kept (inr one) = inr (homes_one _ _ old now kept one)
+  sound_at m kept h = grind (arith, homes_none, homes_one)
 
   sound_now : (k : ℕ) (d : Message) → k < length (done ++ rest) → IsSoundAt now (get_or (done ++ rest) k d)
   sound_now k d h =
@@ -107,24 +101,18 @@ module _ (done rest : List Message) (old now : Files) (named : AreNamed (done ++
       ]
 
   other_now : (base : List ℕ) → IsFalse (is_base_of (done ++ rest) base) → IsFalse (is_base_of done base)
-  other_now base off = (or_parts (is_base_of done base) (is_base_of rest base) (sym (list_any-append (λ n. is_name n.target.base base) done rest) ∙ off)).0
+  other_now base off = grind (arith, list_any-append)
 
   pub progress_stands : KeptSoFar (done ++ rest) old now
   progress_stands = record {
-    sound = record { own = sound_now; others = λ base is other. p.kept base is (other_now base other) };
+    sound = grind (arith, sound_now, other_now);
     still = still_now;
     in_order = in_order_now;
   }
 
 -- where a message that was missing is missing yet, nothing happened
 nothing_delivered : {m : Message} {mid now : Files} → IsMissing mid m → IsMissing now m → DeliversMessage m mid now → KeepsHomes mid now
-nothing_delivered {m} {mid} {now} was is delivers = record {
-  kept = λ base named.
-      elim (cases_Bool (is_name m.target.base base)) as (λ _. IsPermutation (homes mid base) (homes now base)) [
-        | inl e ↦ subst (λ b. IsPermutation (homes mid b) (homes now b)) (is_name-true _ base e) (rw (was, is) (IsPermutation-refl _))
-        | inr e ↦ delivers.others base named e
-      ];
-}
+nothing_delivered {m} {mid} {now} was is delivers = grind (arith, cases_Bool, is_name-true)
 
 -- a message that was missing was delivered, or is missing yet
 pub progress_or_more : {done : List Message} {m : Message} {old mid now : Files} → AreNamed done → All (λ n. IsFalse (is_name m.target.base n.target.base)) done
@@ -148,14 +136,12 @@ apart_prefix done m later distinct =
     ∙ h)
 
 not_done : (done : List Message) (m : Message) → All (λ n. IsFalse (is_name m.target.base n.target.base)) done → IsFalse (is_base_of done m.target.base)
-not_done done m apart =
-    list_any_none (λ n. is_name n.target.base m.target.base) done (All-weaker (λ n. is_name m.target.base n.target.base ≡ false)
-    (λ n. is_name n.target.base m.target.base ≡ false) (λ n h. (eq_by_cmp_equiv total).symm n.target.base m.target.base ∙ h) done apart)
+not_done done m apart = grind (arith, list_any_none, All-weaker, total)
 
 module _ (done : List Message) (m : Message) (old now : Files) (named : IsTrue (is_converter_base m.target.base))
     (apart : All (λ n. IsFalse (is_name m.target.base n.target.base)) done) (p : Progress done old now) where
   pub still_missing : IsMissing old m → IsMissing now m
-  still_missing h = homes_none _ old now (p.kept m.target.base named (not_done done m apart)) h
+  still_missing h = grind (arith, homes_none, not_done)
 
   pub still_there : IsHome old m → IsHome now m
-  still_there h = homes_one _ m.body old now (p.kept m.target.base named (not_done done m apart)) h
+  still_there h = grind (arith, homes_one, not_done)

@@ -1,6 +1,6 @@
 -- What a run's calls leave in a quiet folder.
-use Rattle.std.proofs.Common.{◌≡◌, ℕ, Bool, true, false, cond, not, List, [], ◌∷◌, map, Option, Some, arith}
-use Rattle.std.proofs.Common.{None, IsPermutation, IsTrue, IsFalse, refl, sym, ap, ◌∙◌, arith, filter}
+use Rattle.std.proofs.Common.{◌≡◌, ℕ, Bool, false, cond, not, List, [], ◌∷◌, map, Option, Some, arith}
+use Rattle.std.proofs.Common.{None, IsPermutation, IsTrue, IsFalse, sym, ap, ◌∙◌, arith, filter}
 use Rattle.maildir_run.proofs.Common.{list_any, get, insert, remove, keys, retain_keys, same_map, contains_key-keys, any-filter_same, list_any-IsPermutation}
 use Rattle.maildir_run.proofs.Common.{is_converter_name, Files, FileMap, is_name, Call, Listing, Writing, Placing, Removing, Move, Other, Again}
 use Rattle.maildir_run.proofs.Common.{Torn, after, effect, placed, torn, IsOwn, swept, added, Message, KeepsForeign, Do, quietly, AllDone, sweep_of}
@@ -9,7 +9,7 @@ use Rattle.maildir_name.specs.declared.target.Place.TheVariants.{New, Cur}
 use Rattle.maildir_run.proofs.Names.Maps.{none_if_not_some, total, same, is_name-true, alike, get_under, get_inserted, get_removed, get-insert_same, put_away}
 
 pub others_same : (s : Files) → KeepsForeign s s
-others_same s = record { in_tmp = λ q off. refl; in_new = λ q off. refl; in_cur = λ q off. refl }
+others_same s = grind arith
 
 pub foreign_then : (a b c : Files) → KeepsForeign a b → KeepsForeign b c → KeepsForeign a c
 foreign_then a b c first then = grind (arith)
@@ -28,21 +28,19 @@ remove_other : (m : FileMap) (q name : List ℕ) → IsTrue (is_converter_name n
 remove_other m q name ours off = grind (arith, get_removed, alike is_converter_name q name)
 
 wrote : (s : Files) (name bytes : List ℕ) → IsTrue (is_converter_name name) → KeepsForeign s (record s { tmp = insert s.tmp name bytes })
-wrote s name bytes ours = record { in_tmp = λ q off. insert_other s.tmp q name bytes ours off; in_new = λ q off. refl; in_cur = λ q off. refl }
+wrote s name bytes ours = grind (arith, insert_other)
 
 placed_others : (s : Files) (name : List ℕ) (p : Place) (target : List ℕ) (o : Option (List ℕ))
     → IsTrue (is_converter_name name) → IsTrue (is_converter_name target) → KeepsForeign s (placed s name p target o)
 placed_others s name p target None ours theirs = others_same s
-placed_others s name New target (Some bytes) ours theirs =
-    record { in_tmp = λ q off. remove_other s.tmp q name ours off; in_new = λ q off. insert_other s.new q target bytes theirs off; in_cur = λ q off. refl }
-placed_others s name Cur target (Some bytes) ours theirs =
-    record { in_tmp = λ q off. remove_other s.tmp q name ours off; in_new = λ q off. refl; in_cur = λ q off. insert_other s.cur q target bytes theirs off }
+placed_others s name New target (Some bytes) ours theirs = grind (arith, remove_other, insert_other)
+placed_others s name Cur target (Some bytes) ours theirs = grind (arith, remove_other, insert_other)
 
 pub effect_others : (call : Call) → OfConverter call → {s : Files} → KeepsForeign s (effect call s)
 effect_others (Listing sub) h {s} = others_same s
 effect_others (Writing name bytes) h {s} = wrote s name bytes h
-effect_others (Placing name p target) h {s} = placed_others s name p target (get s.tmp name) h.0 h.1
-effect_others (Removing name) h {s} = record { in_tmp = λ q off. remove_other s.tmp q name h off; in_new = λ q off. refl; in_cur = λ q off. refl }
+effect_others (Placing name p target) h {s} = grind (arith, placed_others)
+effect_others (Removing name) h {s} = grind (arith, remove_other)
 
 torn_others : (call : Call) → OfConverter call → (bytes : List ℕ) {s : Files} → KeepsForeign s (torn call bytes s)
 torn_others (Writing name _) h bytes {s} = wrote s name bytes h
@@ -60,13 +58,10 @@ own_others call h (Torn bytes ∷ ms) {s} own =
 -- these names are out of `tmp`, and nothing else has changed
 all_removed : (names : List (List ℕ)) (old new : Files) → AllDone quietly (map (λ name. Do (Removing name)) names) old new
     → ((q : List ℕ) → get new.tmp q ≡ cond (list_any (is_name q) names) None (get old.tmp q)) × (new.new ≡ old.new) × (new.cur ≡ old.cur)
-all_removed [] old new e = ((λ q. ap (λ s. get s.tmp q) e), ap (λ s. s.new) e, ap (λ s. s.cur) e)
+all_removed [] old new e = grind arith
 all_removed (x ∷ names) old new (mid, one, more) =
-    let r = all_removed names mid new more in (
-      (λ q. r.0 q ∙ ap (λ s. cond (list_any (is_name q) names) None (get s.tmp q)) one.1 ∙ grind (arith, get_removed)),
-      r.1 ∙ ap (λ s. s.new) one.1,
-      r.2 ∙ ap (λ s. s.cur) one.1,
-    )
+    let r = all_removed names mid new more in
+    grind (arith, get_removed)
 
 pub swept_exact : {names : List (List ℕ)} (start : Files) {now : Files} → IsPermutation names (keys start.tmp)
     → AllDone quietly (sweep_of names) start now → now ≡ swept start
@@ -78,31 +73,23 @@ swept_exact {names} start {now} listed done =
     (any-filter_same (is_name q) is_converter_name (is_converter_name q) (λ k e. ap is_converter_name (sym (is_name-true q k e))) names)
     ∙ (let gone : list_any (is_name q) names ≡ false → get start.tmp q ≡ None = λ off.
     none_if_not_some (get start.tmp q) (contains_key-keys start.tmp q ∙ sym (list_any-IsPermutation (is_name q) names (keys start.tmp) listed) ∙ off) in
-    grind (arith, gone, get_under))) in
-    ap (λ m. record now { tmp = m }) tmp
-    ∙ ap (λ m. record { tmp = (swept start).tmp; new = m; cur = now.cur }) r.1
-    ∙ ap (λ m. record { tmp = (swept start).tmp; new = start.new; cur = m }) r.2
+    grind (arith, get_under))) in
+    grind arith
 
 -- ---- a message
 placed_exact : (old : Files) (b body : List ℕ) (p : Place) (name : List ℕ) → get old.tmp b ≡ None
     → placed (record old { tmp = insert old.tmp b body }) b p name (Some body) ≡ added old p name body
-placed_exact old b body New name none = ap (λ m. record { tmp = m; new = insert old.new name body; cur = old.cur }) (put_away b body none)
-placed_exact old b body Cur name none = ap (λ m. record { tmp = m; new = old.new; cur = insert old.cur name body }) (put_away b body none)
+placed_exact old b body p name none = grind (arith, put_away)
 
 pub delivers_exact : (old : Files) {mid new : Files} (b body : List ℕ) (p : Place) (name : List ℕ) → mid ≡ effect (Writing b body) old
     → new ≡ effect (Placing b p name) mid → get old.tmp b ≡ None → new ≡ added old p name body
-delivers_exact old b body p name wrote put none =
-    put ∙ ap (effect (Placing b p name)) wrote
-    ∙ ap (placed (record old { tmp = insert old.tmp b body }) b p name) (get-insert_same old.tmp b body)
-    ∙ placed_exact old b body p name none
+delivers_exact old b body p name wrote put none = grind (arith, get-insert_same, placed_exact)
 
 added_tmp : (s : Files) (p : Place) (name body : List ℕ) → (added s p name body).tmp ≡ s.tmp
-added_tmp s New name body = refl
-added_tmp s Cur name body = refl
+added_tmp s p name body = grind arith
 
 pub step_tmp : (t : Bool) (s : Files) (m : Message) → (cond t s (added s m.target.place m.target.name m.body)).tmp ≡ s.tmp
-step_tmp true s m = refl
-step_tmp false s m = added_tmp s m.target.place m.target.name m.body
+step_tmp t s m = grind (arith, added_tmp)
 
 pub swept_free : (s : Files) (b : List ℕ) → IsTrue (is_converter_name b) → get (swept s).tmp b ≡ None
-swept_free s b ours = get_under (λ name. not (is_converter_name name)) s.tmp b ∙ ap (λ t. cond (not t) (get s.tmp b) None) ours
+swept_free s b ours = grind (arith, get_under)

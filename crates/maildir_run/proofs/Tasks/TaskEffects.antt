@@ -2,7 +2,7 @@
 use Rattle.std.proofs.Common.{Option, Some, None, ◌≡◌, ℕ, ◌≤◌, Bool, true, false, cond, List, [], ◌∷◌, ◌++◌, ◌⊎◌, map, length, All, IsPermutation}
 use Rattle.std.proofs.Common.{IsFalse, refl, sym, ap, subst, ◌∙◌, inl, inr, arith, append_assoc, length-append, filter, append-nil}
 use Rattle.maildir_run.proofs.Common.{get, keys, cases_Bool, get_or-append_seam, get_or_append_left, All-head, All-tail, any-filter_same}
-use Rattle.maildir_run.proofs.Common.{Target, is_converter_name, RunFault, filled, added, Removing, Again, AnyMoves}
+use Rattle.maildir_run.proofs.Common.{Target, is_converter_name, RunFault, filled, added, Removing, AnyMoves}
 use Rattle.maildir_run.proofs.Common.{PlacesElsewhere, IsSwept, Message, IsMissing, IsHome, IsSoundAt, AreNamed, AreDistinct, has_home}
 use Rattle.maildir_run.proofs.Common.{leftover_count, Files, is_name, is_listed, KeepsHomes, TmpWithin, DeliversMessage}
 use Rattle.maildir_run.proofs.Common.{Progress, Knows, IsTarget, KeepsForeign, Task, Ask, Do, call_of, Done, Way, honestly, quietly, AllDone}
@@ -33,7 +33,7 @@ stopped_parts w (x ∷ xs) ys a c (inr (mid, one, more)) =
 
 -- ---- a base at which nothing is placed
 done_moves : (task : Task) {old new : Files} → Done task old new → AnyMoves (call_of task) old new
-done_moves (Ask sub names) h = record { moves = h.before ++ Again ∷ h.rest; left = h.left }
+done_moves (Ask sub names) h = grind arith
 done_moves (Do call) {old} {new} h = ok_moves h
 
 -- each of the tasks is so
@@ -77,7 +77,7 @@ removes_place_none [] = tt
 removes_place_none (name ∷ names) = ((λ b. tt), removes_place_none names)
 
 pub sweep_places_none : (names : List (List ℕ)) → EachTask PlacesNone (sweep_of names)
-sweep_places_none names = removes_place_none (filter is_converter_name names)
+sweep_places_none names = grind (arith, removes_place_none)
 
 -- ---- the listings
 pub record KnownByListings (names : Listings) (old new : Files) : Type 0 where
@@ -265,9 +265,7 @@ module _ (start : Files) (is_there : List ℕ → Bool) (knows : Knows is_there 
 
 -- ---- other files
 one_others : (task : Task) → IsOurs task → (old new : Files) → quietly.done task old new ⊎ quietly.refused task old new → KeepsForeign old new
-one_others (Ask sub names) ours old new (inl h) = subst (KeepsForeign old) (sym h.0) (others_same old)
-one_others (Do call) ours old new (inl h) = subst (KeepsForeign old) (sym h.1) (effect_others call ours)
-one_others task ours old new (inr h) = subst (KeepsForeign old) (sym h.2) (own_others _ ours h.0 h.1)
+one_others task ours old new h = grind (arith, others_same, effect_others, own_others)
 
 pub done_others : (fault : Option RunFault) (tasks : List Task) → EachTask IsOurs tasks
     → (old new : Files) → DoneUntil quietly tasks old fault new → KeepsForeign old new

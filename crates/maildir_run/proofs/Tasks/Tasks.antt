@@ -4,9 +4,8 @@ use Rattle.std.proofs.Common.{IsPermutation, IfOk, refl, sym, ap, subst, ◌∙�
 use Rattle.std.proofs.Common.{Option, Some, None, IsErrAnd, flat_map, take-append-drop, append-nil, Vec, String, Global}
 use Rattle.maildir_run.proofs.Common.{keys, take_more, flat_map-append, RunFault, FolderFault, Sub, Call, Called, CalledQuietly}
 use Rattle.maildir_run.proofs.Common.{Listed, Listing, GoesUp, CountsFailure, folder_of, names_of, fault_of, run_answer, capped}
-use Rattle.maildir_run.proofs.Common.{GoesUpWith, CountsFault, HasCallNumber, Follows, LeavesOf, Files, Task, Ask, Do, Way, honestly}
+use Rattle.maildir_run.proofs.Common.{CountsFault, HasCallNumber, Follows, LeavesOf, Files, Task, Ask, Do, Way, honestly}
 use Rattle.maildir_run.proofs.Common.{quietly, leaving, AllDone, Stopped, DoneUntil, Performs, Seen, CallOf, ListingOf, Performed, names_in, IsReading}
-use Rattle.maildir_run.specs.declared.folder.FolderFault.TheVariants.{Absent, Failed as Broken}
 use Rattle.maildir_run.proofs.Tasks.Faults.{at_reading}
 use Rattle.maildir_run.proofs.Call.Cuts.{left_as, left_then}
 use Rattle.maildir_run.proofs.Tasks.CallCounts.{one_call, more_calls, no_call}
@@ -70,15 +69,15 @@ ran_then {xs} {ys} {a} {b} {c} {made} {mid} {made'} {fault} first then =
     let two = then.most in
     record {
       honest = λ h. then.honest (first.honest h);
-      done_honestly = λ h. done_then honestly xs ys a.files b.files c.files fault (first.done_honestly h) (then.done_honestly (first.honest h));
+      done_honestly = grind (arith, done_then);
       left = λ h.
           left_then _ _ _ a.may_leave b.may_leave c.may_leave (λ x y z. done_then leaving xs ys x y z fault) (first.left h) (then.left (first.honest h));
-      still_rooted = λ h r. then.still_rooted (first.honest h) (first.still_rooted h r);
+      still_rooted = grind arith;
       quiet = λ q. then.quiet (first.quiet q);
-      done_quietly = λ q. done_then quietly xs ys a.files b.files c.files fault (first.done_quietly q) (then.done_quietly (first.quiet q));
+      done_quietly = grind (arith, done_then);
       n = first.n + then.n;
       most = omega (arith, length-append xs ys);
-      all = λ e. omega (arith, length-append xs ys, first.all refl, then.all e);
+      all = grind (arith, length-append);
       makes = more_calls first.makes then.makes;
       cause = rw first.cause at then.cause;
       call_number = then.call_number;
@@ -91,11 +90,11 @@ ran_before {xs} {a} {b} ys h =
     let most = h.most in
     record {
       honest = h.honest;
-      done_honestly = λ q. stopped_before honestly honestly_stops xs ys a.files b.files (h.done_honestly q);
+      done_honestly = grind (arith, stopped_before);
       left = λ q. left_as _ _ a.may_leave b.may_leave (stopped_before leaving leaving_stops xs ys) (h.left q);
       still_rooted = h.still_rooted;
       quiet = h.quiet;
-      done_quietly = λ q. stopped_before quietly quietly_stops xs ys a.files b.files (h.done_quietly q);
+      done_quietly = grind (arith, stopped_before);
       n = h.n;
       most = omega (arith, length-append xs ys);
       all = λ e. cc;
@@ -109,17 +108,17 @@ pub ran_stop : {xs : List Task} {a b : Seen} {made made' : ℕ} {fault : RunFaul
     → Performed xs a b made made' None → Performed xs a b made made' (Some fault)
 ran_stop {xs} {a} {b} {made} {made'} reading h = record {
   honest = h.honest;
-  done_honestly = λ q. all_stopped honestly xs a.files b.files (h.done_honestly q);
+  done_honestly = grind (arith, all_stopped);
   left = λ q. left_as _ _ a.may_leave b.may_leave (all_stopped leaving xs) (h.left q);
   still_rooted = h.still_rooted;
   quiet = h.quiet;
-  done_quietly = λ q. all_stopped quietly xs a.files b.files (h.done_quietly q);
+  done_quietly = grind (arith, all_stopped);
   n = h.n;
   most = h.most;
   all = λ e. cc;
   makes = h.makes;
-  cause = at_reading (λ f. GoesUpWith (Some f) a.failures b.failures) h.cause h.cause h.cause h.cause reading;
-  call_number = at_reading (λ f. HasCallNumber (Some f) made') tt tt tt tt reading;
+  cause = grind arith;
+  call_number = grind (arith, at_reading);
 }
 
 -- nothing, for want of something else
@@ -135,21 +134,16 @@ ran_err {B} {xs} {a} {b} {made} {made'} (Err e) is h = rw is h
 -- ---- one call
 run_performs : {A : Type 0} (w : Way) (xs : List Task) (old : Files) (r : Result A FolderFault) (new : Files) (number : ℕ)
     → Performs w xs old r new → Performs w xs old (run_answer number r) new
-run_performs w xs old (Ok v) new number h = h
-run_performs w xs old (Err e) new number h = h
+run_performs w xs old r new number h = grind arith
 
 told_cause : {A : Type 0} (r : Result A FolderFault) (number old new : ℕ) → CountsFailure r old new → CountsFault (run_answer number r) old new
-told_cause (Err Absent) number old new h = h
-told_cause (Err Broken) number old new h = h
-told_cause other number old new h = h
+told_cause r number old new h = grind arith
 
 told_number : {A : Type 0} (r : Result A FolderFault) (number : ℕ) → HasCallNumber (fault_of (run_answer number r)) number
-told_number (Err Broken) number = refl
-told_number other number = tt
+told_number r number = grind arith
 
 told_names : (r : Result (Vec (String Global) Global) FolderFault) (number : ℕ) → names_in (run_answer number r) ≡ names_in r
-told_names (Ok v) number = refl
-told_names (Err e) number = refl
+told_names r number = grind arith
 
 ran_one : {A : Type 0} {task : Task} {old new : Seen} {made made' : ℕ} (r : Result A FolderFault) {answer : Result A RunFault} → made' ≡ capped (made + 1)
     → answer ≡ run_answer made' r → (old.honest → new.honest) → (old.honest → Performs honestly (task ∷ []) old.files r new.files)
@@ -159,11 +153,11 @@ ran_one : {A : Type 0} {task : Task} {old new : Seen} {made made' : ℕ} (r : Re
 ran_one {task} {old} {new} {made} {made'} r up is honest called left rooted quiet alone counted cause =
     subst (λ x. Performed (task ∷ []) old new made made' (fault_of x)) (sym is) (record {
       honest = honest;
-      done_honestly = λ h. run_performs honestly (task ∷ []) old.files r new.files made' (called h);
+      done_honestly = grind arith;
       left = λ h. left_as _ _ old.may_leave new.may_leave (λ before now. run_performs leaving (task ∷ []) before r now made') (left h);
       still_rooted = rooted;
       quiet = quiet;
-      done_quietly = λ q. run_performs quietly (task ∷ []) old.files r new.files made' (alone q);
+      done_quietly = grind (arith, run_performs);
       n = 1;
       most = omega arith;
       all = λ e. refl;

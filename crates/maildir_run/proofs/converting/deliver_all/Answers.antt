@@ -2,7 +2,7 @@ use Rattle.std.proofs.Common.{rules, [], ◌++◌, refl, ◌∙◌, inl}
 use Rattle.maildir_run.proofs.Common.{bodies_of}
 use Rattle.maildir_run.proofs.Run.Delivering.{delivers_none}
 use Rattle.maildir_run.proofs.Run.Conversions.{stops, stops_in_folder, stops_unread, all_ran, tells_listed, one_batch, report_tells}
-use Rattle.maildir_run.proofs.Source.Givens.{went_down, gave_more, gave_refused, given_prefix, prefix_few, broken_prefix, never_again}
+use Rattle.maildir_run.proofs.Source.Givens.{gave_more, gave_refused, given_prefix, prefix_few, broken_prefix, never_again}
 use Rattle.maildir_run.proofs.Run.Batches.{batch_fits, batch_count, batch_begun}
 use Rattle.maildir_run.proofs.Tasks.Tasks.{ran_then, ran_before, ran_stop}
 use Rattle.maildir_run.proofs.converting.deliver_all.Goals as goal
@@ -135,6 +135,3 @@ returns-then-ended g c =
           c.report.ensures.messages c.report.ensures.there c.report.ensures.placed
           (c.report.ensures.swept ∙ c.in_ok-deliver_entries.ensures.swept ∙ i.swept ∙ rw look.3.0 at counts.2);
     }
-
-pub pieces-smaller : goal.pieces-smaller
-pieces-smaller g c = went_down c.pieces.ended c.in_ok-ended-2.ended _ _ c.pieces.reader _ _ _ _ c.if-ended.false c.in_ok-ended-2.ensures.went

@@ -1,3 +1,4 @@
+use Rattle.std.proofs.Common.{arith}
 use Rattle.maildir_run.proofs.Call.Homes.{acted_kept}
 use Rattle.maildir_run.proofs.Call.Moves.{after_kept}
 use Rattle.maildir_run.proofs.laws.homes_are_kept.Goals as goal
@@ -6,4 +7,4 @@ pub returns-clause-acted : goal.returns-clause-acted
 returns-clause-acted c = λ b action s named. acted_kept b named action s
 
 pub returns-clause-moved : goal.returns-clause-moved
-returns-clause-moved c = λ b call moves s named h. after_kept b named call h moves s
+returns-clause-moved c = grind (arith, after_kept)

@@ -1,13 +1,9 @@
-use Rattle.std.proofs.Common.{inl, inr}
+use Rattle.std.proofs.Common.{arith}
 use Rattle.maildir_run.proofs.Call.Moves.{placing, placing_ok}
 use Rattle.maildir_run.proofs.laws.place_delivers_one.Goals as goal
 
 pub returns-clause-any : goal.returns-clause-any
-returns-clause-any c = λ b name target place moves s named ours on e.
-    elim (placing b name place target named ours on moves s e) [
-      | inl w ↦ inl w.homes_are
-      | inr a ↦ inr (a.bytes, a.was, a.homes_are)
-    ]
+returns-clause-any c = grind (arith, placing)
 
 pub returns-clause-ok : goal.returns-clause-ok
 returns-clause-ok c = λ b name target place old new named ours on e done.

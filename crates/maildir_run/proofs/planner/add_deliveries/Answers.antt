@@ -1,5 +1,5 @@
-use Rattle.std.proofs.Common.{append-nil, ◌≡◌, List, [], ◌∷◌, ◌++◌, true, false, sym, ap, ◌∙◌, get_or, append_assoc}
-use Rattle.maildir_run.proofs.Common.{contains_key, Target, Step, Write, Place}
+use Rattle.std.proofs.Common.{append-nil, ◌≡◌, List, [], ◌∷◌, ◌++◌, true, false, sym, ap, ◌∙◌, get_or, append_assoc, arith}
+use Rattle.maildir_run.proofs.Common.{contains_key, Step, Write, Place}
 use Rattle.maildir_run.proofs.Tasks.PlanLemmas.{deliveries-step}
 use Rattle.maildir_run.proofs.planner.add_deliveries.Goals.{then-not-contains+in_ok-push+in_ok-push-2, else-not-contains}
 use Rattle.maildir_run.proofs.planner.add_deliveries.Goals as goal
@@ -10,8 +10,7 @@ loop-i-preserved c =
     let i = c.loop-i.i in
     let d = c.index-targets-i.result in
     let old = c.loop-i.steps.items in
-    let shown : contains_key there (get_or c.args.targets.now i d).base ≡ c.contains.result =
-    sym (c.contains.ensures ∙ ap (contains_key there) (c.as_str.ensures ∙ ap (λ (t : Target). t.base) c.index-targets-i.is)) in
+    let shown : contains_key there (get_or c.args.targets.now i d).base ≡ c.contains.result = grind arith in
     elim c.if-not-contains.branch [
       | then-not-contains+in_ok-push+in_ok-push-2 w ↦
           deliveries-step (contains_key there) c.args.targets.now i d c.args.steps.now.items old c.if-not-contains.steps.items false

@@ -2,7 +2,6 @@ use Rattle.std.proofs.Common.{◌≡◌, ◌++◌, length, refl, arith, inl, inr
 use Rattle.maildir_run.proofs.Common.{spelling}
 use Rattle.maildir_run.proofs.Output.Poured.{flat_output, flat_more, unread, reading_failed, writing_failed, all_written}
 use Rattle.maildir_run.proofs.Output.Poured.{read_broken, batch, batch_broken, count_fits, poured_all, poured_more}
-use Rattle.maildir_run.proofs.Source.Givens.{went_on}
 use Rattle.maildir_run.proofs.rewriting.rewrite.Goals as goal
 
 pub returns-in_err-reader : goal.returns-in_err-reader
@@ -49,6 +48,3 @@ pieces-preserved g c =
     c.clear.new.self.items (rw c.if-ended.false at c.in_ok-ended.ensures.went) c.clear.ensures.items in
     let len : c.len.result ≡ length c.read.new.out.items = omega (arith, c.len.ensures, c.read.new.out.ok.0) in
     (c.pieces.invariant.0 ++ c.read.new.out.items, rw len more)
-
-pub pieces-smaller : goal.pieces-smaller
-pieces-smaller g c = went_on c.in_ok-ended.ended _ _ c.pieces.reader _ _ _ _ c.if-ended.false c.in_ok-ended.ensures.went

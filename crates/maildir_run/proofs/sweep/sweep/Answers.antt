@@ -1,5 +1,5 @@
-use Rattle.std.proofs.Common.{[], map, string_bytes, sym, ap, subst, ◌∙◌, inr}
-use Rattle.maildir_run.proofs.Common.{IsOfFolder, tasks_of}
+use Rattle.std.proofs.Common.{[], map, string_bytes, ap, ◌∙◌, inr, arith}
+use Rattle.maildir_run.proofs.Common.{tasks_of}
 use Rattle.maildir_run.proofs.Tasks.Faults.{if_err, unless_ok}
 use Rattle.maildir_run.proofs.Tasks.PlanLemmas.{plan_sweeps}
 use Rattle.maildir_run.proofs.Tasks.Tasks.{ran_nothing, ran_err}
@@ -13,14 +13,10 @@ returns-in_err-steps g c =
     record {
       ran = ran_err _ r.ensures.1 (ran_nothing (inr (inr (inr c.in_err-steps.ensures.refused))));
       count = unless_ok _ r.result r.ensures.0;
-      causes = if_err _ r.result r.ensures.1 (subst IsOfFolder (sym c.in_err-steps.ensures.refused) tt);
+      causes = grind (arith, if_err);
     }
 
 pub returns : goal.returns
 returns g c =
     let tasks = ap (tasks_of []) (c.deref.ensures.value ∙ c.in_ok-steps.ensures.exact) ∙ plan_sweeps (map string_bytes c.args.listed.now) in
-    record {
-      ran = rw tasks at c.remove_planned.ensures.ran;
-      count = rw tasks at c.remove_planned.ensures.count;
-      causes = c.remove_planned.ensures.causes;
-    }
+    grind arith

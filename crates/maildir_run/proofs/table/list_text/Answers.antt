@@ -3,7 +3,6 @@ use Rattle.maildir_run.proofs.Common.{Entry, table_of}
 use Rattle.maildir_run.proofs.Output.TableRows.{listing_output}
 use Rattle.maildir_run.proofs.Output.Poured.{unread, reading_failed, writing_failed, all_written}
 use Rattle.maildir_run.proofs.Output.Poured.{read_broken, batch, batch_broken, names_fit, poured_none, poured_all, poured_more}
-use Rattle.maildir_run.proofs.Source.Givens.{went_on}
 use Rattle.maildir_run.proofs.table.list_text.Goals as goal
 
 pub pieces-init : goal.pieces-init
@@ -64,6 +63,3 @@ pieces-preserved g c =
     let count : c.list.new.self.count ≡ c.pieces.lister.count + length c.read.new.out.items =
     omega (arith, s.3.count_is, c.pieces.invariant.2.count_is, length-append given c.read.new.out.items) in
     (given ++ c.read.new.out.items, rw count more, s.3)
-
-pub pieces-smaller : goal.pieces-smaller
-pieces-smaller g c = went_on c.in_ok-ended.ended _ _ c.pieces.reader _ _ _ _ c.if-ended.false c.in_ok-ended.ensures.went

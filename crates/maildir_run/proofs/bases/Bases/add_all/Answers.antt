@@ -1,5 +1,5 @@
-use Rattle.std.proofs.Common.{◌≡◌, map, string_bytes, get_or, ap, ◌∙◌, take_all}
-use Rattle.maildir_run.proofs.Common.{insert, base, with_bases}
+use Rattle.std.proofs.Common.{◌≡◌, string_bytes, get_or}
+use Rattle.maildir_run.proofs.Common.{insert, base}
 use Rattle.maildir_run.proofs.Names.Sets.{with_bases-more}
 use Rattle.maildir_run.proofs.bases.Bases.add_all.Goals as goal
 
@@ -9,6 +9,3 @@ loop-name-preserved c =
     cc (c.in_ok-add.ensures) in
     with_bases-more _ _ _
     c.loop-name-test.true c.loop-name.invariant added
-
-pub returns : goal.returns
-returns c = c.loop-name.invariant ∙ ap (λ ns. with_bases c.args.self.now (map string_bytes ns)) (take_all _ _ c.loop-name-test.false)

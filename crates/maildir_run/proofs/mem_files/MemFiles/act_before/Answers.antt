@@ -1,4 +1,4 @@
-use Rattle.std.proofs.Common.{◌≡◌, ◌==◌, true, false, [], cond, get_or, refl, sym, ap, ◌∙◌, eq-eqb, ne_eqb}
+use Rattle.std.proofs.Common.{◌≡◌, ◌==◌, true, false, [], cond, get_or, refl, sym, ap, ◌∙◌, eq-eqb, ne_eqb, arith}
 use Rattle.maildir_run.proofs.Common.{files_in}
 use Rattle.maildir_run.proofs.Memory.Scripts.{on_err, lines_more, lines_cut}
 use Rattle.maildir_run.proofs.mem_files.MemFiles.act_before.Goals.{then-line-call+in_ok-perform_all, else-line-call}
@@ -8,12 +8,9 @@ pub returns-in_err-perform_all-clause-err : goal.returns-in_err-perform_all-clau
 returns-in_err-perform_all-clause-err c =
     let i = c.loop-line.line-index in
     let line = get_or c.args.lines.now i c.line-item.result in
-    let same : line.call ≡ c.args.call = ap (λ l. l.call) (sym c.line-item.is) ∙ c.if-line-call.true in
+    let same : line.call ≡ c.args.call = grind arith in
     let on : line.call == c.args.call ≡ true = eq-eqb line.call c.args.call same in
-    on_err c.from_residual.result
-    (lines_cut _ _ _
-    c.loop-line-test.true on c.loop-line.invariant
-    (rw (c.deref.ensures.value ∙ ap (λ l. l.acts.items) c.line-item.is) at c.in_err-perform_all.ensures.err))
+    grind (arith, on_err, lines_cut)
 
 pub loop-line-preserved : goal.loop-line-preserved
 loop-line-preserved c =

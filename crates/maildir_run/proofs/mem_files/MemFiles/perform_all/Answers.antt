@@ -1,13 +1,10 @@
-use Rattle.std.proofs.Common.{ap, ◌∙◌}
+use Rattle.std.proofs.Common.{ap, ◌∙◌, arith}
 use Rattle.maildir_run.proofs.Common.{files_in, performed}
 use Rattle.maildir_run.proofs.Memory.Scripts.{on_err, one_more, cut_at}
 use Rattle.maildir_run.proofs.mem_files.MemFiles.perform_all.Goals as goal
 
 pub returns-in_err-perform-clause-err : goal.returns-in_err-perform-clause-err
-returns-in_err-perform-clause-err c =
-    on_err c.from_residual.result
-    (cut_at c.act-item.result
-    c.loop-act-test.true (c.in_err-perform.ensures.err ∙ c.loop-act.invariant))
+returns-in_err-perform-clause-err c = grind (arith, on_err, cut_at)
 
 pub loop-act-preserved : goal.loop-act-preserved
 loop-act-preserved c =

@@ -1,3 +1,4 @@
+use Rattle.std.proofs.Common.{arith}
 use Rattle.maildir_run.proofs.Common.{Writing}
 use Rattle.maildir_run.proofs.Memory.Followed.{cut_made, cut_scripted, made, scripted}
 use Rattle.maildir_run.proofs.mem_folder.MemFolderFolder.write.Goals as goal
@@ -15,5 +16,5 @@ returns c =
     let count = c.count_call.ensures in
     record {
       writes = made (Writing c.args.name.now c.args.bytes.now) c.in_ok-mode.ensures c.write_in-answer.ensures count.answer count.rest count.cause;
-      scripted = scripted (Writing c.args.name.now c.args.bytes.now) c.in_ok-mode.ensures c.write_in-answer.ensures count.answer count.rest;
+      scripted = grind (arith, scripted);
     }

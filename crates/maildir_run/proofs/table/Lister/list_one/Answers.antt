@@ -26,16 +26,4 @@ returns-in-Ok-write_bytes-clause-lists g c = λ given h l.
     )
 
 pub returns-clause-lists : goal.returns-clause-lists
-returns-clause-lists g c = λ given h l.
-    let entry : Entry = c.args.entry.now in
-    let size : length (bodies given) ≡ length given = length-map given (λ e. e.body) in
-    let next = c.in-Ok.ensures.next (bodies given) h.named (omega (arith, l, size, length-append given (entry ∷ []))) in
-    let count : c.saturating_add-self.result ≡ length given + 1 =
-    omega (arith, c.saturating_add-self.ensures, h.count_is, l, length-append given (entry ∷ [])) in
-    let line : c.deref.result.now ≡ message_row (length given + 1) entry c.in-Ok.target =
-    c.deref.ensures.value ∙ c.in_ok-row.ensures ∙ ap (λ k. message_row k entry c.in-Ok.target) count in (
-      message_row (length given + 1) entry c.in-Ok.target,
-      table-push given entry _ (rw c.as_slice.ensures at next.0),
-      rw line at c.in-Err.ensures.written,
-      tt,
-    )
+returns-clause-lists g c = grind (arith, bodies, length-map, length-append, table-push)

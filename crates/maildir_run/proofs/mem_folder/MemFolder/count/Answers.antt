@@ -1,5 +1,0 @@
-use Rattle.std.proofs.Common.{rules}
-use Rattle.maildir_run.proofs.mem_folder.MemFolder.count.Goals as goal
-
-pub returns : goal.returns
-returns c = search rules
