@@ -7,5 +7,11 @@ pub mod Passing
 pub mod Pieces
 -- A write that appends in several steps while no other program acts.
 pub mod QuietWrites
+-- Several calls in sequence in which only other programs acted.
+pub mod Looking
+-- A listing, from the calls of the system.
+pub mod Listings
+-- A write, from the calls of the system.
+pub mod Writes
 -- Calls that failed.
 pub mod Refused

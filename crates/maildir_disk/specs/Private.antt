@@ -2,6 +2,8 @@
 
 -- What one attempt at a listing returns.
 pub mod Look
+-- What the system calls of one call of the folder do, and that the folder counts them as one.
+pub mod Effects
 -- What a write leaves that appends in several steps.
 pub mod Writing
 -- An event of one text, as an event of several.

@@ -1,9 +1,10 @@
 // A Maildir on a file system, as a folder for runs.
 ghost use Rattle.std.specs.Prelude.{◌≡◌, IsErrOf};
-ghost use Rattle.maildir_run.specs.Calls.{CountsFailure, GoesUp, IsNotAbsent};
+ghost use Rattle.maildir_run.specs.Calls.{IsNotAbsent};
 ghost use Rattle.maildir_run.specs.Calls.Call.{Placing};
 ghost use Rattle.maildir_run.specs.Seen.{CallOf};
 ghost use Rattle.maildir_disk.specs.Placing.{WasGone};
+ghost use Rattle.maildir_disk.specs.Private.Effects.{Counts};
 ghost use Rattle.maildir_disk.specs.Seen.{SyncsMaildir, seen_of};
 
 use crate::faults::answer_of;
@@ -71,10 +72,7 @@ impl<S: System> DiskFolder<S> {
 
     // Counts a call with this result.
     fn count_call<T>(&mut self, answer: Result<T, FolderFault>) -> Result<T, FolderFault>
-        ensures same { result ≡ answer }
-        ensures system { self.new.system ≡ self.old.system }
-        ensures calls { GoesUp self.old.calls self.new.calls }
-        ensures failures { CountsFailure answer self.old.failures self.new.failures }
+        ensures { Counts answer self.old result self.new }
     {
         self.calls = self.calls.wrapping_add(1);
         if let Err(FolderFault::Absent | FolderFault::Failed) = answer {

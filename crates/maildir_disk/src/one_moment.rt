@@ -1,13 +1,9 @@
 // The names in a folder at one moment.
-ghost use Rattle.std.specs.Prelude.{◌≡◌, IfOk};
+ghost use Rattle.std.specs.Prelude.{◌≡◌};
 ghost use Rattle.std.specs.Duration.{as_nanos};
 ghost use Rattle.std.specs.Time.{system_time_nanos};
-ghost use Rattle.maildir_run.specs.Calls.{Listed};
-ghost use Rattle.maildir_run.specs.Cuts.{Follows};
-ghost use Rattle.maildir_disk.specs.Quiet.{AreNames, SameFiles};
-ghost use Rattle.maildir_disk.specs.Private.Look.{FoundNames, LookGivesQuietly, IsAged, LookGives, WatchedOr};
+ghost use Rattle.maildir_disk.specs.Private.Look.{Attempts, IsAged, ReadsAtOnce, Watches};
 ghost use Rattle.maildir_disk.specs.World.{margin_of};
-ghost use Rattle.maildir_disk.specs.PowerCuts.{LeftByOthers};
 
 use crate::system::System;
 use maildir_run::Sub;
@@ -33,14 +29,7 @@ const PAUSE_MILLIS: u64 = 1;
 /// if no change before the end of the listing could have set the stamp that the folder has before and after it; otherwise
 /// the folder is listed again, for 30 seconds at most.
 pub(crate) fn names_of_one_moment<S: System>(system: &mut S, sub: Sub) -> io::Result<Vec<String>>
-    ensures honest { (S.at system.old).honest → (S.at system.new).honest }
-    ensures listed { (S.at system.old).honest →
-        Listed sub (S.at system.old).world.files result (S.at system.new).world.files }
-    ensures left { (S.at system.old).honest → Follows LeftByOthers (S.at system.old).may_leave (S.at system.new).may_leave }
-    ensures still_rooted { (S.at system.old).honest → (S.at system.old).rooted → (S.at system.new).rooted }
-    ensures quiet { (S.at system.old).quiet → (S.at system.new).quiet }
-    ensures quietly { (S.at system.old).quiet → SameFiles (S.at system.old).world (S.at system.new).world }
-    ensures exact { (S.at system.old).quiet → IfOk result (AreNames sub (S.at system.old).world.files) }
+    ensures { ReadsAtOnce sub (S.at system.old) result (S.at system.new) }
 {
     let patience = Duration::from_secs(PATIENCE_SECS);
     let start = system.instant()?;
@@ -67,13 +56,7 @@ enum Look {
 }
 
 fn take_names<S: System>(system: &mut S, sub: Sub) -> io::Result<Look>
-    ensures honest { (S.at system.old).honest → (S.at system.new).honest }
-    ensures looked { (S.at system.old).honest → LookGives sub (S.at system.old).world result (S.at system.new).world }
-    ensures left { (S.at system.old).honest → Follows LeftByOthers (S.at system.old).may_leave (S.at system.new).may_leave }
-    ensures still_rooted { (S.at system.old).honest → (S.at system.old).rooted → (S.at system.new).rooted }
-    ensures quiet { (S.at system.old).quiet → (S.at system.new).quiet }
-    ensures quietly { (S.at system.old).quiet → SameFiles (S.at system.old).world (S.at system.new).world }
-    ensures exact { (S.at system.old).quiet → IfOk result (LookGivesQuietly sub (S.at system.old).world.files) }
+    ensures { Attempts sub (S.at system.old) result (S.at system.new) }
 {
     let stamp = system.stamp(sub)?;
     let now = system.now()?;
@@ -101,14 +84,7 @@ fn watched_names<S: System>(
     sub: Sub,
     stamp: SystemTime,
 ) -> io::Result<Option<Vec<String>>>
-    ensures honest { (S.at system.old).honest → (S.at system.new).honest }
-    ensures watched { (S.at system.old).honest →
-        WatchedOr sub (system_time_nanos stamp) (S.at system.old).world result (S.at system.new).world }
-    ensures left { (S.at system.old).honest → Follows LeftByOthers (S.at system.old).may_leave (S.at system.new).may_leave }
-    ensures still_rooted { (S.at system.old).honest → (S.at system.old).rooted → (S.at system.new).rooted }
-    ensures quiet { (S.at system.old).quiet → (S.at system.new).quiet }
-    ensures quietly { (S.at system.old).quiet → SameFiles (S.at system.old).world (S.at system.new).world }
-    ensures exact { (S.at system.old).quiet → IfOk result (FoundNames sub (S.at system.old).world.files) }
+    ensures { Watches sub (system_time_nanos stamp) (S.at system.old) result (S.at system.new) }
 {
     let names = system.names(sub)?;
     let after = system.stamp(sub)?;

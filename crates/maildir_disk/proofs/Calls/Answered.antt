@@ -1,14 +1,17 @@
 -- What a call of the folder did, from what its last system call did.
 use Rattle.std.proofs.Common.{◌≡◌, [], ◌∷◌, ◌++◌, List, Result, Ok, Err, IfOk, IfErr, IsErr, IsErrOf, OnErr, Vec, String, Global}
 use Rattle.maildir_run.specs.declared.folder.FolderFault.{FolderFault}
-use Rattle.maildir_run.specs.Calls.{CountsFailure, GoesUp, MayAnswer}
+use Rattle.maildir_run.specs.Calls.{IsNotAbsent, MayAnswer}
 use Rattle.maildir_run.specs.Seen.{CallOf, ListingOf}
-use Rattle.maildir_disk.proofs.Common.{Files, Call, Called, CalledQuietly, Follows, Listed, Listing, Sub, LeavesOf, Move, Other, Again, IsWhole}
+use Rattle.maildir_disk.proofs.Common.{Files, Call, Called, CalledQuietly, IsFoundWhole, Listed, Listing, Sub, Move, Other, Again, IsWhole}
 use Rattle.maildir_disk.specs.declared.disk_folder.DiskFolder.{DiskFolder}
 use Rattle.maildir_disk.specs.declared.system.System.{Ghosts}
+use Rattle.maildir_disk.specs.Private.Effects.{Counts, TakesEffect}
+use Rattle.maildir_disk.specs.Private.Look.{ReadsAtOnce}
 use Rattle.maildir_disk.specs.Quiet.{AreNames}
 use Rattle.maildir_disk.specs.Seen.{seen_of}
-use Rattle.maildir_disk.proofs.Left.Lefts.{left_answered}
+use Rattle.maildir_disk.specs.SeenSystem.{SeenSystem, TakesFromTmp}
+use Rattle.maildir_disk.proofs.Left.Lefts.{left_always, left_answered, left_early}
 
 called_answered : {A E F : Type 0} (call : Call) (a b : Files) (outcome : Result A E) (answer : Result A F)
     → IfOk outcome (λ value. answer ≡ Ok value) → OnErr outcome (IsErr answer) → Called call a outcome b → Called call a answer b
@@ -25,34 +28,32 @@ quietly_answered call a b (Err e) (Ok y) ok err h = cc
 quietly_answered call a b (Err e) (Err f) ok err h = h
 
 -- a system call with this effect, which the folder counted and whose result it returned
-module _ {S File A E : Type 0} (f : Ghosts S File) (call : Call) (old new : DiskFolder S) {mid : S} (outcome : Result A E)
-    {answer result : Result A FolderFault} (is : result ≡ answer) (system : new.system ≡ mid) (ok : IfOk outcome (λ value. answer ≡ Ok value))
-    (err : OnErr outcome (IsErr answer)) (counted : GoesUp old.calls new.calls) (cause : CountsFailure answer old.failures new.failures) where
-  pub call_answered : MayAnswer call answer → ((f.at old.system).honest → (f.at mid).honest)
-      → ((f.at old.system).honest → Called call (f.at old.system).world.files outcome (f.at mid).world.files)
-      → ((f.at old.system).honest → Follows (λ before now. LeavesOf call before outcome now) (f.at old.system).may_leave (f.at mid).may_leave)
-      → ((f.at old.system).honest → (f.at old.system).rooted → (f.at mid).rooted) → ((f.at old.system).quiet → (f.at mid).quiet)
-      → ((f.at old.system).quiet → CalledQuietly call (f.at old.system).world.files outcome (f.at mid).world.files)
-      → CallOf call (seen_of f old) result (seen_of f new)
-  call_answered answers honest called left rooted quiet quietly = rw is (record {
-    honest = λ h. rw system (honest h);
-    called = λ h. rw system (called_answered call _ _ outcome answer ok err (called h));
-    left = λ h. rw system (left_answered call outcome answer err (left h));
-    still_rooted = λ h r. rw system (rooted h r);
-    quiet = λ q. rw system (quiet q);
-    quietly = λ q. rw system (quietly_answered call _ _ outcome answer ok err (quietly q));
-    counted = counted;
-    cause = cause;
-    answers = answers;
-  })
+pub call_answered : {S File A E : Type 0} (f : Ghosts S File) (call : Call) (old new : DiskFolder S) {mid : S} (outcome : Result A E)
+    {answer result : Result A FolderFault} → TakesEffect call (f.at old.system) outcome (f.at mid) → Counts answer (record old { system = mid }) result new
+    → IfOk outcome (λ value. answer ≡ Ok value) → OnErr outcome (IsErr answer) → MayAnswer call answer → CallOf call (seen_of f old) result (seen_of f new)
+call_answered f call old new outcome {answer} did counts ok err answers = rw counts.same (record {
+  honest = λ h. rw counts.system (did.honest h);
+  called = λ h. rw counts.system (called_answered call _ _ outcome answer ok err (did.called h));
+  left = λ h. rw counts.system (left_answered call outcome answer err (did.left h));
+  still_rooted = λ h r. rw counts.system (did.still_rooted h r);
+  quiet = λ q. rw counts.system (did.quiet q);
+  quietly = λ q. rw counts.system (quietly_answered call _ _ outcome answer ok err (did.quietly q));
+  counted = counts.calls;
+  cause = counts.failures;
+  answers = answers;
+})
 
--- what an error of the system says about a fault of the folder that comes from such errors alone
-pub fault_tells : {S A E F : Type 0} {s t : S} (fault : F) (such : E → Type 0) (told : S → Type 0) (outcome : Result A E) (answer : Result A F)
-    → t ≡ s → IfOk outcome (λ value. answer ≡ Ok value) → IfErr outcome (λ error. IsErrOf answer fault → such error)
-    → IfErr outcome (λ error. such error → told s) → IsErrOf answer fault → told t
-fault_tells fault such told (Ok x) (Ok y) e ok only h is = cc
-fault_tells fault such told (Ok x) (Err f) e ok only h is = cc
-fault_tells fault such told (Err error) answer e ok only h is = rw e (h (only is))
+-- a file of `tmp` was moved or removed
+pub taken : {A E : Type 0} {call : Call} {a b : SeenSystem} (outcome : Result A E) → ((s : Files) → IsFoundWhole call s)
+    → TakesFromTmp call a outcome b → TakesEffect call a outcome b
+taken outcome whole takes = record {
+  honest = takes.honest;
+  called = takes.called;
+  left = λ h. left_always outcome whole (takes.left h);
+  still_rooted = takes.still_rooted;
+  quiet = takes.quiet;
+  quietly = takes.quietly;
+}
 
 -- ---- a listing
 whole_both : (xs ys : List Move) → IsWhole xs → IsWhole ys → IsWhole (xs ++ ys)
@@ -61,7 +62,7 @@ whole_both (Other a ∷ xs) ys h k = whole_both xs ys h k
 whole_both (Again ∷ xs) ys h k = whole_both xs ys h k
 whole_both (other ∷ xs) ys h k = absurd h
 
-pub listed_called : {E : Type 0} (sub : Sub) (old : Files) (result : Result (Vec (String Global) Global) E) (new : Files)
+listed_called : {E : Type 0} (sub : Sub) (old : Files) (result : Result (Vec (String Global) Global) E) (new : Files)
     → Listed sub old result new → Called (Listing sub) old result new
 listed_called sub old (Ok names) new h = record {
   before = [];
@@ -73,9 +74,20 @@ listed_called sub old (Ok names) new h = record {
 }
 listed_called sub old (Err e) new h = h
 
-pub same_quietly : {A E : Type 0} (sub : Sub) {old : Files} (result : Result A E) {new : Files} → new ≡ old → CalledQuietly (Listing sub) old result new
+same_quietly : {A E : Type 0} (sub : Sub) {old : Files} (result : Result A E) {new : Files} → new ≡ old → CalledQuietly (Listing sub) old result new
 same_quietly sub (Ok x) same = (tt, same)
 same_quietly sub (Err e) same = ([], tt, same)
+
+listing : {E : Type 0} (sub : Sub) {a b : SeenSystem} (outcome : Result (Vec (String Global) Global) E)
+    → ReadsAtOnce sub a outcome b → TakesEffect (Listing sub) a outcome b
+listing sub outcome did = record {
+  honest = did.looks.honest;
+  called = λ h. listed_called sub _ outcome _ (did.listed h);
+  left = λ h. left_always outcome (λ s. tt) (left_early {call = Listing sub} (did.looks.left h));
+  still_rooted = did.looks.still_rooted;
+  quiet = did.looks.quiet;
+  quietly = λ q. same_quietly sub outcome (did.looks.quietly q);
+}
 
 listed_answered : {E : Type 0} (sub : Sub) (a b : Files) (outcome : Result (Vec (String Global) Global) E)
     (answer : Result (Vec (String Global) Global) FolderFault)
@@ -92,12 +104,11 @@ names_answered sub a (Err e) (Ok y) ok err h = cc
 names_answered sub a (Err e) (Err f) ok err h = tt
 
 pub listing_answered : {S File E : Type 0} (f : Ghosts S File) (sub : Sub) (old new : DiskFolder S) {mid : S}
-    (outcome : Result (Vec (String Global) Global) E) {answer result : Result (Vec (String Global) Global) FolderFault} → result ≡ answer → new.system ≡ mid
-    → IfOk outcome (λ names. answer ≡ Ok names) → OnErr outcome (IsErr answer) → CallOf (Listing sub) (seen_of f old) result (seen_of f new)
-    → ((f.at old.system).honest → Listed sub (f.at old.system).world.files outcome (f.at mid).world.files)
-    → ((f.at old.system).quiet → IfOk outcome (AreNames sub (f.at old.system).world.files)) → ListingOf sub (seen_of f old) result (seen_of f new)
-listing_answered f sub old new outcome {answer} is system ok err call listed exact = record {
-  call = call;
-  listed = λ h. rw (is, system) (listed_answered sub _ _ outcome answer ok err (listed h));
-  names = λ q. rw is (names_answered sub _ outcome answer ok err (exact q));
+    (outcome : Result (Vec (String Global) Global) E) {answer result : Result (Vec (String Global) Global) FolderFault}
+    → ReadsAtOnce sub (f.at old.system) outcome (f.at mid) → Counts answer (record old { system = mid }) result new
+    → IfOk outcome (λ names. answer ≡ Ok names) → OnErr outcome (IsErr answer) → IsNotAbsent answer → ListingOf sub (seen_of f old) result (seen_of f new)
+listing_answered f sub old new outcome {answer} did counts ok err not_absent = record {
+  call = call_answered f (Listing sub) old new outcome (listing sub outcome did) counts ok err not_absent;
+  listed = λ h. rw (counts.same, counts.system) (listed_answered sub _ _ outcome answer ok err (did.listed h));
+  names = λ q. rw counts.same (names_answered sub _ outcome answer ok err (did.exact q));
 }

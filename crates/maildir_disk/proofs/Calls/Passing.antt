@@ -42,23 +42,9 @@ longer before after change = grind arith
 pub passes_on : {sub : Sub} {a b c : World} → Passes sub a b → Passes sub b c → Passes sub a c
 passes_on {a} {c} p q = grind (arith, acts_on, longer)
 
--- an attempt at a listing that failed
-pub looked_fault : {E : Type 0} (sub : Sub) {a b : World} (outcome : Result Look E) → IsErr outcome → Acts a b → LookGives sub a outcome b
-looked_fault sub (Ok _) is_err p = absurd (false≢true is_err)
-looked_fault sub (Err _) is_err p = p
-
-pub exact_fault : {E : Type 0} (sub : Sub) (a : Files) (outcome : Result Look E) → IsErr outcome → IfOk outcome (LookGivesQuietly sub a)
-exact_fault sub a (Ok _) is_err = absurd (false≢true is_err)
-exact_fault sub a (Err _) is_err = tt
-
--- a listing that failed
-pub failed_listing : {sub : Sub} {a b : World} → Acts a b → AnyMoves (Listing sub) a.files b.files
-failed_listing {sub} {a} p = grind (arith, after-others p.actions (Listing sub) a.files)
-
-pub listed_fault : {E : Type 0} (sub : Sub) {a b : World} (outcome : Result (Vec (String Global) Global) E)
-    → IsErr outcome → Acts a b → Listed sub a.files outcome b.files
-listed_fault sub (Ok _) is_err p = absurd (false≢true is_err)
-listed_fault sub (Err _) is_err p = failed_listing p
+-- a call of the folder that failed, in which only other programs acted
+pub acts_failed : {call : Call} {a b : World} → Acts a b → AnyMoves call a.files b.files
+acts_failed {call} {a} acts = grind (arith, after-others acts.actions call a.files)
 
 -- the names of one moment
 pub lists_at : {sub : Sub} {a b c : World} {names : List (List ℕ)} → Acts a b → Acts b c

@@ -7,7 +7,7 @@ use Rattle.maildir_disk.proofs.Common.{acted, all_acted, Call, Writing, Other, A
 use Rattle.maildir_disk.proofs.Common.{alike, is_name-true, get-insert_same, get-outsiders_of, World, Acts, Comes, rewritten, changed, Appended}
 use Rattle.maildir_disk.proofs.Common.{Written}
 use Rattle.maildir_run.proofs.Call.Outsiders.{outside_reaches, get-outsiders_other}
-use Rattle.maildir_disk.proofs.Calls.Passing.{all_acted-append, after-others, after-append, others_whole, acts_on}
+use Rattle.maildir_disk.proofs.Calls.Passing.{all_acted-append, after-others, after-append, others_whole, acts_on, acts_failed}
 
 -- ---- a change of one file, name by name
 abbrev mapped : Bool → (List ℕ → List ℕ) → Option (List ℕ) → Option (List ℕ)
@@ -211,9 +211,6 @@ with_torn : (name whole bytes : List ℕ) (xs ys : List Action) (s : Files)
     → after s (Writing name whole) (map Other xs ++ Torn bytes ∷ map Other ys) ≡ all_acted ys (effect (Writing name bytes) (all_acted xs s))
 with_torn name whole bytes xs ys s = grind (arith, after-append, after-others)
 
-pub acts_failed : {call : Call} {a b : World} → Acts a b → AnyMoves call a.files b.files
-acts_failed {call} {a} acts = grind (arith, after-others acts.actions call a.files)
-
 pub write_failed : {name : List ℕ} (held : List ℕ) {bytes : List ℕ} {a b : World} → Written name held a b → AnyMoves (Writing name bytes) a.files b.files
 write_failed {name} held {bytes} {a} (inl comes) = grind (arith, with_torn name bytes held comes.before comes.rest a.files)
 write_failed held (inr other) = acts_failed other.1
@@ -224,11 +221,9 @@ write_called name bytes (Ok _) written = write_succeeded written
 write_called name bytes (Err _) written = write_failed bytes written
 
 -- a create that failed
-pub not_created : {A E : Type 0} (name bytes : List ℕ) {a b : World} (outcome : Result A E) → IsErr outcome
-    → Acts a b ⊎ Comes (effect (Writing name [])) a b → Called (Writing name bytes) a.files outcome b.files
-not_created name bytes (Ok _) is_err created = cc
-not_created name bytes (Err _) is_err (inl acts) = acts_failed acts
-not_created name bytes (Err _) is_err (inr comes) = write_failed [] (inl comes)
+pub not_created : (name bytes : List ℕ) {a b : World} → Acts a b ⊎ Comes (effect (Writing name [])) a b → AnyMoves (Writing name bytes) a.files b.files
+not_created name bytes (inl acts) = acts_failed acts
+not_created name bytes (inr comes) = write_failed [] (inl comes)
 
 -- what an append leaves, whether it succeeded or failed
 pub written_appended : (name held piece : List ℕ) {a b c : World} (outcome : Result ℕ Error)

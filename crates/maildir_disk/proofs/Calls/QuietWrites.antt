@@ -31,11 +31,8 @@ pub torn_quietly : {name : List ℕ} (held : List ℕ) {bytes : List ℕ} {old n
     → WriteEndedEarly name bytes old new
 torn_quietly held left = (Torn held ∷ [], tt, left)
 
-pub not_created_quietly : {A E : Type 0} (name bytes : List ℕ) (old new : Files) (outcome : Result A E)
-    → IsErr outcome → WriteEndedEarly name [] old new → CalledQuietly (Writing name bytes) old outcome new
-not_created_quietly name bytes old new (Ok _) is_err made = cc
-not_created_quietly name bytes old new (Err _) is_err made =
-    (as_torn [] made.0, as_torn_own [] made.0 made.1, made.2 ∙ after_torn name bytes [] made.0 old made.1)
+pub not_created_quietly : (name bytes : List ℕ) {old new : Files} → WriteEndedEarly name [] old new → WriteEndedEarly name bytes old new
+not_created_quietly name bytes {old} (moves, own, left) = (as_torn [] moves, as_torn_own [] moves own, left ∙ after_torn name bytes [] moves old own)
 
 pub written_quietly : {A E : Type 0} (name bytes : List ℕ) (old : Files) {new : Files} (outcome : Result A E)
     → new ≡ effect (Writing name bytes) old → CalledQuietly (Writing name bytes) old outcome new

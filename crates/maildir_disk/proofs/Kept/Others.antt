@@ -2,11 +2,11 @@
 use Rattle.std.proofs.Common.{◌≡◌, ℕ, ◌<◌, ◌^◌, List, length, get_or, All, Result, sym, subst, rules}
 use Rattle.maildir_disk.proofs.Common.{RunFault, Report, Follows, Message, AreNamed, IsHome, IsSoundAt, Files, Action, all_acted, IsRun, MessagesOf, sound_now}
 use Rattle.maildir_disk.proofs.Common.{AreAlike, LeftByOthers, World, Acts}
-use Rattle.maildir_run.specs.Tasks.{Listings, Performs, leaving, planned_tasks}
 use Rattle.maildir_disk.specs.Others.{Stays}
 use Rattle.maildir_disk.proofs.Kept.CutChains.{kept_by_run, still_sound}
-use Rattle.maildir_disk.proofs.Left.LeftHomes.{all_beside, all_bodies, all_intact}
-use Rattle.maildir_disk.proofs.Left.LeftTasks.{texts_hold}
+use Rattle.maildir_disk.proofs.Left.LeftHomes.{all_beside, left_bodies, left_intact}
+use Rattle.maildir_disk.proofs.Left.LeftTasks.{RunLeaves, texts_hold}
+use Rattle.maildir_disk.proofs.Kept.Safety.{survive_after_run}
 use Rattle.maildir_disk.proofs.Kept.Syncs.{still_home}
 
 -- ---- what other programs do
@@ -16,11 +16,11 @@ stays_acted others named actions old new before now are left = record {
   sound = λ sound k d below.
       let m = get_or others k d in
       subst (λ s. IsSoundAt s m) (sym are) (still_sound m (named k d below) actions old (sound k d below));
-  intact = λ intact after may. let was = left after may in all_intact others was.0 after (all_beside others named was.2) (intact was.0 was.1);
+  intact = left_intact others (λ s t leaves. all_beside others named leaves) left;
   home = λ home k d below.
       let m = get_or others k d in
       subst (λ s. IsHome s m) (sym are) (still_home m (named k d below) actions old (home k d below));
-  survive = λ survive after may. let was = left after may in all_bodies others was.0 after (all_beside others named was.2) (survive was.0 was.1);
+  survive = left_bodies others (λ s t leaves. all_beside others named leaves) left;
 }
 
 stays_beside : {others : List Message} → AreNamed others → {old new : World} {before now : Files → Type 0}
@@ -40,22 +40,18 @@ stays_then others r a s b t c first then = record {
 module _ (t : List ℕ) (ms : List Message) (are : MessagesOf t ms) (small : length t < 2 ^ 63)
     (others : List Message) (named : AreNamed others) (alike : AreAlike others ms) where
   pub stays_after_run : (old new : Files) (before now : Files → Type 0) (answer : Result Report RunFault) → IsRun t old answer new → All (IsSoundAt old) ms
-      → Follows (λ old new. (names : Listings) × Performs leaving (planned_tasks names ms) old answer new) before now → Stays others old before new now
+      → RunLeaves ms before answer now → Stays others old before new now
   stays_after_run old new before now answer run sound left =
       let keeps = run.keeps ms are (sound_now ms old sound) in
       record {
         sound = λ sound k d below. (kept_by_run keeps (get_or others k d) (named k d below) (alike k d below)).0 (sound k d below);
-        intact = λ intact after may.
-            let was = left after may in
-            all_intact others was.0 after (texts_hold t ms are small was.2.0 was.0 answer after was.2.1 others named alike) (intact was.0 was.1);
+        intact = left_intact others (λ s u (names, ran). texts_hold t ms are small names s answer u ran others named alike) left;
         home = λ home k d below. (kept_by_run keeps (get_or others k d) (named k d below) (alike k d below)).1 (home k d below);
-        survive = λ survive after may.
-            let was = left after may in
-            all_bodies others was.0 after (texts_hold t ms are small was.2.0 was.0 answer after was.2.1 others named alike) (survive was.0 was.1);
+        survive = survive_after_run t ms are small others before now answer named alike left;
       }
 
   pub stays_after_both : (old : Files) (mid new : World) (before between now : Files → Type 0) (answer : Result Report RunFault) → IsRun t old answer mid.files
-      → All (IsSoundAt old) ms → Follows (λ old new. (names : Listings) × Performs leaving (planned_tasks names ms) old answer new) before between
+      → All (IsSoundAt old) ms → RunLeaves ms before answer between
       → Acts mid new → Follows LeftByOthers between now → Stays others old before new.files now
   stays_after_both old mid new before between now answer run sound left acts others_left =
       stays_then others old before _ between _ now

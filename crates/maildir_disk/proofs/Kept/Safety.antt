@@ -2,25 +2,21 @@
 use Rattle.std.proofs.Common.{ℕ, ◌<◌, ◌^◌, List, length, All, Ok, Result, OnOk, IsOk, arith, rules}
 use Rattle.maildir_disk.proofs.Common.{RunFault, Report, Follows, Message, AreNamed, IsHome, IsSoundAt, Files, ReportsMessages, IsRun, MessagesOf, text_named}
 use Rattle.maildir_disk.proofs.Common.{AreAlike, AreIntact, AreSafe, LeftByOthers, Survive, Syncs, World, Acts, sound_now}
-use Rattle.maildir_run.specs.Tasks.{Listings, Performs, leaving, planned_tasks}
 use Rattle.maildir_disk.proofs.Left.Lefts.{if_ok}
-use Rattle.maildir_disk.proofs.Left.LeftHomes.{all_beside, all_bodies, all_intact}
-use Rattle.maildir_disk.proofs.Left.LeftTasks.{own_hold, texts_hold}
+use Rattle.maildir_disk.proofs.Left.LeftHomes.{all_beside, left_bodies, left_intact}
+use Rattle.maildir_disk.proofs.Left.LeftTasks.{own_hold, RunLeaves, texts_hold}
 use Rattle.maildir_disk.proofs.Kept.Syncs.{still_home, synced_bodies}
 
 module _ (t : List ℕ) (ms : List Message) (are : MessagesOf t ms) (small : length t < 2 ^ 63) where
   pub intact_after_run : (before now : Files → Type 0) (answer : Result Report RunFault)
-      → Follows (λ old new. (names : Listings) × Performs leaving (planned_tasks names ms) old answer new) before now → AreIntact ms before → AreIntact ms now
-  intact_after_run before now answer run intact left may =
-      let was = run left may in
-      all_intact ms was.0 left (own_hold t ms are small was.2.0 was.0 answer left was.2.1) (intact was.0 was.1)
+      → RunLeaves ms before answer now → AreIntact ms before → AreIntact ms now
+  intact_after_run before now answer run = left_intact ms (λ s u (names, ran). own_hold t ms are small names s answer u ran) run
 
   pub survive_after_run : (others : List Message) (before now : Files → Type 0) (answer : Result Report RunFault) → AreNamed others
-      → AreAlike others ms → Follows (λ old new. (names : Listings) × Performs leaving (planned_tasks names ms) old answer new) before now
+      → AreAlike others ms → RunLeaves ms before answer now
       → Survive others before → Survive others now
-  survive_after_run others before now answer named alike run survive left may =
-      let was = run left may in
-      all_bodies others was.0 left (texts_hold t ms are small was.2.0 was.0 answer left was.2.1 others named alike) (survive was.0 was.1)
+  survive_after_run others before now answer named alike run =
+      left_bodies others (λ s u (names, ran). texts_hold t ms are small names s answer u ran others named alike) run
 
   home_after_run : {old new : Files} {report : Report} → IsRun t old (Ok report) new → All (IsSoundAt old) ms → All (IsHome new) ms
   home_after_run {old} run sound = search (rules, sound_now)
@@ -33,18 +29,16 @@ module _ (t : List ℕ) (ms : List Message) (are : MessagesOf t ms) (small : len
 
   -- a run and a sync
   pub intact_after_both : (before between now : Files → Type 0) (answer : Result Report RunFault)
-      → Follows (λ old new. (names : Listings) × Performs leaving (planned_tasks names ms) old answer new) before between
+      → RunLeaves ms before answer between
       → Follows LeftByOthers between now → AreIntact ms before → AreIntact ms now
-  intact_after_both before between now answer run others intact left may =
-      let was = others left may in
-      all_intact ms was.0 left (all_beside ms (text_named t ms are small) was.2) (intact_after_run before between answer run intact was.0 was.1)
+  intact_after_both before between now answer run others intact =
+      left_intact ms (λ s u leaves. all_beside ms (text_named t ms are small) leaves) others (intact_after_run before between answer run intact)
 
   pub survive_after_both : (others : List Message) (before between now : Files → Type 0) (answer : Result Report RunFault) → AreNamed others
-      → AreAlike others ms → Follows (λ old new. (names : Listings) × Performs leaving (planned_tasks names ms) old answer new) before between
+      → AreAlike others ms → RunLeaves ms before answer between
       → Follows LeftByOthers between now → Survive others before → Survive others now
-  survive_after_both others before between now answer named alike run acts survive left may =
-      let was = acts left may in
-      all_bodies others was.0 left (all_beside others named was.2) (survive_after_run others before between answer named alike run survive was.0 was.1)
+  survive_after_both others before between now answer named alike run acts survive =
+      left_bodies others (λ s u leaves. all_beside others named leaves) acts (survive_after_run others before between answer named alike run survive)
 
   survive_synced : (old new : Files) {before now : Files → Type 0} → Follows (λ was left. Syncs old was new left) before now
       → All (IsHome old) ms → AreIntact ms before → Survive ms now
@@ -54,7 +48,7 @@ module _ (t : List ℕ) (ms : List Message) (are : MessagesOf t ms) (small : len
 
   pub safe_after_both : {A E : Type 0} (old : Files) (mid new : World) (before between now : Files → Type 0)
       (rooted : Type 0) (report : Report) (synced : Result A E) → IsRun t old (Ok report) mid.files → All (IsSoundAt old) ms
-      → Follows (λ old new. (names : Listings) × Performs {E = RunFault} leaving (planned_tasks names ms) old (Ok report) new) before between
+      → RunLeaves {E = RunFault} ms before (Ok report) between
       → AreIntact ms before → Acts mid new → IsOk synced → OnOk synced (Follows (λ before left. Syncs mid.files before new.files left) between now)
       → OnOk synced rooted → AreSafe ms new.files now rooted
   safe_after_both old mid new before between now rooted report synced run sound left intact acts ok syncs found =

@@ -6,7 +6,8 @@ use Rattle.maildir_disk.proofs.Common.{Contains-append_right, Contains-append_ca
 use Rattle.maildir_disk.proofs.Common.{has_base, held_under, homes, Action, ToCur, Reflag, DropTmp, Outside, may_take, Call, Writing, Placing, Move}
 use Rattle.maildir_disk.proofs.Common.{Other, Again, Torn, placed, moved, PlacesElsewhere, StaysOrGoes, Leaves, IsFoundWhole, Came, Doubled, linked, doubled}
 use Rattle.maildir_disk.proofs.Common.{left_after, Message, AreNamed, total, same, is_name-true, get-insert_same, absent, acted_kept, equally}
-use Rattle.maildir_disk.proofs.Common.{held-insert_other, held-insert_new, held-remove_old, after_kept, after_tmp, IsIntact, HasBody, LeftByOthers}
+use Rattle.maildir_disk.proofs.Common.{held-insert_other, held-insert_new, held-remove_old, after_kept, after_tmp, HasBody, IsIntact, LeftByOthers}
+use Rattle.maildir_disk.proofs.Common.{AreIntact, Follows, Survive}
 use Rattle.std.proofs.lemmas.List.Sorted.{IsPermutation-sym, Contains-permutation}
 use Rattle.maildir_name.specs.declared.target.Place.TheVariants.{New, Cur}
 use Rattle.maildir_disk.proofs.Calls.Pieces.{again}
@@ -222,3 +223,12 @@ all_bodies ms s t hold bodies k d below = (hold k d below).still (bodies k d bel
 
 pub all_beside : (ms : List Message) {s t : Files} → AreNamed ms → LeftByOthers s t → AllHold ms s t
 all_beside ms named leaves k d below = grind (arith, others_hold)
+
+-- a step after which the messages hold, over all that a power cut may leave
+module _ (ms : List Message) {of : Files → Files → Type 0} {before now : Files → Type 0} (hold : (s t : Files) → of s t → AllHold ms s t)
+    (follows : Follows of before now) where
+  pub left_intact : AreIntact ms before → AreIntact ms now
+  left_intact intact left may = let was = follows left may in all_intact ms was.0 left (hold was.0 left was.2) (intact was.0 was.1)
+
+  pub left_bodies : Survive ms before → Survive ms now
+  left_bodies survive left may = let was = follows left may in all_bodies ms was.0 left (hold was.0 left was.2) (survive was.0 was.1)

@@ -2,6 +2,7 @@
 use Rattle.std.proofs.Common.{◌≡◌, ℕ, ◌<◌, ◌^◌, length, get_or, Bool, true, false, cond, List, [], ◌∷◌, ◌++◌, ◌⊎◌, All, IsTrue, IsFalse, Result, Ok, Err, sym}
 use Rattle.std.proofs.Common.{ap, subst, inl, inr, arith}
 use Rattle.maildir_disk.proofs.Common.{cases_Bool, cases_order, false≢true, All-head, All-tail, is_converter_name, is_converter_base, Writing, Placing}
+use Rattle.maildir_disk.proofs.Common.{Follows}
 use Rattle.maildir_disk.proofs.Common.{PlacesElsewhere, Leaves, Message, AreNamed, AreDistinct, Files, is_name, has_base, MessagesOf, converters, is_name-true}
 use Rattle.maildir_disk.proofs.Common.{is_name-refl, text_named, text_targets, text_distinct, AreAlike}
 use Rattle.std.proofs.lemmas.List.{get_or_default}
@@ -13,6 +14,10 @@ use Rattle.maildir_run.specs.Tasks.{Task, Do, call_of, AllDone, Stopped, Perform
 use Rattle.maildir_run.proofs.Tasks.PlanLemmas.{planned_are}
 use Rattle.maildir_run.proofs.Tasks.TaskEffects.{EachTask, PlacesNone, all_parts, stopped_parts, listings_place_none, sweep_places_none}
 use Rattle.maildir_disk.proofs.Left.LeftHomes.{SteadyAt, steady_same, steady_then, leaves_elsewhere, leaves_placing, AllHold}
+
+-- how what a power cut leaves changes in a run with this result
+abbrev pub RunLeaves : {A E : Type 0} → List Message → (Files → Type 0) → Result A E → (Files → Type 0) → Type 0
+RunLeaves ms before answer now = Follows (λ old new. (names : Listings) × Performs leaving (planned_tasks names ms) old answer new) before now
 
 -- ---- the parts of a list of tasks
 -- what a power cut leaves of tasks that all succeeded, or of which one failed

@@ -82,18 +82,9 @@ pub on_ok : {A E : Type 0} (P : Type 0) (outcome : Result A E) → P → OnOk ou
 on_ok P (Ok x) h = h
 on_ok P (Err e) h = tt
 
-pub ok_then : {A E P Q : Type 0} (outcome : Result A E) → (P → Q) → OnOk outcome P → OnOk outcome Q
-ok_then (Ok x) f h = f h
-ok_then (Err e) f h = tt
-
 pub if_ok : {A E : Type 0} (outcome : Result A E) {P : Type 0} → IsOk outcome → OnOk outcome P → P
 if_ok (Ok x) is h = h
 if_ok (Err e) is h = cc
-
-pub left_fault : {A E : Type 0} {call : Call} (outcome : Result A E) {a b : Files → Type 0} → IsErr outcome
-    → Follows (Leaves call) a b → Follows (λ before now. LeavesOf call before outcome now) a b
-left_fault (Ok x) is_err h = absurd (false≢true is_err)
-left_fault (Err e) is_err h = h
 
 -- a call that syncs nothing
 pub left_always : {A E : Type 0} {call : Call} (outcome : Result A E) {a b : Files → Type 0} → ((s : Files) → IsFoundWhole call s)

@@ -1,11 +1,11 @@
 -- What one attempt at a listing returns.
-use Rattle.std.specs.Prelude.{ℕ, ◌+◌, ◌≤◌, List, Result, Ok, Err, Option, Some, None}
+use Rattle.std.specs.Prelude.{ℕ, ◌+◌, ◌≤◌, List, Result, Ok, Err, IfOk, Option, Some, None}
 use Rattle.std.specs.declared.vec.Vec.{Vec}
 use Rattle.std.specs.declared.string.String.{String}
 use Rattle.std.specs.declared.alloc.Global.{Global}
 use Rattle.std.specs.Duration.{as_nanos}
 use Rattle.maildir_run.specs.declared.folder.Sub.{Sub}
-use Rattle.maildir_run.specs.Calls.{Lists, names_of}
+use Rattle.maildir_run.specs.Calls.{Listed, Lists, names_of}
 use Rattle.maildir_run.specs.Files.{Files}
 use Rattle.maildir_disk.specs.declared.one_moment.Age.{Age}
 use Rattle.maildir_disk.specs.declared.one_moment.Age.TheVariants.{Settled, Young, Ahead}
@@ -14,6 +14,7 @@ use Rattle.maildir_disk.specs.declared.one_moment.Look.TheVariants.{Taken, Wait}
 use Rattle.maildir_disk.specs.World.{World, Acts, AreUnless, margin_of}
 use Rattle.maildir_disk.specs.Look.{IsFarAhead, IsSettled}
 use Rattle.maildir_disk.specs.Quiet.{AreNames}
+use Rattle.maildir_disk.specs.SeenSystem.{Looks, SeenSystem}
 
 -- how the stamp of a folder compares with the clock; the pause lasts until the stamp has settled, and no longer
 abbrev pub IsAged : ℕ → ℕ → Age → Type 0
@@ -47,3 +48,22 @@ FoundNames sub s None = Unit {0}
 abbrev pub LookGivesQuietly : Sub → Files → Look → Type 0
 LookGivesQuietly sub s (Taken names) = AreNames sub s names
 LookGivesQuietly sub s (Wait _) = Unit {0}
+
+-- The names were read, and then the stamp.
+pub record Watches {E : Type 0} (sub : Sub) (stamp : ℕ) (old : SeenSystem) (result : Result (Option (Vec (String Global) Global)) E)
+    (new : SeenSystem) : Type 0 where
+  pub looks : Looks old new
+  pub watched : old.honest → WatchedOr sub stamp old.world result new.world
+  pub exact : old.quiet → IfOk result (FoundNames sub old.world.files)
+
+-- One attempt at a listing was made.
+pub record Attempts {E : Type 0} (sub : Sub) (old : SeenSystem) (result : Result Look E) (new : SeenSystem) : Type 0 where
+  pub looks : Looks old new
+  pub looked : old.honest → LookGives sub old.world result new.world
+  pub exact : old.quiet → IfOk result (LookGivesQuietly sub old.world.files)
+
+-- The names of one moment were read, in several attempts.
+pub record ReadsAtOnce {E : Type 0} (sub : Sub) (old : SeenSystem) (result : Result (Vec (String Global) Global) E) (new : SeenSystem) : Type 0 where
+  pub looks : Looks old new
+  pub listed : old.honest → Listed sub old.world.files result new.world.files
+  pub exact : old.quiet → IfOk result (AreNames sub old.world.files)

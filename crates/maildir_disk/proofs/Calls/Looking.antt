@@ -1,0 +1,46 @@
+-- Several calls in sequence in which only other programs acted.
+use Rattle.std.proofs.Common.{◌∙◌, refl, Result, Ok}
+use Rattle.maildir_disk.specs.SeenSystem.{Asks, Looks, SeenSystem}
+use Rattle.maildir_disk.proofs.Calls.Passing.{acts_none, acts_on}
+use Rattle.maildir_disk.proofs.Left.Lefts.{left_by_others_then, left_none}
+
+pub looks_none : {a : SeenSystem} → Looks a a
+looks_none = record {
+  honest = λ h. h;
+  acts = λ h. acts_none;
+  left = λ h. left_none;
+  still_rooted = λ h r. r;
+  quiet = λ q. q;
+  quietly = λ q. refl;
+}
+
+pub looks_then : {a b c : SeenSystem} → Looks a b → Looks b c → Looks a c
+looks_then first then = record {
+  honest = λ h. then.honest (first.honest h);
+  acts = λ h. acts_on (first.acts h) (then.acts (first.honest h));
+  left = λ h. left_by_others_then (first.left h) (then.left (first.honest h));
+  still_rooted = λ h r. then.still_rooted (first.honest h) (first.still_rooted h r);
+  quiet = λ q. then.quiet (first.quiet q);
+  quietly = λ q. then.quietly (first.quiet q) ∙ first.quietly q;
+}
+
+pub asks_then : {A E : Type 0} {a b c : SeenSystem} {outcome : Result A E} → Looks a b → Asks b outcome c → Asks a outcome c
+asks_then first then = record {
+  honest = λ h. then.honest (first.honest h);
+  acts = λ h. acts_on (first.acts h) (then.acts (first.honest h));
+  left = λ h. left_by_others_then (first.left h) (then.left (first.honest h));
+  still_rooted = λ h r. then.still_rooted (first.honest h) (first.still_rooted h r);
+  quiet = λ q. then.quiet (first.quiet q);
+  quietly = λ q. then.quietly (first.quiet q) ∙ first.quietly q;
+}
+
+-- a call that was asked to keep names and returned Ok
+pub kept_looks : {A E : Type 0} {a b : SeenSystem} {value : A} → Asks {E = E} a (Ok value) b → Looks a b
+kept_looks asks = record {
+  honest = asks.honest;
+  acts = asks.acts;
+  left = asks.left;
+  still_rooted = asks.still_rooted;
+  quiet = asks.quiet;
+  quietly = asks.quietly;
+}

@@ -1,0 +1,23 @@
+-- What the system calls of one call of the folder do, and that the folder counts them as one.
+use Rattle.std.specs.Prelude.{◌≡◌, Result}
+use Rattle.maildir_run.specs.Calls.{Call, Called, CalledQuietly, CountsFailure, GoesUp}
+use Rattle.maildir_run.specs.Cuts.{Follows, LeavesOf}
+use Rattle.maildir_run.specs.declared.folder.FolderFault.{FolderFault}
+use Rattle.maildir_disk.specs.declared.disk_folder.DiskFolder.{DiskFolder}
+use Rattle.maildir_disk.specs.SeenSystem.{SeenSystem}
+
+-- System calls that returned this have the effect of a call of the folder.
+pub record TakesEffect {A E : Type 0} (call : Call) (old : SeenSystem) (result : Result A E) (new : SeenSystem) : Type 0 where
+  pub honest : old.honest → new.honest
+  pub called : old.honest → Called call old.world.files result new.world.files
+  pub left : old.honest → Follows (λ before now. LeavesOf call before result now) old.may_leave new.may_leave
+  pub still_rooted : old.honest → old.rooted → new.rooted
+  pub quiet : old.quiet → new.quiet
+  pub quietly : old.quiet → CalledQuietly call old.world.files result new.world.files
+
+-- The folder counted one call with this result, and returned the result.
+pub record Counts {S A : Type 0} (answer : Result A FolderFault) (old : DiskFolder S) (result : Result A FolderFault) (new : DiskFolder S) : Type 0 where
+  pub same : result ≡ answer
+  pub system : new.system ≡ old.system
+  pub calls : GoesUp old.calls new.calls
+  pub failures : CountsFailure answer old.failures new.failures
