@@ -1,5 +1,5 @@
 -- What any commands leave of a Maildir that follow one another.
-use Rattle.std.proofs.Common.{◌≡◌, ℕ, ◌<◌, List, [], ◌∷◌, ◌++◌, length, get_or, All, Contains, IsTrue, Result, Ok, Err, refl, sym, ap, subst, inl, inr, arith}
+use Rattle.std.proofs.Common.{◌≡◌, ℕ, ◌<◌, List, [], ◌∷◌, ◌++◌, length, get_or, All, Contains, IsTrue, Result, Ok, Err, OnOk, refl, sym, subst, ◌∙◌, inl, inr, arith}
 use Rattle.std.proofs.lemmas.List.Elements.{All-contains, All-nil}
 use Rattle.std.specs.FinMap.{empty, get-empty}
 use Rattle.std.proofs.lemmas.List.Sorted.{IsPermutation-trans}
@@ -20,15 +20,15 @@ use Rattle.maildir_commands.specs.declared.ending.Ending.TheVariants.{Done, Stop
 use Rattle.maildir_commands.specs.declared.fault.Fault.{Fault}
 use Rattle.maildir_commands.specs.Commands.{AreNewTo, Commanded, Command, Cut, Event, Happens, IsHistory, IsToDeliver, LeftByPowerCut, Readers}
 use Rattle.maildir_commands.specs.Endings.{status_of}
-use Rattle.maildir_commands.specs.Machines.{AreAt, AreFit, AreAllSafe, GivesTexts, HeldMaildir, IsSafeIn, IsSoundFor, OthersStay, Rests}
-use Rattle.maildir_commands.specs.Program.{Delivers, Does, Ran}
+use Rattle.maildir_commands.specs.Machines.{AreAt, AreFit, AreAllSafe, HeldMaildir, IsSafeIn, IsSoundFor, OthersStay, Rests}
+use Rattle.maildir_commands.specs.Program.{Does, Ran}
 use Rattle.maildir_commands.specs.Seen.{Seen, SeenMachine, seen_at}
 use Rattle.maildir_commands.specs.Words.{Request}
 use Rattle.maildir_commands.specs.Words.Request.{ToWrite, ToConvert}
 use Rattle.maildir_commands.proofs.Endings.{one_no_zero, two_no_zero}
 use Rattle.maildir_commands.proofs.Known.{swept_rests}
 use Rattle.maildir_commands.proofs.Resting.{rest_same}
-use Rattle.maildir_commands.proofs.Several.{named_of, rest_all_safe, rest_sound, rest_stays, safe_stay}
+use Rattle.maildir_commands.proofs.Several.{both_of, named_of, on_ok, on_ok_then, rest_all_safe, rest_sound, rest_stays, safe_stay}
 
 -- ---- some of the texts
 module _ (texts named : List Mailbox) (among : All (Contains texts) named) where
@@ -42,14 +42,11 @@ module _ (texts named : List Mailbox) (among : All (Contains texts) named) where
         (λ k d below. all_among (λ other. AreAlike (get_or texts k d).messages other.messages) (fit.alike k d below));
   }
 
-  sound_among : (maildir : HeldMaildir) → IsSoundFor texts maildir → IsSoundFor named maildir
-  sound_among maildir is = record {
+  sound_among : {maildir : HeldMaildir} → IsSoundFor texts maildir → IsSoundFor named maildir
+  sound_among {maildir} is = record {
     sound = all_among (λ text. All (IsSoundAt maildir.files) text.messages) is.sound;
     intact = all_among (λ text. AreIntact text.messages maildir.may_leave) is.intact;
   }
-
-none_named : {named : List Mailbox} → named ≡ [] → ¬ (0 < length named)
-none_named {named} none some = let e : length named ≡ 0 = ap length none in omega (arith, some, e)
 
 -- ---- no message is there
 missing_intact : (m : Message) (s : Files) → IsMissing s m → IsIntact s m
@@ -60,14 +57,14 @@ none_at_all m = rw (held_none m.target.base empty (λ q on. get-empty {X = List 
 
 -- ---- from one moment to another
 -- The texts stay sound, and those that are safe stay safe.
-pub record Goes (texts : List Mailbox) (old new : HeldMaildir) : Type 0 where
+record Goes (texts : List Mailbox) (old new : HeldMaildir) : Type 0 where
   pub sound : IsSoundFor texts new
   pub safe : (text : Mailbox) → Contains texts text → IsSafeIn old text → IsSafeIn new text
 
 goes_then : {texts : List Mailbox} {a b c : HeldMaildir} → Goes texts a b → Goes texts b c → Goes texts a c
 goes_then first then = record { sound = then.sound; safe = λ text among safe. then.safe text among (first.safe text among safe) }
 
-module _ (texts : List Mailbox) (fit : AreFit texts) (old new : HeldMaildir) (sound : IsSoundFor texts old) where
+module _ {texts : List Mailbox} (fit : AreFit texts) {old new : HeldMaildir} (sound : IsSoundFor texts old) where
   goes_on : All (λ text. Stays text.messages old.files old.may_leave new.files new.may_leave) texts → (old.rooted → new.rooted) → Goes texts old new
   goes_on stays found = record {
     sound = record {
@@ -79,7 +76,7 @@ module _ (texts : List Mailbox) (fit : AreFit texts) (old new : HeldMaildir) (so
   }
 
   goes_resting : Rests old new → Goes texts old new
-  goes_resting rests = goes_on (rest_stays texts fit.are old new rests) rests.found
+  goes_resting rests = goes_on (rest_stays texts fit.are rests) rests.found
 
   goes_delivering : (named : List Mailbox) → All (Contains texts) named → OthersStay named old new → (old.rooted → new.rooted) → Goes texts old new
   goes_delivering named among stay found =
@@ -134,156 +131,116 @@ module _ (texts : List Mailbox) (fit : AreFit texts) (old new : HeldMaildir) (so
 module _ {M : Type 0} (seen : M → SeenMachine)
     (alike : (machine : M) (word other : List ℕ) → (seen machine).same word other → AreAt ((seen machine).maildir_at word) ((seen machine).maildir_at other))
     (still : (one next : M) (word other : List ℕ) → (seen one).same word other → (seen next).same word other)
-    (maildir : List ℕ) (texts : List Mailbox) (fit : AreFit texts) where
+    (maildir : List ℕ) (texts : List Mailbox) where
   abbrev at : M → HeldMaildir
   at m = (seen m).maildir_at maildir
-
-  -- a conversion into the Maildir of this word
-  module _ (into : List ℕ) (files : List (List ℕ)) (named : List Mailbox) (among : All (Contains texts) named) (answer : Result Unit Fault) (old new : Seen)
-      (h : old.machine.honest) (given : GivesTexts old.machine.text_of old.input new.input files named)
-      (does : Does (ToConvert into files) answer old new) (sound : IsSoundFor texts (old.machine.maildir_at into)) where
-    delivers : Delivers answer named (old.machine.maildir_at into) (new.machine.maildir_at into) old.output new.output
-    delivers = does.works.delivers h named given (fit_among texts named among fit) (sound_among texts named among (old.machine.maildir_at into) sound)
-
-    goes_into : Goes texts (old.machine.maildir_at into) (new.machine.maildir_at into)
-    goes_into = goes_delivering texts fit (old.machine.maildir_at into) (new.machine.maildir_at into) sound named among delivers.stay delivers.found
-
-  module _ (words : List (List ℕ)) (named : List Mailbox) (status : ℕ) (old new : M)
-      (ran : Commanded seen maildir texts words named status old new) (h : (seen old).honest) (sound : IsSoundFor texts (at old)) where
-    abbrev was : Seen
-    was = seen_at (seen old) ran.was
-
-    abbrev is : Seen
-    is = seen_at (seen new) ran.is
-
-    sound_into : (into : List ℕ) → (seen old).same into maildir → IsSoundFor texts ((seen old).maildir_at into)
-    sound_into into same = rest_sound texts fit.are (at old) ((seen old).maildir_at into) (alike old into maildir same).1 sound
-
-    goes_doing : (request : Request) (answer : Result Unit Fault) → Does request answer was is
-        → IsToDeliver maildir texts named was ran.is.input request → Goes texts (at old) (at new)
-    goes_doing (ToWrite form file) answer does none = goes_resting texts fit (at old) (at new) sound (does.works.rests h maildir)
-    goes_doing (ToConvert into files) answer does (inl (same, among, given)) =
-        let goes = goes_into into files named among answer was is h given does (sound_into into same) in
-        goes_then (goes_resting texts fit (at old) ((seen old).maildir_at into) sound (alike old into maildir same).1)
-        (goes_then goes (goes_resting texts fit ((seen new).maildir_at into) (at new) goes.sound (alike new into maildir (still old new into maildir same)).0))
-    goes_doing (ToConvert into files) answer does (inr (other, none)) =
-        goes_resting texts fit (at old) (at new) sound (does.works.elsewhere h maildir other)
-
-    goes_ended : (ending : Ending) → status ≡ status_of ending → Ran words ending was is ran.was.errors ran.is.errors → Goes texts (at old) (at new)
-    goes_ended Done ends (did, keeps) =
-        let asks = did.form in
-        goes_doing asks.0 (Ok tt) (did.does asks.0 asks.1) (ran.delivers asks.0 asks.1)
-    goes_ended (Stopped fault written) ends (did, line) =
-        let asks = did.form in
-        goes_doing asks.0 (Err fault) (did.does asks.0 asks.1) (ran.delivers asks.0 asks.1)
-    goes_ended (WrongWords written) ends wrong =
-        subst (λ m. Goes texts (at old) (at m)) (sym (ran.ran.untouched ends).0) (goes_resting texts fit (at old) (at old) sound rest_same)
-
-    goes_command : Goes texts (at old) (at new)
-    goes_command = goes_ended ran.ran.ending ran.ran.status_is ran.ran.ran
-
-    -- the machine does as assumed after it
-    still_honest : (ending : Ending) → status ≡ status_of ending → Ran words ending was is ran.was.errors ran.is.errors → (seen new).honest
-    still_honest Done ends (did, keeps) =
-        let asks = did.form in
-        (did.does asks.0 asks.1).honest h
-    still_honest (Stopped fault written) ends told = ran.again ends
-    still_honest (WrongWords written) ends wrong = subst (λ m. (seen m).honest) (sym (ran.ran.untouched ends).0) h
-
-    honest_command : (seen new).honest
-    honest_command = still_honest ran.ran.ending ran.ran.status_is ran.ran.ran
-
-    -- with status 0
-    no_text_safe : named ≡ [] → All (Contains texts) named × AreAllSafe named (at new)
-    no_text_safe none =
-        subst (λ these. All (Contains texts) these × AreAllSafe these (at new)) (sym none) (All-nil (Contains texts), All-nil (IsSafeIn (at new)))
-
-    safe_doing : (request : Request) → Does request (Ok tt) was is
-        → IsToDeliver maildir texts named was ran.is.input request → All (Contains texts) named × AreAllSafe named (at new)
-    safe_doing (ToWrite form file) does none = no_text_safe none
-    safe_doing (ToConvert into files) does (inl (same, among, given)) = (
-      among,
-      rest_all_safe named (all_among texts named among IsMailbox fit.are) ((seen new).maildir_at into) (at new)
-          (alike new into maildir (still old new into maildir same)).0
-          (delivers into files named among (Ok tt) was is h given does (sound_into into same)).safe,
-    )
-    safe_doing (ToConvert into files) does (inr (other, none)) = no_text_safe none
-
-    safe_ended : (ending : Ending) → 0 ≡ status_of ending → Ran words ending was is ran.was.errors ran.is.errors
-        → All (Contains texts) named × AreAllSafe named (at new)
-    safe_ended Done ends (did, keeps) =
-        let asks = did.form in
-        safe_doing asks.0 (did.does asks.0 asks.1) (ran.delivers asks.0 asks.1)
-    safe_ended (Stopped fault written) ends ran = absurd (one_no_zero (sym ends))
-    safe_ended (WrongWords written) ends wrong = absurd (two_no_zero (sym ends))
-
-    swept_doing : (request : Request) → Does request (Ok tt) was is
-        → IsToDeliver maildir texts named was ran.is.input request → 0 < length named → IsSwept (at new).files
-    swept_doing (ToWrite form file) does none some = absurd (none_named none some)
-    swept_doing (ToConvert into files) does (inl (same, among, given)) some =
-        swept_rests ((seen new).maildir_at into) (at new) (alike new into maildir (still old new into maildir same)).0
-        (delivers into files named among (Ok tt) was is h given does (sound_into into same)).swept
-    swept_doing (ToConvert into files) does (inr (other, none)) some = absurd (none_named none some)
-
-    swept_ended : (ending : Ending) → 0 ≡ status_of ending → Ran words ending was is ran.was.errors ran.is.errors → 0 < length named → IsSwept (at new).files
-    swept_ended Done ends (did, keeps) =
-        let asks = did.form in
-        swept_doing asks.0 (did.does asks.0 asks.1) (ran.delivers asks.0 asks.1)
-    swept_ended (Stopped fault written) ends ran = absurd (one_no_zero (sym ends))
-    swept_ended (WrongWords written) ends wrong = absurd (two_no_zero (sym ends))
-
-  -- ---- any events
-  goes_event : (event : Event) (old new : M) → (seen old).honest → IsSoundFor texts (at old) → Happens seen maildir texts event old new
-      → Goes texts (at old) (at new) × (seen new).honest
-  goes_event (Command words named status) old new h sound ran =
-      (goes_command words named status old new ran h sound, honest_command words named status old new ran h sound)
-  goes_event Readers old new h sound (rests, honest) = (goes_resting texts fit (at old) (at new) sound rests, honest h)
-  goes_event Cut old new h sound (cut, honest) = (goes_cut texts fit (at old) (at new) sound cut, honest)
 
   -- the machine does as assumed, and the Maildir is sound
   abbrev IsWell : M → Type 0
   IsWell m = (seen m).honest × IsSoundFor texts (at m)
 
-  well_through : (events : List Event) (old new : M) → IsWell old → IsHistory seen maildir texts events old new → IsWell new
-  well_through = chain_keeps (Happens seen maildir texts) IsWell (λ event a b well happens.
-      let goes = goes_event event a b well.0 well.1 happens in
-      (goes.1, goes.0.sound))
+  -- once they were delivered, these texts are safe, and `tmp` is swept
+  abbrev IsDone : List Mailbox → M → Type 0
+  IsDone named m = All (Contains texts) named × AreAllSafe named (at m) × (0 < length named → IsSwept (at m).files)
 
-  pub sound_through : (events : List Event) (old new : M) → (seen old).honest → IsSoundFor texts (at old)
-      → IsHistory seen maildir texts events old new → IsSoundFor texts (at new)
-  sound_through events old new h sound come = (well_through events old new (h, sound) come).1
+  module _ (fit : AreFit texts) where
+    module _ {words : List (List ℕ)} {named : List Mailbox} {status : ℕ} {old new : M}
+        (ran : Commanded seen maildir texts words named status old new) (well : IsWell old) where
+      abbrev was : Seen
+      was = seen_at (seen old) ran.was
 
-  safe_through : (named : List Mailbox) → All (Contains texts) named → (events : List Event) (old new : M) → IsWell old
-      → AreAllSafe named (at old) → IsHistory seen maildir texts events old new → AreAllSafe named (at new)
-  safe_through named among events old new well safe come =
-      (chain_keeps (Happens seen maildir texts) (λ m. IsWell m × AreAllSafe named (at m)) (λ event a b is happens.
-      let goes = goes_event event a b is.0.0 is.0.1 happens in
-      ((goes.1, goes.0.sound), λ k d below. goes.0.safe (get_or named k d) (among k d below) (is.1 k d below))) events old new (well, safe) come).1
+      abbrev is : Seen
+      is = seen_at (seen new) ran.is
 
-  pub safe_since : (named : List Mailbox) (words : List (List ℕ)) (before rest : List Event) (old new : M) → (seen old).honest → IsSoundFor texts (at old)
-      → IsHistory seen maildir texts (before ++ (Command words named 0 ∷ rest)) old new → AreAllSafe named (at new)
-  safe_since named words before rest old new h sound come =
-      let parts = chain_parts (Happens seen maildir texts) before (Command words named 0 ∷ rest) old new come in
-      let mid = parts.0 in
-      let well = well_through before old mid (h, sound) parts.1 in
-      let next = parts.2.0 in
-      let ran = parts.2.1 in
-      let safe = safe_ended words named 0 mid next ran well.0 well.1 ran.ran.ending ran.ran.status_is ran.ran.ran in
-      let goes = goes_event (Command words named 0) mid next well.0 well.1 ran in
-      safe_through named safe.0 rest next new (goes.1, goes.0.sound) safe.1 parts.2.2
+      none_due : named ≡ [] → IsDone named new
+      none_due none =
+          subst (λ these. IsDone these new) (sym none) (All-nil (Contains texts), All-nil (IsSafeIn (at new)), λ some. absurd (omega (arith, some)))
 
-  pub swept_at : (named : List Mailbox) (words : List (List ℕ)) (before : List Event) (old new : M) → (seen old).honest → IsSoundFor texts (at old)
-      → IsHistory seen maildir texts (before ++ (Command words named 0 ∷ [])) old new → 0 < length named → IsSwept (at new).files
-  swept_at named words before old new h sound come =
-      let parts = chain_parts (Happens seen maildir texts) before (Command words named 0 ∷ []) old new come in
-      let ran = parts.2.1 in
-      let well = well_through before old parts.0 (h, sound) parts.1 in
-      subst (λ m. 0 < length named → IsSwept (at m).files) (sym parts.2.2)
-      (swept_ended words named 0 parts.0 parts.2.0 ran well.0 well.1 ran.ran.ending ran.ran.status_is ran.ran.ran)
+      doing : (request : Request) (answer : Result Unit Fault) → Does request answer was is → IsToDeliver maildir texts named was ran.is.input request
+          → Goes texts (at old) (at new) × OnOk answer (IsDone named new)
+      doing (ToWrite form file) answer does none =
+          (goes_resting fit well.1 (does.works.rests well.0 maildir), on_ok answer (none_due none))
+      doing (ToConvert into files) answer does (inr (other, none)) =
+          (goes_resting fit well.1 (does.works.elsewhere well.0 maildir other), on_ok answer (none_due none))
+      doing (ToConvert into files) answer does (inl (same, among, given)) =
+          let there = (alike old into maildir same).1 in
+          let here = (alike new into maildir (still old new into maildir same)).0 in
+          let sound = rest_sound texts fit.are there well.1 in
+          let delivers = does.works.delivers well.0 named given (fit_among texts named among fit) (sound_among texts named among sound) in
+          let goes = goes_delivering fit sound named among delivers.stay delivers.found in (
+            goes_then (goes_resting fit well.1 there) (goes_then goes (goes_resting fit goes.sound here)),
+            on_ok_then answer (λ (both : AreAllSafe named ((seen new).maildir_at into) × IsSwept ((seen new).maildir_at into).files).
+                (among, rest_all_safe named (all_among texts named among IsMailbox fit.are) here both.0, λ some. swept_rests _ _ here both.1))
+                (both_of answer _ _ delivers.safe delivers.swept),
+          )
 
--- ---- a Maildir that has none of the messages
-pub sound_new : (texts : List Mailbox) (maildir : HeldMaildir) → AreNewTo maildir texts → IsSoundFor texts maildir
-sound_new texts maildir none = record {
-  sound = λ k d below j e inside. inl (none.missing k d below j e inside);
-  intact = λ k d below left may j e inside. missing_intact (get_or (get_or texts k d).messages j e) left (none.none_left left may k d below j e inside);
-}
+      ended : (ending : Ending) → status ≡ status_of ending → Ran words ending was is ran.was.errors ran.is.errors
+          → Goes texts (at old) (at new) × (seen new).honest × (status ≡ 0 → IsDone named new)
+      ended Done ends (did, keeps) =
+          let asks = did.form in
+          let does = did.does asks.0 asks.1 in
+          let all = doing asks.0 (Ok tt) does (ran.delivers asks.0 asks.1) in
+          (all.0, does.honest well.0, λ zero. all.1)
+      ended (Stopped fault written) ends (did, line) =
+          let asks = did.form in
+          let some = doing asks.0 (Err fault) (did.does asks.0 asks.1) (ran.delivers asks.0 asks.1) in
+          (some.0, ran.again ends, λ zero. absurd (one_no_zero (sym ends ∙ zero)))
+      ended (WrongWords written) ends wrong =
+          let same = (ran.ran.untouched ends).0 in (
+            subst (λ m. Goes texts (at old) (at m)) (sym same) (goes_resting fit well.1 rest_same),
+            subst (λ m. (seen m).honest) (sym same) well.0,
+            λ zero. absurd (two_no_zero (sym ends ∙ zero)),
+          )
+
+      commanded : Goes texts (at old) (at new) × (seen new).honest × (status ≡ 0 → IsDone named new)
+      commanded = ended ran.ran.ending ran.ran.status_is ran.ran.ran
+
+    -- ---- any events
+    goes_event : (event : Event) (old new : M) → IsWell old → Happens seen maildir texts event old new → Goes texts (at old) (at new) × (seen new).honest
+    goes_event (Command words named status) old new well ran =
+        let all = commanded ran well in
+        (all.0, all.1)
+    goes_event Readers old new well (rests, honest) = (goes_resting fit well.1 rests, honest well.0)
+    goes_event Cut old new well (cut, honest) = (goes_cut fit well.1 cut, honest)
+
+    well_after : (event : Event) (old new : M) → IsWell old → Happens seen maildir texts event old new → IsWell new
+    well_after event old new well happens =
+        let goes = goes_event event old new well happens in
+        (goes.1, goes.0.sound)
+
+    well_through : (events : List Event) (old new : M) → IsWell old → IsHistory seen maildir texts events old new → IsWell new
+    well_through = chain_keeps (Happens seen maildir texts) IsWell well_after
+
+    safe_through : (named : List Mailbox) → All (Contains texts) named → (events : List Event) (old new : M) → IsWell old × AreAllSafe named (at old)
+        → IsHistory seen maildir texts events old new → IsWell new × AreAllSafe named (at new)
+    safe_through named among = chain_keeps (Happens seen maildir texts) (λ m. IsWell m × AreAllSafe named (at m)) (λ event a b is happens. (
+      well_after event a b is.0 happens,
+      λ k d below. (goes_event event a b is.0 happens).0.safe (get_or named k d) (among k d below) (is.1 k d below),
+    ))
+
+  -- ---- a Maildir that has none of the messages
+  sound_new : (old : M) → AreNewTo (at old) texts → IsSoundFor texts (at old)
+  sound_new old none = record {
+    sound = λ k d below j e inside. inl (none.missing k d below j e inside);
+    intact = λ k d below left may j e inside. missing_intact (get_or (get_or texts k d).messages j e) left (none.none_left left may k d below j e inside);
+  }
+
+  module _ (old new : M) (h : (seen old).honest) (none : AreNewTo (at old) texts) where
+    pub sound_through : (events : List Event) → IsHistory seen maildir texts events old new → IsSoundFor texts (at new)
+    sound_through events come = (well_through none.fit events old new (h, sound_new old none) come).1
+
+    pub safe_since : (named : List Mailbox) (words : List (List ℕ)) (before rest : List Event)
+        → IsHistory seen maildir texts (before ++ (Command words named 0 ∷ rest)) old new → AreAllSafe named (at new)
+    safe_since named words before rest come =
+        let parts = chain_parts (Happens seen maildir texts) before (Command words named 0 ∷ rest) old new come in
+        let still = well_through none.fit before old parts.0 (h, sound_new old none) parts.1 in
+        let all = commanded none.fit parts.2.1 still in
+        let done = all.2 refl in
+        (safe_through none.fit named done.0 rest parts.2.0 new ((all.1, all.0.sound), done.1) parts.2.2).1
+
+    pub swept_at : (named : List Mailbox) (words : List (List ℕ)) (before : List Event)
+        → IsHistory seen maildir texts (before ++ (Command words named 0 ∷ [])) old new → 0 < length named → IsSwept (at new).files
+    swept_at named words before come =
+        let parts = chain_parts (Happens seen maildir texts) before (Command words named 0 ∷ []) old new come in
+        let still = well_through none.fit before old parts.0 (h, sound_new old none) parts.1 in
+        subst (λ m. 0 < length named → IsSwept (at m).files) (sym parts.2.2) ((commanded none.fit parts.2.1 still).2 refl).2

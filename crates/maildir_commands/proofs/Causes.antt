@@ -1,7 +1,7 @@
 -- Why a command ended with a fault.
-use Rattle.std.proofs.Common.{◌≡◌, ℕ, ◌+◌, ◌<◌, ◌≤◌, ◌⊎◌, ◌^◌, List, [], ◌∷◌, ◌++◌, length, get_or, map}
-use Rattle.std.proofs.Common.{Option, Some, None, Result, Ok, Err, IfErr, IsErrAnd, refl, sym, ap, subst, ◌∙◌, inl, inr, arith, add-one}
-use Rattle.std.proofs.lemmas.List.{get_or-map, length-append, length-map}
+use Rattle.std.proofs.Common.{◌≡◌, ℕ, ◌+◌, ◌≤◌, ◌⊎◌, ◌^◌, List, [], ◌∷◌, ◌++◌, length}
+use Rattle.std.proofs.Common.{Option, Some, None, Result, Ok, Err, IfErr, IsErrAnd, refl, sym, ap, subst, inl, inr, arith}
+use Rattle.std.proofs.lemmas.List.{length-append}
 use Rattle.std.specs.List.{Contains}
 use Rattle.maildir_run.specs.declared.fault.RunFault.{RunFault}
 use Rattle.maildir_run.specs.declared.fault.RunFault.TheVariants as run
@@ -15,9 +15,10 @@ use Rattle.maildir_disk.specs.declared.faults.OpenFault.{OpenFault}
 use Rattle.maildir_disk.specs.declared.faults.OpenFault.TheVariants as opening
 use Rattle.maildir_commands.specs.declared.fault.Fault.{Fault}
 use Rattle.maildir_commands.specs.declared.fault.Fault.TheVariants.{Source, Folder, Locked, Run}
-use Rattle.maildir_commands.specs.Causes.{IsCauseOf, IsFailedCall, IsInto, IsNoMbox, IsOfDelivery, IsOfOne, IsOfRun, IsPossibly, IsToldAs, IsTooLong}
+use Rattle.maildir_commands.specs.Causes.{IsCauseOf, IsFailedCall, IsNoMbox, IsOfDelivery, IsOfOne, IsOfRun, IsPossibly, IsTooLong}
 use Rattle.maildir_commands.specs.Seen.{Seen, SeenMachine}
-use Rattle.maildir_commands.specs.Words.{Request, files_of}
+use Rattle.maildir_commands.specs.Words.Request.{ToWrite, ToConvert}
+use Rattle.maildir_commands.specs.declared.command.Form.{Form}
 use Rattle.maildir_commands.specs.Private.Causes.{IsOfFiles}
 use Rattle.maildir_commands.specs.Faults.{fault_of_opening}
 use Rattle.maildir_commands.proofs.Several.{possible_whole}
@@ -42,38 +43,14 @@ of_run one run.OutOfMemory none long = tt
 pub failed_in_run : (calls calls' failures failures' : ℕ) (fault : RunFault) → GoesUpWith (Some fault) failures failures'
     → CallNumber {A = Report} (Err fault) calls calls' → (number : ℕ) → Run fault ≡ Run (run.FolderFailed number)
     → IsFailedCall number calls calls' failures failures'
-failed_in_run calls calls' failures failures' run.NoFromLine goes count number e = cc
-failed_in_run calls calls' failures failures' run.TooManyReads goes count number e = cc
-failed_in_run calls calls' failures failures' run.FolderAbsent goes count number e = cc
-failed_in_run calls calls' failures failures' (run.FolderFailed n) goes count number e =
-    let same : n ≡ number = cc in
-    inl (goes, (count.n, count.count_is, sym same ∙ count.call_number))
-failed_in_run calls calls' failures failures' run.ReadFault goes count number e = cc
-failed_in_run calls calls' failures failures' run.OutputFault goes count number e = cc
-failed_in_run calls calls' failures failures' run.OutOfMemory goes count number e = cc
+failed_in_run calls calls' failures failures' fault goes count number e =
+    let is : fault ≡ run.FolderFailed number = cc in
+    let told : CallNumber {A = Report} (Err (run.FolderFailed number)) calls calls' = subst (λ f. CallNumber {A = Report} (Err f) calls calls') is count in
+    inl (subst (λ f. GoesUpWith (Some f) failures failures') is goes, (told.n, told.count_is, told.call_number))
 
 -- a line that was not written is no call
 pub output_no_call : {X : Type 0} {fault : Fault} {number : ℕ} → fault ≡ Run run.OutputFault → fault ≡ Run (run.FolderFailed number) → X
 output_no_call is e = cc
-
--- which makes no folder calls
-of_text : (one : (List ℕ → Type 0) → Type 0) (fault : RunFault) → IsReading fault ⊎ (fault ≡ run.OutputFault)
-    → (fault ≡ run.NoFromLine → one IsNoMbox) → (fault ≡ run.TooManyReads → one IsTooLong) → IsOfRun one ⊥ fault
-of_text one run.NoFromLine causes none long = none refl
-of_text one run.TooManyReads causes none long = long refl
-of_text one run.ReadFault causes none long = tt
-of_text one run.OutputFault causes none long = tt
-of_text one run.OutOfMemory causes none long = tt
-of_text one run.FolderAbsent (inl (inl e)) none long = cc
-of_text one run.FolderAbsent (inl (inr (inl e))) none long = cc
-of_text one run.FolderAbsent (inl (inr (inr (inl e)))) none long = cc
-of_text one run.FolderAbsent (inl (inr (inr (inr e)))) none long = cc
-of_text one run.FolderAbsent (inr e) none long = cc
-of_text one (run.FolderFailed _) (inl (inl e)) none long = cc
-of_text one (run.FolderFailed _) (inl (inr (inl e))) none long = cc
-of_text one (run.FolderFailed _) (inl (inr (inr (inl e)))) none long = cc
-of_text one (run.FolderFailed _) (inl (inr (inr (inr e)))) none long = cc
-of_text one (run.FolderFailed _) (inr e) none long = cc
 
 -- where what is said of a text is said of another
 run_weaker : {one other : (List ℕ → Type 0) → Type 0} {calls calls' : Type 0} → ((P : List ℕ → Type 0) → one P → other P) → (calls → calls')
@@ -87,9 +64,6 @@ run_weaker f g run.OutputFault h = tt
 run_weaker f g run.OutOfMemory h = tt
 
 -- ---- a source
-none_possible : {before after : Option (List ℕ)} (was is : Option (List ℕ)) → GivesNothing before after was is → IsPossibly before after IsNoMbox
-none_possible was is nothing = λ t possible entries. nothing.1 t entries possible
-
 long_enough : (before after : Option (List ℕ)) {n : ℕ} → ReadsAtLeast before after n → {t : List ℕ} → Possible before after t → n ≤ length t
 long_enough None after reads p = let had = p.had in cc
 long_enough (Some xs) None reads p = absurd reads.1
@@ -113,17 +87,15 @@ long_possible {before} {after} reads = λ t possible. long_enough before after r
 pub of_reads : {before after : Option (List ℕ)} (was is : Option (List ℕ)) {fault : RunFault} → IsReading fault ⊎ (fault ≡ run.OutputFault)
     → (fault ≡ run.NoFromLine → GivesNothing before after was is) → (fault ≡ run.TooManyReads → ReadsAtLeast before after (2 ^ 40))
     → IsOfRun (IsPossibly before after) ⊥ fault
-of_reads {before} {after} was is {fault} causes none long =
-    of_text (IsPossibly before after) fault causes (λ e. none_possible was is (none e)) (λ e. long_possible (long e))
+of_reads {before} {after} was is (inl (inl e)) none long =
+    subst (IsOfRun (IsPossibly before after) ⊥) (sym e) (λ t possible entries. (none e).1 t entries possible)
+of_reads {before} {after} was is (inl (inr (inl e))) none long = subst (IsOfRun (IsPossibly before after) ⊥) (sym e) tt
+of_reads {before} {after} was is (inl (inr (inr (inl e)))) none long = subst (IsOfRun (IsPossibly before after) ⊥) (sym e) (long_possible (long e))
+of_reads {before} {after} was is (inl (inr (inr (inr e)))) none long = subst (IsOfRun (IsPossibly before after) ⊥) (sym e) tt
+of_reads {before} {after} was is (inr e) none long = subst (IsOfRun (IsPossibly before after) ⊥) (sym e) tt
 
 pub holds_first : {file : List ℕ} (files : List (List ℕ)) → Contains (file ∷ files) file
 holds_first files = (0, omega arith, refl)
-
-pub holds_after : {X : Type 0} (f : X → List ℕ) (xs : List X) {file : List ℕ} {i : ℕ} {x : X}
-    → i < length xs → get_or xs i x ≡ x → Contains (file ∷ map f xs) (f x)
-holds_after f xs {i} {x} below is =
-    let same = length-map xs f in
-    (i + 1, omega (arith, same, below), rw add-one (get_or-map f xs i x (f x) below ∙ ap f is))
 
 module _ (machine : SeenMachine) (file : List ℕ) (files : List (List ℕ)) where
   -- a file whose text was read
@@ -158,55 +130,44 @@ files_before old new files same earlier (Run fault) is = subst (λ f. IsOfRun (I
 pub of_output : (before after : Option (List ℕ)) {fault : Fault} → fault ≡ Run run.OutputFault → IsOfDelivery before after fault
 of_output before after is = subst (IsOfDelivery before after) (sym is) tt
 
--- ---- a request
-module _ (request : Request) (old : Seen) (after : Option (List ℕ)) where
-  pub of_files : (file : List ℕ) (files : List (List ℕ)) → files_of request ≡ file ∷ files → IsInto request (λ _. Unit {0})
-      → (fault : Fault) → IsOfFiles old.machine (file ∷ files) fault → IsCauseOf request old after fault
-  of_files file files are into Source is = subst (λ names. (name : List ℕ) × Contains names name × old.machine.refuses_source name) (sym are) is
-  of_files file files are into Folder is = absurd is
-  of_files file files are into Locked is = absurd is
-  of_files file files are into (Run fault) is =
-      run_weaker (λ P h. subst (λ names. IsOfOne old.machine.text_of old.input after names P) (sym are) h) (λ _. into) fault is
+-- ---- a conversion
+module _ (maildir : List ℕ) where
+  pub of_files : (file : List ℕ) (files : List (List ℕ)) (old : Seen) (after : Option (List ℕ)) (fault : Fault)
+      → IsOfFiles old.machine (file ∷ files) fault → IsCauseOf (ToConvert maildir (file ∷ files)) old after fault
+  of_files file files old after Source is = is
+  of_files file files old after Folder is = absurd is
+  of_files file files old after Locked is = absurd is
+  of_files file files old after (Run fault) is = is
 
-  pub of_input : files_of request ≡ [] → IsInto request (λ _. Unit {0}) → (fault : Fault) → IsOfDelivery old.input after fault
-      → IsCauseOf request old after fault
-  of_input none into Source is = absurd is
-  of_input none into Folder is = absurd is
-  of_input none into Locked is = absurd is
-  of_input none into (Run fault) is =
-      run_weaker (λ P h. subst (λ names. IsOfOne old.machine.text_of old.input after names P) (sym none) h) (λ _. into) fault is
-
-  -- the file was not opened
-  pub of_opening : (file : List ℕ) → files_of request ≡ file ∷ [] → {fault : Fault} → (fault ≡ Source) ⊎ (fault ≡ Run run.OutOfMemory)
-      → (fault ≡ Source → old.machine.refuses_source file) → IsCauseOf request old after fault
-  of_opening file are (inl e) refused =
-      subst (IsCauseOf request old after) (sym e) (file, subst (λ names. Contains names file) (sym are) (holds_first []), refused e)
-  of_opening file are (inr e) refused = subst (IsCauseOf request old after) (sym e) tt
-
-  -- a text was read, and nothing else was done
-  pub of_read_input : files_of request ≡ [] → (fault : RunFault) → IsOfRun (IsPossibly old.input after) ⊥ fault
-      → IsCauseOf request old after (Run fault)
-  of_read_input none fault is =
-      run_weaker (λ P h. subst (λ names. IsOfOne old.machine.text_of old.input after names P) (sym none) h) (λ e. absurd e) fault is
-
-  pub of_read_file : (file : List ℕ) → files_of request ≡ file ∷ [] → (b a : Option (List ℕ)) (most : ℕ)
-      → b ≡ Some (old.machine.text_of file) → ReadsAtMost b a most → (fault : RunFault) → IsOfRun (IsPossibly b a) ⊥ fault
-      → IsCauseOf request old after (Run fault)
-  of_read_file file are b a most reads budget fault is =
-      run_weaker
-      (λ P h. subst (λ names. IsOfOne old.machine.text_of old.input after names P) (sym are)
-      (of_one_file old.machine file [] old.input after b a most file (holds_first []) reads budget P h)) (λ e. absurd e) fault is
-
-  by_reason : (maildir : List ℕ) → ((P : List ℕ → Type 0) → P maildir → IsInto request P) → (reason : OpenFault)
-      → old.machine.refuses_maildir maildir reason → IsCauseOf request old after (fault_of_opening reason)
-  by_reason maildir into opening.Locked refused = into (λ m. IsToldAs (old.machine.refuses_maildir m) Locked) (opening.Locked, refl, refused)
-  by_reason maildir into (opening.Folder folder.OutOfMemory) refused = tt
-  by_reason maildir into (opening.Folder folder.Absent) refused =
-      into (λ m. IsToldAs (old.machine.refuses_maildir m) Folder) (opening.Folder folder.Absent, refl, refused)
-  by_reason maildir into (opening.Folder folder.Failed) refused =
-      into (λ m. IsToldAs (old.machine.refuses_maildir m) Folder) (opening.Folder folder.Failed, refl, refused)
+  pub of_input : (old : Seen) (after : Option (List ℕ)) (fault : Fault) → IsOfDelivery old.input after fault
+      → IsCauseOf (ToConvert maildir []) old after fault
+  of_input old after Source is = absurd is
+  of_input old after Folder is = absurd is
+  of_input old after Locked is = absurd is
+  of_input old after (Run fault) is = is
 
   -- the Maildir was not opened
-  pub of_maildir : (maildir : List ℕ) → ((P : List ℕ → Type 0) → P maildir → IsInto request P) → (fault : Fault)
-      → IsToldAs (old.machine.refuses_maildir maildir) fault → IsCauseOf request old after fault
-  of_maildir maildir into fault (reason, is, refused) = subst (IsCauseOf request old after) (sym is) (by_reason maildir into reason refused)
+  pub of_maildir : (files : List (List ℕ)) (old : Seen) (after : Option (List ℕ)) (reason : OpenFault)
+      → old.machine.refuses_maildir maildir reason → IsCauseOf (ToConvert maildir files) old after (fault_of_opening reason)
+  of_maildir files old after opening.Locked refused = (opening.Locked, refl, refused)
+  of_maildir files old after (opening.Folder folder.OutOfMemory) refused = tt
+  of_maildir files old after (opening.Folder folder.Absent) refused = (opening.Folder folder.Absent, refl, refused)
+  of_maildir files old after (opening.Folder folder.Failed) refused = (opening.Folder folder.Failed, refl, refused)
+
+-- ---- a text that is written
+module _ (form : Form) (old : Seen) (after : Option (List ℕ)) where
+  -- from standard input
+  pub of_read_input : (fault : RunFault) → IsOfRun (IsPossibly old.input after) ⊥ fault → IsCauseOf (ToWrite form None) old after (Run fault)
+  of_read_input fault is = is
+
+  -- and from a file, which was opened, or was not
+  module _ (file : List ℕ) where
+    pub of_opening : {fault : Fault} → (fault ≡ Source) ⊎ (fault ≡ Run run.OutOfMemory) → (fault ≡ Source → old.machine.refuses_source file)
+        → IsCauseOf (ToWrite form (Some file)) old after fault
+    of_opening (inl e) refused = subst (IsCauseOf (ToWrite form (Some file)) old after) (sym e) (file, holds_first [], refused e)
+    of_opening (inr e) refused = subst (IsCauseOf (ToWrite form (Some file)) old after) (sym e) tt
+
+    pub of_read_file : (b a : Option (List ℕ)) (most : ℕ) → b ≡ Some (old.machine.text_of file) → ReadsAtMost b a most
+        → (fault : RunFault) → IsOfRun (IsPossibly b a) ⊥ fault → IsCauseOf (ToWrite form (Some file)) old after (Run fault)
+    of_read_file b a most reads budget fault is =
+        run_weaker (of_one_file old.machine file [] old.input after b a most file (holds_first []) reads budget) (λ e. e) fault is

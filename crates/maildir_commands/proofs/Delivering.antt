@@ -1,5 +1,5 @@
 -- What the delivery of one source owes, as the work goes on.
-use Rattle.std.proofs.Common.{◌≡◌, ◌⊎◌, List, [], ◌∷◌, Option, Result, Ok, Err, IfErr, IsErrAnd, OnErr, OnOk, ℕ, sym, subst, inl, inr}
+use Rattle.std.proofs.Common.{◌≡◌, ◌⊎◌, List, [], ◌∷◌, Option, Result, Ok, Err, IfErr, IsErrAnd, OnErr, ℕ, sym, subst, inl, inr}
 use Rattle.std.proofs.KnownBytes.{Appends-kept, Keeps-refl}
 use Rattle.std.proofs.lemmas.List.Elements.{All-head}
 use Rattle.std.specs.Io.KnownBytes.{Keeps}

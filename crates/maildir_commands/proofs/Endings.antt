@@ -2,9 +2,6 @@
 use Rattle.std.proofs.Common.{◌≡◌, ℕ}
 
 -- one status is no other
-pub zero_no_one : ¬ (◌≡◌ {A = ℕ} 0 1)
-zero_no_one e = cc
-
 pub zero_no_two : ¬ (◌≡◌ {A = ℕ} 0 2)
 zero_no_two e = cc
 
@@ -16,6 +13,3 @@ one_no_two e = cc
 
 pub two_no_zero : ¬ (◌≡◌ {A = ℕ} 2 0)
 two_no_zero e = cc
-
-pub two_no_one : ¬ (◌≡◌ {A = ℕ} 2 1)
-two_no_one e = cc

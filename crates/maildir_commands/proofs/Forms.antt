@@ -5,14 +5,6 @@ use Rattle.maildir_commands.specs.declared.command.Form.TheVariants.{Regular}
 use Rattle.maildir_commands.specs.Words.{AskFor, Request}
 use Rattle.maildir_commands.specs.Words.Request.{ToWrite, ToConvert}
 
-map_both : {X : Type 0} (f : List ℕ → List ℕ) (g : X → List ℕ) (xs : List X) → map f (map g xs) ≡ map (λ x. f (g x)) xs
-map_both f g [] = refl
-map_both f g (x ∷ xs) = ap (λ ys. f (g x) ∷ ys) (map_both f g xs)
-
-pub of_names : {X : Type 0} {all : List (List ℕ)} {text : List ℕ} (f : List ℕ → List ℕ) (g : X → List ℕ) (xs : List X)
-    → all ≡ text ∷ map f (map g xs) → all ≡ text ∷ map (λ x. f (g x)) xs
-of_names {text} f g xs is = is ∙ ap (λ ys. text ∷ ys) (map_both f g xs)
-
 pub none_named : {X : Type 0} (g : X → List ℕ) (xs : List X) → length xs ≡ 0 → map g xs ≡ []
 none_named g [] e = refl
 none_named g (x ∷ xs) e = cc

@@ -8,6 +8,10 @@ pub mod Delivered
 pub mod Forms
 -- What the delivery of one source owes, as the work goes on.
 pub mod Delivering
+-- Files that are delivered one after the other, once a first source was.
+pub mod Files
+-- A conversion: sources are opened, then the Maildir, which is closed once they were delivered.
+pub mod Converting
 -- What is kept in a Maildir through a run, and through the sync after it.
 pub mod Storing
 -- What is owed for a request, as the work goes on.

@@ -8,7 +8,7 @@ use Rattle.std.specs.List.{flat_map}
 use Rattle.mbox_text.specs.Writing.{AppendsPrefix}
 use Rattle.mbox_text.specs.declared.entry.Entry.{Entry}
 use Rattle.mbox_text.proofs.Reading.OneReading.{mbox-one}
-use Rattle.maildir_run.specs.Output.{GivesPrefix}
+use Rattle.maildir_run.specs.Output.{GivesAll, GivesPrefix}
 use Rattle.maildir_commands.specs.Report.{AreTrueOf, PrintsEach, PrintsReports, PrintsSome, report_line}
 use Rattle.maildir_commands.specs.Output.{WritesAll, WritesPrefix}
 use Rattle.maildir_commands.specs.Machines.{AreAllSafe, HeldMaildir}
@@ -33,22 +33,15 @@ handed_each old texts was given inner each keeps =
 pub prefix_kept : (was given kept : Option (List ℕ)) {bytes : List ℕ} → Keeps given kept → AppendsPrefix was given bytes → AppendsPrefix was kept bytes
 prefix_kept was given kept keeps (taken, rest, are, line) = (taken, rest, are, Appends-kept was given kept taken line keeps)
 
--- what was written whole, and then not handed on
-pub all_prefix : (output : List Entry → List ℕ) (t : List ℕ) (was given kept : Option (List ℕ))
-    → Keeps given kept → WritesAll output (Some t) was given → WritesPrefix output t was kept
-all_prefix output t was given kept keeps (count, (these, mbox, many, grown)) entries is =
-    prefix_of_all was kept
-    (Appends-kept was given kept (output entries) (subst (λ es. Appends was given (output es)) (mbox-one t these entries mbox is) grown) keeps)
-
--- and so of a source that was read to its end
-pub all_given : (output : List Entry → List ℕ) (before after was given kept : Option (List ℕ))
-    → Keeps given kept → IsAtEnd after → WritesAll output before was given
-    → GivesPrefix output before after was kept
-all_given output before after was given kept keeps ended all t entries possible mbox =
+-- what was written whole of a source that was read to its end
+pub all_given : (output : List Entry → List ℕ) (before after was is : Option (List ℕ))
+    → IsAtEnd after → WritesAll output before was is → GivesPrefix output before after was is
+all_given output before after was is ended (count, all) t entries possible mbox =
     let left : possible.left ≡ [] = subst IsAtEnd possible.has ended in
     let prefix : t ≡ possible.read = possible.prefix ∙ (ap (λ more. possible.read ++ more) (possible.whole left) ∙ append-nil possible.read) in
-    let is : before ≡ Some t = possible.had ∙ ap Some (ap (λ more. possible.read ++ more) left ∙ (append-nil possible.read ∙ sym prefix)) in
-    all_prefix output t was given kept keeps (subst (λ source. WritesAll output source was given) is all) entries mbox
+    let whole : before ≡ Some t = possible.had ∙ ap Some (ap (λ more. possible.read ++ more) left ∙ (append-nil possible.read ∙ sym prefix)) in
+    let given : GivesAll output (Some t) was is count = subst (λ source. GivesAll output source was is count) whole all in
+    prefix_of_all was is (subst (λ es. Appends was is (output es)) (mbox-one t given.0 entries given.1 mbox) given.3)
 
 pub some_kept : (old new : HeldMaildir) (texts : List Mailbox) (was given kept : Option (List ℕ))
     → Keeps given kept → PrintsSome old new texts was given → PrintsSome old new texts was kept

@@ -1,6 +1,6 @@
 -- Lines of runs that are printed one after the other.
 use Rattle.std.proofs.Common.{◌≡◌, ℕ, ◌+◌, max, arith, Option, List, [], ◌∷◌, ◌++◌, length, refl, sym, ◌∙◌, ap, subst, append-nil}
-use Rattle.std.proofs.KnownBytes.{Appends-trans}
+use Rattle.std.proofs.KnownBytes.{Appends-nil, Appends-trans}
 use Rattle.std.proofs.lemmas.List.{length-append}
 use Rattle.std.proofs.lemmas.List.Concat.{flat_map-append}
 use Rattle.std.specs.Io.KnownBytes.{Appends}
@@ -16,6 +16,10 @@ one_each x xs = grind arith
 pub one_report : {was is : Option (List ℕ)} (as_said : Report → Type 0) → PrintsReport was is as_said → PrintsReports was is 1
 one_report {was} {is} as_said printed =
     (printed.report ∷ [], refl, subst (Appends was is) (sym (append-nil (report_line printed.report))) printed.line)
+
+-- none
+pub none_reported : (was : Option (List ℕ)) → PrintsReports was was 0
+none_reported was = ([], refl, Appends-nil was)
 
 -- some lines, and more after them
 pub more_reports : (was mid is : Option (List ℕ)) {n m : ℕ} → PrintsReports was mid n → PrintsReports mid is m → PrintsReports was is (n + m)

@@ -20,16 +20,26 @@ use Rattle.maildir_disk.specs.Others.{Stays}
 use Rattle.maildir_disk.specs.PowerCuts.{AreAlike, AreIntact, AreSafe}
 use Rattle.maildir_disk.proofs.Kept.Others.{stays_acted, stays_then}
 use Rattle.maildir_commands.specs.Machines.{HeldMaildir, Rests, AreFit, IsSafeIn, IsSoundFor, AreAllSafe, HasAlso, OthersStay, bytes_of}
-use Rattle.maildir_commands.specs.Private.Report.{PrintsOne}
+use Rattle.maildir_commands.specs.Private.Report.{DeliversOne, PrintsOne}
 use Rattle.maildir_commands.specs.Report.{AreTrueOf, IsReportOf, PrintsEach, PrintsReport, PrintsSome, report_line}
 use Rattle.maildir_commands.proofs.Known.{Agree, also_agree, also_all, also_all-last, left_after, rests_has, rests_left, swept_none}
 use Rattle.maildir_commands.proofs.Known.{report_agree, reports_agree, reports_more}
+
+-- the text of this number, and a text for places past a list's end
+abbrev no_text : Mailbox
+no_text = record { bytes = []; messages = [] }
+
+abbrev pub text_at : List Mailbox → ℕ → Mailbox
+text_at texts n = get_or texts n no_text
+
+all_one : {X : Type 0} (P : X → Type 0) {x : X} → P x → All P (x ∷ [])
+all_one P {x} h = All-cons P x [] h (All-nil P)
 
 -- ---- a source that is read
 -- what is read of an opened file is its text, under its own word and as it was at first
 pub text_read : {reads : Option (List ℕ)} {now was : List ℕ → List ℕ} {word file : List ℕ}
     → reads ≡ Some (now word) → now ≡ was → word ≡ file → reads ≡ Some (was file)
-text_read {reads} {now} {was} {word} {file} is same named = is ∙ ap Some (ap (λ text_of. text_of word) same ∙ ap was named)
+text_read {was = was} {word} is same named = is ∙ ap Some (ap (λ text_of. text_of word) same ∙ ap was named)
 
 -- the text of a source is possible, however far it was read
 pub possible_whole : (before after : Option (List ℕ)) {most : ℕ} {t : List ℕ} → before ≡ Some t → ReadsAtMost before after most → Possible before after t
@@ -51,12 +61,12 @@ possible_whole (Some xs) (Some left) {t} e reads =
 no_stay : {others : List Message} {s : Files} {left : Files → Type 0} → Stays others s left s left
 no_stay = record { sound = λ h. h; intact = λ h. h; home = λ h. h; survive = λ h. h }
 
-pub stay_none : (texts : List Mailbox) (maildir : HeldMaildir) → OthersStay texts maildir maildir
-stay_none texts maildir = λ others named alike. no_stay
+rest_of : {others : List Message} → AreNamed others → {old new : HeldMaildir} → Rests old new
+    → Stays others old.files old.may_leave new.files new.may_leave
+rest_of {others} named rests = stays_acted others named rests.actions _ _ _ _ rests.files_are rests.left
 
 pub stay_rest : (texts : List Mailbox) {old new : HeldMaildir} → Rests old new → OthersStay texts old new
-stay_rest texts {old} {new} rests = λ others named alike.
-    stays_acted others named rests.actions old.files new.files old.may_leave new.may_leave rests.files_are rests.left
+stay_rest texts rests = λ others named alike. rest_of named rests
 
 pub stay_both : (texts : List Mailbox) (a b c : HeldMaildir) → OthersStay texts a b → OthersStay texts b c → OthersStay texts a c
 stay_both texts a b c first then = λ others named alike.
@@ -74,44 +84,37 @@ named_all : (texts : List Mailbox) → All IsMailbox texts → All (λ text. Are
 named_all texts are k d below = named_of (are k d below)
 
 -- ---- while nothing is done
-module _ (texts : List Mailbox) (are : All IsMailbox texts) where
-  pub rest_stays : (old new : HeldMaildir) → Rests old new → (k : ℕ) (d : Mailbox) → k < length texts
-      → Stays (get_or texts k d).messages old.files old.may_leave new.files new.may_leave
-  rest_stays old new rests k d below =
-      stays_acted (get_or texts k d).messages (named_all texts are k d below)
-      rests.actions old.files new.files old.may_leave new.may_leave rests.files_are rests.left
+module _ (texts : List Mailbox) (are : All IsMailbox texts) {old new : HeldMaildir} (rests : Rests old new) where
+  pub rest_stays : (k : ℕ) (d : Mailbox) → k < length texts → Stays (get_or texts k d).messages old.files old.may_leave new.files new.may_leave
+  rest_stays k d below = rest_of (named_all texts are k d below) rests
 
-  pub rest_sound : (old new : HeldMaildir) → Rests old new → IsSoundFor texts old → IsSoundFor texts new
-  rest_sound old new rests is = record {
-    sound = λ k d below. (rest_stays old new rests k d below).sound (is.sound k d below);
-    intact = λ k d below. (rest_stays old new rests k d below).intact (is.intact k d below);
+  pub rest_sound : IsSoundFor texts old → IsSoundFor texts new
+  rest_sound is = record {
+    sound = λ k d below. (rest_stays k d below).sound (is.sound k d below);
+    intact = λ k d below. (rest_stays k d below).intact (is.intact k d below);
   }
 
-  pub rest_all_safe : (old new : HeldMaildir) → Rests old new → AreAllSafe texts old → AreAllSafe texts new
-  rest_all_safe old new rests safe k d below = safe_stay (rest_stays old new rests k d below) rests.found (safe k d below)
+  pub rest_all_safe : AreAllSafe texts old → AreAllSafe texts new
+  rest_all_safe safe k d below = safe_stay (rest_stays k d below) rests.found (safe k d below)
 
--- a Maildir at rest before the texts are delivered, and after it
-pub rest_each : {texts : List Mailbox} → All IsMailbox texts → {old new : HeldMaildir} {was is : Option (List ℕ)}
-    → Rests old new → PrintsEach new texts was is → PrintsEach old texts was is
-rest_each {texts} are {old} {new} rests prints = record {
-  reports = prints.reports;
-  true_of =
+  -- a Maildir at rest before the texts are delivered, and after it
+  rest_true : (reports : List Report) → AreTrueOf new.files texts reports → AreTrueOf old.files texts reports
+  rest_true =
       reports_agree (has_home old.files) (has_home new.files) (λ b named. sym (rests_has rests b named)) _ _ (rests_left rests)
-      texts (named_all texts are) _ prints.true_of;
-  lines = prints.lines;
-}
+      texts (named_all texts are)
 
-pub rest_some : {texts : List Mailbox} → All IsMailbox texts → {old ready work new : HeldMaildir} {was is : Option (List ℕ)}
+  pub rest_each : {was is : Option (List ℕ)} → PrintsEach new texts was is → PrintsEach old texts was is
+  rest_each prints = record { reports = prints.reports; true_of = rest_true prints.reports prints.true_of; lines = prints.lines }
+
+pub rest_some : (texts : List Mailbox) → All IsMailbox texts → {old ready work new : HeldMaildir} {was is : Option (List ℕ)}
     → Rests old ready → Rests work new → PrintsSome ready work texts was is → PrintsSome old new texts was is
-rest_some {texts} are {old} {ready} {work} {new} rests closes prints =
+rest_some texts are rests closes prints =
     let first = All-take IsMailbox prints.n texts are in
     record {
       n = prints.n;
       reports = prints.reports;
-      true_of =
-          reports_agree (has_home old.files) (has_home ready.files) (λ b named. sym (rests_has rests b named)) _ _ (rests_left rests)
-          _ (named_all (take prints.n texts) first) _ prints.true_of;
-      safe = rest_all_safe (take prints.n texts) first work new closes prints.safe;
+      true_of = rest_true (take prints.n texts) first rests prints.reports prints.true_of;
+      safe = rest_all_safe (take prints.n texts) first closes prints.safe;
       lines = prints.lines;
     }
 
@@ -140,7 +143,7 @@ pub record UpTo (n : ℕ) (texts : List Mailbox) (start now : HeldMaildir) (was 
   pub swept : 0 < n → IsSwept now.files
 
 pub none_printed : {texts : List Mailbox} {start : HeldMaildir} {was : Option (List ℕ)} → IsSoundFor texts start → UpTo 0 texts start start was was
-none_printed {texts} {start} {was} sound = record {
+none_printed {was = was} sound = record {
   sound = sound;
   safe = λ k d lt below. absurd (omega (arith, lt));
   has = λ b named. refl;
@@ -148,7 +151,7 @@ none_printed {texts} {start} {was} sound = record {
   reports = [];
   true_of = tt;
   lines = Appends-nil was;
-  stay = stay_none texts start;
+  stay = λ others named alike. no_stay;
   found = λ h. h;
   swept = λ some. absurd (omega (arith, some));
 }
@@ -160,176 +163,142 @@ last_or {k} {n} lt = elim (cases_order k n) as (λ _. (k < n) ⊎ (k ≡ n)) [
   | inr (inr after) ↦ absurd (omega arith)
 ]
 
--- a line more
-more_lines : (was mid is : Option (List ℕ)) (reports : List Report) (report : Report) → Appends was mid (flat_map report_line reports)
-    → Appends mid is (report_line report) → Appends was is (flat_map report_line (reports ++ report ∷ []))
-more_lines was mid is reports report before line =
-    subst (Appends was is) (sym (flat_map-append report_line reports (report ∷ [])))
-    (Appends-trans was mid is (flat_map report_line reports) (flat_map report_line (report ∷ []))
-    before (subst (Appends mid is) (sym (append-nil (report_line report))) line))
-
+-- lines, and one more or a prefix of it
 pub prefix_of_all : (was is : Option (List ℕ)) {bytes : List ℕ} → Appends was is bytes → AppendsPrefix was is bytes
 prefix_of_all was is {bytes} all = (bytes, [], sym (append-nil bytes), all)
 
-more_prefix : (was mid is : Option (List ℕ)) (reports : List Report) (report : Report) → Appends was mid (flat_map report_line reports)
-    → AppendsPrefix mid is (report_line report) → AppendsPrefix was is (flat_map report_line (reports ++ report ∷ []))
-more_prefix was mid is reports report before (taken, rest, are, line) = (
-  flat_map report_line reports ++ taken,
-  rest,
-  flat_map-append report_line reports (report ∷ []) ∙ (ap (λ bytes. flat_map report_line reports ++ bytes) (append-nil (report_line report) ∙ are)
-      ∙ sym (append_assoc (flat_map report_line reports) taken rest)),
-  Appends-trans was mid is (flat_map report_line reports) taken before line,
-)
+module _ (was mid is : Option (List ℕ)) (reports : List Report) (report : Report) (before : Appends was mid (flat_map report_line reports)) where
+  lines_of : flat_map report_line (reports ++ report ∷ []) ≡ flat_map report_line reports ++ report_line report
+  lines_of = flat_map-append report_line reports (report ∷ []) ∙ ap (λ bytes. flat_map report_line reports ++ bytes) (append-nil (report_line report))
 
-module _ (texts : List Mailbox) (fit : AreFit texts) where
-  at_same : (k n : ℕ) (d e : Mailbox) → k ≡ n → k < length texts → get_or texts n e ≡ get_or texts k d
-  at_same k n d e same below = ap (λ i. get_or texts i e) (sym same) ∙ get_or_default texts k e d below
+  more_lines : Appends mid is (report_line report) → Appends was is (flat_map report_line (reports ++ report ∷ []))
+  more_lines line = subst (Appends was is) (sym lines_of) (Appends-trans was mid is (flat_map report_line reports) (report_line report) before line)
 
-  -- what the delivery of one of them leaves of each
-  others_at : (n : ℕ) (e : Mailbox) (old new : HeldMaildir) → n < length texts → OthersStay (get_or texts n e ∷ []) old new
-      → (k : ℕ) (d : Mailbox) → k < length texts → Stays (get_or texts k d).messages old.files old.may_leave new.files new.may_leave
-  others_at n e old new inside stay k d below =
-      let text = get_or texts n e in
-      stay (get_or texts k d).messages (named_all texts fit.are k d below)
-      (All-cons (λ (t : Mailbox). AreAlike (get_or texts k d).messages t.messages) text []
-      (fit.alike k d below n e inside) (All-nil (λ (t : Mailbox). AreAlike (get_or texts k d).messages t.messages)))
+  more_prefix : AppendsPrefix mid is (report_line report) → AppendsPrefix was is (flat_map report_line (reports ++ report ∷ []))
+  more_prefix (taken, rest, are, line) = (
+    flat_map report_line reports ++ taken,
+    rest,
+    lines_of ∙ (ap (λ bytes. flat_map report_line reports ++ bytes) are ∙ sym (append_assoc (flat_map report_line reports) taken rest)),
+    Appends-trans was mid is (flat_map report_line reports) taken before line,
+  )
 
-  pub stay_more : (n : ℕ) (e : Mailbox) (a b c : HeldMaildir) → n < length texts
-      → OthersStay texts a b → OthersStay (get_or texts n e ∷ []) b c → OthersStay texts a c
-  stay_more n e a b c inside first then = λ others named alike.
-      stays_then others a.files a.may_leave b.files b.may_leave c.files c.may_leave (first others named alike)
-      (then others named
-      (All-cons (λ (t : Mailbox). AreAlike others t.messages) (get_or texts n e) [] (alike n e inside) (All-nil (λ (t : Mailbox). AreAlike others t.messages))))
+-- of the first texts
+first_safe : (texts : List Mailbox) {n : ℕ} {now : HeldMaildir}
+    → ((k : ℕ) (d : Mailbox) → k < n → k < length texts → IsSafeIn now (get_or texts k d)) → AreAllSafe (take n texts) now
+first_safe texts {n} {now} safe k d below =
+    let most = length-take n texts in
+    let lt : k < n = omega (arith, below, most) in
+    subst (IsSafeIn now) (sym (get_or-take n texts k d lt)) (safe k d lt (omega (arith, below, most)))
 
-  pub sound_more : (n : ℕ) (e : Mailbox) (old new : HeldMaildir) → n < length texts → OthersStay (get_or texts n e ∷ []) old new
-      → IsSoundFor texts old → IsSoundFor texts new
-  sound_more n e old new inside stay is = record {
-    sound = λ k d below. (others_at n e old new inside stay k d below).sound (is.sound k d below);
-    intact = λ k d below. (others_at n e old new inside stay k d below).intact (is.intact k d below);
+-- what the delivery of the next one leaves
+module _ {texts : List Mailbox} (fit : AreFit texts) {n : ℕ} (inside : n < length texts) {start old new : HeldMaildir} {was mid is : Option (List ℕ)}
+    (up : UpTo n texts start old was mid) {A E : Type 0} {answer : Result A E} (one : DeliversOne answer (text_at texts n) old new mid is) where
+  others_at : (k : ℕ) (d : Mailbox) → k < length texts → Stays (get_or texts k d).messages old.files old.may_leave new.files new.may_leave
+  others_at k d below =
+      one.stays (get_or texts k d).messages (named_all texts fit.are k d below)
+      (all_one (λ (t : Mailbox). AreAlike (get_or texts k d).messages t.messages) (fit.alike k d below n no_text inside))
+
+  pub stay_more : OthersStay texts start new
+  stay_more = λ others named alike.
+      stays_then others _ _ _ _ _ _ (up.stay others named alike)
+      (one.stays others named (all_one (λ (t : Mailbox). AreAlike others t.messages) (alike n no_text inside)))
+
+  pub sound_more : IsSoundFor texts new
+  sound_more = record {
+    sound = λ k d below. (others_at k d below).sound (up.sound.sound k d below);
+    intact = λ k d below. (others_at k d below).intact (up.sound.intact k d below);
   }
 
   -- those that are safe, and one more
-  safe_more : (n : ℕ) (e : Mailbox) (now : HeldMaildir)
-      → ((k : ℕ) (d : Mailbox) → k < n → k < length texts → IsSafeIn now (get_or texts k d))
-      → IsSafeIn now (get_or texts n e)
-      → (k : ℕ) (d : Mailbox) → k < n + 1 → k < length texts → IsSafeIn now (get_or texts k d)
-  safe_more n e now before last k d lt below =
-      elim (last_or lt) as (λ _. IsSafeIn now (get_or texts k d)) [
-        | inl less ↦ before k d less below
-        | inr same ↦ subst (IsSafeIn now) (at_same k n d e same below) last
+  still_safe : (k : ℕ) (d : Mailbox) → k < n → k < length texts → IsSafeIn new (get_or texts k d)
+  still_safe k d less below = safe_stay (others_at k d below) one.still_rooted (up.safe k d less below)
+
+  safe_more : IsSafeIn new (text_at texts n) → (k : ℕ) (d : Mailbox) → k < n + 1 → k < length texts → IsSafeIn new (get_or texts k d)
+  safe_more last k d lt below =
+      elim (last_or lt) as (λ _. IsSafeIn new (get_or texts k d)) [
+        | inl less ↦ still_safe k d less below
+        | inr same ↦ subst (IsSafeIn new) (ap (text_at texts) (sym same) ∙ get_or_default texts k no_text d below) last
       ]
 
-  -- of the first texts
-  first_safe : (n : ℕ) (now : HeldMaildir)
-      → ((k : ℕ) (d : Mailbox) → k < n → k < length texts → IsSafeIn now (get_or texts k d))
-      → AreAllSafe (take n texts) now
-  first_safe n now safe k d below =
-      let most = length-take n texts in
-      let lt : k < n = omega (arith, below, most) in
-      subst (IsSafeIn now) (sym (get_or-take n texts k d lt))
-      (safe k d lt (omega (arith, below, most)))
+  more : take (n + 1) texts ≡ take n texts ++ text_at texts n ∷ []
+  more = take_more texts n no_text inside
+
+  true_more : {report : Report} → IsReportOf (has_home old.files) (leftover_count old.files) (text_at texts n) report
+      → AreTrueOf start.files (take (n + 1) texts) (up.reports ++ report ∷ [])
+  true_more {report} is_true =
+      subst (λ ts. AreTrueOf start.files ts (up.reports ++ report ∷ [])) (sym more)
+      (reports_more (has_home start.files) _ _ _ up.true_of
+      (report_agree (λ b named. sym (up.has b named)) up.left (named_all texts fit.are n no_text inside) is_true))
 
   -- one text more
-  pub one_more : (n : ℕ) (e : Mailbox) (start old new : HeldMaildir) (was mid is : Option (List ℕ)) → n < length texts → UpTo n texts start old was mid
-      → (old.rooted → new.rooted) → IsSafeIn new (get_or texts n e)
-      → PrintsReport mid is (IsReportOf (has_home old.files) (leftover_count old.files) (get_or texts n e))
-      → HasAlso (get_or texts n e).messages old.files new.files → IsSwept new.files → OthersStay (get_or texts n e ∷ []) old new
-      → UpTo (n + 1) texts start new was is
-  one_more n e start old new was mid is inside up rooted safe line known swept stay =
-      let text = get_or texts n e in
-      let stays = others_at n e old new inside stay in
-      let more : take (n + 1) texts ≡ take n texts ++ text ∷ [] = take_more texts n e inside in
+  pub one_more : IsSafeIn new (text_at texts n)
+      → PrintsReport mid is (IsReportOf (has_home old.files) (leftover_count old.files) (text_at texts n))
+      → HasAlso (text_at texts n).messages old.files new.files → IsSwept new.files → UpTo (n + 1) texts start new was is
+  one_more safe line known swept =
       let first = has_home start.files in
       record {
-        sound = sound_more n e old new inside stay up.sound;
-        safe = safe_more n e new (λ k d less below. safe_stay (stays k d below) rooted (up.safe k d less below)) safe;
+        sound = sound_more;
+        safe = safe_more safe;
         has = λ b named.
-            known b named ∙ (also_agree (has_home old.files) (also_all first (take n texts)) up.has text b named
-            ∙ (ap (λ f. f b) (sym (also_all-last first (take n texts) text)) ∙ ap (λ ts. also_all first ts b) (sym more)));
+            known b named ∙ (also_agree (has_home old.files) (also_all first (take n texts)) up.has (text_at texts n) b named
+            ∙ (ap (λ f. f b) (sym (also_all-last first (take n texts) (text_at texts n))) ∙ ap (λ ts. also_all first ts b) (sym more)));
         left = let none = swept_none new.files swept in omega (arith, none);
         reports = up.reports ++ line.report ∷ [];
-        true_of = subst (λ ts. AreTrueOf start.files ts (up.reports ++ line.report ∷ [])) (sym more)
-            (reports_more first _ _ _ up.true_of
-            (report_agree (λ b named. sym (up.has b named)) up.left (named_all texts fit.are n e inside) line.said));
+        true_of = true_more line.said;
         lines = more_lines was mid is _ _ up.lines line.line;
-        stay = stay_more n e start old new inside up.stay stay;
-        found = λ h. rooted (up.found h);
+        stay = stay_more;
+        found = λ h. one.still_rooted (up.found h);
         swept = λ some. swept;
       }
 
   -- and then a text that is not delivered, or whose line was not written whole
-  pub then_stopped : (n : ℕ) (e : Mailbox) (start old new : HeldMaildir) (was mid is : Option (List ℕ)) → n < length texts → UpTo n texts start old was mid
-      → (old.rooted → new.rooted) → OthersStay (get_or texts n e ∷ []) old new → Keeps mid is ⊎ PrintsOne old new (get_or texts n e) mid is
-      → PrintsSome start new texts was is
-  then_stopped n e start old new was mid is inside up rooted stay (inl keeps) = record {
+  pub then_stopped : Keeps mid is ⊎ PrintsOne old new (text_at texts n) mid is → PrintsSome start new texts was is
+  then_stopped (inl keeps) = record {
     n = n;
     reports = up.reports;
     true_of = up.true_of;
-    safe = first_safe n new (λ k d less below. safe_stay (others_at n e old new inside stay k d below) rooted (up.safe k d less below));
+    safe = first_safe texts still_safe;
     lines = prefix_of_all was is (Appends-kept was mid is (flat_map report_line up.reports) up.lines keeps);
   }
-  then_stopped n e start old new was mid is inside up rooted stay (inr one) =
-      let text = get_or texts n e in
-      let more : take (n + 1) texts ≡ take n texts ++ text ∷ [] = take_more texts n e inside in
-      let first = has_home start.files in
-      record {
-        n = n + 1;
-        reports = up.reports ++ one.report ∷ [];
-        true_of = subst (λ ts. AreTrueOf start.files ts (up.reports ++ one.report ∷ [])) (sym more)
-            (reports_more first _ _ _ up.true_of
-            (report_agree (λ b named. sym (up.has b named)) up.left (named_all texts fit.are n e inside) one.true_of));
-        safe = first_safe (n + 1) new (safe_more n e new
-            (λ k d less below. safe_stay (others_at n e old new inside stay k d below) rooted (up.safe k d less below)) one.safe);
-        lines = more_prefix was mid is _ _ up.lines one.line;
-      }
-
-  -- the next text could not be opened
-  pub stopped_between : (n : ℕ) (start now : HeldMaildir) (was is : Option (List ℕ)) → UpTo n texts start now was is → PrintsSome start now texts was is
-  stopped_between n start now was is up = record {
-    n = n;
-    reports = up.reports;
-    true_of = up.true_of;
-    safe = first_safe n now up.safe;
-    lines = prefix_of_all was is up.lines;
+  then_stopped (inr last) = record {
+    n = n + 1;
+    reports = up.reports ++ last.report ∷ [];
+    true_of = true_more last.true_of;
+    safe = first_safe texts (safe_more last.safe);
+    lines = more_prefix was mid is _ _ up.lines last.line;
   }
 
--- ---- at the end
-pub all_safe : {n : ℕ} {texts : List Mailbox} {start now : HeldMaildir} {was is : Option (List ℕ)}
-    → length texts ≤ n → UpTo n texts start now was is → AreAllSafe texts now
-all_safe most up k d below = up.safe k d (omega (arith, below, most)) below
+module _ {n : ℕ} {texts : List Mailbox} {start now : HeldMaildir} {was is : Option (List ℕ)} (up : UpTo n texts start now was is) where
+  -- the next text could not be opened
+  pub stopped_between : PrintsSome start now texts was is
+  stopped_between =
+      record { n = n; reports = up.reports; true_of = up.true_of; safe = first_safe texts up.safe; lines = prefix_of_all was is up.lines }
 
-pub all_each : {n : ℕ} {texts : List Mailbox} {start now : HeldMaildir} {was is : Option (List ℕ)}
-    → length texts ≤ n → UpTo n texts start now was is → PrintsEach start texts was is
-all_each {n} {texts} {start} most up = record {
-  reports = up.reports;
-  true_of = subst (λ ts. AreTrueOf start.files ts up.reports) (take_all n texts most) up.true_of;
-  lines = up.lines;
-}
+  -- at the end
+  pub all_safe : length texts ≤ n → AreAllSafe texts now
+  all_safe most k d below = up.safe k d (omega (arith, below, most)) below
+
+  pub all_each : length texts ≤ n → PrintsEach start texts was is
+  all_each most =
+      record { reports = up.reports; true_of = subst (λ ts. AreTrueOf start.files ts up.reports) (take_all n texts most) up.true_of; lines = up.lines }
 
 -- ---- the bytes of texts
-pub bytes_length : (texts : List Mailbox) {all : List (List ℕ)} → bytes_of texts ≡ all → length texts ≡ length all
-bytes_length texts e = sym (length-map texts (λ (text : Mailbox). text.bytes)) ∙ ap length e
-
-pub bytes_at : (texts : List Mailbox) {all : List (List ℕ)} → bytes_of texts ≡ all
-    → {n : ℕ} (d : Mailbox) (x : List ℕ) → n < length texts → (get_or texts n d).bytes ≡ get_or all n x
-bytes_at texts e {n} d x inside = sym (get_or-map (λ (text : Mailbox). text.bytes) texts n d x inside) ∙ ap (λ xs. get_or xs n x) e
-
--- a text for places past a list's end
-pub no_text : Mailbox
-no_text = record { bytes = []; messages = [] }
+bytes_at : (texts : List Mailbox) {all : List (List ℕ)} → bytes_of texts ≡ all
+    → {n : ℕ} (x : List ℕ) → n < length texts → (text_at texts n).bytes ≡ get_or all n x
+bytes_at texts e {n} x inside = sym (get_or-map (λ (text : Mailbox). text.bytes) texts n no_text x inside) ∙ ap (λ xs. get_or xs n x) e
 
 -- the first text, and those after it
-module _ {X : Type 0} (texts : List Mailbox) (text : List ℕ) (f : X → List ℕ) (rest : List X) (are : bytes_of texts ≡ text ∷ map f rest) where
+module _ (texts : List Mailbox) {text : List ℕ} (f : List ℕ → List ℕ) (rest : List (List ℕ)) (are : bytes_of texts ≡ text ∷ map f rest) where
   pub after_length : length texts ≡ length rest + 1
-  after_length = bytes_length texts are ∙ (ap suc (length-map rest f) ∙ sym (add-one _))
+  after_length = sym (length-map texts (λ (text : Mailbox). text.bytes)) ∙ (ap length are ∙ (ap suc (length-map rest f) ∙ sym (add-one _)))
 
-  pub first_text : Some text ≡ Some (get_or texts 0 no_text).bytes
-  first_text = ap Some (sym (bytes_at texts are no_text text (omega (arith, after_length))))
+  pub first_text : text ≡ (text_at texts 0).bytes
+  first_text = sym (bytes_at texts are text (omega (arith, after_length)))
 
-  pub text_after : (i : ℕ) (x : X) → i < length rest → f (get_or rest i x) ≡ (get_or texts (i + 1) no_text).bytes
-  text_after i x below =
+  pub text_after : {i : ℕ} {x : List ℕ} → i < length rest → get_or rest i x ≡ x → f x ≡ (text_at texts (i + 1)).bytes
+  text_after {i} {x} below at =
       let inside : i + 1 < length texts = omega (arith, after_length, below) in
-      sym (bytes_at texts are no_text (f x) inside ∙ rw add-one (get_or-map f rest i x (f x) below))
+      sym (bytes_at texts are (f x) inside ∙ rw add-one (get_or-map f rest i x (f x) below ∙ ap f at))
 
 -- what follows from what an answer says
 pub on_ok_then : {A E : Type 0} (answer : Result A E) {P Q : Type 0} → (P → Q) → OnOk answer P → OnOk answer Q
@@ -340,20 +309,19 @@ pub on_err_then : {A E : Type 0} (answer : Result A E) {P Q : Type 0} → (P →
 on_err_then (Ok x) f h = tt
 on_err_then (Err e) f h = f h
 
-pub on_err : {A E : Type 0} (P : Type 0) (answer : Result A E) → P → OnErr answer P
-on_err P (Ok x) h = tt
-on_err P (Err e) h = h
+pub on_ok : {A E : Type 0} (answer : Result A E) {P : Type 0} → P → OnOk answer P
+on_ok (Ok x) h = h
+on_ok (Err e) h = tt
+
+pub both_of : {A E : Type 0} (answer : Result A E) (P Q : Type 0) → OnOk answer P → OnOk answer Q → OnOk answer (P × Q)
+both_of (Ok x) P Q p q = (p, q)
+both_of (Err e) P Q p q = tt
 
 -- ---- one text of them
-pub sound_of : {texts : List Mailbox} {maildir : HeldMaildir} {n : ℕ} (e : Mailbox)
-    → n < length texts → IsSoundFor texts maildir → IsSoundFor (get_or texts n e ∷ []) maildir
-sound_of {texts} {maildir} {n} e inside is = record {
-  sound =
-      All-cons (λ (t : Mailbox). All (IsSoundAt maildir.files) t.messages) (get_or texts n e) []
-      (is.sound n e inside) (All-nil (λ (t : Mailbox). All (IsSoundAt maildir.files) t.messages));
-  intact =
-      All-cons (λ (t : Mailbox). AreIntact t.messages maildir.may_leave) (get_or texts n e) []
-      (is.intact n e inside) (All-nil (λ (t : Mailbox). AreIntact t.messages maildir.may_leave));
+pub sound_of : {texts : List Mailbox} {maildir : HeldMaildir} {n : ℕ} → n < length texts → IsSoundFor texts maildir → IsSoundFor (text_at texts n ∷ []) maildir
+sound_of {maildir = maildir} {n} inside is = record {
+  sound = all_one (λ (t : Mailbox). All (IsSoundAt maildir.files) t.messages) (is.sound n no_text inside);
+  intact = all_one (λ (t : Mailbox). AreIntact t.messages maildir.may_leave) (is.intact n no_text inside);
 }
 
 pub sound_of_one : {text : Mailbox} {maildir : HeldMaildir} → IsSoundFor (text ∷ []) maildir → All (IsSoundAt maildir.files) text.messages
@@ -361,10 +329,3 @@ sound_of_one {text} {maildir} is = All-head (λ (t : Mailbox). All (IsSoundAt ma
 
 pub intact_of_one : {text : Mailbox} {maildir : HeldMaildir} → IsSoundFor (text ∷ []) maildir → AreIntact text.messages maildir.may_leave
 intact_of_one {text} {maildir} is = All-head (λ (t : Mailbox). AreIntact t.messages maildir.may_leave) text [] is.intact
-
--- ---- where one text is all
-pub only_first : {texts : List Mailbox} {text : Mailbox} → texts ≡ text ∷ [] → text ≡ get_or texts 0 no_text
-only_first is = sym (ap (λ ts. get_or ts 0 no_text) is)
-
-pub only_length : {texts : List Mailbox} {text : Mailbox} → texts ≡ text ∷ [] → length texts ≡ 1
-only_length is = ap length is

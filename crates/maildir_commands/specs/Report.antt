@@ -8,7 +8,7 @@ use Rattle.maildir_run.specs.Delivery.{has_home, is_base_of, leftover_count}
 use Rattle.maildir_run.specs.Files.{Files}
 use Rattle.maildir_run.specs.declared.report.Report.{Report}
 use Rattle.maildir_run.specs.Several.{Mailbox}
-use Rattle.maildir_commands.specs.Machines.{HeldMaildir, AreAllSafe, IsSafeIn}
+use Rattle.maildir_commands.specs.Machines.{HeldMaildir, AreAllSafe}
 
 -- the line with the counts of a run
 abbrev pub report_line : Report → List ℕ

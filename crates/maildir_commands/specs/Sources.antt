@@ -1,9 +1,8 @@
 -- What the delivery of one source owes.
-use Rattle.std.specs.Prelude.{◌≡◌, ◌⊎◌, ℕ, ◌^◌, List, All, Option, Result, IfErr, IfOk, OnOk}
+use Rattle.std.specs.Prelude.{◌≡◌, ◌⊎◌, ℕ, ◌^◌, List, All, Option, Result, IfErr, OnOk}
 use Rattle.std.specs.Io.KnownBytes.{IsAtEnd, Keeps}
 use Rattle.mbox_text.specs.Writing.{AppendsPrefix}
 use Rattle.maildir_run.specs.declared.fault.RunFault.TheVariants.{FolderFailed}
-use Rattle.maildir_run.specs.declared.folder.Folder.{Ghosts}
 use Rattle.maildir_run.specs.declared.report.Report.{Report}
 use Rattle.maildir_run.specs.Alone.{alone as alone_after}
 use Rattle.maildir_run.specs.Delivery.{AreNamed, IsSoundAt, IsSwept, Message}
@@ -12,6 +11,8 @@ use Rattle.maildir_run.specs.Reading.{ReadsAtMost}
 use Rattle.maildir_run.specs.Runs.{CountsRun, Possible, ReportsMessages}
 use Rattle.maildir_run.specs.Several.{Mailbox, IsMailbox}
 use Rattle.maildir_run.specs.Texts.{MessagesOf}
+use Rattle.maildir_disk.specs.declared.disk_folder.DiskFolder.{DiskFolder}
+use Rattle.maildir_disk.specs.declared.system.System.{Ghosts}
 use Rattle.maildir_disk.specs.Others.{Stays}
 use Rattle.maildir_disk.specs.PowerCuts.{AreAlike, AreIntact, Survive}
 use Rattle.maildir_commands.specs.declared.fault.Fault.{Fault}
@@ -19,8 +20,9 @@ use Rattle.maildir_commands.specs.declared.fault.Fault.TheVariants.{Run}
 use Rattle.maildir_commands.specs.Causes.{IsFailedCall, IsOfDelivery}
 use Rattle.maildir_commands.specs.Machines.{HasAlso, HeldMaildir, IsSafeIn}
 use Rattle.maildir_commands.specs.Report.{PrintsReport, report_line}
+use Rattle.maildir_commands.specs.Seen.{opened}
 
--- what is seen of a folder, at one moment: the facts of the trait `Folder`
+-- what is seen of a folder, at one moment
 pub record SeenMaildir : Type 1 where
   pub honest : Type 0
   pub quiet : Type 0
@@ -28,17 +30,11 @@ pub record SeenMaildir : Type 1 where
   pub calls : ℕ
   pub failures : ℕ
 
--- what these say of a folder
-abbrev pub seen_folder : {F : Type 0} → Ghosts F → F → SeenMaildir
+-- what these say of a folder, as the trait `Folder` does
+abbrev pub seen_folder : {S File : Type 0} → Ghosts S File → DiskFolder S → SeenMaildir
 seen_folder f folder =
-    let seen = f.at folder in
-    record {
-      honest = seen.honest;
-      quiet = seen.quiet;
-      held = record { files = seen.files; may_leave = seen.may_leave; rooted = seen.rooted };
-      calls = seen.calls;
-      failures = seen.failures;
-    }
+    let seen = opened f folder.system in
+    record { honest = seen.honest; quiet = seen.quiet; held = seen.held; calls = folder.calls; failures = folder.failures }
 
 -- What is kept in a Maildir while a text is delivered into it, whatever comes of that.
 pub record KeepsText (text : Mailbox) (old new : HeldMaildir) : Type 0 where

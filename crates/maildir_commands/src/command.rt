@@ -4,7 +4,7 @@ ghost use Rattle.maildir_commands.specs.Words.{AreOfAForm, AskFor};
 ghost use Rattle.maildir_commands.specs.Private.Words.{request};
 
 /// In which form the messages of a text are written.
-#[derive(Clone, Copy, Debug)]
+#[derive(Clone, Copy)]
 pub enum Form {
     /// In their regular spelling.
     Regular,
@@ -13,7 +13,7 @@ pub enum Form {
 }
 
 /// A command. Without FILE it reads standard input.
-#[derive(Clone, Copy, Debug)]
+#[derive(Clone, Copy)]
 pub enum Command<'a> {
     /// `rewrite [FILE]`, or no words at all, and `list [FILE]`: write the messages of a text.
     Write(Form, Option<&'a str>),

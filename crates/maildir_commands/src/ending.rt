@@ -6,7 +6,7 @@ use crate::fault::Fault;
 use mbox_text::TextFault;
 
 /// How the program's work ended.
-#[derive(Clone, Copy, Debug, PartialEq, Eq)]
+#[derive(Clone, Copy)]
 pub enum Ending {
     /// It is done.
     Done,

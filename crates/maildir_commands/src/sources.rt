@@ -56,7 +56,7 @@ fn deliver_each<M: Machine, W: Write + Drop>(
     rest: &[String],
     out: &mut BufWriter<W>,
 ) -> Result<(), Fault>
-    ensures does { let at = M.at in let folder_at = seen_folder ⟦<DiskFolder<M::Maildir> as Folder>⟧ in
+    ensures does { let at = M.at in let folder_at = seen_folder M.Maildir.System in
         DeliversFiles (M.Source.remaining first.old) (map string_bytes rest.now) result (at machine.old) (at machine.new)
         (folder_at folder.old) (folder_at folder.new) (writer_contents W.contents out.old) (writer_contents W.contents out.new) }
 {
@@ -75,7 +75,7 @@ fn deliver_one<S: System, I: Read, W: Write + Drop>(
     source: &mut I,
     out: &mut BufWriter<W>,
 ) -> Result<(), Fault>
-    ensures does { let at = seen_folder ⟦<DiskFolder<S> as Folder>⟧ in
+    ensures does { let at = seen_folder S.System in
         DeliversSource result (I.remaining source.old) (I.remaining source.new)
         (writer_contents W.contents out.old) (writer_contents W.contents out.new) (at folder.old) (at folder.new) }
     ensures handed { OnOk result (writer_buffer out.new ≡ []) }
@@ -94,7 +94,7 @@ pub fn deliver<S: System, I: Read, W: Write>(
     source: &mut I,
     out: &mut W,
 ) -> Result<(), Fault>
-    ensures does { let at = seen_folder ⟦<DiskFolder<S> as Folder>⟧ in
+    ensures does { let at = seen_folder S.System in
         DeliversSource result (I.remaining source.old) (I.remaining source.new) (W.contents out.old) (W.contents out.new)
         (at folder.old) (at folder.new) }
 {
@@ -109,11 +109,11 @@ fn store<S: System, I: Read>(
     folder: &mut DiskFolder<S>,
     source: &mut I,
 ) -> Result<Report, Fault>
-    ensures keeps { let at = seen_folder ⟦<DiskFolder<S> as Folder>⟧ in
+    ensures keeps { let at = seen_folder S.System in
         KeepsSource (I.remaining source.old) (I.remaining source.new) (at folder.old) (at folder.new) }
-    ensures stored { let at = seen_folder ⟦<DiskFolder<S> as Folder>⟧ in
+    ensures stored { let at = seen_folder S.System in
         IfOk result (λ report. StoresSource report (I.remaining source.old) (I.remaining source.new) (at folder.old) (at folder.new)) }
-    ensures stopped { let at = seen_folder ⟦<DiskFolder<S> as Folder>⟧ in
+    ensures stopped { let at = seen_folder S.System in
         IfErr result (λ fault. StopsSource fault (I.remaining source.old) (I.remaining source.new) (at folder.old) (at folder.new)) }
 {
     let report = convert(alloc, folder, source, READS)?;

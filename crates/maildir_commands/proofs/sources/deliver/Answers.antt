@@ -1,4 +1,4 @@
-use Rattle.std.proofs.Common.{Ok, ap}
+use Rattle.std.proofs.Common.{ap}
 use Rattle.maildir_commands.specs.declared.fault.Fault.TheVariants.{Run}
 use Rattle.maildir_commands.proofs.Delivering.{not_printed, not_stored, source_ended}
 use Rattle.maildir_commands.proofs.sources.deliver.Goals as goal
