@@ -89,3 +89,11 @@ preload() {
     test -x "$compiler" || compiler=cc
     "$compiler" -O1 -fPIC -shared -nostdlib -o "$work/$1.so" "$tools/$1.c"
 }
+
+# The tests of the libraries are built, as $tests: `rt ci` leaves them so.
+build_tests() {
+    tests=$top/crates/vectors/out/vectors_tests
+    if test ! -x "$tests" || test -n "$(find "$top/crates" -name out -prune -o -name '*.rt' -newer "$tests" -print)"; then
+        (cd "$top/crates/vectors" && rt test) >"$work/log" 2>&1 || fail "the tests of crates/vectors: $(cat "$work/log")"
+    fi
+}
