@@ -42,8 +42,8 @@ run: $(PROGRAM)
 test:
 	tests/layout
 	tests/lines
-	tests/promises.py
-	tests/rooms.py
+	tests/promises
+	tests/rooms
 	tests/documents
 	rt ci
 	mkdir -p build

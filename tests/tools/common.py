@@ -1,0 +1,35 @@
+"""What the tests in Python share. A test takes the program's whole path, and without one tests build/mbox2maildir."""
+import difflib
+import sys
+from pathlib import Path
+
+TOP = Path(__file__).resolve().parents[2]
+
+
+def program():
+    """The path of the program that is tested."""
+    return sys.argv[1] if len(sys.argv) > 1 else str(TOP / "build/mbox2maildir")
+
+
+def text_of(path):
+    return path.read_text(encoding="utf-8")
+
+
+def differ(got, wanted):
+    """How two values differ, of texts of several lines line by line."""
+    if not (isinstance(got, str) and isinstance(wanted, str) and "\n" in got + wanted):
+        return f"  got    {got!r}\n  wanted {wanted!r}"
+    return "\n".join(difflib.unified_diff(wanted.splitlines(), got.splitlines(), "wanted", "got", lineterm=""))
+
+
+def equal(what, got, wanted):
+    """The two are equal, or the test ends."""
+    assert got == wanted, f"{what}:\n{differ(got, wanted)}"
+
+
+def end(wrong):
+    """Prints each line of what is wrong, and ends the test: with status 1 where there is one."""
+    lines = list(wrong)
+    for line in lines:
+        print(line)
+    sys.exit(1 if lines else 0)

@@ -1,0 +1,99 @@
+# What the tests in shell share: each reads this file first. A test takes the program's whole path, and without one tests
+# build/mbox2maildir.
+set -eu
+this=${0##*/}
+top=$(cd "$(dirname "$0")/.." && pwd)
+tools=$top/tests/tools
+program=${1:-$top/build/mbox2maildir}
+work=$(mktemp -d)
+
+# What a test ends besides, at its own end: it may say so anew.
+clean_up() { :; }
+trap 'clean_up || true; rm -rf "$work"' EXIT
+trap 'exit 1' INT TERM
+
+# The SHA-256 of the body `abc`, and of the empty one.
+abc=ba7816bf8f01cfea414140de5dae2223b00361a396177a9cb410ff61f20015ad
+empty=e3b0c44298fc1c149afbf4c8996fb92427ae41e4649b934ca495991b7852b855
+
+# tell TEXT: prints what was seen.
+tell() {
+    echo "$this: $*"
+}
+
+# fail TEXT: ends the test, with what is wrong.
+fail() {
+    tell "$*" >&2
+    exit 1
+}
+
+# same WHAT WANTED GOT: two files hold the same bytes.
+same() {
+    cmp -s "$2" "$3" || fail "$1 is not what was wanted (-), but (+): $(cmp "$2" "$3" 2>&1)
+$(diff -u "$2" "$3" | sed 1,2d | head -n 40)"
+}
+
+# holds WHAT FILE TEXT: a file holds this text, in which \n and \t stand for the bytes.
+holds() {
+    printf %b "$3" >"$work/.wanted"
+    same "$1" "$work/.wanted" "$2"
+}
+
+# is WHAT GOT WANTED: two values are equal.
+is() {
+    test "$2" = "$3" || fail "$1: got '$2', wanted '$3'"
+}
+
+# report MESSAGES THERE PLACED SWEPT: what a conversion prints.
+report() {
+    echo "messages $1, there $2, placed $3, swept $4"
+}
+
+# exits COMMAND..: runs it, with its status in $status.
+exits() {
+    status=0
+    "$@" || status=$?
+}
+
+# ended WHAT TEXT: the run with this $status and with the file err as its standard error ended with status 1 and this text, or
+# well where the text is `done`.
+ended() {
+    if test "$2" = done; then
+        is "$1: standard error" "$(cat err)" ''
+        is "$1: status" "$status" 0
+    else
+        holds "$1: standard error" err "mbox2maildir: $2\n"
+        is "$1: status" "$status" 1
+    fi
+}
+
+# no_file WHAT PATH: nothing has this path, not even a link that leads nowhere.
+no_file() {
+    test ! -e "$2" && test ! -h "$2" || fail "$1: $2 is there: $(ls -ld "$2")"
+}
+
+# until_placed WHAT: waits until a conversion into the folder maildir has placed a message.
+until_placed() {
+    waits=0
+    until test -n "$(find maildir/new -type f 2>/dev/null)"; do
+        waits=$((waits + 1))
+        test "$waits" -lt 300 || fail "$1: nothing is placed"
+        sleep 0.1
+    done
+}
+
+# preload SOURCE: makes of a C file of the tools what LD_PRELOAD takes, $work/SOURCE.so. The kit brings a C compiler, so that
+# none need be installed.
+preload() {
+    compiler=$(dirname "$(rt doc)")/toolchain/bin/clang
+    test -x "$compiler" || compiler=cc
+    "$compiler" -O1 -fPIC -shared -nostdlib -o "$work/$1.so" "$tools/$1.c"
+}
+
+# The tests of the libraries are built, as $tests: `rt ci` leaves them so.
+build_tests() {
+    tests=$top/crates/vectors/out/vectors_tests
+    if test ! -x "$tests" || test -n "$(find "$top/crates" -name out -prune -o -name '*.rt' -newer "$tests" -print)"; then
+        (cd "$top/crates/vectors" && rt test) >"$work/log" 2>&1 || fail "the tests of crates/vectors: $(cat "$work/log")"
+    fi
+}

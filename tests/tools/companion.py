@@ -1,0 +1,86 @@
+"""How tests run mbox2maildir-admin: each check in a fresh folder, which has the program and the companion in bin/."""
+import os
+import re
+import shutil
+import subprocess
+import tempfile
+from contextlib import contextmanager
+from pathlib import Path
+
+from tools.common import TOP, differ, equal, program
+
+ADMIN = TOP / "admin/mbox2maildir-admin"
+
+A = b"From alva@example.org Mon Mar  3 09:12:44 2025\nFrom: alva@example.org\nSubject: one\n"
+B = b"From boris@example.com Mon Mar  3 11:40:02 2025\nFrom: boris@example.com\nSubject: two\n"
+MAY = b"hello\nFrom the first of May we are here.\nA.\n"
+
+
+def with_length(head, body, more=0):
+    """A message that tells a length, which may be wrong by some bytes."""
+    return head + b"Content-Length: %d\n\n" % (len(body) + more) + body
+
+
+def decoded(output):
+    return output.decode(errors="surrogateescape")
+
+
+def run(words, home, **settings):
+    """Runs the command, which never dies of a fault of its own."""
+    settings = {"PATH": f"{home}/bin:{os.environ['PATH']}", "LC_ALL": "C.UTF-8", **settings}
+    words = [ADMIN, *words] if not str(words[0]).startswith(("/", "mbox2maildir")) else words
+    ran = subprocess.run(words, cwd=home, env=settings, stdin=subprocess.DEVNULL, capture_output=True, timeout=300, check=False)
+    assert b"Traceback" not in ran.stderr, f"{words}: {decoded(ran.stderr)}"
+    return ran.returncode, decoded(ran.stdout), decoded(ran.stderr)
+
+
+def matches(what, text, wanted):
+    """A text is as wanted, where `...` stands for anything in a line."""
+    pattern = re.escape(wanted).replace(r"\.\.\.", ".*")
+    assert re.fullmatch(pattern, text), f"{what}:\n{differ(text, wanted)}"
+
+
+def expect(words, home, status, out, err="", **settings):
+    """The same, where status and output are known; an output may be None, if anything may come."""
+    got, *texts = run(words, home, **settings)
+    for stream, text, wanted in zip(("output", "standard error"), texts, (out, err)):
+        if wanted is not None:
+            matches(f"{words}: {stream}", text, wanted)
+    equal(f"{words}: status", got, status)
+
+
+def files_of(maildir):
+    return {path.name.split(":")[0]: path for sub in ("new", "cur") for path in (maildir / sub).iterdir()}
+
+
+def write(path, text="From a\n\nhello\n\n"):
+    path.parent.mkdir(parents=True, exist_ok=True)
+    path.write_text(text)
+
+
+def install(folder):
+    """Copies the program and the companion into a folder."""
+    folder.mkdir(parents=True, exist_ok=True)
+    shutil.copy(program(), folder / "mbox2maildir")
+    shutil.copy(ADMIN, folder)
+
+
+@contextmanager
+def fresh_home():
+    """A new folder, which other users may enter. What still runs in it may leave something there."""
+    work = tempfile.mkdtemp()
+    try:
+        os.chmod(work, 0o755)
+        home = Path(work) / "home"
+        home.mkdir()
+        yield home
+    finally:
+        shutil.rmtree(work, ignore_errors=True)
+
+
+def check_all(*checks):
+    """Runs each check in a folder of its own."""
+    for check in checks:
+        with fresh_home() as home:
+            install(home / "bin")
+            check(home)
