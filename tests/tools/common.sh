@@ -56,9 +56,9 @@ exits() {
 }
 
 # ended WHAT TEXT: the run with this $status and with the file err as its standard error ended with status 1 and this text, or
-# well where the text is `done`.
+# well where the text is `well`.
 ended() {
-    if test "$2" = done; then
+    if test "$2" = well; then
         is "$1: standard error" "$(cat err)" ''
         is "$1: status" "$status" 0
     else
