@@ -1,8 +1,10 @@
 // Runs over two texts in any order, broken off and disturbed at random, and a quiet run over each after them.
 ghost use Rattle.std.specs.Prelude.{◌<◌};
 
-use crate::runs::{ABC, EMPTY_ONE, EMPTY_TWO, ONE_SEEN, THREE, TWO_EMPTY, run_over};
-use crate::scripts::{Deed, Row, script_of};
+use crate::rows::same;
+use crate::runs::run_over;
+use crate::scripts::{Deed, Line, script_of};
+use crate::texts::{ABC, EMPTY_ONE, EMPTY_TWO, File, ONE_SEEN, THREE, TWO_EMPTY};
 use maildir_run::{MemFolder, Mode, Sub};
 use std::alloc::{AllocError, Global};
 use std::test::Fail;
@@ -23,8 +25,11 @@ const TEXTS: &[&[u8]; 2] = &[TWO_EMPTY, THREE];
 const DEEDS: &[&[Deed<'_>]; 4] = &[
     &[],
     &[Deed::DropTmp(EMPTY_ONE), Deed::DropTmp(ABC)],
-    &[Deed::ToCur(EMPTY_ONE, ":2,S"), Deed::DropTmp(EMPTY_TWO)],
-    &[Deed::PutOther(Sub::Tmp, "x"), Deed::ToCur(EMPTY_ONE, "")],
+    &[Deed::ToCur(EMPTY_ONE, ONE_SEEN), Deed::DropTmp(EMPTY_TWO)],
+    &[
+        Deed::PutOther(Sub::Tmp, "x"),
+        Deed::ToCur(EMPTY_ONE, EMPTY_ONE),
+    ],
 ];
 
 const MODES: &[Mode; 6] = &[
@@ -36,13 +41,13 @@ const MODES: &[Mode; 6] = &[
     Mode::Twice,
 ];
 
-fn any_row(state: &mut u64) -> Row<'static> {
+fn any_line(state: &mut u64) -> Line<'static> {
     let call = 1 + below(state, 12) as u64;
     (call, DEEDS[below(state, 4)], MODES[below(state, 6)])
 }
 
 // Where a reader may leave the messages, and their bodies.
-const HOMES: &[(Sub, &str, &[u8])] = &[
+const HOMES: &[File<'_>] = &[
     (Sub::New, EMPTY_ONE, b""),
     (Sub::Cur, EMPTY_ONE, b""),
     (Sub::Cur, ONE_SEEN, b""),
@@ -50,8 +55,8 @@ const HOMES: &[(Sub, &str, &[u8])] = &[
     (Sub::New, ABC, b"abc"),
 ];
 
-// Whether the three messages have one home each with its body, and nothing of ours is left in `tmp`.
-fn is_delivered(folder: &MemFolder) -> bool {
+// How many messages have their body at a home, how many files `new` and `cur` have in all, and how many of ours are in `tmp`.
+fn delivered(folder: &MemFolder) -> (usize, usize, usize) {
     let mut found = 0usize;
     for &(sub, name, body) in HOMES {
         if folder.bytes_of(sub, name) == Some(body) {
@@ -62,36 +67,36 @@ fn is_delivered(folder: &MemFolder) -> bool {
         .count(Sub::New)
         .saturating_add(folder.count(Sub::Cur));
     let foreign = folder.bytes_of(Sub::Tmp, "x").is_some() as usize;
-    found == 3 && in_all == 3 && folder.count(Sub::Tmp) == foreign
+    let ours = folder.count(Sub::Tmp).saturating_sub(foreign);
+    (found, in_all, ours)
 }
 
 // Runs under scripts at random, up to four.
 fn disturb(alloc: Global, state: &mut u64, folder: &mut MemFolder) -> Result<(), AllocError> {
     for _ in 0..below(state, 5) {
-        let rows = [any_row(state), any_row(state)];
+        let rows = [any_line(state), any_line(state)];
         folder.script(script_of(alloc, &rows)?, None);
         let _ = run_over(alloc, folder, TEXTS[below(state, 2)]);
     }
     Ok(())
 }
 
-// Whether each message is there once after disturbed runs, and then a quiet one over each text.
-fn ends_delivered(alloc: Global, seed: u64) -> Result<bool, AllocError> {
+// Each message is there once after disturbed runs, and then a quiet one over each text.
+fn deliver_after_all(alloc: Global, seed: u64) -> Result<(), Fail> {
     let mut state = seed;
     let mut folder = MemFolder::new(alloc);
     disturb(alloc, &mut state, &mut folder)?;
     folder.script(Vec::new(alloc), None);
-    Ok(
-        run_over(alloc, &mut folder, TWO_EMPTY).is_ok()
-            && run_over(alloc, &mut folder, THREE).is_ok()
-            && is_delivered(&folder),
-    )
+    for text in TEXTS {
+        same(&seed, &run_over(alloc, &mut folder, text).err(), &None)?;
+    }
+    same(&seed, &delivered(&folder), &(3, 3, 0))
 }
 
 #[test]
 fn any_broken_and_disturbed_runs(rt: HostRuntime) -> Result<(), Fail> {
     for seed in 0..50u64 {
-        assert!(rt; ends_delivered(rt.alloc(), seed)?, "seed {seed}");
+        deliver_after_all(rt.alloc(), seed)?;
     }
     Ok(())
 }

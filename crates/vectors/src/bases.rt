@@ -1,5 +1,7 @@
 // Bases, and which names are this converter's.
+use crate::rows::same;
 use maildir_name::{base_of, is_converter_name};
+use std::test::Fail;
 
 // A name that begins with the digits of the SHA-256 of `abc` (FIPS 180-4).
 macro_rules! abc {
@@ -12,7 +14,7 @@ macro_rules! abc {
 }
 
 #[test]
-fn names_and_bases(rt: HostRuntime) {
+fn names_and_bases() -> Result<(), Fail> {
     const NAMES: &[(&str, bool)] = &[
         (abc!(".1"), true),
         (abc!(".1:2,S"), true),
@@ -47,9 +49,10 @@ fn names_and_bases(rt: HostRuntime) {
         ("u", "u"),
     ];
     for &(name, is_ours) in NAMES {
-        assert!(rt; is_converter_name(name) == is_ours, "at {name}");
+        same(&name, &is_converter_name(name), &is_ours)?;
     }
     for &(name, base) in BASES {
-        assert!(rt; base_of(name) == base, "of {name}");
+        same(&name, &base_of(name), &base)?;
     }
+    Ok(())
 }

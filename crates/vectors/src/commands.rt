@@ -1,7 +1,10 @@
 // The same words given again and again, broken off at each call, with a power cut after each command.
 use crate::cuts::losing;
 use crate::planning::names;
-use crate::streams::{Cut, Narrow, Then};
+use crate::rows::same;
+use crate::sources::Cut;
+use crate::texts::{ABC_LINE, HELLO_LINE, TWO_LINES};
+use crate::writers::Narrow;
 use maildir_commands::{Machine, run};
 use maildir_memory::{MemMachine, MemSystem, NamedText};
 use maildir_run::Sub;
@@ -21,23 +24,17 @@ const TEXTS: &[NamedText<'static>] = &[
     },
     NamedText {
         name: "two",
-        text: b"From x\nabc\n\nFrom y\nhello\n",
+        text: TWO_LINES,
     },
 ];
 
-const MESSAGES: &[(&str, &str)] = &[
+const MESSAGES: &[(&str, &[u8])] = &[
     (
         "594e519ae499312b29433b7dd8a97ff068defcba9755b6d5d00e84c524d67b06.1",
-        "z",
+        b"z",
     ),
-    (
-        "edeaaff3f1774ad2888673770c6d64097e391bc362d7d6fb34982ddf0efd18cb.1",
-        "abc\n",
-    ),
-    (
-        "5891b5b522d5df086d0ff0b110fbd9d21bb4fc7163af34d08286a2e846f6be03.1",
-        "hello\n",
-    ),
+    (ABC_LINE, b"abc\n"),
+    (HELLO_LINE, b"hello\n"),
 ];
 
 // One command, of which so many calls of the Maildir are answered; then a power cut leaves this case. The status, how many
@@ -52,7 +49,7 @@ fn command(
     let words = names(alloc, &["convert", "M", "one", "two"])?;
     let mut out = BufWriter::with_capacity(alloc, 16, Narrow::new(alloc, 1000, 64, true))?;
     let mut err = Narrow::new(alloc, 1000, 64, true);
-    let mut input = Cut::new(b"", 4, Then::Ends);
+    let mut input = Cut::pieces(b"", 4);
     let Ok(mut system) = machine.open_maildir("M") else {
         return Ok((9, 0, None));
     };
@@ -82,7 +79,7 @@ fn at_home(system: &MemSystem) -> Option<usize> {
     for &(name, body) in MESSAGES {
         match folder.bytes_of(Sub::New, name) {
             None => {}
-            Some(bytes) if bytes == body.as_bytes() => found = found.saturating_add(1),
+            Some(bytes) if bytes == body => found = found.saturating_add(1),
             Some(_) => return None,
         }
     }
@@ -93,39 +90,36 @@ fn at_home(system: &MemSystem) -> Option<usize> {
     }
 }
 
-// The words name a Maildir that is missing, and is made. So many of its calls are answered, and a power cut leaves this case; then
-// they are given again, and once more. The first status, how many cases there were, and whether each command left what it owes.
-fn history(rt: HostRuntime, calls: u64, case: usize) -> Result<(u8, usize, bool), Fail> {
+// The words name a Maildir that is missing, and is made. So many of its calls are answered, and a power cut leaves this case;
+// then they are given again, and once more. The first status, and how many cases there were.
+fn history(rt: HostRuntime, calls: u64, case: usize) -> Result<(u8, usize), Fail> {
+    let row = (calls, case);
     let mut machine = MemMachine::new(rt.alloc(), TEXTS);
     machine.make_of(losing(rt, &[], 1)?);
     let (status, cases, first) = command(rt, &mut machine, calls, case)?;
+    let owed = if status == 0 { 3 } else { first.unwrap_or(0) };
+    same(&row, &first, &Some(owed))?;
     let (again, _, second) = command(rt, &mut machine, u64::MAX, 0)?;
     let (_, _, third) = command(rt, &mut machine, 5, 1)?;
-    let is_sound = first.is_some() && (status != 0 || first == Some(3));
-    let is_delivered = again == 0 && second == Some(3) && third == Some(3);
-    Ok((status, cases, is_sound && is_delivered))
+    same(&row, &(again, second, third), &(0, Some(3), Some(3)))?;
+    Ok((status, cases))
 }
 
 #[test]
 fn commands_and_power_cuts(rt: HostRuntime) -> Result<(), Fail> {
-    let mut done = 0usize;
-    let mut stopped = 0usize;
+    let mut ended = (false, false);
     for stop in 0u64..STOPS {
         let calls = 4 * stop;
         for case in 0usize..CASES {
-            let (status, cases, is_kept) = history(rt, calls, case)?;
-            assert!(rt; is_kept, "after {calls} calls and cut {case}");
+            let (status, cases) = history(rt, calls, case)?;
             assert!(rt; cases <= CASES, "more cases than were tried");
-            if status == 0 {
-                done = done.saturating_add(1);
-            } else {
-                stopped = stopped.saturating_add(1);
-            }
+            ended.0 = ended.0 || status == 0;
+            ended.1 = ended.1 || status != 0;
             if cases <= case + 1 {
                 break;
             }
         }
     }
-    assert!(rt; done > 0 && stopped > 0, "calls are too few or too many");
+    same(&"done, and stopped", &ended, &(true, true))?;
     Ok(())
 }

@@ -1,8 +1,10 @@
 // Power cuts of a system in memory that loses what was not synced. In each other order than the right one the steps that
 // bring a message lose it in some case of what a cut leaves.
 use crate::mem_system::system_of;
-use crate::runs::ABC;
+use crate::rows::same;
 use crate::scripts::Deed;
+use crate::texts::{ABC, ABC_SEEN};
+use Step::{Rename, SyncCur, SyncFile, SyncNew, SyncRoot, Write};
 use maildir_disk::System;
 use maildir_memory::{MemSystem, Stamps};
 use maildir_name::Place;
@@ -14,7 +16,7 @@ use std::test::Fail;
 const ROOM: usize = 1_000;
 
 // A reader moves the message to `cur`.
-const MOVES: &[Deed<'_>] = &[Deed::ToCur(ABC, ":2,S")];
+const MOVES: &[Deed<'_>] = &[Deed::ToCur(ABC, ABC_SEEN)];
 
 /// An empty Maildir that was not synced yet and loses what is not, and a program that does this.
 pub(crate) fn losing(rt: HostRuntime, deeds: &[Deed<'_>], turn: u8) -> Result<MemSystem, Fail> {
@@ -23,12 +25,12 @@ pub(crate) fn losing(rt: HostRuntime, deeds: &[Deed<'_>], turn: u8) -> Result<Me
     Ok(system)
 }
 
-// The steps that deliver a message, and what is asked to be kept between them.
+// The steps that deliver a message, and what is synced between them.
 #[derive(Clone, Copy)]
 enum Step {
     Write,
     SyncFile,
-    Place,
+    Rename,
     SyncNew,
     SyncCur,
     SyncRoot,
@@ -38,15 +40,15 @@ fn make_steps(system: &mut MemSystem, steps: &[Step]) -> io::Result<()> {
     let mut file = system.create(ABC)?;
     for step in steps {
         match step {
-            Step::Write => {
+            Write => {
                 let taken = system.append(&mut file, b"abc")?;
                 let _ = system.append(&mut file, &b"abc"[taken.min(3)..])?;
             }
-            Step::SyncFile => system.sync_file(&file)?,
-            Step::Place => system.rename(ABC, Place::New, ABC)?,
-            Step::SyncNew => system.sync_folder(Place::New)?,
-            Step::SyncCur => system.sync_folder(Place::Cur)?,
-            Step::SyncRoot => system.sync_root()?,
+            SyncFile => system.sync_file(&file)?,
+            Rename => system.rename(ABC, Place::New, ABC)?,
+            SyncNew => system.sync_folder(Place::New)?,
+            SyncCur => system.sync_folder(Place::Cur)?,
+            SyncRoot => system.sync_root()?,
         }
     }
     Ok(())
@@ -54,11 +56,10 @@ fn make_steps(system: &mut MemSystem, steps: &[Step]) -> io::Result<()> {
 
 // Whether the message is found, and nothing but its body under its names.
 fn is_found(folder: &MemFolder) -> bool {
-    const SEEN: &str = "ba7816bf8f01cfea414140de5dae2223b00361a396177a9cb410ff61f20015ad.1:2,S";
     let body = Some(b"abc".as_slice());
     match (
         folder.bytes_of(Sub::New, ABC),
-        folder.bytes_of(Sub::Cur, SEEN),
+        folder.bytes_of(Sub::Cur, ABC_SEEN),
     ) {
         (None, None) => false,
         (None, seen) => seen == body,
@@ -68,8 +69,8 @@ fn is_found(folder: &MemFolder) -> bool {
 }
 
 // Whether the message is found in each case that a cut may leave after these steps, where a reader moves it to `cur` at the
-// turn of this number, and whether two files of it are found in one of them. Nothing where there are too many cases.
-fn survives(rt: HostRuntime, steps: &[Step], turn: u8) -> Result<Option<(bool, bool)>, Fail> {
+// turn of this number, and whether two files of it are found in one of them.
+fn survives(rt: HostRuntime, steps: &[Step], turn: u8) -> Result<(bool, bool), Fail> {
     let (mut always, mut doubled) = (true, false);
     for case in 0..ROOM {
         let mut system = losing(rt, MOVES, turn)?;
@@ -80,126 +81,67 @@ fn survives(rt: HostRuntime, steps: &[Step], turn: u8) -> Result<Option<(bool, b
         always = always && is_found(folder);
         doubled = doubled || (folder.count(Sub::New) > 0 && folder.count(Sub::Cur) > 0);
         if case.saturating_add(1) >= cases {
-            return Ok(Some((always, doubled)));
+            return Ok((always, doubled));
         }
     }
-    Ok(None)
+    Err(Fail::new("more cases than were tried"))
 }
 
-const RIGHT: &[Step] = &[
-    Step::Write,
-    Step::SyncFile,
-    Step::Place,
-    Step::SyncNew,
-    Step::SyncCur,
-    Step::SyncRoot,
+// The same, at any turn.
+fn survives_any(rt: HostRuntime, steps: &[Step]) -> Result<(bool, bool), Fail> {
+    let (mut always, mut doubled) = (true, false);
+    for turn in 1..12u8 {
+        let (found, both) = survives(rt, steps, turn)?;
+        always = always && found;
+        doubled = doubled || both;
+    }
+    Ok((always, doubled))
+}
+
+const RIGHT: &[Step] = &[Write, SyncFile, Rename, SyncNew, SyncCur, SyncRoot];
+
+const WRONG: &[(&str, &[Step])] = &[
+    (
+        "no sync of the file",
+        &[Write, Rename, SyncNew, SyncCur, SyncRoot],
+    ),
+    (
+        "the file before the write",
+        &[SyncFile, Write, Rename, SyncNew, SyncCur, SyncRoot],
+    ),
+    (
+        "the file after the placement",
+        &[Write, Rename, SyncFile, SyncNew, SyncCur, SyncRoot],
+    ),
+    (
+        "new before the placement",
+        &[Write, SyncFile, SyncNew, Rename, SyncCur, SyncRoot],
+    ),
+    (
+        "no sync of new",
+        &[Write, SyncFile, Rename, SyncCur, SyncRoot],
+    ),
+    (
+        "no sync of cur",
+        &[Write, SyncFile, Rename, SyncNew, SyncRoot],
+    ),
+    (
+        "cur before new",
+        &[Write, SyncFile, Rename, SyncCur, SyncNew, SyncRoot],
+    ),
+    (
+        "no sync of the Maildir",
+        &[Write, SyncFile, Rename, SyncNew, SyncCur],
+    ),
 ];
 
-// The order of the steps is what keeps a message. A reader moves it at each turn.
+// The order of the steps is what keeps a message. In the right one a rename of the reader may come in half.
 #[test]
 fn orders_of_syncs(rt: HostRuntime) -> Result<(), Fail> {
-    const WRONG: &[(&str, &[Step])] = &[
-        (
-            "no sync of the file",
-            &[
-                Step::Write,
-                Step::Place,
-                Step::SyncNew,
-                Step::SyncCur,
-                Step::SyncRoot,
-            ],
-        ),
-        (
-            "the file before the write",
-            &[
-                Step::SyncFile,
-                Step::Write,
-                Step::Place,
-                Step::SyncNew,
-                Step::SyncCur,
-                Step::SyncRoot,
-            ],
-        ),
-        (
-            "the file after the placement",
-            &[
-                Step::Write,
-                Step::Place,
-                Step::SyncFile,
-                Step::SyncNew,
-                Step::SyncCur,
-                Step::SyncRoot,
-            ],
-        ),
-        (
-            "new before the placement",
-            &[
-                Step::Write,
-                Step::SyncFile,
-                Step::SyncNew,
-                Step::Place,
-                Step::SyncCur,
-                Step::SyncRoot,
-            ],
-        ),
-        (
-            "no sync of new",
-            &[
-                Step::Write,
-                Step::SyncFile,
-                Step::Place,
-                Step::SyncCur,
-                Step::SyncRoot,
-            ],
-        ),
-        (
-            "no sync of cur",
-            &[
-                Step::Write,
-                Step::SyncFile,
-                Step::Place,
-                Step::SyncNew,
-                Step::SyncRoot,
-            ],
-        ),
-        (
-            "cur before new",
-            &[
-                Step::Write,
-                Step::SyncFile,
-                Step::Place,
-                Step::SyncCur,
-                Step::SyncNew,
-                Step::SyncRoot,
-            ],
-        ),
-        (
-            "no sync of the Maildir",
-            &[
-                Step::Write,
-                Step::SyncFile,
-                Step::Place,
-                Step::SyncNew,
-                Step::SyncCur,
-            ],
-        ),
-    ];
-    let mut doubled = false;
-    for turn in 1..12u8 {
-        let found = survives(rt, RIGHT, turn)?;
-        assert!(rt; matches!(found, Some((true, _))), "{turn}");
-        doubled = doubled || found == Some((true, true));
-    }
-    // a rename of the reader that came in half
-    assert!(rt; doubled);
+    same(&"the right order", &survives_any(rt, RIGHT)?, &(true, true))?;
     for &(name, steps) in WRONG {
-        let mut lost = false;
-        for turn in 1..12u8 {
-            let found = survives(rt, steps, turn)?;
-            assert!(rt; found.is_some(), "{name}, {turn}");
-            lost = lost || matches!(found, Some((false, _)));
-        }
-        assert!(rt; lost, "{name}");
+        let (always, _) = survives_any(rt, steps)?;
+        same(&name, &always, &false)?;
     }
     Ok(())
 }
@@ -217,33 +159,30 @@ fn both_placed(rt: HostRuntime) -> Result<MemSystem, Fail> {
     Ok(system)
 }
 
-// Whether a cut leaves the first of them in this case, and whether it leaves the second; nothing where there is no such
-// case, or a file has another name.
-fn left_of_both(rt: HostRuntime, case: usize) -> Result<Option<(bool, bool)>, Fail> {
+// Whether a cut leaves the first of them in this case, whether it leaves the second, and how many files there are.
+fn left_of_both(rt: HostRuntime, case: usize) -> Result<(bool, bool, usize), Fail> {
     let mut system = both_placed(rt)?;
-    let is_case = case < system.cases();
     system.cut(case);
     let folder = system.folder();
     let first = folder.bytes_of(Sub::Cur, "u:2,S").is_some();
     let second = folder.bytes_of(Sub::Cur, "v:2,F").is_some();
-    let named = (first as usize).saturating_add(second as usize);
-    if is_case && folder.count(Sub::Cur) == named {
-        Ok(Some((first, second)))
-    } else {
-        Ok(None)
-    }
+    Ok((first, second, folder.count(Sub::Cur)))
 }
 
 // Each of two renames is kept or lost by itself.
 #[test]
 fn each_rename_by_itself(rt: HostRuntime) -> Result<(), Fail> {
-    let mut seen = (false, false);
+    let mut alone = (false, false);
     for case in 0..both_placed(rt)?.cases() {
-        let left = left_of_both(rt, case)?;
-        assert!(rt; left.is_some(), "{case}");
-        seen.0 = seen.0 || left == Some((true, false));
-        seen.1 = seen.1 || left == Some((false, true));
+        let (first, second, in_all) = left_of_both(rt, case)?;
+        same(
+            &case,
+            &in_all,
+            &(first as usize).saturating_add(second as usize),
+        )?;
+        alone.0 = alone.0 || (first && !second);
+        alone.1 = alone.1 || (second && !first);
     }
-    assert!(rt; seen == (true, true));
+    same(&"each alone", &alone, &(true, true))?;
     Ok(())
 }

@@ -1,65 +1,68 @@
 // Runs while a mail reader and other programs are at work.
-use crate::runs::{ABC, EMPTY_ONE, EMPTY_TWO, File, THREE, TWO_EMPTY, UNENDED, folder_of};
-use crate::scripts::{Deed, Row, Run, Scene, goes_under, wrong_scene};
+use crate::runs::folder_of;
+use crate::scripts::{Deed, Line, Run, Scene, go, go_scene};
+use crate::texts::{
+    ABC, ABC_SEEN, EMPTY_ONE, EMPTY_TWO, File, ONE_SEEN, THREE, TWO_EMPTY, TWO_SEEN, UNENDED,
+};
 use maildir_run::{Mode, RunFault, Sub};
-use std::alloc::Global;
-
-const ABC_ALONE: &[File<'_>] = &[(Sub::New, ABC, "abc")];
-
-const ABC_SEEN: &str = "ba7816bf8f01cfea414140de5dae2223b00361a396177a9cb410ff61f20015ad.1:2,S";
-
-const ABC_IN_CUR: &[File<'_>] = &[(Sub::Cur, ABC_SEEN, "abc")];
+use std::test::Fail;
 
 const ONE_FLAGGED: &str = "e3b0c44298fc1c149afbf4c8996fb92427ae41e4649b934ca495991b7852b855.1:2,F";
 
 const ONE_FLAGGED_SEEN: &str =
     "e3b0c44298fc1c149afbf4c8996fb92427ae41e4649b934ca495991b7852b855.1:2,FS";
 
-const TWO_SEEN: &str = "e3b0c44298fc1c149afbf4c8996fb92427ae41e4649b934ca495991b7852b855.2:2,S";
+const ABC_ALONE: &[File<'_>] = &[(Sub::New, ABC, b"abc")];
 
-const ONE_IN_CUR: &[File<'_>] = &[(Sub::New, EMPTY_TWO, ""), (Sub::Cur, ONE_FLAGGED, "")];
+const ABC_IN_CUR: &[File<'_>] = &[(Sub::Cur, ABC_SEEN, b"abc")];
+
+const ONE_IN_CUR: &[File<'_>] = &[(Sub::New, EMPTY_TWO, b""), (Sub::Cur, ONE_FLAGGED, b"")];
 
 const BOTH_IN_CUR: &[File<'_>] = &[
-    (Sub::New, ABC, "abc"),
-    (Sub::Cur, ONE_FLAGGED_SEEN, ""),
-    (Sub::Cur, TWO_SEEN, ""),
+    (Sub::New, ABC, b"abc"),
+    (Sub::Cur, ONE_FLAGGED_SEEN, b""),
+    (Sub::Cur, TWO_SEEN, b""),
 ];
 
-const MOVES: &[Row<'_>] = &[(3, &[Deed::ToCur(ABC, ":2,S")], Mode::Plain)];
+const MOVES: &[Line<'_>] = &[(3, &[Deed::ToCur(ABC, ABC_SEEN)], Mode::Plain)];
 
-const DROPS: &[Row<'_>] = &[(5, &[Deed::DropTmp(ABC)], Mode::Plain)];
+const DROPS: &[Line<'_>] = &[(5, &[Deed::DropTmp(ABC)], Mode::Plain)];
 
-const STOPS: &[Row<'_>] = &[
-    (6, &[Deed::ToCur(EMPTY_ONE, ":2,F")], Mode::Plain),
+const STOPS: &[Line<'_>] = &[
+    (6, &[Deed::ToCur(EMPTY_ONE, ONE_FLAGGED)], Mode::Plain),
     (7, &[], Mode::FailAfter),
 ];
 
-const FLAGS: &[Row<'_>] = &[
-    (3, &[Deed::ToCur(EMPTY_TWO, ":2,S")], Mode::Plain),
-    (3, &[Deed::Reflag(EMPTY_ONE, ":2,F", ":2,FS")], Mode::Plain),
+const FLAGS: &[Line<'_>] = &[
+    (3, &[Deed::ToCur(EMPTY_TWO, TWO_SEEN)], Mode::Plain),
+    (
+        3,
+        &[Deed::Reflag(ONE_FLAGGED, ONE_FLAGGED_SEEN)],
+        Mode::Plain,
+    ),
 ];
 
-const DOES_NOTHING: &[Row<'_>] = &[(
+const DOES_NOTHING: &[Line<'_>] = &[(
     1,
     &[
-        Deed::ToCurAs(EMPTY_ONE, TWO_SEEN),
+        Deed::ToCur(EMPTY_ONE, TWO_SEEN),
         Deed::PutOther(Sub::Tmp, ABC),
         Deed::DropTmp("x"),
-        Deed::Reflag(EMPTY_ONE, "", ":2,S"),
+        Deed::Reflag(EMPTY_ONE, ONE_SEEN),
         Deed::DropOther(Sub::New, EMPTY_ONE),
     ],
     Mode::Plain,
 )];
 
 const BOTH_AND_FOREIGN: &[File<'_>] = &[
-    (Sub::Tmp, "x", "z"),
-    (Sub::New, EMPTY_ONE, ""),
-    (Sub::New, EMPTY_TWO, ""),
+    (Sub::Tmp, "x", b"z"),
+    (Sub::New, EMPTY_ONE, b""),
+    (Sub::New, EMPTY_TWO, b""),
 ];
 
-const COMES: &[Row<'_>] = &[(4, &[Deed::PutOther(Sub::Tmp, "x")], Mode::Plain)];
+const COMES: &[Line<'_>] = &[(4, &[Deed::PutOther(Sub::Tmp, "x")], Mode::Plain)];
 
-const TWO_LINES: &[Row<'_>] = &[
+const TWO_LINES: &[Line<'_>] = &[
     (1, &[Deed::PutOther(Sub::New, "y")], Mode::FailBefore),
     (1, &[Deed::DropOther(Sub::Tmp, "x")], Mode::Plain),
 ];
@@ -69,17 +72,17 @@ const SCENES: &[Scene<'_>] = &[
         "moved_between_listings",
         &[],
         &[
-            (&[], UNENDED, Ok((1, 0, 1, 0)), 5, ABC_ALONE),
-            (MOVES, UNENDED, Ok((1, 1, 0, 0)), 3, ABC_IN_CUR),
-            (&[], UNENDED, Ok((1, 1, 0, 0)), 3, ABC_IN_CUR),
+            (&[], UNENDED, Ok((1, 0, 1, 0)), ABC_ALONE),
+            (MOVES, UNENDED, Ok((1, 1, 0, 0)), ABC_IN_CUR),
+            (&[], UNENDED, Ok((1, 1, 0, 0)), ABC_IN_CUR),
         ],
     ),
     (
         "dropped_before_it_is_placed",
         &[],
         &[
-            (DROPS, UNENDED, Err(RunFault::FolderAbsent), 5, &[]),
-            (&[], UNENDED, Ok((1, 0, 1, 0)), 5, ABC_ALONE),
+            (DROPS, UNENDED, Err(RunFault::FolderAbsent), &[]),
+            (&[], UNENDED, Ok((1, 0, 1, 0)), ABC_ALONE),
         ],
     ),
     // the first message is moved before the run stops, and both are given other flags before the next one lists `cur`
@@ -87,21 +90,15 @@ const SCENES: &[Scene<'_>] = &[
         "read_and_reflagged",
         &[],
         &[
-            (STOPS, THREE, Err(RunFault::FolderFailed(7)), 7, ONE_IN_CUR),
-            (FLAGS, THREE, Ok((3, 2, 1, 0)), 5, BOTH_IN_CUR),
+            (STOPS, THREE, Err(RunFault::FolderFailed(7)), ONE_IN_CUR),
+            (FLAGS, THREE, Ok((3, 2, 1, 0)), BOTH_IN_CUR),
         ],
     ),
     // several acts in one line, and none of them has its condition
     (
         "acts_that_do_nothing",
         BOTH_AND_FOREIGN,
-        &[(
-            DOES_NOTHING,
-            TWO_EMPTY,
-            Ok((2, 2, 0, 0)),
-            3,
-            BOTH_AND_FOREIGN,
-        )],
+        &[(DOES_NOTHING, TWO_EMPTY, Ok((2, 2, 0, 0)), BOTH_AND_FOREIGN)],
     ),
     (
         "foreign_file_comes",
@@ -110,42 +107,42 @@ const SCENES: &[Scene<'_>] = &[
             COMES,
             UNENDED,
             Ok((1, 0, 1, 0)),
-            5,
-            &[(Sub::Tmp, "x", "z"), (Sub::New, ABC, "abc")],
+            &[(Sub::Tmp, "x", b"z"), (Sub::New, ABC, b"abc")],
         )],
     ),
     // the first one's mode applies, and the acts of both are made
     (
         "two_lines_for_one_call",
-        &[(Sub::Tmp, "x", "z")],
+        &[(Sub::Tmp, "x", b"z")],
         &[(
             TWO_LINES,
             UNENDED,
             Err(RunFault::FolderFailed(1)),
-            1,
-            &[(Sub::New, "y", "z")],
+            &[(Sub::New, "y", b"z")],
         )],
     ),
 ];
 
 #[test]
-fn disturbed_runs(rt: HostRuntime) {
-    let wrong = wrong_scene(rt.alloc(), SCENES);
-    assert!(rt; wrong.is_none(), "{}", wrong.unwrap_or(""));
-}
-
-// Whether a run over a folder with this file goes so, where all calls fail from the second one on.
-fn goes_to_the_second(alloc: Global, file: File<'_>, run: Run<'_>) -> bool {
-    match folder_of(alloc, &[file]) {
-        Ok(mut folder) => goes_under(alloc, &mut folder, run, Some(2)),
-        Err(_) => false,
+fn disturbed_runs(rt: HostRuntime) -> Result<(), Fail> {
+    for scene in SCENES {
+        go_scene(rt.alloc(), scene)?;
     }
+    Ok(())
 }
 
 // Where all calls fail from one on, acts are made all the same, and no mode counts.
 #[test]
-fn acts_before_a_call_that_fails(rt: HostRuntime) {
-    const DROPS: &[Row<'_>] = &[(2, &[Deed::DropOther(Sub::New, "y")], Mode::Twice)];
-    const RUN: Run<'_> = (DROPS, UNENDED, Err(RunFault::FolderFailed(2)), 2, &[]);
-    assert!(rt; goes_to_the_second(rt.alloc(), (Sub::New, "y", "z"), RUN));
+fn acts_before_a_call_that_fails(rt: HostRuntime) -> Result<(), Fail> {
+    const DROPS: &[Line<'_>] = &[(2, &[Deed::DropOther(Sub::New, "y")], Mode::Twice)];
+    const RUN: Run<'_> = (DROPS, UNENDED, Err(RunFault::FolderFailed(2)), &[]);
+    let mut folder = folder_of(rt.alloc(), &[(Sub::New, "y", b"z")])?;
+    go(
+        rt.alloc(),
+        &"from the second call on",
+        &mut folder,
+        RUN,
+        Some(2),
+    )?;
+    Ok(())
 }

@@ -1,16 +1,10 @@
 // The texts of faults.
+use crate::rows::same;
 use maildir_run::RunFault;
-use std::alloc::Global;
-
-fn reads(alloc: Global, fault: RunFault, want: &str) -> bool {
-    match format!(in alloc; "{fault}") {
-        Ok(text) => text.as_str() == want,
-        Err(_) => false,
-    }
-}
+use std::test::Fail;
 
 #[test]
-fn fault_texts(rt: HostRuntime) {
+fn fault_texts(rt: HostRuntime) -> Result<(), Fail> {
     const ROWS: &[(RunFault, &str)] = &[
         (RunFault::NoFromLine, "no From line at the start"),
         (RunFault::ReadFault, "the source could not be read"),
@@ -20,7 +14,9 @@ fn fault_texts(rt: HostRuntime) {
         (RunFault::OutputFault, "the output could not be written"),
         (RunFault::OutOfMemory, "out of memory"),
     ];
-    for &(fault, want) in ROWS {
-        assert!(rt; reads(rt.alloc(), fault, want), "{want}");
+    for &(fault, wanted) in ROWS {
+        let got = format!(in rt.alloc(); "{fault}")?;
+        same(&fault, &got.as_str(), &wanted)?;
     }
+    Ok(())
 }

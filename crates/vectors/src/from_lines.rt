@@ -1,46 +1,52 @@
 // From_ lines that are built and taken apart.
+use crate::rows::{Shown, same, same_bytes};
 use mbox_text::{TextFault, build_from, is_from_line, is_quotable, rest_of, sender_of};
 use std::alloc::Global;
+use std::test::Fail;
 
-/// Whether this From_ line is built. It may be tried again where an allocation was refused.
-pub(crate) fn builds(alloc: Global, again: bool, sender: &[u8], rest: &[u8], want: &[u8]) -> bool {
-    let answer = match build_from(alloc, sender, rest) {
-        Err(TextFault::OutOfMemory) if again => build_from(alloc, sender, rest),
+/// A sender, a rest, and the From_ line that is built of them, if one is.
+type Row<'a> = (&'a str, &'a str, Result<&'a [u8], TextFault>);
+
+/// Rows whose lines are built; the last rest is refused, since it has a line end.
+pub(crate) const BUILT: &[Row<'_>] = &[
+    (
+        "",
+        "Thu Jan  1 00:00:00 1970",
+        Ok(b"From MAILER-DAEMON Thu Jan  1 00:00:00 1970"),
+    ),
+    ("a b", "", Ok(b"From a-b")),
+    ("a\tb\nc", "  d", Ok(b"From a-b-c   d")),
+    ("a", "  ", Ok(b"From a   ")),
+    ("a", "b", Ok(b"From a b")),
+    ("a", "x\ny", Err(TextFault::LineEndInRest)),
+];
+
+/// Builds the From_ line of a row, again where an allocation was refused and it may be tried again.
+pub(crate) fn build(alloc: Global, row: Row<'_>, again: bool) -> Result<(), Fail> {
+    let (sender, rest, wanted) = row;
+    let answer = match build_from(alloc, sender.as_bytes(), rest.as_bytes()) {
+        Err(TextFault::OutOfMemory) if again => {
+            build_from(alloc, sender.as_bytes(), rest.as_bytes())
+        }
         answer => answer,
     };
-    match answer {
-        Ok(line) => line.as_slice() == want,
-        Err(_) => false,
+    match (answer, wanted) {
+        (Ok(line), Ok(wanted)) => same_bytes(&(sender, rest), line.as_slice(), wanted),
+        (answer, wanted) => same(&(sender, rest), &answer.err(), &wanted.err()),
     }
-}
-
-/// Whether a rest is refused, since it has a line end.
-pub(crate) fn is_refused(alloc: Global, rest: &[u8]) -> bool {
-    matches!(build_from(alloc, b"a", rest), Err(TextFault::LineEndInRest))
 }
 
 #[test]
-fn built_from_lines(rt: HostRuntime) {
-    const ROWS: &[(&[u8], &[u8], &[u8])] = &[
-        (
-            b"",
-            b"Thu Jan  1 00:00:00 1970",
-            b"From MAILER-DAEMON Thu Jan  1 00:00:00 1970",
-        ),
-        (b"a b", b"", b"From a-b"),
-        (b"a\tb\nc", b"  d", b"From a-b-c   d"),
-        (b"a", b"  ", b"From a   "),
-        (b"a", b"b", b"From a b"),
-    ];
-    for &(sender, rest, want) in ROWS {
-        assert!(rt; builds(rt.alloc(), false, sender, rest, want), "{want:?}");
+fn built_from_lines(rt: HostRuntime) -> Result<(), Fail> {
+    for &row in BUILT {
+        build(rt.alloc(), row, false)?;
     }
-    assert!(rt; is_refused(rt.alloc(), b"x\ny"));
+    Ok(())
 }
 
 // Which bytes are a From_ line, and which lines are quoted in a body; the sender and the rest of a From_ line.
 #[test]
-fn taken_from_lines(rt: HostRuntime) {
+fn taken_from_lines(rt: HostRuntime) -> Result<(), Fail> {
     const LINES: &[(&[u8], bool, bool)] = &[
         (b"From a", true, true),
         (b"From ", true, true),
@@ -64,15 +70,13 @@ fn taken_from_lines(rt: HostRuntime) {
         (b"From  x", b"", b"x"),
     ];
     for &(line, is_one, is_quoted) in LINES {
-        assert!(rt;
-            is_from_line(line) == is_one && is_quotable(line) == is_quoted,
-            "{line:?}"
-        );
+        let got = (is_from_line(line), is_quotable(line));
+        same(&Shown(line), &got, &(is_one, is_quoted))?;
     }
     for &(line, sender, rest) in PARTS {
-        assert!(rt;
-            is_from_line(line) && sender_of(line) == sender && rest_of(line) == rest,
-            "{line:?}"
-        );
+        assert!(rt; is_from_line(line), "{:?} is no From_ line", Shown(line));
+        let got = (Shown(sender_of(line)), Shown(rest_of(line)));
+        same(&Shown(line), &got, &(Shown(sender), Shown(rest)))?;
     }
+    Ok(())
 }

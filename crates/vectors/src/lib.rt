@@ -1,7 +1,13 @@
-//! The worked rows on the calls of the libraries but the commands', as tests: texts that are split, written, listed and
-//! rewritten, From_ lines, flags, names and plans; runs over the folder in memory, quiet, broken off at each call,
-//! with a mail reader at work, and at random; runs over a system in memory; what a power cut leaves, also of the commands
-//! over a machine in memory; and each call again after an allocation that was refused.
+//! The tests of the libraries: what no clause of a contract says, on values that come from outside.
+//!
+//! A clause says what a call answers, whatever it is given. These tests say that the definitions behind the clauses mean what
+//! the formats mean, that calls end with Ok, and what the texts of faults are. Their values are worked by hand from the rules,
+//! or are another program's: `sha256sum`'s for digests.
+//!
+//! `texts` has the worked texts: each with its messages, its regular spelling, its list and its files, which are split, spelled,
+//! listed, rewritten and delivered. `sources` and `writers` have what is read and written through, with their faults. `rows` has
+//! how a row is compared: one that fails says its name, what was got and what was wanted. Each other file has the rows of what it
+//! is named for. `refusals` makes each call again after an allocation that failed; `examples` has the libraries' examples.
 //!
 //! They have a crate of their own, since to build tests is to prove all of their crate once more. A table is a constant
 //! slice, which the prover takes in one step; an array in a body costs it a step for each cell.
@@ -45,9 +51,13 @@ mod refusals;
 #[cfg(test)]
 mod rewriting;
 #[cfg(test)]
+mod rows;
+#[cfg(test)]
 mod runs;
 #[cfg(test)]
 mod scripts;
+#[cfg(test)]
+mod sources;
 #[cfg(test)]
 mod spelling;
 #[cfg(test)]
@@ -55,8 +65,10 @@ mod splitting;
 #[cfg(test)]
 mod stops;
 #[cfg(test)]
-mod streams;
-#[cfg(test)]
 mod targets;
+#[cfg(test)]
+mod texts;
+#[cfg(test)]
+mod writers;
 #[cfg(test)]
 mod written;

@@ -1,29 +1,35 @@
 // The calls of the folder in memory, through the trait's bound and by hand.
-use crate::runs::{File, folder_of, holds};
+use crate::rows::same;
+use crate::runs::{folder_of, same_files};
+use crate::texts::File;
 use maildir_name::Place;
 use maildir_run::{Folder, FolderFault, MemFolder, Sub};
-use std::alloc::Global;
+use std::fmt::Debug;
+use std::test::Fail;
 
-/// Whether these are the names, in this order.
-pub(crate) fn are_named(names: &[String], want: &[&str]) -> bool {
-    for (name, want) in names.iter().zip(want) {
-        if name.as_str() != *want {
-            return false;
-        }
-    }
-    names.len() == want.len()
-}
-
-/// Whether a folder lists these names, in this order. As all calls here, it may be made again where an allocation was refused.
-pub(crate) fn lists<F: Folder>(folder: &mut F, again: bool, sub: Sub, want: &[&str]) -> bool {
+/// A folder lists these names, in this order. As all calls here, it may be made again where an allocation was refused.
+pub(crate) fn lists<N: Debug, F: Folder>(
+    row: &N,
+    folder: &mut F,
+    again: bool,
+    sub: Sub,
+    wanted: &[&str],
+) -> Result<(), Fail> {
     let answer = match folder.list(sub) {
         Err(FolderFault::OutOfMemory) if again => folder.list(sub),
         answer => answer,
     };
     match answer {
-        Ok(names) => are_named(&names, want),
-        Err(_) => false,
+        Ok(names) => same_names(row, &names, wanted),
+        Err(fault) => same(row, &Some(fault), &None),
     }
+}
+
+fn same_names<N: Debug>(row: &N, got: &[String], wanted: &[&str]) -> Result<(), Fail> {
+    for (name, wanted) in got.iter().zip(wanted) {
+        same(row, &name.as_str(), wanted)?;
+    }
+    same(&(row, "names"), &got.len(), &wanted.len())
 }
 
 fn write<F: Folder>(
@@ -58,53 +64,54 @@ fn remove<F: Folder>(folder: &mut F, again: bool, name: &str) -> Result<(), Fold
     }
 }
 
-/// Whether the calls of a folder that is empty answer as they are to: a file comes, is listed and goes to `cur`.
-pub(crate) fn answers<F: Folder>(folder: &mut F, again: bool) -> bool {
-    place(folder, again, "u", Place::New, "u") == Err(FolderFault::Absent)
-        && remove(folder, again, "u") == Ok(())
-        && write(folder, again, "u", b"ab") == Ok(())
-        && lists(folder, again, Sub::Tmp, &["u"])
-        && place(folder, again, "u", Place::Cur, "u:2,") == Ok(())
+/// The calls of a folder that is empty answer as they are to: a file comes, is listed and goes to `cur`.
+pub(crate) fn answers<F: Folder>(folder: &mut F, again: bool) -> Result<(), Fail> {
+    let nothing = place(folder, again, "u", Place::New, "u");
+    same(
+        &"place, with nothing there",
+        &nothing,
+        &Err(FolderFault::Absent),
+    )?;
+    same(&"remove", &remove(folder, again, "u"), &Ok(()))?;
+    same(&"write", &write(folder, again, "u", b"ab"), &Ok(()))?;
+    lists(&"list", folder, again, Sub::Tmp, &["u"])?;
+    let placed = place(folder, again, "u", Place::Cur, "u:2,");
+    same(&"place", &placed, &Ok(()))
 }
 
 #[test]
-fn folder_calls(rt: HostRuntime) {
+fn folder_calls(rt: HostRuntime) -> Result<(), Fail> {
     let mut folder = MemFolder::new(rt.alloc());
-    assert!(rt;
-        answers(&mut folder, false)
-            && holds(&folder, &[(Sub::Cur, "u:2,", "ab")])
-            && folder.calls() == 5
-    );
+    answers(&mut folder, false)?;
+    same_files(&"at the end", &folder, &[(Sub::Cur, "u:2,", b"ab")])?;
+    same(&"calls", &folder.calls(), &5)
 }
 
-// Whether a folder with these files, put in this order, has these instead, and lists them so.
-fn sorts(alloc: Global, files: &[File<'_>], sorted: &[File<'_>], names: &[&str]) -> bool {
-    match folder_of(alloc, files) {
-        Ok(mut folder) => {
-            lists(&mut folder, false, Sub::New, names)
-                && holds(&folder, sorted)
-                && folder.bytes_of(Sub::Cur, "a").is_none()
-                && folder.calls() == 1
-        }
-        Err(_) => false,
-    }
-}
-
+// Files that are put in this order, the second `a` in place of the first, are these in the order of their names.
 #[test]
-fn files_by_name(rt: HostRuntime) {
+fn files_by_name(rt: HostRuntime) -> Result<(), Fail> {
     const FILES: &[File<'_>] = &[
-        (Sub::New, "b:2,S", "1"),
-        (Sub::New, "a", "2"),
-        (Sub::New, "b", "3"),
-        (Sub::New, "B", "4"),
-        (Sub::New, "a", "5"),
+        (Sub::New, "b:2,S", b"1"),
+        (Sub::New, "a", b"2"),
+        (Sub::New, "b", b"3"),
+        (Sub::New, "B", b"4"),
+        (Sub::New, "a", b"5"),
     ];
     const SORTED: &[File<'_>] = &[
-        (Sub::New, "B", "4"),
-        (Sub::New, "a", "5"),
-        (Sub::New, "b", "3"),
-        (Sub::New, "b:2,S", "1"),
+        (Sub::New, "B", b"4"),
+        (Sub::New, "a", b"5"),
+        (Sub::New, "b", b"3"),
+        (Sub::New, "b:2,S", b"1"),
     ];
-    const NAMES: &[&str] = &["B", "a", "b", "b:2,S"];
-    assert!(rt; sorts(rt.alloc(), FILES, SORTED, NAMES));
+    let mut folder = folder_of(rt.alloc(), FILES)?;
+    lists(
+        &"names",
+        &mut folder,
+        false,
+        Sub::New,
+        &["B", "a", "b", "b:2,S"],
+    )?;
+    same_files(&"files", &folder, SORTED)?;
+    same(&"calls", &folder.calls(), &1)?;
+    Ok(())
 }

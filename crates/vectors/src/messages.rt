@@ -1,32 +1,45 @@
-// What the rows on texts share: messages as they are wanted, and a splitter that is fed and ended.
+// Messages as a row wants them, and a splitter that is fed and ended.
 ghost use Rattle.std.specs.Prelude.{◌<◌};
 
+use crate::rows::{same, same_bytes};
+use crate::texts::Message;
 use mbox_text::{Entry, Splitter, TextFault};
+use std::fmt::Debug;
+use std::test::Fail;
 
-/// A From_ line and a body.
-pub(crate) type Message<'a> = (&'a [u8], &'a [u8]);
-
-/// Whether these are the messages.
-pub(crate) fn are(entries: &[Entry], want: &[Message<'_>]) -> bool {
-    entries.len() == want.len() && are_first(entries, want)
+/// Compares messages with those of a row.
+pub(crate) fn same_messages<N: Debug>(
+    row: &N,
+    got: &[Entry],
+    wanted: &[Message<'_>],
+) -> Result<(), Fail> {
+    for (entry, (from_line, body)) in got.iter().zip(wanted) {
+        same_bytes(row, entry.from_line.as_slice(), from_line)?;
+        same_bytes(row, entry.body.as_slice(), body)?;
+    }
+    same(&(row, "messages"), &got.len(), &wanted.len())
 }
 
-/// Whether these are the first of the messages.
-pub(crate) fn are_first(entries: &[Entry], want: &[Message<'_>]) -> bool {
-    for (entry, (from_line, body)) in entries.iter().zip(want) {
+/// Compares messages that are answered with those of a row.
+pub(crate) fn same_answer<N: Debug>(
+    row: &N,
+    answer: Result<Vec<Entry>, TextFault>,
+    wanted: &[Message<'_>],
+) -> Result<(), Fail> {
+    match answer {
+        Ok(got) => same_messages(row, &got, wanted),
+        Err(fault) => same(row, &Some(fault), &None),
+    }
+}
+
+/// Whether these are the first of the messages of a row.
+pub(crate) fn are_first(got: &[Entry], wanted: &[Message<'_>]) -> bool {
+    for (entry, (from_line, body)) in got.iter().zip(wanted) {
         if entry.from_line.as_slice() != *from_line || entry.body.as_slice() != *body {
             return false;
         }
     }
-    entries.len() <= want.len()
-}
-
-/// Whether these messages were answered.
-pub(crate) fn gives(answer: Result<Vec<Entry>, TextFault>, want: &[Message<'_>]) -> bool {
-    match answer {
-        Ok(entries) => are(&entries, want),
-        Err(_) => false,
-    }
+    got.len() <= wanted.len()
 }
 
 /// Feeds a text in pieces of this size.

@@ -1,33 +1,25 @@
 // The plan of three lists. The digests are FIPS 180-4's examples.
-use crate::runs::{ABC, ONE_SEEN};
+use crate::rows::same;
+use crate::texts::{ABC, ONE_SEEN};
 use maildir_name::{Namer, Target};
 use maildir_run::{RunFault, Step, plan};
 use std::alloc::{AllocError, Global};
+use std::test::Fail;
 
 /// A step as it is wanted.
-#[derive(Clone, Copy)]
-pub(crate) enum Want<'a> {
+#[derive(Clone, Copy, Debug, PartialEq)]
+enum Want<'a> {
     Remove(&'a str),
     Write(usize),
     Place(usize),
 }
 
-fn is_wanted(step: &Step, want: Want<'_>) -> bool {
-    match (step, want) {
-        (Step::Remove(name), Want::Remove(other)) => name.as_str() == other,
-        (Step::Write(i), Want::Write(j)) | (Step::Place(i), Want::Place(j)) => *i == j,
-        _ => false,
+fn want_of(step: &Step) -> Want<'_> {
+    match step {
+        Step::Remove(name) => Want::Remove(name.as_str()),
+        Step::Write(index) => Want::Write(*index),
+        Step::Place(index) => Want::Place(*index),
     }
-}
-
-// Whether these are the steps, in this order.
-fn are_wanted(steps: &[Step], wants: &[Want<'_>]) -> bool {
-    for (step, want) in steps.iter().zip(wants) {
-        if !is_wanted(step, *want) {
-            return false;
-        }
-    }
-    steps.len() == wants.len()
 }
 
 /// The texts of a list.
@@ -49,61 +41,71 @@ fn two_targets(alloc: Global) -> Result<Vec<Target>, RunFault> {
     Ok(targets)
 }
 
-/// Whether three lists lead to these steps. With `again` the plan is made once more where an allocation was refused.
-pub(crate) fn plans(
-    alloc: Global,
-    again: bool,
-    tmp: &[&str],
-    new: &[&str],
-    cur: &[&str],
-    wants: &[Want<'_>],
-) -> Result<bool, RunFault> {
+/// Three lists, and the steps that they lead to.
+struct Row<'a> {
+    name: &'a str,
+    tmp: &'a [&'a str],
+    new: &'a [&'a str],
+    cur: &'a [&'a str],
+    steps: &'a [Want<'a>],
+}
+
+const NAMES: &[&str] = &[ABC, "1700000000.M1.host"];
+
+const ROWS: &[Row<'_>] = &[
+    Row {
+        name: "a leftover",
+        tmp: NAMES,
+        new: &[],
+        cur: &[ONE_SEEN],
+        steps: &[Want::Remove(ABC), Want::Write(1), Want::Place(1)],
+    },
+    Row {
+        name: "delivered",
+        tmp: &[],
+        new: NAMES,
+        cur: &[],
+        steps: &[Want::Write(0), Want::Place(0)],
+    },
+    Row {
+        name: "nothing",
+        tmp: &[],
+        new: &[],
+        cur: &[],
+        steps: &[
+            Want::Write(0),
+            Want::Place(0),
+            Want::Write(1),
+            Want::Place(1),
+        ],
+    },
+];
+
+// The plan of a row, made once more where an allocation was refused and it may be made again.
+fn steps_of(alloc: Global, row: &Row<'_>, again: bool) -> Result<Vec<Step>, RunFault> {
     let targets = two_targets(alloc)?;
-    let tmp = names(alloc, tmp)?;
-    let new = names(alloc, new)?;
-    let cur = names(alloc, cur)?;
-    let steps = match plan(alloc, &tmp, &new, &cur, &targets) {
+    let tmp = names(alloc, row.tmp)?;
+    let new = names(alloc, row.new)?;
+    let cur = names(alloc, row.cur)?;
+    match plan(alloc, &tmp, &new, &cur, &targets) {
         Err(RunFault::OutOfMemory) if again => plan(alloc, &tmp, &new, &cur, &targets),
         answer => answer,
-    }?;
-    Ok(are_wanted(&steps, wants))
+    }
+}
+
+/// Makes the plan of each row.
+pub(crate) fn plans(alloc: Global, again: bool) -> Result<(), Fail> {
+    for row in ROWS {
+        let steps = steps_of(alloc, row, again)?;
+        for (step, wanted) in steps.iter().zip(row.steps) {
+            same(&row.name, &want_of(step), wanted)?;
+        }
+        same(&(row.name, "steps"), &steps.len(), &row.steps.len())?;
+    }
+    Ok(())
 }
 
 #[test]
-fn plan_of_three_lists(rt: HostRuntime) {
-    const NAMES: &[&str] = &[ABC, "1700000000.M1.host"];
-    const ROWS: &[(&str, &[&str], &[&str], &[&str], &[Want<'_>])] = &[
-        (
-            "a leftover",
-            NAMES,
-            &[],
-            &[ONE_SEEN],
-            &[Want::Remove(ABC), Want::Write(1), Want::Place(1)],
-        ),
-        (
-            "delivered",
-            &[],
-            NAMES,
-            &[],
-            &[Want::Write(0), Want::Place(0)],
-        ),
-        (
-            "nothing",
-            &[],
-            &[],
-            &[],
-            &[
-                Want::Write(0),
-                Want::Place(0),
-                Want::Write(1),
-                Want::Place(1),
-            ],
-        ),
-    ];
-    for &(name, tmp, new, cur, wants) in ROWS {
-        assert!(rt;
-            plans(rt.alloc(), false, tmp, new, cur, wants) == Ok(true),
-            "{name}"
-        );
-    }
+fn plan_of_three_lists(rt: HostRuntime) -> Result<(), Fail> {
+    plans(rt.alloc(), false)
 }

@@ -6,10 +6,12 @@ ghost use Rattle.mbox_text.specs.Mbox.{Mbox};
 ghost use Rattle.mbox_text.specs.Spelling.{spelling};
 ghost use Rattle.mbox_text.specs.Writing.{AppendsPrefix};
 
-use crate::runs::LIMIT;
-use crate::streams::Cut;
+use crate::rows::{Shown, same};
+use crate::sources::{Cut, LIMIT};
+use crate::texts::TWO_LINES;
 use maildir_run::{RunFault, rewrite};
 use std::alloc::Global;
+use std::test::Fail;
 
 // Writes a text whose source breaks off after so many bytes. It is possible for what was read, with what is lost of it,
 // so what is written is a prefix of what belongs to all of it.
@@ -27,20 +29,17 @@ fn rewrite_broken(
     rewrite(alloc, &mut source, out, LIMIT)
 }
 
-// Whether so much is written where the source breaks off.
-fn breaks_off(alloc: Global, text: &[u8], bytes: usize, piece: usize, written: &[u8]) -> bool {
-    let mut out = Vec::new(alloc);
-    rewrite_broken(alloc, text, bytes, piece, &mut out) == Err(RunFault::ReadFault)
-        && out.as_slice() == written
-}
-
 #[test]
-fn source_fails(rt: HostRuntime) {
-    const TEXT: &[u8] = b"From x\nabc\n\nFrom y\nhello\n";
+fn source_fails(rt: HostRuntime) -> Result<(), Fail> {
     for piece in [1, 65_536] {
-        assert!(rt;
-            breaks_off(rt.alloc(), TEXT, 22, piece, b"From x\nabc\n\n"),
-            "in pieces of {piece}"
-        );
+        let mut out = Vec::new(rt.alloc());
+        let answer = rewrite_broken(rt.alloc(), TWO_LINES, 22, piece, &mut out);
+        let wanted: &[u8] = b"From x\nabc\n\n";
+        same(
+            &piece,
+            &(answer, Shown(&out)),
+            &(Err(RunFault::ReadFault), Shown(wanted)),
+        )?;
     }
+    Ok(())
 }

@@ -1,29 +1,11 @@
-// What the rows on runs share. The digests are those of other programs.
-use crate::streams::{Cut, Then};
+// Runs over a folder, and the files that it has.
+use crate::rows::{Shown, same, shown_if_any};
+use crate::sources::{Cut, LIMIT};
+use crate::texts::File;
 use maildir_run::{Folder, FolderFault, MemFolder, Report, RunFault, Sub, convert};
 use std::alloc::{AllocError, Global};
-
-pub(crate) const LIMIT: u64 = 1_099_511_627_776;
-
-pub(crate) const EMPTY_ONE: &str =
-    "e3b0c44298fc1c149afbf4c8996fb92427ae41e4649b934ca495991b7852b855.1";
-
-pub(crate) const EMPTY_TWO: &str =
-    "e3b0c44298fc1c149afbf4c8996fb92427ae41e4649b934ca495991b7852b855.2";
-
-pub(crate) const ONE_SEEN: &str =
-    "e3b0c44298fc1c149afbf4c8996fb92427ae41e4649b934ca495991b7852b855.1:2,S";
-
-pub(crate) const ABC: &str = "ba7816bf8f01cfea414140de5dae2223b00361a396177a9cb410ff61f20015ad.1";
-
-pub(crate) const UNENDED: &[u8] = b"From x\nabc";
-
-pub(crate) const TWO_EMPTY: &[u8] = b"From a\n\nFrom b\n\n";
-
-pub(crate) const THREE: &[u8] = b"From a\n\nFrom b\n\nFrom c\nabc";
-
-/// A file: its folder, its name and its text.
-pub(crate) type File<'a> = (Sub, &'a str, &'a str);
+use std::fmt::Debug;
+use std::test::Fail;
 
 /// What a run answers: a report, as how many messages there are, were there, were placed and were swept, or its fault.
 pub(crate) type Answer = Result<(u64, u64, u64, u64), RunFault>;
@@ -46,8 +28,7 @@ pub(crate) fn run_from<F: Folder>(
 
 /// A run over a text that comes whole.
 pub(crate) fn run_over<F: Folder>(alloc: Global, folder: &mut F, text: &[u8]) -> Answer {
-    let mut source = Cut::new(text, 65_536, Then::Ends);
-    run_from(alloc, folder, &mut source, LIMIT)
+    run_from(alloc, folder, &mut Cut::pieces(text, 65_536), LIMIT)
 }
 
 /// What a folder answers where this file is put.
@@ -64,29 +45,32 @@ pub(crate) fn put(
 }
 
 fn put_all(alloc: Global, folder: &mut MemFolder, files: &[File<'_>]) -> Result<(), FolderFault> {
-    for &(sub, name, text) in files {
-        put(alloc, folder, sub, name, text.as_bytes())??;
+    for &(sub, name, bytes) in files {
+        put(alloc, folder, sub, name, bytes)??;
     }
     Ok(())
 }
 
-/// A folder with these files, each with this text, put in this order.
+/// A folder with these files, put in this order.
 pub(crate) fn folder_of(alloc: Global, files: &[File<'_>]) -> Result<MemFolder, FolderFault> {
     let mut folder = MemFolder::new(alloc);
     put_all(alloc, &mut folder, files)?;
     Ok(folder)
 }
 
-/// Whether the folder has these files, each with this text, and no others.
-pub(crate) fn holds(folder: &MemFolder, files: &[File<'_>]) -> bool {
-    for &(sub, name, text) in files {
-        if folder.bytes_of(sub, name) != Some(text.as_bytes()) {
-            return false;
-        }
+/// Compares the files of a folder with those of a row.
+pub(crate) fn same_files<N: Debug>(
+    row: &N,
+    folder: &MemFolder,
+    files: &[File<'_>],
+) -> Result<(), Fail> {
+    for &(sub, name, bytes) in files {
+        let got = shown_if_any(folder.bytes_of(sub, name));
+        same(&(row, name), &got, &Some(Shown(bytes)))?;
     }
     let in_all = folder
         .count(Sub::Tmp)
         .saturating_add(folder.count(Sub::New))
         .saturating_add(folder.count(Sub::Cur));
-    in_all == files.len()
+    same(&(row, "files"), &in_all, &files.len())
 }

@@ -1,48 +1,47 @@
 // Scripts by rows: what other programs do before a call, and how the call goes.
-use crate::runs::{Answer, File, folder_of, holds, run_over};
-use maildir_run::{Act, MemFolder, Mode, ScriptLine, Sub};
+use crate::rows::same;
+use crate::runs::{Answer, folder_of, run_over, same_files};
+use crate::texts::File;
+use maildir_run::{Act, MemFolder, Mode, RunFault, ScriptLine, Sub};
 use std::alloc::{AllocError, Global};
+use std::fmt::Debug;
+use std::test::Fail;
 
-/// What another program does. A message is named by its base and an info, where it goes in `ToCurAs` by a whole name, and
-/// any other file by its name; what is put holds `z`.
+/// What another program does, by the names of the files; what is put holds `z`.
 #[derive(Clone, Copy)]
 pub(crate) enum Deed<'a> {
     ToCur(&'a str, &'a str),
-    ToCurAs(&'a str, &'a str),
-    Reflag(&'a str, &'a str, &'a str),
+    Reflag(&'a str, &'a str),
     DropTmp(&'a str),
     PutOther(Sub, &'a str),
     DropOther(Sub, &'a str),
 }
 
-fn named(alloc: Global, base: &str, info: &str) -> Result<String, AllocError> {
-    format!(in alloc; "{base}{info}")
-}
-
-fn to_cur(alloc: Global, name: &str, base: &str, info: &str) -> Result<Act, AllocError> {
-    let name = named(alloc, name, "")?;
-    Ok(Act::ToCur(name, named(alloc, base, info)?))
-}
-
-fn reflag(alloc: Global, base: &str, info: &str, other: &str) -> Result<Act, AllocError> {
-    let name = named(alloc, base, info)?;
-    Ok(Act::Reflag(name, named(alloc, base, other)?))
+// A name, and the one that comes in its place.
+fn pair(alloc: Global, name: &str, other: &str) -> Result<(String, String), AllocError> {
+    let name = String::from_str(alloc, name)?;
+    Ok((name, String::from_str(alloc, other)?))
 }
 
 fn put_other(alloc: Global, sub: Sub, name: &str) -> Result<Act, AllocError> {
-    let name = named(alloc, name, "")?;
+    let name = String::from_str(alloc, name)?;
     Ok(Act::PutOther(sub, name, Vec::from_slice(alloc, b"z")?))
 }
 
 impl Deed<'_> {
     pub(crate) fn act(self, alloc: Global) -> Result<Act, AllocError> {
         match self {
-            Deed::ToCur(base, info) => to_cur(alloc, base, base, info),
-            Deed::ToCurAs(base, name) => to_cur(alloc, base, name, ""),
-            Deed::Reflag(base, info, other) => reflag(alloc, base, info, other),
-            Deed::DropTmp(name) => Ok(Act::DropTmp(named(alloc, name, "")?)),
+            Deed::ToCur(name, other) => {
+                let (name, other) = pair(alloc, name, other)?;
+                Ok(Act::ToCur(name, other))
+            }
+            Deed::Reflag(name, other) => {
+                let (name, other) = pair(alloc, name, other)?;
+                Ok(Act::Reflag(name, other))
+            }
+            Deed::DropTmp(name) => Ok(Act::DropTmp(String::from_str(alloc, name)?)),
             Deed::PutOther(sub, name) => put_other(alloc, sub, name),
-            Deed::DropOther(sub, name) => Ok(Act::DropOther(sub, named(alloc, name, "")?)),
+            Deed::DropOther(sub, name) => Ok(Act::DropOther(sub, String::from_str(alloc, name)?)),
         }
     }
 }
@@ -70,64 +69,63 @@ pub(crate) fn turns_of(
     Ok(turns)
 }
 
-/// A script by rows: before this call other programs do this, and the call goes so.
-pub(crate) type Row<'a> = (u64, &'a [Deed<'a>], Mode);
+/// A line of a script: before this call other programs do this, and the call goes so.
+pub(crate) type Line<'a> = (u64, &'a [Deed<'a>], Mode);
 
-pub(crate) fn script_of(alloc: Global, rows: &[Row<'_>]) -> Result<Vec<ScriptLine>, AllocError> {
-    let mut lines = Vec::new(alloc);
-    for &(call, deeds, mode) in rows {
+pub(crate) fn script_of(alloc: Global, lines: &[Line<'_>]) -> Result<Vec<ScriptLine>, AllocError> {
+    let mut script = Vec::new(alloc);
+    for &(call, deeds, mode) in lines {
         let acts = acts_of(alloc, deeds)?;
-        lines.push(ScriptLine { call, acts, mode })?;
+        script.push(ScriptLine { call, acts, mode })?;
     }
-    Ok(lines)
+    Ok(script)
 }
 
-/// A run under a script: the rows of the script, the text, what the run answers, how many calls it makes, and the files
-/// that it leaves.
-pub(crate) type Run<'a> = (&'a [Row<'a>], &'a [u8], Answer, u64, &'a [File<'a>]);
+/// A run: its script, the text, what it answers, and the files that it leaves.
+pub(crate) type Run<'a> = (&'a [Line<'a>], &'a [u8], Answer, &'a [File<'a>]);
 
-/// Whether a run over a folder goes so, where all calls fail from one on if it is named, and leaves no other file.
-pub(crate) fn goes_under(
+// How many calls a run makes: it lists three folders, removes what is left over, and writes and places each message that
+// is missing. One that stops does so at the last call that its script names.
+fn calls_of(lines: &[Line<'_>], answer: Answer) -> u64 {
+    match answer {
+        Ok((_, _, placed, swept)) => placed
+            .saturating_mul(2)
+            .saturating_add(swept)
+            .saturating_add(3),
+        Err(RunFault::NoFromLine) => 0,
+        Err(RunFault::FolderFailed(call)) => call,
+        Err(_) => match lines.last() {
+            Some(&(call, _, _)) => call,
+            None => 0,
+        },
+    }
+}
+
+/// Goes through a run over a folder, where all calls fail from one on if it is named, and compares.
+pub(crate) fn go<N: Debug>(
     alloc: Global,
+    row: &N,
     folder: &mut MemFolder,
     run: Run<'_>,
     fail_from: Option<u64>,
-) -> bool {
-    let (rows, text, want, calls, files) = run;
-    let Ok(lines) = script_of(alloc, rows) else {
-        return false;
-    };
-    folder.script(lines, fail_from);
-    run_over(alloc, folder, text) == want && folder.calls() == calls && holds(folder, files)
-}
-
-/// Whether a run over a folder goes so, and leaves no other file.
-pub(crate) fn goes(alloc: Global, folder: &mut MemFolder, run: Run<'_>) -> bool {
-    goes_under(alloc, folder, run, None)
-}
-
-// Whether runs go so one after the other, the first of them over a folder with these files.
-fn go(alloc: Global, files: &[File<'_>], runs: &[Run<'_>]) -> bool {
-    let Ok(mut folder) = folder_of(alloc, files) else {
-        return false;
-    };
-    for run in runs {
-        if !goes(alloc, &mut folder, *run) {
-            return false;
-        }
-    }
-    true
+) -> Result<(), Fail> {
+    let (lines, text, answer, files) = run;
+    folder.script(script_of(alloc, lines)?, fail_from);
+    let got = run_over(alloc, folder, text);
+    let wanted = (answer, calls_of(lines, answer));
+    same(row, &(got, folder.calls()), &wanted)?;
+    same_files(row, folder, files)
 }
 
 /// A scene: its name, the files that are there at first, and the runs that follow one another.
 pub(crate) type Scene<'a> = (&'a str, &'a [File<'a>], &'a [Run<'a>]);
 
-/// The name of the first scene that does not go so.
-pub(crate) fn wrong_scene<'a>(alloc: Global, scenes: &[Scene<'a>]) -> Option<&'a str> {
-    for &(name, files, runs) in scenes {
-        if !go(alloc, files, runs) {
-            return Some(name);
-        }
+/// Goes through the runs of a scene.
+pub(crate) fn go_scene(alloc: Global, scene: &Scene<'_>) -> Result<(), Fail> {
+    let (name, files, runs) = *scene;
+    let mut folder = folder_of(alloc, files)?;
+    for (number, run) in runs.iter().enumerate() {
+        go(alloc, &(name, number), &mut folder, *run, None)?;
     }
-    None
+    Ok(())
 }

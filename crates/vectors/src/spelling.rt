@@ -1,7 +1,11 @@
 // What is written of a message, and a writer that fails.
-use crate::streams::Narrow;
+use crate::rows::{Shown, same};
+use crate::texts::{Message, TEXTS};
+use crate::writers::{FULL, Narrow};
 use mbox_text::{Bytes, Entry, TextFault, write_entry};
 use std::alloc::{AllocError, Global};
+use std::fmt::Debug;
+use std::test::Fail;
 
 fn entry(alloc: Global, from_line: &[u8], body: &[u8]) -> Result<Entry, AllocError> {
     Ok(Entry {
@@ -10,117 +14,46 @@ fn entry(alloc: Global, from_line: &[u8], body: &[u8]) -> Result<Entry, AllocErr
     })
 }
 
-// Whether a writer that is handed a message answers so, and has taken so much.
-fn writes(
+fn write_all(
     alloc: Global,
-    from_line: &[u8],
-    body: &[u8],
+    messages: &[Message<'_>],
     narrow: &mut Narrow,
-    answer: Result<(), TextFault>,
-    taken: &[u8],
-) -> bool {
-    match entry(alloc, from_line, body) {
-        Ok(message) => write_entry(&message, narrow) == answer && narrow.taken.as_slice() == taken,
-        Err(_) => false,
+) -> Result<(), TextFault> {
+    for &(from_line, body) in messages {
+        write_entry(&entry(alloc, from_line, body)?, narrow)?;
     }
+    Ok(())
 }
 
-// A message, how much a writer takes in all and at a time, whether it fails then, the answer, and what it has taken.
-type Row<'a> = (
-    &'a str,
-    &'a [u8],
-    &'a [u8],
-    usize,
-    &'a [usize],
-    bool,
-    Result<(), TextFault>,
-    &'a [u8],
-);
-
-const FAULT: Result<(), TextFault> = Err(TextFault::WriteFault);
-
-const ROWS: &[Row<'_>] = &[
-    (
-        "quoting",
-        b"From x",
-        b"From a\n>From b\n> From c\n>From\n",
-        1000,
-        &[1, 1000],
-        true,
-        Ok(()),
-        b"From x\n>From a\n>>From b\n> From c\n>From\n\n",
-    ),
-    (
-        "unended_line",
-        b"From x",
-        b"abc",
-        1000,
-        &[1, 1000],
-        true,
-        Ok(()),
-        b"From x\nabc\n\n",
-    ),
-    (
-        "equal_empty_messages",
-        b"From a",
-        b"",
-        1000,
-        &[1, 1000],
-        true,
-        Ok(()),
-        b"From a\n\n",
-    ),
-    (
-        "body_of_one_line_end",
-        b"From a",
-        b"\n",
-        1000,
-        &[1, 1000],
-        true,
-        Ok(()),
-        b"From a\n\n\n",
-    ),
-    (
-        "last line quoted",
-        b"From a",
-        b"x\n>>From ",
-        1000,
-        &[1, 1000],
-        true,
-        Ok(()),
-        b"From a\nx\n>>>From \n\n",
-    ),
-    (
-        "a writer that fails",
-        b"From x",
-        b"abc",
-        4,
-        &[4],
-        true,
-        FAULT,
-        b"From",
-    ),
-    (
-        "a writer that takes no more",
-        b"From x",
-        b"abc",
-        4,
-        &[4],
-        false,
-        FAULT,
-        b"From",
-    ),
-];
+// Hands messages to a writer, and compares the answer and what it has taken.
+fn writes<N: Debug>(
+    alloc: Global,
+    row: &N,
+    messages: &[Message<'_>],
+    mut narrow: Narrow,
+    wanted: (Result<(), TextFault>, &[u8]),
+) -> Result<(), Fail> {
+    let answer = write_all(alloc, messages, &mut narrow);
+    let got = (answer, Shown(narrow.taken.as_slice()));
+    same(row, &got, &(wanted.0, Shown(wanted.1)))
+}
 
 #[test]
-fn spellings(rt: HostRuntime) {
-    for &(name, from_line, body, room, pieces, fails, answer, taken) in ROWS {
-        for piece in pieces {
-            let mut narrow = Narrow::new(rt.alloc(), room, *piece, fails);
-            assert!(rt;
-                writes(rt.alloc(), from_line, body, &mut narrow, answer, taken),
-                "{name}, {piece} at a time"
-            );
+fn spellings(rt: HostRuntime) -> Result<(), Fail> {
+    let alloc = rt.alloc();
+    for text in TEXTS {
+        for piece in [1, 1000] {
+            let row = (text.name, piece);
+            let narrow = Narrow::new(alloc, 1000, piece, true);
+            let wanted = (Ok(()), text.spelling);
+            writes(alloc, &row, text.messages, narrow, wanted)?;
         }
     }
+    for &(room, piece, fails, taken) in FULL {
+        let row = (room, piece, fails);
+        let narrow = Narrow::new(alloc, room, piece, fails);
+        let wanted = (Err(TextFault::WriteFault), taken);
+        writes(alloc, &row, &[(b"From x", b"abc")], narrow, wanted)?;
+    }
+    Ok(())
 }

@@ -1,92 +1,60 @@
 // Runs that are broken off at a call of the folder, and the run after them.
-use crate::runs::{ABC, Answer, EMPTY_ONE, EMPTY_TWO, File, THREE, TWO_EMPTY, UNENDED, run_over};
-use crate::scripts::{Deed, Row, Run, Scene, goes, script_of, wrong_scene};
+use crate::rows::same;
+use crate::runs::{Answer, run_over};
+use crate::scripts::{Deed, Run, Scene, go, go_scene, script_of};
+use crate::texts::{ABC, EMPTY_ONE, EMPTY_TWO, File, THREE, TWO_EMPTY, UNENDED};
 use maildir_run::{MemFolder, Mode, RunFault, Sub};
 use std::alloc::Global;
+use std::test::Fail;
 
-const FIRST_TWO: &[File<'_>] = &[(Sub::New, EMPTY_ONE, ""), (Sub::New, EMPTY_TWO, "")];
+const FIRST_TWO: &[File<'_>] = &[(Sub::New, EMPTY_ONE, b""), (Sub::New, EMPTY_TWO, b"")];
 
 const LAST_HALF_WRITTEN: &[File<'_>] = &[
-    (Sub::Tmp, ABC, "a"),
-    (Sub::New, EMPTY_ONE, ""),
-    (Sub::New, EMPTY_TWO, ""),
+    (Sub::Tmp, ABC, b"a"),
+    (Sub::New, EMPTY_ONE, b""),
+    (Sub::New, EMPTY_TWO, b""),
 ];
 
 const LAST_WRITTEN: &[File<'_>] = &[
-    (Sub::Tmp, ABC, "abc"),
-    (Sub::New, EMPTY_ONE, ""),
-    (Sub::New, EMPTY_TWO, ""),
+    (Sub::Tmp, ABC, b"abc"),
+    (Sub::New, EMPTY_ONE, b""),
+    (Sub::New, EMPTY_TWO, b""),
 ];
 
 const ALL_THREE: &[File<'_>] = &[
-    (Sub::New, EMPTY_ONE, ""),
-    (Sub::New, EMPTY_TWO, ""),
-    (Sub::New, ABC, "abc"),
+    (Sub::New, EMPTY_ONE, b""),
+    (Sub::New, EMPTY_TWO, b""),
+    (Sub::New, ABC, b"abc"),
 ];
 
 // A quiet run that finds and sweeps so many, and leaves the three messages and nothing else.
 fn repairs(there: u64, swept: u64) -> Run<'static> {
     let placed = 3u64.saturating_sub(there);
-    let calls = placed
-        .saturating_mul(2)
-        .saturating_add(swept)
-        .saturating_add(3);
-    (&[], THREE, Ok((3, there, placed, swept)), calls, ALL_THREE)
+    (&[], THREE, Ok((3, there, placed, swept)), ALL_THREE)
 }
 
-// Whether a run under a script stops at this call, and the next one finds and sweeps so many.
-fn stops_at(
+// A run stops at this call, since it goes so or, with no mode, since all calls from it on fail; the next run finds and sweeps
+// so many.
+fn stop(
     alloc: Global,
-    rows: &[Row<'_>],
-    fail_from: Option<u64>,
-    call: u64,
+    row: (&str, u64),
+    mode: Option<Mode>,
     found: (u64, u64),
-) -> bool {
-    let Ok(lines) = script_of(alloc, rows) else {
-        return false;
-    };
+) -> Result<(), Fail> {
+    let call = row.1;
     let mut folder = MemFolder::new(alloc);
-    folder.script(lines, fail_from);
-    run_over(alloc, &mut folder, THREE) == Err(RunFault::FolderFailed(call))
-        && folder.calls() == call
-        && goes(alloc, &mut folder, repairs(found.0, found.1))
-}
-
-// The same, where this call goes so.
-fn stops_by(alloc: Global, call: u64, mode: Mode, found: (u64, u64)) -> bool {
-    stops_at(alloc, &[(call, &[], mode)], None, call, found)
-}
-
-// The same, where all calls fail from this one on.
-fn stops_from(alloc: Global, call: u64, found: (u64, u64)) -> bool {
-    stops_at(alloc, &[], Some(call), call, found)
-}
-
-// How this call stops otherwise than with what the next run finds there and sweeps, by the mode.
-fn wrong_stop(
-    alloc: Global,
-    call: u64,
-    before: (u64, u64),
-    after: (u64, u64),
-    half: (u64, u64),
-) -> Option<&'static str> {
-    if !stops_by(alloc, call, Mode::FailBefore, before) {
-        return Some("FailBefore");
+    match mode {
+        Some(mode) => folder.script(script_of(alloc, &[(call, &[], mode)])?, None),
+        None => folder.script(Vec::new(alloc), Some(call)),
     }
-    if !stops_by(alloc, call, Mode::FailAfter, after) {
-        return Some("FailAfter");
-    }
-    if !stops_by(alloc, call, Mode::Half, half) {
-        return Some("Half");
-    }
-    if !stops_from(alloc, call, before) {
-        return Some("each call from it on");
-    }
-    None
+    let answer = run_over(alloc, &mut folder, THREE);
+    let wanted = (Err(RunFault::FolderFailed(call)), call);
+    same(&row, &(answer, folder.calls()), &wanted)?;
+    go(alloc, &row, &mut folder, repairs(found.0, found.1), None)
 }
 
 #[test]
-fn a_stop_at_each_call(rt: HostRuntime) {
+fn a_stop_at_each_call(rt: HostRuntime) -> Result<(), Fail> {
     // the call, and for each mode what the next run finds there and sweeps
     const ROWS: &[(u64, (u64, u64), (u64, u64), (u64, u64))] = &[
         (1, (0, 0), (0, 0), (0, 0)),
@@ -100,43 +68,56 @@ fn a_stop_at_each_call(rt: HostRuntime) {
         (9, (2, 1), (3, 0), (2, 1)),
     ];
     for &(call, before, after, half) in ROWS {
-        let wrong = wrong_stop(rt.alloc(), call, before, after, half);
-        assert!(rt; wrong.is_none(), "{} at {call}", wrong.unwrap_or(""));
+        let stops = [
+            ("FailBefore", Some(Mode::FailBefore), before),
+            ("FailAfter", Some(Mode::FailAfter), after),
+            ("Half", Some(Mode::Half), half),
+            ("each call from it on", None, before),
+        ];
+        for (name, mode, found) in stops {
+            stop(rt.alloc(), (name, call), mode, found)?;
+        }
     }
+    Ok(())
 }
 
-// Whether a run goes on as ever where this call comes twice, and the next one finds all.
-fn comes_twice(alloc: Global, call: u64) -> bool {
+// A run goes on as ever where this call comes twice, and the next one finds all.
+fn come_twice(alloc: Global, call: u64) -> Result<(), Fail> {
     let mut folder = MemFolder::new(alloc);
     let twice = [(call, [].as_slice(), Mode::Twice)];
-    goes(
-        alloc,
-        &mut folder,
-        (&twice, THREE, Ok((3, 0, 3, 0)), 9, ALL_THREE),
-    ) && goes(alloc, &mut folder, repairs(3, 0))
+    let run = (twice.as_slice(), THREE, Ok((3, 0, 3, 0)), ALL_THREE);
+    go(alloc, &call, &mut folder, run, None)?;
+    go(alloc, &(call, "again"), &mut folder, repairs(3, 0), None)
 }
 
 #[test]
-fn a_call_comes_twice(rt: HostRuntime) {
+fn a_call_comes_twice(rt: HostRuntime) -> Result<(), Fail> {
     for call in 1..10u64 {
-        assert!(rt; comes_twice(rt.alloc(), call), "{call}");
+        come_twice(rt.alloc(), call)?;
     }
+    Ok(())
 }
 
 // The runs that place the last message after a stop: it is missing, or left over in `tmp`.
-const LAST_IS_MISSING: Run<'_> = (&[], THREE, Ok((3, 2, 1, 0)), 5, ALL_THREE);
+const LAST_IS_MISSING: Run<'_> = (&[], THREE, Ok((3, 2, 1, 0)), ALL_THREE);
 
-const LAST_IS_LEFT_OVER: Run<'_> = (&[], THREE, Ok((3, 2, 1, 1)), 6, ALL_THREE);
+const LAST_IS_LEFT_OVER: Run<'_> = (&[], THREE, Ok((3, 2, 1, 1)), ALL_THREE);
 
 const DROPS: &[Deed<'_>] = &[Deed::DropTmp(ABC)];
 
 const DROPS_LEFTOVER: &[Deed<'_>] = &[Deed::DropTmp(EMPTY_TWO)];
 
-const LEFTOVER: &[File<'_>] = &[(Sub::Tmp, EMPTY_TWO, "half")];
+const LEFTOVER: &[File<'_>] = &[(Sub::Tmp, EMPTY_TWO, b"half")];
 
-const FIRST_ONE: &[File<'_>] = &[(Sub::New, EMPTY_ONE, "")];
+const FIRST_ONE: &[File<'_>] = &[(Sub::New, EMPTY_ONE, b"")];
 
-const ABC_ALONE: &[File<'_>] = &[(Sub::New, ABC, "abc")];
+const ABC_ALONE: &[File<'_>] = &[(Sub::New, ABC, b"abc")];
+
+const FAULT_4: Answer = Err(RunFault::FolderFailed(4));
+
+const FAULT_7: Answer = Err(RunFault::FolderFailed(7));
+
+const FAULT_8: Answer = Err(RunFault::FolderFailed(8));
 
 const FAULT_5: Answer = Err(RunFault::FolderFailed(5));
 
@@ -145,13 +126,7 @@ const STOPPED: &[Scene<'_>] = &[
         "fails_after_the_effect",
         &[],
         &[
-            (
-                &[(7, &[], Mode::FailAfter)],
-                THREE,
-                Err(RunFault::FolderFailed(7)),
-                7,
-                FIRST_TWO,
-            ),
+            (&[(7, &[], Mode::FailAfter)], THREE, FAULT_7, FIRST_TWO),
             LAST_IS_MISSING,
         ],
     ),
@@ -159,13 +134,7 @@ const STOPPED: &[Scene<'_>] = &[
         "half_written",
         &[],
         &[
-            (
-                &[(8, &[], Mode::Half)],
-                THREE,
-                Err(RunFault::FolderFailed(8)),
-                8,
-                LAST_HALF_WRITTEN,
-            ),
+            (&[(8, &[], Mode::Half)], THREE, FAULT_8, LAST_HALF_WRITTEN),
             LAST_IS_LEFT_OVER,
         ],
     ),
@@ -173,20 +142,8 @@ const STOPPED: &[Scene<'_>] = &[
         "a_stop_in_the_sweep",
         &[],
         &[
-            (
-                &[(8, &[], Mode::FailAfter)],
-                THREE,
-                Err(RunFault::FolderFailed(8)),
-                8,
-                LAST_WRITTEN,
-            ),
-            (
-                &[(4, &[], Mode::FailAfter)],
-                THREE,
-                Err(RunFault::FolderFailed(4)),
-                4,
-                FIRST_TWO,
-            ),
+            (&[(8, &[], Mode::FailAfter)], THREE, FAULT_8, LAST_WRITTEN),
+            (&[(4, &[], Mode::FailAfter)], THREE, FAULT_4, FIRST_TWO),
             LAST_IS_MISSING,
         ],
     ),
@@ -198,8 +155,7 @@ const STOPPED: &[Scene<'_>] = &[
             &[(5, &[], Mode::Half)],
             UNENDED,
             FAULT_5,
-            5,
-            &[(Sub::Tmp, ABC, "a")],
+            &[(Sub::Tmp, ABC, b"a")],
         )],
     ),
     // a text whose run broke off, another one that shares a message with it, and the first again
@@ -207,104 +163,52 @@ const STOPPED: &[Scene<'_>] = &[
         "another_text_after_a_stop",
         &[],
         &[
-            (
-                &[(5, &[], Mode::FailAfter)],
-                TWO_EMPTY,
-                FAULT_5,
-                5,
-                FIRST_ONE,
-            ),
-            (&[], b"From c\n\n", Ok((1, 1, 0, 0)), 3, FIRST_ONE),
-            (&[], TWO_EMPTY, Ok((2, 1, 1, 0)), 5, FIRST_TWO),
+            (&[(5, &[], Mode::FailAfter)], TWO_EMPTY, FAULT_5, FIRST_ONE),
+            (&[], b"From c\n\n", Ok((1, 1, 0, 0)), FIRST_ONE),
+            (&[], TWO_EMPTY, Ok((2, 1, 1, 0)), FIRST_TWO),
         ],
-    ),
-    // what a placement answers for a file that is not in `tmp`, by its mode
-    (
-        "nothing_to_place, Plain",
-        &[],
-        &[(
-            &[(5, DROPS, Mode::Plain)],
-            UNENDED,
-            Err(RunFault::FolderAbsent),
-            5,
-            &[],
-        )],
-    ),
-    (
-        "nothing_to_place, FailBefore",
-        &[],
-        &[(&[(5, DROPS, Mode::FailBefore)], UNENDED, FAULT_5, 5, &[])],
-    ),
-    (
-        "nothing_to_place, FailAfter",
-        &[],
-        &[(&[(5, DROPS, Mode::FailAfter)], UNENDED, FAULT_5, 5, &[])],
-    ),
-    (
-        "nothing_to_place, Half",
-        &[],
-        &[(&[(5, DROPS, Mode::Half)], UNENDED, FAULT_5, 5, &[])],
-    ),
-    (
-        "nothing_to_place, Twice",
-        &[],
-        &[(
-            &[(5, DROPS, Mode::Twice)],
-            UNENDED,
-            Err(RunFault::FolderAbsent),
-            5,
-            &[],
-        )],
-    ),
-    // `tmp` is listed before `new`: a leftover that goes before the second call was seen
-    (
-        "tmp_is_listed_first, 1",
-        LEFTOVER,
-        &[(
-            &[(1, DROPS_LEFTOVER, Mode::Plain)],
-            UNENDED,
-            Ok((1, 0, 1, 0)),
-            5,
-            ABC_ALONE,
-        )],
-    ),
-    (
-        "tmp_is_listed_first, 2",
-        LEFTOVER,
-        &[(
-            &[(2, DROPS_LEFTOVER, Mode::Plain)],
-            UNENDED,
-            Ok((1, 0, 1, 1)),
-            6,
-            ABC_ALONE,
-        )],
-    ),
-    (
-        "tmp_is_listed_first, 3",
-        LEFTOVER,
-        &[(
-            &[(3, DROPS_LEFTOVER, Mode::Plain)],
-            UNENDED,
-            Ok((1, 0, 1, 1)),
-            6,
-            ABC_ALONE,
-        )],
-    ),
-    (
-        "tmp_is_listed_first, 4",
-        LEFTOVER,
-        &[(
-            &[(4, DROPS_LEFTOVER, Mode::Plain)],
-            UNENDED,
-            Ok((1, 0, 1, 1)),
-            6,
-            ABC_ALONE,
-        )],
     ),
 ];
 
+// What a placement answers for a file that is not in `tmp`, by its mode.
+const NOTHING_TO_PLACE: &[(&str, Mode, Answer)] = &[
+    (
+        "nothing_to_place, Plain",
+        Mode::Plain,
+        Err(RunFault::FolderAbsent),
+    ),
+    ("nothing_to_place, FailBefore", Mode::FailBefore, FAULT_5),
+    ("nothing_to_place, FailAfter", Mode::FailAfter, FAULT_5),
+    ("nothing_to_place, Half", Mode::Half, FAULT_5),
+    (
+        "nothing_to_place, Twice",
+        Mode::Twice,
+        Err(RunFault::FolderAbsent),
+    ),
+];
+
+// The call before which a leftover goes, and how many are swept: `tmp` is listed before `new`, and what goes before the second
+// call was seen.
+const LEFTOVER_GOES: &[(&str, u64, u64)] = &[
+    ("tmp_is_listed_first, 1", 1, 0),
+    ("tmp_is_listed_first, 2", 2, 1),
+    ("tmp_is_listed_first, 3", 3, 1),
+    ("tmp_is_listed_first, 4", 4, 1),
+];
+
 #[test]
-fn stopped_runs(rt: HostRuntime) {
-    let wrong = wrong_scene(rt.alloc(), STOPPED);
-    assert!(rt; wrong.is_none(), "{}", wrong.unwrap_or(""));
+fn stopped_runs(rt: HostRuntime) -> Result<(), Fail> {
+    for scene in STOPPED {
+        go_scene(rt.alloc(), scene)?;
+    }
+    for &(name, mode, answer) in NOTHING_TO_PLACE {
+        let run: Run<'_> = (&[(5, DROPS, mode)], UNENDED, answer, &[]);
+        go_scene(rt.alloc(), &(name, &[], &[run]))?;
+    }
+    for &(name, call, swept) in LEFTOVER_GOES {
+        let lines = [(call, DROPS_LEFTOVER, Mode::Plain)];
+        let run = (lines.as_slice(), UNENDED, Ok((1, 0, 1, swept)), ABC_ALONE);
+        go_scene(rt.alloc(), &(name, LEFTOVER, &[run]))?;
+    }
+    Ok(())
 }

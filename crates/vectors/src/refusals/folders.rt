@@ -1,23 +1,21 @@
-// The calls of the folder in memory, and a plan.
+// The calls of the folder in memory, and plans.
 use crate::mem_folder::{answers, lists};
-use crate::planning::{Want, plans};
-use crate::runs::{ABC, File, ONE_SEEN, holds, put};
+use crate::planning::plans;
+use crate::rows::same;
+use crate::runs::{put, same_files};
+use crate::texts::{ABC, File};
 use maildir_run::{FolderFault, MemFolder, Sub};
 use std::alloc::{AllocError, Global};
 use std::test::Fail;
 
-const FOREIGN: &str = "1700000000.M1.host";
-
 #[test]
-fn memory_folder_again(rt: HostRuntime) {
+fn memory_folder_again(rt: HostRuntime) -> Result<(), Fail> {
     let mut folder = MemFolder::new(rt.alloc());
-    assert!(rt;
-        answers(&mut folder, true)
-            && lists(&mut folder, true, Sub::Tmp, &[])
-            && lists(&mut folder, true, Sub::New, &[])
-            && lists(&mut folder, true, Sub::Cur, &["u:2,"])
-            && holds(&folder, &[(Sub::Cur, "u:2,", "ab")])
-    );
+    answers(&mut folder, true)?;
+    lists(&"tmp", &mut folder, true, Sub::Tmp, &[])?;
+    lists(&"new", &mut folder, true, Sub::New, &[])?;
+    lists(&"cur", &mut folder, true, Sub::Cur, &["u:2,"])?;
+    same_files(&"at the end", &folder, &[(Sub::Cur, "u:2,", b"ab")])
 }
 
 // Whether a file of `tmp` is set; where an allocation was refused, all is as before.
@@ -37,28 +35,22 @@ fn is_put(
     Ok(is_as_before && again.is_ok())
 }
 
-// Whether files of `tmp` are set, and there are no others.
-fn are_put(alloc: Global, files: &[File<'_>]) -> Result<bool, AllocError> {
-    let mut folder = MemFolder::new(alloc);
-    for (_, name, text) in files {
-        if !is_put(alloc, &mut folder, name, text.as_bytes())? {
-            return Ok(false);
-        }
-    }
-    Ok(holds(&folder, files))
-}
-
+// Files of `tmp` are set, and there are no others.
 #[test]
 fn put_again(rt: HostRuntime) -> Result<(), Fail> {
-    const FILES: &[File<'_>] = &[(Sub::Tmp, ABC, "a"), (Sub::Tmp, FOREIGN, "z")];
-    assert!(rt; are_put(rt.alloc(), FILES)?);
-    Ok(())
+    const FILES: &[File<'_>] = &[
+        (Sub::Tmp, ABC, b"a"),
+        (Sub::Tmp, "1700000000.M1.host", b"z"),
+    ];
+    let mut folder = MemFolder::new(rt.alloc());
+    for (_, name, bytes) in FILES {
+        let is_set = is_put(rt.alloc(), &mut folder, name, bytes)?;
+        same(&name, &is_set, &true)?;
+    }
+    same_files(&"at the end", &folder, FILES)
 }
 
-// One message is there, with a flag, and of the other a leftover is swept before it is delivered.
 #[test]
 fn plan_again(rt: HostRuntime) -> Result<(), Fail> {
-    const WANTS: &[Want<'_>] = &[Want::Remove(ABC), Want::Write(1), Want::Place(1)];
-    assert!(rt; plans(rt.alloc(), true, &[ABC, FOREIGN], &[], &[ONE_SEEN], WANTS)?);
-    Ok(())
+    plans(rt.alloc(), true)
 }

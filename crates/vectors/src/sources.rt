@@ -1,10 +1,14 @@
-// Sources and writers for tests: they cut, fail, end or never end.
+// Sources for tests: they come in pieces, and end, fail or never end.
 ghost use Rattle.std.specs.Prelude.{◌≡◌, ◌++◌, None, Some};
-ghost use Rattle.vectors.specs.declared.streams.Then.TheVariants.{Ends, Fails, GoesOn};
+ghost use Rattle.vectors.specs.declared.sources.Then.TheVariants.{Ends, Fails, GoesOn};
 
-use std::alloc::Global;
+use maildir_run::RunFault;
 use std::io;
-use std::io::{ErrorKind, Read, Write};
+use std::io::{ErrorKind, Read};
+use std::test::Fail;
+
+/// No test makes so many reads.
+pub(crate) const LIMIT: u64 = 1_099_511_627_776;
 
 /// How a source goes on after its bytes.
 #[derive(Clone, Copy)]
@@ -34,6 +38,11 @@ impl<'a> Cut<'a> {
             then,
             reads: 0,
         }
+    }
+
+    /// A source that gives a text in pieces of this size, and ends.
+    pub(crate) fn pieces(text: &'a [u8], piece: usize) -> Cut<'a> {
+        Cut::new(text, piece, Then::Ends)
     }
 
     /// A source that breaks off after so many bytes of a text, or at its end.
@@ -83,38 +92,34 @@ impl Read for Cut<'_> {
     }
 }
 
-/// A writer that takes so many bytes and then fails or takes none.
-#[derive(Drop)]
-pub(crate) struct Narrow {
-    pub taken: Vec<u8>,
-    pub room: usize,
-    pub piece: usize,
-    pub fails: bool,
-}
+/// A source, in pieces of a size, that has a fault before a message of it is whole.
+pub(crate) type Faulty<'a> = (&'a str, usize, Then);
 
-impl Narrow {
-    pub(crate) fn new(alloc: Global, room: usize, piece: usize, fails: bool) -> Narrow {
-        Narrow {
-            taken: Vec::new(alloc),
-            room,
-            piece,
-            fails,
-        }
-    }
-}
-
-impl Write for Narrow {
-    fn write(&mut self, buf: &[u8]) -> io::Result<usize> {
-        let n = self.room.min(self.piece).min(buf.len());
-        if n == 0 && self.fails {
-            return Err(io::Error::from(ErrorKind::StorageFull));
-        }
-        self.taken.extend_from_slice(&buf[..n])?;
-        self.room -= n;
-        Ok(n)
-    }
-
-    fn flush(&mut self) -> io::Result<()> {
-        Ok(())
-    }
-}
+/// Sources with a fault: how many reads may be made, the fault, and how many reads are made.
+pub(crate) const FAULTY: &[(Faulty<'_>, u64, RunFault, u64)] = &[
+    (("", 1, Then::Ends), 0, RunFault::TooManyReads, 0),
+    (("From x\n", 1, Then::Ends), 0, RunFault::TooManyReads, 0),
+    (("From x\nabc", 1, Then::Ends), 3, RunFault::TooManyReads, 3),
+    (
+        ("From x\nabc", 1, Then::Ends),
+        10,
+        RunFault::TooManyReads,
+        10,
+    ),
+    (("From x\nabc", 1, Then::Fails), 99, RunFault::ReadFault, 11),
+    (
+        ("From x\n", 1, Then::GoesOn),
+        12,
+        RunFault::TooManyReads,
+        12,
+    ),
+    (
+        ("From x\n", 65_536, Then::GoesOn),
+        5,
+        RunFault::TooManyReads,
+        5,
+    ),
+    (("X", 1, Then::GoesOn), 99, RunFault::NoFromLine, 1),
+    (("Fro", 1, Then::Ends), 3, RunFault::TooManyReads, 3),
+    (("Fro", 1, Then::Ends), 4, RunFault::NoFromLine, 4),
+];
