@@ -1,7 +1,6 @@
 -- The bases of the targets of one text: this converter's, and distinct.
-use Rattle.std.proofs.Common.{◌≡◌, ℕ, ◌+◌, ◌^◌, ◌<◌, ◌≤◌, List, [], ◌∷◌, ◌++◌, length, get_or, take, count_by}
+use Rattle.std.proofs.Common.{◌≡◌, ℕ, ◌+◌, ◌^◌, ◌<◌, ◌≤◌, List, [], ◌∷◌, ◌++◌, length, get_or, take, count_by, rules}
 use Rattle.std.proofs.Common.{refl, sym, ◌∙◌, ap, arith, All, AllPairs, bytes_eq, cond, length-take-le}
-use Rattle.std.specs.Cmp.Lexicographic.{nat_list_eq_equiv}
 use Rattle.std.proofs.lemmas.List.{take_more, take-take}
 use Rattle.std.proofs.lemmas.List.Sums.{count_by-le-length, sum_by-take-le}
 use Rattle.sha2.specs.Sha256.{sha256}
@@ -18,9 +17,7 @@ number_after before body = count_by (same_digest body) (before ++ body ∷ [])
 
 -- an occurrence number counts the body itself, and is at most the number of bodies
 pub number_after-is : (before : List (List ℕ)) (body : List ℕ) → number_after before body ≡ count_by (same_digest body) before + 1
-number_after-is before body =
-    let itself = nat_list_eq_equiv.refl (sha256 body) in
-    rw itself at (count-push (same_digest body) before body)
+number_after-is before body = search (rules, count-push)
 
 pub number_after-le : (before : List (List ℕ)) (body : List ℕ) → number_after before body ≤ length before + 1
 number_after-le before body = grind (arith, number_after-is, count_by-le-length)

@@ -84,7 +84,7 @@ not-found r (Some n) h e there = absurd (false≢true (sym e))
 
 pub built-none : (s r : List ℕ) → length r ≡ 0 → from_bytes ++ cleaned s ≡ built s r
 unfolding built
-built-none s [] h = ap (λ z. from_bytes ++ z) (sym (append-nil (cleaned s)))
+built-none s [] h = grind (arith, append-nil)
 built-none s (c ∷ r) h = absurd (omega (arith, h))
 
 pub built-some : (s r : List ℕ) → (length r ≡ 0 → ⊥) → ((from_bytes ++ cleaned s) ++ 32 ∷ []) ++ r ≡ built s r
@@ -112,7 +112,7 @@ pub before-found : (s : List ℕ) {n : ℕ} → IsFirstByte (is_byte 32) s (Some
 before-found s h = grind (arith, before-at)
 
 pub before-none : {s : List ℕ} → IsFirstByte (is_byte 32) s None → s ≡ before_space s
-before-none {s} h = before-all s (λ k l. h k (omega arith) l)
+before-none {s} h = grind (arith, before-all)
 
 -- one more leading space
 pub past-mark : (s : List ℕ) {at : ℕ} → at < length s → get_or s at 0 ≡ 32 → past_spaces (drop at s) ≡ past_spaces (drop (at + 1) s)

@@ -22,8 +22,7 @@ head_of_none e = grind (arith)
 pub some_ends : {message : Option PartialMessage} {m : PartialMessage} {line line1 body line' : List ℕ} → message ≡ Some m → line1 ≡ line
     → body ≡ (m.body.items ++ unquoted line1) ++ 10 ∷ [] → line' ≡ []
     → (text : List ℕ) (given : List Entry) → Held text given message line → InBody (text ++ 10 ∷ []) (given ++ []) m.from_line.items body line'
-some_ends e el eb el' text given h =
-    rw (append-nil given, eb, el, el') (body-ends (rw e at h))
+some_ends e el eb el' text given h = grind (arith, append-nil, body-ends)
 
 pub none_ends : {message : Option PartialMessage} {line line1 f body line' : List ℕ} → message ≡ None → line1 ≡ line
     → begins_from line1 ≡ true → f ≡ line → body ≡ [] → line' ≡ []
@@ -68,7 +67,7 @@ none_refuses line part is el e1 b e2 p text given held = grind (arith, cases_Boo
 
 pub begins_with-ended : (line prefix : List ℕ) → NoEnd prefix → begins_with (line ++ 10 ∷ []) prefix ≡ false
 begins_with-ended [] [] h = refl
-begins_with-ended [] (p ∷ prefix) h = rw (ne_eqb 10 p (λ e. eqb-false p 10 h.0 (sym e))) refl
+begins_with-ended [] (p ∷ prefix) h = grind (arith, ne_eqb, eqb-false)
 begins_with-ended (c ∷ line) [] h = refl
 begins_with-ended (c ∷ line) (p ∷ prefix) h = grind (arith, begins_with-ended line prefix h.1)
 

@@ -26,7 +26,7 @@ ends_body splitter {m} e line is e1 ef eb text given h = grind (arith, body-last
 
 pub ends_head : (splitter : Splitter) {e : Entry} {line : List ℕ} → splitter.message ≡ None → line ≡ splitter.line.items → begins_from line ≡ true
     → e.from_line ≡ splitter.line.items → e.body ≡ [] → EndsWith splitter e
-ends_head splitter {e} is e1 b ef eb text given h = head-last (rw is at h) (rw (← e1) b) ef eb
+ends_head splitter {e} is e1 b ef eb text given h = grind (arith, head-last)
 
 -- the text that the splitter was fed is not too short
 long : (splitter : Splitter) (e : Entry) → EndsWith splitter e → (text : List ℕ) (given : List Entry) → HeldIn text given splitter → 5 ≤ length text

@@ -1,5 +1,5 @@
 -- Which messages a splitter has returned: all but the last, whatever comes after the text.
-use Rattle.std.proofs.Common.{◌≡◌, ℕ, false, List, [], ◌∷◌, ◌++◌, refl, sym, ◌∙◌, ap, append_assoc, inl, inr, Option, Some}
+use Rattle.std.proofs.Common.{◌≡◌, ℕ, false, List, [], ◌∷◌, ◌++◌, refl, sym, ◌∙◌, ap, append_assoc, inl, inr, Option, Some, rules}
 use Rattle.std.proofs.Common.{None, Result, Ok, Err, OnOk, IfErr, IsErr, IsErrOf, is_err, IsErrAnd, append-nil, arith}
 use Rattle.std.proofs.lemmas.Bool.{both_ways}
 use Rattle.std.proofs.lemmas.List.{append_cancel_left}
@@ -31,7 +31,7 @@ fed_from {splitter} {text} {given} works h = grind (arith, held-all)
 
 -- all messages but the last stay the first ones, whatever comes after the text
 pub all_stay : (text : List ℕ) {given : List Entry} → AllButLast text given → Stay text given
-all_stay text {given} (inl a) more entries h = inr (prefix_reading text more entries given a.1.0 a.1.1 h)
+all_stay text {given} (inl a) more entries h = grind (arith, prefix_reading)
 all_stay text (inr a) more entries h = inl a.1
 
 -- there are none if no mbox text begins with this text
@@ -62,14 +62,7 @@ refuses_more WriteFault splitter part more r = absurd r
 pub stops_at : (fault : TextFault) (old now : Splitter) {piece : List ℕ} (prefix part more : List ℕ) (out out' : List Entry)
     → Gives old prefix out out' now → Refuses fault now part
     → piece ≡ prefix ++ (part ++ more) → Stops fault old piece out out'
-stops_at fault old now prefix part more out out' g r e = record {
-  prefix = prefix;
-  rest = part ++ more;
-  now = now;
-  is = e;
-  gives = g;
-  refuses = refuses_more fault now part more r;
-}
+stops_at fault old now prefix part more out out' g r e = search (rules, refuses_more)
 
 pub stops_after : {fault : TextFault} {old mid : Splitter} {piece : List ℕ} (prefix : List ℕ) {part : List ℕ} {out out1 out' : List Entry}
     → Gives old prefix out out1 mid → Stops fault mid part out1 out'
@@ -92,12 +85,7 @@ prefix-cut : (added all rest : List Entry) (last next : Entry) → all ++ last �
 prefix-cut [] all rest last next e = (all, refl)
 prefix-cut (x ∷ []) [] rest last next e = absurd (cc)
 prefix-cut (x ∷ y ∷ added) [] rest last next e = absurd (cc)
-prefix-cut (x ∷ added) (y ∷ all) rest last next e =
-    let heads : y ≡ x = cc in
-    let tails : all ++ last ∷ [] ≡ added ++ next ∷ rest = cc in
-    let r = prefix-cut added all rest last next tails in
-    let is = r.1 in
-    (r.0, cc)
+prefix-cut (x ∷ added) (y ∷ all) rest last next e = grind (arith, prefix-cut added all rest last next cc)
 
 only-prefix : (given rest : List Entry) {last : Entry} (next : Entry) → last ∷ [] ≡ given ++ next ∷ rest → given ≡ []
 only-prefix [] rest next e = refl
@@ -126,12 +114,7 @@ part text given added all s (inl h) =
           (sym (append_assoc given all (h.1.0 ∷ [])) ∙ f.2 ∙ append_assoc given added (f.0 ∷ f.1)) in
           prefix-cut added all f.1 h.1.0 f.0 e
     ]
-part text given added all s (inr h) =
-    let m = from-rest text h.0 in
-    let e = from-alone in
-    let none : given ++ added ≡ [] = elim (s m.0 (e.0 ∷ []) (rw m.1 e.1)) [ inl none ↦ none | inr f ↦ only-prefix _ f.1 f.0 f.2 ] in
-    let n = nil_right given none in
-    (all, rw n refl)
+part text given added all s (inr h) = grind (arith, from-rest, from-alone, only-prefix, nil_right)
 
 -- what `Ok`, `NoFromLine` and `OutOfMemory` of a feed mean
 pub fed_taken : {T : Type 0} (r : Result T TextFault) (old new : Splitter) (piece : List ℕ) (out out' : List Entry) → new.failed ≡ is_err r

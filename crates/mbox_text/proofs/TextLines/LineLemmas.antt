@@ -119,7 +119,7 @@ quotable-plain (c ∷ line) h = rw (ne_eqb c 62 h) refl
 pub unquoted-mark : (line : List ℕ) → get_or line 0 0 ≡ 62 → quotable line ≡ true → unquoted line ≡ drop 1 line
 unfolding unquoted quotable
 unquoted-mark [] e q = refl
-unquoted-mark (c ∷ line) e q = let h = eq-eqb c 62 e in rw (h, rw h at q) refl
+unquoted-mark (c ∷ line) e q = grind (arith, eq-eqb)
 
 pub unquoted-plain : (line : List ℕ) → (0 < length line → get_or line 0 0 ≡ 62 → ⊥) → unquoted line ≡ line
 unfolding unquoted

@@ -22,7 +22,7 @@ record LastPart (text : List ℕ) : Type 0 where
   part : NoEnd last
 
 cut : (text : List ℕ) → LastPart text
-cut [] = record { prefix = []; last = []; is = refl; ended = inl refl; part = tt }
+cut [] = grind arith
 cut (c ∷ text) =
     let r = cut text in
     elim (cases_Bool (eqb c 10)) [
@@ -85,7 +85,7 @@ pub record Full (body : List ℕ) : Type 0 where
 
 pub full-cut : {body prefix : List ℕ} (last : List ℕ) → body ≡ prefix ++ last → Ended prefix → NoEnd last → Full body
 unfolding lines missing_end
-full-cut [] e (inl n) h = rw (e, n) (record { ended = inl refl; written = refl })
+full-cut [] e (inl n) h = grind arith
 full-cut {body} {prefix} [] e (inr s) h = grind (arith, append-nil prefix, missing-ended s.0, append-nil body, append-nil (flat_map quoted (lines body)))
 full-cut {body} {prefix} (c ∷ l) e ends h = grind (
   arith,

@@ -1,8 +1,8 @@
-use Rattle.std.proofs.Common.{◌≡◌, ℕ, List, [], ◌∷◌, ◌++◌, append_assoc, refl}
+use Rattle.std.proofs.Common.{◌≡◌, ℕ, List, [], ◌∷◌, ◌++◌, append_assoc, arith}
 use Rattle.maildir_name.proofs.target.with_info.Goals as goal
 
 after : (base f r s t : List ℕ) → ((((base ++ 58 ∷ 50 ∷ 44 ∷ []) ++ f) ++ r) ++ s) ++ t ≡ base ++ 58 ∷ 50 ∷ 44 ∷ (f ++ r ++ s ++ t)
-after base f r s t = rw (append_assoc base _ f, append_assoc base _ r, append_assoc base _ s, append_assoc base _ t) refl
+after base f r s t = grind (arith, append_assoc)
 
 pub returns : goal.returns
 returns c =
