@@ -1,12 +1,6 @@
 -- The messages of a text have their From_ lines.
-use Rattle.std.proofs.Common.{◌≡◌, ℕ, true, List, [], ◌∷◌, ◌++◌, refl, eqb-true, zero, suc, ◌<◌, length, get_or, arith}
-use Rattle.std.proofs.lemmas.Bool.{cases_Bool}
-use Rattle.mbox_text.specs.declared.entry.Entry.{Entry}
-use Rattle.mbox_text.specs.FromLine.{IsFromLine}
-use Rattle.mbox_text.specs.Mbox.{Block, unended, Mbox}
-use Rattle.mbox_text.specs.Spelling.{FromLines}
-use Rattle.mbox_text.specs.Lines.{NoEnd}
-use Rattle.mbox_text.specs.Quoting.{begins_with, begins_from}
+use Rattle.mbox_text.proofs.Common.{◌≡◌, ℕ, true, List, [], ◌∷◌, ◌++◌, refl, eqb-true, zero, suc, ◌<◌, length, get_or, arith, cases_Bool, Entry, IsFromLine}
+use Rattle.mbox_text.proofs.Common.{Block, unended, Mbox, FromLines, NoEnd, begins_with, begins_from}
 
 unended-no_end : (l : List ℕ) → NoEnd (unended l)
 unended-no_end [] = tt

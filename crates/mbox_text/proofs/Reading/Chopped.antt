@@ -1,15 +1,8 @@
 -- A body without its last line if that is `\n` alone.
-use Rattle.std.proofs.Common.{◌-◌, ◌<◌, ◌≡◌, ℕ, Bool, true, false, eqb, List, [], ◌∷◌, ◌++◌, length, length-append}
-use Rattle.std.proofs.Common.{take, refl, sym, ◌∙◌, ap, arith, inl, inr, ◌&&◌, Decides, MatchBool, append-nil}
-use Rattle.std.specs.List.{flat_map, ends_with}
-use Rattle.std.proofs.lemmas.Bool.{cases_Bool, false≢true, both_ways, eqb-true, and_parts, and_right}
-use Rattle.std.proofs.Math.Seq.{take-append-add}
-use Rattle.std.proofs.lemmas.Bool.Decides.{Decides-eqb}
-use Rattle.std.proofs.lemmas.Slice.Eq.{ends_is}
-use Rattle.mbox_text.specs.Lines.{lines, Ended, NoEnd}
-use Rattle.mbox_text.specs.Quoting.{quotable, unquoted}
-use Rattle.mbox_text.specs.Mbox.{without_blank, kept}
-use Rattle.mbox_text.specs.Private.Moved.{chopped_from, chopped}
+use Rattle.mbox_text.proofs.Common.{◌-◌, ◌<◌, ◌≡◌, ℕ, Bool, true, false, eqb, List, [], ◌∷◌, ◌++◌, length, length-append, flat_map, eqb-true, take, refl, sym}
+use Rattle.mbox_text.proofs.Common.{◌∙◌, ap, arith, inl, inr, ◌&&◌, Decides, MatchBool, append-nil, ends_with, cases_Bool, false≢true, both_ways, and_parts}
+use Rattle.mbox_text.proofs.Common.{and_right, take-append-add, Decides-eqb, ends_is, lines, Ended, NoEnd, quotable, unquoted, without_blank, kept}
+use Rattle.mbox_text.proofs.Common.{chopped_from, chopped}
 use Rattle.mbox_text.proofs.TextLines.LineLemmas.{lines-last, unquoted-push}
 
 -- each line ends with its only `\n`

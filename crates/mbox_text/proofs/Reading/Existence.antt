@@ -1,12 +1,7 @@
 -- A text that begins with `From ` has messages: what a splitter holds of it, byte by byte.
-use Rattle.std.proofs.Common.{◌≡◌, ℕ, true, eqb, List, [], ◌∷◌, ◌++◌, refl, ◌∙◌, append_assoc, inl, inr, ◌⊎◌, ◌↔◌, append-nil, arith}
-use Rattle.std.proofs.lemmas.Bool.{both_ways, cases_Bool, eqb-true}
-use Rattle.mbox_text.specs.declared.entry.Entry.{Entry}
-use Rattle.mbox_text.specs.Quoting.{unquoted, begins_with, begins_from, from_bytes}
-use Rattle.mbox_text.specs.Prefixes.{AllButLast, NeverFrom}
-use Rattle.mbox_text.specs.Mbox.{Mbox, IsMboxText}
-use Rattle.mbox_text.specs.Private.Moved.{chopped}
-use Rattle.mbox_text.specs.Held.{AtHead, InBody, Closed}
+use Rattle.mbox_text.proofs.Common.{◌≡◌, ℕ, true, eqb, List, [], ◌∷◌, ◌++◌, refl, ◌∙◌, append_assoc, inl, inr, ◌⊎◌, ◌↔◌, append-nil, arith, eqb-true}
+use Rattle.mbox_text.proofs.Common.{both_ways, cases_Bool, Entry, unquoted, begins_with, begins_from, from_bytes, AllButLast, NeverFrom, Mbox, IsMboxText}
+use Rattle.mbox_text.proofs.Common.{chopped, AtHead, InBody, Closed}
 use Rattle.mbox_text.proofs.TextLines.LineLemmas.{begins_from-cut, begins_from-more}
 use Rattle.mbox_text.proofs.TextLines.Heads.{mbox-starts, mbox-begins-last}
 use Rattle.mbox_text.proofs.Splitting.HeldLemmas.{head-add, head-ends, body-add, body-closes, body-ends}

@@ -1,9 +1,6 @@
 -- The returned messages are a prefix of the messages of each text that begins with the text so far.
-use Rattle.std.proofs.Common.{ℕ, ◌<◌, ◌≤◌, List, [], ◌∷◌, length, arith, length-append, ◌≡◌, ◌++◌, refl, inl, inr}
-use Rattle.mbox_text.specs.declared.entry.Entry.{Entry}
-use Rattle.mbox_text.specs.Mbox.{Block, Mbox, IsUnreadable}
-use Rattle.mbox_text.specs.Lines.{lines}
-use Rattle.mbox_text.specs.Prefixes.{AllButLast}
+use Rattle.mbox_text.proofs.Common.{ℕ, ◌<◌, ◌≤◌, List, [], ◌∷◌, length, arith, length-append, ◌≡◌, ◌++◌, refl, inl, inr, Entry, Block, Mbox, IsUnreadable}
+use Rattle.mbox_text.proofs.Common.{lines, AllButLast}
 use Rattle.mbox_text.proofs.TextLines.LineLemmas.{begins_from-more}
 use Rattle.mbox_text.proofs.Reading.Existence.{read_where}
 use Rattle.mbox_text.proofs.Splitting.Giving.{all_stay}

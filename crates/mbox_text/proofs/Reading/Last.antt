@@ -1,12 +1,6 @@
 -- The last message of a text.
-use Rattle.std.proofs.Common.{◌≡◌, ℕ, true, List, [], ◌∷◌, ◌++◌, refl, append_assoc, append-nil, arith}
-use Rattle.std.proofs.lemmas.Bool.{false≢true}
-use Rattle.mbox_text.specs.declared.entry.Entry.{Entry}
-use Rattle.mbox_text.specs.Lines.{NoEnd}
-use Rattle.mbox_text.specs.Quoting.{unquoted, begins_from}
-use Rattle.mbox_text.specs.Mbox.{Block, Mbox, unended, without_blank}
-use Rattle.mbox_text.specs.Private.Moved.{chopped}
-use Rattle.mbox_text.specs.Held.{Closed, AtHead, InBody}
+use Rattle.mbox_text.proofs.Common.{◌≡◌, ℕ, true, List, [], ◌∷◌, ◌++◌, refl, append_assoc, append-nil, arith, false≢true, Entry, NoEnd, unquoted, begins_from}
+use Rattle.mbox_text.proofs.Common.{Block, Mbox, unended, without_blank, chopped, Closed, AtHead, InBody}
 use Rattle.mbox_text.proofs.TextLines.LineLemmas.{lines-part}
 use Rattle.mbox_text.proofs.Splitting.HeldLemmas.{open-last}
 

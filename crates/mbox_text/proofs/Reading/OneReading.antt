@@ -1,10 +1,6 @@
 -- A text is in `Mbox` with one list of entries.
-use Rattle.std.proofs.Common.{◌≡◌, ℕ, true, List, [], ◌∷◌, ◌++◌, refl, sym, ◌∙◌, ap, append_assoc, ap₂, inl, inr, ◌⊎◌, flat_map, append-nil, arith}
-use Rattle.std.proofs.lemmas.Bool.{both_ways}
-use Rattle.mbox_text.specs.declared.entry.Entry.{Entry}
-use Rattle.mbox_text.specs.Lines.{lines, Ended}
-use Rattle.mbox_text.specs.Quoting.{begins_from, unquoted}
-use Rattle.mbox_text.specs.Mbox.{without_blank, NoFrom, unended, Mbox}
+use Rattle.mbox_text.proofs.Common.{◌≡◌, ℕ, true, List, [], ◌∷◌, ◌++◌, refl, sym, ◌∙◌, ap, append_assoc, ap₂, inl, inr, ◌⊎◌, flat_map, append-nil, arith}
+use Rattle.mbox_text.proofs.Common.{both_ways, Entry, lines, Ended, begins_from, unquoted, without_blank, NoFrom, unended, Mbox}
 use Rattle.mbox_text.proofs.TextLines.LineLemmas.{lines-append}
 
 -- the lines of a message, and the lines after it

@@ -1,11 +1,6 @@
 -- The messages of a prefix are a prefix of the messages.
-use Rattle.std.proofs.Common.{◌≡◌, ℕ, true, List, [], ◌∷◌, ◌++◌, refl, ap, append_assoc, inl, inr, append-nil, arith}
-use Rattle.mbox_text.specs.declared.entry.Entry.{Entry}
-use Rattle.mbox_text.specs.Lines.{lines, Ended}
-use Rattle.mbox_text.specs.Quoting.{begins_from}
-use Rattle.mbox_text.specs.Prefixes.{IsProperPrefix}
-use Rattle.mbox_text.specs.Mbox.{Block, Mbox}
-use Rattle.mbox_text.specs.Held.{Closed}
+use Rattle.mbox_text.proofs.Common.{◌≡◌, ℕ, true, List, [], ◌∷◌, ◌++◌, refl, ap, append_assoc, inl, inr, append-nil, arith, Entry, lines, Ended, begins_from}
+use Rattle.mbox_text.proofs.Common.{IsProperPrefix, Block, Mbox, Closed}
 use Rattle.mbox_text.proofs.TextLines.LineLemmas.{lines-append, begins_from-more}
 use Rattle.mbox_text.proofs.TextLines.Heads.{head-line, block-begins}
 use Rattle.mbox_text.proofs.Reading.OneReading.{reads-append, mbox-reads, LinesRead}

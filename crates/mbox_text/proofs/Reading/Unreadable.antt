@@ -1,10 +1,5 @@
 -- Texts that are in `Mbox` with no list of messages.
-use Rattle.std.proofs.Common.{◌≡◌, ℕ, List, [], ◌++◌, arith, inl, inr}
-use Rattle.std.proofs.lemmas.Bool.{both_ways}
-use Rattle.mbox_text.specs.declared.entry.Entry.{Entry}
-use Rattle.mbox_text.specs.Mbox.{IsUnreadable}
-use Rattle.mbox_text.specs.Prefixes.{AllButLast, NeverFrom}
-use Rattle.mbox_text.specs.Fed.{IsTooShort}
+use Rattle.mbox_text.proofs.Common.{◌≡◌, ℕ, List, [], ◌++◌, arith, inl, inr, both_ways, Entry, IsUnreadable, AllButLast, NeverFrom, IsTooShort}
 use Rattle.mbox_text.proofs.TextLines.LineLemmas.{begins_from-more}
 use Rattle.mbox_text.proofs.TextLines.Heads.{from-long, mbox-starts}
 

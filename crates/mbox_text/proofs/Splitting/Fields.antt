@@ -1,17 +1,8 @@
 -- What a splitter keeps in memory, over the fields as the code changes them.
-use Rattle.std.proofs.Common.{◌≡◌, ℕ, ◌+◌, ◌-◌, true, false, eqb, List, [], ◌∷◌, ◌++◌, length, take, drop, refl, sym}
-use Rattle.std.proofs.Common.{inl, inr, Option, Some, None, Result, Ok, Err, IfOk, is_some, flat_map, take-add, arith}
-use Rattle.std.specs.declared.alloc.AllocError.{AllocError}
-use Rattle.std.proofs.lemmas.Bool.{both_ways, false≢true, and_parts, ne_eqb, eqb-false, eqb-true, eq-eqb, cases_Bool}
-use Rattle.std.proofs.lemmas.List.{take-append-drop, append-nil, take_rest}
-use Rattle.mbox_text.specs.declared.entry.Entry.{Entry}
-use Rattle.mbox_text.specs.declared.partial_message.PartialMessage.{PartialMessage}
-use Rattle.mbox_text.specs.Lines.{lines, Ended, NoEnd}
-use Rattle.mbox_text.specs.Quoting.{unquoted, begins_from, begins_with, from_bytes}
-use Rattle.mbox_text.specs.Prefixes.{NeverFrom}
-use Rattle.mbox_text.specs.Mbox.{NoFrom}
-use Rattle.mbox_text.specs.Private.Moved.{chopped}
-use Rattle.mbox_text.specs.Held.{AtHead, InBody, Held, Closed}
+use Rattle.mbox_text.proofs.Common.{◌≡◌, ℕ, ◌+◌, ◌-◌, true, false, eqb, List, [], ◌∷◌, ◌++◌, length, take, drop, refl, sym, eqb-true, take-append-drop}
+use Rattle.mbox_text.proofs.Common.{append-nil, inl, inr, Option, Some, None, Result, Ok, Err, IfOk, is_some, flat_map, take-add, arith, AllocError, both_ways}
+use Rattle.mbox_text.proofs.Common.{false≢true, and_parts, ne_eqb, eqb-false, eq-eqb, cases_Bool, take_rest, Entry, PartialMessage, lines, Ended, NoEnd}
+use Rattle.mbox_text.proofs.Common.{unquoted, begins_from, begins_with, from_bytes, NeverFrom, NoFrom, chopped, AtHead, InBody, Held, Closed}
 use Rattle.mbox_text.proofs.Splitting.HeldLemmas.{head-add, body-add, body-closes, head-ends, body-ends, body-lines}
 use Rattle.mbox_text.proofs.TextLines.LineLemmas.{begins_from-more, begins_from-cut}
 

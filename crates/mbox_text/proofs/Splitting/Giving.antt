@@ -1,20 +1,8 @@
 -- Which messages a splitter has returned: all but the last, whatever comes after the text.
-use Rattle.std.proofs.Common.{◌≡◌, ℕ, false, List, [], ◌∷◌, ◌++◌, refl, sym, ◌∙◌, ap, append_assoc, inl, inr, Option, Some, rules}
-use Rattle.std.proofs.Common.{None, Result, Ok, Err, OnOk, IfErr, IsErr, IsErrOf, is_err, IsErrAnd, append-nil, arith}
-use Rattle.std.proofs.lemmas.Bool.{both_ways}
-use Rattle.std.proofs.lemmas.List.{append_cancel_left}
-use Rattle.mbox_text.specs.declared.entry.Entry.{Entry}
-use Rattle.mbox_text.specs.declared.partial_message.PartialMessage.{PartialMessage}
-use Rattle.mbox_text.specs.declared.fault.TextFault.{TextFault}
-use Rattle.mbox_text.specs.declared.fault.TextFault.TheVariants.{NoFromLine, LineEndInRest, Failed, OutOfMemory, WriteFault}
-use Rattle.mbox_text.specs.declared.splitter.Splitter.{Splitter}
-use Rattle.mbox_text.specs.Quoting.{begins_from, from_bytes}
-use Rattle.mbox_text.specs.Prefixes.{AllButLast, NeverFrom}
-use Rattle.mbox_text.specs.Private.Prefixes.{Stay}
-use Rattle.mbox_text.specs.Mbox.{Mbox, without_blank}
-use Rattle.mbox_text.specs.Held.{Held, HeldIn}
-use Rattle.mbox_text.specs.Private.Moved.{Moves, Gives, Refuses, Stops}
-use Rattle.mbox_text.specs.Fed.{Fed, Takes, NeverBegins, TakesPart}
+use Rattle.mbox_text.proofs.Common.{◌≡◌, ℕ, false, List, [], ◌∷◌, ◌++◌, refl, sym, ◌∙◌, ap, append_assoc, inl, inr, Option, Some, rules, None, Result, Ok, Err}
+use Rattle.mbox_text.proofs.Common.{OnOk, IfErr, IsErr, IsErrOf, is_err, IsErrAnd, append-nil, arith, both_ways, append_cancel_left, Entry, PartialMessage}
+use Rattle.mbox_text.proofs.Common.{TextFault, NoFromLine, LineEndInRest, Failed, OutOfMemory, WriteFault, Splitter, begins_from, from_bytes, AllButLast}
+use Rattle.mbox_text.proofs.Common.{NeverFrom, Stay, Mbox, without_blank, Held, HeldIn, Moves, Gives, Refuses, Stops, Fed, Takes, NeverBegins, TakesPart}
 use Rattle.mbox_text.proofs.TextLines.LineLemmas.{begins_from-more}
 use Rattle.mbox_text.proofs.TextLines.Heads.{from-rest}
 use Rattle.mbox_text.proofs.Reading.Last.{from-block}

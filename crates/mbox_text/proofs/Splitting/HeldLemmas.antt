@@ -1,12 +1,7 @@
 -- What a splitter keeps in memory, step by step.
-use Rattle.std.proofs.Common.{◌≡◌, ℕ, true, false, List, [], ◌∷◌, ◌++◌, refl, sym, ◌∙◌, ap, append_assoc, inl, inr, ◌⊎◌, flat_map, append-nil, arith}
-use Rattle.std.proofs.lemmas.List.Concat.{flat_map-append}
-use Rattle.mbox_text.specs.declared.entry.Entry.{Entry}
-use Rattle.mbox_text.specs.Lines.{lines, Ended, NoEnd}
-use Rattle.mbox_text.specs.Quoting.{unquoted, begins_from, begins_with, from_bytes}
-use Rattle.mbox_text.specs.Mbox.{NoFrom, unended, without_blank, Block}
-use Rattle.mbox_text.specs.Private.Moved.{chopped}
-use Rattle.mbox_text.specs.Held.{Closed, Open, AtHead, InBody}
+use Rattle.mbox_text.proofs.Common.{◌≡◌, ℕ, true, false, List, [], ◌∷◌, ◌++◌, refl, sym, ◌∙◌, ap, append_assoc, inl, inr, ◌⊎◌, flat_map, append-nil, arith}
+use Rattle.mbox_text.proofs.Common.{flat_map-append, Entry, lines, Ended, NoEnd, unquoted, begins_from, begins_with, from_bytes, NoFrom, unended}
+use Rattle.mbox_text.proofs.Common.{without_blank, Block, chopped, Closed, Open, AtHead, InBody}
 use Rattle.mbox_text.proofs.TextLines.LineLemmas.{lines-append, lines-line, lines-part, unquoted-push, begins_from-cut, begins_from-more}
 use Rattle.mbox_text.proofs.Reading.Chopped.{chopped-body, chopped-part, without_blank-part, unquoted-some}
 use Rattle.mbox_text.proofs.TextLines.LineEnds.{NoEnd-append}
@@ -127,12 +122,12 @@ body-whole a = grind (arith, append-nil a.block)
 pub body-ends : {text : List ℕ} {given : List Entry} {f body line : List ℕ} → InBody text given f body line
     → InBody (text ++ 10 ∷ []) given f ((body ++ unquoted line) ++ 10 ∷ []) []
 unfolding lines
-body-ends {text} {given} {f} {body} {line} a =
-    let part = line ++ 10 ∷ [] in
-    let one = lines-line line [] a.part in
-    let none : NoFrom (lines part) = rw one (begins_from-cut line [] ∙ a.tail, tt) in
-    let whole = body-lines (body-whole a) (inr (line, refl)) none in
-    let texts : (a.prefix ++ a.block) ++ part ≡ text ++ 10 ∷ [] = rw a.is (simp append_assoc) in
-    let bodies : body ++ flat_map unquoted (lines part) ≡ (body ++ unquoted line) ++ 10 ∷ [] =
-    rw (one, append-nil (unquoted part), unquoted-push line) (sym (append_assoc body (unquoted line) (10 ∷ []))) in
-    rw (← texts, ← bodies) whole
+body-ends {line} a = grind (
+  arith,
+  lines-line line [] a.part,
+  begins_from-cut line [],
+  body-lines {part = line ++ 10 ∷ []} (body-whole a),
+  append_assoc,
+  append-nil,
+  unquoted-push line,
+)

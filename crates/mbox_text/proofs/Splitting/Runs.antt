@@ -1,15 +1,8 @@
 -- Whole lines that are added to a body, unquoted.
-use Rattle.std.proofs.Common.{◌≡◌, ℕ, ◌+◌, ◌-◌, ◌≤◌, true, false, Some, eqb, List, [], ◌∷◌, ◌++◌, length, rules}
-use Rattle.std.proofs.Common.{take, drop, refl, sym, ◌∙◌, ap, arith, append_assoc, inr, take-add}
-use Rattle.std.specs.List.{flat_map, concat}
-use Rattle.std.proofs.lemmas.Bool.{false_from_ne_true, both_ways, cases_Bool}
-use Rattle.std.proofs.lemmas.List.{append-nil, take-append-drop, take_rest, length-drop}
-use Rattle.std.proofs.lemmas.List.Concat.{flat_map-append}
-use Rattle.memchr.specs.Find.{IsFirstByte, is_byte}
-use Rattle.mbox_text.specs.Lines.{lines, Ended}
-use Rattle.mbox_text.specs.Quoting.{unquoted, quotable, begins_from}
-use Rattle.mbox_text.specs.Private.Lines.{NoneQuotable, FirstQuotable}
-use Rattle.mbox_text.specs.Mbox.{NoFrom}
+use Rattle.mbox_text.proofs.Common.{◌≡◌, ℕ, ◌+◌, ◌-◌, ◌≤◌, true, false, Some, eqb, List, [], ◌∷◌, ◌++◌, length, rules, flat_map, append-nil, take-append-drop}
+use Rattle.mbox_text.proofs.Common.{take, drop, refl, sym, ◌∙◌, ap, arith, append_assoc, inr, take-add, concat, false_from_ne_true, both_ways, cases_Bool}
+use Rattle.mbox_text.proofs.Common.{take_rest, length-drop, flat_map-append, IsFirstByte, is_byte, lines, Ended, unquoted, quotable, begins_from, NoneQuotable}
+use Rattle.mbox_text.proofs.Common.{FirstQuotable, NoFrom}
 use Rattle.mbox_text.proofs.TextLines.LineLemmas.{lines-append, lines-line, concat-lines, begins_from-more, unquoted-other}
 use Rattle.mbox_text.proofs.Splitting.HeldLemmas.{NoFrom-append, Ended-append}
 use Rattle.mbox_text.proofs.TextLines.LineEnds.{line-there}

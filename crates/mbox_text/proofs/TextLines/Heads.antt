@@ -1,11 +1,7 @@
 -- What a text and its first line begin with.
-use Rattle.std.proofs.Common.{◌≡◌, ℕ, ◌<◌, ◌≤◌, true, false, eqb, List, [], ◌∷◌, ◌++◌, length, refl, sym, arith, inl, inr, ◌⊎◌}
-use Rattle.std.specs.List.{concat}
-use Rattle.std.proofs.lemmas.Bool.{false≢true, and_parts, and_from, eqb-true, eq-eqb}
-use Rattle.mbox_text.specs.declared.entry.Entry.{Entry}
-use Rattle.mbox_text.specs.Lines.{before_first, lines, NoEnd}
-use Rattle.mbox_text.specs.Quoting.{begins_with, begins_from, from_bytes}
-use Rattle.mbox_text.specs.Mbox.{Block, Mbox, IsMboxText}
+use Rattle.mbox_text.proofs.Common.{◌≡◌, ℕ, ◌<◌, ◌≤◌, true, false, eqb, List, [], ◌∷◌, ◌++◌, length, refl, sym, arith, inl, inr, ◌⊎◌, eqb-true, concat}
+use Rattle.mbox_text.proofs.Common.{false≢true, and_parts, and_from, eq-eqb, Entry, before_first, lines, NoEnd, begins_with, begins_from, from_bytes, Block}
+use Rattle.mbox_text.proofs.Common.{Mbox, IsMboxText}
 use Rattle.mbox_text.proofs.TextLines.LineLemmas.{begins_from-more, concat-lines}
 
 -- the text has a first line, and it begins with these bytes

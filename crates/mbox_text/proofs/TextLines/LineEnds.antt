@@ -1,11 +1,7 @@
 -- Where the `\n` of a text stand.
-use Rattle.std.proofs.Common.{◌≡◌, ℕ, zero, suc, ◌+◌, ◌<◌, ◌↔◌, Bool, true, false, Option, Some, None, eqb, List, [], ◌∷◌}
-use Rattle.std.proofs.Common.{◌++◌, length, get_or, take, drop, not, is_some, IsTrue, refl, sym, ◌∙◌, ap, arith}
-use Rattle.std.proofs.lemmas.Bool.{both_ways, false_from_ne_true, eqb-true}
-use Rattle.std.proofs.lemmas.List.{take_all, take_more, length-drop, get_or-drop}
-use Rattle.memchr.specs.Find.{IsFirstByte, IsLastByte, is_byte}
-use Rattle.mbox_text.specs.Lines.{lines, NoEnd}
-use Rattle.mbox_text.specs.Private.Lines.{IsLine}
+use Rattle.mbox_text.proofs.Common.{◌≡◌, ℕ, zero, suc, ◌+◌, ◌<◌, ◌↔◌, Bool, true, false, Option, Some, None, eqb, List, [], ◌∷◌, eqb-true, take_all, ◌++◌}
+use Rattle.mbox_text.proofs.Common.{length, get_or, take, drop, not, is_some, IsTrue, refl, sym, ◌∙◌, ap, arith, both_ways, false_from_ne_true, take_more}
+use Rattle.mbox_text.proofs.Common.{length-drop, get_or-drop, IsFirstByte, IsLastByte, is_byte, lines, NoEnd, IsLine}
 use Rattle.mbox_text.proofs.TextLines.LineLemmas.{lines-line, lines-part}
 
 pub NoEnd-append : (a b : List ℕ) → NoEnd a → NoEnd b → NoEnd (a ++ b)

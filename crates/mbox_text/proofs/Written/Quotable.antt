@@ -1,14 +1,8 @@
 -- The first quotable line of a text, and the lines before it, of which none is.
-use Rattle.std.proofs.Common.{◌≡◌, ℕ, zero, suc, ◌+◌, ◌-◌, ◌≤◌, ◌<◌, Some, None, true, false, eqb, List, [], rules}
-use Rattle.std.proofs.Common.{◌∷◌, ◌++◌, length, take, drop, get_or, sym, ◌∙◌, ap, arith, inl, inr, ◌⊎◌}
-use Rattle.std.specs.List.{concat}
-use Rattle.std.proofs.lemmas.Bool.{cases_Bool, cases_lt, false≢true, and_parts, eqb-true}
-use Rattle.std.proofs.lemmas.List.{take_all, length-drop, length-take, get_or-drop, drop-append-le, drop-take, take-take, take_rest}
-use Rattle.std.proofs.Math.Seq.{drop-append-add, take-add}
-use Rattle.memchr.specs.Find.{FindsNeedle, OccursAt}
-use Rattle.mbox_text.specs.Lines.{lines, Ended}
-use Rattle.mbox_text.specs.Private.Lines.{IsLine, NoneQuotable, FirstQuotable}
-use Rattle.mbox_text.specs.Quoting.{begins_with, begins_from, from_bytes, quotable}
+use Rattle.mbox_text.proofs.Common.{◌≡◌, ℕ, zero, suc, ◌+◌, ◌-◌, ◌≤◌, ◌<◌, Some, None, true, false, eqb, List, [], rules, eqb-true, take_all, take-add, ◌∷◌}
+use Rattle.mbox_text.proofs.Common.{◌++◌, length, take, drop, get_or, sym, ◌∙◌, ap, arith, inl, inr, ◌⊎◌, concat, cases_Bool, cases_lt, false≢true, and_parts}
+use Rattle.mbox_text.proofs.Common.{length-drop, length-take, get_or-drop, drop-append-le, drop-take, take-take, take_rest, drop-append-add, FindsNeedle}
+use Rattle.mbox_text.proofs.Common.{OccursAt, lines, Ended, IsLine, NoneQuotable, FirstQuotable, begins_with, begins_from, from_bytes, quotable}
 use Rattle.mbox_text.proofs.TextLines.Heads.{from-long}
 use Rattle.mbox_text.proofs.TextLines.LineLemmas.{begins_from-more, concat-lines, lines-append}
 use Rattle.mbox_text.proofs.Splitting.HeldLemmas.{Ended-append}

@@ -1,13 +1,7 @@
 -- What is written is read again.
-use Rattle.std.proofs.Common.{◌≡◌, ℕ, true, eqb, List, [], ◌∷◌, ◌++◌, map, refl, sym, ◌∙◌, ap, append_assoc, inl, inr, append-nil, arith}
-use Rattle.std.specs.List.{flat_map, concat}
-use Rattle.std.proofs.lemmas.Bool.{cases_Bool, eqb-true}
-use Rattle.std.proofs.lemmas.List.Concat.{flat_map-append}
-use Rattle.mbox_text.specs.declared.entry.Entry.{Entry}
-use Rattle.mbox_text.specs.Lines.{lines, Ended, NoEnd}
-use Rattle.mbox_text.specs.Quoting.{quotable, quoted, unquoted, begins_from}
-use Rattle.mbox_text.specs.Mbox.{NoFrom, Block, Mbox, without_blank}
-use Rattle.mbox_text.specs.Spelling.{missing_end, spelling, completed, FromLines}
+use Rattle.mbox_text.proofs.Common.{◌≡◌, ℕ, true, eqb, List, [], ◌∷◌, ◌++◌, map, refl, sym, ◌∙◌, ap, append_assoc, inl, inr, append-nil, arith, flat_map}
+use Rattle.mbox_text.proofs.Common.{eqb-true, concat, cases_Bool, flat_map-append, Entry, lines, Ended, NoEnd, quotable, quoted, unquoted, begins_from, NoFrom}
+use Rattle.mbox_text.proofs.Common.{Block, Mbox, without_blank, missing_end, spelling, completed, FromLines}
 use Rattle.mbox_text.proofs.TextLines.LineLemmas.{lines-append, lines-line, lines-part, begins_from-more, quotable-cut}
 use Rattle.mbox_text.proofs.TextLines.LineLemmas.{missing-ended, missing-part, quoted_no_from, unquoted_quoted, concat-lines}
 use Rattle.mbox_text.proofs.Reading.Chopped.{Whole, lines-whole}

@@ -1,17 +1,9 @@
 -- What is written of a body, part by part.
-use Rattle.std.proofs.Common.{◌≡◌, ℕ, zero, suc, ◌+◌, ◌-◌, ◌≤◌, ◌<◌, Option, Result, true, false, eqb, List, [], ◌∷◌, ◌++◌}
-use Rattle.std.proofs.Common.{length, take, drop, get_or, refl, sym, ◌∙◌, ap, arith, append_assoc, inl, inr, ◌⊎◌, take-add}
-use Rattle.std.specs.List.{flat_map, concat}
-use Rattle.std.specs.Io.KnownBytes.{Appends}
-use Rattle.std.proofs.KnownBytes.{Appends-trans, Appends-nil}
-use Rattle.std.proofs.lemmas.Bool.{ne_eqb, eqb-true, eqb-false}
-use Rattle.std.proofs.lemmas.List.{append-nil, take_more, take-append-drop, take_all, take_rest, drop_all, drop-drop, length-drop, nil_from_length}
-use Rattle.std.proofs.lemmas.List.Concat.{flat_map-append}
-use Rattle.mbox_text.specs.Lines.{lines, Ended}
-use Rattle.mbox_text.specs.Private.Lines.{IsLine, NoneQuotable, FirstQuotable}
-use Rattle.mbox_text.specs.Quoting.{quotable, quoted}
-use Rattle.mbox_text.specs.Spelling.{missing_end}
-use Rattle.mbox_text.specs.Writing.{AppendsPrefix, Writes}
+use Rattle.mbox_text.proofs.Common.{◌≡◌, ℕ, zero, suc, ◌+◌, ◌-◌, ◌≤◌, ◌<◌, Option, Result, true, false, eqb, List, [], ◌∷◌, ◌++◌, flat_map, eqb-true}
+use Rattle.mbox_text.proofs.Common.{append-nil, take-append-drop, take_all, length, take, drop, get_or, refl, sym, ◌∙◌, ap, arith, append_assoc, inl, inr, ◌⊎◌}
+use Rattle.mbox_text.proofs.Common.{take-add, concat, Appends, Appends-trans, Appends-nil, ne_eqb, eqb-false, take_more, take_rest, drop_all, drop-drop}
+use Rattle.mbox_text.proofs.Common.{length-drop, nil_from_length, flat_map-append, lines, Ended, IsLine, NoneQuotable, FirstQuotable, quotable, quoted}
+use Rattle.mbox_text.proofs.Common.{missing_end, AppendsPrefix, Writes}
 use Rattle.mbox_text.proofs.TextLines.LineLemmas.{lines-append, concat-lines, quotable-cut, missing-ended, missing-part}
 use Rattle.mbox_text.proofs.Splitting.HeldLemmas.{Ended-append}
 use Rattle.mbox_text.proofs.Written.Appended.{prefix_then, wrote}
