@@ -1,12 +1,12 @@
 -- The bases of targets: their parts, and that they are this converter's.
-use Rattle.std.proofs.Common.{◌≡◌, ℕ, zero, suc, ◌+◌, ◌^◌, ◌<◌, true, List, [], ◌∷◌, ◌++◌, length, take}
+use Rattle.std.proofs.Common.{◌≡◌, ℕ, zero, suc, ◌+◌, ◌^◌, ◌<◌, true, List, [], ◌∷◌, ◌++◌, length, take, rules}
 use Rattle.std.proofs.Common.{drop, slice_index, refl, sym, ◌∙◌, ap, arith, decimal, append_assoc, lit<}
 use Rattle.std.specs.List.{list_all}
-use Rattle.std.specs.Int.{byte_at, bytes_high_first, to_be_bytes, w32}
+use Rattle.std.specs.Int.{byte_at, bytes_high_first}
 use Rattle.std.proofs.lemmas.Bool.{and_from, le-leb, cases_Bool}
 use Rattle.std.proofs.lemmas.Fmt.{digits_decimal, digits_value-decimal, first_decimal, decimal_injective}
 use Rattle.std.proofs.lemmas.List.{take_at, drop_at, get_or_at, length_push}
-use Rattle.sha2.specs.Sha256.{sha256, digest_bytes, final_hash, initial_hash_256}
+use Rattle.sha2.specs.Sha256.{sha256, digest_bytes}
 use Rattle.sha2.proofs.Facts256.{length-sha256}
 use Rattle.hex.specs.Hex.{encode_with, lower_digits, IsBytes}
 use Rattle.hex.proofs.HexLemmas.{length-encode_with, decode_of-encode_lower}
@@ -36,13 +36,12 @@ bytes-high_first (suc k) n = (byte_at-lt k n, bytes-high_first k n)
 bytes-digest_bytes : (h : List ℕ) (n : ℕ) → AllBytes (digest_bytes h n)
 unfolding digest_bytes
 bytes-digest_bytes h zero = tt
-bytes-digest_bytes h (suc n) =
-    bytes-append (digest_bytes h n) (to_be_bytes w32 (slice_index h n)) (bytes-digest_bytes h n) (bytes-high_first 4 (slice_index h n))
+bytes-digest_bytes h (suc n) = grind (arith, bytes-append, bytes-high_first, bytes-digest_bytes h n)
 
 -- each number of a digest is below 256
 pub bytes-sha256 : (body : List ℕ) → AllBytes (sha256 body)
 unfolding sha256
-bytes-sha256 body = bytes-digest_bytes (final_hash initial_hash_256 body) 8
+bytes-sha256 body = grind (arith, bytes-digest_bytes)
 
 pub IsBytes-AllBytes : (bytes : List ℕ) → AllBytes bytes → IsBytes bytes
 IsBytes-AllBytes [] h i = lit< tt
@@ -63,7 +62,7 @@ length-digest_text body = grind (arith, length-encode_with, length-sha256)
 
 -- the parts of a base
 pub numbered-digits : (body : List ℕ) (n : ℕ) → take 64 (numbered body n) ≡ digest_text body
-numbered-digits body n = take_at (digest_text body) (46 ∷ decimal n) 64 (length-digest_text body)
+numbered-digits body n = search (rules, take_at, length-digest_text)
 
 pub numbered-number : (body : List ℕ) (n : ℕ) → drop 65 (numbered body n) ≡ decimal n
 numbered-number body n =

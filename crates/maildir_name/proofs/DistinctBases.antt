@@ -1,11 +1,9 @@
 -- The bases of the targets of one text: this converter's, and distinct.
-use Rattle.std.proofs.Common.{◌≡◌, ℕ, ◌+◌, ◌^◌, ◌<◌, ◌≤◌, List, [], ◌∷◌, ◌++◌, length, get_or, take, count_by}
+use Rattle.std.proofs.Common.{◌≡◌, ℕ, ◌+◌, ◌^◌, ◌<◌, ◌≤◌, List, [], ◌∷◌, ◌++◌, length, get_or, take, count_by, rules}
 use Rattle.std.proofs.Common.{refl, sym, ◌∙◌, ap, arith, All, AllPairs, bytes_eq, cond, length-take-le}
-use Rattle.std.specs.Cmp.Lexicographic.{nat_list_eq_equiv}
 use Rattle.std.proofs.lemmas.List.{take_more, take-take}
 use Rattle.std.proofs.lemmas.List.Sums.{count_by-le-length, sum_by-take-le}
 use Rattle.sha2.specs.Sha256.{sha256}
-use Rattle.maildir_name.specs.declared.target.Target.{Target}
 use Rattle.maildir_name.specs.Flags.{flags}
 use Rattle.maildir_name.specs.Targets.{numbered, same_digest, target, targets}
 use Rattle.maildir_name.proofs.BaseLemmas.{IsNamed, named-under_flags, numbered-converter, under_flags-base, same-digest, same-number}
@@ -18,9 +16,7 @@ number_after before body = count_by (same_digest body) (before ++ body ∷ [])
 
 -- an occurrence number counts the body itself, and is at most the number of bodies
 pub number_after-is : (before : List (List ℕ)) (body : List ℕ) → number_after before body ≡ count_by (same_digest body) before + 1
-number_after-is before body =
-    let itself = nat_list_eq_equiv.refl (sha256 body) in
-    rw itself at (count-push (same_digest body) before body)
+number_after-is before body = search (rules, count-push)
 
 pub number_after-le : (before : List (List ℕ)) (body : List ℕ) → number_after before body ≤ length before + 1
 number_after-le before body = grind (arith, number_after-is, count_by-le-length)
@@ -39,9 +35,7 @@ named-target before body few =
 
 pub named-targets : (bodies : List (List ℕ)) → length bodies ≤ 2 ^ 63 → All IsNamed (targets bodies)
 named-targets bodies few k d below =
-    let l : k < length bodies = omega (arith, below, length-targets bodies) in
-    let len : length (take k bodies) ≡ k = length-take-le k bodies (omega arith) in
-    rw (get_or-targets bodies k d l) (named-target (take k bodies) (get_or bodies k []) (omega (arith, len)))
+    grind (arith, length-targets bodies, get_or-targets bodies k d, named-target (take k bodies) (get_or bodies k []), length-take-le k bodies)
 
 -- an earlier body with the same digest has a smaller number
 earlier-lt : (bodies : List (List ℕ)) (i j : ℕ) → i < j → j < length bodies → sha256 (get_or bodies i []) ≡ sha256 (get_or bodies j [])
@@ -57,17 +51,15 @@ earlier-lt bodies i j lt in_list e =
     omega (arith, one, le, other)
 
 pub distinct-targets : (bodies : List (List ℕ)) → length bodies ≤ 2 ^ 63 → AllPairs (λ one other. one.base ≡ other.base → ⊥) (targets bodies)
-distinct-targets bodies few i j d lt below same =
-    let in_list : j < length bodies = omega (arith, below, length-targets bodies) in
-    let one = ap (λ (t : Target). t.base) (get_or-targets bodies i d (omega arith)) ∙ target-base (take i bodies) (get_or bodies i []) in
-    let other = ap (λ (t : Target). t.base) (get_or-targets bodies j d in_list) ∙ target-base (take j bodies) (get_or bodies j []) in
-    let m = number_after (take i bodies) (get_or bodies i []) in
-    let n = number_after (take j bodies) (get_or bodies j []) in
-    let bases = sym one ∙ (same ∙ other) in
-    let m_le = number_after-le (take i bodies) (get_or bodies i []) in
-    let n_le = number_after-le (take j bodies) (get_or bodies j []) in
-    let i_len : length (take i bodies) ≡ i = length-take-le i bodies (omega arith) in
-    let j_len : length (take j bodies) ≡ j = length-take-le j bodies (omega arith) in
-    let less = earlier-lt bodies i j lt in_list (same-digest (get_or bodies i []) (get_or bodies j []) m n bases) in
-    let numbers = same-number (get_or bodies i []) (get_or bodies j []) m n (omega (arith, m_le, i_len)) (omega (arith, n_le, j_len)) bases in
-    absurd (omega (arith, less, numbers))
+distinct-targets bodies few i j d lt below same = grind (
+  arith,
+  get_or-targets bodies i d,
+  get_or-targets bodies j d,
+  target-base,
+  length-targets bodies,
+  number_after-le,
+  length-take-le,
+  earlier-lt bodies i j lt,
+  same-digest,
+  same-number,
+)

@@ -1,7 +1,7 @@
 -- The bases of equal bodies.
-use Rattle.std.proofs.Common.{◌≡◌, ℕ, ◌+◌, cond, List, [], ◌∷◌, ◌++◌, length, zip, count_by, refl, sym}
+use Rattle.std.proofs.Common.{◌≡◌, ℕ, ◌+◌, cond, List, [], ◌∷◌, ◌++◌, length, zip, count_by, refl, sym, rules}
 use Rattle.std.proofs.Common.{◌∙◌, ap, arith, All, bytes_eq, inl, inr, add-zero, append-nil, append_assoc}
-use Rattle.std.specs.Cmp.Lexicographic.{nat_list_eq_equiv, bytes_decides}
+use Rattle.std.specs.Cmp.Lexicographic.{bytes_decides}
 use Rattle.std.proofs.lemmas.Bool.{cases_Bool, false_from_ne_true, both_ways}
 use Rattle.std.proofs.lemmas.List.{map-append, get_or_append_left, get_or_push, length_push}
 use Rattle.std.proofs.lemmas.List.Elements.{filter-append}
@@ -36,11 +36,7 @@ alone-last body bodies last h = grind (arith, length_push, get_or_push)
 
 -- such a body has the digest of another just if they are equal
 alone-same : (body last : List ℕ) → (sha256 last ≡ sha256 body → last ≡ body) → same_digest body last ≡ bytes_eq body last
-alone-same body last h = elim (cases_Bool (bytes_eq body last)) [
-  | inl t ↦ rw (t, sym ((bytes_decides body last).0 t)) (nat_list_eq_equiv.refl (sha256 body))
-  | inr f ↦ rw f (false_from_ne_true (same_digest body last) (λ t.
-      both_ways (bytes_eq body last) f ((bytes_decides body last).1 (sym (h (sym ((bytes_decides (sha256 body) (sha256 last)).0 t)))))))
-]
+alone-same body last h = search (rules, cases_Bool, false_from_ne_true, both_ways)
 
 count-alone : (body : List ℕ) (bodies : List (List ℕ)) → IsAlone body bodies → count_by (same_digest body) bodies ≡ count_by (bytes_eq body) bodies
 count-alone body bodies = by_one_more (λ l. IsAlone body l → count_by (same_digest body) l ≡ count_by (bytes_eq body) l) (λ _. refl)

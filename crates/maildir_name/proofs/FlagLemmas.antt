@@ -1,6 +1,6 @@
 -- Lines, headers and fields.
 use Rattle.std.proofs.Common.{◌≡◌, ℕ, ◌+◌, ◌-◌, ◌<◌, ◌≤◌, zero, suc, Bool, true, false, eqb, List, [], ◌∷◌, length}
-use Rattle.std.proofs.Common.{get_or, take, drop, position, Some, None, refl, sym, ap, arith, le_refl, zero-le, add-one}
+use Rattle.std.proofs.Common.{get_or, take, drop, position, Some, None, refl, arith, le_refl, zero-le, add-one}
 use Rattle.std.proofs.lemmas.Bool.{eqb-true, cases_Bool}
 use Rattle.std.proofs.lemmas.List.{drop_all, take_all, take_rest, nil_from_length}
 use Rattle.std.proofs.lemmas.List.Quantifiers.{position-Some}
@@ -15,7 +15,7 @@ lines-cut : (text : List ℕ) (n : ℕ) → n < length text → is_end (get_or t
     → lines text ≡ take (suc n) text ∷ lines (drop (suc n) text)
 unfolding lines
 lines-cut [] n l e h = absurd (omega arith)
-lines-cut (c ∷ text) zero l e h = rw e (ap (λ x. (x ∷ []) ∷ lines text) (sym (eqb-true c 10 e)))
+lines-cut (c ∷ text) zero l e h = grind (arith, eqb-true)
 lines-cut (c ∷ text) (suc n) l e h =
     let first : is_end c ≡ false = h zero (omega arith) in
     rw (first, lines-cut text n (omega (arith, l)) e (λ k low. h (suc k) (omega arith))) refl

@@ -14,7 +14,7 @@ use Rattle.maildir_name.specs.Names.{base, is_colon, is_lower_hex_digit, is_occu
 
 -- a byte that is no digit is not among digits
 pub hex_is_not : (c d : ℕ) → is_lower_hex_digit c ≡ true → is_lower_hex_digit d ≡ false → c ≡ d → ⊥
-hex_is_not c d h n e = both_ways (is_lower_hex_digit d) n (rw e at h)
+hex_is_not c d h n e = grind (arith, both_ways)
 
 -- a base of this converter in its parts
 pub record Parts (b : List ℕ) : Type 0 where

@@ -1,7 +1,5 @@
 -- The counts of a namer, and the bodies that it has named.
-use Rattle.std.proofs.Common.{◌≡◌, ℕ, ◌+◌, ◌-◌, ◌^◌, ◌<◌, min, Bool, false, cond, List, [], ◌∷◌, ◌++◌}
-use Rattle.std.proofs.Common.{length, count_by, sym, ◌∙◌, ap, add-zero, arith, inl, inr, decimal, bytes_eq}
-use Rattle.std.specs.Cmp.Lexicographic.{nat_list_eq_equiv, bytes_decides}
+use Rattle.std.proofs.Common.{◌≡◌, ℕ, ◌+◌, ◌-◌, ◌^◌, ◌<◌, min, Bool, cond, List, [], ◌∷◌, ◌++◌, rules, length, count_by, add-zero, arith, decimal, bytes_eq}
 use Rattle.std.proofs.lemmas.Bool.{cases_Bool}
 use Rattle.std.proofs.lemmas.List.Sums.{count_by-le-length, sum_by_push}
 use Rattle.sha2.specs.Sha256.{sha256}
@@ -28,27 +26,11 @@ module _ {bodies : List (List ℕ)} {body digest : List ℕ} {count number : ℕ
     (c : Counted body digest count number old new) (held : Named bodies old) (small : length bodies < 2 ^ 63) where
   -- the number that the namer gives is the one in the target
   number-counted : number ≡ count_by (same_digest body) (bodies ++ body ∷ [])
-  number-counted =
-      let itself = nat_list_eq_equiv.refl (sha256 body) in
-      let before : count_of old digest ≡ count_by (same_digest body) bodies = rw (c.digest_is) (held.exact (sha256 body)) in
-      let more = rw itself at (count-push (same_digest body) bodies body) in
-      omega (arith, before, more, count_by-le-length (same_digest body) bodies, c.number_is, c.count_is)
+  number-counted = search (rules, count-push, count_by-le-length)
 
   -- the new counts are those of all bodies with this one
   named-counted : Named (bodies ++ body ∷ []) new
-  named-counted = record {
-    exact = λ other.
-        let p = λ (b : List ℕ). bytes_eq other (sha256 b) in
-        let more = count-push p bodies body in
-        elim (cases_Bool (bytes_eq digest other)) [
-          | inl t ↦
-              let e = sym ((bytes_decides digest other).0 t) ∙ c.digest_is in
-              (rw t at (c.set other)) ∙ (number-counted ∙ ap (λ d. count_by (λ b. bytes_eq d (sha256 b)) (bodies ++ body ∷ [])) (sym e))
-          | inr f ↦
-              let e : p body ≡ false = nat_list_eq_equiv.symm other (sha256 body) ∙ (ap (λ d. bytes_eq d other) (sym c.digest_is) ∙ f) in
-              (rw f at (c.set other)) ∙ (held.exact other ∙ (sym (add-zero (count_by p bodies)) ∙ sym (rw e at more)))
-        ];
-  }
+  named-counted = search (rules, count-push, cases_Bool, number-counted, add-zero)
 
   -- the target that the namer makes is the next of `targets`
   pub next-counted : {base : List ℕ} {f : Flags} {t : Target} → base ≡ encode_lower digest ++ 46 ∷ decimal number → f ≡ flags body → t ≡ under_flags base f

@@ -1,12 +1,8 @@
 -- From_ lines, taken apart and built.
-use Rattle.std.proofs.Common.{◌≡◌, ℕ, zero, suc, add-zero, ◌+◌, ◌-◌, ◌<◌, ◌≤◌, true, false, Option, Some, None, Result, Ok, Err, cond, eqb, List, []}
-use Rattle.std.proofs.Common.{◌∷◌, ◌++◌, get_or, length, take, drop, map, refl, sym, ◌∙◌, ap, arith, append_assoc, Contains, OnOk, codes, is_ok, is_some}
-use Rattle.std.proofs.lemmas.Bool.{ne_eqb, false_from_ne_true, false≢true}
-use Rattle.std.proofs.lemmas.List.{append-nil, drop_at, drop_more, get_or-drop, length-drop, length-take, take_rest}
-use Rattle.memchr.specs.Find.{IsFirstByte, is_byte}
-use Rattle.mbox_text.specs.Lines.{NoEnd}
-use Rattle.mbox_text.specs.Quoting.{begins_from, from_bytes}
-use Rattle.mbox_text.specs.FromLine.{IsFromLine, before_space, past_spaces, sender, rest, hyphened, cleaned, after_sender, built}
+use Rattle.mbox_text.proofs.Common.{◌≡◌, ℕ, zero, suc, ◌-◌, ◌<◌, ◌≤◌, true, false, Option, Some, None, Result, Ok, Err, cond, eqb, List, [], append-nil, ◌∷◌}
+use Rattle.mbox_text.proofs.Common.{◌++◌, get_or, length, take, drop, map, refl, sym, ◌∙◌, ap, arith, append_assoc, Contains, OnOk, codes, is_ok, is_some}
+use Rattle.mbox_text.proofs.Common.{false_from_ne_true, false≢true, drop_at, length-take, take_rest, IsFirstByte, is_byte, NoEnd, begins_from, from_bytes}
+use Rattle.mbox_text.proofs.Common.{IsFromLine, before_space, past_spaces, sender, rest, hyphened, cleaned, after_sender, built}
 use Rattle.mbox_text.proofs.TextLines.LineEnds.{none-there, NoEnd-append, NoEnd-at}
 
 -- a list that a call extended
@@ -84,7 +80,7 @@ not-found r (Some n) h e there = absurd (false≢true (sym e))
 
 pub built-none : (s r : List ℕ) → length r ≡ 0 → from_bytes ++ cleaned s ≡ built s r
 unfolding built
-built-none s [] h = ap (λ z. from_bytes ++ z) (sym (append-nil (cleaned s)))
+built-none s [] h = grind (arith, append-nil)
 built-none s (c ∷ r) h = absurd (omega (arith, h))
 
 pub built-some : (s r : List ℕ) → (length r ≡ 0 → ⊥) → ((from_bytes ++ cleaned s) ++ 32 ∷ []) ++ r ≡ built s r
@@ -112,19 +108,7 @@ pub before-found : (s : List ℕ) {n : ℕ} → IsFirstByte (is_byte 32) s (Some
 before-found s h = grind (arith, before-at)
 
 pub before-none : {s : List ℕ} → IsFirstByte (is_byte 32) s None → s ≡ before_space s
-before-none {s} h = before-all s (λ k l. h k (omega arith) l)
-
--- one more leading space
-pub past-mark : (s : List ℕ) {at : ℕ} → at < length s → get_or s at 0 ≡ 32 → past_spaces (drop at s) ≡ past_spaces (drop (at + 1) s)
-past-mark s {at} h e = rw (drop_more s at 0 h, e) refl
-
-past-plain : (s : List ℕ) → (0 < length s → get_or s 0 0 ≡ 32 → ⊥) → past_spaces s ≡ s
-past-plain [] h = refl
-past-plain (c ∷ s) h = rw (ne_eqb c 32 (h (omega arith))) refl
-
--- no more leading space
-pub past-stop : (s : List ℕ) {at : ℕ} → (at < length s → get_or s at 0 ≡ 32 → ⊥) → past_spaces (drop at s) ≡ drop at s
-past-stop s h = grind (arith, past-plain, length-drop, get_or-drop, add-zero)
+before-none {s} h = grind (arith, before-all)
 
 -- the parts of a From_ line whose first space after `From ` is at this place
 pub sender-at : (line : List ℕ) {after : List ℕ} (n : ℕ) → after ≡ drop 5 line → take n after ≡ before_space after → take n after ≡ sender line

@@ -1,32 +1,22 @@
 -- The messages of a text have their From_ lines.
-use Rattle.std.proofs.Common.{◌≡◌, ℕ, true, eqb, List, [], ◌∷◌, ◌++◌, refl, ◌∙◌, inl, inr, eqb-true, zero, suc, ◌<◌, length, get_or, arith}
-use Rattle.std.proofs.lemmas.Bool.{cases_Bool}
-use Rattle.mbox_text.specs.declared.entry.Entry.{Entry}
-use Rattle.mbox_text.specs.FromLine.{IsFromLine}
-use Rattle.mbox_text.specs.Mbox.{Block, unended, Mbox}
-use Rattle.mbox_text.specs.Spelling.{FromLines}
-use Rattle.mbox_text.specs.Lines.{NoEnd}
-use Rattle.mbox_text.specs.Quoting.{begins_with, begins_from, from_bytes}
+use Rattle.mbox_text.proofs.Common.{◌≡◌, ℕ, true, List, [], ◌∷◌, ◌++◌, refl, eqb-true, zero, suc, ◌<◌, length, get_or, arith, cases_Bool, Entry, IsFromLine}
+use Rattle.mbox_text.proofs.Common.{Block, unended, Mbox, FromLines, NoEnd, begins_with, begins_from}
 
 unended-no_end : (l : List ℕ) → NoEnd (unended l)
 unended-no_end [] = tt
-unended-no_end (c ∷ l) = elim (cases_Bool (eqb c 10)) [ inl e ↦ rw e tt | inr e ↦ rw e (e, unended-no_end l) ]
+unended-no_end (c ∷ l) = grind (arith, cases_Bool, unended-no_end l)
 
 begins_with-unended : (prefix l : List ℕ) → NoEnd prefix → begins_with prefix (unended l) ≡ begins_with prefix l
 begins_with-unended [] l h = refl
 begins_with-unended (p ∷ prefix) [] h = refl
-begins_with-unended (p ∷ prefix) (c ∷ l) h =
-    elim (cases_Bool (eqb c 10)) [
-      | inl e ↦ let same : c ≡ 10 = eqb-true c 10 e in rw e (rw same (rw h.0 refl))
-      | inr e ↦ rw e (rw (begins_with-unended prefix l h.1) refl)
-    ]
+begins_with-unended (p ∷ prefix) (c ∷ l) h = grind (arith, cases_Bool, eqb-true, begins_with-unended prefix l h.1)
 
 unended-from : (l : List ℕ) → begins_from l ≡ true → begins_from (unended l) ≡ true
 unfolding begins_from
-unended-from l b = begins_with-unended from_bytes l (refl, (refl, (refl, (refl, (refl, tt))))) ∙ b
+unended-from l b = grind (arith, begins_with-unended)
 
 block-from_line : {block : List ℕ} {e : Entry} → Block block e → IsFromLine e.from_line
-block-from_line b = rw b.from_line (unended-from b.first b.head, unended-no_end b.first)
+block-from_line b = grind (arith, unended-from, unended-no_end)
 
 pub mbox-from_lines : (text : List ℕ) (entries : List Entry) → Mbox text entries → FromLines entries
 unfolding Mbox

@@ -1,16 +1,8 @@
 -- A text that is read block by block.
-use Rattle.std.proofs.Common.{◌≡◌, ℕ, zero, suc, ◌+◌, ◌≤◌, ◌<◌, Some, None, true, false, eqb, List, [], ◌∷◌, ◌++◌, length}
-use Rattle.std.proofs.Common.{take, drop, refl, sym, ◌∙◌, ap, arith, append_assoc, inl, inr, ◌⊎◌, flat_map, take-add}
-use Rattle.std.proofs.lemmas.Bool.{both_ways}
-use Rattle.std.proofs.lemmas.List.{take-append-drop, take_all, drop_all, drop-drop, length-drop}
-use Rattle.memchr.specs.Find.{IsFirstByte, is_byte}
-use Rattle.mbox_text.specs.declared.entry.Entry.{Entry}
-use Rattle.mbox_text.specs.Lines.{lines, Ended, NoEnd}
-use Rattle.mbox_text.specs.Quoting.{begins_from, unquoted}
-use Rattle.mbox_text.specs.Mbox.{Mbox, NoFrom, Block, IsMboxText}
-use Rattle.mbox_text.specs.Held.{Closed}
-use Rattle.mbox_text.specs.Private.Moved.{chopped}
-use Rattle.mbox_text.specs.Private.Split.{IsFirstBody, IsFirstBlock}
+use Rattle.mbox_text.proofs.Common.{◌≡◌, ℕ, zero, suc, ◌+◌, ◌≤◌, ◌<◌, Some, None, true, false, eqb, List, [], ◌∷◌, ◌++◌, length, take-append-drop, take_all}
+use Rattle.mbox_text.proofs.Common.{take, drop, refl, sym, ◌∙◌, ap, arith, append_assoc, inl, inr, ◌⊎◌, flat_map, take-add, both_ways, drop_all, drop-drop}
+use Rattle.mbox_text.proofs.Common.{length-drop, IsFirstByte, is_byte, Entry, lines, Ended, NoEnd, begins_from, unquoted, Mbox, NoFrom, Block, IsMboxText}
+use Rattle.mbox_text.proofs.Common.{Closed, chopped, IsFirstBody, IsFirstBlock}
 use Rattle.mbox_text.proofs.TextLines.LineEnds.{line-there, none-there}
 use Rattle.mbox_text.proofs.TextLines.LineLemmas.{lines-line, begins_from-cut, begins_from-more}
 use Rattle.mbox_text.proofs.TextLines.Heads.{mbox-starts}
@@ -27,11 +19,7 @@ body_stops within ends none b is = grind (arith, chopped-body ends)
 pub body_ends : {text body : List ℕ} (n : ℕ) → Ended (take n text) → NoFrom (lines (take n text)) → begins_from (drop n text) ≡ false
     → (begins_from (drop n text) ≡ true) ⊎ NoEnd (drop n text)
     → body ≡ chopped (flat_map unquoted (lines (take n text)) ++ unquoted (drop n text)) → IsFirstBody text (length text) body
-body_ends {text} n ends none b stops is =
-    let part : NoEnd (drop n text) = elim stops [ inl y ↦ absurd (both_ways (begins_from (drop n text)) b y) | inr h ↦ h ] in
-    let whole : take (length text) text ≡ take n text ++ drop n text = take_all (length text) text (omega arith) ∙ sym (take-append-drop n text) in
-    let last = last_body _ ends none part b is in
-    record { within = omega arith; none = rw whole last.none; is = rw whole last.is; next = inl refl }
+body_ends {text} n ends none b stops is = grind (arith, take_all, take-append-drop n text, last_body, both_ways)
 
 -- the From_ line and its body
 pub block_there : {text : List ℕ} {head len : ℕ} {e : Entry} → begins_from text ≡ true → IsFirstByte (is_byte 10) text (Some head)

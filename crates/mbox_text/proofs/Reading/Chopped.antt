@@ -1,15 +1,8 @@
 -- A body without its last line if that is `\n` alone.
-use Rattle.std.proofs.Common.{◌-◌, ◌<◌, ◌≡◌, ℕ, Bool, true, false, eqb, List, [], ◌∷◌, ◌++◌, length, length-append}
-use Rattle.std.proofs.Common.{take, refl, sym, ◌∙◌, ap, arith, inl, inr, ◌&&◌, Decides, MatchBool, append-nil}
-use Rattle.std.specs.List.{flat_map, ends_with}
-use Rattle.std.proofs.lemmas.Bool.{cases_Bool, false≢true, both_ways, eqb-true, and_parts, and_right}
-use Rattle.std.proofs.Math.Seq.{take-append-add}
-use Rattle.std.proofs.lemmas.Bool.Decides.{Decides-eqb}
-use Rattle.std.proofs.lemmas.Slice.Eq.{ends_is}
-use Rattle.mbox_text.specs.Lines.{lines, Ended, NoEnd}
-use Rattle.mbox_text.specs.Quoting.{quotable, unquoted}
-use Rattle.mbox_text.specs.Mbox.{without_blank, kept}
-use Rattle.mbox_text.specs.Private.Moved.{chopped_from, chopped}
+use Rattle.mbox_text.proofs.Common.{◌-◌, ◌<◌, ◌≡◌, ℕ, Bool, true, false, eqb, List, [], ◌∷◌, ◌++◌, length, length-append, flat_map, eqb-true, take, refl, sym}
+use Rattle.mbox_text.proofs.Common.{◌∙◌, ap, arith, inl, inr, ◌&&◌, Decides, MatchBool, append-nil, ends_with, cases_Bool, false≢true, both_ways, and_parts}
+use Rattle.mbox_text.proofs.Common.{and_right, take-append-add, Decides-eqb, ends_is, lines, Ended, NoEnd, quotable, unquoted, without_blank, kept}
+use Rattle.mbox_text.proofs.Common.{chopped_from, chopped}
 use Rattle.mbox_text.proofs.TextLines.LineLemmas.{lines-last, unquoted-push}
 
 -- each line ends with its only `\n`
@@ -33,7 +26,7 @@ chopped-line at_start {c} (d ∷ x) h = ap (λ l. c ∷ l) (chopped-line (eqb c 
 -- a line with bytes before its `\n` has some when it is unquoted
 pub unquoted-some : (c : ℕ) (x : List ℕ) → NoEnd (c ∷ x) → (d : ℕ) × (y : List ℕ) × (unquoted (c ∷ x) ≡ d ∷ y) × NoEnd (d ∷ y)
 unfolding unquoted quotable
-unquoted-some c [] h = (c, [], elim (cases_Bool (eqb c 62)) [ inl e ↦ rw e refl | inr e ↦ rw e refl ], h)
+unquoted-some c [] h = grind (arith, cases_Bool)
 unquoted-some c (d ∷ x) h =
     elim (cases_Bool (eqb c 62 && quotable (d ∷ x))) [ inl e ↦ rw e (d, x, refl, h.1) | inr e ↦ rw e (c, d ∷ x, refl, h) ]
 
@@ -107,11 +100,7 @@ chop_last x e = grind (arith, length-append x (10 ∷ 10 ∷ []), chop-blank tru
 chop-other : (at_start : Bool) (b : List ℕ) → (at_start ≡ true → b ≡ 10 ∷ [] → ⊥) → ((x : List ℕ) → b ≡ x ++ 10 ∷ 10 ∷ [] → ⊥) → b ≡ chopped_from at_start b
 unfolding chopped_from
 chop-other at_start [] h h' = refl
-chop-other at_start (c ∷ []) h h' =
-    elim (cases_Bool (at_start && eqb c 10)) [
-      | inl e ↦ let a = and_parts at_start (eqb c 10) e in absurd (h a.0 (rw (eqb-true c 10 a.1) refl))
-      | inr e ↦ rw e refl
-    ]
+chop-other at_start (c ∷ []) h h' = grind (arith, cases_Bool, and_parts, eqb-true)
 chop-other at_start (c ∷ d ∷ b) h h' =
     ap (λ l. c ∷ l) (chop-other (eqb c 10) (d ∷ b) (λ e is. h' [] (rw (eqb-true c 10 e, is) refl)) (λ x is. h' (c ∷ x) (ap (λ l. c ∷ l) is)))
 
@@ -129,7 +118,7 @@ last_blank {b} {r} {ends = false} is d f h =
 -- a text whose last line lacks its `\n` stays
 pub chopped-part : (at_start : Bool) (x : List ℕ) (d : ℕ) (y : List ℕ) → NoEnd (d ∷ y) → chopped_from at_start (x ++ d ∷ y) ≡ x ++ d ∷ y
 unfolding chopped_from
-chopped-part at_start [] d [] h = rw (and_right at_start (eqb d 10) h.0) refl
+chopped-part at_start [] d [] h = grind (arith, and_right)
 chopped-part at_start [] d (e ∷ y) h = ap (λ l. d ∷ l) (chopped-part (eqb d 10) [] e y h.1)
 chopped-part at_start (a ∷ []) d y h = ap (λ l. a ∷ l) (chopped-part (eqb a 10) [] d y h)
 chopped-part at_start (a ∷ b ∷ x) d y h = ap (λ l. a ∷ l) (chopped-part (eqb a 10) (b ∷ x) d y h)

@@ -1,12 +1,7 @@
 -- A text that begins with `From ` has messages: what a splitter holds of it, byte by byte.
-use Rattle.std.proofs.Common.{◌≡◌, ℕ, true, eqb, List, [], ◌∷◌, ◌++◌, refl, ◌∙◌, append_assoc, inl, inr, ◌⊎◌, ◌↔◌, append-nil}
-use Rattle.std.proofs.lemmas.Bool.{both_ways, cases_Bool, eqb-true}
-use Rattle.mbox_text.specs.declared.entry.Entry.{Entry}
-use Rattle.mbox_text.specs.Quoting.{unquoted, begins_with, begins_from, from_bytes}
-use Rattle.mbox_text.specs.Prefixes.{AllButLast, NeverFrom}
-use Rattle.mbox_text.specs.Mbox.{Mbox, IsMboxText}
-use Rattle.mbox_text.specs.Private.Moved.{chopped}
-use Rattle.mbox_text.specs.Held.{AtHead, InBody, Closed}
+use Rattle.mbox_text.proofs.Common.{◌≡◌, ℕ, true, eqb, List, [], ◌∷◌, ◌++◌, refl, ◌∙◌, append_assoc, inl, inr, ◌⊎◌, ◌↔◌, append-nil, arith, eqb-true}
+use Rattle.mbox_text.proofs.Common.{both_ways, cases_Bool, Entry, unquoted, begins_with, begins_from, from_bytes, AllButLast, NeverFrom, Mbox, IsMboxText}
+use Rattle.mbox_text.proofs.Common.{chopped, AtHead, InBody, Closed}
 use Rattle.mbox_text.proofs.TextLines.LineLemmas.{begins_from-cut, begins_from-more}
 use Rattle.mbox_text.proofs.TextLines.Heads.{mbox-starts, mbox-begins-last}
 use Rattle.mbox_text.proofs.Splitting.HeldLemmas.{head-add, head-ends, body-add, body-closes, body-ends}
@@ -84,8 +79,7 @@ head-all {text} {given} {line} a = elim (a.head) [
 ]
 
 pub body-all : {text : List ℕ} {given : List Entry} {f body line : List ℕ} → InBody text given f body line → AllButLast text given
-body-all {text} {given} {f} {body} {line} a =
-    let m = body-last a refl refl in inl (mbox-begins-last text given _ m, (_, m))
+body-all {text} {given} {f} {body} {line} a = grind (arith, mbox-begins-last, body-last a refl refl)
 
 exists-at : {text : List ℕ} → begins_from text ≡ true → Goes text → (entries : List Entry) × Mbox text entries
 exists-at b (inl (inl h)) =
@@ -94,7 +88,7 @@ exists-at b (inl (inl h)) =
       | inr n ↦ let s = at_start h.2 n in absurd (both_ways (begins_from h.1) n (rw s.1 at b))
     ]
 exists-at b (inl (inr h)) = (_, body-last h.4 refl refl)
-exists-at {text} b (inr n) = absurd (both_ways (begins_from text) n.0 b)
+exists-at {text} b (inr n) = grind (arith, both_ways)
 
 exists : {text : List ℕ} → IsMboxText text → (entries : List Entry) × Mbox text entries
 unfolding Mbox

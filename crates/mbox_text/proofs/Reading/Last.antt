@@ -1,25 +1,19 @@
 -- The last message of a text.
-use Rattle.std.proofs.Common.{◌≡◌, ℕ, true, List, [], ◌∷◌, ◌++◌, refl, sym, append_assoc, inl, inr, append-nil, arith}
-use Rattle.std.proofs.lemmas.Bool.{false≢true}
-use Rattle.mbox_text.specs.declared.entry.Entry.{Entry}
-use Rattle.mbox_text.specs.Lines.{NoEnd}
-use Rattle.mbox_text.specs.Quoting.{unquoted, begins_from}
-use Rattle.mbox_text.specs.Mbox.{Block, Mbox, unended, without_blank}
-use Rattle.mbox_text.specs.Private.Moved.{chopped}
-use Rattle.mbox_text.specs.Held.{Closed, AtHead, InBody}
+use Rattle.mbox_text.proofs.Common.{◌≡◌, ℕ, true, List, [], ◌∷◌, ◌++◌, refl, append_assoc, append-nil, arith, false≢true, Entry, NoEnd, unquoted, begins_from}
+use Rattle.mbox_text.proofs.Common.{Block, Mbox, unended, without_blank, chopped, Closed, AtHead, InBody}
 use Rattle.mbox_text.proofs.TextLines.LineLemmas.{lines-part}
 use Rattle.mbox_text.proofs.Splitting.HeldLemmas.{open-last}
 
 pub closed-last : (prefix : List ℕ) (given : List Entry) {block : List ℕ} {e : Entry}
     → Closed prefix given → Block block e → Mbox (prefix ++ block) (given ++ e ∷ [])
 unfolding Closed Mbox
-closed-last prefix [] {block} h b = rw h (block, [], sym (append-nil block), b, inr refl, refl)
+closed-last prefix [] {block} h b = grind (arith, append-nil)
 closed-last prefix (g ∷ given) {block} h b = grind (arith, closed-last h.1 given h.5 b, append_assoc)
 
 pub closed-mbox : (prefix : List ℕ) (given : List Entry) → Closed prefix given → Mbox prefix given
 unfolding Closed Mbox
 closed-mbox prefix [] h = h
-closed-mbox prefix (g ∷ given) h = (h.0, h.1, h.2, h.3, inl h.4, closed-mbox h.1 given h.5)
+closed-mbox prefix (g ∷ given) h = grind (arith, closed-mbox h.1 given h.5)
 
 pub unended-part : (l : List ℕ) → NoEnd l → unended l ≡ l
 unended-part [] h = refl

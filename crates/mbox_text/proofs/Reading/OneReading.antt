@@ -1,10 +1,6 @@
 -- A text is in `Mbox` with one list of entries.
-use Rattle.std.proofs.Common.{◌≡◌, ℕ, true, List, [], ◌∷◌, ◌++◌, refl, sym, ◌∙◌, ap, append_assoc, ap₂, inl, inr, ◌⊎◌, flat_map, append-nil, arith}
-use Rattle.std.proofs.lemmas.Bool.{both_ways}
-use Rattle.mbox_text.specs.declared.entry.Entry.{Entry}
-use Rattle.mbox_text.specs.Lines.{lines, Ended}
-use Rattle.mbox_text.specs.Quoting.{begins_from, unquoted}
-use Rattle.mbox_text.specs.Mbox.{without_blank, NoFrom, unended, Mbox}
+use Rattle.mbox_text.proofs.Common.{◌≡◌, ℕ, true, List, [], ◌∷◌, ◌++◌, refl, sym, ◌∙◌, ap, append_assoc, ap₂, inl, inr, ◌⊎◌, flat_map, append-nil, arith}
+use Rattle.mbox_text.proofs.Common.{both_ways, Entry, lines, Ended, begins_from, unquoted, without_blank, NoFrom, unended, Mbox}
 use Rattle.mbox_text.proofs.TextLines.LineLemmas.{lines-append}
 
 -- the lines of a message, and the lines after it
@@ -35,14 +31,9 @@ reads-headed ls (entry ∷ entries) h = let s = h.1 in rw s.is s.head
 cut_one : (others others' : List (List ℕ)) {rest rest' : List (List ℕ)} → NoFrom others → NoFrom others' → HeadWritten rest → HeadWritten rest'
     → others ++ rest ≡ others' ++ rest' → (others ≡ others') × (rest ≡ rest')
 cut_one [] [] n n' h h' e = (refl, e)
-cut_one [] (o ∷ os) n n' h h' e = let b = rw e at h in absurd (both_ways (begins_from o) n'.0 b)
-cut_one (o ∷ os) [] n n' h h' e = let b = rw (← e) at h' in absurd (both_ways (begins_from o) n.0 b)
-cut_one (o ∷ os) (o' ∷ os') {rest} {rest'} n n' h h' e =
-    let heads : o ≡ o' = cc in
-    let tails : os ++ rest ≡ os' ++ rest' = cc in
-    let r = cut_one os os' n.1 n'.1 h h' tails in
-    let r0 = r.0 in
-    (cc, r.1)
+cut_one [] (o ∷ os) n n' h h' e = grind (arith, both_ways)
+cut_one (o ∷ os) [] n n' h h' e = grind (arith, both_ways)
+cut_one (o ∷ os) (o' ∷ os') {rest} {rest'} n n' h h' e = grind (arith, cut_one os os' n.1 n'.1 h h' cc)
 
 entry-one : {e f : Entry} → e.from_line ≡ f.from_line → e.body ≡ f.body → e ≡ f
 entry-one a b = grind arith
@@ -74,7 +65,7 @@ joined : {block : List ℕ} (rest : List ℕ) (entries : List Entry) → Ended b
     → Mbox rest entries → lines (block ++ rest) ≡ lines block ++ lines rest
 unfolding Mbox lines
 joined rest entries (inl e) h = lines-append rest e
-joined {block} rest [] (inr e) h = rw h (rw (append-nil block, append-nil (lines block)) refl)
+joined {block} rest [] (inr e) h = grind (arith, append-nil)
 joined rest (f ∷ fs) (inr e) h = absurd (cc)
 
 pub mbox-reads : (text : List ℕ) (entries : List Entry) → Mbox text entries → LinesRead (lines text) entries

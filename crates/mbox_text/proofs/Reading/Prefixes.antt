@@ -1,11 +1,6 @@
 -- The messages of a prefix are a prefix of the messages.
-use Rattle.std.proofs.Common.{◌≡◌, ℕ, true, List, [], ◌∷◌, ◌++◌, refl, ◌∙◌, ap, append_assoc, inl, inr, append-nil}
-use Rattle.mbox_text.specs.declared.entry.Entry.{Entry}
-use Rattle.mbox_text.specs.Lines.{lines, Ended}
-use Rattle.mbox_text.specs.Quoting.{begins_from}
-use Rattle.mbox_text.specs.Prefixes.{IsProperPrefix}
-use Rattle.mbox_text.specs.Mbox.{Block, Mbox}
-use Rattle.mbox_text.specs.Held.{Closed}
+use Rattle.mbox_text.proofs.Common.{◌≡◌, ℕ, true, List, [], ◌∷◌, ◌++◌, refl, ap, append_assoc, inl, inr, append-nil, arith, Entry, lines, Ended, begins_from}
+use Rattle.mbox_text.proofs.Common.{IsProperPrefix, Block, Mbox, Closed}
 use Rattle.mbox_text.proofs.TextLines.LineLemmas.{lines-append, begins_from-more}
 use Rattle.mbox_text.proofs.TextLines.Heads.{head-line, block-begins}
 use Rattle.mbox_text.proofs.Reading.OneReading.{reads-append, mbox-reads, LinesRead}
@@ -48,7 +43,7 @@ not-nil (g ∷ given) last e = absurd (cc)
 
 prefix-of : {text : List ℕ} (given : List Entry) {last : Entry} → Mbox text (given ++ last ∷ []) → AllButLastBlock text given last
 unfolding Mbox Closed
-prefix-of {text} [] h = record { prefix = []; block = text; is = refl; closed = refl; after = rw (h.2, h.5) (rw (append-nil h.0) h.3) }
+prefix-of {text} [] h = grind (arith, append-nil)
 prefix-of (g ∷ given) {last} h =
     let r = prefix-of given h.5 in
     elim (h.4) [
@@ -64,7 +59,9 @@ prefix-of (g ∷ given) {last} h =
 
 pub prefix_reading : (text more : List ℕ) (entries given : List Entry) (last : Entry) → Mbox text (given ++ last ∷ []) → Mbox (text ++ more) entries
     → IsProperPrefix given entries
-prefix_reading text more entries given last h h' =
-    let f = prefix-of given h in
-    let texts : text ++ more ≡ f.prefix ++ (f.block ++ more) = ap (λ z. z ++ more) f.is ∙ append_assoc f.prefix f.block more in
-    closed-prefix f.prefix _ given f.closed (begins_from-more f.block more (block-begins f.after)) (rw texts at h')
+prefix_reading text more entries given last h h' = grind (
+  arith,
+  closed-prefix,
+  begins_from-more (prefix-of given h).block more (block-begins (prefix-of given h).after),
+  append_assoc (prefix-of given h).prefix (prefix-of given h).block more,
+)

@@ -1,17 +1,8 @@
 -- What a splitter keeps in memory, over the fields as the code changes them.
-use Rattle.std.proofs.Common.{◌≡◌, ℕ, ◌+◌, ◌-◌, true, false, eqb, List, [], ◌∷◌, ◌++◌, length, take, drop, refl, sym}
-use Rattle.std.proofs.Common.{inl, inr, Option, Some, None, Result, Ok, Err, IfOk, is_some, flat_map, take-add, arith}
-use Rattle.std.specs.declared.alloc.AllocError.{AllocError}
-use Rattle.std.proofs.lemmas.Bool.{both_ways, false≢true, and_parts, ne_eqb, eqb-false, eqb-true, eq-eqb, cases_Bool}
-use Rattle.std.proofs.lemmas.List.{take-append-drop, append-nil, take_rest}
-use Rattle.mbox_text.specs.declared.entry.Entry.{Entry}
-use Rattle.mbox_text.specs.declared.partial_message.PartialMessage.{PartialMessage}
-use Rattle.mbox_text.specs.Lines.{lines, Ended, NoEnd}
-use Rattle.mbox_text.specs.Quoting.{unquoted, begins_from, begins_with, from_bytes}
-use Rattle.mbox_text.specs.Prefixes.{NeverFrom}
-use Rattle.mbox_text.specs.Mbox.{NoFrom}
-use Rattle.mbox_text.specs.Private.Moved.{chopped}
-use Rattle.mbox_text.specs.Held.{AtHead, InBody, Held, Closed}
+use Rattle.mbox_text.proofs.Common.{◌≡◌, ℕ, ◌+◌, ◌-◌, true, false, eqb, List, [], ◌∷◌, ◌++◌, length, take, drop, refl, sym, eqb-true, take-append-drop}
+use Rattle.mbox_text.proofs.Common.{append-nil, inl, inr, Option, Some, None, Result, Ok, Err, IfOk, is_some, flat_map, take-add, arith, AllocError, both_ways}
+use Rattle.mbox_text.proofs.Common.{false≢true, and_parts, ne_eqb, eqb-false, eq-eqb, cases_Bool, take_rest, Entry, PartialMessage, lines, Ended, NoEnd}
+use Rattle.mbox_text.proofs.Common.{unquoted, begins_from, begins_with, from_bytes, NeverFrom, NoFrom, chopped, AtHead, InBody, Held, Closed}
 use Rattle.mbox_text.proofs.Splitting.HeldLemmas.{head-add, body-add, body-closes, head-ends, body-ends, body-lines}
 use Rattle.mbox_text.proofs.TextLines.LineLemmas.{begins_from-more, begins_from-cut}
 
@@ -22,8 +13,7 @@ head_of_none e = grind (arith)
 pub some_ends : {message : Option PartialMessage} {m : PartialMessage} {line line1 body line' : List ℕ} → message ≡ Some m → line1 ≡ line
     → body ≡ (m.body.items ++ unquoted line1) ++ 10 ∷ [] → line' ≡ []
     → (text : List ℕ) (given : List Entry) → Held text given message line → InBody (text ++ 10 ∷ []) (given ++ []) m.from_line.items body line'
-some_ends e el eb el' text given h =
-    rw (append-nil given, eb, el, el') (body-ends (rw e at h))
+some_ends e el eb el' text given h = grind (arith, append-nil, body-ends)
 
 pub none_ends : {message : Option PartialMessage} {line line1 f body line' : List ℕ} → message ≡ None → line1 ≡ line
     → begins_from line1 ≡ true → f ≡ line → body ≡ [] → line' ≡ []
@@ -68,7 +58,7 @@ none_refuses line part is el e1 b e2 p text given held = grind (arith, cases_Boo
 
 pub begins_with-ended : (line prefix : List ℕ) → NoEnd prefix → begins_with (line ++ 10 ∷ []) prefix ≡ false
 begins_with-ended [] [] h = refl
-begins_with-ended [] (p ∷ prefix) h = rw (ne_eqb 10 p (λ e. eqb-false p 10 h.0 (sym e))) refl
+begins_with-ended [] (p ∷ prefix) h = grind (arith, ne_eqb, eqb-false)
 begins_with-ended (c ∷ line) [] h = refl
 begins_with-ended (c ∷ line) (p ∷ prefix) h = grind (arith, begins_with-ended line prefix h.1)
 

@@ -1,16 +1,7 @@
 -- What `finish` returns.
-use Rattle.std.proofs.Common.{◌≡◌, ℕ, ◌<◌, ◌≤◌, true, false, List, [], ◌∷◌, ◌++◌, length, refl, sym, ◌∙◌, ap, arith, Option, Some, None, Result, IsErrOf}
-use Rattle.std.proofs.lemmas.Bool.{false≢true, true≢false}
-use Rattle.mbox_text.specs.declared.entry.Entry.{Entry}
-use Rattle.mbox_text.specs.declared.fault.TextFault.{TextFault}
-use Rattle.mbox_text.specs.declared.fault.TextFault.TheVariants.{NoFromLine}
-use Rattle.mbox_text.specs.declared.partial_message.PartialMessage.{PartialMessage}
-use Rattle.mbox_text.specs.declared.splitter.Splitter.{Splitter}
-use Rattle.mbox_text.specs.Mbox.{Mbox}
-use Rattle.mbox_text.specs.Quoting.{begins_from, unquoted}
-use Rattle.mbox_text.specs.Held.{HeldIn}
-use Rattle.mbox_text.specs.Private.Moved.{chopped}
-use Rattle.mbox_text.specs.Fed.{GivesLast, RefusesShort}
+use Rattle.mbox_text.proofs.Common.{◌≡◌, ℕ, ◌<◌, ◌≤◌, true, false, List, [], ◌∷◌, ◌++◌, length, refl, sym, ◌∙◌, ap, arith, Option, Some, None, Result, IsErrOf}
+use Rattle.mbox_text.proofs.Common.{false≢true, true≢false, Entry, TextFault, NoFromLine, PartialMessage, Splitter, Mbox, begins_from, unquoted, HeldIn}
+use Rattle.mbox_text.proofs.Common.{chopped, GivesLast, RefusesShort}
 use Rattle.mbox_text.proofs.TextLines.Heads.{from-long, from-short, mbox-begins-last}
 use Rattle.mbox_text.proofs.Splitting.Fields.{at_start}
 use Rattle.mbox_text.proofs.Reading.Last.{head-last, body-last}
@@ -26,7 +17,7 @@ ends_body splitter {m} e line is e1 ef eb text given h = grind (arith, body-last
 
 pub ends_head : (splitter : Splitter) {e : Entry} {line : List ℕ} → splitter.message ≡ None → line ≡ splitter.line.items → begins_from line ≡ true
     → e.from_line ≡ splitter.line.items → e.body ≡ [] → EndsWith splitter e
-ends_head splitter {e} is e1 b ef eb text given h = head-last (rw is at h) (rw (← e1) b) ef eb
+ends_head splitter {e} is e1 b ef eb text given h = grind (arith, head-last)
 
 -- the text that the splitter was fed is not too short
 long : (splitter : Splitter) (e : Entry) → EndsWith splitter e → (text : List ℕ) (given : List Entry) → HeldIn text given splitter → 5 ≤ length text

@@ -1,20 +1,8 @@
 -- Which messages a splitter has returned: all but the last, whatever comes after the text.
-use Rattle.std.proofs.Common.{◌≡◌, ℕ, false, List, [], ◌∷◌, ◌++◌, refl, sym, ◌∙◌, ap, append_assoc, inl, inr, Option, Some}
-use Rattle.std.proofs.Common.{None, Result, Ok, Err, OnOk, IfErr, IsErr, IsErrOf, is_err, IsErrAnd, append-nil, arith}
-use Rattle.std.proofs.lemmas.Bool.{both_ways}
-use Rattle.std.proofs.lemmas.List.{append_cancel_left}
-use Rattle.mbox_text.specs.declared.entry.Entry.{Entry}
-use Rattle.mbox_text.specs.declared.partial_message.PartialMessage.{PartialMessage}
-use Rattle.mbox_text.specs.declared.fault.TextFault.{TextFault}
-use Rattle.mbox_text.specs.declared.fault.TextFault.TheVariants.{NoFromLine, LineEndInRest, Failed, OutOfMemory, WriteFault}
-use Rattle.mbox_text.specs.declared.splitter.Splitter.{Splitter}
-use Rattle.mbox_text.specs.Quoting.{begins_from, from_bytes}
-use Rattle.mbox_text.specs.Prefixes.{AllButLast, NeverFrom}
-use Rattle.mbox_text.specs.Private.Prefixes.{Stay}
-use Rattle.mbox_text.specs.Mbox.{Mbox, without_blank}
-use Rattle.mbox_text.specs.Held.{Held, HeldIn}
-use Rattle.mbox_text.specs.Private.Moved.{Moves, Gives, Refuses, Stops}
-use Rattle.mbox_text.specs.Fed.{Fed, Takes, NeverBegins, TakesPart}
+use Rattle.mbox_text.proofs.Common.{◌≡◌, ℕ, false, List, [], ◌∷◌, ◌++◌, refl, sym, ◌∙◌, ap, append_assoc, inl, inr, Option, Some, rules, None, Result, Ok, Err}
+use Rattle.mbox_text.proofs.Common.{OnOk, IfErr, IsErr, IsErrOf, is_err, IsErrAnd, append-nil, arith, both_ways, append_cancel_left, Entry, PartialMessage}
+use Rattle.mbox_text.proofs.Common.{TextFault, NoFromLine, LineEndInRest, Failed, OutOfMemory, WriteFault, Splitter, begins_from, from_bytes, AllButLast}
+use Rattle.mbox_text.proofs.Common.{NeverFrom, Stay, Mbox, without_blank, Held, HeldIn, Moves, Gives, Refuses, Stops, Fed, Takes, NeverBegins, TakesPart}
 use Rattle.mbox_text.proofs.TextLines.LineLemmas.{begins_from-more}
 use Rattle.mbox_text.proofs.TextLines.Heads.{from-rest}
 use Rattle.mbox_text.proofs.Reading.Last.{from-block}
@@ -31,7 +19,7 @@ fed_from {splitter} {text} {given} works h = grind (arith, held-all)
 
 -- all messages but the last stay the first ones, whatever comes after the text
 pub all_stay : (text : List ℕ) {given : List Entry} → AllButLast text given → Stay text given
-all_stay text {given} (inl a) more entries h = inr (prefix_reading text more entries given a.1.0 a.1.1 h)
+all_stay text {given} (inl a) more entries h = grind (arith, prefix_reading)
 all_stay text (inr a) more entries h = inl a.1
 
 -- there are none if no mbox text begins with this text
@@ -62,14 +50,7 @@ refuses_more WriteFault splitter part more r = absurd r
 pub stops_at : (fault : TextFault) (old now : Splitter) {piece : List ℕ} (prefix part more : List ℕ) (out out' : List Entry)
     → Gives old prefix out out' now → Refuses fault now part
     → piece ≡ prefix ++ (part ++ more) → Stops fault old piece out out'
-stops_at fault old now prefix part more out out' g r e = record {
-  prefix = prefix;
-  rest = part ++ more;
-  now = now;
-  is = e;
-  gives = g;
-  refuses = refuses_more fault now part more r;
-}
+stops_at fault old now prefix part more out out' g r e = search (rules, refuses_more)
 
 pub stops_after : {fault : TextFault} {old mid : Splitter} {piece : List ℕ} (prefix : List ℕ) {part : List ℕ} {out out1 out' : List Entry}
     → Gives old prefix out out1 mid → Stops fault mid part out1 out'
@@ -92,12 +73,7 @@ prefix-cut : (added all rest : List Entry) (last next : Entry) → all ++ last �
 prefix-cut [] all rest last next e = (all, refl)
 prefix-cut (x ∷ []) [] rest last next e = absurd (cc)
 prefix-cut (x ∷ y ∷ added) [] rest last next e = absurd (cc)
-prefix-cut (x ∷ added) (y ∷ all) rest last next e =
-    let heads : y ≡ x = cc in
-    let tails : all ++ last ∷ [] ≡ added ++ next ∷ rest = cc in
-    let r = prefix-cut added all rest last next tails in
-    let is = r.1 in
-    (r.0, cc)
+prefix-cut (x ∷ added) (y ∷ all) rest last next e = grind (arith, prefix-cut added all rest last next cc)
 
 only-prefix : (given rest : List Entry) {last : Entry} (next : Entry) → last ∷ [] ≡ given ++ next ∷ rest → given ≡ []
 only-prefix [] rest next e = refl
@@ -126,12 +102,7 @@ part text given added all s (inl h) =
           (sym (append_assoc given all (h.1.0 ∷ [])) ∙ f.2 ∙ append_assoc given added (f.0 ∷ f.1)) in
           prefix-cut added all f.1 h.1.0 f.0 e
     ]
-part text given added all s (inr h) =
-    let m = from-rest text h.0 in
-    let e = from-alone in
-    let none : given ++ added ≡ [] = elim (s m.0 (e.0 ∷ []) (rw m.1 e.1)) [ inl none ↦ none | inr f ↦ only-prefix _ f.1 f.0 f.2 ] in
-    let n = nil_right given none in
-    (all, rw n refl)
+part text given added all s (inr h) = grind (arith, from-rest, from-alone, only-prefix, nil_right)
 
 -- what `Ok`, `NoFromLine` and `OutOfMemory` of a feed mean
 pub fed_taken : {T : Type 0} (r : Result T TextFault) (old new : Splitter) (piece : List ℕ) (out out' : List Entry) → new.failed ≡ is_err r

@@ -1,12 +1,7 @@
 -- What a splitter keeps in memory, step by step.
-use Rattle.std.proofs.Common.{◌≡◌, ℕ, true, false, List, [], ◌∷◌, ◌++◌, refl, sym, ◌∙◌, ap, append_assoc, inl, inr, ◌⊎◌, flat_map, append-nil, arith}
-use Rattle.std.proofs.lemmas.List.Concat.{flat_map-append}
-use Rattle.mbox_text.specs.declared.entry.Entry.{Entry}
-use Rattle.mbox_text.specs.Lines.{lines, Ended, NoEnd}
-use Rattle.mbox_text.specs.Quoting.{unquoted, begins_from, begins_with, from_bytes}
-use Rattle.mbox_text.specs.Mbox.{NoFrom, unended, without_blank, Block}
-use Rattle.mbox_text.specs.Private.Moved.{chopped}
-use Rattle.mbox_text.specs.Held.{Closed, Open, AtHead, InBody}
+use Rattle.mbox_text.proofs.Common.{◌≡◌, ℕ, true, false, List, [], ◌∷◌, ◌++◌, refl, sym, ◌∙◌, ap, append_assoc, inl, inr, ◌⊎◌, flat_map, append-nil, arith}
+use Rattle.mbox_text.proofs.Common.{flat_map-append, Entry, lines, Ended, NoEnd, unquoted, begins_from, begins_with, from_bytes, NoFrom, unended}
+use Rattle.mbox_text.proofs.Common.{without_blank, Block, chopped, Closed, Open, AtHead, InBody}
 use Rattle.mbox_text.proofs.TextLines.LineLemmas.{lines-append, lines-line, lines-part, unquoted-push, begins_from-cut, begins_from-more}
 use Rattle.mbox_text.proofs.Reading.Chopped.{chopped-body, chopped-part, without_blank-part, unquoted-some}
 use Rattle.mbox_text.proofs.TextLines.LineEnds.{NoEnd-append}
@@ -17,7 +12,7 @@ NoFrom-append (c ∷ a) b h h' = (h.0, NoFrom-append a b h.1 h')
 
 pub Ended-append : {a b : List ℕ} → Ended a → Ended b → Ended (a ++ b)
 Ended-append {a} h (inl e) = rw e (rw (append-nil a) h)
-Ended-append {a} h (inr e) = inr (a ++ e.0, rw e.1 (sym (append_assoc a e.0 (10 ∷ []))))
+Ended-append {a} h (inr e) = grind (arith, append_assoc a e.0 (10 ∷ []))
 
 pub unended-push : (l : List ℕ) → NoEnd l → unended (l ++ 10 ∷ []) ≡ l
 unended-push [] h = refl
@@ -26,7 +21,7 @@ unended-push (c ∷ l) h = rw (h.0, unended-push l h.1) refl
 pub Closed-push : (text : List ℕ) (given : List Entry) {block : List ℕ} {e : Entry}
     → Closed text given → Block block e → Ended block → Closed (text ++ block) (given ++ e ∷ [])
 unfolding Closed
-Closed-push text [] {block} h b ends = (block, [], rw h (sym (append-nil block)), b, ends, refl)
+Closed-push text [] {block} h b ends = grind (arith, append-nil)
 Closed-push text (g ∷ given) {block} h b ends = grind (arith, Closed-push h.1 given h.5 b ends, append_assoc)
 
 open-ends : {block f body : List ℕ} → Open block f body → Ended block
@@ -43,32 +38,30 @@ pub record LastBody (text body : List ℕ) : Type 0 where
 pub last_body : {prefix : List ℕ} (rest : List ℕ) {body : List ℕ} → Ended prefix → NoFrom (lines prefix) → NoEnd rest → begins_from rest ≡ false
     → body ≡ chopped (flat_map unquoted (lines prefix) ++ unquoted rest) → LastBody (prefix ++ rest) body
 unfolding unquoted
-last_body {prefix} [] ends none part b is =
-    rw (append-nil prefix) (record { none = none; is = is ∙ ap chopped (append-nil (flat_map unquoted (lines prefix))) ∙ chopped-body ends })
-last_body {prefix} (c ∷ l) ends none part b is =
-    let u = unquoted-some c l part in
-    let all : lines (prefix ++ c ∷ l) ≡ lines prefix ++ (c ∷ l) ∷ [] = rw (lines-append (c ∷ l) ends, lines-part c l part) refl in
-    record {
-      none = rw all (NoFrom-append _ _ none (b, tt));
-      is = rw (is, all, without_blank-part (lines prefix) c l part, flat_map-append unquoted (lines prefix) ((c ∷ l) ∷ []), append-nil (unquoted (c ∷ l)), u.2)
-          (chopped-part true (flat_map unquoted (lines prefix)) u.0 u.1 u.3);
-    }
+last_body {prefix} [] ends none part b is = grind (arith, append-nil, chopped-body)
+last_body {prefix} (c ∷ l) ends none part b is = grind (
+  arith,
+  lines-append (c ∷ l) ends,
+  lines-part c l part,
+  NoFrom-append,
+  without_blank-part (lines prefix) c l part,
+  flat_map-append unquoted (lines prefix) ((c ∷ l) ∷ []),
+  append-nil (unquoted (c ∷ l)),
+  chopped-part true (flat_map unquoted (lines prefix)) (unquoted-some c l part).0 (unquoted-some c l part).1 (unquoted-some c l part).3,
+)
 
 -- a block that ends in a line with no `\n`, or in a whole one
 pub open-last : {block f body : List ℕ} (line : List ℕ) {e : Entry} → Open block f body → NoEnd line
     → begins_from line ≡ false → e.from_line ≡ f → e.body ≡ chopped (body ++ unquoted line)
     → Block (block ++ line) e
-open-last {f} {body} line o h b ef eb =
-    let last = last_body line o.ended o.tail h b (eb ∙ ap (λ z. chopped (z ++ unquoted line)) o.as_read) in
-    record {
-      first = f ++ 10 ∷ [];
-      others = lines (o.others ++ line);
-      is = rw (o.is, append_assoc f (10 ∷ o.others) line) (lines-line f (o.others ++ line) o.line);
-      head = begins_from-more f (10 ∷ []) o.head;
-      tail = last.none;
-      from_line = ef ∙ sym (unended-push f o.line);
-      body = last.is;
-    }
+open-last {f} {body} line o h b ef eb = grind (
+  arith,
+  append_assoc f (10 ∷ o.others) line,
+  lines-line f (o.others ++ line) o.line,
+  begins_from-more f (10 ∷ []) o.head,
+  last_body,
+  unended-push f o.line,
+)
 
 open-block : {block f body : List ℕ} {e : Entry} → Open block f body → e.from_line ≡ f → e.body ≡ chopped body → Block block e
 unfolding unquoted begins_from
@@ -107,25 +100,17 @@ head-ends {line} a b = grind (arith, append-nil (line ++ 10 ∷ []), append_asso
 pub body-lines : {text : List ℕ} {given : List Entry} {f body part : List ℕ} → InBody text given f body [] → Ended part → NoFrom (lines part)
     → InBody (text ++ part) given f (body ++ flat_map unquoted (lines part)) []
 unfolding lines begins_from
-body-lines {f} {part} a ends none =
-    let o = a.opened in
-    record {
-      prefix = a.prefix;
-      block = a.block ++ part;
-      is = rw a.is (rw (append-nil (a.block ++ part), append-nil a.block) (append_assoc a.prefix a.block part));
-      closed = a.closed;
-      opened = record {
-        others = o.others ++ part;
-        is = rw o.is (append_assoc f (10 ∷ o.others) part);
-        head = o.head;
-        line = o.line;
-        ended = Ended-append o.ended ends;
-        tail = rw (lines-append part o.ended) (NoFrom-append _ _ o.tail none);
-        as_read = rw (o.as_read, lines-append part o.ended) (sym (flat_map-append unquoted (lines o.others) (lines part)));
-      };
-      part = tt;
-      tail = refl;
-    }
+body-lines {f} {part} a ends none = grind (
+  arith,
+  append-nil (a.block ++ part),
+  append-nil a.block,
+  append_assoc a.prefix a.block part,
+  append_assoc f (10 ∷ a.opened.others) part,
+  Ended-append a.opened.ended ends,
+  lines-append part a.opened.ended,
+  NoFrom-append,
+  flat_map-append unquoted (lines a.opened.others) (lines part),
+)
 
 -- the text without its last line
 body-whole : {text : List ℕ} {given : List Entry} {f body line : List ℕ} → (a : InBody text given f body line)
@@ -137,12 +122,12 @@ body-whole a = grind (arith, append-nil a.block)
 pub body-ends : {text : List ℕ} {given : List Entry} {f body line : List ℕ} → InBody text given f body line
     → InBody (text ++ 10 ∷ []) given f ((body ++ unquoted line) ++ 10 ∷ []) []
 unfolding lines
-body-ends {text} {given} {f} {body} {line} a =
-    let part = line ++ 10 ∷ [] in
-    let one = lines-line line [] a.part in
-    let none : NoFrom (lines part) = rw one (begins_from-cut line [] ∙ a.tail, tt) in
-    let whole = body-lines (body-whole a) (inr (line, refl)) none in
-    let texts : (a.prefix ++ a.block) ++ part ≡ text ++ 10 ∷ [] = rw a.is (simp append_assoc) in
-    let bodies : body ++ flat_map unquoted (lines part) ≡ (body ++ unquoted line) ++ 10 ∷ [] =
-    rw (one, append-nil (unquoted part), unquoted-push line) (sym (append_assoc body (unquoted line) (10 ∷ []))) in
-    rw (← texts, ← bodies) whole
+body-ends {line} a = grind (
+  arith,
+  lines-line line [] a.part,
+  begins_from-cut line [],
+  body-lines {part = line ++ 10 ∷ []} (body-whole a),
+  append_assoc,
+  append-nil,
+  unquoted-push line,
+)

@@ -1,22 +1,15 @@
 -- Whole lines that are added to a body, unquoted.
-use Rattle.std.proofs.Common.{◌≡◌, ℕ, ◌+◌, ◌-◌, ◌≤◌, true, false, Some, eqb, List, [], ◌∷◌, ◌++◌, length}
-use Rattle.std.proofs.Common.{take, drop, refl, sym, ◌∙◌, ap, arith, append_assoc, inr, take-add}
-use Rattle.std.specs.List.{flat_map, concat}
-use Rattle.std.proofs.lemmas.Bool.{false_from_ne_true, both_ways, cases_Bool}
-use Rattle.std.proofs.lemmas.List.{append-nil, take-append-drop, take_rest, length-drop}
-use Rattle.std.proofs.lemmas.List.Concat.{flat_map-append}
-use Rattle.memchr.specs.Find.{IsFirstByte, is_byte}
-use Rattle.mbox_text.specs.Lines.{lines, Ended}
-use Rattle.mbox_text.specs.Quoting.{unquoted, quotable, begins_from}
-use Rattle.mbox_text.specs.Private.Lines.{NoneQuotable, FirstQuotable}
-use Rattle.mbox_text.specs.Mbox.{NoFrom}
+use Rattle.mbox_text.proofs.Common.{◌≡◌, ℕ, ◌+◌, ◌-◌, ◌≤◌, true, false, Some, eqb, List, [], ◌∷◌, ◌++◌, length, rules, flat_map, append-nil, take-append-drop}
+use Rattle.mbox_text.proofs.Common.{take, drop, refl, sym, ◌∙◌, ap, arith, append_assoc, inr, take-add, concat, false_from_ne_true, both_ways, cases_Bool}
+use Rattle.mbox_text.proofs.Common.{take_rest, length-drop, flat_map-append, IsFirstByte, is_byte, lines, Ended, unquoted, quotable, begins_from, NoneQuotable}
+use Rattle.mbox_text.proofs.Common.{FirstQuotable, NoFrom}
 use Rattle.mbox_text.proofs.TextLines.LineLemmas.{lines-append, lines-line, concat-lines, begins_from-more, unquoted-other}
 use Rattle.mbox_text.proofs.Splitting.HeldLemmas.{NoFrom-append, Ended-append}
 use Rattle.mbox_text.proofs.TextLines.LineEnds.{line-there}
 
 -- a text begins with what its prefix begins with
 pub begins_from-take : (text : List ℕ) (n : ℕ) → begins_from (take n text) ≡ true → begins_from text ≡ true
-begins_from-take text n b = ap begins_from (sym (take-append-drop n text)) ∙ begins_from-more _ (drop n text) b
+begins_from-take text n b = grind (arith, take-append-drop n text, begins_from-more)
 
 pub NoneQuotable-append : (a b : List (List ℕ)) → NoneQuotable a → NoneQuotable b → NoneQuotable (a ++ b)
 NoneQuotable-append [] b h h' = h'
@@ -53,25 +46,21 @@ taken_none {before} = grind (arith, append-nil before)
 
 taken_more : {text before body body' : List ℕ} {at n : ℕ} → LinesTaken text before body at → n ≤ length (drop at text) → Ended (take n (drop at text))
     → NoFrom (lines (take n (drop at text))) → body' ≡ body ++ flat_map unquoted (lines (take n (drop at text))) → LinesTaken text before body' (at + n)
-taken_more {text} {before} {at} {n} t le ends none is =
-    let x = take n (drop at text) in
-    let prefix = ap lines (take-add at n text) ∙ lines-append x t.ended in
-    record {
-      within = omega (arith, t.within, le, length-drop at text);
-      added = rw (prefix, flat_map-append unquoted (lines (take at text)) (lines x))
-          (is ∙ ap (λ z. z ++ flat_map unquoted (lines x)) t.added
-          ∙ append_assoc before (flat_map unquoted (lines (take at text))) (flat_map unquoted (lines x)));
-      ended = rw (take-add at n text) (Ended-append t.ended ends);
-      none = rw prefix (NoFrom-append _ _ t.none none);
-    }
+taken_more {text} {before} {at} {n} t le ends none is = grind (
+  arith,
+  length-drop,
+  take-add,
+  lines-append (take n (drop at text)) t.ended,
+  flat_map-append unquoted (lines (take at text)) (lines (take n (drop at text))),
+  append_assoc before (flat_map unquoted (lines (take at text))) (flat_map unquoted (lines (take n (drop at text)))),
+  Ended-append t.ended ends,
+  NoFrom-append,
+)
 
 -- lines of which none is quotable are added as they stand
 taken_plain : {text before body body' : List ℕ} {at n : ℕ} → LinesTaken text before body at → n ≤ length (drop at text) → Ended (take n (drop at text))
     → NoneQuotable (lines (take n (drop at text))) → body' ≡ body ++ take n (drop at text) → LinesTaken text before body' (at + n)
-taken_plain {text} {body} {at} {n} t le ends none is =
-    let x = take n (drop at text) in
-    let same = none-unquoted _ none ∙ concat-lines x in
-    taken_more t le ends (none-from _ none) (is ∙ ap (λ z. body ++ z) (sym same))
+taken_plain {text} {body} {at} {n} t le ends none is = search (rules, none-unquoted, concat-lines, taken_more, none-from)
 
 -- the lines before the first quotable one, cut as the code cuts them
 pub taken_found : {text before body body' : List ℕ} {at n : ℕ} → LinesTaken text before body at → FirstQuotable (take (length text - at) (drop at text)) n

@@ -1,11 +1,7 @@
 -- What a text and its first line begin with.
-use Rattle.std.proofs.Common.{◌≡◌, ℕ, ◌<◌, ◌≤◌, true, false, eqb, List, [], ◌∷◌, ◌++◌, length, refl, sym, ◌∙◌, ap, arith, inl, inr, ◌⊎◌}
-use Rattle.std.specs.List.{concat}
-use Rattle.std.proofs.lemmas.Bool.{false≢true, and_parts, and_from, eqb-true, eq-eqb}
-use Rattle.mbox_text.specs.declared.entry.Entry.{Entry}
-use Rattle.mbox_text.specs.Lines.{before_first, lines, NoEnd}
-use Rattle.mbox_text.specs.Quoting.{begins_with, begins_from, from_bytes}
-use Rattle.mbox_text.specs.Mbox.{Block, Mbox, IsMboxText}
+use Rattle.mbox_text.proofs.Common.{◌≡◌, ℕ, ◌<◌, ◌≤◌, true, false, eqb, List, [], ◌∷◌, ◌++◌, length, refl, sym, arith, inl, inr, ◌⊎◌, eqb-true, concat}
+use Rattle.mbox_text.proofs.Common.{false≢true, and_parts, and_from, eq-eqb, Entry, before_first, lines, NoEnd, begins_with, begins_from, from_bytes, Block}
+use Rattle.mbox_text.proofs.Common.{Mbox, IsMboxText}
 use Rattle.mbox_text.proofs.TextLines.LineLemmas.{begins_from-more, concat-lines}
 
 -- the text has a first line, and it begins with these bytes
@@ -18,7 +14,7 @@ before-begins : (q c : ℕ) (prefix : List ℕ) (ls : List (List ℕ)) → eqb q
 before-begins q c prefix [] e (inl n) = rw n (and_from (eqb q c) true e refl)
 before-begins q c prefix [] e (inr h) = absurd h
 before-begins q c prefix (l ∷ ls) e (inl n) = rw n (and_from (eqb q c) true e refl)
-before-begins q c prefix (l ∷ ls) e (inr h) = and_from (eqb q c) (begins_with prefix l) e h
+before-begins q c prefix (l ∷ ls) e (inr h) = grind (arith, and_from)
 
 no-end : (q c : ℕ) → eqb q c ≡ true → eqb q 10 ≡ false → eqb c 10 ≡ false
 no-end q c e n = let s = eqb-true q c e in rw (← s) n
@@ -26,9 +22,7 @@ no-end q c e n = let s = eqb-true q c e in rw (← s) n
 first-begins : (q : ℕ) (prefix text : List ℕ) → NoEnd (q ∷ prefix) → begins_with (q ∷ prefix) text ≡ true → FirstBegins (q ∷ prefix) (lines text)
 unfolding lines
 first-begins q prefix [] n h = absurd (false≢true h)
-first-begins q [] (c ∷ text) n h =
-    let a = and_parts (eqb q c) true h in
-    rw (no-end q c a.0 n.0) (before-begins q c [] _ a.0 (inl refl))
+first-begins q [] (c ∷ text) n h = grind (arith, and_parts, no-end, before-begins)
 first-begins q (r ∷ prefix) (c ∷ text) n h =
     let a = and_parts (eqb q c) (begins_with (r ∷ prefix) text) h in
     rw (no-end q c a.0 n.0) (before-begins q c (r ∷ prefix) (lines text) a.0 (inr (first-begins r prefix text n.1 a.1)))
@@ -90,12 +84,7 @@ prefix-rest : (prefix text : List ℕ) → begins_with text prefix ≡ true → 
 prefix-rest prefix [] h = (prefix, refl)
 prefix-rest [] (c ∷ text) h = absurd (false≢true h)
 prefix-rest (p ∷ prefix) (c ∷ text) h =
-    let a = and_parts (eqb c p) (begins_with text prefix) h in
-    let r = prefix-rest prefix text a.1 in
-    let e = eqb-true c p a.0 in
-    let F = λ (x : ℕ). x ∷ (text ++ r.0) in
-    let G = λ (x : List ℕ). p ∷ x in
-    (r.0, ap F e ∙ ap G r.1)
+    grind (arith, prefix-rest prefix text (and_parts (eqb c p) (begins_with text prefix) h).1, eqb-true c p (and_parts (eqb c p) (begins_with text prefix) h).0)
 
 -- a prefix of `From ` can go on to the whole of it
 pub from-rest : (text : List ℕ) → begins_with text from_bytes ≡ true → (more : List ℕ) × (text ++ more ≡ from_bytes)

@@ -1,11 +1,7 @@
 -- Where the `\n` of a text stand.
-use Rattle.std.proofs.Common.{◌≡◌, ℕ, zero, suc, ◌+◌, ◌<◌, ◌↔◌, Bool, true, false, Option, Some, None, eqb, List, [], ◌∷◌}
-use Rattle.std.proofs.Common.{◌++◌, length, get_or, take, drop, not, is_some, IsTrue, refl, sym, ◌∙◌, ap, arith, inl}
-use Rattle.std.proofs.lemmas.Bool.{both_ways, false_from_ne_true, eqb-true}
-use Rattle.std.proofs.lemmas.List.{take_all, take_more, length-drop, get_or-drop}
-use Rattle.memchr.specs.Find.{IsFirstByte, IsLastByte, is_byte}
-use Rattle.mbox_text.specs.Lines.{lines, NoEnd}
-use Rattle.mbox_text.specs.Private.Lines.{IsLine}
+use Rattle.mbox_text.proofs.Common.{◌≡◌, ℕ, zero, suc, ◌+◌, ◌<◌, ◌↔◌, Bool, true, false, Option, Some, None, eqb, List, [], ◌∷◌, eqb-true, take_all, ◌++◌}
+use Rattle.mbox_text.proofs.Common.{length, get_or, take, drop, not, is_some, IsTrue, refl, sym, ◌∙◌, ap, arith, both_ways, false_from_ne_true, take_more}
+use Rattle.mbox_text.proofs.Common.{length-drop, get_or-drop, IsFirstByte, IsLastByte, is_byte, lines, NoEnd, IsLine}
 use Rattle.mbox_text.proofs.TextLines.LineLemmas.{lines-line, lines-part}
 
 pub NoEnd-append : (a b : List ℕ) → NoEnd a → NoEnd b → NoEnd (a ++ b)
@@ -35,7 +31,7 @@ line-there h = grind (arith, take_more, eqb-true, NoEnd-take)
 
 -- no `\n` in the text
 pub none-there : (s : List ℕ) → IsFirstByte (is_byte 10) s None → NoEnd s
-none-there s h = rw (← take_all (length s) s (omega arith)) (NoEnd-take s _ (λ k l. h k (omega arith) l))
+none-there s h = grind (arith, take_all (length s) s (omega arith), NoEnd-take)
 
 pub line_ends : {text : List ℕ} {n : ℕ} → IsFirstByte (is_byte 10) text (Some n) → IsLine text (n + 1)
 unfolding lines
@@ -43,9 +39,7 @@ line_ends found = grind (arith, line-there, lines-line)
 
 pub line_alone : (text : List ℕ) → 0 < length text → IsFirstByte (is_byte 10) text None → IsLine text (length text)
 line_alone [] l found = absurd (omega arith)
-line_alone (c ∷ text) l found =
-    let whole : take (length (c ∷ text)) (c ∷ text) ≡ c ∷ text = take_all (length (c ∷ text)) (c ∷ text) (omega arith) in
-    record { some = l; within = omega arith; line = rw whole (lines-part c text (none-there (c ∷ text) found)); ends = inl refl }
+line_alone (c ∷ text) l found = grind (arith, take_all (length (c ∷ text)) (c ∷ text) (omega arith), lines-part c text (none-there (c ∷ text) found))
 
 pub NoEnd-at : (s : List ℕ) (n d : ℕ) → NoEnd s → n < length s → eqb (get_or s n d) 10 ≡ false
 NoEnd-at [] n d h l = absurd (omega arith)
@@ -57,4 +51,4 @@ pub no_end_found : (s : List ℕ) (r : Option ℕ) (b : Bool) → IsFirstByte (i
 no_end_found s None true h e = (λ _. none-there s h, λ _. refl)
 no_end_found s None false h e = absurd (cc)
 no_end_found s (Some n) true h e = absurd (cc)
-no_end_found s (Some n) false h e = (λ t. absurd (cc), λ none. absurd (both_ways (eqb (get_or s n 0) 10) (NoEnd-at s n 0 none h.0.high) h.1))
+no_end_found s (Some n) false h e = grind (arith, both_ways, NoEnd-at)

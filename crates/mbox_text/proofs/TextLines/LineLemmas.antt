@@ -1,12 +1,8 @@
 -- The lines of a text, and their quoting.
-use Rattle.std.proofs.Common.{◌≡◌, ℕ, Bool, true, false, eqb, List, [], ◌∷◌, ◌++◌, ◌+◌, ◌<◌, add-zero, length}
-use Rattle.std.proofs.Common.{get_or, drop, refl, sym, ap, arith, append_assoc, inl, inr, ◌&&◌, MatchBool}
-use Rattle.std.specs.List.{concat, starts_with}
-use Rattle.std.proofs.lemmas.Bool.{false≢true, cases_Bool, ne_eqb, eq-eqb, cases_lt, and_parts, and_from}
-use Rattle.std.proofs.lemmas.List.{drop_more, drop_all, get_or-drop}
-use Rattle.mbox_text.specs.Lines.{before_first, lines, Ended, NoEnd}
-use Rattle.mbox_text.specs.Quoting.{begins_with, begins_from, from_bytes, quotable, quoted, unquoted}
-use Rattle.mbox_text.specs.Spelling.{missing_end}
+use Rattle.mbox_text.proofs.Common.{◌≡◌, ℕ, Bool, true, false, eqb, List, [], ◌∷◌, ◌++◌, ◌+◌, ◌<◌, add-zero, length, get_or, drop, refl, sym, ap, arith}
+use Rattle.mbox_text.proofs.Common.{append_assoc, inl, inr, ◌&&◌, MatchBool, concat, starts_with, false≢true, cases_Bool, ne_eqb, eq-eqb, cases_lt, and_parts}
+use Rattle.mbox_text.proofs.Common.{and_from, drop_more, drop_all, get_or-drop, before_first, lines, Ended, NoEnd, begins_with, begins_from, from_bytes}
+use Rattle.mbox_text.proofs.Common.{quotable, quoted, unquoted, missing_end}
 
 pub unquoted_quoted : (line : List ℕ) → unquoted (quoted line) ≡ line
 unfolding unquoted quoted quotable
@@ -119,7 +115,7 @@ quotable-plain (c ∷ line) h = rw (ne_eqb c 62 h) refl
 pub unquoted-mark : (line : List ℕ) → get_or line 0 0 ≡ 62 → quotable line ≡ true → unquoted line ≡ drop 1 line
 unfolding unquoted quotable
 unquoted-mark [] e q = refl
-unquoted-mark (c ∷ line) e q = let h = eq-eqb c 62 e in rw (h, rw h at q) refl
+unquoted-mark (c ∷ line) e q = grind (arith, eq-eqb)
 
 pub unquoted-plain : (line : List ℕ) → (0 < length line → get_or line 0 0 ≡ 62 → ⊥) → unquoted line ≡ line
 unfolding unquoted

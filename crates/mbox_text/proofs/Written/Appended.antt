@@ -1,10 +1,6 @@
 -- What a writer took, piece after piece.
-use Rattle.std.proofs.Common.{◌≡◌, ℕ, ◌+◌, ◌-◌, Option, Result, Ok, Err, List, [], ◌++◌, length, take, drop}
-use Rattle.std.proofs.Common.{sym, ap, append_assoc, IsErr, take-append-drop, append-nil, refl, arith}
-use Rattle.std.specs.Io.KnownBytes.{Appends}
-use Rattle.std.proofs.KnownBytes.{Appends-trans}
-use Rattle.std.proofs.lemmas.Result.{MatchResult-from_err}
-use Rattle.mbox_text.specs.Writing.{AppendsPrefix, Writes}
+use Rattle.mbox_text.proofs.Common.{◌≡◌, ℕ, ◌+◌, ◌-◌, Option, Result, Ok, Err, List, [], ◌++◌, length, take, drop, sym, ap, append_assoc, IsErr}
+use Rattle.mbox_text.proofs.Common.{take-append-drop, append-nil, refl, arith, Appends, Appends-trans, MatchResult-from_err, AppendsPrefix, Writes}
 use Rattle.mbox_text.proofs.Splitting.Fields.{take-at}
 
 -- a prefix of some bytes is a prefix of more

@@ -1,14 +1,8 @@
 -- The first quotable line of a text, and the lines before it, of which none is.
-use Rattle.std.proofs.Common.{◌≡◌, ℕ, zero, suc, ◌+◌, ◌-◌, ◌≤◌, ◌<◌, Some, None, true, false, eqb, List, []}
-use Rattle.std.proofs.Common.{◌∷◌, ◌++◌, length, take, drop, get_or, sym, ◌∙◌, ap, arith, inl, inr, ◌⊎◌}
-use Rattle.std.specs.List.{concat}
-use Rattle.std.proofs.lemmas.Bool.{cases_Bool, cases_lt, false≢true, and_parts, eqb-true}
-use Rattle.std.proofs.lemmas.List.{take_all, length-drop, length-take, get_or-drop, drop-append-le, drop-take, take-take, take_rest}
-use Rattle.std.proofs.Math.Seq.{drop-append-add, take-add}
-use Rattle.memchr.specs.Find.{FindsNeedle, OccursAt}
-use Rattle.mbox_text.specs.Lines.{lines, Ended}
-use Rattle.mbox_text.specs.Private.Lines.{IsLine, NoneQuotable, FirstQuotable}
-use Rattle.mbox_text.specs.Quoting.{begins_with, begins_from, from_bytes, quotable}
+use Rattle.mbox_text.proofs.Common.{◌≡◌, ℕ, zero, suc, ◌+◌, ◌-◌, ◌≤◌, ◌<◌, Some, None, true, false, eqb, List, [], rules, eqb-true, take_all, take-add, ◌∷◌}
+use Rattle.mbox_text.proofs.Common.{◌++◌, length, take, drop, get_or, sym, ◌∙◌, ap, arith, inl, inr, ◌⊎◌, concat, cases_Bool, cases_lt, false≢true, and_parts}
+use Rattle.mbox_text.proofs.Common.{length-drop, length-take, get_or-drop, drop-append-le, drop-take, take-take, take_rest, drop-append-add, FindsNeedle}
+use Rattle.mbox_text.proofs.Common.{OccursAt, lines, Ended, IsLine, NoneQuotable, FirstQuotable, begins_with, begins_from, from_bytes, quotable}
 use Rattle.mbox_text.proofs.TextLines.Heads.{from-long}
 use Rattle.mbox_text.proofs.TextLines.LineLemmas.{begins_from-more, concat-lines, lines-append}
 use Rattle.mbox_text.proofs.Splitting.HeldLemmas.{Ended-append}
@@ -22,7 +16,7 @@ record NoPlace (text : List ℕ) : Type 0 where
 begins-reads : (p t : List ℕ) → begins_with p t ≡ true → (j : ℕ) → j < length p → get_or t j 0 ≡ get_or p j 0
 begins-reads [] t h j l = absurd (omega arith)
 begins-reads (p ∷ ps) [] h j l = absurd (false≢true h)
-begins-reads (p ∷ ps) (c ∷ t) h zero l = sym (eqb-true p c (and_parts (eqb p c) (begins_with ps t) h).0)
+begins-reads (p ∷ ps) (c ∷ t) h zero l = grind (arith, eqb-true, and_parts)
 begins-reads (p ∷ ps) (c ∷ t) h (suc j) l = begins-reads ps t (and_parts (eqb p c) (begins_with ps t) h).1 j (omega arith)
 
 occurs : {text : List ℕ} {i : ℕ} → begins_from (drop i text) ≡ true → OccursAt text from_bytes i
@@ -107,20 +101,17 @@ plain_prefix {text} {at} {n} {f} p found within ended =
 pub plain_line : {text : List ℕ} {at n : ℕ} → let line : List ℕ =
     take (length text - at) (drop at text) in
     Plain text at → IsLine line n → quotable line ≡ false → Plain text (at + n)
-plain_line {text} {at} {n} p is not =
-    let h = rw (take_rest text at) at is in
-    let q = rw (take_rest text at) at not in
-    plain_more p (record { within = h.within; ends = h.ends; none = rw h.line (quotable-line h ∙ q, tt) })
+plain_line {text} {at} {n} p is not = search (rules, take_rest, plain_more, quotable-line)
 
 plain_rest : {text : List ℕ} → NoneQuotable (lines text) → Plain text (length text)
 plain_rest none = grind (arith, take_all)
 
 pub finds_none : {text : List ℕ} {at : ℕ} → Plain text at → FindsNeedle (take (length text - at) (drop at text)) from_bytes 0 None → NoneQuotable (lines text)
-finds_none {text} {at} p found =
-    let D = drop at text in
-    let all = plain_more p (plain_rest (no_lines (no_place_found (rw (take_rest text at) at found)))) in
-    let whole : take (at + length D) text ≡ text = take_all (at + length D) text (omega (arith, p.within, length-drop at text)) in
-    rw whole at all.none
+finds_none {text} {at} p found = grind (
+  arith,
+  take_all (at + length (drop at text)) text (omega (arith, p.within, length-drop at text)),
+  plain_more p (plain_rest (no_lines (no_place_found (rw (take_rest text at) at found)))),
+)
 
 pub finds_some : {text : List ℕ} {n : ℕ} → Plain text n → quotable (take (length text - n) (drop n text)) ≡ true → FirstQuotable text n
 unfolding quotable

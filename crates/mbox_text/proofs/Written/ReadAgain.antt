@@ -1,13 +1,7 @@
 -- What is written is read again.
-use Rattle.std.proofs.Common.{◌≡◌, ℕ, true, eqb, List, [], ◌∷◌, ◌++◌, map, refl, sym, ◌∙◌, ap, append_assoc, inl, inr, append-nil, arith}
-use Rattle.std.specs.List.{flat_map, concat}
-use Rattle.std.proofs.lemmas.Bool.{cases_Bool, eqb-true}
-use Rattle.std.proofs.lemmas.List.Concat.{flat_map-append}
-use Rattle.mbox_text.specs.declared.entry.Entry.{Entry}
-use Rattle.mbox_text.specs.Lines.{lines, Ended, NoEnd}
-use Rattle.mbox_text.specs.Quoting.{quotable, quoted, unquoted, begins_from}
-use Rattle.mbox_text.specs.Mbox.{NoFrom, Block, Mbox, without_blank}
-use Rattle.mbox_text.specs.Spelling.{missing_end, spelling, completed, FromLines}
+use Rattle.mbox_text.proofs.Common.{◌≡◌, ℕ, true, eqb, List, [], ◌∷◌, ◌++◌, map, refl, sym, ◌∙◌, ap, append_assoc, inl, inr, append-nil, arith, flat_map}
+use Rattle.mbox_text.proofs.Common.{eqb-true, concat, cases_Bool, flat_map-append, Entry, lines, Ended, NoEnd, quotable, quoted, unquoted, begins_from, NoFrom}
+use Rattle.mbox_text.proofs.Common.{Block, Mbox, without_blank, missing_end, spelling, completed, FromLines}
 use Rattle.mbox_text.proofs.TextLines.LineLemmas.{lines-append, lines-line, lines-part, begins_from-more, quotable-cut}
 use Rattle.mbox_text.proofs.TextLines.LineLemmas.{missing-ended, missing-part, quoted_no_from, unquoted_quoted, concat-lines}
 use Rattle.mbox_text.proofs.Reading.Chopped.{Whole, lines-whole}
@@ -22,7 +16,7 @@ record LastPart (text : List ℕ) : Type 0 where
   part : NoEnd last
 
 cut : (text : List ℕ) → LastPart text
-cut [] = record { prefix = []; last = []; is = refl; ended = inl refl; part = tt }
+cut [] = grind arith
 cut (c ∷ text) =
     let r = cut text in
     elim (cases_Bool (eqb c 10)) [
@@ -85,7 +79,7 @@ pub record Full (body : List ℕ) : Type 0 where
 
 pub full-cut : {body prefix : List ℕ} (last : List ℕ) → body ≡ prefix ++ last → Ended prefix → NoEnd last → Full body
 unfolding lines missing_end
-full-cut [] e (inl n) h = rw (e, n) (record { ended = inl refl; written = refl })
+full-cut [] e (inl n) h = grind arith
 full-cut {body} {prefix} [] e (inr s) h = grind (arith, append-nil prefix, missing-ended s.0, append-nil body, append-nil (flat_map quoted (lines body)))
 full-cut {body} {prefix} (c ∷ l) e ends h = grind (
   arith,

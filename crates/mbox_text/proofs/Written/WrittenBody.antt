@@ -1,17 +1,9 @@
 -- What is written of a body, part by part.
-use Rattle.std.proofs.Common.{◌≡◌, ℕ, zero, suc, ◌+◌, ◌-◌, ◌≤◌, ◌<◌, Option, Result, true, false, eqb, List, [], ◌∷◌, ◌++◌}
-use Rattle.std.proofs.Common.{length, take, drop, get_or, refl, sym, ◌∙◌, ap, arith, append_assoc, inl, inr, ◌⊎◌, take-add}
-use Rattle.std.specs.List.{flat_map, concat}
-use Rattle.std.specs.Io.KnownBytes.{Appends}
-use Rattle.std.proofs.KnownBytes.{Appends-trans, Appends-nil}
-use Rattle.std.proofs.lemmas.Bool.{ne_eqb, eqb-true, eqb-false}
-use Rattle.std.proofs.lemmas.List.{append-nil, take_more, take-append-drop, take_all, take_rest, drop_all, drop-drop, length-drop, nil_from_length}
-use Rattle.std.proofs.lemmas.List.Concat.{flat_map-append}
-use Rattle.mbox_text.specs.Lines.{lines, Ended}
-use Rattle.mbox_text.specs.Private.Lines.{IsLine, NoneQuotable, FirstQuotable}
-use Rattle.mbox_text.specs.Quoting.{quotable, quoted}
-use Rattle.mbox_text.specs.Spelling.{missing_end}
-use Rattle.mbox_text.specs.Writing.{AppendsPrefix, Writes}
+use Rattle.mbox_text.proofs.Common.{◌≡◌, ℕ, zero, suc, ◌+◌, ◌-◌, ◌≤◌, ◌<◌, Option, Result, true, false, eqb, List, [], ◌∷◌, ◌++◌, flat_map, eqb-true}
+use Rattle.mbox_text.proofs.Common.{append-nil, take-append-drop, take_all, length, take, drop, get_or, refl, sym, ◌∙◌, ap, arith, append_assoc, inl, inr, ◌⊎◌}
+use Rattle.mbox_text.proofs.Common.{take-add, concat, Appends, Appends-trans, Appends-nil, ne_eqb, eqb-false, take_more, take_rest, drop_all, drop-drop}
+use Rattle.mbox_text.proofs.Common.{length-drop, nil_from_length, flat_map-append, lines, Ended, IsLine, NoneQuotable, FirstQuotable, quotable, quoted}
+use Rattle.mbox_text.proofs.Common.{missing_end, AppendsPrefix, Writes}
 use Rattle.mbox_text.proofs.TextLines.LineLemmas.{lines-append, concat-lines, quotable-cut, missing-ended, missing-part}
 use Rattle.mbox_text.proofs.Splitting.HeldLemmas.{Ended-append}
 use Rattle.mbox_text.proofs.Written.Appended.{prefix_then, wrote}
@@ -71,13 +63,9 @@ line_part body at n len found line = grind (arith, take_rest, quotable-line, dro
 split-at : (text : List ℕ) {n : ℕ} → (n ≡ length text) ⊎ Ended (take n text)
     → flat_map quoted (lines text) ≡ flat_map quoted (lines (take n text)) ++ flat_map quoted (lines (drop n text))
 unfolding lines
-split-at text {n} (inl e) =
-    let all : take n text ≡ text = take_all n text (omega (arith, e)) in
-    let none : drop n text ≡ [] = drop_all n text (omega (arith, e)) in
-    rw (all, none) (sym (append-nil (flat_map quoted (lines text))))
+split-at text {n} (inl e) = grind (arith, take_all, drop_all, append-nil)
 split-at text {n} (inr e) =
-    ap (λ z. flat_map quoted (lines z)) (sym (take-append-drop n text)) ∙ ap (flat_map quoted) (lines-append (drop n text) e)
-    ∙ flat_map-append quoted (lines (take n text)) (lines (drop n text))
+    grind (arith, take-append-drop n text, lines-append (drop n text) e, flat_map-append quoted (lines (take n text)) (lines (drop n text)))
 
 written_more : {body : List ℕ} {old mid new : Option (List ℕ)} {at n : ℕ} {bytes : List ℕ}
     → WrittenTo body old mid at → at < length body → Part (drop at body) n bytes
@@ -136,10 +124,10 @@ last-is {body} e = grind (arith, eqb-false, take_all, take_more)
 
 pub missing-empty : (body : List ℕ) → eqb (length body) 0 ≡ true → missing_end body ≡ []
 unfolding missing_end
-missing-empty body e = rw (nil_from_length body (eqb-true (length body) 0 e)) refl
+missing-empty body e = grind (arith, nil_from_length, eqb-true)
 
 pub missing-some : (body : List ℕ) → eqb (length body) 0 ≡ false → (get_or body (length body - 1) 0 ≡ 10 → ⊥) → missing_end body ≡ 10 ∷ []
-missing-some body e h = ap missing_end (last-is e) ∙ missing-part (take (length body - 1) body) _ [] (ne_eqb _ 10 h, tt)
+missing-some body e h = grind (arith, last-is e, missing-part, ne_eqb)
 
 pub missing-none : (body : List ℕ) → eqb (length body) 0 ≡ false → get_or body (length body - 1) 0 ≡ 10 → missing_end body ≡ []
 missing-none body e h = grind (arith, last-is e, missing-ended (take (length body - 1) body))

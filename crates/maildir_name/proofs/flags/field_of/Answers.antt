@@ -1,3 +1,4 @@
+use Rattle.std.proofs.Common.{arith}
 use Rattle.maildir_name.proofs.FlagLemmas.{field_blank, field_then, field_else, field_end}
 use Rattle.maildir_name.proofs.flags.field_of.Goals as goal
 use Rattle.maildir_name.proofs.flags.field_of.Goals.{else-loop-rest-test, then-loop-rest-test+then-is_blank}
@@ -9,9 +10,7 @@ returns-then-begins_with_name c =
     c.is_blank.ensures c.if-is_blank.false c.begins_with_name.ensures c.if-begins_with_name.true
 
 pub loop-rest-preserved : goal.loop-rest-preserved
-loop-rest-preserved c =
-    field_else (record { same = c.loop-rest.invariant; first = c.line_len.ensures.first; prefix = c.split_at.ensures.front; back = c.split_at.ensures.back })
-    c.is_blank.ensures c.if-is_blank.false c.begins_with_name.ensures c.if-begins_with_name.false
+loop-rest-preserved c = grind (arith, field_else)
 
 pub returns : goal.returns
 returns c = elim c.loop-rest-test.branch [

@@ -1,6 +1,4 @@
-use Rattle.std.proofs.Common.{◌+◌, ◌-◌, take, drop, refl, sym, ◌∙◌, inl, inr}
-use Rattle.std.proofs.lemmas.List.{take_rest, drop-drop}
-use Rattle.std.proofs.lemmas.Slice.{pushed}
+use Rattle.mbox_text.proofs.Common.{◌+◌, ◌-◌, take, drop, refl, sym, ◌∙◌, arith, take_rest, drop-drop, pushed}
 use Rattle.mbox_text.proofs.TextLines.LineEnds.{none-there}
 use Rattle.mbox_text.proofs.Splitting.Runs.{taken_none, taken_found, taken_line, taken_rest}
 use Rattle.mbox_text.proofs.body.take_lines.Goals as goal
@@ -25,8 +23,7 @@ returns-then-begins_with_from c =
     let n = c.in-Some.n in
     let copied = pushed (take ((at + n) - at) (drop at text)) refl c.in_ok-extend_from_slice.was c.extend_from_slice.ensures.items in
     let t = taken_found c.loop-n.invariant c.in-Some.ensures copied in
-    let from = sym c.begins_with_from.ensures ∙ c.if-begins_with_from.true in
-    record { within = t.within; added = t.added; ended = t.ended; none = t.none; stops = inl (rw (take_rest text (at + n)) at from) }
+    grind (arith, take_rest text (at + n))
 
 pub returns-in-None : goal.returns-in-None
 returns-in-None c =
@@ -35,8 +32,7 @@ returns-in-None c =
     let n = c.in-Some.n in
     let copied = pushed (take ((at + n) - at) (drop at text)) refl c.in_ok-extend_from_slice.was c.extend_from_slice.ensures.items in
     let t = taken_found c.loop-n.invariant c.in-Some.ensures copied in
-    let rest = rw (take_rest text (at + n)) at c.in-None.ensures in
-    record { within = t.within; added = t.added; ended = t.ended; none = t.none; stops = inr (none-there _ rest) }
+    grind (arith, none-there, take_rest text (at + n))
 
 pub returns : goal.returns
 returns c =
@@ -46,5 +42,4 @@ returns c =
     let w = c.whole_len-n.ensures in
     let copied = pushed (take ((at + n) - at) (drop at text)) refl c.in_ok-extend_from_slice-2.was c.extend_from_slice-2.ensures.items in
     let t = taken_rest c.loop-n.invariant w.within w.ended c.in_default.ensures copied in
-    let rest = rw (take_rest text at, drop-drop) at w.rest in
-    record { within = t.within; added = t.added; ended = t.ended; none = t.none; stops = inr rest }
+    grind (arith, take_rest text at, drop-drop)

@@ -1,5 +1,4 @@
-use Rattle.std.proofs.Common.{◌≡◌, ◌++◌, take, map}
-use Rattle.mbox_text.specs.FromLine.{hyphened}
+use Rattle.mbox_text.proofs.Common.{◌≡◌, ◌++◌, take, map, hyphened}
 use Rattle.mbox_text.proofs.build.add_cleaned.Given as goal
 
 abbrev pub invariant-loop-byte : goal.invariant-loop-byte

@@ -2,4 +2,4 @@ use Rattle.mbox_text.proofs.Reading.Prefixes.{prefix_reading}
 use Rattle.mbox_text.proofs.laws.prefix_reading.Goals as goal
 
 pub returns : goal.returns
-returns c = λ text more entries given last h h'. prefix_reading text more entries given last h h'
+returns c = prefix_reading

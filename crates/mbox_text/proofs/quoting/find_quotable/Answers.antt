@@ -1,4 +1,4 @@
-use Rattle.std.proofs.Common.{◌+◌, sym, ◌∙◌}
+use Rattle.std.proofs.Common.{sym, ◌∙◌}
 use Rattle.mbox_text.proofs.Written.Quotable.{plain_none, plain_prefix, plain_line, finds_none, finds_some}
 use Rattle.mbox_text.proofs.quoting.find_quotable.Goals as goal
 
@@ -14,8 +14,6 @@ returns-then-is_quotable c =
 
 pub loop-n-preserved : goal.loop-n-preserved
 loop-n-preserved c =
-    let text = c.args.text.now in
-    let start = c.loop-n.at + c.whole_len.result in
     let w = c.whole_len.ensures in
     plain_line
     (plain_prefix c.loop-n.invariant (rw c.new-finder.ensures at c.in-Some.ensures) w.within w.ended)

@@ -1,5 +1,4 @@
-use Rattle.std.proofs.Common.{◌≡◌, ◌≤◌, ◌-◌, length, drop}
-use Rattle.mbox_text.specs.Quoting.{quotable}
+use Rattle.mbox_text.proofs.Common.{◌≡◌, ◌≤◌, ◌-◌, length, drop, quotable}
 use Rattle.mbox_text.proofs.quoting.is_quotable.Given as goal
 
 abbrev pub invariant-loop-at : goal.invariant-loop-at

@@ -1,3 +1,4 @@
+use Rattle.std.proofs.Common.{rules}
 use Rattle.mbox_text.proofs.FromLine.BuiltLines.{rest-at}
 use Rattle.mbox_text.proofs.TextLines.Heads.{from-long}
 use Rattle.mbox_text.proofs.sender.rest_of.Goals as goal
@@ -6,6 +7,4 @@ pub after_from-after-requires : goal.after_from-after-requires
 after_from-after-requires c = from-long _ c.requires.0
 
 pub returns : goal.returns
-returns c =
-    rest-at _ c.after_from-after.ensures c.first_space.ensures.within c.first_space.ensures.before
-    c.without_spaces.ensures
+returns c = search (rules, rest-at)

@@ -1,3 +1,4 @@
+use Rattle.std.proofs.Common.{arith}
 use Rattle.mbox_text.proofs.FromLine.BuiltLines.{sender-at}
 use Rattle.mbox_text.proofs.TextLines.Heads.{from-long}
 use Rattle.mbox_text.proofs.sender.sender_of.Goals as goal
@@ -6,4 +7,4 @@ pub after_from-after-requires : goal.after_from-after-requires
 after_from-after-requires c = from-long _ c.requires.0
 
 pub returns : goal.returns
-returns c = sender-at _ _ c.after_from-after.ensures c.first_space.ensures.before
+returns c = grind (arith, sender-at)

@@ -1,5 +1,4 @@
-use Rattle.std.proofs.Common.{◌≡◌, ◌≤◌, ◌-◌, length, drop}
-use Rattle.mbox_text.specs.FromLine.{past_spaces}
+use Rattle.mbox_text.proofs.Common.{◌≡◌, ◌≤◌, ◌-◌, length, drop, past_spaces}
 use Rattle.mbox_text.proofs.sender.without_spaces.Given as goal
 
 abbrev pub invariant-loop-at : goal.invariant-loop-at

@@ -1,5 +1,4 @@
-use Rattle.std.proofs.Common.{◌+◌, ◌∙◌}
-use Rattle.std.proofs.lemmas.List.{take_rest}
+use Rattle.mbox_text.proofs.Common.{◌+◌, ◌∙◌, arith, take_rest}
 use Rattle.mbox_text.proofs.Reading.Blocks.{block_there, block_alone}
 use Rattle.mbox_text.proofs.split.first_block.Goals as goal
 
@@ -12,6 +11,4 @@ returns-in_ok-from_slice-in-Some c =
     (rw c.new-in-Some.ensures body) (c.new.ensures ∙ c.in_ok-from_slice-in-Some.ensures.items)
 
 pub returns-in_ok-from_slice-in-None : goal.returns-in_ok-from_slice-in-None
-returns-in_ok-from_slice-in-None c =
-    block_alone c.requires c.in-None.ensures
-    (c.new-in-None.ensures ∙ c.in_ok-from_slice-in-None.ensures.items) (c.new-in-None-3.ensures ∙ c.new-in-None-2.ensures.items)
+returns-in_ok-from_slice-in-None c = grind (arith, block_alone)

@@ -1,8 +1,4 @@
-use Rattle.std.proofs.Common.{ℕ, ◌++◌, ◌-◌, List, length, take, drop, sym, ◌∙◌, ap, flat_map}
-use Rattle.std.proofs.lemmas.List.{take_rest}
-use Rattle.mbox_text.specs.Lines.{lines}
-use Rattle.mbox_text.specs.Quoting.{unquoted, begins_from}
-use Rattle.mbox_text.specs.Private.Moved.{chopped}
+use Rattle.mbox_text.proofs.Common.{ℕ, ◌++◌, ◌-◌, List, length, take, drop, sym, ◌∙◌, ap, flat_map, take_rest, lines, unquoted, begins_from, chopped}
 use Rattle.mbox_text.proofs.Reading.Blocks.{body_stops, body_ends}
 use Rattle.mbox_text.proofs.split.first_body.Goals as goal
 use Rattle.mbox_text.proofs.split.first_body.Goals.{then-not-begins_with_from+in_ok-add_unquoted, else-not-begins_with_from}

@@ -1,20 +1,15 @@
-use Rattle.std.proofs.Common.{arith}
-use Rattle.std.proofs.lemmas.List.{take_rest}
+use Rattle.mbox_text.proofs.Common.{arith, take_rest}
 use Rattle.mbox_text.proofs.Reading.Blocks.{so_far_none, so_far_more, so_far_all, first-some}
 use Rattle.mbox_text.proofs.split.split_blocks.Goals as goal
 
 pub loop-at-init : goal.loop-at-init
-loop-at-init c = so_far_none c.requires c.new-entries.ensures.items
+loop-at-init c = grind (arith, so_far_none)
 
 pub loop-at-smaller : goal.loop-at-smaller
-loop-at-smaller c =
-    let some = first-some (rw (take_rest c.args.text.now c.loop-at.at) at c.in_ok-first.ensures) in
-    omega arith
+loop-at-smaller c = grind (arith, first-some, take_rest)
 
 pub loop-at-preserved : goal.loop-at-preserved
-loop-at-preserved c =
-    rw c.in_ok-push.ensures.items (so_far_more c.loop-at.invariant c.loop-at-test.true
-    (rw (take_rest c.args.text.now c.loop-at.at) at c.in_ok-first.ensures))
+loop-at-preserved c = grind (arith, so_far_more, take_rest)
 
 pub returns : goal.returns
-returns c = so_far_all c.loop-at.invariant (omega arith)
+returns c = grind (arith, so_far_all)

@@ -1,4 +1,4 @@
-use Rattle.std.proofs.lemmas.Result.{MatchResult-from_err}
+use Rattle.mbox_text.proofs.Common.{arith, MatchResult-from_err}
 use Rattle.mbox_text.proofs.Written.WrittenBody.{written_none, written_found, written_line, written_prefix, written_rest, found_part, line_part}
 use Rattle.mbox_text.proofs.write.write_body.Goals as goal
 
@@ -24,4 +24,4 @@ returns-in_err-write_quoted-clause-written g c =
     (λ _. written_prefix _ w part c.in_err-write_quoted.ensures.written)
 
 pub returns-clause-written : goal.returns-clause-written
-returns-clause-written g c = written_rest _ _ c.loop-n.invariant c.in_default.ensures c.write_bytes-2.ensures.written
+returns-clause-written g c = grind (arith, written_rest)

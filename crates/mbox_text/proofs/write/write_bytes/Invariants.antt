@@ -1,5 +1,4 @@
-use Rattle.std.proofs.Common.{◌≤◌, length, take}
-use Rattle.std.specs.Io.KnownBytes.{Appends}
+use Rattle.mbox_text.proofs.Common.{◌≤◌, length, take, Appends}
 use Rattle.mbox_text.proofs.write.write_bytes.Given as goal
 
 abbrev pub invariant-writes : goal.invariant-writes

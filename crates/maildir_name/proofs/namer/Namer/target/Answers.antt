@@ -1,4 +1,3 @@
-use Rattle.std.proofs.Common.{rules}
 use Rattle.maildir_name.proofs.NamerLemmas.{next-counted, named-counted-base}
 use Rattle.maildir_name.proofs.namer.Namer.target.Goals as goal
 
@@ -18,9 +17,3 @@ returns-clause-base c =
     let n = named-counted-base c.args.body.now c.count.result c.flags_of.result
     c.digest-digest.ensures c.saturating_add-number.ensures c.in_ok-base.ensures c.in_ok-target.ensures in
     (n.converter, n.own_base, n.same_base)
-
-pub returns-in_err-base-clause-refused : goal.returns-in_err-base-clause-refused
-returns-in_err-base-clause-refused c = search rules
-
-pub returns-in_err-target-clause-refused : goal.returns-in_err-target-clause-refused
-returns-in_err-target-clause-refused c = search rules

@@ -1,6 +1,5 @@
-use Rattle.std.proofs.Common.{◌≡◌, ℕ, ◌+◌, ◌-◌, ◌++◌, List, [], ◌∷◌, length, take, drop, arith, ap, ◌∙◌, sym, append_assoc, take_all, refl}
-use Rattle.std.proofs.lemmas.List.{append-nil, take_rest, take-append-drop}
-use Rattle.mbox_text.specs.declared.fault.TextFault.TheVariants.{OutOfMemory}
+use Rattle.mbox_text.proofs.Common.{◌≡◌, ℕ, ◌+◌, ◌-◌, ◌++◌, List, [], ◌∷◌, length, take, drop, arith, ap, ◌∙◌, sym, append_assoc, refl, append-nil}
+use Rattle.mbox_text.proofs.Common.{take-append-drop, take_rest, OutOfMemory}
 use Rattle.mbox_text.proofs.TextLines.LineEnds.{line-there, none-there}
 use Rattle.mbox_text.proofs.Splitting.Giving.{gives_none, gives_nothing, gives_then, stops_at, handed_on}
 use Rattle.mbox_text.proofs.Splitting.Fields.{take-at, three-parts}
@@ -60,21 +59,12 @@ returns-in_err-end_line-in-Some-clause-stopped c =
     _ _ _ _ g c.in_err-end_line-in-Some.ensures.stopped is)
 
 pub returns-in_err-add_part-in-None-clause-stopped : goal.returns-in_err-add_part-in-None-clause-stopped
-returns-in_err-add_part-in-None-clause-stopped c =
-    let text = c.args.text.now in
-    let at = c.in_ok-at.at in
-    let rest = take (length text - at) (drop at text) in
-    let is : text ≡ take at text ++ (rest ++ []) = rw (append-nil rest, take_rest text at) (sym (take-append-drop at text)) in
-    let g = gives_none c.args.self.now c.take_body_lines.new.self (take at text) c.in_err-add_part-in-None.ensures.kept c.in_ok-at.ensures.held in
-    handed_on _ _ c.from_residual-in_err-add_part-in-None.ensures
-    (stops_at _ _ _ _ rest [] _ _ g c.in_err-add_part-in-None.ensures.stopped is)
-
-pub returns-in_ok-add_part-in-None-clause-moved : goal.returns-in_ok-add_part-in-None-clause-moved
-returns-in_ok-add_part-in-None-clause-moved c =
-    let text = c.args.text.now in
-    let at = c.in_ok-at.at in
-    let rest = take (length text - at) (drop at text) in
-    let is : take at text ++ rest ≡ text = rw (take_rest text at) (take-append-drop at text) in
-    let g = gives_then c.args.self.now c.take_body_lines.new.self c.add_part-in-None.new.self _ _ _
-    (gives_none c.args.self.now c.take_body_lines.new.self (take at text) refl c.in_ok-at.ensures.held) c.in_ok-add_part-in-None.ensures.moved in
-    rw (take_all (length text) text (omega arith)) (rw is at g)
+returns-in_err-add_part-in-None-clause-stopped c = grind (
+  arith,
+  handed_on,
+  stops_at,
+  gives_none c.args.self.now c.take_body_lines.new.self (take c.in_ok-at.at c.args.text.now) c.in_err-add_part-in-None.ensures.kept c.in_ok-at.ensures.held,
+  append-nil (take (length c.args.text.now - c.in_ok-at.at) (drop c.in_ok-at.at c.args.text.now)),
+  take_rest c.args.text.now c.in_ok-at.at,
+  take-append-drop c.in_ok-at.at c.args.text.now,
+)

@@ -6,10 +6,7 @@ pub returns-clause-fed : goal.returns-clause-fed
 returns-clause-fed c = search (rules, fed_taken)
 
 pub returns-clause-no_from_line : goal.returns-clause-no_from_line
-returns-clause-no_from_line c = fed_never c.args.piece.now c.take_piece-taken.ensures.stopped
+returns-clause-no_from_line c = search (rules, fed_never)
 
 pub returns-clause-out_of_memory : goal.returns-clause-out_of_memory
-returns-clause-out_of_memory c = fed_part _ c.take_piece-taken.ensures.stopped
-
-pub returns-clause-state : goal.returns-clause-state
-returns-clause-state c = search rules
+returns-clause-out_of_memory c = search (rules, fed_part)

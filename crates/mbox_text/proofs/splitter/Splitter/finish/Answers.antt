@@ -1,21 +1,14 @@
-use Rattle.std.proofs.Common.{◌++◌, vec_len, ap, sym, refl, ◌∙◌, arith, Ok, Some}
-use Rattle.std.proofs.lemmas.Bool.{eqb-true, eqb-false}
-use Rattle.std.proofs.lemmas.List.{nil_from_length}
-use Rattle.mbox_text.specs.declared.partial_message.PartialMessage.{PartialMessage}
-use Rattle.mbox_text.specs.Private.Moved.{chopped}
-use Rattle.mbox_text.specs.Quoting.{unquoted}
+use Rattle.mbox_text.proofs.Common.{◌++◌, vec_len, ap, sym, ◌∙◌, arith, Ok, Some, rules, eqb-true, eqb-false, nil_from_length, PartialMessage, chopped}
+use Rattle.mbox_text.proofs.Common.{unquoted}
 use Rattle.mbox_text.proofs.Faults.{ok_no_err, memory_no_line}
 use Rattle.mbox_text.proofs.Splitting.Finishing.{ends_body, ends_head, ends_none, ends_some, not_short_body, not_short_head, short_none, short_refused}
 use Rattle.mbox_text.proofs.splitter.Splitter.finish.Goals as goal
 
 pub returns-in_err-close_with-in-Some-clause-no_from_line : goal.returns-in_err-close_with-in-Some-clause-no_from_line
-returns-in_err-close_with-in-Some-clause-no_from_line c =
-    not_short_body c.args.self c.from_residual.result c.in-Some.is (memory_no_line _ c.from_residual.ensures.1)
+returns-in_err-close_with-in-Some-clause-no_from_line c = search (rules, not_short_body, memory_no_line)
 
 pub returns-then-is_empty-clause-last : goal.returns-then-is_empty-clause-last
-returns-then-is_empty-clause-last c =
-    ends_none c.in-None.is
-    (nil_from_length c.args.self.line.items (omega (arith, eqb-true (vec_len c.args.self.line) 0 (sym c.if-is_empty.ensures), c.args.self.line.ok)))
+returns-then-is_empty-clause-last c = grind (arith, ends_none, nil_from_length, eqb-true)
 
 pub returns-then-is_empty-clause-no_from_line : goal.returns-then-is_empty-clause-no_from_line
 returns-then-is_empty-clause-no_from_line c =
@@ -23,10 +16,7 @@ returns-then-is_empty-clause-no_from_line c =
     (nil_from_length c.args.self.line.items (omega (arith, eqb-true (vec_len c.args.self.line) 0 (sym c.if-is_empty.ensures), c.args.self.line.ok)))
 
 pub returns-then-not-begins_with_from-clause-no_from_line : goal.returns-then-not-begins_with_from-clause-no_from_line
-returns-then-not-begins_with_from-clause-no_from_line c =
-    let some = eqb-false (vec_len c.args.self.line) 0 (sym c.if-is_empty.ensures) in
-    short_refused refl c.in-None.is (omega (arith, some, c.args.self.line.ok))
-    c.deref-in-None.ensures.value (sym c.if-not-begins_with_from.ensures)
+returns-then-not-begins_with_from-clause-no_from_line c = grind (arith, eqb-false, short_refused)
 
 pub returns-in_ok-close_with-in-Some-clause-last : goal.returns-in_ok-close_with-in-Some-clause-last
 returns-in_ok-close_with-in-Some-clause-last c =
@@ -38,8 +28,7 @@ returns-in_ok-close_with-in-Some-clause-last c =
     (e.from_line ∙ ap F c.in-Some.message-is) (e.body ∙ ap B c.in-Some.message-is))
 
 pub returns-in_ok-close_with-in-Some-clause-no_from_line : goal.returns-in_ok-close_with-in-Some-clause-no_from_line
-returns-in_ok-close_with-in-Some-clause-no_from_line c =
-    not_short_body c.args.self (Ok (Some c.in_ok-close_with-in-Some.field-0)) c.in-Some.is (ok_no_err _ _)
+returns-in_ok-close_with-in-Some-clause-no_from_line c = search (rules, not_short_body, ok_no_err)
 
 pub returns-else-not-begins_with_from-clause-last : goal.returns-else-not-begins_with_from-clause-last
 returns-else-not-begins_with_from-clause-last c =
@@ -51,6 +40,3 @@ pub returns-else-not-begins_with_from-clause-no_from_line : goal.returns-else-no
 returns-else-not-begins_with_from-clause-no_from_line c =
     not_short_head c.args.self (Ok (Some (record { from_line = c.new.result; body = c.new-in-None-2.result }))) c.in-None.is c.deref-in-None.ensures.value
     (sym c.if-not-begins_with_from.ensures) (ok_no_err _ _)
-
-pub returns-then-not-begins_with_from-clause-last : goal.returns-then-not-begins_with_from-clause-last
-returns-then-not-begins_with_from-clause-last c = tt

@@ -1,11 +1,10 @@
-use Rattle.std.proofs.Common.{◌≡◌, ◌-◌, ◌++◌, length, take, drop, arith, ◌∙◌, sym, refl}
-use Rattle.std.proofs.lemmas.List.{take-append-drop, take_rest, length-drop}
+use Rattle.mbox_text.proofs.Common.{arith, ◌∙◌, take-append-drop, take_rest, length-drop}
 use Rattle.mbox_text.proofs.Splitting.Fields.{take-at}
 use Rattle.mbox_text.proofs.Splitting.Giving.{gives_nothing, gives_then, stops_after, handed_on}
 use Rattle.mbox_text.proofs.splitter.Splitter.take_piece.Goals as goal
 
 pub loop-at-init : goal.loop-at-init
-loop-at-init c = record { within = omega arith; same = refl; gives = gives_nothing c.args.self.now }
+loop-at-init c = grind (arith, gives_nothing)
 
 pub loop-at-preserved : goal.loop-at-preserved
 loop-at-preserved c =
@@ -22,9 +21,4 @@ loop-at-preserved c =
 
 pub returns-in_err-at-clause-stopped : goal.returns-in_err-at-clause-stopped
 returns-in_err-at-clause-stopped c =
-    let piece = c.args.piece.now in
-    let at = c.loop-at.at in
-    let rest = take (length piece - at) (drop at piece) in
-    let whole : piece ≡ take at piece ++ rest = rw (take_rest piece at) (sym (take-append-drop at piece)) in
-    handed_on _ _ c.from_residual.ensures
-    (stops_after _ c.loop-at.invariant.gives c.in_err-at.ensures.stopped whole)
+    grind (arith, handed_on, stops_after, take_rest c.args.piece.now c.loop-at.at, take-append-drop c.loop-at.at c.args.piece.now)

@@ -1,5 +1,4 @@
-use Rattle.std.proofs.Common.{◌≡◌, ◌≤◌, ◌-◌, length, take}
-use Rattle.mbox_text.specs.Private.Moved.{Gives}
+use Rattle.mbox_text.proofs.Common.{◌≡◌, ◌≤◌, ◌-◌, length, take, Gives}
 use Rattle.mbox_text.proofs.splitter.Splitter.take_piece.Given as goal
 
 abbrev pub invariant-loop-at : goal.invariant-loop-at
