@@ -1,5 +1,5 @@
 -- A write, from the calls of the system.
-use Rattle.std.proofs.Common.{◌≡◌, ◌∙◌, inl, inr, ℕ, [], List, ◌++◌, refl, Result, Ok, Err, IsErr, OnOk, take}
+use Rattle.std.proofs.Common.{◌≡◌, ◌∙◌, inl, inr, ℕ, [], List, ◌++◌, Result, Ok, Err, IsErr, OnOk, take}
 use Rattle.std.proofs.lemmas.Bool.{false≢true}
 use Rattle.std.specs.IoError.{error_kind}
 use Rattle.std.specs.declared.io.ErrorKind.TheVariants.{Interrupted}
