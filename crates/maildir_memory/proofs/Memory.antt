@@ -4,5 +4,5 @@
 pub mod CaseLists
 -- Changes of a Maildir in memory: what each may leave, and to which call it belongs.
 pub mod Changes
--- What is seen of a Maildir in memory after a call that only looks.
+-- What is seen of a Maildir in memory after a call that only looks, or that failed.
 pub mod Looking

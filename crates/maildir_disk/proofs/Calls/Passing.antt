@@ -1,11 +1,9 @@
 -- Consequences of what is assumed of a system.
 use Rattle.std.proofs.Common.{◌≡◌, inl, inr, ℕ, ◌+◌, ◌≤◌, ◌<◌, List, [], ◌∷◌, ◌++◌, map, append_assoc, refl, sym, ◌∙◌, ap}
-use Rattle.std.proofs.Common.{subst, arith, IsPermutation, Result, Ok, Err, IsErr, IfOk, Vec, String, Global, rules}
-use Rattle.std.proofs.lemmas.Bool.{false≢true}
+use Rattle.std.proofs.Common.{subst, arith, IsPermutation, rules}
 use Rattle.maildir_disk.proofs.Common.{keys, Sub, Files, Action, acted, all_acted, Call, Listing, Move, Other, Again, moved, after, folder_of, IsWhole, Lists}
-use Rattle.maildir_disk.proofs.Common.{Listed, AnyMoves, IsSettled, IsFarAhead, World, margin_of, IsOfChange, Acts, Passes, IsStampWithin, ReadsNames}
-use Rattle.maildir_disk.specs.declared.one_moment.Look.{Look}
-use Rattle.maildir_disk.specs.Private.Look.{LookGives, LookGivesQuietly, Watched}
+use Rattle.maildir_disk.proofs.Common.{AnyMoves, IsSettled, IsFarAhead, World, margin_of, IsOfChange, Acts, Passes, IsStampWithin, ReadsNames}
+use Rattle.maildir_disk.specs.Private.Look.{Watched}
 
 pub all_acted-append : (xs ys : List Action) (s : Files) → all_acted (xs ++ ys) s ≡ all_acted ys (all_acted xs s)
 all_acted-append [] ys s = refl

@@ -1,5 +1,5 @@
 -- A write that appends in several steps while no other program acts.
-use Rattle.std.proofs.Common.{◌≡◌, inl, inr, ℕ, List, [], ◌∷◌, ◌++◌, refl, ◌∙◌, IsErr, Result, Ok, Err, take, rules}
+use Rattle.std.proofs.Common.{◌≡◌, inl, inr, ℕ, List, [], ◌∷◌, ◌++◌, refl, ◌∙◌, Result, Ok, Err, take, rules}
 use Rattle.maildir_disk.proofs.Common.{Error, Files, Writing, Move, Other, Again, Torn, after, effect, IsOwn, CalledQuietly, AppendedQuietly, changed}
 use Rattle.maildir_disk.proofs.Calls.Pieces.{changed_again}
 

@@ -1,5 +1,5 @@
 -- A write, from the calls of the system.
-use Rattle.std.proofs.Common.{◌≡◌, ◌∙◌, inl, inr, ℕ, [], List, ◌++◌, refl, Result, Ok, Err, IsErr, OnOk, take}
+use Rattle.std.proofs.Common.{◌≡◌, ◌∙◌, inl, inr, ℕ, [], List, ◌++◌, Result, Ok, Err, IsErr, OnOk, take}
 use Rattle.std.proofs.lemmas.Bool.{false≢true}
 use Rattle.std.specs.IoError.{error_kind}
 use Rattle.std.specs.declared.io.ErrorKind.TheVariants.{Interrupted}
@@ -26,7 +26,7 @@ pub record WritesSoFar (name held under : List ℕ) (is_current : Type 0) (old n
 pub not_made : {A B E F : Type 0} {name bytes : List ℕ} {a b : SeenSystem} {error : E} (result : Result B F) → IsErr result
     → MakesFile {A = A} name a (Err error) b → TakesEffect (Writing name bytes) a result b
 not_made (Ok _) is_err makes = absurd (false≢true is_err)
-not_made {A} {name = name} {bytes = bytes} {error = error} (Err _) is_err makes = record {
+not_made {name = name} {bytes = bytes} (Err _) is_err makes = record {
   honest = makes.honest;
   called = λ h. not_created name bytes (makes.created h);
   left = λ h. left_torn (makes.left h);

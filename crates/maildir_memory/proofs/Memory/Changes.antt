@@ -9,9 +9,15 @@ use Rattle.maildir_memory.proofs.Common.{IsAdded, KeepsCases, Loses, LosesBytes,
 use Rattle.maildir_memory.proofs.Common.{rewritten}
 use Rattle.std.proofs.Math.Seq.{take-append-add}
 use Rattle.maildir_run.specs.declared.script.Act.{Act}
+use Rattle.std.specs.declared.time.SystemTime.{SystemTime}
+use Rattle.maildir_disk.specs.SeenSystem.{TakesFromTmp}
+use Rattle.maildir_run.specs.Calls.{CalledQuietly}
+use Rattle.maildir_run.specs.MemFolder.{IsQuiet, lines_of}
 use Rattle.maildir_memory.specs.declared.cases.Change.TheVariants.{Place}
+use Rattle.maildir_memory.specs.declared.mem_system.MemSystem.{MemSystem}
+use Rattle.maildir_memory.specs.MemSystem.{may_be_left, MayLose, seen_system}
 use Rattle.maildir_memory.proofs.Memory.CaseLists.{no_fewer, there_or_added}
-use Rattle.maildir_disk.proofs.Left.Lefts.{leaves_none, leaves_then, left_both, left_early}
+use Rattle.maildir_disk.proofs.Left.Lefts.{leaves_none, leaves_then, left_both, left_early, left_none}
 use Rattle.maildir_disk.proofs.Calls.Passing.{all_acted-append}
 use Rattle.maildir_run.specs.declared.script.Act.TheVariants as act
 use Rattle.maildir_memory.specs.declared.cases.Change.TheVariants as change
@@ -94,11 +100,33 @@ same_found folder same cases e h left may =
     (r.0, elim r.1 [ inl is ↦ inl (is ∙ e) | inr has ↦ inr has ], r.2)
 
 -- a change that may be lost, after steps that keep the cases
-pub lost_after : {change : Change} {before : Files → Type 0} (folder then : MemFolder) {old mid new : Cases} → KeepsCases before (may_find folder mid) old mid
-    → Adds (IsAdded change (files_of folder) mid) (lefts_of mid) (lefts_of new) → new.room ≡ mid.room → (HasRoom new → Loses change (files_of folder) mid new)
-    → files_of then ≡ made change (files_of folder) → HasRoom new → (left : Files) → before left → may_find then new left × may_find then new (made change left)
-lost_after {change} folder then {mid} {new} keeps more room loses is has left may =
-    grind (arith, no_fewer more, lost_there change folder, made_there change folder)
+pub lost : (change : Change) {old : MemSystem} (mid : MemSystem) {new : MemSystem}
+    → KeepsCases (may_be_left old) (may_be_left mid) old.cases mid.cases
+    → Adds (IsAdded change (files_of mid.folder) mid.cases) (lefts_of mid.cases) (lefts_of new.cases) → new.cases.room ≡ mid.cases.room
+    → (HasRoom new.cases → Loses change (files_of mid.folder) mid.cases new.cases) → files_of new.folder ≡ made change (files_of mid.folder)
+    → HasRoom new.cases → MayLose (λ s. made change s) old new
+lost change mid {new} keeps more room loses is has =
+    let still = keeps.there (omega (arith, has, no_fewer more, room)) in
+    record {
+      without = λ left may. lost_there change mid.folder new.folder mid.cases new.cases more (loses has) left (still left may);
+      also = λ left may. made_there change mid.folder new.folder mid.cases new.cases more (loses has) is left (still left may);
+    }
+
+-- the folder made a change
+pub taken : {A E : Type 0} (change : Change) (old : MemSystem) (folder : MemFolder) (cases : Cases) (stamp : SystemTime) (calls : ℕ)
+    (result : Result A E) → lines_of folder ≡ lines_of old.folder → Adds (IsAdded change (files_of old.folder) old.cases) (lefts_of old.cases) (lefts_of cases)
+    → Called (call_of_change change) (files_of old.folder) result (files_of folder)
+    → (IsQuiet old.folder → CalledQuietly (call_of_change change) (files_of old.folder) result (files_of folder))
+    → TakesFromTmp (call_of_change change) (seen_system old) result
+    (seen_system (record old { folder = folder; cases = cases; stamp = stamp; calls_left = calls }))
+taken change old folder cases stamp calls result lines more called quietly = record {
+  honest = λ h. lines ∙ h;
+  called = λ h. called;
+  left = λ h. left_made change old.folder folder old.cases cases result left_none more called;
+  still_rooted = λ h rooted. rooted;
+  quiet = λ q. record { no_script = lines ∙ q.no_script; no_turns = q.no_turns };
+  quietly = λ q. quietly q.no_script;
+}
 
 -- what a change of a file's bytes adds
 abbrev pub IsOfBytes : (name bytes : List ℕ) → Files → Cases → Files → Type 0
@@ -129,11 +157,20 @@ left_of_bytes {name} folder then old new first bytes own = left_both (left_early
 pub prefix_of_appended : (held bytes : List ℕ) {n k : ℕ} → k ≤ n → take (length held + k) (held ++ take n bytes) ≡ held ++ take k bytes
 prefix_of_appended held bytes {n} {k} le = search (rules, take-append-add, take-take)
 
-pub bytes_after : {name holds : List ℕ} {held : ℕ} {before : Files → Type 0} {folder : MemFolder} (then : MemFolder) {old mid new : Cases}
+bytes_after : {name holds : List ℕ} {held : ℕ} {before : Files → Type 0} {folder : MemFolder} (then : MemFolder) {old mid new : Cases}
     → KeepsCases before (may_find folder mid) old mid → length (lefts_of mid) ≤ length (lefts_of new) → new.room ≡ mid.room
     → (HasRoom new → LosesBytes name holds held folder mid new) → HasRoom new → {n : ℕ} → held < n → n ≤ length holds
     → (left : Files) → before left → may_find then new left × may_find then new (changed name (λ _. take n holds) left)
 bytes_after then {mid} keeps longer room loses has {n} above below left may = grind arith
+
+pub bytes_lost : {name holds : List ℕ} {held : ℕ} {old : MemSystem} (mid new : MemSystem)
+    → KeepsCases (may_be_left old) (may_be_left mid) old.cases mid.cases → length (lefts_of mid.cases) ≤ length (lefts_of new.cases)
+    → new.cases.room ≡ mid.cases.room → (HasRoom new.cases → LosesBytes name holds held mid.folder mid.cases new.cases) → HasRoom new.cases
+    → {n : ℕ} → held < n → n ≤ length holds → MayLose (changed name (λ _. take n holds)) old new
+bytes_lost mid new keeps longer room loses has above below = record {
+  without = λ left may. (bytes_after new.folder keeps longer room loses has above below left may).0;
+  also = λ left may. (bytes_after new.folder keeps longer room loses has above below left may).1;
+}
 
 -- another program's act, or what it leaves if an allocation failed
 pub acts_of_act : {E : Type 0} (a : Act) (old : Files) (outcome : Result (Unit {0}) E) {new : Files}

@@ -1,13 +1,21 @@
--- What is seen of a Maildir in memory after a call that only looks.
-use Rattle.std.proofs.Common.{◌≡◌, ◌∙◌, [], refl, inl, arith, Result}
-use Rattle.maildir_disk.proofs.Calls.Passing.{passes_on}
-use Rattle.maildir_disk.specs.Quiet.{SameFiles}
-use Rattle.maildir_disk.specs.SeenSystem.{Looks}
-use Rattle.maildir_run.specs.MemFolder.{IsQuiet}
-use Rattle.maildir_memory.proofs.Common.{MemFolder, Passes, Sub, files_of, world_of}
-use Rattle.maildir_memory.proofs.Memory.Changes.{same_found}
+-- What is seen of a Maildir in memory after a call that only looks, or that failed.
+use Rattle.std.proofs.Common.{◌≡◌, ◌∙◌, ◌↔◌, [], refl, inl, arith, ℕ, List, Contains, Result, Ok, Err, IfOk, IsErr, Vec, String, Global}
+use Rattle.std.proofs.lemmas.Bool.{false≢true}
+use Rattle.std.specs.declared.io.Error.{Error}
+use Rattle.std.specs.declared.time.SystemTime.{SystemTime}
+use Rattle.maildir_disk.proofs.Calls.Looking.{looks_then}
+use Rattle.maildir_disk.proofs.Calls.Passing.{acts_failed, passes_on}
+use Rattle.maildir_disk.proofs.Left.Lefts.{left_early, left_none}
+use Rattle.maildir_disk.specs.Quiet.{AreNames, SameFiles}
+use Rattle.maildir_disk.specs.SeenSystem.{Appends, Asks, Looks, MakesFile, ReadsFolder, SeenSystem, TakesFromTmp}
+use Rattle.maildir_disk.specs.World.{Acts, ReadsNames}
+use Rattle.maildir_run.specs.Calls.{CalledQuietly, names_of}
+use Rattle.maildir_run.specs.MemFolder.{IsQuiet, lines_of}
+use Rattle.maildir_run.specs.declared.folder.FolderFault.{FolderFault}
+use Rattle.maildir_memory.proofs.Common.{Call, Cases, Files, Follows, Leaves, lefts_of, Listing, MemFolder, Passes, Sub, Writing, files_of, may_find}
+use Rattle.maildir_memory.proofs.Memory.Changes.{left_stayed, same_found}
 use Rattle.maildir_memory.specs.declared.mem_system.MemSystem.{MemSystem}
-use Rattle.maildir_memory.specs.MemSystem.{HasNoTurns, seen_system}
+use Rattle.maildir_memory.specs.MemSystem.{HasNoTurns, may_be_left, seen_system, world_of}
 use Rattle.maildir_memory.specs.Private.Turns.{OthersAct}
 
 -- others had their turn, and nothing else happened
@@ -15,30 +23,141 @@ pub looks_short : {A E : Type 0} {old new : MemSystem} {result : Result A E} →
     → (HasNoTurns old → SameFiles (world_of old) (world_of new)) → Looks (seen_system old) (seen_system new)
 looks_short did quiet quietly = record {
   honest = did.honest;
-  acts = λ honest. did.acts;
-  left = λ honest. did.left;
-  still_rooted = λ honest rooted. rw did.root rooted;
+  acts = λ h. did.acts;
+  left = λ h. did.left;
+  still_rooted = λ h rooted. rw did.root rooted;
   quiet = quiet;
   quietly = quietly;
 }
 
--- the folder was listed, and then others had their turn
-pub looks_listed : {A E : Type 0} (old new : MemSystem) (folder : MemFolder) {result : Result A E} → (IsQuiet old.folder → IsQuiet folder)
-    → (IsQuiet old.folder → files_of folder ≡ files_of old.folder) → OthersAct (record old { folder = folder }) result new → (sub : Sub)
-    → (HasNoTurns (record old { folder = folder }) → HasNoTurns new)
-    → (HasNoTurns (record old { folder = folder }) → SameFiles (world_of (record old { folder = folder })) (world_of new))
-    → Looks (seen_system old) (seen_system new) × (IsQuiet old.folder → Passes sub (world_of old) (world_of new))
-looks_listed old new folder script same did sub quiet quietly =
-    let passes : IsQuiet old.folder → Passes sub (world_of old) (world_of new) = λ honest.
-    passes_on (record { acts = record { actions = []; files_are = same honest }; later = omega arith; stamp_is = inl refl }) (did.passes sub) in
-    let still : HasNoTurns old → HasNoTurns (record old { folder = folder }) = λ q. record { no_script = script q.no_script; no_turns = q.no_turns } in (
-      record {
-        honest = λ honest. did.honest (script honest);
-        acts = λ honest. (passes honest).acts;
-        left = λ honest. same_found old.folder folder old.cases (same honest) did.left;
-        still_rooted = λ honest rooted. rw did.root rooted;
-        quiet = λ q. quiet (still q);
-        quietly = λ q. quietly (still q) ∙ same q.no_script;
-      },
-      passes,
-    )
+-- a call begins
+pub looks_begun : (old : MemSystem) (calls : ℕ) → Looks (seen_system old) (seen_system (record old { calls_left = calls }))
+looks_begun old calls = record {
+  honest = λ h. h;
+  acts = λ h. record { actions = []; files_are = refl };
+  left = λ h. left_none;
+  still_rooted = λ h rooted. rooted;
+  quiet = λ q. record { no_script = q.no_script; no_turns = q.no_turns };
+  quietly = λ q. refl;
+}
+
+-- cases that a sync keeps
+pub looks_stayed : (P : Files → Type 0) (old : MemSystem) (cases : Cases)
+    → ((left : Files) → Contains (lefts_of cases) left ↔ (Contains (lefts_of old.cases) left × P left))
+    → Looks (seen_system old) (seen_system (record old { cases = cases }))
+looks_stayed P old cases stays = record {
+  honest = λ h. h;
+  acts = λ h. record { actions = []; files_are = refl };
+  left = λ h. left_stayed P old.folder old.cases cases stays;
+  still_rooted = λ h rooted. rooted;
+  quiet = λ q. record { no_script = q.no_script; no_turns = q.no_turns };
+  quietly = λ q. refl;
+}
+
+pub asked : {A E : Type 0} {a b : SeenSystem} {value : A} → Looks a b → Asks {E = E} a (Ok value) b
+asked looks = record {
+  honest = looks.honest;
+  acts = looks.acts;
+  left = looks.left;
+  still_rooted = looks.still_rooted;
+  quiet = looks.quiet;
+  quietly = looks.quietly;
+}
+
+-- ---- the folder was listed
+pub looks_same : (old : MemSystem) (folder : MemFolder) → lines_of folder ≡ lines_of old.folder
+    → (IsQuiet old.folder → files_of folder ≡ files_of old.folder) → Looks (seen_system old) (seen_system (record old { folder = folder }))
+looks_same old folder lines same = record {
+  honest = λ h. lines ∙ h;
+  acts = λ h. record { actions = []; files_are = same h };
+  left = λ h. same_found old.folder folder old.cases (same h) left_none;
+  still_rooted = λ h rooted. rooted;
+  quiet = λ q. record { no_script = lines ∙ q.no_script; no_turns = q.no_turns };
+  quietly = λ q. same q.no_script;
+}
+
+pub passes_same : (sub : Sub) (old : MemSystem) (folder : MemFolder) → files_of folder ≡ files_of old.folder
+    → Passes sub (world_of old) (world_of (record old { folder = folder }))
+passes_same sub old folder same = record { acts = record { actions = []; files_are = same }; later = omega arith; stamp_is = inl refl }
+
+-- and then others had their turn
+pub reads : {A E F : Type 0} (old new : MemSystem) (folder : MemFolder) (sub : Sub) (listed : Vec (String Global) Global) {passed : Result A F}
+    (result : Result (Vec (String Global) Global) E) → lines_of folder ≡ lines_of old.folder
+    → (IsQuiet old.folder → CalledQuietly {E = FolderFault} (Listing sub) (files_of old.folder) (Ok listed) (files_of folder))
+    → OthersAct (record old { folder = folder }) passed new → Looks (seen_system (record old { folder = folder })) (seen_system new)
+    → (IsQuiet old.folder → IfOk result (λ names. ReadsNames sub (world_of old) (names_of names) (world_of new)))
+    → (HasNoTurns old → IfOk result (AreNames sub (files_of old.folder))) → ReadsFolder sub (seen_system old) result (seen_system new)
+reads old new folder sub listed result lines quietly others looks names exact = record {
+  looks = looks_then (looks_same old folder lines (λ h. (quietly h).1)) looks;
+  passes = λ h. passes_on (passes_same sub old folder (quietly h).1) (others.passes sub);
+  names = names;
+  exact = exact;
+}
+
+-- ---- a call that failed without effect, though a power cut may leave more
+pub record Fails (call : Call) (old new : SeenSystem) : Type 0 where
+  pub honest : old.honest → new.honest
+  pub acts : old.honest → Acts old.world new.world
+  pub left : old.honest → Follows (Leaves call) old.may_leave new.may_leave
+  pub still_rooted : old.honest → old.rooted → new.rooted
+  pub quiet : old.quiet → new.quiet
+  pub quietly : old.quiet → SameFiles old.world new.world
+
+pub fails_early : {call : Call} {a b : SeenSystem} → Looks a b → Fails call a b
+fails_early looks = record {
+  honest = looks.honest;
+  acts = looks.acts;
+  left = λ h. left_early (looks.left h);
+  still_rooted = looks.still_rooted;
+  quiet = looks.quiet;
+  quietly = looks.quietly;
+}
+
+-- the folder has another script, other cases may be left, and the folders were stamped
+pub fails : {call : Call} (old mid : MemSystem) (folder : MemFolder) (cases : Cases) (stamp : SystemTime) (calls : ℕ)
+    → Looks (seen_system old) (seen_system mid) → (IsQuiet mid.folder → IsQuiet folder) → (IsQuiet mid.folder → files_of folder ≡ files_of mid.folder)
+    → (IsQuiet old.folder → Follows (Leaves call) (may_be_left old) (may_find folder cases))
+    → Fails call (seen_system old) (seen_system (record mid { folder = folder; cases = cases; stamp = stamp; calls_left = calls }))
+fails old mid folder cases stamp calls looks script same left = record {
+  honest = λ h. script (looks.honest h);
+  acts = λ h. let acts = looks.acts h in record { actions = acts.actions; files_are = same (looks.honest h) ∙ acts.files_are };
+  left = left;
+  still_rooted = looks.still_rooted;
+  quiet = λ q. let still = looks.quiet q in record { no_script = script still.no_script; no_turns = still.no_turns };
+  quietly = λ q. same (looks.quiet q).no_script ∙ looks.quietly q;
+}
+
+pub not_made : {A E : Type 0} {name : List ℕ} {a b : SeenSystem} (result : Result A E) → IsErr result
+    → Fails (Writing name []) a b → MakesFile name a result b
+not_made (Ok _) is_err fails = absurd (false≢true is_err)
+not_made (Err _) is_err fails = record {
+  honest = fails.honest;
+  created = λ h. inl (fails.acts h);
+  left = fails.left;
+  still_rooted = fails.still_rooted;
+  quiet = fails.quiet;
+  quietly = λ q. ([], tt, fails.quietly q);
+}
+
+pub not_appended : {name bytes : List ℕ} {is_current : Type 0} {a b : SeenSystem} (result : Result ℕ Error) → IsErr result
+    → Fails (Writing name []) a b → Appends name is_current bytes a result b
+not_appended (Ok _) is_err fails = absurd (false≢true is_err)
+not_appended (Err _) is_err fails = record {
+  honest = fails.honest;
+  appended = λ h current. inl (fails.acts h);
+  left = fails.left;
+  still_rooted = fails.still_rooted;
+  quiet = fails.quiet;
+  quietly = λ q current. inl (fails.quietly q);
+}
+
+pub not_taken : {A E : Type 0} {call : Call} {a b : SeenSystem} (result : Result A E) → IsErr result → Fails call a b → TakesFromTmp call a result b
+not_taken (Ok _) is_err fails = absurd (false≢true is_err)
+not_taken (Err _) is_err fails = record {
+  honest = fails.honest;
+  called = λ h. acts_failed (fails.acts h);
+  left = fails.left;
+  still_rooted = fails.still_rooted;
+  quiet = fails.quiet;
+  quietly = λ q. ([], tt, fails.quietly q);
+}

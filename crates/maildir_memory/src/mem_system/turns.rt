@@ -4,7 +4,8 @@ ghost use Rattle.maildir_run.specs.MemFolder.{files_of};
 ghost use Rattle.maildir_run.specs.Script.{all_performed};
 ghost use Rattle.maildir_memory.specs.Private.Turns.{OthersAct};
 ghost use Rattle.maildir_disk.specs.Quiet.{SameFiles};
-ghost use Rattle.maildir_memory.specs.MemSystem.{HasNoTurns, world_of};
+ghost use Rattle.maildir_disk.specs.SeenSystem.{Looks};
+ghost use Rattle.maildir_memory.specs.MemSystem.{HasNoTurns, seen_system, world_of};
 
 use super::MemSystem;
 use crate::faults::error_of;
@@ -36,8 +37,7 @@ impl MemSystem {
     /// A call that takes some time, or fails.
     pub(super) fn pass_shortly(&mut self) -> io::Result<()>
         ensures others { OthersAct self.old result self.new }
-        ensures quiet { HasNoTurns self.old → HasNoTurns self.new }
-        ensures quietly { HasNoTurns self.old → SameFiles (world_of self.old) (world_of self.new) }
+        ensures looks { Looks (seen_system self.old) (seen_system self.new) }
         ensures same { HasNoTurns self.old → self.new.stamp ≡ self.old.stamp }
         ensures calls { OnOk result (self.old.calls_left ≡ self.new.calls_left + 1) }
     {

@@ -1,7 +1,7 @@
 use Rattle.std.proofs.Common.{◌≡◌, ◌<◌, ◌∙◌, length, arith}
 use Rattle.maildir_memory.proofs.Common.{files_of, HasRoom, lefts_of}
 use Rattle.maildir_memory.proofs.Memory.CaseLists.{all_lost, all_more, as_many, no_fewer, one_more, one_more_with, with_more}
-use Rattle.maildir_disk.proofs.Left.Lefts.{ok_then}
+use Rattle.std.proofs.lemmas.Result.{on_ok_weaker}
 use Rattle.maildir_memory.proofs.cases.Cases.may_lose.Goals as goal
 
 pub returns-in_err-add_with-clause-more : goal.returns-in_err-add_with-clause-more
@@ -40,7 +40,7 @@ returns-clause-loses c =
     let new = c.add.new.self in
     let x = files_of c.in_ok-copy.field-0 in
     let count : c.loop-at.at ≡ length (lefts_of old) = omega (arith, c.loop-at-test.false, c.loop-at.auto.at-end, c.len-at-end.ensures, as_many old) in
-    ok_then c.add.result (λ there room.
+    on_ok_weaker c.add.result (λ there room.
     let longer = no_fewer c.add.ensures.one in
     let before : HasRoom mid = omega (arith, room, longer, c.add.ensures.room) in
     all_lost c.args.change.now old mid c.in_ok-copy.ensures.files count c.loop-at.invariant.more c.add.ensures.one

@@ -1,7 +1,9 @@
-use Rattle.std.proofs.Common.{refl, rules}
+use Rattle.std.proofs.Common.{refl}
+use Rattle.maildir_disk.proofs.Calls.Looking.{looks_then}
 use Rattle.maildir_disk.proofs.Calls.Passing.{acts_none, passes_none}
 use Rattle.maildir_disk.proofs.Calls.Refused.{an_error}
 use Rattle.maildir_disk.proofs.Left.Lefts.{left_none}
+use Rattle.maildir_memory.proofs.Memory.Looking.{looks_begun, looks_short}
 use Rattle.maildir_memory.proofs.mem_system.MemSystem.pass_shortly.Goals as goal
 
 pub returns-in_err-begin-clause-others : goal.returns-in_err-begin-clause-others
@@ -14,7 +16,9 @@ returns-in_err-begin-clause-others c = let failed = (an_error c.from_residual.re
   root = refl;
 }
 
-pub returns-clause-others : goal.returns-clause-others
-returns-clause-others c =
-    let did = c.pass.ensures.others in
-    record { honest = did.honest; acts = did.acts; passes = did.passes; left = did.left; keeps = search rules; root = did.root }
+pub returns-in_err-begin-clause-looks : goal.returns-in_err-begin-clause-looks
+returns-in_err-begin-clause-looks c = looks_begun c.args.self.now c.begin.new.calls_left
+
+pub returns-clause-looks : goal.returns-clause-looks
+returns-clause-looks c =
+    looks_then (looks_begun c.args.self.now c.begin.new.calls_left) (looks_short c.pass.ensures.others c.pass.ensures.quiet c.pass.ensures.quietly)

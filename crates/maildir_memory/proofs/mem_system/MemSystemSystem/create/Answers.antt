@@ -1,118 +1,59 @@
-use Rattle.std.proofs.Common.{◌∙◌, [], ap, inl, refl, rules}
+use Rattle.std.proofs.Common.{◌∙◌, [], ap, refl, rules}
 use Rattle.maildir_run.proofs.Memory.Followed.{quiet_fault}
 use Rattle.maildir_memory.proofs.Common.{Make, Writing, effect}
-use Rattle.maildir_disk.proofs.Calls.Refused.{an_error}
-use Rattle.maildir_memory.proofs.Memory.Changes.{left_made, left_unmade, lost_after}
-use Rattle.maildir_disk.proofs.Left.Lefts.{if_ok, left_early, left_none}
+use Rattle.maildir_memory.proofs.Memory.Changes.{left_made, left_unmade, lost}
+use Rattle.maildir_memory.proofs.Memory.Looking.{fails, fails_early, not_made}
+use Rattle.maildir_disk.proofs.Calls.Looking.{looks_none}
+use Rattle.maildir_disk.proofs.Left.Lefts.{if_ok}
 use Rattle.maildir_memory.proofs.mem_system.MemSystemSystem.create.Goals as goal
 
-pub returns-in_err-from_str : goal.returns-in_err-from_str
-returns-in_err-from_str c = let failed = (an_error c.from_residual.result c.from_residual.ensures.0).1 in record {
-  makes = record {
-    honest = λ honest. honest;
-    created = λ honest. rw failed (inl (record { actions = []; files_are = refl }));
-    left = λ honest. left_none;
-    still_rooted = λ honest rooted. rooted;
-    quiet = λ quiet. quiet;
-    quietly = λ quiet. rw failed ([], tt, refl);
-  };
-  name = λ honest. rw failed tt;
-  current = λ honest. rw failed tt;
-  loses = λ honest. rw failed tt;
-}
+pub returns-in_err-from_str-clause-makes : goal.returns-in_err-from_str-clause-makes
+returns-in_err-from_str-clause-makes c = not_made _ c.from_residual.ensures.0 (fails_early looks_none)
 
-pub returns-in_err-pass_shortly : goal.returns-in_err-pass_shortly
-returns-in_err-pass_shortly c = let failed = (an_error c.from_residual-in_err-pass_shortly.result c.from_residual-in_err-pass_shortly.ensures.0).1 in record {
-  makes = record {
-    honest = c.pass_shortly.ensures.others.honest;
-    created = λ honest. rw failed (inl c.pass_shortly.ensures.others.acts);
-    left = λ honest. left_early c.pass_shortly.ensures.others.left;
-    still_rooted = λ honest rooted. rw c.pass_shortly.ensures.others.root rooted;
-    quiet = c.pass_shortly.ensures.quiet;
-    quietly = λ quiet. rw failed ([], tt, c.pass_shortly.ensures.quietly quiet);
-  };
-  name = λ honest. rw failed tt;
-  current = λ honest. rw failed tt;
-  loses = λ honest. rw failed tt;
-}
+pub returns-in_err-pass_shortly-clause-makes : goal.returns-in_err-pass_shortly-clause-makes
+returns-in_err-pass_shortly-clause-makes c =
+    not_made _ c.from_residual-in_err-pass_shortly.ensures.0 (fails_early c.pass_shortly.ensures.looks)
 
-pub returns-in_err-map_err : goal.returns-in_err-map_err
-returns-in_err-map_err c = let failed = (an_error c.from_residual-in_err-map_err.result c.from_residual-in_err-map_err.ensures.0).1 in record {
-  makes = record {
-    honest = c.pass_shortly.ensures.others.honest;
-    created = λ honest.
-        let acts = c.pass_shortly.ensures.others.acts in
-        rw failed (inl (record { actions = acts.actions; files_are = acts.files_are }));
-    left = λ honest.
-        let mid = c.pass_shortly.new.self in
-        left_unmade (Make c.args.name) mid.folder mid.cases c.may_lose.new.self c.pass_shortly.ensures.others.left c.may_lose.ensures.more;
-    still_rooted = λ honest rooted. rw c.pass_shortly.ensures.others.root rooted;
-    quiet = λ quiet. let still = c.pass_shortly.ensures.quiet quiet in record { no_script = still.no_script; no_turns = still.no_turns };
-    quietly = λ quiet. rw failed ([], tt, c.pass_shortly.ensures.quietly quiet);
-  };
-  name = λ honest. rw failed tt;
-  current = λ honest. rw failed tt;
-  loses = λ honest. rw failed tt;
-}
+pub returns-in_err-map_err-clause-makes : goal.returns-in_err-map_err-clause-makes
+returns-in_err-map_err-clause-makes c =
+    let mid = c.pass_shortly.new.self in
+    let looks = c.pass_shortly.ensures.looks in
+    not_made _ c.from_residual-in_err-map_err.ensures.0
+    (fails c.args.self.now mid mid.folder c.may_lose.new.self mid.stamp mid.calls_left looks (λ h. h) (λ h. refl)
+    (λ h. left_unmade (Make c.args.name) mid.folder mid.cases c.may_lose.new.self (looks.left h) c.may_lose.ensures.more))
 
-pub returns-in-Ok : goal.returns-in-Ok
-returns-in-Ok c = record {
-  makes = record {
-    honest = λ honest. c.write.ensures.scripted.script.lines ∙ c.pass_shortly.ensures.others.honest honest;
-    created = λ honest.
-        let acts = c.pass_shortly.ensures.others.acts in
-        let written = (c.in-Ok.ensures.writes.quietly (c.pass_shortly.ensures.others.honest honest)).1 in
-        record { before = acts.actions; rest = []; left = written ∙ ap (effect (Writing c.args.name.now [])) acts.files_are };
-    left = λ honest.
-        let mid = c.pass_shortly.new.self in
-        left_made (Make c.args.name)
-        mid.folder c.write.new.self mid.cases c.may_lose.new.self c.write.result
-        c.pass_shortly.ensures.others.left c.may_lose.ensures.more (c.write.ensures.writes.called tt);
-    still_rooted = λ honest rooted. rw c.pass_shortly.ensures.others.root rooted;
-    quiet = λ quiet.
-        let still = c.pass_shortly.ensures.quiet quiet in
-        record { no_script = c.write.ensures.scripted.script.lines ∙ still.no_script; no_turns = still.no_turns };
-    quietly = λ quiet.
-        let written = c.in-Ok.ensures.writes.quietly (c.pass_shortly.ensures.quiet quiet).no_script in
-        (tt, written.1 ∙ ap (effect (Writing c.args.name.now [])) (c.pass_shortly.ensures.quietly quiet));
-  };
-  name = search rules;
-  current = λ honest. tt;
-  loses = λ honest has.
-      let mid = c.pass_shortly.new.self in
-      let written = (c.in-Ok.ensures.writes.quietly (c.pass_shortly.ensures.others.honest honest)).1 in
-      let loses = if_ok c.may_lose.result
-      (search rules) c.may_lose.ensures.loses in
-      let there = lost_after mid.folder c.write.new.self c.in_ok-pass_shortly.ensures.others.keeps c.may_lose.ensures.more
-      c.may_lose.ensures.room loses written has in
-      record { without = λ left may. (there left may).0; also = λ left may. (there left may).1 };
-}
+pub returns-in-Ok-clause-makes : goal.returns-in-Ok-clause-makes
+returns-in-Ok-clause-makes c =
+    let mid = c.pass_shortly.new.self in
+    let looks = c.pass_shortly.ensures.looks in
+    let lines = c.write.ensures.scripted.script.lines in
+    let did = c.in-Ok.ensures.writes in
+    record {
+      honest = λ h. lines ∙ looks.honest h;
+      created = λ h.
+          let acts = looks.acts h in
+          let written = (did.quietly (looks.honest h)).1 in
+          record { before = acts.actions; rest = []; left = written ∙ ap (effect (Writing c.args.name.now [])) acts.files_are };
+      left = λ h.
+          left_made (Make c.args.name) mid.folder c.write.new.self mid.cases c.may_lose.new.self c.write.result
+          (looks.left h) c.may_lose.ensures.more (c.write.ensures.writes.called tt);
+      still_rooted = looks.still_rooted;
+      quiet = λ q. let still = looks.quiet q in record { no_script = lines ∙ still.no_script; no_turns = still.no_turns };
+      quietly = λ q. (tt, (did.quietly (looks.quiet q).no_script).1 ∙ ap (effect (Writing c.args.name.now [])) (looks.quietly q));
+    }
 
-pub returns-in-Err : goal.returns-in-Err
-returns-in-Err c = record {
-  makes = record {
-    honest = λ honest. c.write.ensures.scripted.script.lines ∙ c.pass_shortly.ensures.others.honest honest;
-    created = λ honest.
-        let acts = c.pass_shortly.ensures.others.acts in
-        inl (record {
-          actions = acts.actions;
-          files_are = quiet_fault _ _ _ _
-              (c.pass_shortly.ensures.others.honest honest) c.in-Err.ensures.scripted ∙ acts.files_are;
-        });
-    left = λ honest.
-        let mid = c.pass_shortly.new.self in
-        left_made (Make c.args.name)
-        mid.folder c.write.new.self mid.cases c.may_lose.new.self c.write.result
-        c.pass_shortly.ensures.others.left c.may_lose.ensures.more (c.write.ensures.writes.called tt);
-    still_rooted = λ honest rooted. rw c.pass_shortly.ensures.others.root rooted;
-    quiet = λ quiet.
-        let still = c.pass_shortly.ensures.quiet quiet in
-        record { no_script = c.write.ensures.scripted.script.lines ∙ still.no_script; no_turns = still.no_turns };
-    quietly = λ quiet.
-        let still = c.pass_shortly.ensures.quiet quiet in
-        ([], tt, quiet_fault _ _ _ _ still.no_script c.in-Err.ensures.scripted ∙ c.pass_shortly.ensures.quietly quiet);
-  };
-  name = λ honest. tt;
-  current = λ honest. tt;
-  loses = λ honest. tt;
-}
+pub returns-in-Ok-clause-loses : goal.returns-in-Ok-clause-loses
+returns-in-Ok-clause-loses c = λ honest.
+    let quiet = c.pass_shortly.ensures.looks.honest honest in
+    lost (Make c.args.name) c.pass_shortly.new.self c.in_ok-pass_shortly.ensures.others.keeps c.may_lose.ensures.more c.may_lose.ensures.room
+    (if_ok c.may_lose.result (search rules) c.may_lose.ensures.loses) (c.in-Ok.ensures.writes.quietly quiet).1
+
+pub returns-in-Err-clause-makes : goal.returns-in-Err-clause-makes
+returns-in-Err-clause-makes c =
+    let mid = c.pass_shortly.new.self in
+    let looks = c.pass_shortly.ensures.looks in
+    not_made _ refl
+    (fails c.args.self.now mid c.write.new.self c.may_lose.new.self c.stamp_at-self.result mid.calls_left looks
+    (λ h. c.write.ensures.scripted.script.lines ∙ h) (λ h. quiet_fault _ _ _ _ h c.in-Err.ensures.scripted)
+    (λ h. left_made (Make c.args.name) mid.folder c.write.new.self mid.cases c.may_lose.new.self c.write.result
+    (looks.left h) c.may_lose.ensures.more (c.write.ensures.writes.called tt)))

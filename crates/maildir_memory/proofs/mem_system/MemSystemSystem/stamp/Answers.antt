@@ -2,25 +2,20 @@ use Rattle.std.proofs.Common.{refl}
 use Rattle.maildir_disk.proofs.Calls.Passing.{passes_none}
 use Rattle.maildir_disk.proofs.Calls.Refused.{an_error}
 use Rattle.maildir_memory.proofs.Common.{world_of}
-use Rattle.maildir_memory.proofs.Memory.Looking.{looks_short}
 use Rattle.maildir_memory.proofs.mem_system.MemSystemSystem.stamp.Goals as goal
 
 pub returns-in_err-pass_shortly : goal.returns-in_err-pass_shortly
 returns-in_err-pass_shortly c =
     let failed = (an_error c.from_residual.result c.from_residual.ensures.0).1 in
     let did = c.pass_shortly.ensures in
-    record {
-      looks = looks_short did.others did.quiet did.quietly;
-      passes = λ honest. did.others.passes c.args._sub;
-      stamp = λ honest. rw failed tt;
-    }
+    record { looks = did.looks; passes = λ honest. did.others.passes c.args._sub; stamp = λ honest. rw failed tt }
 
 pub returns : goal.returns
 returns c =
     let did = c.pass_shortly.ensures in
     let passes = did.others.passes c.args._sub in
     record {
-      looks = looks_short did.others did.quiet did.quietly;
+      looks = did.looks;
       passes = λ honest. passes;
       stamp = λ honest. record { moment = world_of c.args.self.now; before = passes_none; rest = passes; is = refl };
     }
