@@ -1,30 +1,24 @@
 -- What any commands leave of a Maildir that follow one another.
-use Rattle.std.proofs.Common.{◌≡◌, ℕ, ◌<◌, List, [], ◌∷◌, ◌++◌, length, get_or, All, Contains, IsTrue, Result, Ok, Err, OnOk, refl, sym, subst, ◌∙◌, inl, inr, arith}
-use Rattle.std.proofs.lemmas.List.Elements.{All-contains, All-nil}
+use Rattle.std.proofs.Common.{◌≡◌, ℕ, ◌<◌, List, [], ◌∷◌, ◌++◌, length, get_or, All, Contains, IsTrue, Result, Ok, Err}
+use Rattle.std.proofs.Common.{OnOk, refl, sym, subst, ◌∙◌, inl, inr, arith}
 use Rattle.std.specs.FinMap.{empty, get-empty}
 use Rattle.std.proofs.lemmas.List.Sorted.{IsPermutation-trans}
+use Rattle.maildir_commands.proofs.Common.{All-contains, All-nil, AreAlike, AreAllSafe, AreAt, AreFit, AreIntact, Does, Fault, Files, HasBody, HeldMaildir}
+use Rattle.maildir_commands.proofs.Common.{IsIntact, IsMailbox, IsSafeIn, IsSoundFor, Mailbox, OthersStay, Ran, Request, Rests, Seen, SeenMachine, Stays}
+use Rattle.maildir_commands.proofs.Common.{ToConvert, ToWrite, seen_at}
 use Rattle.maildir_name.specs.Names.{is_converter_base}
 use Rattle.maildir_run.specs.Delivery.{Message, IsMissing, IsSoundAt, IsSwept}
-use Rattle.maildir_run.specs.Files.{Files, name_cmp}
+use Rattle.maildir_run.specs.Files.{name_cmp}
 use Rattle.maildir_run.specs.MemFiles.{no_files}
-use Rattle.maildir_run.specs.Several.{Mailbox, IsMailbox}
 use Rattle.maildir_run.proofs.Call.Moves.{held_none, homes_one}
 use Rattle.maildir_run.proofs.Chains.Chains.{chain_keeps, chain_parts}
-use Rattle.maildir_disk.specs.Others.{Stays}
-use Rattle.maildir_disk.specs.PowerCuts.{AreAlike, AreIntact, HasBody, IsIntact}
 use Rattle.maildir_disk.proofs.Kept.CutChains.{moved_sound}
 use Rattle.maildir_disk.proofs.Left.LeftHomes.{SteadyAt, intact_on, none_in, steady_kept}
 use Rattle.maildir_disk.proofs.Left.SingleHomes.{single_home, single_sound}
 use Rattle.maildir_commands.specs.declared.ending.Ending.{Ending}
 use Rattle.maildir_commands.specs.declared.ending.Ending.TheVariants.{Done, Stopped, WrongWords}
-use Rattle.maildir_commands.specs.declared.fault.Fault.{Fault}
 use Rattle.maildir_commands.specs.Commands.{AreNewTo, Commanded, Command, Cut, Event, Happens, IsHistory, IsToDeliver, LeftByPowerCut, Readers}
 use Rattle.maildir_commands.specs.Endings.{status_of}
-use Rattle.maildir_commands.specs.Machines.{AreAt, AreFit, AreAllSafe, HeldMaildir, IsSafeIn, IsSoundFor, OthersStay, Rests}
-use Rattle.maildir_commands.specs.Program.{Does, Ran}
-use Rattle.maildir_commands.specs.Seen.{Seen, SeenMachine, seen_at}
-use Rattle.maildir_commands.specs.Words.{Request}
-use Rattle.maildir_commands.specs.Words.Request.{ToWrite, ToConvert}
 use Rattle.maildir_commands.proofs.Endings.{one_no_zero, two_no_zero}
 use Rattle.maildir_commands.proofs.Known.{swept_rests}
 use Rattle.maildir_commands.proofs.Resting.{rest_same}

@@ -1,26 +1,13 @@
 -- Why a command ended with a fault.
 use Rattle.std.proofs.Common.{◌≡◌, ℕ, ◌+◌, ◌≤◌, ◌⊎◌, ◌^◌, List, [], ◌∷◌, ◌++◌, length}
 use Rattle.std.proofs.Common.{Option, Some, None, Result, Ok, Err, IfErr, IsErrAnd, refl, sym, ap, subst, inl, inr, arith}
-use Rattle.std.proofs.lemmas.List.{length-append}
-use Rattle.std.specs.List.{Contains}
-use Rattle.maildir_run.specs.declared.fault.RunFault.{RunFault}
+use Rattle.maildir_commands.proofs.Common.{Bytes, Contains, Fault, Folder, Form, GivesNothing, IsCauseOf, IsFailedCall, IsNoMbox, IsOfDelivery, IsOfFiles}
+use Rattle.maildir_commands.proofs.Common.{IsOfOne, IsOfRun, IsPossibly, IsReading, IsTooLong, Locked, OpenFault, Possible, ReadsAtLeast, ReadsAtMost}
+use Rattle.maildir_commands.proofs.Common.{Report, Run, RunFault, Seen, SeenMachine, Source, ToConvert, ToWrite, fault_of_opening, length-append}
 use Rattle.maildir_run.specs.declared.fault.RunFault.TheVariants as run
 use Rattle.maildir_run.specs.declared.folder.FolderFault.TheVariants as folder
 use Rattle.maildir_run.specs.Counting.{CallNumber, GoesUpWith}
-use Rattle.maildir_run.specs.declared.report.Report.{Report}
-use Rattle.maildir_run.specs.Output.{GivesNothing}
-use Rattle.maildir_run.specs.Reading.{IsReading, ReadsAtLeast, ReadsAtMost}
-use Rattle.maildir_run.specs.Runs.{Possible}
-use Rattle.maildir_disk.specs.declared.faults.OpenFault.{OpenFault}
 use Rattle.maildir_disk.specs.declared.faults.OpenFault.TheVariants as opening
-use Rattle.maildir_commands.specs.declared.fault.Fault.{Fault}
-use Rattle.maildir_commands.specs.declared.fault.Fault.TheVariants.{Source, Folder, Locked, Run}
-use Rattle.maildir_commands.specs.Causes.{IsCauseOf, IsFailedCall, IsNoMbox, IsOfDelivery, IsOfOne, IsOfRun, IsPossibly, IsTooLong}
-use Rattle.maildir_commands.specs.Seen.{Seen, SeenMachine}
-use Rattle.maildir_commands.specs.Words.Request.{ToWrite, ToConvert}
-use Rattle.maildir_commands.specs.declared.command.Form.{Form}
-use Rattle.maildir_commands.specs.Private.Causes.{IsOfFiles}
-use Rattle.maildir_commands.specs.Faults.{fault_of_opening}
 use Rattle.maildir_commands.proofs.Several.{possible_whole}
 
 -- where `?` returned this fault
@@ -64,7 +51,7 @@ run_weaker f g run.OutputFault h = tt
 run_weaker f g run.OutOfMemory h = tt
 
 -- ---- a source
-long_enough : (before after : Option (List ℕ)) {n : ℕ} → ReadsAtLeast before after n → {t : List ℕ} → Possible before after t → n ≤ length t
+long_enough : (before after : Bytes) {n : ℕ} → ReadsAtLeast before after n → {t : List ℕ} → Possible before after t → n ≤ length t
 long_enough None after reads p = let had = p.had in cc
 long_enough (Some xs) None reads p = absurd reads.1
 long_enough (Some xs) (Some ys) reads p =
@@ -80,11 +67,11 @@ long_enough (Some xs) (Some ys) reads p =
     let most = reads.2 in
     omega (arith, split, taken, whole, a, b, d, e, most)
 
-pub long_possible : {before after : Option (List ℕ)} → ReadsAtLeast before after (2 ^ 40) → IsPossibly before after IsTooLong
+pub long_possible : {before after : Bytes} → ReadsAtLeast before after (2 ^ 40) → IsPossibly before after IsTooLong
 long_possible {before} {after} reads = λ t possible. long_enough before after reads possible
 
 -- a run that reads a text, and makes no folder calls
-pub of_reads : {before after : Option (List ℕ)} (was is : Option (List ℕ)) {fault : RunFault} → IsReading fault ⊎ (fault ≡ run.OutputFault)
+pub of_reads : {before after : Bytes} (was is : Bytes) {fault : RunFault} → IsReading fault ⊎ (fault ≡ run.OutputFault)
     → (fault ≡ run.NoFromLine → GivesNothing before after was is) → (fault ≡ run.TooManyReads → ReadsAtLeast before after (2 ^ 40))
     → IsOfRun (IsPossibly before after) ⊥ fault
 of_reads {before} {after} was is (inl (inl e)) none long =
@@ -99,13 +86,13 @@ holds_first files = (0, omega arith, refl)
 
 module _ (machine : SeenMachine) (file : List ℕ) (files : List (List ℕ)) where
   -- a file whose text was read
-  pub of_one_file : (before after b a : Option (List ℕ)) (most : ℕ) (name : List ℕ)
+  pub of_one_file : (before after b a : Bytes) (most : ℕ) (name : List ℕ)
       → Contains (file ∷ files) name → b ≡ Some (machine.text_of name) → ReadsAtMost b a most
       → (P : List ℕ → Type 0) → IsPossibly b a P → IsOfOne machine.text_of before after (file ∷ files) P
   of_one_file before after b a most name named reads budget P possibly =
       (name, named, possibly (machine.text_of name) (possible_whole b a reads budget))
 
-  pub delivered_file : (b a : Option (List ℕ)) (most : ℕ) (name : List ℕ) → Contains (file ∷ files) name → b ≡ Some (machine.text_of name)
+  pub delivered_file : (b a : Bytes) (most : ℕ) (name : List ℕ) → Contains (file ∷ files) name → b ≡ Some (machine.text_of name)
       → ReadsAtMost b a most → (fault : Fault) → IsOfDelivery b a fault → IsOfFiles machine (file ∷ files) fault
   delivered_file b a most name named reads budget Source is = absurd is
   delivered_file b a most name named reads budget Folder is = absurd is
@@ -127,19 +114,19 @@ files_before old new files same earlier Folder is = absurd is
 files_before old new files same earlier Locked is = absurd is
 files_before old new files same earlier (Run fault) is = subst (λ f. IsOfRun (IsOfOne f None None files) (Unit {0}) fault) same is
 
-pub of_output : (before after : Option (List ℕ)) {fault : Fault} → fault ≡ Run run.OutputFault → IsOfDelivery before after fault
+pub of_output : (before after : Bytes) {fault : Fault} → fault ≡ Run run.OutputFault → IsOfDelivery before after fault
 of_output before after is = subst (IsOfDelivery before after) (sym is) tt
 
 -- ---- a conversion
 module _ (maildir : List ℕ) where
-  pub of_files : (file : List ℕ) (files : List (List ℕ)) (old : Seen) (after : Option (List ℕ)) (fault : Fault)
+  pub of_files : (file : List ℕ) (files : List (List ℕ)) (old : Seen) (after : Bytes) (fault : Fault)
       → IsOfFiles old.machine (file ∷ files) fault → IsCauseOf (ToConvert maildir (file ∷ files)) old after fault
   of_files file files old after Source is = is
   of_files file files old after Folder is = absurd is
   of_files file files old after Locked is = absurd is
   of_files file files old after (Run fault) is = is
 
-  pub of_input : (old : Seen) (after : Option (List ℕ)) (fault : Fault) → IsOfDelivery old.input after fault
+  pub of_input : (old : Seen) (after : Bytes) (fault : Fault) → IsOfDelivery old.input after fault
       → IsCauseOf (ToConvert maildir []) old after fault
   of_input old after Source is = absurd is
   of_input old after Folder is = absurd is
@@ -147,7 +134,7 @@ module _ (maildir : List ℕ) where
   of_input old after (Run fault) is = is
 
   -- the Maildir was not opened
-  pub of_maildir : (files : List (List ℕ)) (old : Seen) (after : Option (List ℕ)) (reason : OpenFault)
+  pub of_maildir : (files : List (List ℕ)) (old : Seen) (after : Bytes) (reason : OpenFault)
       → old.machine.refuses_maildir maildir reason → IsCauseOf (ToConvert maildir files) old after (fault_of_opening reason)
   of_maildir files old after opening.Locked refused = (opening.Locked, refl, refused)
   of_maildir files old after (opening.Folder folder.OutOfMemory) refused = tt
@@ -155,7 +142,7 @@ module _ (maildir : List ℕ) where
   of_maildir files old after (opening.Folder folder.Failed) refused = (opening.Folder folder.Failed, refl, refused)
 
 -- ---- a text that is written
-module _ (form : Form) (old : Seen) (after : Option (List ℕ)) where
+module _ (form : Form) (old : Seen) (after : Bytes) where
   -- from standard input
   pub of_read_input : (fault : RunFault) → IsOfRun (IsPossibly old.input after) ⊥ fault → IsCauseOf (ToWrite form None) old after (Run fault)
   of_read_input fault is = is
@@ -167,7 +154,7 @@ module _ (form : Form) (old : Seen) (after : Option (List ℕ)) where
     of_opening (inl e) refused = subst (IsCauseOf (ToWrite form (Some file)) old after) (sym e) (file, holds_first [], refused e)
     of_opening (inr e) refused = subst (IsCauseOf (ToWrite form (Some file)) old after) (sym e) tt
 
-    pub of_read_file : (b a : Option (List ℕ)) (most : ℕ) → b ≡ Some (old.machine.text_of file) → ReadsAtMost b a most
+    pub of_read_file : (b a : Bytes) (most : ℕ) → b ≡ Some (old.machine.text_of file) → ReadsAtMost b a most
         → (fault : RunFault) → IsOfRun (IsPossibly b a) ⊥ fault → IsCauseOf (ToWrite form (Some file)) old after (Run fault)
     of_read_file b a most reads budget fault is =
         run_weaker (of_one_file old.machine file [] old.input after b a most file (holds_first []) reads budget) (λ e. e) fault is

@@ -1,25 +1,11 @@
 -- A conversion: sources are opened, then the Maildir, which is closed once they were delivered.
 use Rattle.std.proofs.Common.{◌≡◌, ◌⊎◌, ◌<◌, ℕ, List, [], ◌∷◌, length, map, max, Option, Some, Result, Ok, Err, IfErr, OnOk, refl, sym, ap, subst, ◌∙◌, arith}
-use Rattle.std.proofs.lemmas.Result.{IfErr-weaker}
+use Rattle.maildir_commands.proofs.Common.{AreFit, Bytes, ClosesMaildir, Delivers, DeliversFiles, DeliversSource, Does, Fault, GivesTexts, IfErr-weaker}
+use Rattle.maildir_commands.proofs.Common.{IsCauseOf, IsSoundFor, KeepsForeign, Mailbox, OpenFault, OpensMaildir, OpensSources, Possible, PrintsReports}
+use Rattle.maildir_commands.proofs.Common.{Run, SeenMachine, SeenMaildir, Source, ToConvert, bytes_of, fault_of_opening, opened, seen_folder, seen_with}
 use Rattle.maildir_run.specs.declared.fault.RunFault.TheVariants as run
-use Rattle.maildir_run.specs.Foreign.{KeepsForeign}
-use Rattle.maildir_run.specs.Runs.{Possible}
-use Rattle.maildir_run.specs.Several.{Mailbox}
 use Rattle.maildir_disk.specs.declared.disk_folder.DiskFolder.{DiskFolder}
-use Rattle.maildir_disk.specs.declared.faults.OpenFault.{OpenFault}
 use Rattle.maildir_disk.specs.declared.system.System.{Ghosts}
-use Rattle.maildir_commands.specs.declared.fault.Fault.{Fault}
-use Rattle.maildir_commands.specs.declared.fault.Fault.TheVariants.{Source, Run}
-use Rattle.maildir_commands.specs.Causes.{IsCauseOf}
-use Rattle.maildir_commands.specs.Faults.{fault_of_opening}
-use Rattle.maildir_commands.specs.Machines.{AreFit, GivesTexts, IsSoundFor, bytes_of}
-use Rattle.maildir_commands.specs.Opening.{ClosesMaildir, OpensMaildir, OpensSources}
-use Rattle.maildir_commands.specs.Private.Report.{DeliversFiles}
-use Rattle.maildir_commands.specs.Program.{Delivers, Does}
-use Rattle.maildir_commands.specs.Report.{PrintsReports}
-use Rattle.maildir_commands.specs.Seen.{SeenMachine, opened, seen_with}
-use Rattle.maildir_commands.specs.Sources.{DeliversSource, SeenMaildir, seen_folder}
-use Rattle.maildir_commands.specs.Words.Request.{ToConvert}
 use Rattle.maildir_commands.proofs.Causes.{files_before, holds_first, of_files, of_input, of_maildir, refused_file}
 use Rattle.maildir_commands.proofs.Delivered.{closed, none_delivered, one_delivered}
 use Rattle.maildir_commands.proofs.Delivering.{one_of}
@@ -28,7 +14,7 @@ use Rattle.maildir_commands.proofs.Resting.{foreign_same, foreign_within, opens_
 use Rattle.maildir_commands.proofs.Several.{on_ok_then, rest_sound, sound_of, text_at}
 
 -- the first file was not opened
-pub source_refused : {maildir word first : List ℕ} {rest : List (List ℕ)} {old new : SeenMachine} {input was : Option (List ℕ)} {fault : Fault}
+pub source_refused : {maildir word first : List ℕ} {rest : List (List ℕ)} {old new : SeenMachine} {input was : Bytes} {fault : Fault}
     → word ≡ first → OpensSources old new → (fault ≡ Source) ⊎ (fault ≡ Run run.OutOfMemory) → (old.honest → fault ≡ Source → old.refuses_source word)
     → Does (ToConvert maildir (first ∷ rest)) (Err fault) (seen_with old input was) (seen_with new input was)
 source_refused {maildir} {first = first} {rest} {old} {input = input} {was} {fault} value sources causes refused = record {
@@ -48,7 +34,7 @@ source_refused {maildir} {first = first} {rest} {old} {input = input} {was} {fau
 }
 
 -- what standard input had was delivered
-input_delivered : {before after was is : Option (List ℕ)} {old new : SeenMaildir} {answer : Result Unit Fault}
+input_delivered : {before after was is : Bytes} {old new : SeenMaildir} {answer : Result Unit Fault}
     → DeliversSource answer before after was is old new → old.honest → (texts : List Mailbox) {text : Mailbox} → texts ≡ text ∷ []
     → Possible before after text.bytes → AreFit texts → IsSoundFor texts old.held → Delivers answer texts old.held new.held was is
 input_delivered {before} {after} {answer = answer} did h texts is possible fit sound =
@@ -61,7 +47,7 @@ input_delivered {before} {after} {answer = answer} did h texts is possible fit s
 module _ {M S File : Type 0} (seen : M → SeenMachine) (f : Ghosts S File)
     (alike : (one other : M) (word another : List ℕ) → (seen one).same word another → (seen other).same word another)
     (sure : (machine : M) → (seen machine).quiet → (seen machine).honest)
-    {maildir : List ℕ} {files : List (List ℕ)} {old mid : M} {input was : Option (List ℕ)} (sources : OpensSources (seen old) (seen mid)) where
+    {maildir : List ℕ} {files : List (List ℕ)} {old mid : M} {input was : Bytes} (sources : OpensSources (seen old) (seen mid)) where
   -- the Maildir was not opened
   pub none_into : {new : M} {reason : OpenFault} → OpensMaildir (opened f) maildir (Err reason) (seen mid) (seen new)
       → Does (ToConvert maildir files) (Err (fault_of_opening reason)) (seen_with (seen old) input was) (seen_with (seen new) input was)
@@ -83,7 +69,7 @@ module _ {M S File : Type 0} (seen : M → SeenMachine) (f : Ghosts S File)
   }
 
   -- it was opened, and is closed
-  module _ {ready work new : M} (start now : DiskFolder S) {left is : Option (List ℕ)} {answer : Result Unit Fault}
+  module _ {ready work new : M} (start now : DiskFolder S) {left is : Bytes} {answer : Result Unit Fault}
       (folder : OpensMaildir (opened f) maildir (Ok start.system) (seen mid) (seen ready))
       (closing : ClosesMaildir maildir (opened f now.system) (seen work) (seen new))
       (each : OpensSources (seen ready) (seen work)) where
@@ -127,8 +113,8 @@ module _ {M S File : Type 0} (seen : M → SeenMachine) (f : Ghosts S File)
 module _ {M S File : Type 0} (seen : M → SeenMachine) (f : Ghosts S File)
     (alike : (one other : M) (word another : List ℕ) → (seen one).same word another → (seen other).same word another)
     (sure : (machine : M) → (seen machine).quiet → (seen machine).honest)
-    {maildir : List ℕ} {old ready new : M} {start now : DiskFolder S} {input was is : Option (List ℕ)} {answer : Result Unit Fault} where
-  pub input_converted : {left : Option (List ℕ)} → OpensMaildir (opened f) maildir (Ok start.system) (seen old) (seen ready)
+    {maildir : List ℕ} {old ready new : M} {start now : DiskFolder S} {input was is : Bytes} {answer : Result Unit Fault} where
+  pub input_converted : {left : Bytes} → OpensMaildir (opened f) maildir (Ok start.system) (seen old) (seen ready)
       → ClosesMaildir maildir (opened f now.system) (seen ready) (seen new)
       → DeliversSource answer input left was is (seen_folder f start) (seen_folder f now)
       → Does (ToConvert maildir []) answer (seen_with (seen old) input was) (seen_with (seen new) left is)
@@ -139,7 +125,7 @@ module _ {M S File : Type 0} (seen : M → SeenMachine) (f : Ghosts S File)
       (λ h. IfErr-weaker answer _ _ (λ fault stops. of_input maildir (seen_with (seen old) input was) left fault stops.cause) one.stopped)
       (λ named. absurd (named refl))
 
-  pub files_converted : {mid work : M} {word first : List ℕ} {rest : List (List ℕ)} {before : Option (List ℕ)} → OpensSources (seen old) (seen mid)
+  pub files_converted : {mid work : M} {word first : List ℕ} {rest : List (List ℕ)} {before : Bytes} → OpensSources (seen old) (seen mid)
       → OpensMaildir (opened f) maildir (Ok start.system) (seen mid) (seen ready) → ClosesMaildir maildir (opened f now.system) (seen work) (seen new)
       → word ≡ first → ((seen old).honest → before ≡ Some ((seen old).text_of word))
       → DeliversFiles before rest answer (seen ready) (seen work) (seen_folder f start) (seen_folder f now) was is
@@ -148,7 +134,8 @@ module _ {M S File : Type 0} (seen : M → SeenMachine) (f : Ghosts S File)
       let good = λ (h : (seen old).honest). folder.honest (sources.honest h) in
       let same = λ (h : (seen old).honest). folder.texts (sources.honest h) ∙ sources.texts h in
       let reads = λ (h : (seen old).honest). text h ∙ ap (λ word. Some ((seen old).text_of word)) value in
-      converted seen f alike sure sources start now folder closing each.opens (subst (λ n. OnOk answer (PrintsReports was is n)) (one_each first rest) each.printed)
+      let printed = subst (λ n. OnOk answer (PrintsReports was is n)) (one_each first rest) each.printed in
+      converted seen f alike sure sources start now folder closing each.opens printed
       (λ h texts given fit sound.
       each.delivers (good h) (folder.works (sources.honest h)) texts ((seen old).text_of first) (reads h)
       (subst (λ (f : List ℕ → List ℕ). bytes_of texts ≡ (seen old).text_of first ∷ map f rest) (sym (same h)) given) fit sound)

@@ -1,17 +1,14 @@
 -- What came of delivering several texts.
 use Rattle.std.proofs.Common.{◌≡◌, ◌+◌, ◌<◌, ◌≤◌, ℕ, List, [], ◌∷◌, length, All, Option, Result, Ok, Err, ap, arith}
-use Rattle.std.proofs.KnownBytes.{Keeps-refl}
-use Rattle.maildir_run.specs.Several.{Mailbox, IsMailbox}
-use Rattle.maildir_commands.specs.Machines.{HeldMaildir, Rests, AreFit, IsSoundFor}
-use Rattle.maildir_commands.specs.Private.Report.{DeliversOne}
-use Rattle.maildir_commands.specs.Program.{Delivers}
+use Rattle.maildir_commands.proofs.Common.{AreFit, Bytes, Delivers, DeliversOne, HeldMaildir, IsMailbox, IsSoundFor, Keeps-refl, Mailbox, Rests}
 use Rattle.maildir_commands.proofs.Known.{swept_rests}
 use Rattle.maildir_commands.proofs.Several.{UpTo, all_each, all_safe, none_printed, none_some, on_err_then, on_ok_then, one_more, rest_all_safe}
-use Rattle.maildir_commands.proofs.Several.{rest_each, rest_some, rest_sound, sound_more, stay_both, stay_more, stay_rest, stopped_between, text_at, then_stopped}
+use Rattle.maildir_commands.proofs.Several.{rest_each, rest_some, rest_sound, sound_more, stay_both, stay_more}
+use Rattle.maildir_commands.proofs.Several.{stay_rest, stopped_between, text_at, then_stopped}
 
 module _ (texts : List Mailbox) (are : All IsMailbox texts) where
   -- nothing was opened, or written
-  pub none_delivered : {A E : Type 0} {fault : E} {old new : HeldMaildir} {was : Option (List ℕ)}
+  pub none_delivered : {A E : Type 0} {fault : E} {old new : HeldMaildir} {was : Bytes}
       → Rests old new → IsSoundFor texts old → Delivers {A = A} (Err fault) texts old new was was
   none_delivered {was = was} rests sound = record {
     safe = tt;
@@ -24,7 +21,7 @@ module _ (texts : List Mailbox) (are : All IsMailbox texts) where
   }
 
   -- the Maildir was opened before, and is closed
-  pub closed : {A E : Type 0} (answer : Result A E) (old ready work new : HeldMaildir) {was is : Option (List ℕ)}
+  pub closed : {A E : Type 0} (answer : Result A E) (old ready work new : HeldMaildir) {was is : Bytes}
       → Rests old ready → Rests work new → Delivers answer texts ready work was is → Delivers answer texts old new was is
   closed answer old ready work new opens closes did = record {
     safe = on_ok_then answer (rest_all_safe texts are closes) did.safe;
@@ -36,7 +33,7 @@ module _ (texts : List Mailbox) (are : All IsMailbox texts) where
     sound = rest_sound texts are closes did.sound;
   }
 
-module _ {texts : List Mailbox} {start now : HeldMaildir} {was mid : Option (List ℕ)} {n : ℕ} (up : UpTo n texts start now was mid) where
+module _ {texts : List Mailbox} {start now : HeldMaildir} {was mid : Bytes} {n : ℕ} (up : UpTo n texts start now was mid) where
   -- all of them
   pub all_delivered : {A E : Type 0} {value : A} → 0 < n → length texts ≤ n → Delivers {E = E} (Ok value) texts start now was mid
   all_delivered one most = record {
@@ -54,7 +51,7 @@ module _ {texts : List Mailbox} {start now : HeldMaildir} {was mid : Option (Lis
   stopped_delivered =
       record { safe = tt; each = tt; some = stopped_between up; stay = up.stay; found = up.found; swept = tt; sound = up.sound }
 
-  module _ (fit : AreFit texts) (inside : n < length texts) {new : HeldMaildir} {is : Option (List ℕ)} {A E : Type 0} where
+  module _ (fit : AreFit texts) (inside : n < length texts) {new : HeldMaildir} {is : Bytes} {A E : Type 0} where
     -- some of them, and the next ended with a fault
     pub then_delivered : {fault : E} → DeliversOne {A = A} (Err fault) (text_at texts n) now new mid is
         → Delivers {A = A} (Err fault) texts start new was is
@@ -74,7 +71,7 @@ module _ {texts : List Mailbox} {start now : HeldMaildir} {was mid : Option (Lis
 
 -- where one text is all
 pub one_delivered : {A E : Type 0} (answer : Result A E) {texts : List Mailbox} → AreFit texts → {text : Mailbox} → texts ≡ text ∷ []
-    → {start now : HeldMaildir} {was is : Option (List ℕ)} → IsSoundFor texts start
+    → {start now : HeldMaildir} {was is : Bytes} → IsSoundFor texts start
     → DeliversOne answer (text_at texts 0) start now was is → Delivers answer texts start now was is
 one_delivered (Ok x) {texts} fit one sound did =
     let many : length texts ≡ 1 = ap length one in

@@ -1,50 +1,40 @@
 -- What the delivery of one source owes, as the work goes on.
 use Rattle.std.proofs.Common.{◌≡◌, ◌⊎◌, List, [], ◌∷◌, Option, Result, Ok, Err, IfErr, IsErrAnd, OnErr, ℕ, sym, subst, inl, inr}
-use Rattle.std.proofs.KnownBytes.{Appends-kept, Keeps-refl}
-use Rattle.std.proofs.lemmas.List.Elements.{All-head}
+use Rattle.maildir_commands.proofs.Common.{All-head, Appends-kept, AppendsPrefix, AreAlike, Bytes, DeliversOne, DeliversSource, Fault, IsMailbox}
+use Rattle.maildir_commands.proofs.Common.{IsSoundFor, Keeps-refl, KeepsSource, Mailbox, Possible, PrintsOne, PrintsReport, Report, Run, SeenMaildir}
+use Rattle.maildir_commands.proofs.Common.{StopsSource, StoresSource, report_line}
 use Rattle.std.specs.Io.KnownBytes.{Keeps}
-use Rattle.mbox_text.specs.Writing.{AppendsPrefix}
 use Rattle.maildir_run.specs.declared.fault.RunFault.TheVariants as run
-use Rattle.maildir_run.specs.declared.report.Report.{Report}
-use Rattle.maildir_run.specs.Runs.{Possible}
-use Rattle.maildir_run.specs.Several.{Mailbox, IsMailbox}
-use Rattle.maildir_disk.specs.PowerCuts.{AreAlike}
-use Rattle.maildir_commands.specs.declared.fault.Fault.{Fault}
-use Rattle.maildir_commands.specs.declared.fault.Fault.TheVariants.{Run}
-use Rattle.maildir_commands.specs.Machines.{IsSoundFor}
-use Rattle.maildir_commands.specs.Private.Report.{PrintsOne, DeliversOne}
-use Rattle.maildir_commands.specs.Report.{PrintsReport, report_line}
-use Rattle.maildir_commands.specs.Sources.{DeliversSource, KeepsSource, SeenMaildir, StopsSource, StoresSource}
 use Rattle.maildir_commands.proofs.Causes.{of_output, output_no_call}
 use Rattle.maildir_commands.proofs.Known.{of_reports}
 use Rattle.maildir_commands.proofs.Several.{prefix_of_all, intact_of_one, on_ok_then, sound_of_one}
 
 -- where `?` answered this fault
-pub source_ended : (answer : Result Unit Fault) {fault : Fault} {before after was is : Option (List ℕ)} {old new : SeenMaildir}
+pub source_ended : (answer : Result Unit Fault) {fault : Fault} {before after was is : Bytes} {old new : SeenMaildir}
     → IsErrAnd answer (λ given. given ≡ fault) → DeliversSource (Err fault) before after was is old new → DeliversSource answer before after was is old new
 source_ended (Ok x) given did = absurd given
 source_ended (Err e) {before = before} {after} {was} {is} {old} {new} given did =
     subst (λ fault. DeliversSource (Err fault) before after was is old new) (sym given) did
 
 -- a writer that failed is no call that failed
-pub stops_output : {fault : Fault} {before after : Option (List ℕ)} {old new : SeenMaildir} → fault ≡ Run run.OutputFault
+pub stops_output : {fault : Fault} {before after : Bytes} {old new : SeenMaildir} → fault ≡ Run run.OutputFault
     → StopsSource fault before after old new
 stops_output {before = before} {after} is =
     record { cause = of_output before after is; failed_call = λ number is_call. output_no_call is is_call }
 
-module _ {before after : Option (List ℕ)} {old new : SeenMaildir} (keeps : KeepsSource before after old new) where
+module _ {before after : Bytes} {old new : SeenMaildir} (keeps : KeepsSource before after old new) where
   -- nothing was written
-  pub not_stored : {fault : Fault} {was : Option (List ℕ)} → StopsSource fault before after old new → DeliversSource (Err fault) before after was was old new
+  pub not_stored : {fault : Fault} {was : Bytes} → StopsSource fault before after old new → DeliversSource (Err fault) before after was was old new
   not_stored {was = was} stopped = record { keeps = keeps; printed = tt; stopped = stopped; prefix = inl (Keeps-refl was) }
 
   -- it was delivered, and its line was written, or was not
-  pub not_printed : {fault : Fault} {was is : Option (List ℕ)} (report : Report) → StoresSource report before after old new
+  pub not_printed : {fault : Fault} {was is : Bytes} (report : Report) → StoresSource report before after old new
       → fault ≡ Run run.OutputFault → AppendsPrefix was is (report_line report) → DeliversSource (Err fault) before after was is old new
   not_printed report stored is_output prefix =
       record { keeps = keeps; printed = tt; stopped = stops_output is_output; prefix = inr (report, stored, prefix) }
 
 -- and where its line is handed on, or is not
-pub source_handed : {before after was given kept : Option (List ℕ)} {old new : SeenMaildir} → Keeps given kept
+pub source_handed : {before after was given kept : Bytes} {old new : SeenMaildir} → Keeps given kept
     → DeliversSource (Ok tt) before after was given old new → (handed : Result Unit Fault) → IfErr handed (λ fault. fault ≡ Run run.OutputFault)
     → DeliversSource handed before after was kept old new
 source_handed {was = was} {given} {kept} keeps did (Ok tt) causes = record {
@@ -62,7 +52,7 @@ source_handed {was = was} {given} {kept} keeps did (Err fault) is_output =
     not_printed did.keeps did.printed.report did.printed.said is_output (prefix_of_all was kept line)
 
 -- ---- a text that the source may have had, and for which the Maildir is sound
-one_stopped : (before after was is : Option (List ℕ)) (old new : SeenMaildir) → old.honest → (text : Mailbox) → IsMailbox text
+one_stopped : (before after was is : Bytes) (old new : SeenMaildir) → old.honest → (text : Mailbox) → IsMailbox text
     → Possible before after text.bytes → IsSoundFor (text ∷ []) old.held → (answer : Result Unit Fault)
     → IfErr answer (λ fault. Keeps was is ⊎ ((report : Report) × StoresSource report before after old new × AppendsPrefix was is (report_line report)))
     → OnErr answer (Keeps was is ⊎ PrintsOne old.held new.held text was is)
@@ -72,7 +62,7 @@ one_stopped before after was is old new h text are possible is_sound (Err _) (in
     let stores = stored.texts h text are possible (sound_of_one is_sound) in
     inr (record { report = report; true_of = of_reports stores.reports; safe = stores.safe (intact_of_one is_sound); line = prefix })
 
-module _ {before after was is : Option (List ℕ)} {old new : SeenMaildir} (h : old.honest) (text : Mailbox) (are : IsMailbox text)
+module _ {before after was is : Bytes} {old new : SeenMaildir} (h : old.honest) (text : Mailbox) (are : IsMailbox text)
     (possible : Possible before after text.bytes) (is_sound : IsSoundFor (text ∷ []) old.held) where
   pub one_of : {answer : Result Unit Fault} → DeliversSource answer before after was is old new → DeliversOne answer text old.held new.held was is
   one_of {answer} did =

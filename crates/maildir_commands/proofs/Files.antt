@@ -1,20 +1,10 @@
 -- Files that are delivered one after the other, once a first source was.
 use Rattle.std.proofs.Common.{◌≡◌, ℕ, ◌+◌, ◌<◌, ◌⊎◌, List, ◌∷◌, length, get_or, map, Contains, Option, Some, Result, Ok, Err, IsErrAnd}
 use Rattle.std.proofs.Common.{sym, ap, subst, ◌∙◌, arith, add-one}
-use Rattle.std.proofs.lemmas.List.{get_or-map, length-map}
+use Rattle.maildir_commands.proofs.Common.{AreFit, Bytes, DeliversFiles, DeliversOne, DeliversSource, Fault, IsOfFiles, IsSoundFor, KeepsForeign, Mailbox}
+use Rattle.maildir_commands.proofs.Common.{OpensSources, PrintsReports, Run, SeenMachine, SeenMaildir, Source, bytes_of, get_or-map, length-map}
 use Rattle.maildir_run.specs.declared.fault.RunFault.TheVariants as run
-use Rattle.maildir_run.specs.Foreign.{KeepsForeign}
-use Rattle.maildir_run.specs.Several.{Mailbox}
 use Rattle.maildir_run.proofs.Tasks.QuietRuns.{foreign_then, others_same}
-use Rattle.maildir_commands.specs.declared.fault.Fault.{Fault}
-use Rattle.maildir_commands.specs.declared.fault.Fault.TheVariants.{Source, Run}
-use Rattle.maildir_commands.specs.Machines.{AreFit, IsSoundFor, bytes_of}
-use Rattle.maildir_commands.specs.Opening.{OpensSources}
-use Rattle.maildir_commands.specs.Private.Causes.{IsOfFiles}
-use Rattle.maildir_commands.specs.Private.Report.{DeliversFiles, DeliversOne}
-use Rattle.maildir_commands.specs.Report.{PrintsReports}
-use Rattle.maildir_commands.specs.Seen.{SeenMachine}
-use Rattle.maildir_commands.specs.Sources.{DeliversSource, SeenMaildir}
 use Rattle.maildir_commands.proofs.Causes.{delivered_file, holds_first, refused_file}
 use Rattle.maildir_commands.proofs.Delivered.{all_delivered, more_delivered, stopped_delivered, then_delivered}
 use Rattle.maildir_commands.proofs.Delivering.{one_of}
@@ -23,20 +13,20 @@ use Rattle.maildir_commands.proofs.Resting.{opens_none, opens_then}
 use Rattle.maildir_commands.proofs.Several.{UpTo, after_length, first_text, none_printed, possible_whole, sound_of, text_after, text_at, text_read}
 
 -- where `?` answered this fault
-pub files_ended : (answer : Result Unit Fault) {fault : Fault} {first : Option (List ℕ)} {files : List (List ℕ)} {old new : SeenMachine}
-    {start now : SeenMaildir} {was is : Option (List ℕ)} → IsErrAnd answer (λ given. given ≡ fault)
+pub files_ended : (answer : Result Unit Fault) {fault : Fault} {first : Bytes} {files : List (List ℕ)} {old new : SeenMachine}
+    {start now : SeenMaildir} {was is : Bytes} → IsErrAnd answer (λ given. given ≡ fault)
     → DeliversFiles first files (Err fault) old new start now was is → DeliversFiles first files answer old new start now was is
 files_ended (Ok x) given did = absurd given
 files_ended (Err e) {first = first} {files} {old} {new} {start} {now} {was} {is} given did =
     subst (λ fault. DeliversFiles first files (Err fault) old new start now was is) (sym given) did
 
 -- the texts of the first source and of the files
-abbrev Given : SeenMachine → Option (List ℕ) → List (List ℕ) → List Mailbox → Type 0
+abbrev Given : SeenMachine → Bytes → List (List ℕ) → List Mailbox → Type 0
 Given old first files texts = (text : List ℕ) × (first ≡ Some text) × (bytes_of texts ≡ text ∷ map old.text_of files)
 
 -- So many texts were delivered.
-pub record SoFar (n : ℕ) (first : Option (List ℕ)) (files : List (List ℕ)) (old now : SeenMachine) (start work : SeenMaildir)
-    (was is : Option (List ℕ)) : Type 0 where
+pub record SoFar (n : ℕ) (first : Bytes) (files : List (List ℕ)) (old now : SeenMachine) (start work : SeenMaildir)
+    (was is : Bytes) : Type 0 where
   pub opens : OpensSources old now
   pub printed : PrintsReports was is n
   pub honest : old.honest → start.honest → work.honest
@@ -46,13 +36,13 @@ pub record SoFar (n : ℕ) (first : Option (List ℕ)) (files : List (List ℕ))
       UpTo n texts start.held work.held was is
 
 -- This source has the text of this number, which is that of a source by its word.
-pub record IsText (n : ℕ) (first : Option (List ℕ)) (files : List (List ℕ)) (old : SeenMachine) (before : Option (List ℕ)) : Type 0 where
+pub record IsText (n : ℕ) (first : Bytes) (files : List (List ℕ)) (old : SeenMachine) (before : Bytes) : Type 0 where
   pub text : old.honest → (texts : List Mailbox) → Given old first files texts → (n < length texts) × (before ≡ Some (text_at texts n).bytes)
   pub named : old.honest → (name : List ℕ) → first ≡ Some (old.text_of name)
       → (file : List ℕ) × Contains (name ∷ files) file × (before ≡ Some (old.text_of file))
 
-module _ {first : Option (List ℕ)} {files : List (List ℕ)} {old : SeenMachine} where
-  pub none_yet : {start : SeenMaildir} {was : Option (List ℕ)} → SoFar 0 first files old old start start was was
+module _ {first : Bytes} {files : List (List ℕ)} {old : SeenMachine} where
+  pub none_yet : {start : SeenMaildir} {was : Bytes} → SoFar 0 first files old old start start was was
   none_yet {start} {was} = record {
     opens = opens_none;
     printed = none_reported was;
@@ -68,7 +58,7 @@ module _ {first : Option (List ℕ)} {files : List (List ℕ)} {old : SeenMachin
     named = λ h name is. (name, holds_first files, is);
   }
 
-module _ {n : ℕ} {first : Option (List ℕ)} {files : List (List ℕ)} {old now : SeenMachine} {start work : SeenMaildir} {was mid : Option (List ℕ)}
+module _ {n : ℕ} {first : Bytes} {files : List (List ℕ)} {old now : SeenMachine} {start work : SeenMaildir} {was mid : Bytes}
     (so_far : SoFar n first files old now start work was mid) where
   -- another file was opened, or was not
   module _ {next : SeenMachine} (opens : OpensSources now next) where
@@ -83,7 +73,7 @@ module _ {n : ℕ} {first : Option (List ℕ)} {files : List (List ℕ)} {old no
       honest = λ h s. tt;
     }
 
-    module _ {before after is : Option (List ℕ)} {new : SeenMaildir} (this : IsText n first files old before) where
+    module _ {before after is : Bytes} {new : SeenMaildir} (this : IsText n first files old before) where
       one : {answer : Result Unit Fault} → DeliversSource answer before after mid is work new → (h : old.honest) (s : start.honest)
           (texts : List Mailbox) (given : Given old first files texts) → AreFit texts → IsSoundFor texts start.held
           → DeliversOne answer (text_at texts n) work.held new.held mid is
@@ -133,8 +123,8 @@ module _ {n : ℕ} {first : Option (List ℕ)} {files : List (List ℕ)} {old no
   }
 
 -- the next of the files
-module _ {X : Type 0} (f : X → List ℕ) (rest : List X) {i : ℕ} {first : Option (List ℕ)} {old now : SeenMachine} {start work : SeenMaildir}
-    {was is : Option (List ℕ)} (so_far : SoFar (i + 1) first (map f rest) old now start work was is)
+module _ {X : Type 0} (f : X → List ℕ) (rest : List X) {i : ℕ} {first : Bytes} {old now : SeenMachine} {start work : SeenMaildir}
+    {was is : Bytes} (so_far : SoFar (i + 1) first (map f rest) old now start work was is)
     (below : i < length rest) {x : X} (at : x ≡ get_or rest i x) {word : List ℕ} (value : word ≡ f x) where
   place : (i < length (map f rest)) × (get_or (map f rest) i (f x) ≡ f x)
   place =
@@ -146,12 +136,13 @@ module _ {X : Type 0} (f : X → List ℕ) (rest : List X) {i : ℕ} {first : Op
       let inside = place.0 in
       (i + 1, omega (arith, inside), rw add-one place.1)
 
-  pub next_source : {before : Option (List ℕ)} → (now.honest → before ≡ Some (now.text_of word)) → IsText (i + 1) first (map f rest) old before
+  pub next_source : {before : Bytes} → (now.honest → before ≡ Some (now.text_of word)) → IsText (i + 1) first (map f rest) old before
   next_source reads = record {
     text = λ h texts given.
         let many = after_length texts _ _ given.2 in
         let inside = place.0 in
-        (omega (arith, many, inside), text_read (reads (so_far.opens.honest h)) (so_far.opens.texts h) value ∙ ap Some (text_after texts _ _ given.2 inside place.1));
+        let read = text_read (reads (so_far.opens.honest h)) (so_far.opens.texts h) value in
+        (omega (arith, many, inside), read ∙ ap Some (text_after texts _ _ given.2 inside place.1));
     named = λ h name is. (f x, holds name, text_read (reads (so_far.opens.honest h)) (so_far.opens.texts h) value);
   }
 

@@ -1,9 +1,8 @@
 -- What the words ask for.
 use Rattle.std.proofs.Common.{◌≡◌, ◌==◌, if◌then◌else◌, ℕ, List, [], ◌∷◌, length, map, get_or, Option, Some, None, refl, sym, ap, ◌∙◌, inl, inr}
+use Rattle.maildir_commands.proofs.Common.{AskFor, Request, ToConvert, ToWrite}
 use Rattle.maildir_commands.specs.declared.command.Form.TheVariants as forms
 use Rattle.maildir_commands.specs.declared.command.Form.TheVariants.{Regular}
-use Rattle.maildir_commands.specs.Words.{AskFor, Request}
-use Rattle.maildir_commands.specs.Words.Request.{ToWrite, ToConvert}
 
 pub none_named : {X : Type 0} (g : X → List ℕ) (xs : List X) → length xs ≡ 0 → map g xs ≡ []
 none_named g [] e = refl

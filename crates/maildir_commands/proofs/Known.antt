@@ -1,16 +1,12 @@
 -- Which bases have a home, from one moment to another.
 use Rattle.std.proofs.Common.{◌≡◌, ℕ, ◌+◌, ◌-◌, ◌≤◌, ◌||◌, Bool, cond, List, [], ◌∷◌, ◌++◌, length, All, IsTrue, None, Ok, count_by}
 use Rattle.std.proofs.Common.{refl, sym, ap, subst, ◌∙◌, inl, inr, arith}
-use Rattle.std.proofs.lemmas.Bool.{cases_Bool}
-use Rattle.std.proofs.lemmas.List.Elements.{All-head, All-tail}
 use Rattle.std.proofs.lemmas.List.Folds.{Any-from_list_any}
-use Rattle.std.specs.FinMap.{get}
+use Rattle.maildir_commands.proofs.Common.{Action, Acts, All-head, All-tail, AreReportsOf, Files, HasAlso, HeldMaildir, IsReportOf, Mailbox, Report}
+use Rattle.maildir_commands.proofs.Common.{ReportsMessages, Rests, World, acted, all_acted, also, cases_Bool, get, is_name}
 use Rattle.maildir_name.specs.Names.{is_converter_base, is_converter_name}
-use Rattle.maildir_run.specs.declared.report.Report.{Report}
 use Rattle.maildir_run.specs.Delivery.{Message, AreNamed, IsHome, IsSwept, has_home, is_any, is_base_of, leftover_count}
-use Rattle.maildir_run.specs.Files.{Files, Action, acted, all_acted, is_name}
-use Rattle.maildir_run.specs.Runs.{Keeps, ReportsMessages}
-use Rattle.maildir_run.specs.Several.{Mailbox}
+use Rattle.maildir_run.specs.Runs.{Keeps}
 use Rattle.maildir_run.proofs.Call.Homes.{acted_kept}
 use Rattle.maildir_run.proofs.Call.Leftovers.{leftovers, leftovers_are}
 use Rattle.maildir_run.proofs.Call.Moves.{acted_tmp}
@@ -18,9 +14,6 @@ use Rattle.maildir_run.proofs.Common.{empty, get-empty, len, len-empty, name_cmp
 use Rattle.maildir_run.proofs.Names.Maps.{get_under, is_name-true, same, total}
 use Rattle.maildir_run.proofs.Chains.BaseNumbers.{count-cons}
 use Rattle.maildir_run.proofs.Tasks.Progress.{any_kept}
-use Rattle.maildir_disk.specs.World.{World, Acts}
-use Rattle.maildir_commands.specs.Machines.{HeldMaildir, Rests, HasAlso}
-use Rattle.maildir_commands.specs.Report.{IsReportOf, AreReportsOf, also}
 
 -- ---- other programs take and bring no base
 acted_has : (b : List ℕ) → IsTrue (is_converter_base b) → (actions : List Action) (s : Files) → has_home (all_acted actions s) b ≡ has_home s b

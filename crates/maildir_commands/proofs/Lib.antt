@@ -1,3 +1,5 @@
+-- The definitions and lemmas that the proofs use, imported in one place.
+pub mod Common
 -- Why a command ended with a fault.
 pub mod Causes
 -- How the program's work ended.

@@ -1,29 +1,14 @@
 -- What is owed for a request, as the work goes on.
 use Rattle.std.proofs.Common.{◌≡◌, ◌⊎◌, ◌*◌, ◌^◌, IsOk, ℕ, List, [], Option, Some, None, Result, Ok, Err, IsErrAnd, OnErr, OnOk, IfErr, refl, sym, ap, subst}
-use Rattle.std.proofs.lemmas.Result.{IfErr-weaker}
+use Rattle.maildir_commands.proofs.Common.{AreAllSafe, AskFor, Bytes, Delivers, Did, Does, Fault, Form, HeldMaildir, IfErr-weaker, IsCauseOf, IsKnown}
+use Rattle.maildir_commands.proofs.Common.{Mailbox, MayHaveHad, OpensSources, Possible, PrintsEach, ReadsAtMost, Request, Run, RunFault, Seen, SeenMachine}
+use Rattle.maildir_commands.proofs.Common.{Source, ToConvert, ToWrite, Works, WritesAll, WritesMessages, files_of, output_of, seen_with, source_of}
 use denote.Ref.{Bor}
 use Rattle.std.specs.Io.KnownBytes.{Keeps}
 use Rattle.std.specs.Result.{result_and}
-use Rattle.maildir_run.specs.declared.fault.RunFault.{RunFault}
 use Rattle.maildir_run.specs.declared.fault.RunFault.TheVariants as run
-use Rattle.maildir_run.specs.Output.{WritesMessages}
-use Rattle.maildir_run.specs.Reading.{ReadsAtMost}
-use Rattle.maildir_run.specs.Runs.{Possible}
-use Rattle.maildir_run.specs.Several.{Mailbox}
 use Rattle.maildir_commands.specs.declared.command.Command.{Command}
-use Rattle.maildir_commands.specs.declared.command.Form.{Form}
-use Rattle.maildir_commands.specs.declared.fault.Fault.{Fault}
-use Rattle.maildir_commands.specs.declared.fault.Fault.TheVariants.{Source, Run}
-use Rattle.maildir_commands.specs.Causes.{IsCauseOf}
-use Rattle.maildir_commands.specs.Machines.{AreAllSafe, HeldMaildir}
-use Rattle.maildir_commands.specs.Output.{WritesAll, output_of}
-use Rattle.maildir_commands.specs.Opening.{OpensSources}
 use Rattle.maildir_commands.specs.Private.Words.{name_of, request}
-use Rattle.maildir_commands.specs.Program.{Delivers, Did, Does, IsKnown, MayHaveHad, Works, source_of}
-use Rattle.maildir_commands.specs.Report.{PrintsEach}
-use Rattle.maildir_commands.specs.Seen.{Seen, SeenMachine, seen_with}
-use Rattle.maildir_commands.specs.Words.{AskFor, Request, files_of}
-use Rattle.maildir_commands.specs.Words.Request.{ToWrite, ToConvert}
 use Rattle.maildir_commands.proofs.Causes.{of_opening, of_read_file, of_read_input, of_reads}
 use Rattle.maildir_commands.proofs.Forms.{one_request}
 use Rattle.maildir_commands.proofs.Output.{all_given, each_some, prefix_kept, handed_all, handed_each, handed_reports, nothing_prefix, some_kept}
@@ -58,13 +43,13 @@ did_all {words} {request} {answer} {old} {new} asks does = record {
 }
 
 -- ---- a text is written
-pub of_form : {form this : Form} {before after was is : Option (List ℕ)} {reads : ℕ} {answer : Result ℕ RunFault} → form ≡ this
+pub of_form : {form this : Form} {before after was is : Bytes} {reads : ℕ} {answer : Result ℕ RunFault} → form ≡ this
     → WritesMessages (output_of this) before after was is reads answer → WritesMessages (output_of form) before after was is reads answer
 of_form {before = before} {after} {was} {is} {reads} {answer} same =
     subst (λ form. WritesMessages (output_of form) before after was is reads answer) (sym same)
 
 -- of a source that was opened, if it is a file
-module _ (form : Form) {file : Option (List ℕ)} {old new : SeenMachine} (opens : OpensSources old new) {input left was is before after : Option (List ℕ)}
+module _ (form : Form) {file : Option (List ℕ)} {old new : SeenMachine} (opens : OpensSources old new) {input left was is before after : Bytes}
     (has : IsKnown file (seen_with old input was) → source_of file (seen_with old input was) ≡ before)
     (had : IsKnown file (seen_with old input was) → (t : List ℕ) → MayHaveHad file (seen_with old input was) left t → Possible before after t)
     (unread : ¬ (files_of (ToWrite form file) ≡ []) → left ≡ input) where
@@ -100,7 +85,7 @@ module _ (form : Form) {file : Option (List ℕ)} {old new : SeenMachine} (opens
   }
 
 -- from standard input
-module _ (form : Form) {machine : SeenMachine} {before after was is : Option (List ℕ)} where
+module _ (form : Form) {machine : SeenMachine} {before after was is : Bytes} where
   pub input_stopped : {fault : RunFault} → WritesMessages (output_of form) before after was is (2 ^ 40) (Err fault)
       → Does (ToWrite form None) (Err (Run fault)) (seen_with machine before was) (seen_with machine after is)
   input_stopped did =
@@ -113,11 +98,11 @@ module _ (form : Form) {machine : SeenMachine} {before after was is : Option (Li
   input_done = done form opens_none (λ h. refl) (λ h t may. may) (λ named. absurd (named refl))
 
 -- and from a file
-file_had : (old : SeenMachine) (file : List ℕ) (before after : Option (List ℕ)) → (old.honest → before ≡ Some (old.text_of file))
+file_had : (old : SeenMachine) (file : List ℕ) (before after : Bytes) → (old.honest → before ≡ Some (old.text_of file))
     → ReadsAtMost before after (65536 * 2 ^ 40) → old.honest → (t : List ℕ) → t ≡ old.text_of file → Possible before after t
 file_had old file before after text budget h t same = possible_whole before after (subst (λ t. before ≡ Some t) (sym same) (text h)) budget
 
-module _ (form : Form) {file : List ℕ} {old new : SeenMachine} (opens : OpensSources old new) {input was : Option (List ℕ)} where
+module _ (form : Form) {file : List ℕ} {old new : SeenMachine} (opens : OpensSources old new) {input was : Bytes} where
   pub not_opened : {fault : Fault} → (fault ≡ Source) ⊎ (fault ≡ Run run.OutOfMemory) → (old.honest → fault ≡ Source → old.refuses_source file)
       → Does (ToWrite form (Some file)) (Err fault) (seen_with old input was) (seen_with new input was)
   not_opened causes refused = record {
@@ -128,7 +113,7 @@ module _ (form : Form) {file : List ℕ} {old new : SeenMachine} (opens : OpensS
     honest = λ h. tt;
   }
 
-  module _ {before after is : Option (List ℕ)} (text : old.honest → before ≡ Some (old.text_of file)) where
+  module _ {before after is : Bytes} (text : old.honest → before ≡ Some (old.text_of file)) where
     pub file_stopped : {fault : RunFault} → WritesMessages (output_of form) before after was is (2 ^ 40) (Err fault)
         → Does (ToWrite form (Some file)) (Err (Run fault)) (seen_with old input was) (seen_with new input is)
     file_stopped did =
@@ -156,8 +141,8 @@ both_causes : (answer handed : Result Unit Fault) (P : Fault → Type 0) → IfE
 both_causes (Ok _) handed P first then = then
 both_causes (Err _) handed P first then = first
 
-delivers_both : (answer handed : Result Unit Fault) {given kept : Option (List ℕ)} → Keeps given kept
-    → {texts : List Mailbox} {maildir now : HeldMaildir} {was : Option (List ℕ)} → Delivers answer texts maildir now was given
+delivers_both : (answer handed : Result Unit Fault) {given kept : Bytes} → Keeps given kept
+    → {texts : List Mailbox} {maildir now : HeldMaildir} {was : Bytes} → Delivers answer texts maildir now was given
     → Delivers (result_and answer handed) texts maildir now was kept
 delivers_both answer handed {given} {kept} keeps {texts} {maildir} {now} {was} did = record {
   safe = both_ok answer handed (λ safe. safe) did.safe;
@@ -170,7 +155,7 @@ delivers_both answer handed {given} {kept} keeps {texts} {maildir} {now} {was} d
   sound = did.sound;
 }
 
-module _ (old : Seen) (machine : SeenMachine) (input given kept : Option (List ℕ)) (keeps : Keeps given kept) (answer handed : Result Unit Fault) where
+module _ (old : Seen) (machine : SeenMachine) (input given kept : Bytes) (keeps : Keeps given kept) (answer handed : Result Unit Fault) where
   works_both : (request : Request) → Works request answer old (seen_with machine input given)
       → Works request (result_and answer handed) old (seen_with machine input kept)
   works_both (ToWrite form file) did = record {

@@ -1,12 +1,9 @@
 -- A Maildir that rests, or in which no other program acts.
 use Rattle.std.proofs.Common.{[], ◌∷◌, ◌++◌, ◌≡◌, ℕ, List, Ok, refl, sym, ap, subst, ◌∙◌}
-use Rattle.maildir_run.specs.Files.{Files, Action, acted, all_acted}
-use Rattle.maildir_run.specs.Foreign.{KeepsForeign}
+use Rattle.maildir_commands.proofs.Common.{Action, AreAt, ClosesMaildir, Files, HeldMaildir, KeepsForeign, OpenMaildir, OpensMaildir, OpensSources, Rests}
+use Rattle.maildir_commands.proofs.Common.{SeenMachine, acted, all_acted}
 use Rattle.maildir_run.proofs.Tasks.QuietRuns.{others_same}
 use Rattle.maildir_disk.proofs.Left.Lefts.{left_none, left_by_others_then}
-use Rattle.maildir_commands.specs.Machines.{AreAt, HeldMaildir, Rests}
-use Rattle.maildir_commands.specs.Opening.{ClosesMaildir, OpensMaildir, OpensSources}
-use Rattle.maildir_commands.specs.Seen.{OpenMaildir, SeenMachine}
 
 pub rest_same : {maildir : HeldMaildir} → Rests maildir maildir
 rest_same = record { actions = []; files_are = refl; left = left_none; found = λ h. h }

@@ -1,27 +1,15 @@
 -- Several texts that are delivered one after the other.
 use Rattle.std.proofs.Common.{◌≡◌, ℕ, suc, ◌+◌, ◌<◌, ◌≤◌, ◌⊎◌, List, [], ◌∷◌, ◌++◌, length, get_or, map, take, All, Option, Some, None}
 use Rattle.std.proofs.Common.{Result, OnOk, OnErr, Ok, Err, refl, sym, ap, subst, ◌∙◌, inl, inr, arith, add-one, append-nil, append_assoc}
-use Rattle.std.proofs.KnownBytes.{Appends-nil, Appends-trans, Appends-kept}
-use Rattle.std.proofs.lemmas.Bool.{cases_order}
-use Rattle.std.proofs.lemmas.List.Elements.{All-cons, All-head, All-nil, All-take}
-use Rattle.std.proofs.lemmas.List.{get_or_default, get_or-map, get_or-take, length-map, length-take, take_all, take_more}
-use Rattle.std.proofs.lemmas.List.Concat.{flat_map-append}
-use Rattle.std.specs.Io.KnownBytes.{Appends, Keeps}
-use Rattle.std.specs.List.{flat_map}
-use Rattle.mbox_text.specs.Writing.{AppendsPrefix}
+use Rattle.maildir_commands.proofs.Common.{All-cons, All-head, All-nil, All-take, Appends, Appends-kept, Appends-nil, Appends-trans, AppendsPrefix}
+use Rattle.maildir_commands.proofs.Common.{AreAlike, AreAllSafe, AreFit, AreIntact, AreSafe, AreTrueOf, Bytes, DeliversOne, Files, HasAlso, HeldMaildir}
+use Rattle.maildir_commands.proofs.Common.{IsMailbox, IsReportOf, IsSafeIn, IsSoundFor, Mailbox, OthersStay, Possible, PrintsEach, PrintsOne, PrintsReport}
+use Rattle.maildir_commands.proofs.Common.{PrintsSome, ReadsAtMost, Report, Rests, Stays, bytes_of, cases_order, flat_map, flat_map-append, get_or-map}
+use Rattle.maildir_commands.proofs.Common.{get_or-take, get_or_default, length-map, length-take, report_line, take_all, take_more}
+use Rattle.std.specs.Io.KnownBytes.{Keeps}
 use Rattle.maildir_run.specs.Delivery.{Message, AreNamed, IsSoundAt, IsSwept, has_home, leftover_count}
-use Rattle.maildir_run.specs.Files.{Files}
-use Rattle.maildir_run.specs.Reading.{ReadsAtMost}
-use Rattle.maildir_run.specs.Runs.{Possible}
-use Rattle.maildir_run.specs.Several.{Mailbox, IsMailbox}
-use Rattle.maildir_run.specs.declared.report.Report.{Report}
 use Rattle.maildir_run.proofs.Chains.MessageLemmas.{text_named}
-use Rattle.maildir_disk.specs.Others.{Stays}
-use Rattle.maildir_disk.specs.PowerCuts.{AreAlike, AreIntact, AreSafe}
 use Rattle.maildir_disk.proofs.Kept.Others.{stays_acted, stays_then}
-use Rattle.maildir_commands.specs.Machines.{HeldMaildir, Rests, AreFit, IsSafeIn, IsSoundFor, AreAllSafe, HasAlso, OthersStay, bytes_of}
-use Rattle.maildir_commands.specs.Private.Report.{DeliversOne, PrintsOne}
-use Rattle.maildir_commands.specs.Report.{AreTrueOf, IsReportOf, PrintsEach, PrintsReport, PrintsSome, report_line}
 use Rattle.maildir_commands.proofs.Known.{Agree, also_agree, also_all, also_all-last, left_after, rests_has, rests_left, swept_none}
 use Rattle.maildir_commands.proofs.Known.{report_agree, reports_agree, reports_more}
 
@@ -37,12 +25,12 @@ all_one P {x} h = All-cons P x [] h (All-nil P)
 
 -- ---- a source that is read
 -- what is read of an opened file is its text, under its own word and as it was at first
-pub text_read : {reads : Option (List ℕ)} {now was : List ℕ → List ℕ} {word file : List ℕ}
+pub text_read : {reads : Bytes} {now was : List ℕ → List ℕ} {word file : List ℕ}
     → reads ≡ Some (now word) → now ≡ was → word ≡ file → reads ≡ Some (was file)
 text_read {was = was} {word} is same named = is ∙ ap Some (ap (λ text_of. text_of word) same ∙ ap was named)
 
 -- the text of a source is possible, however far it was read
-pub possible_whole : (before after : Option (List ℕ)) {most : ℕ} {t : List ℕ} → before ≡ Some t → ReadsAtMost before after most → Possible before after t
+pub possible_whole : (before after : Bytes) {most : ℕ} {t : List ℕ} → before ≡ Some t → ReadsAtMost before after most → Possible before after t
 possible_whole None after e reads = cc
 possible_whole (Some xs) None e reads = absurd reads.1
 possible_whole (Some xs) (Some left) {t} e reads =
@@ -103,10 +91,10 @@ module _ (texts : List Mailbox) (are : All IsMailbox texts) {old new : HeldMaild
       reports_agree (has_home old.files) (has_home new.files) (λ b named. sym (rests_has rests b named)) _ _ (rests_left rests)
       texts (named_all texts are)
 
-  pub rest_each : {was is : Option (List ℕ)} → PrintsEach new texts was is → PrintsEach old texts was is
+  pub rest_each : {was is : Bytes} → PrintsEach new texts was is → PrintsEach old texts was is
   rest_each prints = record { reports = prints.reports; true_of = rest_true prints.reports prints.true_of; lines = prints.lines }
 
-pub rest_some : (texts : List Mailbox) → All IsMailbox texts → {old ready work new : HeldMaildir} {was is : Option (List ℕ)}
+pub rest_some : (texts : List Mailbox) → All IsMailbox texts → {old ready work new : HeldMaildir} {was is : Bytes}
     → Rests old ready → Rests work new → PrintsSome ready work texts was is → PrintsSome old new texts was is
 rest_some texts are rests closes prints =
     let first = All-take IsMailbox prints.n texts are in
@@ -119,7 +107,7 @@ rest_some texts are rests closes prints =
     }
 
 -- ---- nothing was delivered
-pub none_some : {texts : List Mailbox} {old new : HeldMaildir} {was is : Option (List ℕ)} → Keeps was is → PrintsSome old new texts was is
+pub none_some : {texts : List Mailbox} {old new : HeldMaildir} {was is : Bytes} → Keeps was is → PrintsSome old new texts was is
 none_some {new} {was} {is} keeps = record {
   n = 0;
   reports = [];
@@ -130,7 +118,7 @@ none_some {new} {was} {is} keeps = record {
 
 -- ---- how far several texts are
 -- The Maildir is sound for all of them, so many are safe, and their lines were written.
-pub record UpTo (n : ℕ) (texts : List Mailbox) (start now : HeldMaildir) (was is : Option (List ℕ)) : Type 0 where
+pub record UpTo (n : ℕ) (texts : List Mailbox) (start now : HeldMaildir) (was is : Bytes) : Type 0 where
   pub sound : IsSoundFor texts now
   pub safe : (k : ℕ) (d : Mailbox) → k < n → k < length texts → IsSafeIn now (get_or texts k d)
   pub has : Agree (has_home now.files) (also_all (has_home start.files) (take n texts))
@@ -142,7 +130,7 @@ pub record UpTo (n : ℕ) (texts : List Mailbox) (start now : HeldMaildir) (was 
   pub found : start.rooted → now.rooted
   pub swept : 0 < n → IsSwept now.files
 
-pub none_printed : {texts : List Mailbox} {start : HeldMaildir} {was : Option (List ℕ)} → IsSoundFor texts start → UpTo 0 texts start start was was
+pub none_printed : {texts : List Mailbox} {start : HeldMaildir} {was : Bytes} → IsSoundFor texts start → UpTo 0 texts start start was was
 none_printed {was = was} sound = record {
   sound = sound;
   safe = λ k d lt below. absurd (omega (arith, lt));
@@ -164,10 +152,10 @@ last_or {k} {n} lt = elim (cases_order k n) as (λ _. (k < n) ⊎ (k ≡ n)) [
 ]
 
 -- lines, and one more or a prefix of it
-pub prefix_of_all : (was is : Option (List ℕ)) {bytes : List ℕ} → Appends was is bytes → AppendsPrefix was is bytes
+pub prefix_of_all : (was is : Bytes) {bytes : List ℕ} → Appends was is bytes → AppendsPrefix was is bytes
 prefix_of_all was is {bytes} all = (bytes, [], sym (append-nil bytes), all)
 
-module _ (was mid is : Option (List ℕ)) (reports : List Report) (report : Report) (before : Appends was mid (flat_map report_line reports)) where
+module _ (was mid is : Bytes) (reports : List Report) (report : Report) (before : Appends was mid (flat_map report_line reports)) where
   lines_of : flat_map report_line (reports ++ report ∷ []) ≡ flat_map report_line reports ++ report_line report
   lines_of = flat_map-append report_line reports (report ∷ []) ∙ ap (λ bytes. flat_map report_line reports ++ bytes) (append-nil (report_line report))
 
@@ -191,7 +179,7 @@ first_safe texts {n} {now} safe k d below =
     subst (IsSafeIn now) (sym (get_or-take n texts k d lt)) (safe k d lt (omega (arith, below, most)))
 
 -- what the delivery of the next one leaves
-module _ {texts : List Mailbox} (fit : AreFit texts) {n : ℕ} (inside : n < length texts) {start old new : HeldMaildir} {was mid is : Option (List ℕ)}
+module _ {texts : List Mailbox} (fit : AreFit texts) {n : ℕ} (inside : n < length texts) {start old new : HeldMaildir} {was mid is : Bytes}
     (up : UpTo n texts start old was mid) {A E : Type 0} {answer : Result A E} (one : DeliversOne answer (text_at texts n) old new mid is) where
   others_at : (k : ℕ) (d : Mailbox) → k < length texts → Stays (get_or texts k d).messages old.files old.may_leave new.files new.may_leave
   others_at k d below =
@@ -268,7 +256,7 @@ module _ {texts : List Mailbox} (fit : AreFit texts) {n : ℕ} (inside : n < len
     lines = more_prefix was mid is _ _ up.lines last.line;
   }
 
-module _ {n : ℕ} {texts : List Mailbox} {start now : HeldMaildir} {was is : Option (List ℕ)} (up : UpTo n texts start now was is) where
+module _ {n : ℕ} {texts : List Mailbox} {start now : HeldMaildir} {was is : Bytes} (up : UpTo n texts start now was is) where
   -- the next text could not be opened
   pub stopped_between : PrintsSome start now texts was is
   stopped_between =

@@ -1,18 +1,10 @@
 -- What is kept in a Maildir through a run, and through the sync after it.
 use Rattle.std.proofs.Common.{Result, IsErr, Ok, Err, IfOk}
-use Rattle.std.proofs.lemmas.Bool.{false≢true}
+use Rattle.maildir_commands.proofs.Common.{Acts, Files, IsMailbox, IsRun, KeepsText, LeftByOthers, Mailbox, Report, RunFault, World, false≢true}
 use Rattle.maildir_run.specs.Cuts.{Follows}
-use Rattle.maildir_run.specs.Files.{Files}
-use Rattle.maildir_run.specs.Runs.{IsRun}
-use Rattle.maildir_run.specs.Several.{Mailbox, IsMailbox}
 use Rattle.maildir_run.specs.Tasks.{Listings, Performs, leaving, planned_tasks}
-use Rattle.maildir_run.specs.declared.fault.RunFault.{RunFault}
-use Rattle.maildir_run.specs.declared.report.Report.{Report}
-use Rattle.maildir_disk.specs.PowerCuts.{LeftByOthers}
-use Rattle.maildir_disk.specs.World.{Acts, World}
 use Rattle.maildir_disk.proofs.Kept.Others.{stays_after_run, stays_after_both}
 use Rattle.maildir_disk.proofs.Kept.Safety.{intact_after_run, intact_after_both, survive_after_run, survive_after_both}
-use Rattle.maildir_commands.specs.Sources.{KeepsText}
 
 module _ (text : Mailbox) (is : IsMailbox text) (old : Files) (before between : Files → Type 0) (answer : Result Report RunFault)
     (left : Follows (λ was now. (names : Listings) × Performs leaving (planned_tasks names text.messages) was answer now) before between)

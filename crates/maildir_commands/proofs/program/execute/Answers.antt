@@ -1,5 +1,5 @@
 use Rattle.std.proofs.Common.{refl, sym, ◌∙◌}
-use Rattle.std.proofs.KnownBytes.{Keeps-refl}
+use Rattle.maildir_commands.proofs.Common.{Keeps-refl}
 use Rattle.maildir_commands.proofs.Endings.{one_no_two, one_no_zero, two_no_zero, zero_no_two}
 use Rattle.maildir_commands.proofs.Requests.{both_done, did_all, does_both}
 use Rattle.maildir_commands.proofs.program.execute.Goals as goal

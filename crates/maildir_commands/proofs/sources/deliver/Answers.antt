@@ -1,5 +1,5 @@
 use Rattle.std.proofs.Common.{ap}
-use Rattle.maildir_commands.specs.declared.fault.Fault.TheVariants.{Run}
+use Rattle.maildir_commands.proofs.Common.{Run}
 use Rattle.maildir_commands.proofs.Delivering.{not_printed, not_stored, source_ended}
 use Rattle.maildir_commands.proofs.sources.deliver.Goals as goal
 

@@ -1,5 +1,5 @@
 use Rattle.std.proofs.Common.{◌≡◌, length, string_bytes, arith, rules}
-use Rattle.std.proofs.lemmas.List.{length-map}
+use Rattle.maildir_commands.proofs.Common.{length-map}
 use Rattle.maildir_commands.proofs.Files.{all_done, files_ended, first_source, more, next_source, none_yet, not_delivered, refused_next}
 use Rattle.maildir_commands.proofs.Resting.{opens_none}
 use Rattle.maildir_commands.proofs.sources.deliver_each.Goals as goal

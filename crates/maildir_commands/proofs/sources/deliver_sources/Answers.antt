@@ -1,5 +1,5 @@
 use Rattle.std.proofs.Common.{◌≡◌, [], map, string_bytes, ap, rules}
-use Rattle.maildir_commands.specs.Seen.{opened}
+use Rattle.maildir_commands.proofs.Common.{opened}
 use Rattle.maildir_commands.proofs.Converting.{files_converted, input_converted, none_into, source_refused}
 use Rattle.maildir_commands.proofs.Forms.{none_named}
 use Rattle.maildir_commands.proofs.Requests.{ended, named_as}

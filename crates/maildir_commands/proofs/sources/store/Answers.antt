@@ -1,9 +1,8 @@
 use Rattle.std.proofs.Common.{Err, IsOk, ap, sym, subst, ◌∙◌, rules}
-use Rattle.maildir_run.specs.Foreign.{KeepsForeign}
+use Rattle.maildir_commands.proofs.Common.{IsPossibly, KeepsForeign}
 use Rattle.maildir_run.proofs.Chains.Chains.{sound_now}
 use Rattle.maildir_disk.proofs.Kept.Safety.{safe_after_both, reports_after_run}
 use Rattle.maildir_disk.proofs.Left.Lefts.{if_ok}
-use Rattle.maildir_commands.specs.Causes.{IsPossibly}
 use Rattle.maildir_commands.proofs.Causes.{failed_in_run, long_possible, of_fault, of_run}
 use Rattle.maildir_commands.proofs.Known.{both_have, swept_acts}
 use Rattle.maildir_commands.proofs.Storing.{kept_by_both, kept_by_run, no_report}

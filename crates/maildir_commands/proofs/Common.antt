@@ -1,0 +1,45 @@
+-- The definitions and lemmas that the proofs use, imported in one place.
+use Rattle.std.proofs.Common.{ℕ, List, Option}
+pub use Rattle.maildir_commands.specs.Causes.{IsCauseOf, IsFailedCall, IsNoMbox, IsOfDelivery, IsOfOne, IsOfRun, IsPossibly, IsTooLong}
+pub use Rattle.maildir_commands.specs.Faults.{fault_of_opening}
+pub use Rattle.maildir_commands.specs.Machines.{AreAllSafe, AreAt, AreFit, GivesTexts, HasAlso, HeldMaildir, IsSafeIn, IsSoundFor, OthersStay, Rests}
+pub use Rattle.maildir_commands.specs.Machines.{bytes_of}
+pub use Rattle.maildir_commands.specs.Opening.{ClosesMaildir, OpensMaildir, OpensSources}
+pub use Rattle.maildir_commands.specs.Output.{WritesAll, WritesPrefix, output_of}
+pub use Rattle.maildir_commands.specs.Private.Causes.{IsOfFiles}
+pub use Rattle.maildir_commands.specs.Private.Report.{DeliversFiles, DeliversOne, PrintsOne}
+pub use Rattle.maildir_commands.specs.Program.{Delivers, Did, Does, IsKnown, MayHaveHad, Ran, Works, source_of}
+pub use Rattle.maildir_commands.specs.Report.{AreReportsOf, AreTrueOf, IsReportOf, PrintsEach, PrintsReport, PrintsReports, PrintsSome, also, report_line}
+pub use Rattle.maildir_commands.specs.Seen.{OpenMaildir, Seen, SeenMachine, opened, seen_at, seen_with}
+pub use Rattle.maildir_commands.specs.Sources.{DeliversSource, KeepsSource, KeepsText, SeenMaildir, StopsSource, StoresSource, seen_folder}
+pub use Rattle.maildir_commands.specs.Words.{AskFor, Request, files_of}
+pub use Rattle.maildir_commands.specs.Words.Request.{ToConvert, ToWrite}
+pub use Rattle.maildir_commands.specs.declared.command.Form.{Form}
+pub use Rattle.maildir_commands.specs.declared.fault.Fault.{Fault}
+pub use Rattle.maildir_commands.specs.declared.fault.Fault.TheVariants.{Folder, Locked, Run, Source}
+pub use Rattle.maildir_disk.specs.Others.{Stays}
+pub use Rattle.maildir_disk.specs.PowerCuts.{AreAlike, AreIntact, AreSafe, HasBody, IsIntact, LeftByOthers}
+pub use Rattle.maildir_disk.specs.World.{Acts, World}
+pub use Rattle.maildir_disk.specs.declared.faults.OpenFault.{OpenFault}
+pub use Rattle.maildir_run.specs.Files.{Action, Files, acted, all_acted, is_name}
+pub use Rattle.maildir_run.specs.Foreign.{KeepsForeign}
+pub use Rattle.maildir_run.specs.Output.{GivesAll, GivesNothing, GivesPrefix, WritesMessages}
+pub use Rattle.maildir_run.specs.Reading.{IsReading, ReadsAtLeast, ReadsAtMost}
+pub use Rattle.maildir_run.specs.Runs.{IsRun, Possible, ReportsMessages}
+pub use Rattle.maildir_run.specs.Several.{IsMailbox, Mailbox}
+pub use Rattle.maildir_run.specs.declared.fault.RunFault.{RunFault}
+pub use Rattle.maildir_run.specs.declared.report.Report.{Report}
+pub use Rattle.mbox_text.specs.Writing.{AppendsPrefix}
+pub use Rattle.std.proofs.KnownBytes.{Appends-kept, Appends-nil, Appends-trans, Keeps-refl}
+pub use Rattle.std.proofs.lemmas.Bool.{cases_Bool, cases_order, false≢true}
+pub use Rattle.std.proofs.lemmas.List.{get_or-map, get_or-take, get_or_default, length-append, length-map, length-take, take_all, take_more}
+pub use Rattle.std.proofs.lemmas.List.Concat.{flat_map-append}
+pub use Rattle.std.proofs.lemmas.List.Elements.{All-cons, All-contains, All-head, All-nil, All-tail, All-take}
+pub use Rattle.std.proofs.lemmas.Result.{IfErr-weaker}
+pub use Rattle.std.specs.FinMap.{get}
+pub use Rattle.std.specs.Io.KnownBytes.{Appends, IsAtEnd}
+pub use Rattle.std.specs.List.{Contains, flat_map}
+
+-- what is known of the bytes of a stream
+abbrev pub Bytes : Type 0
+Bytes = Option (List ℕ)
