@@ -1,6 +1,6 @@
 -- The bases of the targets of one text: this converter's, and distinct.
 use Rattle.std.proofs.Common.{◌≡◌, ℕ, ◌+◌, ◌^◌, ◌<◌, ◌≤◌, List, [], ◌∷◌, ◌++◌, length, get_or, take, count_by, rules}
-use Rattle.std.proofs.Common.{refl, sym, ◌∙◌, ap, arith, All, AllPairs, bytes_eq, cond, length-take-le}
+use Rattle.std.proofs.Common.{refl, arith, All, AllPairs, cond, length-take-le}
 use Rattle.std.proofs.lemmas.List.{take_more, take-take}
 use Rattle.std.proofs.lemmas.List.Sums.{count_by-le-length, sum_by-take-le}
 use Rattle.sha2.specs.Sha256.{sha256}
@@ -40,15 +40,13 @@ named-targets bodies few k d below =
 -- an earlier body with the same digest has a smaller number
 earlier-lt : (bodies : List (List ℕ)) (i j : ℕ) → i < j → j < length bodies → sha256 (get_or bodies i []) ≡ sha256 (get_or bodies j [])
     → number_after (take i bodies) (get_or bodies i []) < number_after (take j bodies) (get_or bodies j [])
-earlier-lt bodies i j lt in_list e =
-    let p = same_digest (get_or bodies j []) in
-    let one : number_after (take i bodies) (get_or bodies i []) ≡ count_by p (take (i + 1) bodies) =
-    ap (λ d. count_by (λ b. bytes_eq d (sha256 b)) (take i bodies ++ get_or bodies i [] ∷ [])) e
-    ∙ ap (count_by p) (sym (take_more bodies i [] (omega arith))) in
-    let within : take (i + 1) (take j bodies) ≡ take (i + 1) bodies = take-take (i + 1) j bodies (omega arith) in
-    let le = rw within at (sum_by-take-le (λ b. cond (p b) 1 0) (take j bodies) (i + 1)) in
-    let other = number_after-is (take j bodies) (get_or bodies j []) in
-    omega (arith, one, le, other)
+earlier-lt bodies i j lt in_list e = grind (
+  arith,
+  take_more bodies i [],
+  take-take (i + 1) j bodies,
+  sum_by-take-le (λ b. cond (same_digest (get_or bodies j []) b) 1 0) (take j bodies) (i + 1),
+  number_after-is (take j bodies),
+)
 
 pub distinct-targets : (bodies : List (List ℕ)) → length bodies ≤ 2 ^ 63 → AllPairs (λ one other. one.base ≡ other.base → ⊥) (targets bodies)
 distinct-targets bodies few i j d lt below same = grind (

@@ -1,6 +1,6 @@
 -- The bases of equal bodies.
-use Rattle.std.proofs.Common.{◌≡◌, ℕ, ◌+◌, cond, List, [], ◌∷◌, ◌++◌, length, zip, count_by, refl, sym, rules}
-use Rattle.std.proofs.Common.{◌∙◌, ap, arith, All, bytes_eq, inl, inr, add-zero, append-nil, append_assoc}
+use Rattle.std.proofs.Common.{◌≡◌, ℕ, cond, List, [], ◌∷◌, ◌++◌, length, zip, count_by, refl, sym, rules}
+use Rattle.std.proofs.Common.{◌∙◌, ap, arith, All, bytes_eq, add-zero, append-nil, append_assoc}
 use Rattle.std.specs.Cmp.Lexicographic.{bytes_decides}
 use Rattle.std.proofs.lemmas.Bool.{cases_Bool, false_from_ne_true, both_ways}
 use Rattle.std.proofs.lemmas.List.{map-append, get_or_append_left, get_or_push, length_push}
@@ -8,7 +8,7 @@ use Rattle.std.proofs.lemmas.List.Elements.{filter-append}
 use Rattle.std.proofs.lemmas.List.FromFn.{map-range_with_len_more}
 use Rattle.sha2.specs.Sha256.{sha256}
 use Rattle.maildir_name.specs.Targets.{numbered, same_digest, target, bases_of, numbered_up_to}
-use Rattle.maildir_name.proofs.DistinctBases.{number_after, number_after-is, target-base}
+use Rattle.maildir_name.proofs.DistinctBases.{number_after-is, target-base}
 use Rattle.maildir_name.proofs.NamerLemmas.{count-push}
 use Rattle.maildir_name.proofs.TargetLemmas.{length-targets, targets-push}
 
@@ -52,23 +52,20 @@ bases-push body bodies last = grind (arith, bytes_eq, targets-push, zip-push, le
 bases-more : (body : List ℕ) (bodies : List (List ℕ)) (last : List ℕ)
     → (IsAlone body bodies → bases_of body bodies ≡ numbered_up_to body (count_by (bytes_eq body) bodies))
     → IsAlone body (bodies ++ last ∷ []) → bases_of body (bodies ++ last ∷ []) ≡ numbered_up_to body (count_by (bytes_eq body) (bodies ++ last ∷ []))
-bases-more body bodies last before h =
-    let alone = alone-prefix body bodies last h in
-    let n = count_by (bytes_eq body) bodies in
-    let bases = bases-push body bodies last in
-    let count = count-push (bytes_eq body) bodies last in
-    elim (cases_Bool (bytes_eq body last)) [
-      | inl t ↦
-          let same = sym ((bytes_decides body last).0 t) in
-          let number : number_after bodies body ≡ n + 1 = number_after-is bodies body ∙ ap (λ k. k + 1) (count-alone body bodies alone) in
-          let base : (target bodies last).base ≡ numbered body (n + 1) =
-          target-base bodies last ∙ (ap (λ b. numbered b (number_after bodies b)) same ∙ ap (numbered body) number) in
-          (rw (t, base, before alone) at bases)
-          ∙ (sym (map-range_with_len_more (numbered body) 1 n (n + 1) (omega arith)) ∙ ap (numbered_up_to body) (sym (rw t at count)))
-      | inr f ↦
-          (rw (f, before alone, append-nil (numbered_up_to body n)) at bases)
-          ∙ ap (numbered_up_to body) (sym ((rw f at count) ∙ add-zero n))
-    ]
+bases-more body bodies last before h = grind (
+  arith,
+  bases-push,
+  count-push (bytes_eq body) bodies last,
+  cases_Bool (bytes_eq body last),
+  bytes_decides body last,
+  number_after-is bodies body,
+  count-alone body bodies,
+  alone-prefix body bodies last h,
+  target-base bodies last,
+  map-range_with_len_more (numbered body) 1 (count_by (bytes_eq body) bodies),
+  append-nil,
+  add-zero,
+)
 
 pub bases-equal : (bodies : List (List ℕ)) (body : List ℕ) → IsAlone body bodies → bases_of body bodies ≡ numbered_up_to body (count_by (bytes_eq body) bodies)
 bases-equal bodies body =

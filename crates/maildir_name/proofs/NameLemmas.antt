@@ -33,10 +33,7 @@ parts_long {b} p = grind (arith, cases_lt, get_or_past)
 -- each of the first 64 bytes of such a base is a digit
 pub parts_digit : {b : List ℕ} → Parts b → (k : ℕ) → k < 64 → is_lower_hex_digit (get_or b k 0) ≡ true
 parts_digit {b} p k h =
-    let long = parts_long p in
-    let all = AllPass-from_list_all is_lower_hex_digit (take 64 b) p.digits in
-    let l : k < length (take 64 b) = omega (arith, length-take-le 64 b) in
-    rw (sym (get_or-take 64 b k 0 h)) (all k 0 l)
+    grind (arith, parts_long p, AllPass-from_list_all is_lower_hex_digit (take 64 b) p.digits k 0, length-take-le 64 b, get_or-take 64 b k 0)
 
 abbrev pub is_dot : ℕ → Bool
 is_dot c = eqb c 46
@@ -138,20 +135,18 @@ NoColon text = (k : ℕ) → k < length text → is_colon (get_or text k 0) ≡ 
 -- a text without a colon is its own base, and the base of the text with a colon after it
 pub base-own : (b : List ℕ) → NoColon b → base b ≡ b
 unfolding base
-base-own b h =
-    let e : position_or_len is_colon b ≡ length b = position_or_len_is is_colon b (length b) 0 (omega arith) h (λ l. absurd (omega arith)) in
-    rw e (take_all (length b) b (omega arith))
+base-own b h = grind (arith, position_or_len_is is_colon b (length b) 0, take_all (length b) b)
 
 pub base-info : (b info : List ℕ) → NoColon b → base (b ++ 58 ∷ info) ≡ b
 unfolding base
-base-info b info h =
-    let s = b ++ 58 ∷ info in
-    let long = length-append b (58 ∷ info) in
-    let e : position_or_len is_colon s ≡ length b =
-    position_or_len_is is_colon s (length b) 0 (omega (arith, long))
-    (λ k l. rw (get_or_append_left b (58 ∷ info) 0 k l) (h k l))
-    (λ _. rw (get_or_at b 58 info 0 (length b) refl) refl) in
-    rw e (take_at b (58 ∷ info) (length b) refl)
+base-info b info h = grind (
+  arith,
+  length-append b (58 ∷ info),
+  position_or_len_is is_colon (b ++ 58 ∷ info) (length b) 0,
+  get_or_append_left b (58 ∷ info) 0,
+  get_or_at b 58 info 0 (length b),
+  take_at b (58 ∷ info) (length b),
+)
 
 -- this converter's bases have no colon
 pub converter-NoColon : (b : List ℕ) → IsConverterBase b → NoColon b

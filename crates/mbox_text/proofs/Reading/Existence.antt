@@ -1,5 +1,5 @@
 -- A text that begins with `From ` has messages: what a splitter holds of it, byte by byte.
-use Rattle.mbox_text.proofs.Common.{◌≡◌, ℕ, true, eqb, List, [], ◌∷◌, ◌++◌, refl, ◌∙◌, append_assoc, inl, inr, ◌⊎◌, ◌↔◌, append-nil, arith, eqb-true}
+use Rattle.mbox_text.proofs.Common.{◌≡◌, ℕ, true, eqb, List, [], ◌∷◌, ◌++◌, refl, append_assoc, inl, inr, ◌⊎◌, ◌↔◌, append-nil, arith, eqb-true}
 use Rattle.mbox_text.proofs.Common.{both_ways, cases_Bool, Entry, unquoted, begins_with, begins_from, from_bytes, AllButLast, NeverFrom, Mbox, IsMboxText}
 use Rattle.mbox_text.proofs.Common.{chopped, AtHead, InBody, Closed}
 use Rattle.mbox_text.proofs.TextLines.LineLemmas.{begins_from-cut, begins_from-more}
@@ -19,30 +19,20 @@ Goes text = IsInText text ⊎ NeverFrom text
 
 -- one byte more
 head-byte : {text : List ℕ} {given : List Entry} {line : List ℕ} (c : ℕ) → AtHead text given line → Goes (text ++ c ∷ [])
-head-byte {given} {line} c a =
-    elim (cases_Bool (eqb c 10)) [
-      | inl e ↦
-          let is = eqb-true c 10 e in
-          elim (cases_Bool (begins_from line)) [
-            | inl b ↦ rw is (inl (inr (given, line, [], [], head-ends a b)))
-            | inr b ↦
-                let s = at_start a b in
-                rw (is, s.1) (inr (begins_from-cut line [] ∙ b, begins_with-ended line _ (refl, (refl, (refl, (refl, (refl, tt)))))))
-          ]
-      | inr e ↦
-          elim (cases_Bool (begins_from (line ++ c ∷ []))) [
-            | inl b ↦ inl (inl (given, line ++ c ∷ [], head-add (c ∷ []) a (e, tt) (inl b)))
-            | inr b ↦
-                elim (cases_Bool (begins_with (line ++ c ∷ []) from_bytes)) [
-                  | inl s ↦ inl (inl (given, line ++ c ∷ [], head-add (c ∷ []) a (e, tt) (inr s)))
-                  | inr s ↦
-                      elim (cases_Bool (begins_from line)) [
-                        | inl y ↦ absurd (both_ways (begins_from (line ++ c ∷ [])) b (begins_from-more line (c ∷ []) y))
-                        | inr n ↦ let t = at_start a n in rw (t.1) (inr (b, s))
-                      ]
-                ]
-          ]
-    ]
+head-byte {given} {line} c a = grind (
+  arith,
+  cases_Bool (eqb c 10),
+  cases_Bool (begins_from line),
+  cases_Bool (begins_from (line ++ c ∷ [])),
+  cases_Bool (begins_with (line ++ c ∷ []) from_bytes),
+  eqb-true c 10,
+  head-ends a,
+  at_start a,
+  begins_from-cut line [],
+  begins_with-ended line from_bytes,
+  head-add (c ∷ []) a,
+  begins_from-more line (c ∷ []),
+)
 
 body-byte : {text : List ℕ} {given : List Entry} {f body line : List ℕ} (c : ℕ) → InBody text given f body line → Goes (text ++ c ∷ [])
 body-byte {given} {f} {body} {line} c a =

@@ -1,5 +1,5 @@
 -- A text is in `Mbox` with one list of entries.
-use Rattle.mbox_text.proofs.Common.{◌≡◌, ℕ, true, List, [], ◌∷◌, ◌++◌, refl, sym, ◌∙◌, ap, append_assoc, ap₂, inl, inr, ◌⊎◌, flat_map, append-nil, arith}
+use Rattle.mbox_text.proofs.Common.{◌≡◌, ℕ, true, List, [], ◌∷◌, ◌++◌, refl, sym, ◌∙◌, append_assoc, inl, inr, ◌⊎◌, flat_map, append-nil, arith}
 use Rattle.mbox_text.proofs.Common.{both_ways, Entry, lines, Ended, begins_from, unquoted, without_blank, NoFrom, unended, Mbox}
 use Rattle.mbox_text.proofs.TextLines.LineLemmas.{lines-append}
 
@@ -48,18 +48,13 @@ pub reads-append : (ls tail : List (List ℕ)) (given entries : List Entry) → 
     → (rest : List Entry) × (entries ≡ given ++ rest) × LinesRead tail rest
 reads-append ls tail [] entries r b h = (entries, refl, rw r at h)
 reads-append ls tail (g ∷ gs) [] r b h = let e = rw (r.1.is) at h in absurd (cc)
-reads-append ls tail (g ∷ gs) (e ∷ es) r b h =
-    let s = r.1 in
-    let s' = h.1 in
-    let whole : ls ++ tail ≡ s.first ∷ (s.others ++ (r.0 ++ tail)) = rw (s.is) (ap (λ z. s.first ∷ z) (append_assoc s.others r.0 tail)) in
-    let whole' = s'.is in
-    let firsts : s.first ≡ s'.first = cc in
-    let tails : s.others ++ (r.0 ++ tail) ≡ s'.others ++ h.0 = cc in
-    let c = cut_one s.others _ s.tail s'.tail (headed-append r.0 tail gs r.2 b) (reads-headed h.0 es h.2) tails in
-    let bodies : g.body ≡ e.body = s.body ∙ ap (λ o. flat_map unquoted (without_blank o)) c.0 ∙ sym s'.body in
-    let heads = entry-one (s.from_line ∙ ap unended firsts ∙ sym s'.from_line) bodies in
-    let ih = reads-append r.0 tail gs es r.2 b (rw c.1 h.2) in
-    (ih.0, ap₂ (λ x y. x ∷ y) (sym heads) ih.1, ih.2)
+reads-append ls tail (g ∷ gs) (e ∷ es) r b h = grind (
+  arith,
+  reads-append r.0 tail gs es r.2 b,
+  cut_one r.1.others h.1.others r.1.tail h.1.tail (headed-append r.0 tail gs r.2 b) (reads-headed h.0 es h.2),
+  entry-one,
+  append_assoc,
+)
 
 joined : {block : List ℕ} (rest : List ℕ) (entries : List Entry) → Ended block ⊎ (entries ≡ [])
     → Mbox rest entries → lines (block ++ rest) ≡ lines block ++ lines rest

@@ -1,10 +1,12 @@
-use Rattle.mbox_text.proofs.Common.{◌∙◌, ap, refl, arith, missing_end}
+use Rattle.mbox_text.proofs.Common.{◌∙◌, ap, refl, missing_end}
 use Rattle.mbox_text.proofs.Written.Appended.{wrote, broke}
 use Rattle.mbox_text.proofs.Written.WrittenEntry.{spelling_parts}
 use Rattle.mbox_text.proofs.write.write_entry.Goals as goal
 
 pub returns-in_err-write_bytes-clause-written : goal.returns-in_err-write_bytes-clause-written
-returns-in_err-write_bytes-clause-written g c = grind (arith, spelling_parts, broke)
+returns-in_err-write_bytes-clause-written g c =
+    let r = c.from_residual in
+    rw (spelling_parts c.args.entry.now c.as_slice.ensures refl refl) (broke r.result _ _ _ _ r.ensures.0 c.in_err-write_bytes.ensures.written)
 
 pub returns-in_err-write_bytes-2-clause-written : goal.returns-in_err-write_bytes-2-clause-written
 returns-in_err-write_bytes-2-clause-written g c =
