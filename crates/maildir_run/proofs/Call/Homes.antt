@@ -1,5 +1,5 @@
 -- What the homes of a converter's base hold, after an action of another program.
-use Rattle.std.proofs.Common.{◌≡◌, ℕ, Bool, true, false, cond, not, List, [], ◌∷◌, ◌++◌, Option, Some, arith}
+use Rattle.std.proofs.Common.{◌≡◌, ℕ, true, false, cond, not, List, [], ◌∷◌, ◌++◌, Option, Some, arith}
 use Rattle.std.proofs.Common.{None, IsPermutation, IsTrue, refl, sym, ap, ◌∙◌, inl, inr, is_some}
 use Rattle.maildir_run.proofs.Common.{get, insert, remove, values, entries, retain_keys, find, get-entries, get-from_entries, get-remove}
 use Rattle.maildir_run.proofs.Common.{cases_Bool, and_parts, IsPermutation-refl, IsPermutation-sym, IsPermutation-trans, IsPermutation-middle}
@@ -73,9 +73,6 @@ to_cur_kept b s name target {bytes} has may =
           (IsPermutation-append_right (held_under b (remove s.new name)) _ _ (held-insert_new b s.cur target bytes (alike ∙ on) free)))
       | inr off ↦ grind (arith, held-remove_other, held-insert_other)
     ]
-
-pub same_both : {X : Type 0} (b : Bool) {o : Option X} → o ≡ None → cond b None o ≡ None
-same_both b e = grind arith
 
 reflag_kept : (b : List ℕ) (s : Files) (name target : List ℕ) {bytes : List ℕ} → get s.cur name ≡ Some bytes
     → may_take s.cur name target ≡ true → KeepsHomesOf b s (record s { cur = insert (remove s.cur name) target bytes })

@@ -1,5 +1,5 @@
 -- What one call of a run gives, in the words of a run.
-use Rattle.std.proofs.Common.{◌≡◌, ℕ, true, false, ◌||◌, List, [], ◌∷◌, Some, None, IsPermutation, arith}
+use Rattle.std.proofs.Common.{◌≡◌, ℕ, true, false, ◌||◌, List, [], ◌∷◌, None, IsPermutation, arith}
 use Rattle.std.proofs.Common.{IsTrue, IsFalse, refl, sym, ap, ◌∙◌, is_some}
 use Rattle.maildir_run.proofs.Common.{list_any, get, keys, contains_key-keys, or-true, or_parts}
 use Rattle.maildir_run.proofs.Common.{list_any-IsPermutation, IsPermutation-trans, Sub, Tmp, is_converter_name}
@@ -42,9 +42,6 @@ without name names s gone within = record {
   gone = grind (arith, is_name-true);
 }
 
-gone_on : (name : List ℕ) (old new : Files) → StaysOrGoes name old new → get old.tmp name ≡ None → get new.tmp name ≡ None
-gone_on name old new w h = grind arith
-
 removing_gone : {name : List ℕ} → IsTrue (is_converter_name name) → {old new : Files} → Succeeded (Removing name) old new → get new.tmp name ≡ None
 removing_gone {name} ours {old} done = grind (arith, after-append, after_tmp, get-remove_same)
 
@@ -77,9 +74,6 @@ listing_keeps_homes sub old names new listed = grind (arith, after_kept)
 elsewhere : (m : Message) (base target : List ℕ) → IsTrue (has_base m.target.base target)
     → IsFalse (is_name m.target.base base) → IsFalse (has_base base target)
 elsewhere m base target on off = grind (arith, is_name-true, is_name-refl)
-
-body_of : (name : List ℕ) {body bytes : List ℕ} (s : Files) → WrittenOrGone name body s → get s.tmp name ≡ Some bytes → bytes ≡ body
-body_of name s w h = grind arith
 
 -- ---- what a listing shows is there
 shown : (b : List ℕ) (ks : List (List ℕ)) → list_any (has_base b) ks ≡ true → (q : List ℕ) × (has_base b q ≡ true) × (list_any (is_name q) ks ≡ true)

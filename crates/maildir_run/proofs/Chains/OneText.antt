@@ -2,8 +2,8 @@
 use Rattle.std.proofs.Common.{◌≡◌, ℕ, zero, suc, ◌<◌, ◌&&◌, ◌⊎◌, true, List, [], ◌∷◌, length, arith}
 use Rattle.std.proofs.Common.{get_or, map, bytes_eq, All, Contains, sym, ap, ◌∙◌, inl, inr, arith}
 use Rattle.maildir_run.proofs.Common.{bytes_decides, or-false, cases_lt, and_parts, All-head, All-from_get_or}
-use Rattle.maildir_run.proofs.Common.{Files, is_name, Message, IsMissing, IsSoundAt, AreDistinct, Sound, Link, Linked, Runs}
-use Rattle.maildir_run.specs.Several.{Mailbox, IsMailbox, HoldsGiven, SoundForAll, LinkOver, LinkedOver, RunsOver, link_over, link_of}
+use Rattle.maildir_run.proofs.Common.{Files, is_name, Message, IsMissing, IsSoundAt, AreDistinct, Sound, Link, Runs}
+use Rattle.maildir_run.specs.Several.{Mailbox, IsMailbox, HoldsGiven, SoundForAll, LinkOver, RunsOver, link_over, link_of}
 use Rattle.maildir_run.proofs.Chains.Chains.{chain_map}
 use Rattle.maildir_run.proofs.Names.Maps.{total}
 use Rattle.maildir_run.proofs.Chains.MessageLemmas.{text_distinct}
@@ -47,12 +47,6 @@ sound_one {text} {new} sound = record {
 -- ---- chains
 only_one : (text other : Mailbox) → Contains (text ∷ []) other → other ≡ text
 only_one text other h = grind arith
-
-one_link : (text : Mailbox) (link : LinkOver) (a b : Files) → LinkedOver (text ∷ []) link a b → Linked text.bytes (link_of link) a b
-one_link text link a b e = grind (arith, only_one)
-
-link_one : (text : Mailbox) (link : Link) (a b : Files) → Linked text.bytes link a b → LinkedOver (text ∷ []) (link_over text link) a b
-link_one text link a b run = grind arith
 
 pub one_runs : (text : Mailbox) (links : List LinkOver) (old new : Files) → RunsOver (text ∷ []) links old new → Runs text.bytes (map link_of links) old new
 one_runs text = grind (arith, chain_map)

@@ -2,17 +2,16 @@
 use Rattle.std.proofs.Common.{◌≡◌, ℕ, Option, Result, Ok, Err, IfOk, OnErr, IsErrAnd, IsErrOf, sym, ap, ◌∙◌, inl, inr, arith}
 use Rattle.std.proofs.Common.{◌⊎◌, [], String, Vec, Global}
 use Rattle.std.specs.declared.alloc.AllocError.{AllocError}
-use Rattle.maildir_run.proofs.Common.{keys, Sub, FolderFault, Mode, Plain, FailBefore, Files, Call, Listing, IsPermutation-refl}
+use Rattle.maildir_run.proofs.Common.{keys, Sub, FolderFault, Mode, Plain, FailBefore, Files, Call, Listing}
 use Rattle.maildir_run.proofs.Common.{Called, CalledQuietly, Listed, MayAnswer, CallOf, ListingOf, folder_of, names_of}
 use Rattle.maildir_run.proofs.Common.{IsCutShort, acts_at, Answers}
-use Rattle.std.proofs.Common.{IsPermutation}
 use Rattle.maildir_run.specs.Calls.{CountsFailure, GoesUp}
 use Rattle.maildir_run.specs.declared.folder.FolderFault.TheVariants as fault
 use Rattle.maildir_run.specs.declared.mem_files.MemFiles.{MemFiles}
 use Rattle.maildir_run.specs.declared.mem_folder.MemFolder.{MemFolder}
 use Rattle.maildir_run.specs.MemFiles.{files_in}
 use Rattle.maildir_run.specs.MemFolder.{files_of, all_call_count, failure_count}
-use Rattle.maildir_run.specs.MemFolder.{next_call, next_acts, next_files, next_mode}
+use Rattle.maildir_run.specs.MemFolder.{next_call, next_acts}
 use Rattle.maildir_run.specs.MemFolder.{IsQuiet, HasNoScript, FollowsScript, Scripted, seen_of}
 use Rattle.maildir_run.specs.Private.MemFolder.{BeginsCall}
 use Rattle.maildir_run.specs.Script.{mode_of}
@@ -24,10 +23,6 @@ follows_called : {A : Type 0} (call : Call) (old new : MemFolder) (result : Resu
 follows_called call old new result (inl a) = grind (arith, called_then, answered)
 follows_called call old new (Ok x) (inr w) = cc w.0
 follows_called call old new (Err f) (inr w) = cut_fails w.1
-
--- a listing that answered Ok has left the files as the acts left them
-listing_changes_none : {A : Type 0} (mode : Mode) (sub : Sub) (s t : Files) (x : A) → Answers mode (Listing sub) s (Ok x) t → t ≡ s
-listing_changes_none mode sub s t x a = grind arith
 
 follows_listed : (sub : Sub) (old new : MemFolder) (result : Result (Vec (String Global) Global) FolderFault) → FollowsScript (Listing sub) old result new
     → IfOk result (λ names. names_of names ≡ keys (folder_of sub (files_of new))) → Listed sub (files_of old) result (files_of new)
@@ -51,22 +46,6 @@ never_cut m {s} {t} quiet cut = not_cut (ap (acts_at (next_call m)) quiet) cut
 no_lines : (fail_from : Option ℕ) (call : ℕ) → (mode_of [] fail_from call ≡ Plain) ⊎ (mode_of [] fail_from call ≡ FailBefore)
 no_lines fail_from call = grind arith
 
-plain_or_not : (m : MemFolder) → IsQuiet m → (next_mode m ≡ Plain) ⊎ (next_mode m ≡ FailBefore)
-plain_or_not m quiet = grind arith
-
-same_on_err : (A : Type 0) (call : Call) (s t : Files) (f : FolderFault) {mode : Mode} → (mode ≡ Plain) ⊎ (mode ≡ FailBefore)
-    → Answers {A = A} mode call s (Err f) t → t ≡ s
-same_on_err h call s t f is a = grind arith
-
-plainly : {A : Type 0} (call : Call) (s t : Files) (result : Result A FolderFault) {mode : Mode} → (mode ≡ Plain) ⊎ (mode ≡ FailBefore)
-    → Answers mode call s result t → CalledQuietly call s result t
-plainly call s t (Ok x) (inl is) a = let b = rw is at a in (b.1, b.2)
-plainly call s t (Ok x) (inr is) a = let b = rw is at a.0 in cc
-plainly {A} call s t (Err f) is a = ([], tt, same_on_err A call s t f is a)
-
-quiet_files : (m : MemFolder) → IsQuiet m → next_files m ≡ files_of m
-quiet_files m quiet = grind arith
-
 follows_quietly : {A : Type 0} (call : Call) (old new : MemFolder) (result : Result A FolderFault) → IsQuiet old
     → FollowsScript call old result new → CalledQuietly call (files_of old) result (files_of new)
 follows_quietly call old new result quiet (inl a) = grind arith
@@ -86,11 +65,6 @@ quiet_fault {A} call old new (Err f) quiet scripted = elim scripted.did [
   | inl a ↦ grind arith
   | inr w ↦ absurd (never_cut old quiet w.1)
 ]
-
--- a listing has the names of the folder
-listed_names : (sub : Sub) (s t : Files) (result : Result (Vec (String Global) Global) FolderFault) → CalledQuietly (Listing sub) s result t
-    → IfOk result (λ names. names_of names ≡ keys (folder_of sub t)) → IfOk result (λ names. IsPermutation (names_of names) (keys (folder_of sub s)))
-listed_names sub s t result same is = grind (arith, IsPermutation-refl)
 
 -- ---- a call as that of any folder
 call_made : {A : Type 0} (call : Call) (old new : MemFolder) (result : Result A FolderFault) → Scripted call old result new
@@ -130,11 +104,6 @@ module _ {A : Type 0} (call : Call) {old new : MemFolder} (r : Result A FolderFa
 
   pub cut_made : CallOf call (seen_of old) r (seen_of new)
   cut_made = call_made call old new r cut_scripted begun.counted (counts_no_failure r (no_memory r is) begun.failures)
-
--- the call answered in its mode
-in_its_mode : {A : Type 0} (call : Call) (old new : MemFolder) {mode : Mode} {s t : Files} {r r' : Result A FolderFault} → Answers mode call s r t
-    → mode ≡ next_mode old → s ≡ next_files old → r' ≡ r → files_of new ≡ t → FollowsScript call old r' new
-in_its_mode call old new a mode_is files_are r_is left = grind arith
 
 module _ {A : Type 0} (call : Call) {old mid new : MemFolder} {files : MemFiles} {mode : Mode} {r r' : Result A FolderFault}
     (begun : BeginsCall old (Ok mode) mid) (a : Answers mode call (files_of mid) r (files_in files)) (is : r' ≡ r)

@@ -1,15 +1,14 @@
 -- What a script makes of a folder in memory is what other programs and a call may do.
-use Rattle.std.proofs.Common.{◌≡◌, ℕ, Bool, true, false, cond, not, List, [], ◌∷◌, ◌++◌, length, take, drop, get_or, ◌<◌, ◌+◌, ◌==◌, map, Option}
-use Rattle.std.proofs.Common.{Some, None, Result, Ok, Err, IsTrue, IsFalse, IsOk, IsErrOf, OnErr, string_bytes, ◌&&◌, ◌/◌}
+use Rattle.std.proofs.Common.{◌≡◌, ℕ, Bool, true, false, cond, List, [], ◌∷◌, ◌++◌, length, take, drop, get_or, ◌<◌, ◌+◌, ◌==◌, map, Option}
+use Rattle.std.proofs.Common.{Some, None, Result, Ok, Err, OnErr, string_bytes, ◌/◌}
 use Rattle.std.proofs.Common.{append-nil, refl, sym, ap, ◌∙◌, inl, inr, append_assoc, suc, arith, take-append-drop, is_some, bytes_eq}
 use Rattle.maildir_run.proofs.Common.{drop-cons, false_from_ne_true, take_more, insert, remove, get, keys, contains_key}
 use Rattle.maildir_run.proofs.Common.{base, is_converter_name, Sub, Tmp, New, Cur, FolderFault, Mode, Plain, FailBefore, FailAfter, Half}
 use Rattle.maildir_run.proofs.Common.{Twice, Files, FileMap, Action, ToCur, Reflag, DropTmp, Outside, acted, all_acted, is_name, may_take}
-use Rattle.maildir_run.proofs.Common.{AgreeOnConverters, KeepsConverters, Call, Listing, Writing, Placing, Move, Other, Again, Torn}
-use Rattle.maildir_run.proofs.Common.{after, IsOthers, IsWhole, IsReady, folder_of, AnyMoves, Lists, Called, linked, with_file}
-use Rattle.maildir_run.proofs.Common.{without_file, performed, all_performed, acts_at, may_link, IsCutShort, IsPart, Answers, halved, fails, done}
+use Rattle.maildir_run.proofs.Common.{AgreeOnConverters, KeepsConverters, Call, Listing, Writing, Move, Other, Again, Torn}
+use Rattle.maildir_run.proofs.Common.{after, IsOthers, IsWhole, folder_of, AnyMoves, Lists, Called, linked, with_file}
+use Rattle.maildir_run.proofs.Common.{without_file, performed, all_performed, acts_at, may_link, IsCutShort, IsPart, Answers, halved, done}
 use Rattle.std.proofs.lemmas.Map.Text.{is_eq-slice_cmp}
-use Rattle.maildir_name.specs.declared.target.Place.{Place}
 use Rattle.maildir_run.specs.declared.script.Act.{Act}
 use Rattle.maildir_run.specs.declared.script.ScriptLine.{ScriptLine}
 use Rattle.maildir_run.proofs.Names.Maps.{is_name-true, alike, get_inserted, get_removed, remove-insert}
@@ -24,9 +23,6 @@ set_agrees m k v off = λ q ours. grind (arith, get_inserted, alike is_converter
 
 removed_agrees : (m : FileMap) (k : List ℕ) → is_converter_name k ≡ false → AgreeOnConverters m (remove m k)
 removed_agrees m k off = λ q ours. grind (arith, get_removed, alike is_converter_name q k)
-
-agrees : (m : FileMap) → AgreeOnConverters m m
-agrees m = λ q ours. refl
 
 with_leaves : (sub : Sub) (k v : List ℕ) (s : Files) → is_converter_name k ≡ false → KeepsConverters s (with_file sub k v s)
 with_leaves Tmp k v s off = grind (arith, set_agrees)
@@ -61,9 +57,6 @@ actions (a ∷ acts) s =
 no_parts : {X : Type 0} (xs : List X) (y : X) (zs : List X) → [] ≡ xs ++ y ∷ zs → ⊥
 no_parts [] y zs e = cc
 no_parts (x ∷ xs) y zs e = cc
-
-free_of : (taken same : Bool) → (not taken && same) ≡ true → taken ≡ false
-free_of taken same e = grind arith
 
 other_name : (m : FileMap) (name target : List ℕ) {bytes : List ℕ} → get m name ≡ Some bytes → contains_key m target ≡ false → is_name name target ≡ false
 other_name m name target has free =
@@ -216,11 +209,3 @@ answered mode call old new (Err fault.Failed) a = let ms = mode_moves mode call 
 answered mode call old new (Err fault.OutOfMemory) a = let ms = part_moves a.1 in record { moves = ms.0; left = ms.1 }
 
 -- ---- placements
-nothing_placed : (mode : Mode) (name : List ℕ) (p : Place) (target : List ℕ) (s : Files)
-    → IsFalse (fails mode) → get s.tmp name ≡ None → done mode (Placing name p target) s ≡ s
-nothing_placed mode name p target s plain none = grind arith
-
-pub placed_in : {A : Type 0} (mode : Mode) (name : List ℕ) (p : Place) (target : List ℕ) (old new : Files) (result : Result A FolderFault) (there : Bool)
-    → IsFalse (fails mode) → (IsTrue there → IsReady (Placing name p target) old) → (IsFalse there → get old.tmp name ≡ None) → (IsTrue there → IsOk result)
-    → (IsFalse there → IsErrOf result fault.Absent) → new ≡ done mode (Placing name p target) old → Answers mode (Placing name p target) old result new
-placed_in mode name p target old new result there plain ready none ok absent is = grind (arith, nothing_placed)

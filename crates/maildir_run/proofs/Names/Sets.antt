@@ -21,9 +21,6 @@ unit_options o p e = grind arith
 some_if : (t : Bool) (o : Option (Unit {0})) → is_some (cond t (Some (tt {0})) o) ≡ cond t true (is_some o)
 some_if t o = grind arith
 
-some_or : (t : Bool) (o : Option (Unit {0})) → is_some (cond t (Some (tt {0})) o) ≡ (t || is_some o)
-some_or t o = grind arith
-
 abbrev text_of : List ℕ → Bor (List ℕ)
 text_of b = record { ref_ptr = (0, 0); now = b }
 

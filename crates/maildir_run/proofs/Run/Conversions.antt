@@ -1,5 +1,5 @@
 -- A run at its exits, from its parts.
-use Rattle.std.proofs.Common.{◌≡◌, ℕ, ◌+◌, ◌-◌, ◌*◌, ◌<◌, ◌≤◌, ◌^◌, Bool, Option, Some, None, List, arith}
+use Rattle.std.proofs.Common.{◌≡◌, ℕ, ◌+◌, ◌-◌, ◌*◌, ◌<◌, ◌≤◌, ◌^◌, Option, Some, None, List, arith}
 use Rattle.std.proofs.Common.{[], ◌++◌, length, Result, refl, arith, IsErrAnd, ◌⊎◌, inl}
 use Rattle.maildir_run.proofs.Common.{contains_key, length-map, Entry, Counts, Named, RunFault, NoFromLine, Report, BaseSet}
 use Rattle.maildir_run.proofs.Common.{Conversion, ReportsTasks, run_tasks, Seen, Performed, DeliversMessages, sweep_of}
@@ -35,9 +35,6 @@ stops_unread {before} {now} {reads} {s} {r} {fault} is reading refused =
     (ran_nothing reading)
 
 -- ---- the set of bases tells what was listed
-same_deliveries : (f g : List ℕ → Bool) → ((b : List ℕ) → f b ≡ g b) → (ms : List Message) → deliveries_of f ms ≡ deliveries_of g ms
-same_deliveries f g same ms = grind arith
-
 pub tells_listed : (there : BaseSet) (new cur : List (List ℕ)) (names : Listings) (bodies : List (List ℕ))
     → ((b : List ℕ) → contains_key there b ≡ is_listed new cur b) → new ≡ names.new → cur ≡ names.cur
     → deliveries_of (contains_key there) (messages_after [] bodies) ≡ deliveries_of (is_listed names.new names.cur) (messages_of bodies)

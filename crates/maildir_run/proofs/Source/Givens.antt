@@ -1,16 +1,12 @@
 -- What one more read gives, and what a refused one leaves.
 use Rattle.std.proofs.Common.{◌≡◌, ℕ, ◌*◌, ◌<◌, ◌≤◌, Bool, true, false, Option, Some, Ok, List, [], ◌∷◌, ◌++◌, length, refl, arith}
-use Rattle.std.proofs.Common.{arith, append_assoc, ◌==◌, append-nil, length-append, suc, cond}
+use Rattle.std.proofs.Common.{arith, append_assoc, ◌==◌, append-nil, length-append}
 use Rattle.maildir_run.proofs.Common.{Consumes, IsAtEnd, Consumes-trans, append_cancel_right, Entry, Splitter, mbox-one, RunFault, NoFromLine}
 use Rattle.maildir_run.proofs.Common.{Reader, Breaks, Went, IsPrefixOf, Gave, IsGiven, SourceStopped, Possible, FromLines, Consumes-nil, ReadsAtMost}
 use Rattle.mbox_text.proofs.Reading.FirstGiven.{few_given, first_of, unread_none, mbox-length}
 use Rattle.mbox_text.proofs.FromLine.FromLines.{from_lines-before, from_lines-after, mbox-from_lines}
 
 -- ---- what was read
-consumed : {before now : Option (List ℕ)} {had left : List ℕ} (text : List ℕ) → before ≡ Some had → now ≡ Some left
-    → Consumes before now text → had ≡ text ++ left
-consumed {now} {had} {left} text e f read = grind arith
-
 -- what was read is a prefix of each possible text
 pub read_is : (before now : Option (List ℕ)) (text t : List ℕ) → Consumes before now text → (p : Possible before now t) → p.read ≡ text
 read_is before now text t read p = grind (arith, append_cancel_right)
@@ -110,10 +106,3 @@ pub given-from_lines : (ended : Bool) (before now : Option (List ℕ)) (splitter
 given-from_lines ended before now splitter left reads given whole p = grind (arith, from_lines-after, mbox-from_lines, from_lines-before, none_after)
 
 -- ---- one more read
-pub went_on : (ended : Bool) (before after : Option (List ℕ)) (old : Reader) (splitter : Splitter) (left : ℕ) (out out' : List Entry)
-    → ended ≡ false → Went old before after out out' splitter left (Ok ended) → left < old.reads_left
-went_on ended before after old splitter left out out' e w = grind arith
-
-pub went_down : (was ended : Bool) (before after : Option (List ℕ)) (old : Reader) (splitter : Splitter) (left : ℕ) (out out' : List Entry)
-    → was ≡ false → Went old before after out out' splitter left (Ok ended) → cond ended 0 (suc left) < cond was 0 (suc old.reads_left)
-went_down was ended before after old splitter left out out' e w = grind arith

@@ -3,9 +3,6 @@ use Rattle.std.proofs.Common.{◌≡◌, ℕ, zero, suc, ◌+◌, ◌*◌, ◌%�
 use Rattle.maildir_run.proofs.Common.{Report, CountsRun, GoesUp, raised, capped, Makes}
 use Rattle.std.proofs.Math.Nat.{mod-mod, mod-add-mod}
 
-capped_once : (k : ℕ) → capped (capped k + 1) ≡ capped (k + 1)
-capped_once k = grind arith
-
 pub one_call : {made made' calls calls' : ℕ} → made' ≡ capped (made + 1) → GoesUp calls calls' → Makes 1 made made' calls calls'
 one_call e up = grind arith
 

@@ -1,5 +1,5 @@
 -- What is said of an answer by its fault.
-use Rattle.std.proofs.Common.{◌≡◌, None, Result, Ok, Err, sym, ◌∙◌, IsErr, IsErrAnd, IfOk, IfErr, arith}
+use Rattle.std.proofs.Common.{◌≡◌, None, Result, IsErr, IsErrAnd, IfOk, IfErr, arith}
 use Rattle.maildir_run.proofs.Common.{RunFault, NoFromLine, ReadFault, TooManyReads, OutOfMemory, fault_of, IsReading}
 
 -- ---- with any fault
@@ -12,10 +12,6 @@ is_fault r is e = grind arith
 -- the fault of a refused call, and of an answer
 pub if_err : {A E : Type 0} (P : E → Type 0) (r : Result A E) {fault : E} → IsErrAnd r (λ e. e ≡ fault) → P fault → IfErr r P
 if_err h r is p = grind arith
-
-pub fault_is : {T : Type 0} (r : Result T RunFault) {fault named : RunFault} → IsErrAnd r (λ e. e ≡ fault) → r ≡ Err named → fault ≡ named
-fault_is (Ok x) h e = absurd (cc)
-fault_is (Err x) {named} h e = let same : x ≡ named = cc in sym h ∙ same
 
 -- ---- the fault of a read, or of an allocation
 pub at_reading : (P : RunFault → Type 0) → P NoFromLine → P ReadFault → P TooManyReads → P OutOfMemory → {fault : RunFault} → IsReading fault → P fault

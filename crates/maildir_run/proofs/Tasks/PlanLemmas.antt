@@ -1,13 +1,10 @@
 -- The plan of a list of targets, from those of each target alone.
 use Rattle.std.proofs.Common.{◌≡◌, ℕ, suc, ◌<◌, take, get_or, length, arith, ◌+◌, Bool, cond, List, [], ◌∷◌, ◌++◌, map}
-use Rattle.std.proofs.Common.{refl, sym, ap, ◌∙◌, add-zero, append_assoc, append-nil, length-take-le, length-append, filter, flat_map}
+use Rattle.std.proofs.Common.{refl, sym, ap, ◌∙◌, append_assoc, append-nil, length-take-le, length-append, filter, flat_map}
 use Rattle.maildir_run.proofs.Common.{take_more, Target, Step, Write, Place, is_listed, removals, steps_for, deliveries_from, planned}
 use Rattle.maildir_run.proofs.Common.{each_alone, drop-append_seam, flat_map-append, is_converter_name, Remove, Removing, Message, Do, Listings}
 use Rattle.maildir_run.proofs.Common.{listing_tasks, task_of, tasks_of, planned_tasks, sweep_of, delivery_of, delivery_if, deliveries_of}
 use Rattle.maildir_run.specs.Plan.{shifted}
-
-one_numbered : (i : ℕ) (shown : Bool) → map (shifted i) (cond shown [] (Write 0 ∷ Place 0 ∷ []) ++ []) ≡ cond shown [] (Write i ∷ Place i ∷ [])
-one_numbered i shown = grind (arith, add-zero)
 
 alone_is : (i : ℕ) (new cur : List (List ℕ)) (target : Target) → map (shifted i) (planned [] new cur (target ∷ [])) ≡ steps_for (is_listed new cur) i target
 alone_is i new cur target = grind arith

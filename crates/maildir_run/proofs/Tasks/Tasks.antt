@@ -17,9 +17,6 @@ MayStop w = (task : Task) (s : Files) → w.refused task s s
 pub honestly_stops : MayStop honestly
 honestly_stops task s = record { moves = []; left = refl }
 
-pub quietly_stops : MayStop quietly
-quietly_stops task s = ([], tt, refl)
-
 pub leaving_stops : MayStop leaving
 leaving_stops task s = record { kept = []; are = refl }
 
