@@ -90,19 +90,22 @@ fn at_home(system: &MemSystem) -> Option<usize> {
     }
 }
 
+// What a history leaves: the first status, how many cases the cut had, and how many messages are there after it; then the second
+// status, and how many are there after the second and the third command.
+type History = (
+    (u8, usize, Option<usize>),
+    (u8, Option<usize>, Option<usize>),
+);
+
 // The words name a Maildir that is missing, and is made. So many of its calls are answered, and a power cut leaves this case;
-// then they are given again, and once more. The first status, and how many cases there were.
-fn history(rt: HostRuntime, calls: u64, case: usize) -> Result<(u8, usize), Fail> {
-    let row = (calls, case);
+// then they are given again, and once more.
+fn history(rt: HostRuntime, calls: u64, case: usize) -> Result<History, Fail> {
     let mut machine = MemMachine::new(rt.alloc(), TEXTS);
     machine.make_of(losing(rt, &[], 1)?);
-    let (status, cases, first) = command(rt, &mut machine, calls, case)?;
-    let owed = if status == 0 { 3 } else { first.unwrap_or(0) };
-    same(&row, &first, &Some(owed))?;
-    let (again, _, second) = command(rt, &mut machine, u64::MAX, 0)?;
+    let first = command(rt, &mut machine, calls, case)?;
+    let (status, _, second) = command(rt, &mut machine, u64::MAX, 0)?;
     let (_, _, third) = command(rt, &mut machine, 5, 1)?;
-    same(&row, &(again, second, third), &(0, Some(3), Some(3)))?;
-    Ok((status, cases))
+    Ok((first, (status, second, third)))
 }
 
 #[test]
@@ -111,8 +114,14 @@ fn commands_and_power_cuts(rt: HostRuntime) -> Result<(), Fail> {
     for stop in 0u64..STOPS {
         let calls = 4 * stop;
         for case in 0usize..CASES {
-            let (status, cases) = history(rt, calls, case)?;
-            assert!(rt; cases <= CASES, "more cases than were tried");
+            let ((status, cases, first), later) = history(rt, calls, case)?;
+            let owed = if status == 0 { 3 } else { first.unwrap_or(0) };
+            let got = (cases <= CASES, first, later);
+            same(
+                &(calls, case),
+                &got,
+                &(true, Some(owed), (0, Some(3), Some(3))),
+            )?;
             ended.0 = ended.0 || status == 0;
             ended.1 = ended.1 || status != 0;
             if cases <= case + 1 {
@@ -120,6 +129,5 @@ fn commands_and_power_cuts(rt: HostRuntime) -> Result<(), Fail> {
             }
         }
     }
-    same(&"done, and stopped", &ended, &(true, true))?;
-    Ok(())
+    same(&"done, and stopped", &ended, &(true, true))
 }

@@ -1,7 +1,7 @@
 // Runs over the folder in memory.
 use crate::rows::same;
 use crate::runs::{Answer, folder_of, run_from, run_over, same_files};
-use crate::scripts::{Run, Scene, go, go_scene};
+use crate::scripts::{Run, Scene, go, go_all};
 use crate::sources::{Cut, FAULTY, LIMIT};
 use crate::texts::{
     ABC, ABC_LINE, ABC_OLD, EMPTY_ONE, EMPTY_TWO, File, HELLO_LINE, ONE_SEEN, REFUSED, TEXTS,
@@ -84,13 +84,10 @@ const SCENES: &[Scene<'_>] = &[
 
 // A text is delivered, and a second run changes nothing.
 fn deliver_twice(alloc: Global, text: &Text<'_>) -> Result<(), Fail> {
-    let mut folder = MemFolder::new(alloc);
     let count = text.messages.len() as u64;
-    for report in [(count, 0, count, 0), (count, count, 0, 0)] {
-        let run: Run<'_> = (&[], text.text, Ok(report), text.files);
-        go(alloc, &(text.name, report), &mut folder, run, None)?;
-    }
-    Ok(())
+    let first: Run<'_> = (&[], text.text, Ok((count, 0, count, 0)), text.files);
+    let second: Run<'_> = (&[], text.text, Ok((count, count, 0, 0)), text.files);
+    go_all(alloc, &text.name, &[], &[first, second])
 }
 
 #[test]
@@ -100,16 +97,10 @@ fn quiet_runs(rt: HostRuntime) -> Result<(), Fail> {
     }
     for &(name, text) in REFUSED {
         let run: Run<'_> = (&[], text, Err(RunFault::NoFromLine), &[]);
-        go(
-            rt.alloc(),
-            &name,
-            &mut MemFolder::new(rt.alloc()),
-            run,
-            None,
-        )?;
+        go_all(rt.alloc(), &name, &[], &[run])?;
     }
-    for scene in SCENES {
-        go_scene(rt.alloc(), scene)?;
+    for &(name, files, runs) in SCENES {
+        go_all(rt.alloc(), &name, files, runs)?;
     }
     Ok(())
 }

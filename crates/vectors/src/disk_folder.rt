@@ -25,11 +25,11 @@ fn holds(rt: HostRuntime, root: &str, name: &str, wanted: &[u8]) -> Result<(), F
 
 // A shorter write takes the place of a longer one, and removals leave `tmp` empty, of a name that was never there too.
 fn write_again<F: Folder>(rt: HostRuntime, folder: &mut F, root: &str) -> Result<(), Fail> {
-    same(&"longer", &folder.write("v", b"longer"), &Ok(()))?;
-    same(&"shorter", &folder.write("v", b"c"), &Ok(()))?;
+    let written = (folder.write("v", b"longer"), folder.write("v", b"c"));
+    same(&"write, write again", &written, &(Ok(()), Ok(())))?;
     holds(rt, root, "tmp/v", b"c")?;
-    same(&"remove", &folder.remove("v"), &Ok(()))?;
-    same(&"remove nothing", &folder.remove("w"), &Ok(()))?;
+    let removed = (folder.remove("v"), folder.remove("w"));
+    same(&"remove, remove nothing", &removed, &(Ok(()), Ok(())))?;
     lists(&"tmp", folder, false, Sub::Tmp, &[])
 }
 

@@ -1,6 +1,6 @@
 // Runs while a mail reader and other programs are at work.
 use crate::runs::folder_of;
-use crate::scripts::{Deed, Line, Run, Scene, go, go_scene};
+use crate::scripts::{Deed, Line, Run, Scene, go, go_all};
 use crate::texts::{
     ABC, ABC_SEEN, EMPTY_ONE, EMPTY_TWO, File, ONE_SEEN, THREE, TWO_EMPTY, TWO_SEEN, UNENDED,
 };
@@ -125,8 +125,8 @@ const SCENES: &[Scene<'_>] = &[
 
 #[test]
 fn disturbed_runs(rt: HostRuntime) -> Result<(), Fail> {
-    for scene in SCENES {
-        go_scene(rt.alloc(), scene)?;
+    for &(name, files, runs) in SCENES {
+        go_all(rt.alloc(), &name, files, runs)?;
     }
     Ok(())
 }

@@ -66,14 +66,15 @@ fn remove<F: Folder>(folder: &mut F, again: bool, name: &str) -> Result<(), Fold
 
 /// The calls of a folder that is empty answer as they are to: a file comes, is listed and goes to `cur`.
 pub(crate) fn answers<F: Folder>(folder: &mut F, again: bool) -> Result<(), Fail> {
-    let nothing = place(folder, again, "u", Place::New, "u");
+    let absent = place(folder, again, "u", Place::New, "u");
+    let removed = remove(folder, again, "u");
+    let written = write(folder, again, "u", b"ab");
+    let got = (absent, removed, written);
     same(
-        &"place, with nothing there",
-        &nothing,
-        &Err(FolderFault::Absent),
+        &"place, remove, write",
+        &got,
+        &(Err(FolderFault::Absent), Ok(()), Ok(())),
     )?;
-    same(&"remove", &remove(folder, again, "u"), &Ok(()))?;
-    same(&"write", &write(folder, again, "u", b"ab"), &Ok(()))?;
     lists(&"list", folder, again, Sub::Tmp, &["u"])?;
     let placed = place(folder, again, "u", Place::Cur, "u:2,");
     same(&"place", &placed, &Ok(()))

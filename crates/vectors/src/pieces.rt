@@ -38,35 +38,30 @@ const NO_LINE: Answer = Err(TextFault::NoFromLine);
 
 const FAILED: Answer = Err(TextFault::Failed);
 
-// Pieces with the answer to each, the messages when they were fed, the answer at the end, and the messages then.
-type Row<'a> = (
-    &'a [(&'a str, Answer)],
-    &'a [Message<'a>],
-    Answer,
-    &'a [Message<'a>],
-);
+// Pieces with the answer to each, how many messages there are when they were fed, the answer at the end, and the messages then.
+type Row<'a> = (&'a [(&'a str, Answer)], usize, Answer, &'a [Message<'a>]);
 
 const FIRST: Message<'_> = (b"From a", b"x\n");
 
 const ROWS: &[Row<'_>] = &[
     // a message ends with the next From_ line
-    (&[("From a\nx\n", Ok(()))], &[], Ok(()), &[FIRST]),
+    (&[("From a\nx\n", Ok(()))], 0, Ok(()), &[FIRST]),
     (
         &[("From a\nx\n", Ok(())), ("From", Ok(()))],
-        &[],
+        0,
         Ok(()),
         &[(b"From a", b"x\nFrom")],
     ),
     (
         &[("From a\nx\n", Ok(())), ("From", Ok(())), (" ", Ok(()))],
-        &[FIRST],
+        1,
         Ok(()),
         &[FIRST, (b"From ", b"")],
     ),
     // a splitter that refused goes on refusing
-    (&[("Fx", NO_LINE), ("", FAILED)], &[], FAILED, &[]),
-    (&[("Fro", Ok(()))], &[], NO_LINE, &[]),
-    (&[], &[], Ok(()), &[]),
+    (&[("Fx", NO_LINE), ("", FAILED)], 0, FAILED, &[]),
+    (&[("Fro", Ok(()))], 0, NO_LINE, &[]),
+    (&[], 0, Ok(()), &[]),
 ];
 
 // Feeds the pieces of a row, and ends the text.
@@ -75,14 +70,11 @@ fn feed_row(alloc: Global, row: Row<'_>) -> Result<(), Fail> {
     let mut splitter = Splitter::new(alloc);
     let mut out = Vec::new(alloc);
     for &(piece, answer) in pieces {
-        same(
-            &(pieces, piece),
-            &splitter.feed(piece.as_bytes(), &mut out),
-            &answer,
-        )?;
+        let got = splitter.feed(piece.as_bytes(), &mut out);
+        same(&(pieces, piece), &got, &answer)?;
     }
-    same_messages(&(pieces, "fed"), &out, fed)?;
-    same(&(pieces, "ended"), &finish_into(splitter, &mut out), &end)?;
+    let got = (out.len(), finish_into(splitter, &mut out));
+    same(&(pieces, "ended"), &got, &(fed, end))?;
     same_messages(&(pieces, "ended"), &out, ended)
 }
 

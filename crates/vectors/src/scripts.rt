@@ -120,12 +120,16 @@ pub(crate) fn go<N: Debug>(
 /// A scene: its name, the files that are there at first, and the runs that follow one another.
 pub(crate) type Scene<'a> = (&'a str, &'a [File<'a>], &'a [Run<'a>]);
 
-/// Goes through the runs of a scene.
-pub(crate) fn go_scene(alloc: Global, scene: &Scene<'_>) -> Result<(), Fail> {
-    let (name, files, runs) = *scene;
+/// Goes through runs that follow one another, the first of them over a folder with these files.
+pub(crate) fn go_all<N: Debug>(
+    alloc: Global,
+    row: &N,
+    files: &[File<'_>],
+    runs: &[Run<'_>],
+) -> Result<(), Fail> {
     let mut folder = folder_of(alloc, files)?;
     for (number, run) in runs.iter().enumerate() {
-        go(alloc, &(name, number), &mut folder, *run, None)?;
+        go(alloc, &(row, number), &mut folder, *run, None)?;
     }
     Ok(())
 }

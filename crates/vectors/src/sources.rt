@@ -122,4 +122,6 @@ pub(crate) const FAULTY: &[(Faulty<'_>, u64, RunFault, u64)] = &[
     (("X", 1, Then::GoesOn), 99, RunFault::NoFromLine, 1),
     (("Fro", 1, Then::Ends), 3, RunFault::TooManyReads, 3),
     (("Fro", 1, Then::Ends), 4, RunFault::NoFromLine, 4),
+    (("Subject: x\n", 1, Then::Ends), 99, RunFault::NoFromLine, 1),
+    (("\nFrom a\n", 1, Then::Ends), 99, RunFault::NoFromLine, 1),
 ];

@@ -1,7 +1,7 @@
 // Runs that are broken off at a call of the folder, and the run after them.
 use crate::rows::same;
 use crate::runs::{Answer, run_over};
-use crate::scripts::{Deed, Run, Scene, go, go_scene, script_of};
+use crate::scripts::{Deed, Run, Scene, go, go_all, script_of};
 use crate::texts::{ABC, EMPTY_ONE, EMPTY_TWO, File, THREE, TWO_EMPTY, UNENDED};
 use maildir_run::{MemFolder, Mode, RunFault, Sub};
 use std::alloc::Global;
@@ -198,17 +198,17 @@ const LEFTOVER_GOES: &[(&str, u64, u64)] = &[
 
 #[test]
 fn stopped_runs(rt: HostRuntime) -> Result<(), Fail> {
-    for scene in STOPPED {
-        go_scene(rt.alloc(), scene)?;
+    for &(name, files, runs) in STOPPED {
+        go_all(rt.alloc(), &name, files, runs)?;
     }
     for &(name, mode, answer) in NOTHING_TO_PLACE {
         let run: Run<'_> = (&[(5, DROPS, mode)], UNENDED, answer, &[]);
-        go_scene(rt.alloc(), &(name, &[], &[run]))?;
+        go_all(rt.alloc(), &name, &[], &[run])?;
     }
     for &(name, call, swept) in LEFTOVER_GOES {
         let lines = [(call, DROPS_LEFTOVER, Mode::Plain)];
         let run = (lines.as_slice(), UNENDED, Ok((1, 0, 1, swept)), ABC_ALONE);
-        go_scene(rt.alloc(), &(name, LEFTOVER, &[run]))?;
+        go_all(rt.alloc(), &name, LEFTOVER, &[run])?;
     }
     Ok(())
 }

@@ -1,7 +1,7 @@
 // What is written of a text: a list of its messages, or its regular spelling.
 use crate::rows::{Shown, same};
 use crate::sources::{Cut, FAULTY, LIMIT};
-use crate::texts::{REFUSED, TEXTS, TWO_LINES, UNENDED};
+use crate::texts::{TEXTS, TWO_LINES, UNENDED};
 use crate::writers::{FULL, Narrow};
 use maildir_run::{RunFault, list_text, rewrite};
 use std::alloc::Global;
@@ -59,12 +59,6 @@ fn worked_texts(rt: HostRuntime) -> Result<(), Fail> {
 fn refusals(rt: HostRuntime) -> Result<(), Fail> {
     let alloc = rt.alloc();
     for form in [Form::List, Form::Spelling] {
-        for &(name, text) in REFUSED {
-            let mut source = Cut::pieces(text, 1);
-            let out = Narrow::new(alloc, 1000, 1000, true);
-            let wanted: Wanted<'_> = (Err(RunFault::NoFromLine), b"");
-            writes(alloc, &name, form, &mut source, LIMIT, out, wanted)?;
-        }
         for &((text, piece, then), reads, fault, made) in FAULTY {
             let row = (text, reads);
             let mut source = Cut::new(text.as_bytes(), piece, then);

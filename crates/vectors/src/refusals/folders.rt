@@ -12,8 +12,6 @@ use std::test::Fail;
 fn memory_folder_again(rt: HostRuntime) -> Result<(), Fail> {
     let mut folder = MemFolder::new(rt.alloc());
     answers(&mut folder, true)?;
-    lists(&"tmp", &mut folder, true, Sub::Tmp, &[])?;
-    lists(&"new", &mut folder, true, Sub::New, &[])?;
     lists(&"cur", &mut folder, true, Sub::Cur, &["u:2,"])?;
     same_files(&"at the end", &folder, &[(Sub::Cur, "u:2,", b"ab")])
 }
