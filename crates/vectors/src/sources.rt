@@ -5,7 +5,6 @@ ghost use Rattle.vectors.specs.declared.sources.Then.TheVariants.{Ends, Fails, G
 use maildir_run::RunFault;
 use std::io;
 use std::io::{ErrorKind, Read};
-use std::test::Fail;
 
 /// No test makes so many reads.
 pub(crate) const LIMIT: u64 = 1_099_511_627_776;

@@ -30,8 +30,8 @@ pub(crate) const HELLO_LINE: &str =
 /// One message, whose last line has no end.
 pub(crate) const UNENDED: &[u8] = b"From x\nabc";
 
-/// One message with quoted lines, in its regular spelling.
-pub(crate) const QUOTED: &[u8] = b"From x\n>From a\n>>From b\n> From c\n>From\n\n";
+// One message with quoted lines, in its regular spelling.
+const QUOTED: &[u8] = b"From x\n>From a\n>>From b\n> From c\n>From\n\n";
 
 /// Two equal messages.
 pub(crate) const TWO_EMPTY: &[u8] = b"From a\n\nFrom b\n\n";
