@@ -1,9 +1,9 @@
-use Rattle.std.proofs.Common.{refl}
+use Rattle.std.proofs.Common.{refl, rules}
 use Rattle.maildir_memory.specs.declared.cases.Change.TheVariants.{Place}
-use Rattle.maildir_memory.proofs.Memory.Changes.{left_unmade, taken}
+use Rattle.maildir_memory.proofs.Memory.Changes.{keeps_none, left_unmade, lost, taken}
 use Rattle.maildir_memory.proofs.Memory.Looking.{fails, fails_early, looks_begun, not_taken}
 use Rattle.maildir_disk.proofs.Calls.Looking.{looks_none}
-use Rattle.maildir_disk.proofs.Left.Lefts.{left_none}
+use Rattle.maildir_disk.proofs.Left.Lefts.{if_ok, left_none}
 use Rattle.maildir_memory.proofs.mem_system.MemSystemSystem.rename.Goals as goal
 
 pub returns-in_err-begin-clause-places : goal.returns-in_err-begin-clause-places
@@ -21,6 +21,12 @@ returns-in-Ok-clause-places c =
     let did = c.in-Ok.ensures.places in
     taken (Place c.args.name c.args.place c.args.target) c.args.self.now c.place.new.self c.may_lose.new.self c.stamp_at-self.result c.begin.new.calls_left _
     c.place.ensures.scripted.script.lines c.may_lose.ensures.more (did.called tt) did.quietly
+
+pub returns-in-Ok-clause-loses : goal.returns-in-Ok-clause-loses
+returns-in-Ok-clause-loses c = λ honest.
+    let old = c.args.self.now in
+    lost (Place c.args.name c.args.place c.args.target) old (keeps_none old.folder) c.may_lose.ensures.more c.may_lose.ensures.room
+    (if_ok c.may_lose.result (search rules) c.may_lose.ensures.loses) (c.in-Ok.ensures.places.quietly honest).1
 
 pub returns-in-Err-clause-places : goal.returns-in-Err-clause-places
 returns-in-Err-clause-places c =
