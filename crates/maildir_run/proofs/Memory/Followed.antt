@@ -97,7 +97,7 @@ no_memory r is = grind arith
 counts_no_failure : {A : Type 0} (r : Result A FolderFault) {old new : ℕ} → IsErrOf r fault.OutOfMemory → new ≡ old → CountsFailure r old new
 counts_no_failure r is same = rw is same
 
-module _ {A : Type 0} (call : Call) {old new : MemFolder} (r : Result A FolderFault) {e : AllocError}
+module _ {A : Type 0} {call : Call} {old new : MemFolder} {r : Result A FolderFault} {e : AllocError}
     (is : IsErrAnd r (λ e. e ≡ fault.OutOfMemory)) (begun : BeginsCall old (Err e) new) where
   pub cut_scripted : Scripted call old r new
   cut_scripted = grind (arith, unscripted)
@@ -105,7 +105,7 @@ module _ {A : Type 0} (call : Call) {old new : MemFolder} (r : Result A FolderFa
   pub cut_made : CallOf call (seen_of old) r (seen_of new)
   cut_made = call_made call old new r cut_scripted begun.counted (counts_no_failure r (no_memory r is) begun.failures)
 
-module _ {A : Type 0} (call : Call) {old mid new : MemFolder} {files : MemFiles} {mode : Mode} {r r' : Result A FolderFault}
+module _ {A : Type 0} {call : Call} {old mid new : MemFolder} {files : MemFiles} {mode : Mode} {r r' : Result A FolderFault}
     (begun : BeginsCall old (Ok mode) mid) (a : Answers mode call (files_of mid) r (files_in files)) (is : r' ≡ r)
     (rest : new ≡ record mid { files = files; failures = failure_count new }) where
   pub scripted : Scripted call old r' new

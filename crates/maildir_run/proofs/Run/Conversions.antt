@@ -14,7 +14,7 @@ use Rattle.maildir_run.proofs.Source.PossibleMessages.{batch_bodies, batch_few}
 use Rattle.maildir_run.proofs.Tasks.Tasks.{ran_nothing, ran_then}
 
 -- ---- at a fault
-module _ (before now : Option (List ℕ)) (reads : ℕ) (old new : Seen) (r : Result Report RunFault) (fault : RunFault) (is : IsErrAnd r (λ e. e ≡ fault)) where
+module _ {before now : Option (List ℕ)} {reads : ℕ} {old new : Seen} {r : Result Report RunFault} {fault : RunFault} (is : IsErrAnd r (λ e. e ≡ fault)) where
   pub stops : SourceStopped before now reads fault → IsReading fault ⊎ IsOfFolder fault → (fault ≡ NoFromLine → new.calls ≡ old.calls) → (given : List Entry)
       → IsPrefixOf before now reads given → (names : Listings) → length names.tmp < 2 ^ 64 → (begun made : ℕ) → begun ≡ 0
       → Performed (run_tasks names (messages_of (bodies_of given))) old new begun made (Some fault) → Conversion before now reads old new r
@@ -31,7 +31,7 @@ pub stops_unread : {before now : Option (List ℕ)} {reads : ℕ} {s : Seen} {r 
     → IsErrAnd r (λ e. e ≡ fault) → IsReading fault → SourceStopped before now reads fault → Conversion before now reads s s r
 stops_unread {before} {now} {reads} {s} {r} {fault} is reading refused =
     let names : Listings = record { tmp = []; new = []; cur = [] } in
-    stops before now reads s s r fault is refused (inl reading) (λ e. refl) [] (refused_prefix refused) names (omega arith) 0 0 refl
+    stops is refused (inl reading) (λ e. refl) [] (refused_prefix refused) names (omega arith) 0 0 refl
     (ran_nothing reading)
 
 -- ---- the set of bases tells what was listed

@@ -17,7 +17,7 @@ returns-in_err-listings g c =
     let is = c.from_residual-in_err-listings.ensures.1 in
     let begins = c.in_ok-ended.ensures.begins in
     let look = c.in_err-listings.ensures.ran in
-    stops_in_folder _ _ _ _ _ _ _ is c.in_err-listings.ensures.causes _
+    stops_in_folder is c.in_err-listings.ensures.causes _
     (given_prefix _ _ _ _ _ _ _ begins.gave) look.0 look.1 _ _ c.new-calls.ensures
     (ran_before _ look.2)
 
@@ -27,7 +27,7 @@ returns-in_err-engine g c =
     let begins = c.in_ok-ended.ensures.begins in
     let look = c.in_ok-listings.ensures.ran in
     let sweep = rw look.3.0 at c.in_err-engine.ensures.ran.1 in
-    stops_in_folder _ _ _ _ _ _ _ is c.in_err-engine.ensures.causes _
+    stops_in_folder is c.in_err-engine.ensures.causes _
     (given_prefix _ _ _ _ _ _ _ begins.gave) look.0 look.1 _ _ c.new-calls.ensures
     (ran_then look.2 (ran_before _ sweep))
 
@@ -81,7 +81,7 @@ returns-in_err-deliver_entries g c =
     let listed = tells_listed _ _ _ look.0 (bodies_of given) c.in_ok-engine.ensures.there look.3.1 look.3.2 in
     let delivers = one_batch i.given _ _ _ i.there
     c.deref.ensures.value few c.requires.few i.delivers c.in_err-deliver_entries.ensures.delivers in
-    stops_in_folder _ _ _ _ _ _ _ is c.in_err-deliver_entries.ensures.causes given prefix look.0 look.1 _ _ refl
+    stops_in_folder is c.in_err-deliver_entries.ensures.causes given prefix look.0 look.1 _ _ refl
     (all_ran look.0 _ c.new-calls.ensures look.3.0 begin.2 listed look.2 begin.1 delivers.ran)
 
 pub returns-in_err-ended-2 : goal.returns-in_err-ended-2
@@ -99,7 +99,7 @@ returns-in_err-ended-2 g c =
     c.deref.ensures.value few c.requires.few i.delivers c.in_ok-deliver_entries.ensures.delivers in
     let gave = rw c.if-ended.false at i.gave in
     let went = c.in_err-ended-2.ensures.went in
-    stops _ _ _ _ _ _ fault is (gave_refused _ c.pieces.reader fault gave went)
+    stops is (gave_refused _ c.pieces.reader fault gave went)
     (inl c.in_err-ended-2.ensures.causes) (λ e. absurd (never_again _ c.pieces.reader fault gave (i.begun c.if-ended.false) went e))
     given (broken_prefix c.pieces.reader gave went) look.0 look.1 _ _ refl
     (ran_stop c.in_err-ended-2.ensures.causes (all_ran look.0 _ c.new-calls.ensures look.3.0 begin.2 listed look.2 begin.1 delivers.ran))

@@ -14,8 +14,7 @@ returns-in_err-ended g c =
 
 pub returns-in_err-write_entries : goal.returns-in_err-write_entries
 returns-in_err-write_entries g c =
-    let b = batch c.pieces.reader c.read.new.self.splitter c.read.new.self.reads_left
-    _ c.pieces.invariant.1 c.in_ok-ended.ensures.went in
+    let b = batch c.pieces.reader _ _ _ c.pieces.invariant.1 c.in_ok-ended.ensures.went in
     writing_failed _ c.from_residual-in_err-write_entries.ensures.1 (inl c.in_err-write_entries.ensures.causes)
     (batch_broken b _ (flat_map spelling c.deref.result.now) flat_output
     (flat_more c.pieces.invariant.0 c.deref.ensures.value) c.in_err-write_entries.ensures.written)
@@ -23,8 +22,7 @@ returns-in_err-write_entries g c =
 
 pub overflow_add-count : goal.overflow_add-count
 overflow_add-count g c =
-    let b = batch c.pieces.reader c.read.new.self.splitter c.read.new.self.reads_left
-    _ c.pieces.invariant.1 c.in_ok-ended.ensures.went in
+    let b = batch c.pieces.reader _ _ _ c.pieces.invariant.1 c.in_ok-ended.ensures.went in
     let fits = count_fits b c.requires in
     let len : c.len.result ≡ length c.read.new.out.items = omega (arith, c.len.ensures, c.read.new.out.ok.0) in
     omega (arith, fits, len)
@@ -33,8 +31,7 @@ pub returns-then-ended : goal.returns-then-ended
 returns-then-ended g c =
     let p = c.pieces.invariant.1 in
     let went = rw c.if-ended.true at c.in_ok-ended.ensures.went in
-    let b = batch c.pieces.reader c.read.new.self.splitter c.read.new.self.reads_left
-    _ p c.in_ok-ended.ensures.went in
+    let b = batch c.pieces.reader _ _ _ p c.in_ok-ended.ensures.went in
     let all = poured_all _ _ c.pieces.reader c.read.new.self.splitter c.read.new.self.reads_left c.read.new.out.items (flat_map spelling c.deref.result.now)
     p (flat_more c.pieces.invariant.0 c.deref.ensures.value) c.in_ok-write_entries.ensures.written went in
     let len : c.len.result ≡ length c.read.new.out.items = omega (arith, c.len.ensures, c.read.new.out.ok.0) in
@@ -43,7 +40,7 @@ returns-then-ended g c =
 pub pieces-preserved : goal.pieces-preserved
 pieces-preserved g c =
     let p = c.pieces.invariant.1 in
-    let more = poured_more _ _ c.pieces.reader c.read.new.self.splitter c.read.new.self.reads_left c.read.new.out.items (flat_map spelling c.deref.result.now)
+    let more = poured_more _ _ c.pieces.reader _ _ c.read.new.out.items (flat_map spelling c.deref.result.now)
     p (flat_more c.pieces.invariant.0 c.deref.ensures.value) c.in_ok-write_entries.ensures.written
     c.clear.new.self.items (rw c.if-ended.false at c.in_ok-ended.ensures.went) c.clear.ensures.items in
     let len : c.len.result ≡ length c.read.new.out.items = omega (arith, c.len.ensures, c.read.new.out.ok.0) in

@@ -24,15 +24,13 @@ returns-in_err-ended g c =
 
 pub list-requires : goal.list-requires
 list-requires g c =
-    let b = batch c.pieces.reader c.read.new.self.splitter c.read.new.self.reads_left
-    _ c.pieces.invariant.1 c.in_ok-ended.ensures.went in
+    let b = batch c.pieces.reader _ _ _ c.pieces.invariant.1 c.in_ok-ended.ensures.went in
     rw c.deref.ensures.value b.from_lines
 
 pub returns-in_err-list : goal.returns-in_err-list
 returns-in_err-list g c =
     let given : List Entry = c.pieces.invariant.0 in
-    let b = batch c.pieces.reader c.read.new.self.splitter c.read.new.self.reads_left
-    _ c.pieces.invariant.1 c.in_ok-ended.ensures.went in
+    let b = batch c.pieces.reader _ _ _ c.pieces.invariant.1 c.in_ok-ended.ensures.went in
     let fit = names_fit b c.requires in
     let s = rw c.deref.ensures.value at (c.in_err-list.ensures.lists given c.pieces.invariant.2 (rw c.deref.ensures.value fit)) in
     writing_failed _ c.from_residual-in_err-list.ensures.1 c.in_err-list.ensures.causes
@@ -42,8 +40,7 @@ pub returns-then-ended : goal.returns-then-ended
 returns-then-ended g c =
     let given : List Entry = c.pieces.invariant.0 in
     let went = rw c.if-ended.true at c.in_ok-ended.ensures.went in
-    let b = batch c.pieces.reader c.read.new.self.splitter c.read.new.self.reads_left
-    _ c.pieces.invariant.1 c.in_ok-ended.ensures.went in
+    let b = batch c.pieces.reader _ _ _ c.pieces.invariant.1 c.in_ok-ended.ensures.went in
     let fit = names_fit b c.requires in
     let s = rw c.deref.ensures.value at (c.in_ok-list.ensures.lists given c.pieces.invariant.2 (rw c.deref.ensures.value fit)) in
     let all = poured_all _ _ c.pieces.reader c.read.new.self.splitter c.read.new.self.reads_left c.read.new.out.items s.0 c.pieces.invariant.1 s.1 s.2 went in
@@ -54,11 +51,10 @@ returns-then-ended g c =
 pub pieces-preserved : goal.pieces-preserved
 pieces-preserved g c =
     let given : List Entry = c.pieces.invariant.0 in
-    let b = batch c.pieces.reader c.read.new.self.splitter c.read.new.self.reads_left
-    _ c.pieces.invariant.1 c.in_ok-ended.ensures.went in
+    let b = batch c.pieces.reader _ _ _ c.pieces.invariant.1 c.in_ok-ended.ensures.went in
     let fit = names_fit b c.requires in
     let s = rw c.deref.ensures.value at (c.in_ok-list.ensures.lists given c.pieces.invariant.2 (rw c.deref.ensures.value fit)) in
-    let more = poured_more _ _ c.pieces.reader c.read.new.self.splitter c.read.new.self.reads_left c.read.new.out.items s.0
+    let more = poured_more _ _ c.pieces.reader _ _ c.read.new.out.items s.0
     c.pieces.invariant.1 s.1 s.2 c.clear.new.self.items (rw c.if-ended.false at c.in_ok-ended.ensures.went) c.clear.ensures.items in
     let count : c.list.new.self.count ≡ c.pieces.lister.count + length c.read.new.out.items =
     omega (arith, s.3.count_is, c.pieces.invariant.2.count_is, length-append given c.read.new.out.items) in

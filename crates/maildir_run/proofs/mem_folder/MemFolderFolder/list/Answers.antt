@@ -6,9 +6,9 @@ use Rattle.maildir_run.proofs.mem_folder.MemFolderFolder.list.Goals as goal
 pub returns-in_err-mode : goal.returns-in_err-mode
 returns-in_err-mode c =
     let is = c.from_residual.ensures.1 in
-    let did = cut_scripted (Listing c.args.sub) _ is c.in_err-mode.ensures in
+    let did = cut_scripted {call = Listing c.args.sub} is c.in_err-mode.ensures in
     record {
-      lists = listing_made c.args.sub _ _ _ did (search rules) (cut_made (Listing c.args.sub) _ is c.in_err-mode.ensures);
+      lists = listing_made c.args.sub _ _ _ did (search rules) (cut_made is c.in_err-mode.ensures);
       scripted = did;
       in_order = search rules;
     }
@@ -17,9 +17,9 @@ pub returns : goal.returns
 returns c =
     let count = c.count_call.ensures in
     let answers = c.list_in-answer.ensures.answers in
-    let did = scripted (Listing c.args.sub) c.in_ok-mode.ensures answers count.answer count.rest in
+    let did = scripted {call = Listing c.args.sub} c.in_ok-mode.ensures answers count.answer count.rest in
     record {
-      lists = listing_made c.args.sub _ _ _ did (search rules) (made (Listing c.args.sub) c.in_ok-mode.ensures answers count.answer count.rest count.cause);
+      lists = listing_made c.args.sub _ _ _ did (search rules) (made c.in_ok-mode.ensures answers count.answer count.rest count.cause);
       scripted = did;
       in_order = search rules;
     }

@@ -1,5 +1,4 @@
 use Rattle.std.proofs.Common.{arith}
-use Rattle.maildir_run.proofs.Common.{Placing}
 use Rattle.maildir_run.proofs.Memory.Followed.{cut_made, cut_scripted, made, scripted}
 use Rattle.maildir_run.proofs.mem_folder.MemFolderFolder.place.Goals as goal
 
@@ -7,14 +6,14 @@ pub returns-in_err-mode : goal.returns-in_err-mode
 returns-in_err-mode c =
     let is = c.from_residual.ensures.1 in
     record {
-      places = cut_made (Placing c.args.name.now c.args.place c.args.target.now) _ is c.in_err-mode.ensures;
-      scripted = cut_scripted (Placing c.args.name.now c.args.place c.args.target.now) _ is c.in_err-mode.ensures;
+      places = cut_made is c.in_err-mode.ensures;
+      scripted = cut_scripted is c.in_err-mode.ensures;
     }
 
 pub returns : goal.returns
 returns c =
     let count = c.count_call.ensures in
     record {
-      places = made (Placing c.args.name.now c.args.place c.args.target.now) c.in_ok-mode.ensures c.place_in-answer.ensures count.answer count.rest count.cause;
+      places = made c.in_ok-mode.ensures c.place_in-answer.ensures count.answer count.rest count.cause;
       scripted = grind (arith, scripted);
     }

@@ -1,5 +1,4 @@
 use Rattle.std.proofs.Common.{arith}
-use Rattle.maildir_run.proofs.Common.{Writing}
 use Rattle.maildir_run.proofs.Memory.Followed.{cut_made, cut_scripted, made, scripted}
 use Rattle.maildir_run.proofs.mem_folder.MemFolderFolder.write.Goals as goal
 
@@ -7,14 +6,14 @@ pub returns-in_err-mode : goal.returns-in_err-mode
 returns-in_err-mode c =
     let is = c.from_residual.ensures.1 in
     record {
-      writes = cut_made (Writing c.args.name.now c.args.bytes.now) _ is c.in_err-mode.ensures;
-      scripted = cut_scripted (Writing c.args.name.now c.args.bytes.now) _ is c.in_err-mode.ensures;
+      writes = cut_made is c.in_err-mode.ensures;
+      scripted = cut_scripted is c.in_err-mode.ensures;
     }
 
 pub returns : goal.returns
 returns c =
     let count = c.count_call.ensures in
     record {
-      writes = made (Writing c.args.name.now c.args.bytes.now) c.in_ok-mode.ensures c.write_in-answer.ensures count.answer count.rest count.cause;
+      writes = made c.in_ok-mode.ensures c.write_in-answer.ensures count.answer count.rest count.cause;
       scripted = grind (arith, scripted);
     }
