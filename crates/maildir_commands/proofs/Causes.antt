@@ -1,6 +1,6 @@
 -- Why a command ended with a fault.
 use Rattle.std.proofs.Common.{◌≡◌, ℕ, ◌+◌, ◌≤◌, ◌⊎◌, ◌^◌, List, [], ◌∷◌, ◌++◌, length}
-use Rattle.std.proofs.Common.{Option, Some, None, Result, Ok, Err, IfErr, IsErrAnd, refl, sym, ap, subst, inl, inr, arith}
+use Rattle.std.proofs.Common.{Some, None, Result, Ok, Err, IfErr, IsErrAnd, refl, sym, ap, subst, inl, inr, arith}
 use Rattle.maildir_commands.proofs.Common.{Bytes, Contains, Fault, Folder, Form, GivesNothing, IsCauseOf, IsFailedCall, IsNoMbox, IsOfDelivery, IsOfFiles}
 use Rattle.maildir_commands.proofs.Common.{IsOfOne, IsOfRun, IsPossibly, IsReading, IsTooLong, Locked, OpenFault, Possible, ReadsAtLeast, ReadsAtMost}
 use Rattle.maildir_commands.proofs.Common.{Report, Run, RunFault, Seen, SeenMachine, Source, ToConvert, ToWrite, fault_of_opening, length-append}

@@ -1,5 +1,5 @@
 -- A conversion: sources are opened, then the Maildir, which is closed once they were delivered.
-use Rattle.std.proofs.Common.{◌≡◌, ◌⊎◌, ◌<◌, ℕ, List, [], ◌∷◌, length, map, max, Option, Some, Result, Ok, Err, IfErr, OnOk, refl, sym, ap, subst, ◌∙◌, arith}
+use Rattle.std.proofs.Common.{◌≡◌, ◌⊎◌, ◌<◌, ℕ, List, [], ◌∷◌, length, map, max, Some, Result, Ok, Err, IfErr, OnOk, refl, sym, ap, subst, ◌∙◌, arith}
 use Rattle.maildir_commands.proofs.Common.{AreFit, Bytes, ClosesMaildir, Delivers, DeliversFiles, DeliversSource, Does, Fault, GivesTexts, IfErr-weaker}
 use Rattle.maildir_commands.proofs.Common.{IsCauseOf, IsSoundFor, KeepsForeign, Mailbox, OpenFault, OpensMaildir, OpensSources, Possible, PrintsReports}
 use Rattle.maildir_commands.proofs.Common.{Run, SeenMachine, SeenMaildir, Source, ToConvert, bytes_of, fault_of_opening, opened, seen_folder, seen_with}
@@ -11,7 +11,7 @@ use Rattle.maildir_commands.proofs.Delivered.{closed, none_delivered, one_delive
 use Rattle.maildir_commands.proofs.Delivering.{one_of}
 use Rattle.maildir_commands.proofs.Reports.{one_each, one_report}
 use Rattle.maildir_commands.proofs.Resting.{foreign_same, foreign_within, opens_none, rest_then}
-use Rattle.maildir_commands.proofs.Several.{on_ok_then, rest_sound, sound_of, text_at}
+use Rattle.maildir_commands.proofs.Several.{on_ok_then, rest_sound, text_at}
 
 -- the first file was not opened
 pub source_refused : {maildir word first : List ℕ} {rest : List (List ℕ)} {old new : SeenMachine} {input was : Bytes} {fault : Fault}
@@ -37,12 +37,13 @@ source_refused {maildir} {first = first} {rest} {old} {input = input} {was} {fau
 input_delivered : {before after was is : Bytes} {old new : SeenMaildir} {answer : Result Unit Fault}
     → DeliversSource answer before after was is old new → old.honest → (texts : List Mailbox) {text : Mailbox} → texts ≡ text ∷ []
     → Possible before after text.bytes → AreFit texts → IsSoundFor texts old.held → Delivers answer texts old.held new.held was is
-input_delivered {before} {after} {answer = answer} did h texts is possible fit sound =
-    let many : length texts ≡ 1 = ap length is in
+input_delivered {before} {after} {was} {is} {answer = answer} did h texts one possible fit sound =
+    let many : length texts ≡ 1 = ap length one in
     let inside : 0 < length texts = omega (arith, many) in
-    one_delivered answer fit is sound
-    (one_of h (text_at texts 0) (fit.are 0 _ inside)
-    (subst (λ (t : Mailbox). Possible before after t.bytes) (sym (ap (λ ts. text_at ts 0) is)) possible) (sound_of inside sound) did)
+    one_delivered answer fit one sound
+    (one_of was is h (text_at texts 0) (fit.are 0 _ inside)
+    (subst (λ (t : Mailbox). Possible before after t.bytes) (sym (ap (λ ts. text_at ts 0) one)) possible)
+    (sound.sound 0 _ inside) (sound.intact 0 _ inside) did)
 
 module _ {M S File : Type 0} (seen : M → SeenMachine) (f : Ghosts S File)
     (alike : (one other : M) (word another : List ℕ) → (seen one).same word another → (seen other).same word another)

@@ -1,5 +1,5 @@
 -- What came of delivering several texts.
-use Rattle.std.proofs.Common.{◌≡◌, ◌+◌, ◌<◌, ◌≤◌, ℕ, List, [], ◌∷◌, length, All, Option, Result, Ok, Err, ap, arith}
+use Rattle.std.proofs.Common.{◌≡◌, ◌+◌, ◌<◌, ◌≤◌, ℕ, List, [], ◌∷◌, length, All, Result, Ok, Err, ap, arith}
 use Rattle.maildir_commands.proofs.Common.{AreFit, Bytes, Delivers, DeliversOne, HeldMaildir, IsMailbox, IsSoundFor, Keeps-refl, Mailbox, Rests}
 use Rattle.maildir_commands.proofs.Known.{swept_rests}
 use Rattle.maildir_commands.proofs.Several.{UpTo, all_each, all_safe, none_printed, none_some, on_err_then, on_ok_then, one_more, rest_all_safe}

@@ -1,13 +1,14 @@
 -- What the delivery of one source owes, as the work goes on.
-use Rattle.std.proofs.Common.{◌≡◌, ◌⊎◌, List, [], ◌∷◌, Option, Result, Ok, Err, IfErr, IsErrAnd, OnErr, ℕ, sym, subst, inl, inr}
-use Rattle.maildir_commands.proofs.Common.{All-head, Appends-kept, AppendsPrefix, AreAlike, Bytes, DeliversOne, DeliversSource, Fault, IsMailbox}
-use Rattle.maildir_commands.proofs.Common.{IsSoundFor, Keeps-refl, KeepsSource, Mailbox, Possible, PrintsOne, PrintsReport, Report, Run, SeenMaildir}
+use Rattle.std.proofs.Common.{◌≡◌, ◌⊎◌, [], All, Result, Ok, Err, IfErr, IsErrAnd, sym, subst, inl, inr}
+use Rattle.maildir_commands.proofs.Common.{All-head, Appends-kept, AppendsPrefix, AreAlike, AreIntact, Bytes, DeliversOne, DeliversSource, Fault, IsMailbox}
+use Rattle.maildir_commands.proofs.Common.{Keeps-refl, KeepsSource, Mailbox, Possible, PrintsOne, PrintsReport, Report, Run, SeenMaildir}
 use Rattle.maildir_commands.proofs.Common.{StopsSource, StoresSource, report_line}
 use Rattle.std.specs.Io.KnownBytes.{Keeps}
+use Rattle.maildir_run.specs.Delivery.{IsSoundAt}
 use Rattle.maildir_run.specs.declared.fault.RunFault.TheVariants as run
 use Rattle.maildir_commands.proofs.Causes.{of_output, output_no_call}
 use Rattle.maildir_commands.proofs.Known.{of_reports}
-use Rattle.maildir_commands.proofs.Several.{prefix_of_all, intact_of_one, on_ok_then, sound_of_one}
+use Rattle.maildir_commands.proofs.Several.{on_err_then, on_ok_then, prefix_of_all}
 
 -- where `?` answered this fault
 pub source_ended : (answer : Result Unit Fault) {fault : Fault} {before after was is : Bytes} {old new : SeenMaildir}
@@ -52,25 +53,21 @@ source_handed {was = was} {given} {kept} keeps did (Err fault) is_output =
     not_printed did.keeps did.printed.report did.printed.said is_output (prefix_of_all was kept line)
 
 -- ---- a text that the source may have had, and for which the Maildir is sound
-one_stopped : (before after was is : Bytes) (old new : SeenMaildir) → old.honest → (text : Mailbox) → IsMailbox text
-    → Possible before after text.bytes → IsSoundFor (text ∷ []) old.held → (answer : Result Unit Fault)
-    → IfErr answer (λ fault. Keeps was is ⊎ ((report : Report) × StoresSource report before after old new × AppendsPrefix was is (report_line report)))
-    → OnErr answer (Keeps was is ⊎ PrintsOne old.held new.held text was is)
-one_stopped before after was is old new h text are possible is_sound (Ok _) prefix = tt
-one_stopped before after was is old new h text are possible is_sound (Err _) (inl keeps) = inl keeps
-one_stopped before after was is old new h text are possible is_sound (Err _) (inr (report, stored, prefix)) =
-    let stores = stored.texts h text are possible (sound_of_one is_sound) in
-    inr (record { report = report; true_of = of_reports stores.reports; safe = stores.safe (intact_of_one is_sound); line = prefix })
+module _ (was is : Bytes) {before after : Bytes} {old new : SeenMaildir} (h : old.honest) (text : Mailbox) (are : IsMailbox text)
+    (possible : Possible before after text.bytes) (sound : All (IsSoundAt old.held.files) text.messages)
+    (intact : AreIntact text.messages old.held.may_leave) where
+  one_stopped : Keeps was is ⊎ ((report : Report) × StoresSource report before after old new × AppendsPrefix was is (report_line report))
+      → Keeps was is ⊎ PrintsOne old.held new.held text was is
+  one_stopped (inl keeps) = inl keeps
+  one_stopped (inr (report, stored, prefix)) =
+      let stores = stored.texts h text are possible sound in
+      inr (record { report = report; true_of = of_reports stores.reports; safe = stores.safe intact; line = prefix })
 
-module _ {before after was is : Bytes} {old new : SeenMaildir} (h : old.honest) (text : Mailbox) (are : IsMailbox text)
-    (possible : Possible before after text.bytes) (is_sound : IsSoundFor (text ∷ []) old.held) where
   pub one_of : {answer : Result Unit Fault} → DeliversSource answer before after was is old new → DeliversOne answer text old.held new.held was is
   one_of {answer} did =
-      let sound = sound_of_one is_sound in
-      let kept = did.keeps.texts h text are possible in
       let stores = λ (printed : PrintsReport was is (λ report. StoresSource report before after old new)). printed.said.texts h text are possible sound in
       record {
-        safe = on_ok_then answer (λ printed. (stores printed).safe (intact_of_one is_sound)) did.printed;
+        safe = on_ok_then answer (λ printed. (stores printed).safe intact) did.printed;
         line = on_ok_then answer (λ printed. record {
           report = printed.report;
           line = printed.line;
@@ -78,7 +75,8 @@ module _ {before after was is : Bytes} {old new : SeenMaildir} (h : old.honest) 
         }) did.printed;
         known = on_ok_then answer (λ printed. (stores printed).known) did.printed;
         swept = on_ok_then answer (λ printed. (stores printed).swept) did.printed;
-        stopped = one_stopped before after was is old new h text are possible is_sound answer did.prefix;
-        stays = λ others named alike. kept.stays sound others named (All-head (λ (t : Mailbox). AreAlike others t.messages) text [] alike);
+        stopped = on_err_then answer one_stopped did.prefix;
+        stays = λ others named alike.
+            (did.keeps.texts h text are possible).stays sound others named (All-head (λ (t : Mailbox). AreAlike others t.messages) text [] alike);
         still_rooted = did.keeps.still_rooted h;
       }

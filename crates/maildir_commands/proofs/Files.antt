@@ -1,5 +1,5 @@
 -- Files that are delivered one after the other, once a first source was.
-use Rattle.std.proofs.Common.{◌≡◌, ℕ, ◌+◌, ◌<◌, ◌⊎◌, List, ◌∷◌, length, get_or, map, Contains, Option, Some, Result, Ok, Err, IsErrAnd}
+use Rattle.std.proofs.Common.{◌≡◌, ℕ, ◌+◌, ◌<◌, ◌⊎◌, List, ◌∷◌, length, get_or, map, Contains, Some, Result, Ok, Err, IsErrAnd}
 use Rattle.std.proofs.Common.{sym, ap, subst, ◌∙◌, arith, add-one}
 use Rattle.maildir_commands.proofs.Common.{AreFit, Bytes, DeliversFiles, DeliversOne, DeliversSource, Fault, IsOfFiles, IsSoundFor, KeepsForeign, Mailbox}
 use Rattle.maildir_commands.proofs.Common.{OpensSources, PrintsReports, Run, SeenMachine, SeenMaildir, Source, bytes_of, get_or-map, length-map}
@@ -10,7 +10,7 @@ use Rattle.maildir_commands.proofs.Delivered.{all_delivered, more_delivered, sto
 use Rattle.maildir_commands.proofs.Delivering.{one_of}
 use Rattle.maildir_commands.proofs.Reports.{more_reports, none_reported, one_report}
 use Rattle.maildir_commands.proofs.Resting.{opens_none, opens_then}
-use Rattle.maildir_commands.proofs.Several.{UpTo, after_length, first_text, none_printed, possible_whole, sound_of, text_after, text_at, text_read}
+use Rattle.maildir_commands.proofs.Several.{UpTo, after_length, first_text, none_printed, possible_whole, text_after, text_at, text_read}
 
 -- where `?` answered this fault
 pub files_ended : (answer : Result Unit Fault) {fault : Fault} {first : Bytes} {files : List (List ℕ)} {old new : SeenMachine}
@@ -79,8 +79,9 @@ module _ {n : ℕ} {first : Bytes} {files : List (List ℕ)} {old now : SeenMach
           → DeliversOne answer (text_at texts n) work.held new.held mid is
       one did h s texts given fit sound =
           let text = this.text h texts given in
-          one_of (so_far.honest h s) (text_at texts n) (fit.are n _ text.0) (possible_whole _ _ text.1 did.keeps.budget)
-          (sound_of text.0 (so_far.delivers h s texts given fit sound).sound) did
+          let is_sound = (so_far.delivers h s texts given fit sound).sound in
+          one_of mid is (so_far.honest h s) (text_at texts n) (fit.are n _ text.0) (possible_whole _ _ text.1 did.keeps.budget)
+          (is_sound.sound n _ text.0) (is_sound.intact n _ text.0) did
 
       -- it was delivered, or was not
       pub more : DeliversSource (Ok tt) before after mid is work new → SoFar (n + 1) first files old next start new was is

@@ -1,6 +1,6 @@
 -- What a buffer is given, and what it hands on.
 use Rattle.std.proofs.Common.{◌≡◌, ℕ, List, [], ◌++◌, length, take, refl, sym, ap, subst, ◌∙◌, append-nil}
-use Rattle.std.proofs.Common.{Option, Some, None, Result, Ok, Err, IsErr, OnOk}
+use Rattle.std.proofs.Common.{Some, None, Result, Ok, Err, IsErr, OnOk}
 use Rattle.std.proofs.Math.Seq.{take-length}
 use Rattle.maildir_commands.proofs.Common.{Appends, Appends-kept, Appends-nil, AppendsPrefix, AreAllSafe, AreTrueOf, Bytes, GivesAll, GivesPrefix}
 use Rattle.maildir_commands.proofs.Common.{HeldMaildir, IsAtEnd, Mailbox, PrintsEach, PrintsReports, PrintsSome, WritesAll, WritesPrefix, flat_map}

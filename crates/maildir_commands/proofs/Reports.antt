@@ -1,5 +1,5 @@
 -- Lines of runs that are printed one after the other.
-use Rattle.std.proofs.Common.{◌≡◌, ℕ, ◌+◌, max, arith, Option, List, [], ◌∷◌, ◌++◌, length, refl, sym, ◌∙◌, ap, subst, append-nil}
+use Rattle.std.proofs.Common.{◌≡◌, ℕ, ◌+◌, max, arith, List, [], ◌∷◌, ◌++◌, length, refl, sym, ◌∙◌, ap, subst, append-nil}
 use Rattle.maildir_commands.proofs.Common.{Appends, Appends-nil, Appends-trans, Bytes, PrintsReport, PrintsReports, Report, flat_map, flat_map-append}
 use Rattle.maildir_commands.proofs.Common.{length-append, report_line}
 

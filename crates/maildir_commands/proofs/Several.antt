@@ -1,13 +1,13 @@
 -- Several texts that are delivered one after the other.
-use Rattle.std.proofs.Common.{◌≡◌, ℕ, suc, ◌+◌, ◌<◌, ◌≤◌, ◌⊎◌, List, [], ◌∷◌, ◌++◌, length, get_or, map, take, All, Option, Some, None}
+use Rattle.std.proofs.Common.{◌≡◌, ℕ, suc, ◌+◌, ◌<◌, ◌≤◌, ◌⊎◌, List, [], ◌∷◌, ◌++◌, length, get_or, map, take, All, Some, None}
 use Rattle.std.proofs.Common.{Result, OnOk, OnErr, Ok, Err, refl, sym, ap, subst, ◌∙◌, inl, inr, arith, add-one, append-nil, append_assoc}
-use Rattle.maildir_commands.proofs.Common.{All-cons, All-head, All-nil, All-take, Appends, Appends-kept, Appends-nil, Appends-trans, AppendsPrefix}
-use Rattle.maildir_commands.proofs.Common.{AreAlike, AreAllSafe, AreFit, AreIntact, AreSafe, AreTrueOf, Bytes, DeliversOne, Files, HasAlso, HeldMaildir}
+use Rattle.maildir_commands.proofs.Common.{All-cons, All-nil, All-take, Appends, Appends-kept, Appends-nil, Appends-trans, AppendsPrefix}
+use Rattle.maildir_commands.proofs.Common.{AreAlike, AreAllSafe, AreFit, AreSafe, AreTrueOf, Bytes, DeliversOne, Files, HasAlso, HeldMaildir}
 use Rattle.maildir_commands.proofs.Common.{IsMailbox, IsReportOf, IsSafeIn, IsSoundFor, Mailbox, OthersStay, Possible, PrintsEach, PrintsOne, PrintsReport}
 use Rattle.maildir_commands.proofs.Common.{PrintsSome, ReadsAtMost, Report, Rests, Stays, bytes_of, cases_order, flat_map, flat_map-append, get_or-map}
 use Rattle.maildir_commands.proofs.Common.{get_or-take, get_or_default, length-map, length-take, report_line, take_all, take_more}
 use Rattle.std.specs.Io.KnownBytes.{Keeps}
-use Rattle.maildir_run.specs.Delivery.{Message, AreNamed, IsSoundAt, IsSwept, has_home, leftover_count}
+use Rattle.maildir_run.specs.Delivery.{Message, AreNamed, IsSwept, has_home, leftover_count}
 use Rattle.maildir_run.proofs.Chains.MessageLemmas.{text_named}
 use Rattle.maildir_disk.proofs.Kept.Others.{stays_acted, stays_then}
 use Rattle.maildir_commands.proofs.Known.{Agree, also_agree, also_all, also_all-last, left_after, rests_has, rests_left, swept_none}
@@ -304,16 +304,3 @@ on_ok (Err e) h = tt
 pub both_of : {A E : Type 0} (answer : Result A E) (P Q : Type 0) → OnOk answer P → OnOk answer Q → OnOk answer (P × Q)
 both_of (Ok x) P Q p q = (p, q)
 both_of (Err e) P Q p q = tt
-
--- ---- one text of them
-pub sound_of : {texts : List Mailbox} {maildir : HeldMaildir} {n : ℕ} → n < length texts → IsSoundFor texts maildir → IsSoundFor (text_at texts n ∷ []) maildir
-sound_of {maildir = maildir} {n} inside is = record {
-  sound = all_one (λ (t : Mailbox). All (IsSoundAt maildir.files) t.messages) (is.sound n no_text inside);
-  intact = all_one (λ (t : Mailbox). AreIntact t.messages maildir.may_leave) (is.intact n no_text inside);
-}
-
-pub sound_of_one : {text : Mailbox} {maildir : HeldMaildir} → IsSoundFor (text ∷ []) maildir → All (IsSoundAt maildir.files) text.messages
-sound_of_one {text} {maildir} is = All-head (λ (t : Mailbox). All (IsSoundAt maildir.files) t.messages) text [] is.sound
-
-pub intact_of_one : {text : Mailbox} {maildir : HeldMaildir} → IsSoundFor (text ∷ []) maildir → AreIntact text.messages maildir.may_leave
-intact_of_one {text} {maildir} is = All-head (λ (t : Mailbox). AreIntact t.messages maildir.may_leave) text [] is.intact

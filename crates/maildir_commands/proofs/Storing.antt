@@ -1,30 +1,55 @@
 -- What is kept in a Maildir through a run, and through the sync after it.
-use Rattle.std.proofs.Common.{Result, IsErr, Ok, Err, IfOk}
-use Rattle.maildir_commands.proofs.Common.{Acts, Files, IsMailbox, IsRun, KeepsText, LeftByOthers, Mailbox, Report, RunFault, World, false≢true}
-use Rattle.maildir_run.specs.Cuts.{Follows}
-use Rattle.maildir_run.specs.Tasks.{Listings, Performs, leaving, planned_tasks}
+use Rattle.std.proofs.Common.{Result, IsErr, Ok, Err, IfOk, sym, subst, ◌^◌}
+use Rattle.maildir_commands.proofs.Common.{Bytes, Files, KeepsForeign, KeepsSource, Report, RunFault, false≢true, seen_folder}
+use Rattle.maildir_run.specs.Converting.{Converts}
+use Rattle.maildir_disk.specs.declared.disk_folder.DiskFolder.{DiskFolder}
+use Rattle.maildir_disk.specs.declared.system.System.{Ghosts}
+use Rattle.maildir_disk.specs.Seen.{SyncsMaildir, seen_of}
 use Rattle.maildir_disk.proofs.Kept.Others.{stays_after_run, stays_after_both}
 use Rattle.maildir_disk.proofs.Kept.Safety.{intact_after_run, intact_after_both, survive_after_run, survive_after_both}
 
-module _ (text : Mailbox) (is : IsMailbox text) (old : Files) (before between : Files → Type 0) (answer : Result Report RunFault)
-    (left : Follows (λ was now. (names : Listings) × Performs leaving (planned_tasks names text.messages) was answer now) before between)
-    (rooted rooted' : Type 0) where
-  pub kept_by_run : (mid : Files) → IsRun text.bytes old answer mid
-      → KeepsText text (record { files = old; may_leave = before; rooted = rooted }) (record { files = mid; may_leave = between; rooted = rooted' })
-  kept_by_run mid owes = record {
-    intact = intact_after_run text.bytes text.messages is.are is.small before between answer left;
-    still = λ others named alike. survive_after_run text.bytes text.messages is.are is.small others before between answer named alike left;
-    stays = λ sound others named alike.
-        stays_after_run text.bytes text.messages is.are is.small others named alike old mid before between answer owes sound left;
+module _ {S File : Type 0} (f : Ghosts S File) (old mid : DiskFolder S) {before after : Bytes} {answer : Result Report RunFault}
+    (run : Converts before after (2 ^ 40) (seen_of f old) (seen_of f mid) answer) where
+  abbrev was : Files → Type 0
+  was = (f.at old.system).may_leave
+
+  abbrev is : Files → Type 0
+  is = (f.at mid.system).may_leave
+
+  pub kept_by_run : KeepsSource before after (seen_folder f old) (seen_folder f mid)
+  kept_by_run = record {
+    budget = run.budget;
+    still_rooted = run.still_rooted;
+    texts = λ h text fits p.
+        let left = run.left h text.bytes text.messages p fits.are in
+        record {
+          intact = intact_after_run text.bytes text.messages fits.are fits.small was is answer left;
+          still = λ others named alike. survive_after_run text.bytes text.messages fits.are fits.small others was is answer named alike left;
+          stays = λ sound others named alike.
+              stays_after_run text.bytes text.messages fits.are fits.small others named alike _ _ was is answer
+              (run.owes h text.bytes fits.small p) sound left;
+        };
+    foreign = run.others;
   }
 
-  pub kept_by_both : (mid new : World) (now : Files → Type 0) → IsRun text.bytes old answer mid.files → Acts mid new → Follows LeftByOthers between now
-      → KeepsText text (record { files = old; may_leave = before; rooted = rooted }) (record { files = new.files; may_leave = now; rooted = rooted' })
-  kept_by_both mid new now owes acts beside = record {
-    intact = intact_after_both text.bytes text.messages is.are is.small before between now answer left beside;
-    still = λ others named alike. survive_after_both text.bytes text.messages is.are is.small others before between now answer named alike left beside;
-    stays = λ sound others named alike.
-        stays_after_both text.bytes text.messages is.are is.small others named alike old mid new before between now answer owes sound left acts beside;
+  pub kept_by_both : (new : DiskFolder S) {A E : Type 0} {synced : Result A E} → SyncsMaildir f mid.system synced new.system
+      → KeepsSource before after (seen_folder f old) (seen_folder f new)
+  kept_by_both new sync = record {
+    budget = run.budget;
+    still_rooted = λ h rooted. sync.still_rooted (run.honest h) (run.still_rooted h rooted);
+    texts = λ h text fits p.
+        let left = run.left h text.bytes text.messages p fits.are in
+        let acts = sync.acts (run.honest h) in
+        let now = (f.at new.system).may_leave in
+        let beside = sync.left (run.honest h) in
+        record {
+          intact = intact_after_both text.bytes text.messages fits.are fits.small was is now answer left beside;
+          still = λ others named alike. survive_after_both text.bytes text.messages fits.are fits.small others was is now answer named alike left beside;
+          stays = λ sound others named alike.
+              stays_after_both text.bytes text.messages fits.are fits.small others named alike _ _ _ was is now answer
+              (run.owes h text.bytes fits.small p) sound left acts beside;
+        };
+    foreign = λ q. subst (KeepsForeign _) (sym (sync.quietly (run.quiet q))) (run.others q);
   }
 
 -- `?` answers a fault, and no report

@@ -1,5 +1,5 @@
 -- What the delivery of one source owes.
-use Rattle.std.specs.Prelude.{◌≡◌, ◌⊎◌, ℕ, ◌^◌, List, All, Option, Result, IfErr, OnOk}
+use Rattle.std.specs.Prelude.{◌≡◌, ◌⊎◌, ℕ, ◌^◌, List, All, Option, Result, IfErr, OnErr, OnOk}
 use Rattle.std.specs.Io.KnownBytes.{IsAtEnd, Keeps}
 use Rattle.mbox_text.specs.Writing.{AppendsPrefix}
 use Rattle.maildir_run.specs.declared.fault.RunFault.TheVariants.{FolderFailed}
@@ -88,5 +88,4 @@ pub record DeliversSource (answer : Result Unit Fault) (before after was is : Op
   pub printed : OnOk answer (PrintsReport was is (λ report. StoresSource report before after old new))
   -- after a fault nothing was written, or the source was delivered and a prefix of its line was written
   pub stopped : IfErr answer (λ fault. StopsSource fault before after old new)
-  pub prefix : IfErr answer (λ fault. Keeps was is
-      ⊎ ((report : Report) × StoresSource report before after old new × AppendsPrefix was is (report_line report)))
+  pub prefix : OnErr answer (Keeps was is ⊎ ((report : Report) × StoresSource report before after old new × AppendsPrefix was is (report_line report)))

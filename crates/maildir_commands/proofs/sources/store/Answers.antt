@@ -1,5 +1,5 @@
-use Rattle.std.proofs.Common.{Err, IsOk, ap, sym, subst, ◌∙◌, rules}
-use Rattle.maildir_commands.proofs.Common.{IsPossibly, KeepsForeign}
+use Rattle.std.proofs.Common.{Err, IsOk, ap, sym, ◌∙◌, rules}
+use Rattle.maildir_commands.proofs.Common.{IsPossibly}
 use Rattle.maildir_run.proofs.Chains.Chains.{sound_now}
 use Rattle.maildir_disk.proofs.Kept.Safety.{safe_after_both, reports_after_run}
 use Rattle.maildir_disk.proofs.Left.Lefts.{if_ok}
@@ -14,13 +14,7 @@ returns-in_err-report g c =
     let run = c.convert.ensures in
     let failed = c.in_err-report.ensures in
     record {
-      keeps = record {
-        budget = run.budget;
-        still_rooted = run.still_rooted;
-        texts = λ h text is p.
-            kept_by_run text is _ _ _ c.convert.result (run.left h text.bytes text.messages p is.are) _ _ _ (run.owes h text.bytes is.small p);
-        foreign = run.others;
-      };
+      keeps = kept_by_run g.S.System c.args.folder.now c.convert.new.folder run;
       stored = no_report c.from_residual.result _ c.from_residual.ensures.0;
       stopped = of_fault _ _ c.from_residual.ensures.1 (record {
         cause =
@@ -37,15 +31,7 @@ returns-in_err-map_err g c =
     let run = c.convert.ensures in
     let sync = c.sync.ensures.syncs in
     record {
-      keeps = record {
-        budget = run.budget;
-        still_rooted = λ h rooted. sync.still_rooted (run.honest h) (run.still_rooted h rooted);
-        texts = λ h text is p.
-            let still = run.honest h in
-            kept_by_both text is _ _ _ c.convert.result (run.left h text.bytes text.messages p is.are) _ _ _ _ _
-            (run.owes h text.bytes is.small p) (sync.acts still) (sync.left still);
-        foreign = λ q. subst (KeepsForeign _) (sym (sync.quietly (run.quiet q))) (run.others q);
-      };
+      keeps = kept_by_both g.S.System c.args.folder.now c.convert.new.folder run c.sync.new.self sync;
       stored = no_report c.from_residual-in_err-map_err.result _ c.from_residual-in_err-map_err.ensures.0;
       stopped = search rules;
     }
@@ -59,15 +45,7 @@ returns g c =
     let report = c.in_ok-report.report in
     let ok : IsOk c.sync.result = sym c.in_ok-map_err.ensures.variant in
     record {
-      keeps = record {
-        budget = run.budget;
-        still_rooted = λ h rooted. sync.still_rooted (run.honest h) (run.still_rooted h rooted);
-        texts = λ h text is p.
-            let still = run.honest h in
-            kept_by_both text is _ _ _ c.convert.result (run.left h text.bytes text.messages p is.are) _ _ _ _ _
-            (run.owes h text.bytes is.small p) (sync.acts still) (sync.left still);
-        foreign = λ q. subst (KeepsForeign _) (sym (sync.quietly (run.quiet q))) (run.others q);
-      };
+      keeps = kept_by_both g.S.System c.args.folder.now c.convert.new.folder run c.sync.new.self sync;
       stored = record {
         end = done.end;
         calls = rw c.sync.ensures.calls done.calls;
