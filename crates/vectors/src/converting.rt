@@ -4,8 +4,8 @@ use crate::runs::{Answer, folder_of, run_from, run_over, same_files};
 use crate::scripts::{Run, Scene, go, go_all};
 use crate::sources::{Cut, FAULTY, LIMIT};
 use crate::texts::{
-    ABC, ABC_LINE, ABC_OLD, EMPTY_ONE, EMPTY_TWO, File, HELLO_LINE, ONE_SEEN, REFUSED, TEXTS,
-    THREE, TWO_EMPTY, TWO_LINES, Text, UNENDED,
+    ABC, ABC_LINE, ABC_OLD, EMPTY_ONE, EMPTY_TWO, File, HELLO_LINE, ONE_SEEN, REFUSED, THREE,
+    TWO_EMPTY, TWO_LINES, Text, UNENDED, texts,
 };
 use maildir_run::{FolderFault, MemFolder, RunFault, Sub};
 use std::alloc::Global;
@@ -92,7 +92,7 @@ fn deliver_twice(alloc: Global, text: &Text<'_>) -> Result<(), Fail> {
 
 #[test]
 fn quiet_runs(rt: HostRuntime) -> Result<(), Fail> {
-    for text in TEXTS {
+    for text in texts() {
         deliver_twice(rt.alloc(), text)?;
     }
     for &(name, text) in REFUSED {

@@ -3,7 +3,7 @@ ghost use Rattle.std.specs.Prelude.{◌<◌};
 
 use crate::messages::{feed_pieces, finish_into, same_answer, same_messages};
 use crate::rows::same;
-use crate::texts::{Message, TEXTS};
+use crate::texts::{Message, texts};
 use mbox_text::{Entry, Splitter, TextFault};
 use std::alloc::Global;
 use std::test::Fail;
@@ -22,7 +22,7 @@ fn split_pieces(alloc: Global, text: &[u8], size: usize) -> Result<Vec<Entry>, T
 // Pieces of eleven bytes cut the text of `quoting` after its first `>Fro`.
 #[test]
 fn any_pieces(rt: HostRuntime) -> Result<(), Fail> {
-    for text in TEXTS {
+    for text in texts() {
         for size in [1, 11] {
             let answer = split_pieces(rt.alloc(), text.text, size);
             same_answer(&(text.name, size), answer, text.messages)?;

@@ -25,14 +25,6 @@ pub(crate) fn same<N: Debug, T: Debug + PartialEq>(
     Err(Fail::new(format_args!("row {row:?}: got {got:?}, wanted {wanted:?}")))
 }
 
-/// Bytes, if there are any.
-pub(crate) fn shown_if_any(bytes: Option<&[u8]>) -> Option<Shown<'_>> {
-    match bytes {
-        Some(bytes) => Some(Shown(bytes)),
-        None => None,
-    }
-}
-
 /// The same of bytes.
 pub(crate) fn same_bytes<N: Debug>(row: &N, got: &[u8], wanted: &[u8]) -> Result<(), Fail> {
     same(row, &Shown(got), &Shown(wanted))

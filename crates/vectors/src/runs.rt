@@ -1,5 +1,5 @@
 // Runs over a folder, and the files that it has.
-use crate::rows::{Shown, same, shown_if_any};
+use crate::rows::{Shown, same};
 use crate::sources::{Cut, LIMIT};
 use crate::texts::File;
 use maildir_run::{Folder, FolderFault, MemFolder, Report, RunFault, Sub, convert};
@@ -65,7 +65,7 @@ pub(crate) fn same_files<N: Debug>(
     files: &[File<'_>],
 ) -> Result<(), Fail> {
     for &(sub, name, bytes) in files {
-        let got = shown_if_any(folder.bytes_of(sub, name));
+        let got = folder.bytes_of(sub, name).map(Shown);
         same(&(row, name), &got, &Some(Shown(bytes)))?;
     }
     let in_all = folder

@@ -1,6 +1,6 @@
 // What is written of a message, and a writer that fails.
 use crate::rows::{Shown, same};
-use crate::texts::{Message, TEXTS};
+use crate::texts::{Message, texts};
 use crate::writers::{FULL, Narrow};
 use mbox_text::{Bytes, Entry, TextFault, write_entry};
 use std::alloc::{AllocError, Global};
@@ -41,7 +41,7 @@ fn writes<N: Debug>(
 #[test]
 fn spellings(rt: HostRuntime) -> Result<(), Fail> {
     let alloc = rt.alloc();
-    for text in TEXTS {
+    for text in texts() {
         for piece in [1, 1000] {
             let row = (text.name, piece);
             let narrow = Narrow::new(alloc, 1000, piece, true);

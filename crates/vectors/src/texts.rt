@@ -58,7 +58,7 @@ pub(crate) struct Text<'a> {
     pub files: &'a [File<'a>],
 }
 
-pub(crate) const TEXTS: &[Text<'_>] = &[
+const TEXTS: &[Text<'_>] = &[
     Text {
         name: "empty_text",
         text: b"",
@@ -220,6 +220,11 @@ pub(crate) const TEXTS: &[Text<'_>] = &[
         )],
     },
 ];
+
+/// The worked texts. A function hands them out, so that the prover reads their bytes once and not in each test.
+pub(crate) fn texts() -> &'static [Text<'static>] {
+    TEXTS
+}
 
 /// What is no mbox text.
 pub(crate) const REFUSED: &[(&str, &[u8])] = &[

@@ -1,7 +1,7 @@
 // What is written of a text: a list of its messages, or its regular spelling.
 use crate::rows::{Shown, same};
 use crate::sources::{Cut, FAULTY, LIMIT};
-use crate::texts::{TEXTS, TWO_LINES, UNENDED};
+use crate::texts::{TWO_LINES, UNENDED, texts};
 use crate::writers::{FULL, Narrow};
 use maildir_run::{RunFault, list_text, rewrite};
 use std::alloc::Global;
@@ -40,7 +40,7 @@ fn writes<N: Debug>(
 #[test]
 fn worked_texts(rt: HostRuntime) -> Result<(), Fail> {
     let alloc = rt.alloc();
-    for text in TEXTS {
+    for text in texts() {
         let answer = Ok(text.messages.len() as u64);
         for (form, written) in [(Form::List, text.list), (Form::Spelling, text.spelling)] {
             for piece in [1, 11, 65_536] {

@@ -5,7 +5,7 @@ use crate::from_lines::{BUILT, build};
 use crate::messages::{are_first, feed_pieces, finish_into, same_answer};
 use crate::rows::same;
 use crate::splitting::refuses;
-use crate::texts::{Message, REFUSED, TEXTS};
+use crate::texts::{Message, REFUSED, texts};
 use mbox_text::{Splitter, TextFault, split_all};
 use std::alloc::Global;
 use std::test::Fail;
@@ -20,7 +20,7 @@ fn build_from_again(rt: HostRuntime) -> Result<(), Fail> {
 
 #[test]
 fn split_all_again(rt: HostRuntime) -> Result<(), Fail> {
-    for text in TEXTS {
+    for text in texts() {
         let answer = match split_all(rt.alloc(), text.text) {
             Err(TextFault::OutOfMemory) => split_all(rt.alloc(), text.text),
             answer => answer,
@@ -73,7 +73,7 @@ fn comes_again(
 
 #[test]
 fn splitter_again(rt: HostRuntime) -> Result<(), Fail> {
-    for text in TEXTS {
+    for text in texts() {
         for size in [1, 11] {
             let got = comes_again(rt.alloc(), text.text, size, text.messages);
             same(&(text.name, size), &got, &Ok(true))?;
