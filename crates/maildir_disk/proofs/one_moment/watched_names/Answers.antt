@@ -4,9 +4,6 @@ use Rattle.maildir_disk.proofs.Calls.Listings.{not_watched, watch_failed, watche
 use Rattle.maildir_disk.proofs.Calls.Looking.{looks_then}
 use Rattle.maildir_disk.proofs.one_moment.watched_names.Goals as goal
 
-pub returns-in_err-names : goal.returns-in_err-names
-returns-in_err-names g c = watch_failed c.args.sub _ c.from_residual.ensures.0 c.names.ensures.looks
-
 pub returns-in_err-after : goal.returns-in_err-after
 returns-in_err-after g c =
     watch_failed c.args.sub _ c.from_residual-in_err-after.ensures.0 (looks_then c.names.ensures.looks c.stamp.ensures.looks)
