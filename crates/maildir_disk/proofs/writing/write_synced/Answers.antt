@@ -25,18 +25,16 @@ loop-preserved g c = elim c.match-append.branch [
 ]
 
 pub returns-in_err-file : goal.returns-in_err-file
-returns-in_err-file g c = not_made _ c.from_residual.ensures.0 c.in_err-file.ensures.makes
+returns-in_err-file g c = search (rules, not_made)
 
 pub returns-then-at-bytes : goal.returns-then-at-bytes
-returns-then-at-bytes g c =
-    synced _ (rw (take_all c.loop.at c.args.bytes.now (search rules)) at c.loop.invariant.so_far)
-    c.sync_file.ensures.looks c.sync_file.ensures.kept
+returns-then-at-bytes g c = search (rules, take_all, synced)
 
 pub returns-in-Ok-eq0 : goal.returns-in-Ok-eq0
-returns-in-Ok-eq0 g c = append_given_up _ _ refl c.loop.invariant.so_far c.append.ensures.appends
+returns-in-Ok-eq0 g c = search (rules, append_given_up)
 
 pub returns-then-ne : goal.returns-then-ne
-returns-then-ne g c = append_given_up _ _ refl c.loop.invariant.so_far c.append.ensures.appends
+returns-then-ne g c = search (rules, append_given_up)
 
 pub returns : goal.returns
 returns g c = given_up _ refl c.loop.invariant.so_far
