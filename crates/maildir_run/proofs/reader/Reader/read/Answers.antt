@@ -1,15 +1,10 @@
-use Rattle.std.proofs.Common.{◌≡◌, Err, vec_len, length, take, arith, ap, length-take-le}
+use Rattle.std.proofs.Common.{◌≡◌, Err, vec_len, length, take, arith, ap, length-take-le, rules}
 use Rattle.maildir_run.proofs.Common.{with_items_is}
 use Rattle.maildir_run.proofs.Source.Unread.{breaks_went, finish_breaks, feed_breaks}
 use Rattle.maildir_run.proofs.reader.Reader.read.Goals as goal
 
 pub returns-in_err-finish-clause-went : goal.returns-in_err-finish-clause-went
-returns-in_err-finish-clause-went g c =
-    let gave = c.in_ok-n.ensures.gave in
-    breaks_went c.args.self.now _ _ _ _ _ c.from_residual-in_err-finish.result
-    c.from_residual-in_err-finish.ensures.0 c.from_residual-in_err-finish.ensures.1
-    (finish_breaks c.args.self.now _ c.in_err-finish.ensures.causes (rw c.if-n-eq0.true at gave.1) (gave.2 c.if-n-eq0.true)
-    (λ e text given taken. c.in_err-finish.ensures.no_from_line (ap Err e) text given (rw c.replace-splitter.ensures.value taken)))
+returns-in_err-finish-clause-went g c = search (rules, breaks_went, finish_breaks)
 
 pub returns-in_err-feed-clause-went : goal.returns-in_err-feed-clause-went
 returns-in_err-feed-clause-went g c =
