@@ -1,5 +1,5 @@
 -- What the delivery of one source owes, as the work goes on.
-use Rattle.std.proofs.Common.{◌≡◌, ◌⊎◌, [], All, Result, Ok, Err, IfErr, IsErrAnd, sym, subst, inl, inr}
+use Rattle.std.proofs.Common.{◌≡◌, ◌⊎◌, [], All, Result, Ok, Err, IfErr, inl, inr}
 use Rattle.maildir_commands.proofs.Common.{All-head, Appends-kept, AppendsPrefix, AreAlike, AreIntact, Bytes, DeliversOne, DeliversSource, Fault, IsMailbox}
 use Rattle.maildir_commands.proofs.Common.{Keeps-refl, KeepsSource, Mailbox, Possible, PrintsOne, PrintsReport, Report, Run, SeenMaildir}
 use Rattle.maildir_commands.proofs.Common.{StopsSource, StoresSource, report_line}
@@ -9,13 +9,6 @@ use Rattle.maildir_run.specs.declared.fault.RunFault.TheVariants as run
 use Rattle.maildir_commands.proofs.Causes.{of_output, output_no_call}
 use Rattle.maildir_commands.proofs.Known.{of_reports}
 use Rattle.maildir_commands.proofs.Several.{on_err_then, on_ok_then, prefix_of_all}
-
--- where `?` answered this fault
-pub source_ended : (answer : Result Unit Fault) {fault : Fault} {before after was is : Bytes} {old new : SeenMaildir}
-    → IsErrAnd answer (λ given. given ≡ fault) → DeliversSource (Err fault) before after was is old new → DeliversSource answer before after was is old new
-source_ended (Ok x) given did = absurd given
-source_ended (Err e) {before = before} {after} {was} {is} {old} {new} given did =
-    subst (λ fault. DeliversSource (Err fault) before after was is old new) (sym given) did
 
 -- a writer that failed is no call that failed
 pub stops_output : {fault : Fault} {before after : Bytes} {old new : SeenMaildir} → fault ≡ Run run.OutputFault

@@ -2,14 +2,8 @@
 use Rattle.std.proofs.Common.{◌≡◌, ℕ}
 
 -- one status is no other
-pub zero_no_two : ¬ (◌≡◌ {A = ℕ} 0 2)
-zero_no_two e = cc
-
 pub one_no_zero : ¬ (◌≡◌ {A = ℕ} 1 0)
 one_no_zero e = cc
-
-pub one_no_two : ¬ (◌≡◌ {A = ℕ} 1 2)
-one_no_two e = cc
 
 pub two_no_zero : ¬ (◌≡◌ {A = ℕ} 2 0)
 two_no_zero e = cc

@@ -1,6 +1,6 @@
 -- What a buffer is given, and what it hands on.
 use Rattle.std.proofs.Common.{◌≡◌, ℕ, List, [], ◌++◌, length, take, refl, sym, ap, subst, ◌∙◌, append-nil}
-use Rattle.std.proofs.Common.{Some, None, Result, Ok, Err, IsErr, OnOk}
+use Rattle.std.proofs.Common.{Some, None}
 use Rattle.std.proofs.Math.Seq.{take-length}
 use Rattle.maildir_commands.proofs.Common.{Appends, Appends-kept, Appends-nil, AppendsPrefix, AreAllSafe, AreTrueOf, Bytes, GivesAll, GivesPrefix}
 use Rattle.maildir_commands.proofs.Common.{HeldMaildir, IsAtEnd, Mailbox, PrintsEach, PrintsReports, PrintsSome, WritesAll, WritesPrefix, flat_map}
@@ -58,8 +58,3 @@ each_some {old} {new} {texts} {was} {given} {kept} keeps each safe =
 -- where nothing was written
 pub nothing_prefix : (output : List Entry → List ℕ) (t : List ℕ) (was : Bytes) → WritesPrefix output t was was
 nothing_prefix output t was entries mbox = ([], output entries, refl, Appends-nil was)
-
--- `?` answers a fault
-pub no_value : {A E : Type 0} (answer : Result A E) (Q : Type 0) → IsErr answer → OnOk answer Q
-no_value (Ok x) Q is = cc
-no_value (Err e) Q is = tt

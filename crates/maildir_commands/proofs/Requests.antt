@@ -1,5 +1,5 @@
 -- What is owed for a request, as the work goes on.
-use Rattle.std.proofs.Common.{◌≡◌, ◌⊎◌, ◌*◌, ◌^◌, IsOk, ℕ, List, [], Option, Some, None, Result, Ok, Err, IsErrAnd, OnErr, OnOk, IfErr, refl, sym, ap, subst}
+use Rattle.std.proofs.Common.{◌≡◌, ◌⊎◌, ◌*◌, ◌^◌, ℕ, List, [], Option, Some, None, Result, Ok, Err, IsErrAnd, OnErr, OnOk, IfErr, refl, sym, ap, subst}
 use Rattle.maildir_commands.proofs.Common.{AreAllSafe, AskFor, Bytes, Delivers, Did, Does, Fault, Form, HeldMaildir, IfErr-weaker, IsCauseOf, IsKnown}
 use Rattle.maildir_commands.proofs.Common.{Mailbox, MayHaveHad, OpensSources, Possible, PrintsEach, ReadsAtMost, Request, Run, RunFault, Seen, SeenMachine}
 use Rattle.maildir_commands.proofs.Common.{Source, ToConvert, ToWrite, Works, WritesAll, WritesMessages, files_of, output_of, seen_with, source_of}
@@ -185,9 +185,3 @@ module _ (old : Seen) (machine : SeenMachine) (input given kept : Bytes) (keeps 
         texts = does.texts;
         honest = λ h. both_ok answer handed (λ honest. honest) (does.honest h);
       })
-
--- and where all was done, all was handed on
-pub both_done : {P : Type 0} (ending answer handed : Result Unit Fault) → ending ≡ result_and answer handed → IsOk ending → OnOk handed P → P
-both_done ending (Ok _) (Ok _) is ok h = h
-both_done ending (Ok _) (Err _) is ok h = cc
-both_done ending (Err _) handed is ok h = cc

@@ -1,6 +1,6 @@
 -- What is kept in a Maildir through a run, and through the sync after it.
-use Rattle.std.proofs.Common.{Result, IsErr, Ok, Err, IfOk, sym, subst, ◌^◌}
-use Rattle.maildir_commands.proofs.Common.{Bytes, Files, KeepsForeign, KeepsSource, Report, RunFault, false≢true, seen_folder}
+use Rattle.std.proofs.Common.{Result, sym, subst, ◌^◌}
+use Rattle.maildir_commands.proofs.Common.{Bytes, Files, KeepsForeign, KeepsSource, Report, RunFault, seen_folder}
 use Rattle.maildir_run.specs.Converting.{Converts}
 use Rattle.maildir_disk.specs.declared.disk_folder.DiskFolder.{DiskFolder}
 use Rattle.maildir_disk.specs.declared.system.System.{Ghosts}
@@ -51,8 +51,3 @@ module _ {S File : Type 0} (f : Ghosts S File) (old mid : DiskFolder S) {before 
         };
     foreign = λ q. subst (KeepsForeign _) (sym (sync.quietly (run.quiet q))) (run.others q);
   }
-
--- `?` answers a fault, and no report
-pub no_report : {A E : Type 0} (answer : Result A E) (P : A → Type 0) → IsErr answer → IfOk answer P
-no_report (Ok x) P is = absurd (false≢true is)
-no_report (Err e) P is = tt

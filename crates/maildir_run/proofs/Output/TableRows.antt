@@ -1,10 +1,10 @@
 -- The table of messages that are listed one after the other.
-use Rattle.std.proofs.Common.{◌≡◌, ℕ, ◌+◌, ◌^◌, ◌<◌, ◌≤◌, false, eqb, Option, Result, Ok, Err, List, [], ◌∷◌, ◌++◌, length, map, take, drop, get_or}
+use Rattle.std.proofs.Common.{◌≡◌, ℕ, ◌+◌, ◌^◌, ◌<◌, Option, Result, Ok, Err, List, [], ◌∷◌, ◌++◌, length, map, take, drop, get_or}
 use Rattle.std.proofs.Common.{refl, arith}
-use Rattle.std.proofs.Common.{arith, append_assoc, MatchResult, IsErr, append-nil, length-append, take-append-drop, take_all, length-take-le}
+use Rattle.std.proofs.Common.{arith, append_assoc, MatchResult, IsErr, append-nil, length-append, take-append-drop, length-take-le}
 use Rattle.maildir_run.proofs.Common.{Appends, Appends-nil, false≢true, length-map, map-append, take_more}
 use Rattle.maildir_run.proofs.Common.{Entry, sender, AppendsPrefix, Writes, Target, Counts, Named, targets}
-use Rattle.maildir_run.proofs.Common.{length-targets, targets-prefix, HasListed, info, place_word, shown_byte, shown_sender}
+use Rattle.maildir_run.proofs.Common.{length-targets, targets-prefix, HasListed, info, place_word, shown_sender}
 use Rattle.std.specs.Fmt.{decimal}
 use Rattle.maildir_run.specs.Table.{message_row, rows_from, table_of}
 use Rattle.maildir_run.proofs.Output.Poured.{IsOutput}
@@ -50,10 +50,6 @@ pub table-push : (given : List Entry) (e : Entry) (target : Target) → targets 
 unfolding table_of rows_from
 table-push given e target is = grind (arith, map-append, rows-append, many, append-nil)
 
--- a sender that is not empty
-pub sender-some : (sender : List ℕ) → eqb (length sender) 0 ≡ false → shown_sender sender ≡ map shown_byte sender
-sender-some sender e = grind arith
-
 -- nothing went out
 pub lists_none : (given entries : List Entry) (was : Option (List ℕ))
     → (lines : List ℕ) × (table_of (given ++ entries) ≡ table_of given ++ lines) × AppendsPrefix was was lines
@@ -77,10 +73,6 @@ pub record ListedTo (given entries : List Entry) (i : ℕ) (was is : Option (Lis
   pub out : Appends was is lines
   pub has_listed : HasListed (given ++ take i entries) namer count
 
-pub listed_to_none : {given entries : List Entry} {was : Option (List ℕ)} {namer : Counts} {count : ℕ}
-    → HasListed given namer count → ListedTo given entries 0 was was namer count
-listed_to_none {given} {was} h = grind (arith, append-nil)
-
 module _ (given entries : List Entry) (i : ℕ) (e : Entry) where
   next : i < length entries → e ≡ get_or entries i e → (given ++ take i entries) ++ e ∷ [] ≡ given ++ take (i + 1) entries
   next l is = grind (arith, append_assoc, take_more)
@@ -100,11 +92,6 @@ module _ (given entries : List Entry) (i : ℕ) (e : Entry) where
       let b = after l at in
       let f = listing_output.prefix ((given ++ take i entries) ++ e ∷ []) (drop (i + 1) entries) in
       grind (arith, append_assoc)
-
-pub listed_to_all : {given entries : List Entry} {i : ℕ} {was is : Option (List ℕ)} {namer : Counts} {count : ℕ}
-    → length entries ≤ i → ListedTo given entries i was is namer count
-    → (lines : List ℕ) × (table_of (given ++ entries) ≡ table_of given ++ lines) × Appends was is lines × HasListed (given ++ entries) namer count
-listed_to_all {entries} {i} l t = grind (arith, take_all)
 
 -- the line from its parts
 pub row-is : (index size : ℕ) (entry : Entry) (target : Target) (prefix sent line line' line'' : List ℕ)

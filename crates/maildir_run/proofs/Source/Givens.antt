@@ -93,10 +93,6 @@ pub none_whole : (items : List Entry) {n : ℕ} {b : Bool} → b ≡ (n == 0) �
 none_whole [] is on e = refl
 none_whole (x ∷ xs) {n} is on e = grind arith
 
-pub some_left : (items : List Entry) {n : ℕ} {b : Bool} → b ≡ (n == 0) → b ≡ false → n ≡ length items → 0 < length items
-some_left [] {n} {b} is off e = grind arith
-some_left (x ∷ xs) is off e = omega arith
-
 none_after : (given whole : List Entry) → given ++ whole ≡ [] → FromLines whole
 none_after [] whole e = rw e tt
 none_after (g ∷ given) whole e = absurd (cc)

@@ -1,69 +1,60 @@
-use Rattle.std.proofs.Common.{Err, IsOk, ap, sym, ◌∙◌, rules}
+use Rattle.std.proofs.Common.{Err, IsOk, ap, sym, ◌∙◌}
 use Rattle.maildir_commands.proofs.Common.{IsPossibly}
 use Rattle.maildir_run.proofs.Chains.Chains.{sound_now}
 use Rattle.maildir_disk.proofs.Kept.Safety.{safe_after_both, reports_after_run}
 use Rattle.maildir_disk.proofs.Left.Lefts.{if_ok}
 use Rattle.maildir_commands.proofs.Causes.{failed_in_run, long_possible, of_fault, of_run}
 use Rattle.maildir_commands.proofs.Known.{both_have, swept_acts}
-use Rattle.maildir_commands.proofs.Storing.{kept_by_both, kept_by_run, no_report}
+use Rattle.maildir_commands.proofs.Storing.{kept_by_both, kept_by_run}
 use Rattle.maildir_commands.proofs.sources.store.Goals as goal
 
 -- the run ended with a fault
-pub returns-in_err-report : goal.returns-in_err-report
-returns-in_err-report g c =
-    let run = c.convert.ensures in
+pub returns-in_err-report-clause-keeps : goal.returns-in_err-report-clause-keeps
+returns-in_err-report-clause-keeps g c = kept_by_run g.S.System c.args.folder.now c.convert.new.folder c.convert.ensures
+
+pub returns-in_err-report-clause-stopped : goal.returns-in_err-report-clause-stopped
+returns-in_err-report-clause-stopped g c =
     let failed = c.in_err-report.ensures in
-    record {
-      keeps = kept_by_run g.S.System c.args.folder.now c.convert.new.folder run;
-      stored = no_report c.from_residual.result _ c.from_residual.ensures.0;
-      stopped = of_fault _ _ c.from_residual.ensures.1 (record {
-        cause =
-            of_run (IsPossibly (g.I.Read.remaining c.args.source.now) (g.I.Read.remaining c.convert.new.source)) _
-            (λ e t p entries. failed.no_from_line (ap Err e) t entries p) (λ e. long_possible (failed.spent (ap Err e)));
-        failed_call = failed_in_run c.args.folder.now.calls c.convert.new.folder.calls
-            c.args.folder.now.failures c.convert.new.folder.failures c.in_err-report.field-0.0 failed.cause failed.call_number;
-      });
-    }
+    of_fault _ _ c.from_residual.ensures.1 (record {
+      cause =
+          of_run (IsPossibly (g.I.Read.remaining c.args.source.now) (g.I.Read.remaining c.convert.new.source)) _
+          (λ e t p entries. failed.no_from_line (ap Err e) t entries p) (λ e. long_possible (failed.spent (ap Err e)));
+      failed_call = failed_in_run c.args.folder.now.calls c.convert.new.folder.calls
+          c.args.folder.now.failures c.convert.new.folder.failures c.in_err-report.field-0.0 failed.cause failed.call_number;
+    })
 
 -- the sync ended with a fault
-pub returns-in_err-map_err : goal.returns-in_err-map_err
-returns-in_err-map_err g c =
-    let run = c.convert.ensures in
-    let sync = c.sync.ensures.syncs in
-    record {
-      keeps = kept_by_both g.S.System c.args.folder.now c.convert.new.folder run c.sync.new.self sync;
-      stored = no_report c.from_residual-in_err-map_err.result _ c.from_residual-in_err-map_err.ensures.0;
-      stopped = search rules;
-    }
+pub returns-in_err-map_err-clause-keeps : goal.returns-in_err-map_err-clause-keeps
+returns-in_err-map_err-clause-keeps g c =
+    kept_by_both g.S.System c.args.folder.now c.convert.new.folder c.convert.ensures c.sync.new.self c.sync.ensures.syncs
 
 -- it is done
-pub returns : goal.returns
-returns g c =
+pub returns-clause-keeps : goal.returns-clause-keeps
+returns-clause-keeps g c =
+    kept_by_both g.S.System c.args.folder.now c.convert.new.folder c.convert.ensures c.sync.new.self c.sync.ensures.syncs
+
+pub returns-clause-stored : goal.returns-clause-stored
+returns-clause-stored g c =
     let run = c.convert.ensures in
     let done = c.in_ok-report.ensures in
     let sync = c.sync.ensures.syncs in
-    let report = c.in_ok-report.report in
     let ok : IsOk c.sync.result = sym c.in_ok-map_err.ensures.variant in
     record {
-      keeps = kept_by_both g.S.System c.args.folder.now c.convert.new.folder run c.sync.new.self sync;
-      stored = record {
-        end = done.end;
-        calls = rw c.sync.ensures.calls done.calls;
-        honest = λ h. if_ok c.sync.result ok (sync.honest (run.honest h));
-        texts = λ h text is p sound.
-            let still = run.honest h in
-            let owes = done.owes h text.bytes is.small p in
-            let keeps = owes.keeps text.messages is.are (sound_now text.messages _ sound) in
-            record {
-              reports = reports_after_run text.bytes text.messages is.are is.small _ _ report owes sound;
-              known = both_have keeps (sync.acts still);
-              swept = swept_acts (sync.acts still) keeps.ends.delivered.swept;
-              safe = λ intact.
-                  safe_after_both text.bytes text.messages is.are is.small _ _ _ _ _ _ _ report c.sync.result owes sound
-                  (done.left h text.bytes text.messages p is.are) intact (sync.acts still) ok (sync.synced still) (sync.rooted still);
-            };
-        quiet = λ q. if_ok c.sync.result ok (sync.quiet (run.quiet q));
-        alone = λ q t ms p are. sync.quietly (run.quiet q) ∙ (done.alone q t ms p are).0;
-      };
-      stopped = tt;
+      end = done.end;
+      calls = rw c.sync.ensures.calls done.calls;
+      honest = λ h. if_ok c.sync.result ok (sync.honest (run.honest h));
+      texts = λ h text is p sound.
+          let still = run.honest h in
+          let owes = done.owes h text.bytes is.small p in
+          let keeps = owes.keeps text.messages is.are (sound_now text.messages _ sound) in
+          record {
+            reports = reports_after_run text.bytes text.messages is.are is.small _ _ c.in_ok-report.report owes sound;
+            known = both_have keeps (sync.acts still);
+            swept = swept_acts (sync.acts still) keeps.ends.delivered.swept;
+            safe = λ intact.
+                safe_after_both text.bytes text.messages is.are is.small _ _ _ _ _ _ _ c.in_ok-report.report c.sync.result owes sound
+                (done.left h text.bytes text.messages p is.are) intact (sync.acts still) ok (sync.synced still) (sync.rooted still);
+          };
+      quiet = λ q. if_ok c.sync.result ok (sync.quiet (run.quiet q));
+      alone = λ q t ms p are. sync.quietly (run.quiet q) ∙ (done.alone q t ms p are).0;
     }

@@ -1,27 +1,23 @@
-use Rattle.std.proofs.Common.{refl}
+use Rattle.std.proofs.Common.{refl, rules}
 use Rattle.maildir_disk.proofs.Calls.Listings.{names_taken, reading_failed}
 use Rattle.maildir_disk.proofs.Calls.Looking.{looks_then}
 use Rattle.maildir_disk.proofs.one_moment.names_of_one_moment.Goals.{else-loop-test, then-loop-test+in_ok-names+in-Wait+in_ok-instant+then-ge}
 use Rattle.maildir_disk.proofs.one_moment.names_of_one_moment.Goals as goal
 
 pub loop-preserved : goal.loop-preserved
-loop-preserved g c =
-    looks_then (looks_then c.loop.invariant c.take_names.ensures.looks) (looks_then c.instant-in-loop.ensures c.sleep.ensures)
+loop-preserved g c = search (rules, looks_then)
 
 pub returns-in_err-start : goal.returns-in_err-start
-returns-in_err-start g c = reading_failed c.args.sub _ c.from_residual.ensures.0 c.instant.ensures
+returns-in_err-start g c = search (rules, reading_failed)
 
 pub returns-in_err-names : goal.returns-in_err-names
-returns-in_err-names g c =
-    reading_failed c.args.sub _ c.from_residual-in_err-names.ensures.0 (looks_then c.loop.invariant c.take_names.ensures.looks)
+returns-in_err-names g c = search (rules, reading_failed, looks_then)
 
 pub returns-in-Taken : goal.returns-in-Taken
 returns-in-Taken g c = names_taken c.loop.invariant (rw c.in-Taken.is at c.in_ok-names.ensures)
 
 pub returns-in_err-instant : goal.returns-in_err-instant
-returns-in_err-instant g c =
-    reading_failed c.args.sub _ c.from_residual-in_err-instant.ensures.0
-    (looks_then (looks_then c.loop.invariant c.take_names.ensures.looks) c.instant-in-loop.ensures)
+returns-in_err-instant g c = search (rules, reading_failed, looks_then)
 
 pub returns : goal.returns
 returns g c = elim c.loop-test.branch [

@@ -1,22 +1,20 @@
+use Rattle.std.proofs.Common.{rules}
 use Rattle.maildir_disk.proofs.Common.{system_time_nanos, IsSettled, IsFarAhead}
 use Rattle.maildir_disk.proofs.Calls.Listings.{attempt_failed, must_wait, taken_if_ahead, taken_if_settled}
 use Rattle.maildir_disk.proofs.Calls.Looking.{looks_then}
 use Rattle.maildir_disk.proofs.one_moment.take_names.Goals as goal
 
 pub returns-in_err-now : goal.returns-in_err-now
-returns-in_err-now g c =
-    attempt_failed c.args.sub _ c.from_residual-in_err-now.ensures.0 (looks_then c.stamp.ensures.looks c.now.ensures.looks)
+returns-in_err-now g c = search (rules, attempt_failed, looks_then)
 
 pub returns-in-Young : goal.returns-in-Young
-returns-in-Young g c = must_wait (looks_then c.stamp.ensures.looks c.now.ensures.looks)
+returns-in-Young g c = search (rules, must_wait, looks_then)
 
 pub returns-in_err-names : goal.returns-in_err-names
-returns-in_err-names g c =
-    attempt_failed c.args.sub _ c.from_residual-in_err-names.ensures.0
-    (looks_then (looks_then c.stamp.ensures.looks c.now.ensures.looks) c.watched_names.ensures.looks)
+returns-in_err-names g c = search (rules, attempt_failed, looks_then)
 
 pub returns-in_default-2 : goal.returns-in_default-2
-returns-in_default-2 g c = must_wait (looks_then (looks_then c.stamp.ensures.looks c.now.ensures.looks) c.watched_names.ensures.looks)
+returns-in_default-2 g c = search (rules, must_wait, looks_then)
 
 pub returns-in-Settled : goal.returns-in-Settled
 returns-in-Settled g c =
@@ -25,9 +23,7 @@ returns-in-Settled g c =
     (λ h. (c.in_ok-now.ensures.now (c.stamp.ensures.looks.honest h)).no_later) (rw c.in-Some.is at c.in_ok-names.ensures)
 
 pub returns-in_err-later : goal.returns-in_err-later
-returns-in_err-later g c =
-    attempt_failed c.args.sub _ c.from_residual-in_err-later.ensures.0
-    (looks_then (looks_then c.stamp.ensures.looks c.now.ensures.looks) (looks_then c.watched_names.ensures.looks c.now-2.ensures.looks))
+returns-in_err-later g c = search (rules, attempt_failed, looks_then)
 
 pub returns-in-Ahead : goal.returns-in-Ahead
 returns-in-Ahead g c =
@@ -36,5 +32,4 @@ returns-in-Ahead g c =
     c.now-2.ensures.looks (λ h. (c.in_ok-later.ensures.now h).no_earlier)
 
 pub returns-in_default-of : goal.returns-in_default-of
-returns-in_default-of g c =
-    must_wait (looks_then (looks_then c.stamp.ensures.looks c.now.ensures.looks) (looks_then c.watched_names.ensures.looks c.now-2.ensures.looks))
+returns-in_default-of g c = search (rules, must_wait, looks_then)

@@ -1,18 +1,14 @@
-use Rattle.std.proofs.Common.{arith}
+use Rattle.std.proofs.Common.{arith, rules}
 use Rattle.std.proofs.lemmas.Grind.{common_steps}
 use Rattle.maildir_disk.proofs.Calls.Listings.{not_watched, watch_failed, watches}
 use Rattle.maildir_disk.proofs.Calls.Looking.{looks_then}
 use Rattle.maildir_disk.proofs.one_moment.watched_names.Goals as goal
 
-pub returns-in_err-names : goal.returns-in_err-names
-returns-in_err-names g c = watch_failed c.args.sub _ c.from_residual.ensures.0 c.names.ensures.looks
-
 pub returns-in_err-after : goal.returns-in_err-after
-returns-in_err-after g c =
-    watch_failed c.args.sub _ c.from_residual-in_err-after.ensures.0 (looks_then c.names.ensures.looks c.stamp.ensures.looks)
+returns-in_err-after g c = search (rules, watch_failed, looks_then)
 
 pub returns-then-eq : goal.returns-then-eq
 returns-then-eq g c = watches c.in_ok-names.ensures c.in_ok-after.ensures (grind (arith, common_steps, c.if-eq.ensures))
 
 pub returns-else-eq : goal.returns-else-eq
-returns-else-eq g c = not_watched (looks_then c.names.ensures.looks c.stamp.ensures.looks)
+returns-else-eq g c = search (rules, not_watched, looks_then)

@@ -1,7 +1,6 @@
 use Rattle.std.proofs.Common.{◌≡◌, [], arith}
-use Rattle.maildir_run.proofs.Source.Givens.{gave_more, gave_refused, some_left, none_whole}
+use Rattle.maildir_run.proofs.Source.Givens.{gave_more, gave_refused, none_whole}
 use Rattle.maildir_run.proofs.Tasks.Faults.{if_err}
-use Rattle.maildir_run.proofs.converting.read_first.Goals.{then-ended-via-then-ended, then-ended-via-else-ended+then-not-is_empty}
 use Rattle.maildir_run.proofs.converting.read_first.Goals as goal
 
 pub returns-in_err-ended-clause-refused : goal.returns-in_err-ended-clause-refused
@@ -9,19 +8,6 @@ returns-in_err-ended-clause-refused g c =
     let i = c.pieces.invariant in
     if_err _ _ c.from_residual.ensures.1
     (gave_refused _ c.pieces.reader c.in_err-ended.field-0.0 i.gave c.in_err-ended.ensures.went)
-
-pub returns-then-ended-clause-begins : goal.returns-then-ended-clause-begins
-returns-then-ended-clause-begins g c =
-    let i = c.pieces.invariant in
-    record {
-      gave = gave_more c.in_ok-ended.ended _ c.pieces.reader _ _ c.pieces.whole.items c.read.new.out.items i.empty i.gave c.in_ok-ended.ensures.went;
-      begun = λ e.
-          elim c.then-ended.branch [
-            | then-ended-via-then-ended w ↦ let on = w.if-ended.true in cc
-            | then-ended-via-else-ended+then-not-is_empty w ↦
-                some_left _ w.is_empty.ensures w.if-not-is_empty.true (omega (arith, c.read.new.out.ok.0))
-          ];
-    }
 
 pub pieces-preserved : goal.pieces-preserved
 pieces-preserved g c =

@@ -1,4 +1,4 @@
-use Rattle.std.proofs.Common.{◌≡◌, ℕ, List, ◌∷◌, [], length, take, map, ap, sym, ◌∙◌, arith, refl, append-nil, take_all}
+use Rattle.std.proofs.Common.{◌≡◌, ℕ, List, ◌∷◌, [], length, take, map, ap, sym, ◌∙◌, arith, refl, append-nil, take_all, rules}
 use Rattle.maildir_run.proofs.Common.{Removing, Writing, Placing, Message, Do, task_of, tasks_of, drop-nil, Step, Remove, Write, Place}
 use Rattle.maildir_run.proofs.Tasks.Tasks.{ran_none, ran_then, ran_before, ran_err, next_step, other_steps, next_count}
 use Rattle.maildir_run.proofs.sweep.remove_planned.Goals.{in-Remove+in_ok-remove, in_default}
@@ -11,7 +11,7 @@ none_removed (Place i) other =
     ap (λ (ms : List Message). map (λ (m : Message). Do (Placing m.target.base m.target.place m.target.name)) (take 1 ms)) (drop-nil i)
 
 pub loop-step-init : goal.loop-step-init
-loop-step-init g c = record { ran = ran_none; count = refl; few = omega arith }
+loop-step-init g c = search (rules, ran_none)
 
 pub returns-clause-ran : goal.returns-clause-ran
 returns-clause-ran g c = rw (take_all _ _ c.loop-step-test.false) at c.loop-step.invariant.ran

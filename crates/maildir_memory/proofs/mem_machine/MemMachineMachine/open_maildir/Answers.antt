@@ -1,18 +1,12 @@
-use Rattle.std.proofs.Common.{◌≡◌, Option, None, Some, String, sym, ap, subst, rules, ◌∙◌}
+use Rattle.std.proofs.Common.{Option, Some, String, sym, ap, subst, rules, ◌∙◌}
 use Rattle.std.proofs.lemmas.Map.Text.{btree_map_updates_text}
-use Rattle.std.specs.BTreeMap.{BTreeMap, get_by_text}
+use Rattle.std.specs.BTreeMap.{BTreeMap}
 use Rattle.std.specs.declared.alloc.Global.{Global}
 use Rattle.maildir_commands.specs.Opening.{OpensMaildir}
 use Rattle.maildir_memory.specs.declared.mem_system.MemSystem.{MemSystem}
 use Rattle.maildir_memory.specs.MemMachines.{open_in_memory, seen_in_memory}
 use Rattle.maildir_memory.proofs.MemMachines.{takes, takes_none}
 use Rattle.maildir_memory.proofs.mem_machine.MemMachineMachine.open_maildir.Goals as goal
-
--- none is there
-pub make-requires : goal.make-requires
-make-requires c =
-    let none : get_by_text c.args.self.now.maildirs c.args.path.now ≡ None = search rules in
-    subst (λ (m : BTreeMap (String Global) (Option MemSystem)). get_by_text m c.args.path.now ≡ None) (sym c.get_mut.follows.holds-at-none) none
 
 pub returns-in_default : goal.returns-in_default
 returns-in_default c =

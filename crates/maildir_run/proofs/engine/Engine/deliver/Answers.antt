@@ -1,4 +1,4 @@
-use Rattle.std.proofs.Common.{◌≡◌, false, sym, ap, ◌∙◌, refl}
+use Rattle.std.proofs.Common.{◌≡◌, false, sym, ap, ◌∙◌, refl, rules}
 use Rattle.maildir_run.proofs.Common.{contains_key}
 use Rattle.maildir_run.proofs.Tasks.Faults.{is_fault}
 use Rattle.maildir_run.proofs.Tasks.Tasks.{ran_err}
@@ -7,7 +7,7 @@ use Rattle.maildir_run.proofs.engine.Engine.deliver.Goals.{then-not-contains+in_
 use Rattle.maildir_run.proofs.engine.Engine.deliver.Goals as goal
 
 pub returns-in_err-target-clause-delivers : goal.returns-in_err-target-clause-delivers
-returns-in_err-target-clause-delivers g c = λ bodies named few. delivers_refused _ _ c.from_residual.ensures.1
+returns-in_err-target-clause-delivers g c = search (rules, delivers_refused)
 
 pub returns-in_err-deliver_message-clause-delivers : goal.returns-in_err-deliver_message-clause-delivers
 returns-in_err-deliver_message-clause-delivers g c = λ bodies named few.

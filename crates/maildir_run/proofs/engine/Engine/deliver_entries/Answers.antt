@@ -1,16 +1,11 @@
-use Rattle.std.proofs.Common.{◌+◌, ◌<◌, [], ◌++◌, length, take, drop, ◌∙◌, arith, refl}
+use Rattle.std.proofs.Common.{◌+◌, ◌<◌, [], ◌++◌, length, take, drop, ◌∙◌, arith, refl, rules}
 use Rattle.maildir_run.proofs.Common.{bodies_of}
 use Rattle.maildir_run.proofs.Run.Batches.{bodies_next, bodies_split, few_next}
 use Rattle.maildir_run.proofs.Run.Delivering.{delivers_none, delivers_then, delivers_before}
 use Rattle.maildir_run.proofs.engine.Engine.deliver_entries.Goals as goal
 
 pub loop-entry-init : goal.loop-entry-init
-loop-entry-init g c = record {
-  delivers = λ bodies named few. delivers_none _ named;
-  there = refl;
-  swept = refl;
-  count = omega arith;
-}
+loop-entry-init g c = search (rules, delivers_none)
 
 pub returns-in_err-deliver-clause-delivers : goal.returns-in_err-deliver-clause-delivers
 returns-in_err-deliver-clause-delivers g c = λ bodies named few.

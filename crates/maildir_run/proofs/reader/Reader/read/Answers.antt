@@ -1,22 +1,10 @@
-use Rattle.std.proofs.Common.{◌≡◌, Err, vec_len, length, take, arith, ap, length-take-le}
+use Rattle.std.proofs.Common.{◌≡◌, Err, vec_len, length, take, arith, ap, length-take-le, rules}
 use Rattle.maildir_run.proofs.Common.{with_items_is}
 use Rattle.maildir_run.proofs.Source.Unread.{breaks_went, finish_breaks, feed_breaks}
 use Rattle.maildir_run.proofs.reader.Reader.read.Goals as goal
 
 pub returns-in_err-finish-clause-went : goal.returns-in_err-finish-clause-went
-returns-in_err-finish-clause-went g c =
-    let gave = c.in_ok-n.ensures.gave in
-    breaks_went c.args.self.now _ _ _ _ _ c.from_residual-in_err-finish.result
-    c.from_residual-in_err-finish.ensures.0 c.from_residual-in_err-finish.ensures.1
-    (finish_breaks c.args.self.now _ c.in_err-finish.ensures.causes (rw c.if-n-eq0.true at gave.1) (gave.2 c.if-n-eq0.true)
-    (λ e text given taken. c.in_err-finish.ensures.no_from_line (ap Err e) text given (rw c.replace-splitter.ensures.value taken)))
-
-pub returns-then-n-eq0-clause-went : goal.returns-then-n-eq0-clause-went
-returns-then-n-eq0-clause-went g c =
-    let gave = c.in_ok-n.ensures.gave in
-    let last = c.in_ok-finish.ensures.last in
-    let none = c.if-n-eq0.true in
-    (_, rw none at gave.1, gave.2 none, last.1, λ text given taken. (last.2 text given (rw c.replace-splitter.ensures.value taken)).0)
+returns-in_err-finish-clause-went g c = search (rules, breaks_went, finish_breaks)
 
 pub returns-in_err-feed-clause-went : goal.returns-in_err-feed-clause-went
 returns-in_err-feed-clause-went g c =
@@ -31,23 +19,3 @@ returns-in_err-feed-clause-went g c =
     c.args.out.now.items c.feed.new.out.items c.in_err-feed.ensures.causes gave.1
     (omega (arith, size, kept, roomy, gave.0, c.in_ok-spend.ensures.spent))
     (λ e. rw whole at (rw c.deref.ensures.value at (c.in_err-feed.ensures.no_from_line (ap Err e)))))
-
-pub returns-clause-went : goal.returns-clause-went
-returns-clause-went g c =
-    let gave = c.in_ok-n.ensures.gave in
-    let kept : length c.read_piece.new.buffer ≡ vec_len c.args.self.now.buffer = omega (arith, c.read_piece.auto.buffer, c.deref_mut.ensures.len) in
-    let whole = with_items_is c.args.self.now.buffer c.read_piece.new.buffer kept in
-    let size : length (take c.in_ok-n.n c.read_piece.new.buffer) ≡ c.in_ok-n.n = length-take-le c.in_ok-n.n c.read_piece.new.buffer gave.0 in
-    let roomy = c.args.self.now.roomy in
-    let left = c.in_ok-spend.ensures.spent in
-    let some = c.if-n-eq0.false in
-    let took = rw whole at (rw c.deref.ensures.value at c.in_ok-feed.ensures.fed) in (
-      take c.in_ok-n.n c.read_piece.new.buffer,
-      took.0,
-      gave.1,
-      omega (arith, size, kept, roomy, gave.0),
-      omega (arith, left),
-      took.1,
-      took.2,
-      omega (arith, size, some),
-    )

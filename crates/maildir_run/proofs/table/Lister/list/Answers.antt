@@ -1,16 +1,13 @@
 use Rattle.std.proofs.Common.{ℕ, ◌++◌, List, take, sym, subst}
 use Rattle.maildir_run.proofs.Common.{Entry, IsFromLine}
 use Rattle.mbox_text.proofs.FromLine.FromLines.{from_line-at}
-use Rattle.maildir_run.proofs.Output.TableRows.{listed_to_none, listed_to_more, listed_to_prefix, listed_to_all, lists_broken, room}
+use Rattle.maildir_run.proofs.Output.TableRows.{listed_to_more, listed_to_prefix, lists_broken, room}
 use Rattle.maildir_run.proofs.table.Lister.list.Goals as goal
 
 pub list_one-requires : goal.list_one-requires
 list_one-requires g c =
     let F : Entry → Type 0 = λ e. IsFromLine e.from_line in
     subst F (sym c.entry-item.is) (from_line-at _ _ c.entry-item.result c.requires c.loop-entry-test.true)
-
-pub loop-entry-init : goal.loop-entry-init
-loop-entry-init g c = λ given h l. listed_to_none h
 
 pub loop-entry-preserved : goal.loop-entry-preserved
 loop-entry-preserved g c = λ given h l.
@@ -28,7 +25,3 @@ returns-in_err-list_one-clause-lists g c = λ given h l.
     let s = c.in_err-list_one.ensures.lists (given ++ take i entries) t.has_listed (room given entries i c.entry-item.result c.loop-entry-test.true l) in
     lists_broken _ given entries _ _ _ c.from_residual.ensures.0
     (listed_to_prefix given entries i c.entry-item.result _ _ _ _ _ s.0 c.loop-entry-test.true c.entry-item.is t s.1 s.2)
-
-pub returns-clause-lists : goal.returns-clause-lists
-returns-clause-lists g c = λ given h l.
-    listed_to_all c.loop-entry-test.false (c.loop-entry.invariant given h l)
