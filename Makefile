@@ -1,5 +1,6 @@
 # make            prove the crates and build build/mbox2maildir
-# make run        deliver the example mailboxes to a fresh Maildir under build/, and show what it holds
+# make run        deliver the example mailboxes to a fresh Maildir under build/, and show what it holds: by what is compiled
+#                 for this run where build/mbox2maildir is not there, or older than the sources
 # make test       prove what was not proved here before, or has changed, and test everything: the gate of the repository
 # make install    copy the program, its companion, their pages and completions below PREFIX
 # make uninstall  remove what install has copied there
@@ -20,9 +21,6 @@ PROGRAM = build/mbox2maildir
 CRATE = crates/mbox2maildir
 SOURCES = crates.txt $(shell find crates -name out -prune -o \( -name '*.rt' -o -name '*.antt' \) -print)
 
-MAILBOXES = examples/archive.mbox examples/inbox.mbox
-MAILDIR = build/example
-
 all: $(PROGRAM)
 
 # rt builds a program only where it is proved, and then runs it, here on no input.
@@ -31,21 +29,19 @@ $(PROGRAM): $(SOURCES)
 	mkdir -p build
 	cp $(CRATE)/out/mbox2maildir $@
 
-run: $(PROGRAM)
-	for mailbox in $(MAILBOXES); do $(PROGRAM) list $$mailbox || exit; done
-	rm -rf $(MAILDIR)
-	$(PROGRAM) convert $(MAILDIR) $(MAILBOXES)
-	cd $(MAILDIR) && ls -l new cur
-	$(PROGRAM) convert $(MAILDIR) $(MAILBOXES)
+run:
+	@if $(MAKE) -q $(PROGRAM); then examples/run $(PROGRAM); else examples/run; fi
 
-# The lines and the documents, the gate, and then the tests that run what it has built.
+# The lines and the documents, the gate, and then the tests that run what it has built. The gate says what it is at as it goes.
 test:
+	@echo "Proves what was not proved here before, and tests everything."
+	@echo "From nothing that takes half an hour to an hour on four processors, and up to an hour and a half on two."
 	tests/layout
 	tests/lines
 	tests/promises
 	tests/rooms
 	tests/documents
-	rt ci
+	PYTHONUNBUFFERED=1 rt ci
 	mkdir -p build
 	cp $(CRATE)/out/mbox2maildir $(PROGRAM)
 	tests/run
