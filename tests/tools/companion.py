@@ -10,6 +10,7 @@ from pathlib import Path
 from tools.common import TOP, differ, equal, program
 
 ADMIN = TOP / "admin/mbox2maildir-admin"
+PACKAGE = TOP / "admin/mbox2maildir_admin"
 
 A = b"From alva@example.org Mon Mar  3 09:12:44 2025\nFrom: alva@example.org\nSubject: one\n"
 B = b"From boris@example.com Mon Mar  3 11:40:02 2025\nFrom: boris@example.com\nSubject: two\n"
@@ -63,6 +64,7 @@ def install(folder):
     folder.mkdir(parents=True, exist_ok=True)
     shutil.copy(program(), folder / "mbox2maildir")
     shutil.copy(ADMIN, folder)
+    shutil.copytree(PACKAGE, folder / PACKAGE.name, ignore=shutil.ignore_patterns("__pycache__"))
 
 
 @contextmanager
