@@ -13,13 +13,19 @@ ZONES = {"Z": 0, "UT": 0, "UTC": 0, "GMT": 0, "WET": 0, "WEST": 1, "BST": 1, "CE
          "MESZ": 2, "EET": 2, "EEST": 3, "MSK": 3, "MSD": 4, "SGT": 8, "HKT": 8, "AWST": 8, "JST": 9, "KST": 9, "ACST": 9.5,
          "ACDT": 10.5, "AEST": 10, "AEDT": 11, "NZST": 12, "NZDT": 13, "NST": -3.5, "NDT": -2.5, "AST": -4, "ADT": -3, "EST": -5,
          "EDT": -4, "CST": -6, "CDT": -5, "MST": -7, "MDT": -6, "PST": -8, "PDT": -7, "AKST": -9, "AKDT": -8, "HST": -10}
-MONTH = "((?i:%s))" % "|".join(MONTHS)
-CLOCK = r"([01]?\d|2[0-3]):([0-5]\d)(?::([0-5]\d|60))?"
-ZONE = r"(?:\s+((?:GMT|UTC)?[-+]\d{4}|[A-Z]+(?:\s+DST)?)\b)?"
-DATE = r"(?:%s\s+(\d\d?)\s+%s%s\s+((?:19|20)\d\d)\b%s|(\d\d?)\s+%s\s+((?:19|20)\d\d|\d\d)\s+%s%s)" % (
-    MONTH, CLOCK, ZONE, ZONE, MONTH, CLOCK, ZONE)
+MONTH = "(?P<{0}month>(?i:%s))" % "|".join(MONTHS)
+CLOCK = r"(?P<{0}hour>[01]?\d|2[0-3]):(?P<{0}minute>[0-5]\d)(?::(?P<{0}second>[0-5]\d|60))?"
+ZONE = r"(?:\s+(?P<{0}zone>(?:GMT|UTC)?[-+]\d{{4}}|[A-Z]+(?:\s+DST)?)\b)?"
+# as in a From_ line, and as in a header
+ASCTIME = (MONTH + r"\s+(?P<{0}day>\d\d?)\s+" + CLOCK + ZONE + r"\s+(?P<{0}year>(?:19|20)\d\d)\b" + ZONE.replace("zone", "last_zone"))
+HEADER = r"(?P<{0}day>\d\d?)\s+" + MONTH + r"\s+(?P<{0}year>(?:19|20)\d\d|\d\d)\s+" + CLOCK + ZONE
+DATE = "(?:%s|%s)" % (ASCTIME.format(""), HEADER.format("header_"))
 HAS_DATE = re.compile(r"\b" + DATE)
 ENDS_DATED = re.compile(r"\s" + WEEKDAY + r",?\s+" + DATE + r"(?:\s+\([^()]*\)|\s+remote\s+from\s+\S+)?\s*\Z")
+EAST = re.compile(r"(?P<sign>[-+])(?P<hours>[01]\d)(?P<minutes>[0-5]\d)\Z")
+ZONE_NAME = re.compile(r"(?P<name>[A-Z]*)(?P<summer>\s+DST)?\Z")
+# what programs write where they know no date: midnight of this day
+NO_DATE = (1970, 1, 1, 0, 0, 0)
 
 
 def is_dated(line):
@@ -32,24 +38,30 @@ def seconds_of(text):
     found = HAS_DATE.search(text.decode("latin-1"))
     if not found:
         return None
-    month, day, hour, minute, second, zone, year, last_zone = found.groups()[:8]
-    if month is None:
-        day, month, year, hour, minute, second, zone = found.groups()[8:]
-    zone = zone or last_zone
+    form = "header_" if found["month"] is None else ""
+    year = found[form + "year"]
     year = int(year) + (0 if len(year) > 2 else 2000 if year < "50" else 1900)
-    moment = (year, MONTHS.index(month.lower()) + 1, int(day), int(hour), int(minute), int(second or 0))
+    moment = (year, MONTHS.index(found[form + "month"].lower()) + 1, int(found[form + "day"]), int(found[form + "hour"]),
+              int(found[form + "minute"]), int(found[form + "second"] or 0))
+    zone = found[form + "zone"] or (None if form else found["last_zone"])
     try:
         datetime.date(*moment[:3])
-        east = east_of(zone) if zone else None
-        return int(time.mktime(moment + (0, 0, -1))) if not zone else None if east is None else calendar.timegm(moment) - east
+        seconds = int(time.mktime(moment + (0, 0, -1))) if not zone else seconds_east(moment, zone)
     except (ValueError, OverflowError):
         return None
+    return None if moment == NO_DATE or seconds == 0 else seconds
+
+
+def seconds_east(moment, zone):
+    """The seconds since 1970 of a moment in a zone, where that is known."""
+    east = east_of(zone)
+    return None if east is None else calendar.timegm(moment) - east
 
 
 def east_of(zone):
     """How many seconds a zone is east of Greenwich, where it is known."""
-    numbers = re.search(r"([-+])([01]\d)([0-5]\d)\Z", zone)
+    numbers = EAST.search(zone)
     if numbers:
-        return int(numbers[1] + "1") * (3600 * int(numbers[2]) + 60 * int(numbers[3]))
-    name, summer = re.match(r"([A-Z]*)(\s+DST)?\Z", zone).groups() if zone[-1].isalpha() else ("", None)
-    return int(3600 * (ZONES[name] + bool(summer))) if name in ZONES else None
+        return int(numbers["sign"] + "1") * (3600 * int(numbers["hours"]) + 60 * int(numbers["minutes"]))
+    name = ZONE_NAME.match(zone) if zone[-1].isalpha() else None
+    return int(3600 * (ZONES[name["name"]] + bool(name["summer"]))) if name and name["name"] in ZONES else None

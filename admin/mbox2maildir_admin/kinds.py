@@ -1,45 +1,64 @@
 """What a file is, and the command to run next."""
 import collections
-import os
 import re
+from typing import FrozenSet, List, NamedTuple, Optional
 
 from . import ADMIN, PROGRAM
 from .dates import is_dated
 from .headers import Header
-from .parts import MARK, TEXT, parts_of
-from .source import LONG, LineEnds, Source
-from .terminal import NAMED, is_text, put, shown, word
+from .others import HEAD, NO_MAIL, text_start, what_else
+from .parts import MARK, TEXT, from_lines_of, parts_of
+from .source import LONG, LineEnds
+from .terminal import NAMED, shown
 
-BEFORE_TEXT = re.compile(rb"(?:\xef\xbb\xbf)?(?:[ \t]*\r?\n)*")
 FIELD = re.compile(rb"[!-9;-~]+[ \t]*:|>From ")
 GIT = re.compile(rb"From [0-9a-f]{40,64} Mon Sep 17 00:00:00 2001\r?\Z")
-# how a file begins that is no mbox text, what it is, and what to do with it, where {} stands for its name
-OTHERS = [(re.compile(start), what, then) for start, what, then in (
-    (rb"\x1f\x8b", "compressed by gzip", "gzip -dk {}"),
-    (rb"BZh[1-9]", "compressed by bzip2", "bzip2 -dk {}"),
-    (rb"\xfd7zXZ\x00", "compressed by xz", "xz -dk {}"),
-    (rb"\x28\xb5\x2f\xfd", "compressed by zstd", "zstd -d {}"),
-    (rb"PK\x03\x04", "an archive of zip", "unzip {}"),
-    (rb"\x1f\x9d|7z\xbc\xaf|LZIP|\x04\x22\x4d\x18", "compressed", "unpack it with the program that its ending names"),
-    (rb"\xff\xfe|\xfe\xff", "a text in UTF-16", "iconv -f UTF-16 -t UTF-8 {} -o {}.utf-8"),
-    (rb"\*mbx\*", "UW-IMAP's mbx", "mailutil copy {} '#driver.unix/'{}.mbox"),
-    (rb"BABYL OPTIONS:", "Emacs's Babyl", "export it from Emacs"),
-    (rb"(?:[!-9;-~]+:[^\n]*\n(?:[ \t][^\n]*\n)*){2}", "one mail without a From_ line", "formail <{} >{}.mbox"),
-    (rb"// <!-- <mdb:mork", "no mail: Thunderbird's index (.msf)", "leave it out"),
-    (rb"", "no mbox text", "leave it out"),
-)]
-ENDINGS = {"gzip": b".gz", "bzip2": b".bz2", "xz": b".xz", "zstd": b".zst"}
+ADDRESS = re.compile(rb"From \S+@\S+\s*\Z")
+ONE_WORD = re.compile(rb"From \S*\s*\Z")
+DELETED = re.compile(rb"[0-9a-fA-F]{3}[89a-fA-F]")
+NOTE = b"DON'T DELETE THIS MESSAGE -- FOLDER INTERNAL DATA"
+CONVERT = PROGRAM + " convert MAILDIR {}"
+COMPACT = "compact the folder in Thunderbird (File, Compact Folders), and quit it"
+ASK = "look at these lines: `%s` where they are mail, `%s` where they begin messages"
+LOOK_AT_LINES = "look at these lines, then "
+LOOK_AT_END = "look whether its end was cut (`tail {}`), then "
+TOO_MANY = "ask what wrote it: there are too many lines to quote each by its number"
 
 
-def text_of(head):
-    """Where the mbox text begins in a file with these first bytes, after a byte order mark and blank lines; None in others."""
-    start = BEFORE_TEXT.match(head).end()
-    return start if head.startswith(b"From ", start) or not head else None
+class Quoting(NamedTuple):
+    """How a copy is quoted: by "lengths" (where trusted, by all of them), "dates", "lines", as "mboxo" or "mboxrd"."""
+    by: str
+    trusted: bool = False
+    everything: bool = False
+    lines: FrozenSet[int] = frozenset()
+    crlf: bool = False
+    cr: bool = False
+
+    def command(self):
+        """The command that makes the copy, where {output} stands for another place of it, and {} for the file."""
+        words = {"lengths": ["--lengths"] * self.trusted, "dates": ["--no-lengths"] + ["--all"] * self.everything,
+                 "lines": ["--line %d" % line for line in sorted(self.lines)]}.get(self.by, ["--" + self.by])
+        return " ".join([ADMIN, "quote", *["--crlf"] * self.crlf, *words, *["--cr"] * self.cr]) + "{output} {}"
 
 
-def other_kind(head):
-    """What a file is that has no mbox text, and what to do with it."""
-    return next(other[1:] for other in OTHERS if other[0].match(head))
+class Verdict(NamedTuple):
+    """What a file is: with status 0 it is converted as it is. In the next command {} stands for the file."""
+    kind: str
+    next: str
+    status: int = 1
+    # how many messages it has by the next command, and how many it may have; none where that is not known
+    messages: Optional[int] = None
+    most: Optional[int] = None
+    # what is said of lines
+    remarks: List[str] = []
+    # where the text begins, and how a copy is to be made where that is no guess
+    start: int = 0
+    quoting: Optional[Quoting] = None
+
+    @property
+    def is_mail(self):
+        """Whether mail may be in it."""
+        return not self.kind.startswith(NO_MAIL)
 
 
 class Lines:
@@ -50,6 +69,7 @@ class Lines:
         self.count, self.numbers, self.first = 0, [], []
 
     def add(self, line, *says):
+        """One line more, with texts that say more of it."""
         self.count += 1
         if self.count <= self.MANY:
             self.numbers.append(line)
@@ -60,77 +80,127 @@ class Lines:
 class Look:
     """What is seen in an mbox text: how many messages it has, and lines by what is odd with them."""
 
-    def __init__(self, source, start, line):
+    def __init__(self, source, start=0):
         self.source, self.start = source, start
         self.messages, self.seen = 0, collections.defaultdict(Lines)
         # the message that ends by its length, and where
         self.claimed_by = self.claimed = 0
-        source.file.seek(start)
-        part = None
-        for part in parts_of(source.file, start, line):
+
+    def read(self):
+        """Looks at the whole text."""
+        part, line = None, 1 + self.source.at(0, self.start).count(b"\n")
+        self.source.file.seek(self.start)
+        for part in parts_of(self.source.file, self.start, line):
             if part.what == MARK:
                 self.mark(part)
             elif part.what == TEXT and not self.seen["CR in text"].count and b"\r\n" in part.piece:
                 self.seen["CR in text"].add(part.line + part.piece.count(b"\n", 0, part.piece.index(b"\r\n")))
-        if part and not part.piece.endswith(b"\n"):
+        # a message that ends there by its length is whole
+        if part and not part.piece.endswith(b"\n") and self.claimed != self.source.size:
             self.seen["no end"].add(part.line + part.piece.count(b"\n"))
-        source.check()
+        self.source.check()
+        return self
 
     def mark(self, mark):
+        """Looks at a line of `>` and `From `, and at the header after it."""
         inside = mark.offset < self.claimed
         if mark.quotes:
             sort = "quoted twice" if mark.quotes > 1 else "quoted, by length" if inside else "quoted"
         elif inside:
-            sort = "inside"
-            self.seen["inside, dated"].count += is_dated(mark.piece)
+            sort = "inside, dated" if is_dated(mark.piece) else "inside"
         else:
             sort = self.sort_of(mark)
         self.seen[sort].add(mark.line, mark.piece, b"%d" % self.claimed_by)
-        if sort in ("dated", "undated", "odd"):
+        if sort in ("dated", "undated", "odd", "doubtful"):
             self.messages += 1
-            if b"\r" in mark.piece[:-1] or len(mark.piece) > LONG:
-                self.seen["holds mail"].add(mark.line, mark.piece)
-            elif mark.piece.endswith(b"\r"):
-                self.seen["CR LF"].add(mark.line, mark.piece[:-1])
-            if GIT.match(mark.piece):
-                self.seen["git"].add(mark.line)
-            self.header(Header(self.source, mark), mark)
+            self.from_line(mark)
+            self.header(Header.read(self.source, mark), mark)
 
     def sort_of(self, mark):
-        """What a line `From ` looks like: a From_ line, "dated" or "undated", an "odd" one without a header, or "text"."""
+        """What a line `From ` looks like: a From_ line, "dated" or "undated", an "odd" one without a header, a "doubtful" one of
+        several words without a date, or "text"."""
         before, after = self.source.at(mark.offset - 3, 3), self.source.at(mark.offset + len(mark.piece) + 1, 100)
         if is_dated(mark.piece):
             return "dated" if not after.strip(b"\r\n") or FIELD.match(after) or after.startswith((b"\n", b"\r\n")) else "odd"
         first, blank = mark.offset == self.start, before.endswith((b"\n\n", b"\n\r\n"))
-        if first or blank and (FIELD.match(after) or re.match(rb"From \S+@\S+\s*\Z", mark.piece)):
-            return "undated"
+        if first or blank and (FIELD.match(after) or ADDRESS.match(mark.piece)):
+            return "undated" if first or ONE_WORD.match(mark.piece) else "doubtful"
         self.seen["text after a blank line"].count += blank
         return "text"
 
+    def from_line(self, mark):
+        """Looks at a From_ line itself."""
+        if b"\r" in mark.piece[:-1] or len(mark.piece) > LONG:
+            self.seen["holds mail"].add(mark.line, mark.piece)
+        elif mark.piece.endswith(b"\r"):
+            self.seen["CR LF"].add(mark.line, mark.piece[:-1])
+        if GIT.match(mark.piece):
+            self.seen["git"].add(mark.line)
+
     def header(self, header, mark):
+        """Looks at the header of a message."""
         if header[b"x-gm-thrid"]:
             self.seen["Gmail"].add(mark.line)
         if header[b"x-mozilla-status"]:
             self.seen["Thunderbird"].add(mark.line)
-            if re.match(rb"[0-9a-fA-F]{3}[89a-fA-F]", header[b"x-mozilla-status"]):
+            if DELETED.match(header[b"x-mozilla-status"]):
                 self.seen["deleted"].add(header.line_of(b"x-mozilla-status"))
-        if header[b"subject"] == b"DON'T DELETE THIS MESSAGE -- FOLDER INTERNAL DATA":
+        if header[b"subject"] == NOTE:
             self.seen["internal"].add(mark.line)
         end = header.message_end(self.source)
         self.claimed, self.claimed_by = end or 0, mark.line
         if end:
             self.seen["lengths"].add(mark.line)
         elif end == 0:
-            self.seen["wrong"].add(header.line_of(b"content-length"), header[b"content-length"])
+            self.seen["wrong"].add(header.line_of(b"content-length"), header[b"content-length"], b"")
+        else:
+            self.seen["without"].add(mark.line)
+
+    def count(self, *sorts):
+        """How many lines are of one of these sorts."""
+        return sum(self.seen[sort].count for sort in sorts if sort in self.seen)
+
+    def numbers(self, *sorts):
+        """The numbers of the lines of these sorts; nothing where there are too many."""
+        numbers = {line for sort in sorts if sort in self.seen for line in self.seen[sort].numbers}
+        return numbers if len(numbers) == self.count(*sorts) else None
+
+    def first(self, sort):
+        """The first lines of a sort, and what is said of each."""
+        return self.seen[sort].first if sort in self.seen else []
+
+    def doubts(self):
+        """How many lines are doubtful; none where no From_ line has a date."""
+        return self.count("doubtful") if self.count("dated") else 0
+
+    def fewest(self):
+        """How many messages there are at least: without the lines `From ` that may be text."""
+        return self.messages - self.count("odd") - self.doubts()
+
+    def most(self):
+        """How many messages there are at most: with the dated lines within others."""
+        return self.messages + self.count("inside, dated")
+
+    def remarks(self):
+        """What is said of lines."""
+        if self.start:
+            yield "line 1: a byte order mark or blank lines stand before the text"
+        for sort, says in SAID:
+            for line, text in self.first(sort):
+                yield "line %d: %s" % (line, says.format(*text))
+            if self.count(sort) > NAMED:
+                yield "and %d lines more like the last" % (self.count(sort) - NAMED)
 
 
 # what is said of lines of a sort, in this order, where {0} stands for the line and {1} for another's number
 SAID = [
     ("holds mail", "a CR, or more than %d bytes, in a From_ line: mail may stand in it: {0}" % LONG),
+    ("inside, dated", "a dated From_ line within the message of line {1}, by its length: {0}"),
     ("inside", "within the message of line {1}, by its length: {0}"),
     ("wrong", "a length that leads to no From_ line: {0}"),
     ("text", "no date at its end: {0}"),
     ("odd", "no header follows: {0}"),
+    ("doubtful", "no date at its end, but a header follows: {0}"),
     ("undated", "a From_ line without a date: {0}"),
     ("deleted", "marked as deleted"),
     ("CR LF", "it ends in CR LF: {0}"),
@@ -140,80 +210,90 @@ SAID = [
     ("internal", "a note of an IMAP server, delivered as mail"),
     ("no end", "the last line has no end: is the file whole?"),
 ]
-# these say nothing against a conversion
-HARMLESS = {"CR in text", "quoted twice", "quoted, by length", "internal"}
 
 
-def verdict_on(look, start):
+def look_at(source):
+    """What an open file is, and what is to be done with it."""
+    head = source.at(0, HEAD)
+    start = text_start(head)
+    if start is None:
+        look = Look(source)
+        kind, then, remarks = what_else(source, head, lambda mark: look.sort_of(mark) != "text")
+        source.check()
+        return Verdict(kind, then, remarks=remarks)
+    if b"\r" in head[start:].split(b"\n")[0][:-1]:
+        source.file.seek(start)
+        count, how = from_lines_of(LineEnds(source.file)), Quoting("mboxrd", cr=True)
+        source.check()
+        return Verdict("line ends of CR alone", how.command(), 1, count, count, start=start)
+    return verdict_on(Look(source, start).read())
+
+
+def verdict_on(look):
     """What an mbox text is, and the command to run next."""
-    count = collections.Counter({sort: lines.count for sort, lines in look.seen.items()})
-    kind = ("empty" if not look.messages else "git's patches" if count["git"] else "Gmail's Takeout" if count["Gmail"]
-            else "Thunderbird's" if count["Thunderbird"] else "mboxcl" if count["lengths"] and not count["wrong"]
-            else "mboxrd or mboxo, with wrong lengths" if count["wrong"] else "mboxrd or mboxo")
-    quote = "%s quote%s" % (ADMIN, " --crlf" if count["CR LF"] else "")
-    if count["deleted"]:
-        return kind, "compact the folder in Thunderbird (File, Compact Folders), and quit it"
-    if count["inside"] and not count["wrong"] and not count["text"]:
-        return "mboxcl2", quote + " {}"
-    if count["inside"] or count["text"] or count["odd"]:
-        if not count["odd"]:
-            kind = "mboxcl2, with wrong lengths" if count["wrong"] else kind if count["git"] else "not quoted"
-        if count["dated"] and not count["undated"] and not count["odd"] and not count["inside, dated"]:
-            nothing = count["inside"] or count["wrong"] or count["git"] or count["text after a blank line"]
-            return kind, quote + " --no-lengths" + (" --all {}" if nothing else " {}")
-        lines = sorted(line for sort in ("inside", "text", "odd") for line in look.seen[sort].numbers)
-        if len(lines) < count["inside"] + count["text"] + count["odd"]:
-            return kind, "ask what wrote it: there are too many lines to quote each by its number"
-        return kind, quote + "".join(" --line %d" % line for line in lines) + " {}"
-    if start or count["CR LF"]:
-        return kind, quote + " --mboxrd {}"
-    return kind, "%s convert MAILDIR {}" % PROGRAM
+    then, quoting = next_of(look)
+    then = quoting.command() if quoting else then
+    # a guess is what a human may decide otherwise
+    sure = quoting and not quoting.trusted and quoting.by in ("lengths", "mboxrd") and look.count("CR LF") in (0, look.messages)
+    return Verdict(kind_of(look), then, int(then != CONVERT), look.fewest(), look.most(), list(look.remarks()), look.start,
+                   quoting if sure else None)
 
 
-def kind_of_folder(path):
-    if os.path.isdir(os.path.join(path, b"cur")):
-        return "a Maildir", "leave it as it is"
-    if os.path.isfile(os.path.join(path, b"mbox")):
-        return "a folder of Apple Mail", "%s kind {}/mbox" % ADMIN
-    return "a folder", "%s folders MAILDIR {}" % ADMIN
+def kind_of(look):
+    """The name of what an mbox text is."""
+    count = look.count
+    if count("inside, dated"):
+        return "lengths that lead over dated From_ lines"
+    if count("inside") and not count("wrong", "text"):
+        return "mboxcl2" if count("lengths") == look.messages else "mboxcl2 in part"
+    if count("inside", "text") and not count("odd") and not (count("git") and not count("wrong")):
+        return "mboxcl2, with wrong lengths" if count("wrong") else "not quoted"
+    if not look.messages:
+        return "empty"
+    for sort, kind in (("git", "git's patches"), ("Gmail", "Gmail's Takeout"), ("Thunderbird", "Thunderbird's")):
+        if count(sort):
+            return kind
+    wrong = ", with wrong lengths" if count("wrong") else ""
+    return "mboxcl" if count("lengths") and not wrong else "mboxrd or mboxo" + wrong
 
 
-def kind_of(path):
-    """Prints what a file is, and answers whether it can be converted as it is."""
-    def say(kind, then, lines=()):
-        name = word(path) if is_text(path) or not then.startswith(PROGRAM + " ") else "<" + word(path)
-        ending = ENDINGS.get(then.split(" ")[0])
-        if ending and not path.endswith(ending):
-            # without it they leave the file alone
-            then = then.split(" ")[0] + " -dc <{} >{}.mbox"
-        put("%s: %s; next: %s" % (shown(path), kind, then.replace("{}", name)))
-        for line in lines:
-            put("    " + line)
-
-    if os.path.isdir(path):
-        return say(*kind_of_folder(path))
-    with Source.open(path) as source:
-        head = source.at(0, 1 << 16)
-        start = text_of(head)
-        if start is None:
-            return say(*other_kind(head))
-        if b"\r" in head[start:].split(b"\n")[0][:-1]:
-            source.file.seek(start)
-            count = sum(part.what == MARK and not part.quotes for part in parts_of(LineEnds(source.file)))
-            return say("line ends of CR alone, messages %d" % count, ADMIN + " quote --mboxrd --cr {}")
-        look = Look(source, start, 1 + head.count(b"\n", 0, start))
-    kind, then = verdict_on(look, start)
-    say("%s, messages %d" % (kind, look.messages), then, said_of(look, start))
-    harmless = HARMLESS if look.seen["dated"].count else HARMLESS | {"undated"}
-    return not start and not any(look.seen[sort].count for sort, _ in SAID if sort not in harmless)
+def next_of(look):
+    """The next command; and in place of it, where that is `quote`, how this is to quote."""
+    count, crlf = look.count, bool(look.count("CR LF"))
+    if count("deleted"):
+        return COMPACT, None
+    if count("inside, dated", "odd") or look.doubts():
+        commands = as_mail(look, crlf), as_messages(look, crlf)
+        return TOO_MANY if TOO_MANY in commands else ASK % commands, None
+    if count("inside") and not count("wrong", "text"):
+        return None, Quoting("lengths", trusted=count("lengths") < look.messages, crlf=crlf)
+    if count("inside", "text") and count("dated") and not count("undated"):
+        everything = count("inside", "wrong", "git", "text after a blank line")
+        return None, Quoting("dates", everything=bool(everything), crlf=crlf)
+    if count("inside", "text"):
+        return by_lines(look, crlf, "inside", "text"), None
+    if count("holds mail"):
+        return LOOK_AT_LINES + CONVERT, None
+    if count("no end"):
+        return LOOK_AT_END + CONVERT, None
+    return (None, Quoting("mboxrd", crlf=crlf)) if look.start or crlf else (CONVERT, None)
 
 
-def said_of(look, start):
-    if start:
-        yield "line 1: a byte order mark or blank lines stand before the text"
-    for sort, says in SAID:
-        lines = look.seen[sort]
-        for line, text in lines.first:
-            yield "line %d: %s" % (line, says.format(*text))
-        if lines.count > NAMED:
-            yield "and %d lines more like the last" % (lines.count - NAMED)
+def as_mail(look, crlf):
+    """The command where lines that may begin messages are mail."""
+    if not look.count("wrong", "text", "odd") and not look.doubts():
+        return Quoting("lengths", trusted=True, crlf=crlf).command()
+    return by_lines(look, crlf, "inside", "inside, dated", "text", "odd", "doubtful")
+
+
+def as_messages(look, crlf):
+    """The command where they begin messages."""
+    if look.count("inside", "text"):
+        return by_lines(look, crlf, "inside", "text")
+    return Quoting("mboxrd", crlf=crlf).command() if look.start or crlf else CONVERT
+
+
+def by_lines(look, crlf, *sorts):
+    """The command that quotes each line of these sorts by its number."""
+    numbers = look.numbers(*sorts)
+    return TOO_MANY if numbers is None else Quoting("lines", lines=frozenset(numbers), crlf=crlf).command()

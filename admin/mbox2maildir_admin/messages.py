@@ -29,15 +29,21 @@ class Message:
         self.size += len(mail)
         self.left_out += quoted
 
+    @property
+    def read_size(self):
+        """The bytes of the text that belong to it."""
+        return self.from_size + self.size + self.left_out + self.held
+
     def may_hold_mail(self):
         """Whether mail may stand in its From_ line."""
         return b"\r" in self.from_line[:-1] or len(self.from_line) > LONG
 
 
-def messages_of(source):
-    """The messages of a text, by the rules of mbox2maildir."""
+def messages_of(source, start=0, line=1):
+    """The messages of a text, which begins at an offset, in this line."""
     message, quoted, number = None, False, 0
-    for part in parts_of(source.file):
+    source.file.seek(start)
+    for part in parts_of(source.file, start, line):
         if part.what == MARK and not part.quotes:
             if message:
                 yield message

@@ -8,6 +8,7 @@ from .faults import Fault
 BLOCK = 1 << 20
 # the longest From_ line that is looked at: RFC 5322 lets no line of mail be longer
 LONG = 998
+NO_FILE = "it is no file"
 
 
 def open_file(path):
@@ -15,23 +16,40 @@ def open_file(path):
     number = os.open(path, os.O_RDONLY | os.O_NONBLOCK | os.O_NOCTTY | os.O_CLOEXEC)
     if not stat.S_ISREG(os.fstat(number).st_mode):
         os.close(number)
-        raise Fault("it is no file")
+        raise Fault(NO_FILE)
     return os.fdopen(number, "rb", 0)
 
 
-class Source:
-    """An open mailbox, which must stay as it is while it is read."""
+class Reader:
+    """Reads an open file from an offset on. The place of the file's handle stays where it is: others may have that too."""
 
-    def __init__(self, path, file, state):
-        self.path, self.file, self.state = path, file, state
-        self.number, self.size = file.fileno(), state.st_size
+    def __init__(self, number, offset=0):
+        self.number, self.offset = number, offset
+
+    def seek(self, offset):
+        """Goes on at an offset."""
+        self.offset = offset
+
+    def read(self, count):
+        """The next bytes, fewer at the end."""
+        block = os.pread(self.number, count, self.offset)
+        self.offset += len(block)
+        return block
+
+
+class Source:
+    """An open mailbox, of its path, its descriptor and its state, which must stay as it is while it is read."""
+
+    def __init__(self, path, number, state):
+        self.path, self.number, self.state = path, number, state
+        self.size, self.file = state.st_size, Reader(number)
 
     @classmethod
     @contextlib.contextmanager
     def open(cls, path):
         """Opens a mailbox, and closes it in the end."""
         with open_file(path) as file:
-            yield cls(path, file, os.fstat(file.fileno()))
+            yield cls(path, file.fileno(), os.fstat(file.fileno()))
 
     def at(self, offset, count):
         """The bytes at an offset, fewer at the end."""
@@ -51,9 +69,9 @@ class LineEnds:
         self.file, self.after_cr = file, False
 
     def read(self, count):
+        """The next bytes; none at the end alone."""
         block = text = self.file.read(count)
         if self.after_cr and block.startswith(b"\n"):
             text = block[1:]
         self.after_cr = block.endswith(b"\r")
-        # nothing would be the end
         return text.replace(b"\r\n", b"\n").replace(b"\r", b"\n") or (self.read(count) if block else b"")

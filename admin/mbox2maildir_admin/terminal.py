@@ -1,10 +1,11 @@
 """What is printed: names and lines of mail that come from others are escaped."""
+import contextlib
 import os
 import shlex
 import sys
 
 from . import ADMIN
-from .faults import Fault, OutputFault
+from .faults import Fault, OutputFault, PlaceFault
 
 # how many lines, messages or files of a sort are named
 NAMED = 5
@@ -30,21 +31,32 @@ def is_text(name):
 
 
 def write(piece):
+    """Writes bytes to standard output."""
     try:
         sys.stdout.buffer.write(piece)
-    except OSError as fault:
-        raise OutputFault(fault)
+    except OSError as error:
+        raise OutputFault from error
 
 
 def flush():
+    """Ends with all on standard output that was written."""
     try:
         sys.stdout.flush()
-    except OSError as fault:
-        raise OutputFault(fault)
+    except OSError as error:
+        raise OutputFault from error
 
 
 def put(line):
+    """Prints a line."""
     write(line.encode("utf-8", "surrogateescape") + b"\n")
+
+
+def put_some(lines, count):
+    """Prints the first of so many lines, indented, and how many more there are."""
+    for line, _ in zip(lines, range(NAMED)):
+        put("    " + line.rstrip())
+    if count > NAMED:
+        put("    and %d more" % (count - NAMED))
 
 
 def complain(line):
@@ -59,31 +71,37 @@ def put_error(piece):
         sys.stderr.buffer.write(piece)
         sys.stderr.buffer.flush()
     except OSError:
-        pass
+        drop(sys.stderr)
+
+
+def drop(stream):
+    """What a stream still holds, and what comes, goes nowhere."""
+    nowhere = os.open(os.devnull, os.O_WRONLY)
+    os.dup2(nowhere, stream.fileno())
+    os.close(nowhere)
+
+
+def open_streams():
+    """Gives a standard stream that is closed a file that takes nothing, so that no other file gets its number."""
+    for number, name in enumerate(("stdin", "stdout", "stderr")):
+        if getattr(sys, name) is None:
+            os.open(os.devnull, os.O_RDONLY)
+            setattr(sys, name, os.fdopen(number, "w" if number else "r"))
 
 
 def reason_of(fault, path):
-    """What is said of a fault that came up with a file."""
-    if isinstance(fault, Fault):
+    """What is said of a fault that came up with a file: the place, and the cause."""
+    if isinstance(fault, PlaceFault):
         return str(fault)
-    other = fault.filename is not None and os.fsencode(fault.filename) != path
-    return "%s: %s" % (shown(fault.filename), fault.strerror) if other else fault.strerror or str(fault)
+    if isinstance(fault, Fault):
+        return "%s: %s" % (shown(path), fault)
+    return "%s: %s" % (shown(fault.filename if fault.filename is not None else path), fault.strerror or fault)
 
 
-def each(files, task):
-    """Does a task for each file, and answers whether each was done, and found right."""
-    right = []
-    for file in map(os.fsencode, files):
-        try:
-            right.append(task(file))
-        except (Fault, OSError) as fault:
-            complain("%s: %s" % (shown(file), reason_of(fault, file)))
-            right.append(False)
-    return all(right)
-
-
-def put_some(lines, count):
-    for line, _ in zip(lines, range(NAMED)):
-        put("    " + line.rstrip())
-    if count > NAMED:
-        put("    and %d more" % (count - NAMED))
+@contextlib.contextmanager
+def fault_of(path):
+    """What goes wrong in here is the fault of this file or folder."""
+    try:
+        yield
+    except OSError as error:
+        raise PlaceFault("%s: %s" % (shown(path), error.strerror)) from error
