@@ -186,7 +186,7 @@ def verify_file(maildir, file):
     put_some(("one file more of a message: %s" % shown(path) for path in verified.doubles), len(verified.doubles))
     strangers = sorted(verified.strangers.values())
     put_some(("of another owner than the Maildir: %s" % shown(path) for path in strangers), len(strangers))
-    put_some(("line %d: a From_ line in which mail may stand" % line for line, _ in verified.doubts.first), verified.doubts.count)
+    put_some(("line %d: a From_ line in which mail may stand" % line for line, *_ in verified.doubts.first), verified.doubts.count)
     if verified.count(RENAMED):
         put("    another program renamed mail: to convert this mailbox again would deliver that mail a second time")
     return verified.is_right()
