@@ -77,7 +77,7 @@ class Quoter:
         if self.how.by == "lines":
             quoted = mark.line in self.lines
             self.lines.discard(mark.line)
-            self.overruled += quoted and not mark.quotes and Look(self.source).sort_of(mark) in ("dated", "undated")
+            self.overruled += quoted and not mark.quotes and self.counts(mark)
         elif self.how.by == "dates":
             quoted = mark.quotes > 1 or (self.how.everything if mark.quotes else not is_dated(mark.piece))
         elif self.how.by == "lengths":
@@ -90,6 +90,10 @@ class Quoter:
             raise Fault("line %d: the first line of the text is its first From_ line%s" % (
                 mark.line, ", and has no date, by which others are found" if self.how.by == "dates" else ""))
         return quoted
+
+    def counts(self, mark):
+        """Whether `kind` counts a line as a From_ line."""
+        return Look(self.source).sort_of(mark, Header.read(self.source, mark)) in ("dated", "undated")
 
     def read_length(self, header):
         """Takes a message's length for where its body ends."""
@@ -131,14 +135,14 @@ def bounds_of(how, source):
 def check_lengths(look, trusted):
     """Whether a text can be quoted by its lengths: each leads to a From_ line; and where they are not trusted each message has
     one, and none leads over a dated From_ line."""
-    for line, (length, _) in look.first("wrong"):
+    for line, length, _ in look.first("wrong"):
         raise Fault("line %d: this length leads to no From_ line: %s" % (line, length))
     if trusted:
         return
-    for line, (_, by) in look.first("inside, dated"):
-        raise Fault("line %d: a dated From_ line within the message of line %s, by its length: --lengths quotes it" % (line, by))
-    for line, _ in look.first("without"):
-        raise Fault("line %d: this message has no length, and others may be no better: --lengths goes by them" % line)
+    for line, _, by in look.first("inside, dated"):
+        raise Fault("line %d: a dated From_ line within the message of line %d, by its length: --lengths quotes it" % (line, by))
+    if look.without:
+        raise Fault("line %d: this message has no length, and others may be no better: --lengths goes by them" % look.without)
 
 
 def quote(how, source, copy):
