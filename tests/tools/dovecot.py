@@ -11,6 +11,7 @@ import time
 
 # headers that its mbox has, and hides
 HIDDEN = re.compile(rb"(?mi)^(?:status|x-status|x-keywords|x-imapbase|x-imap|x-uid|content-length|x-uidl)[ \t]*:.*\n(?:[ \t].*\n)*")
+UNQUOTED = re.compile(rb"(?m)^>From ")
 CONFIGURATION = """\
 base_dir = {0}/run
 state_dir = {0}/state
@@ -22,8 +23,7 @@ disable_plaintext_auth = no
 default_internal_user = {1}
 default_internal_group = {2}
 default_login_user = {3}
-mail_location = maildir:~/Maildir
-mail_home = {0}/home/%u
+mail_location = mbox:~/mail:INBOX=~/inbox
 mail_fsync = never
 mbox_write_locks = fcntl
 mmap_disable = no
@@ -36,11 +36,16 @@ protocol pop3 {{
 }}
 passdb {{
   driver = static
+  username_filter = *@after
+  args = nopassword=y userdb_mail=maildir:~/Maildir
+}}
+passdb {{
+  driver = static
   args = nopassword=y
 }}
 userdb {{
-  driver = passwd-file
-  args = {0}/users
+  driver = static
+  args = uid={6} gid={7} home={0}/home/%n
 }}
 service imap-login {{
   chroot =
@@ -89,14 +94,14 @@ def free_port():
 
 
 class Dovecot:
-    """A server below a folder. Its users are made as they are needed, each with a home of its own."""
+    """A server below a folder. Each user has a home with `inbox` and the tree `mail`, and as `USER@after` the Maildir in it."""
 
     def __init__(self, folder, imap=None, pop3=None):
         self.folder, self.imap, self.pop3 = folder, imap or free_port(), pop3 or free_port()
         root = os.geteuid() == 0
         self.account = pwd.getpwnam("nobody") if root else pwd.getpwuid(os.geteuid())
         self.configuration = f"{folder}/dovecot.conf"
-        self.child, self.locations = None, {}
+        self.child = None
 
     def write(self):
         """Writes its configuration."""
@@ -107,26 +112,15 @@ class Dovecot:
         if os.geteuid() == 0:
             names = ["dovecot", "dovecot", "dovenull"]
         with open(self.configuration, "w", encoding="utf-8") as file:
-            file.write(CONFIGURATION.format(self.folder, *names, self.imap, self.pop3))
-        self.write_users()
-
-    def write_users(self):
-        lines = [f"{user}::{self.account.pw_uid}:{self.account.pw_gid}::{self.home(user)}::userdb_mail={location}\n"
-                 for user, location in self.locations.items()]
-        with open(f"{self.folder}/users.new", "w", encoding="utf-8") as file:
-            file.write("".join(lines))
-        os.rename(f"{self.folder}/users.new", f"{self.folder}/users")
+            file.write(CONFIGURATION.format(self.folder, *names, self.imap, self.pop3, self.account.pw_uid, self.account.pw_gid))
 
     def home(self, user):
         return f"{self.folder}/home/{user}"
 
-    def user(self, user, location):
-        """Makes a user, or turns one to another place of mail."""
-        if not os.path.isdir(self.home(user)):
-            os.mkdir(self.home(user), 0o700)
-            os.chown(self.home(user), self.account.pw_uid, self.account.pw_gid)
-        self.locations[user] = location
-        self.write_users()
+    def make_home(self, user):
+        """Makes the home of a user."""
+        os.mkdir(self.home(user), 0o700)
+        os.chown(self.home(user), self.account.pw_uid, self.account.pw_gid)
 
     def start(self):
         """Starts the server, and waits until it answers."""
@@ -161,17 +155,26 @@ class Dovecot:
 
     def complaints(self):
         """The lines of its log that complain."""
-        return [line for line in self.said().splitlines() if re.search("Error|Warning|Panic|Fatal", line)]
+        return [line for line in self.said().splitlines()
+                if re.search("Error|Warning|Panic|Fatal", line) and "Killed with signal 15" not in line]
 
     def doveadm(self, *words):
         """Runs doveadm with its configuration, and answers what it printed."""
         return subprocess.run(["doveadm", "-c", self.configuration, *words], stdout=subprocess.PIPE, stderr=subprocess.PIPE,
                               check=False)
 
-    def by_imap(self, user, folder="INBOX"):
-        """What IMAP shows of a folder: its UIDVALIDITY, the next UID, and of each message UID, flags, keywords, date and mail."""
+    def client(self, user, folder=None):
+        """A client over IMAP, with a folder open."""
         client = imaplib.IMAP4("127.0.0.1", self.imap)
         client.login(user, "x")
+        if folder:
+            status, says = client.select(f'"{folder}"')
+            assert status == "OK", says
+        return client
+
+    def by_imap(self, user, folder="INBOX"):
+        """What IMAP shows of a folder: its UIDVALIDITY, the next UID, and of each message UID, flags, keywords, date and mail."""
+        client = self.client(user)
         status, says = client.select(f'"{folder}"', readonly=True)
         assert status == "OK", says
         validity, following = (int(client.response(name)[1][0]) for name in ("UIDVALIDITY", "UIDNEXT"))
@@ -179,9 +182,16 @@ class Dovecot:
         if says != [b"0"]:
             status, found = client.fetch("1:*", "(UID FLAGS INTERNALDATE BODY.PEEK[])")
             assert status == "OK", found
-            rows = [row_of(*pair) for pair in found if isinstance(pair, tuple)]
+            rows = [row_of(found[place], found[place + 1]) for place in range(0, len(found), 2)]
         client.logout()
         return validity, following, rows
+
+    def subscribed(self, user):
+        """The folders that a user is subscribed to."""
+        client = self.client(user)
+        names = [line.split(b'"/" ')[1].strip(b'"') for line in client.lsub('""', "*")[1] if line]
+        client.logout()
+        return sorted(names)
 
     def by_pop3(self, user):
         """What POP3 shows of the inbox: the UIDLs in their order."""
@@ -193,10 +203,12 @@ class Dovecot:
         return lines
 
 
-def row_of(says, mail):
-    """A message as IMAP shows it: UID, flags, keywords, date, and the mail without the headers that mbox hides."""
+def row_of(pair, rest):
+    """A message as IMAP shows it: UID, flags, keywords, date, and the mail without the headers that mbox hides, and without the
+    quoting of an mbox, which a Maildir has not."""
+    says, mail = pair[0] + rest, pair[1]
     uid, flags = int(re.search(rb"UID (\d+)", says)[1]), set(re.search(rb"FLAGS \(([^)]*)\)", says)[1].split()) - {rb"\Recent"}
     date = re.search(rb'INTERNALDATE "([^"]*)"', says)[1]
     system = {flag for flag in flags if flag.startswith(b"\\")}
     header, gap, body = mail.replace(b"\r\n", b"\n").partition(b"\n\n")
-    return uid, sorted(system), sorted(flags - system), date, HIDDEN.sub(b"", header + b"\n") + gap[1:] + body
+    return uid, sorted(system), sorted(flags - system), date, UNQUOTED.sub(b"From ", HIDDEN.sub(b"", header + b"\n") + gap[1:] + body)
