@@ -123,20 +123,21 @@ class Reading:
 
     def add(self, header):
         """Takes the header of the next message."""
-        fields, start, uid = fields_of(header), 0, 0
+        fields, uid = fields_of(header), 0
         first = not self.uids and not self.head
-        for place, field in enumerate(fields):
+        for field in fields:
             head = head_of(field) if first and not self.head else None
             if head:
                 self.begin(head)
-                self.hides_first, start, uid = head.is_hidden, place, 0
+                # a UID before it counts for nothing
+                self.hides_first, uid = head.is_hidden, 0
             elif field.name == b"x-uid":
                 uid = uid or self.kept(field.value)
         if self.hides_first and not self.uids:
             self.uids.append(0)
         else:
             self.uids.append(self.take(uid or self.last + 1))
-        self.marks.append(marks_of(fields, start, self.names))
+        self.marks.append(marks_of(fields, self.names))
 
     def kept(self, value):
         """The UID of a value which a message keeps: one that rises, and is no higher than the next; 0 where it is none."""
@@ -162,17 +163,17 @@ class Reading:
         return moment, len(order) + 1, list(enumerate(order, 1))
 
 
-def marks_of(fields, start, names):
+def marks_of(fields, names):
     """The flags and keywords of a message in bits: from 0 on its keywords by their places, from 32 on the flags that Dovecot
-    reads, and from 40 on those that mbox2maildir gave it. Keywords count in the fields from `start` on."""
+    reads, and from 40 on those that mbox2maildir gave it."""
     marks, first = 0, {}
     keywords = None
-    for place, field in enumerate(fields):
+    for field in fields:
         if field.name in (b"status", b"x-status"):
             marks |= bits_of(field.value, STATUS if field.name == b"status" else X_STATUS, 32)
             if not field.is_spaced:
                 first.setdefault(field.name, field.value.split(b"\n")[0])
-        elif field.name == b"x-keywords" and place >= start and not keywords:
+        elif field.name == b"x-keywords" and not keywords:
             places = [names.get(name.lower()) for name in field.value.split()]
             keywords = places if None not in places else None
     for value in first.values():
