@@ -30,8 +30,8 @@ def parser():
     add_folders(words)
     add(words, "verify", do_verify, "look whether each message is in the Maildir",
         "Compares each FILE with MAILDIR, and prints how many of its messages are there with exactly their bytes, how many "
-        "under another name, how many with other bytes, how many nowhere, and how many files hold a message again. Writes nothing. "
-        "Status 0 only where each is there, once. A FILE may be a folder of mailboxes.", "MAILDIR", "FILE")
+        "under another name, how many with other bytes, how many nowhere, and how many files hold a message again. "
+        "Writes nothing. Status 0 only where each is there, once. A FILE may be a folder of mailboxes.", "MAILDIR", "FILE")
     return top
 
 
@@ -72,8 +72,8 @@ def add_dates(words):
     """Adds the word `dates`."""
     one = add(words, "dates", do_dates, "give converted files the dates of their From_ lines",
               "Gives the files in MAILDIR that came from FILE the dates of its From_ lines. A date without a zone is in that "
-              "of TZ, or of this machine. Status 1 where a message has no date, or no file. A FILE may be a folder of mailboxes.",
-              "MAILDIR", "FILE")
+              "of TZ, or of this machine. Status 1 where a message has no date, or no file. A FILE may be a folder of "
+              "mailboxes.", "MAILDIR", "FILE")
     one.add_argument("--header", action="store_true",
                      help="take the date of the header Date where the From_ line has none, and where all From_ lines have one")
 
