@@ -33,6 +33,14 @@ def each(files, task):
     return all(right)
 
 
+def read_tree(path):
+    """The files below a folder."""
+    tree = Tree(path).read()
+    if not tree.files and not tree.left:
+        raise Fault("no mailbox is in it")
+    return tree
+
+
 def leave_out(tree):
     """Says what was left out of a tree, and answers whether no mail was."""
     for left in tree.left:
@@ -52,7 +60,7 @@ def kind_below(path):
     if os.path.isdir(os.path.join(path, b"cur")):
         put("%s: a Maildir; next: leave it as it is" % shown(path))
         return False
-    tree, right = Tree(path).read(), []
+    tree, right = read_tree(path), []
     for file, verdict in tree.verdicts():
         if verdict.is_mail:
             right.append(say_kind(file, verdict))
@@ -131,7 +139,9 @@ def for_mailboxes(maildir, path, task):
     """Does a task for a Maildir and a mailbox, or for the folder and the mailbox of each that is below a folder."""
     if not os.path.isdir(path):
         return task(maildir, path)
-    tree = Tree(path).read()
+    if os.path.isdir(os.path.join(path, b"cur")):
+        raise Fault("it is a Maildir, and no mailbox")
+    tree = read_tree(path)
     mailboxes = tree.mailboxes()
     right = [each([mailbox.path], lambda file, folder=mailbox.folder(maildir): task(folder, file)) for mailbox in mailboxes]
     return leave_out(tree) and all(right)
@@ -171,12 +181,14 @@ def verify_file(maildir, file):
     put("%s: messages %d, bytes %d, there %d, under another name %d, other bytes %d, nowhere %d, doubles %d" % (
         shown(file), len(verified.sizes), sum(verified.sizes), *states, len(verified.doubles)))
     for state, says in ((OTHER, "other bytes in"), (RENAMED, "under another name,"), (NOWHERE, "nowhere")):
-        lines = ("message %d (line %d): %s %s" % (place + 1, line, says, shown(path)) for place, line, path in verified.found(state))
+        lines = ("message %d (line %d): %s %s" % (place + 1, line, says, shown(path))
+                 for place, line, path in verified.found(state))
         put_some(lines, verified.count(state))
     put_some(("one file more of a message: %s" % shown(path) for path in verified.doubles), len(verified.doubles))
     strangers = sorted(verified.strangers.values())
     put_some(("of another owner than the Maildir: %s" % shown(path) for path in strangers), len(strangers))
-    put_some(("line %d: a From_ line in which mail may stand" % line for line, _ in verified.doubts.first), verified.doubts.count)
+    doubts = verified.doubts
+    put_some(("line %d: a From_ line in which mail may stand" % line for line, *_ in doubts.first), doubts.count)
     if verified.count(RENAMED):
         put("    another program renamed mail: to convert this mailbox again would deliver that mail a second time")
     return verified.is_right()

@@ -1,6 +1,5 @@
 """Gives converted files the dates of their From_ lines."""
 import array
-import contextlib
 import os
 
 from .dates import seconds_of
@@ -71,8 +70,11 @@ class Dating:
             for name, path in paths:
                 place = self.table.place(name)
                 if place is not None and self.dates[place] != NONE:
-                    with contextlib.suppress(FileNotFoundError):
+                    try:
                         self.states[place] = DONE if set_date(path, self.dates[place]) else NOT_HELD
+                    except FileNotFoundError:
+                        # it was renamed meanwhile
+                        continue
             if self.messages - self.states.count(UNDONE) == known:
                 return
 

@@ -30,6 +30,10 @@ class Header:
         end = offset + (found.end("blank") if found and found["blank"] else len(header))
         return cls(header, offset, mark.line + 1, end)
 
+    def is_empty(self):
+        """Whether no line stands in it."""
+        return not self.text.strip(b"\r\n")
+
     def __getitem__(self, name):
         return self.fields[name]["text"].strip() if name in self.fields else b""
 

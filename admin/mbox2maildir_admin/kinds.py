@@ -68,13 +68,13 @@ class Lines:
     def __init__(self):
         self.count, self.numbers, self.first = 0, [], []
 
-    def add(self, line, *says):
-        """One line more, with texts that say more of it."""
+    def add(self, line, text=b"", other=0):
+        """One line more, with its text, and the number of another line that it has to do with."""
         self.count += 1
         if self.count <= self.MANY:
             self.numbers.append(line)
         if self.count <= NAMED:
-            self.first.append((line, [shown(text[:72]) + ("..." if len(text) > 72 else "") for text in says]))
+            self.first.append((line, shown(text[:72]) + ("..." if len(text) > 72 else ""), other))
 
 
 class Look:
@@ -83,8 +83,8 @@ class Look:
     def __init__(self, source, start=0):
         self.source, self.start = source, start
         self.messages, self.seen = 0, collections.defaultdict(Lines)
-        # the message that ends by its length, and where
-        self.claimed_by = self.claimed = 0
+        # the message that ends by its length, and where; and the first message without a length
+        self.claimed_by = self.claimed = self.without = 0
 
     def read(self):
         """Looks at the whole text."""
@@ -103,27 +103,28 @@ class Look:
 
     def mark(self, mark):
         """Looks at a line of `>` and `From `, and at the header after it."""
-        inside = mark.offset < self.claimed
+        inside, header = mark.offset < self.claimed, None
         if mark.quotes:
             sort = "quoted twice" if mark.quotes > 1 else "quoted, by length" if inside else "quoted"
         elif inside:
             sort = "inside, dated" if is_dated(mark.piece) else "inside"
         else:
-            sort = self.sort_of(mark)
-        self.seen[sort].add(mark.line, mark.piece, b"%d" % self.claimed_by)
-        if sort in ("dated", "undated", "odd", "doubtful"):
+            header = Header.read(self.source, mark)
+            sort = self.sort_of(mark, header)
+        self.seen[sort].add(mark.line, mark.piece, self.claimed_by)
+        if header and sort != "text":
             self.messages += 1
             self.from_line(mark)
-            self.header(Header.read(self.source, mark), mark)
+            self.header(header, mark)
 
-    def sort_of(self, mark):
-        """What a line `From ` looks like: a From_ line, "dated" or "undated", an "odd" one without a header, a "doubtful" one of
-        several words without a date, or "text"."""
-        before, after = self.source.at(mark.offset - 3, 3), self.source.at(mark.offset + len(mark.piece) + 1, 100)
+    def sort_of(self, mark, header):
+        """What a line `From ` before something like a header looks like: a From_ line, "dated" or "undated", an "odd" one
+        without a header, a "doubtful" one of several words without a date, or "text"."""
+        has_header = FIELD.match(header.text)
         if is_dated(mark.piece):
-            return "dated" if not after.strip(b"\r\n") or FIELD.match(after) or after.startswith((b"\n", b"\r\n")) else "odd"
-        first, blank = mark.offset == self.start, before.endswith((b"\n\n", b"\n\r\n"))
-        if first or blank and (FIELD.match(after) or ADDRESS.match(mark.piece)):
+            return "dated" if has_header or header.is_empty() else "odd"
+        first, blank = mark.offset == self.start, self.source.at(mark.offset - 3, 3).endswith((b"\n\n", b"\n\r\n"))
+        if first or blank and (has_header or ADDRESS.match(mark.piece)):
             return "undated" if first or ONE_WORD.match(mark.piece) else "doubtful"
         self.seen["text after a blank line"].count += blank
         return "text"
@@ -139,22 +140,23 @@ class Look:
 
     def header(self, header, mark):
         """Looks at the header of a message."""
-        if header[b"x-gm-thrid"]:
+        fields = header.fields
+        if b"x-gm-thrid" in fields and header[b"x-gm-thrid"]:
             self.seen["Gmail"].add(mark.line)
-        if header[b"x-mozilla-status"]:
+        if b"x-mozilla-status" in fields and header[b"x-mozilla-status"]:
             self.seen["Thunderbird"].add(mark.line)
             if DELETED.match(header[b"x-mozilla-status"]):
                 self.seen["deleted"].add(header.line_of(b"x-mozilla-status"))
-        if header[b"subject"] == NOTE:
+        if b"subject" in fields and header[b"subject"] == NOTE:
             self.seen["internal"].add(mark.line)
         end = header.message_end(self.source)
         self.claimed, self.claimed_by = end or 0, mark.line
         if end:
             self.seen["lengths"].add(mark.line)
         elif end == 0:
-            self.seen["wrong"].add(header.line_of(b"content-length"), header[b"content-length"], b"")
-        else:
-            self.seen["without"].add(mark.line)
+            self.seen["wrong"].add(header.line_of(b"content-length"), header[b"content-length"])
+        elif not self.without:
+            self.without = mark.line
 
     def count(self, *sorts):
         """How many lines are of one of these sorts."""
@@ -186,8 +188,8 @@ class Look:
         if self.start:
             yield "line 1: a byte order mark or blank lines stand before the text"
         for sort, says in SAID:
-            for line, text in self.first(sort):
-                yield "line %d: %s" % (line, says.format(*text))
+            for line, text, other in self.first(sort):
+                yield "line %d: %s" % (line, says.format(text, other))
             if self.count(sort) > NAMED:
                 yield "and %d lines more like the last" % (self.count(sort) - NAMED)
 
@@ -218,7 +220,7 @@ def look_at(source):
     start = text_start(head)
     if start is None:
         look = Look(source)
-        kind, then, remarks = what_else(source, head, lambda mark: look.sort_of(mark) != "text")
+        kind, then, remarks = what_else(source, head, lambda mark: look.sort_of(mark, Header.read(source, mark)) != "text")
         source.check()
         return Verdict(kind, then, remarks=remarks)
     if b"\r" in head[start:].split(b"\n")[0][:-1]:

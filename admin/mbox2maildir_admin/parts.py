@@ -55,13 +55,13 @@ def parts_of(file, offset=0, line=1):
         found = MARK_HERE.match(region) if fresh else None
         found = found or MARKS.search(region, max(0, position - 1))
         while not in_from:
-            begins = found.start("quotes") if found else len(region)
+            begins, after = found.span("quotes") if found else (len(region), 0)
             if begins > position:
                 yield Part(TEXT, offset + position, line, region[position:begins])
                 line += region.count(b"\n", position, begins)
             if not found:
                 break
-            quotes, end = len(found["quotes"]), region.find(b"\n", found.end())
+            quotes, end = after - begins, region.find(b"\n", after)
             end = len(region) if end < 0 else end
             yield Part(MARK, offset + begins, line, region[begins:min(end, begins + LONG + 1)], quotes)
             position = begins

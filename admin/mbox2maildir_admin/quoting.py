@@ -77,7 +77,7 @@ class Quoter:
         if self.how.by == "lines":
             quoted = mark.line in self.lines
             self.lines.discard(mark.line)
-            self.overruled += quoted and not mark.quotes and Look(self.source).sort_of(mark) in ("dated", "undated")
+            self.overruled += quoted and not mark.quotes and self.counts(mark)
         elif self.how.by == "dates":
             quoted = mark.quotes > 1 or (self.how.everything if mark.quotes else not is_dated(mark.piece))
         elif self.how.by == "lengths":
@@ -91,6 +91,10 @@ class Quoter:
                 mark.line, ", and has no date, by which others are found" if self.how.by == "dates" else ""))
         return quoted
 
+    def counts(self, mark):
+        """Whether `kind` counts a line as a From_ line."""
+        return Look(self.source).sort_of(mark, Header.read(self.source, mark)) in ("dated", "undated")
+
     def read_length(self, header):
         """Takes a message's length for where its body ends."""
         end = header.message_end(self.source)
@@ -102,7 +106,8 @@ class Quoter:
     def check(self, size, messages):
         """What was written is what was read, and what was counted; the copy has this size, and so many messages."""
         if size != self.given or size != self.read + self.quoted - self.left_out:
-            raise Fault("of %d bytes, with %d more and %d less, the copy has %d" % (self.read, self.quoted, self.left_out, size))
+            raise Fault("of %d bytes, with %d more and %d less, the copy has %d" % (
+                self.read, self.quoted, self.left_out, size))
         text = self.source.size - self.bounds.start
         if not self.how.cr and self.read != text:
             raise Fault("of its %d bytes %d were read" % (text, self.read))
@@ -131,14 +136,15 @@ def bounds_of(how, source):
 def check_lengths(look, trusted):
     """Whether a text can be quoted by its lengths: each leads to a From_ line; and where they are not trusted each message has
     one, and none leads over a dated From_ line."""
-    for line, (length, _) in look.first("wrong"):
+    for line, length, _ in look.first("wrong"):
         raise Fault("line %d: this length leads to no From_ line: %s" % (line, length))
     if trusted:
         return
-    for line, (_, by) in look.first("inside, dated"):
-        raise Fault("line %d: a dated From_ line within the message of line %s, by its length: --lengths quotes it" % (line, by))
-    for line, _ in look.first("without"):
-        raise Fault("line %d: this message has no length, and others may be no better: --lengths goes by them" % line)
+    for line, _, by in look.first("inside, dated"):
+        raise Fault("line %d: a dated From_ line within the message of line %d, by its length: --lengths quotes it" % (
+            line, by))
+    if look.without:
+        raise Fault("line %d: this message has no length, and others may be no better: --lengths goes by them" % look.without)
 
 
 def quote(how, source, copy):

@@ -99,8 +99,11 @@ class Verified:
         self.owner = os.stat(maildir).st_uid
         for again, paths in enumerate(listings_of(maildir)):
             for name, path in paths:
-                with contextlib.suppress(FileNotFoundError):
+                try:
                     self.look_at(name, path, again)
+                except FileNotFoundError:
+                    # it was renamed meanwhile
+                    continue
             if not self.states.count(NOWHERE):
                 break
         for base, place in self.table.places.items():

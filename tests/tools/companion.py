@@ -67,6 +67,24 @@ def install(folder):
     shutil.copytree(PACKAGE, folder / PACKAGE.name, ignore=shutil.ignore_patterns("__pycache__"))
 
 
+# a server's own is that of the machine, and may have another separator, or other folders
+DOVECOT = """base_dir = {folder}/dovecot
+state_dir = {folder}/dovecot
+protocols =
+ssl = no
+"""
+
+
+def own_dovecot(folder):
+    """Puts programs of Dovecot into a folder, so that they have a configuration of their own."""
+    (folder / "dovecot.conf").write_text(DOVECOT.format(folder=folder))
+    for name in ("doveadm", "dovecot-lda", "imap"):
+        found = shutil.which(name, path=f"{os.environ['PATH']}:/usr/sbin:/usr/lib/dovecot:/usr/libexec/dovecot")
+        if found:
+            (folder / name).write_text(f'#!/bin/sh\nexec {found} -c {folder}/dovecot.conf "$@"\n')
+            (folder / name).chmod(0o755)
+
+
 @contextmanager
 def fresh_home():
     """A new folder, which other users may enter. What still runs in it may leave something there."""
