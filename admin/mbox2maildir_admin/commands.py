@@ -8,6 +8,7 @@ import stat
 from . import ADMIN, PROGRAM
 from .copies import Copy
 from .dating import give_dates
+from .dovecot import left_out
 from .faults import Fault, OutputFault, PlaceFault
 from .folders import run_all, run_here
 from .kinds import Quoting, look_at
@@ -156,7 +157,7 @@ def do_dates(words):
 def date_file(maildir, file, by_header):
     """Gives the files of one mailbox their dates, and says which have none."""
     with Source.open(file) as source:
-        dating = give_dates(maildir, source, by_header)
+        dating = give_dates(maildir, source, by_header, *left_out(source, maildir))
         if dating.one_date is not None:
             complain("%s: all From_ lines have one date: %s" % (shown(file), shown(dating.one_date.rstrip())))
         for count, line in enumerate(dating.undone(maildir)):
@@ -176,17 +177,19 @@ def do_verify(words):
 def verify_file(maildir, file):
     """Says what of one mailbox is there, and answers whether each message is, once."""
     with Source.open(file) as source:
-        verified = verify(maildir, source)
+        verified = verify(maildir, source, *left_out(source, maildir))
     states = [verified.count(state) for state in (THERE, RENAMED, OTHER, NOWHERE)]
     put("%s: messages %d, bytes %d, there %d, under another name %d, other bytes %d, nowhere %d, doubles %d" % (
         shown(file), len(verified.sizes), sum(verified.sizes), *states, len(verified.doubles)))
     for state, says in ((OTHER, "other bytes in"), (RENAMED, "under another name,"), (NOWHERE, "nowhere")):
-        lines = ("message %d (line %d): %s %s" % (place + 1, line, says, shown(path)) for place, line, path in verified.found(state))
+        lines = ("message %d (line %d): %s %s" % (place + 1, line, says, shown(path))
+                 for place, line, path in verified.found(state))
         put_some(lines, verified.count(state))
     put_some(("one file more of a message: %s" % shown(path) for path in verified.doubles), len(verified.doubles))
     strangers = sorted(verified.strangers.values())
     put_some(("of another owner than the Maildir: %s" % shown(path) for path in strangers), len(strangers))
-    put_some(("line %d: a From_ line in which mail may stand" % line for line, *_ in verified.doubts.first), verified.doubts.count)
+    doubts = verified.doubts
+    put_some(("line %d: a From_ line in which mail may stand" % line for line, *_ in doubts.first), doubts.count)
     if verified.count(RENAMED):
         put("    another program renamed mail: to convert this mailbox again would deliver that mail a second time")
     return verified.is_right()

@@ -7,6 +7,7 @@ import os
 
 from .dovecot_headers import LETTERS, Reading, header_at, info_of, internal_head
 from .maildir import paths_of
+from .messages import messages_of
 from .migrating import Extra
 from .outcome import Left
 from .presence import is_file
@@ -81,6 +82,18 @@ class Dovecot(Extra):
             return False
         digest = hashlib.sha256(content_of(path)).hexdigest()
         return any(note.digest == digest and os.fsencode(note.path) == name for note in self.record.notes(WROTE, work.name))
+
+
+def left_out(source, maildir):
+    """Where the text of a mailbox begins, and in which line: after the message that is left out with its numbers, unless the
+    Maildir has it."""
+    head, end = internal_head(source, 0)
+    if not head:
+        return 0, 1
+    base = next(messages_of(source)).hash.hexdigest().encode() + b".1"
+    if any(name.startswith(base) for name, _ in paths_of(maildir)):
+        return 0, 1
+    return end, 1 + source.at(0, end).count(b"\n")
 
 
 def is_beginning(work, note):
