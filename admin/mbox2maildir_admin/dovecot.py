@@ -52,8 +52,11 @@ class Dovecot(Extra):
         files = rename(work.folder, work.inventory, reading.marks)
         moment = work.begun_at or self.record.begun_at(work.key)
         place_file(work.folder, LIST, list_of(reading.numbers(moment), files), self.writer(work.name))
-        lost = b" ".join(names[LETTERS:])
-        return says + (["only %d keywords have a letter, without one: %s" % (LETTERS, shown(lost))] if lost else [])
+        if reading.is_renumbered:
+            says.append("some get another UID than they have, since a message before them has none")
+        if names[LETTERS:]:
+            says.append("%d keywords are kept, without: %s" % (LETTERS, shown(b" ".join(names[LETTERS:]))))
+        return says
 
     def writer(self, name):
         """Records a file of a folder before it is written."""

@@ -74,8 +74,8 @@ def head_of(field) -> Optional[Head]:
 
 
 def number_of(digits) -> int:
-    """A number as Dovecot reads it, which holds 32 bits of one."""
-    return int(digits) & MOST_VALIDITY
+    """A number as Dovecot reads it, which holds 32 bits of one: what is before 32 digits adds nothing to these."""
+    return int(digits[-32:]) & MOST_VALIDITY
 
 
 def keywords_of(value) -> List[bytes]:
@@ -111,6 +111,8 @@ class Reading:
         self.head, self.hides_first = head, False
         self.names = {}
         self.last = self.previous = 0
+        # whether messages get others than they have
+        self.is_renumbered = False
         # the UID of each message, 0 of a hidden one; and its flags and keywords in bits
         self.uids, self.marks = array.array("Q"), array.array("Q")
         if head:
@@ -133,6 +135,7 @@ class Reading:
                 self.hides_first, uid = head.is_hidden, 0
             elif field.name == b"x-uid":
                 uid = uid or self.kept(field.value)
+        self.is_renumbered = self.is_renumbered or not uid and self.loses_uid(fields)
         if self.hides_first and not self.uids:
             self.uids.append(0)
         else:
@@ -144,6 +147,13 @@ class Reading:
         found = UID.match(value)
         number = number_of(found.group(1)) if found else 0
         return number if self.previous < number <= self.last + 1 else 0
+
+    def loses_uid(self, fields):
+        """Whether a message has a UID of the mailbox, and gets another since one before it has none."""
+        if not self.head or self.previous <= self.head.last:
+            return False
+        found = [UID.match(field.value) for field in fields if field.name == b"x-uid"]
+        return any(uid and 0 < number_of(uid.group(1)) <= self.head.last for uid in found)
 
     def take(self, uid):
         """Gives a message this UID."""

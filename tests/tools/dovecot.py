@@ -182,7 +182,8 @@ class Dovecot:
         if says != [b"0"]:
             status, found = client.fetch("1:*", "(UID FLAGS INTERNALDATE BODY.PEEK[])")
             assert status == "OK", found
-            rows = [row_of(found[place], found[place + 1]) for place in range(0, len(found), 2)]
+            # what stands between is said of flags that changed
+            rows = [row_of(pair, rest) for pair, rest in zip(found, found[1:]) if isinstance(pair, tuple)]
         client.logout()
         return validity, following, rows
 
