@@ -13,7 +13,7 @@ HEAD = "X-IMAPbase: 222 9 Foo\nX-UID: 5\n"
 UIDS = [
     (["", ""], None, 3, [1, 2]),
     (["X-UID: 1\n", "X-UID: 5\n"], None, 3, [1, 2]),
-    (["", "X-IMAPbase: 222 9\nX-UID: 3\n", ""], None, 4, [1, 2, 3]),
+    (["", "X-IMAPbase: 222 9\n", ""], None, 4, [1, 2, 3]),
     ([HEAD, "X-UID: 6\n", "X-UID: 9\n"], 222, 10, [5, 6, 9]),
     ([HEAD, "", "X-UID: 8\n", "X-UID: 9\n"], 222, 13, [5, 10, 11, 12]),
     ([HEAD, "X-UID: 4\n", "X-UID: 8\n"], 222, 12, [5, 10, 11]),
