@@ -2,6 +2,7 @@
 use Rattle.std.specs.Prelude.{OnOk, Result}
 use Rattle.maildir_run.specs.Cuts.{Follows}
 use Rattle.maildir_run.specs.Seen.{Seen}
+use Rattle.maildir_run.specs.Touched.{TouchedNone}
 use Rattle.maildir_disk.specs.declared.disk_folder.DiskFolder.{DiskFolder}
 use Rattle.maildir_disk.specs.declared.system.System.{Ghosts}
 use Rattle.maildir_disk.specs.PowerCuts.{LeftByOthers, Syncs}
@@ -16,6 +17,7 @@ seen_of f folder = record {
   files = (f.at folder.system).world.files;
   may_leave = (f.at folder.system).may_leave;
   rooted = (f.at folder.system).rooted;
+  touched = (f.at folder.system).touched;
   calls = folder.calls;
   failures = folder.failures;
 }
@@ -30,6 +32,8 @@ pub record SyncsMaildir {S File A E : Type 0} (f : Ghosts S File) (old : S) (res
   pub still_rooted : (f.at old).honest → (f.at old).rooted → (f.at new).rooted
   pub synced : (f.at old).honest
       → OnOk result (Follows (λ before left. Syncs (f.at old).world.files before (f.at new).world.files left) (f.at old).may_leave (f.at new).may_leave)
+  -- whatever the system does
+  pub touches : TouchedNone (f.at old).touched (f.at new).touched
   -- if no other program acts
   pub quiet : (f.at old).quiet → OnOk result (f.at new).quiet
   pub quietly : (f.at old).quiet → SameFiles (f.at old).world (f.at new).world

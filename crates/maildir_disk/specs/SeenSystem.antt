@@ -10,6 +10,7 @@ use Rattle.maildir_run.specs.declared.folder.Sub.{Sub}
 use Rattle.maildir_run.specs.Calls.{Call, Called, CalledQuietly, Writing, names_of}
 use Rattle.maildir_run.specs.Cuts.{Follows, Leaves}
 use Rattle.maildir_run.specs.Files.{Files}
+use Rattle.maildir_run.specs.Touched.{TouchedNone, TouchedOnly, Touches}
 use Rattle.maildir_disk.specs.PowerCuts.{LeftByOthers}
 use Rattle.maildir_disk.specs.Quiet.{AppendedQuietly, AreNames, SameFiles}
 use Rattle.maildir_disk.specs.World.{World, Acts, Passes, IsStampWithin, IsTimeOf, ReadsNames, no_world}
@@ -30,10 +31,13 @@ pub record SeenSystem : Type 1 where
   pub may_leave : Files → Type 0
   -- a power cut leaves the Maildir and its three folders
   pub rooted : Type 0
+  -- The names of which its calls may have touched a file until now: one that they made or emptied, so that it may be written,
+  -- moved or removed. What other programs do counts for nothing here.
+  pub touched : List ℕ → Type 0
 
 -- of a system of which nothing is known
 abbrev pub no_system : SeenSystem
-no_system = record { honest = ⊥; quiet = ⊥; world = no_world; may_leave = λ _. ⊥; rooted = ⊥ }
+no_system = record { honest = ⊥; quiet = ⊥; world = no_world; may_leave = λ _. ⊥; rooted = ⊥; touched = λ _. Unit {0} }
 
 -- The system was looked at: only other programs acted.
 pub record Looks (old new : SeenSystem) : Type 0 where
@@ -41,6 +45,7 @@ pub record Looks (old new : SeenSystem) : Type 0 where
   pub acts : old.honest → Acts old.world new.world
   pub left : old.honest → Follows LeftByOthers old.may_leave new.may_leave
   pub still_rooted : old.honest → old.rooted → new.rooted
+  pub touches : TouchedNone old.touched new.touched
   pub quiet : old.quiet → new.quiet
   pub quietly : old.quiet → SameFiles old.world new.world
 
@@ -50,6 +55,7 @@ pub record Asks {A E : Type 0} (old : SeenSystem) (result : Result A E) (new : S
   pub acts : old.honest → Acts old.world new.world
   pub left : old.honest → Follows LeftByOthers old.may_leave new.may_leave
   pub still_rooted : old.honest → old.rooted → new.rooted
+  pub touches : TouchedNone old.touched new.touched
   pub quiet : old.quiet → OnOk result new.quiet
   pub quietly : old.quiet → SameFiles old.world new.world
 
@@ -77,6 +83,7 @@ pub record MakesFile {A E : Type 0} (name : List ℕ) (old : SeenSystem) (result
   pub created : old.honest → Created name old.world result new.world
   pub left : old.honest → Follows (Leaves (Writing name [])) old.may_leave new.may_leave
   pub still_rooted : old.honest → old.rooted → new.rooted
+  pub touches : TouchedOnly (Touches (Writing name [])) old.touched new.touched
   pub quiet : old.quiet → new.quiet
   pub quietly : old.quiet → CalledQuietly (Writing name []) old.world.files result new.world.files
 
@@ -86,6 +93,7 @@ pub record Appends (name : List ℕ) (is_current : Type 0) (bytes : List ℕ) (o
   pub appended : old.honest → is_current → Appended name bytes old.world result new.world
   pub left : old.honest → Follows (Leaves (Writing name [])) old.may_leave new.may_leave
   pub still_rooted : old.honest → old.rooted → new.rooted
+  pub touches : TouchedNone old.touched new.touched
   pub quiet : old.quiet → new.quiet
   pub quietly : old.quiet → is_current → AppendedQuietly name bytes old.world.files result new.world.files
 
@@ -95,5 +103,6 @@ pub record TakesFromTmp {A E : Type 0} (call : Call) (old : SeenSystem) (result 
   pub called : old.honest → Called call old.world.files result new.world.files
   pub left : old.honest → Follows (Leaves call) old.may_leave new.may_leave
   pub still_rooted : old.honest → old.rooted → new.rooted
+  pub touches : TouchedOnly (Touches call) old.touched new.touched
   pub quiet : old.quiet → new.quiet
   pub quietly : old.quiet → CalledQuietly call old.world.files result new.world.files

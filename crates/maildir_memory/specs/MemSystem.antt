@@ -51,4 +51,5 @@ seen_system system = record {
   world = world_of system;
   may_leave = may_be_left system;
   rooted = IsTrue system.is_rooted;
+  touched = λ name. Unit {0};
 }

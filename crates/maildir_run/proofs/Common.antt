@@ -54,7 +54,8 @@ pub use Rattle.maildir_run.specs.Private.Given.{IsPrefixOf, Gave, GaveAll, IsGiv
 pub use Rattle.maildir_run.specs.Private.TableSoFar.{HasListed}
 pub use Rattle.maildir_run.specs.Table.{info, table_of, message_row, place_word, shown_byte, shown_sender}
 pub use Rattle.maildir_run.specs.MemFiles.{files_in, with_file, without_file}
-pub use Rattle.maildir_run.specs.Private.Parts.{DeliversMessages, Conversion, messages_after, names_in, Performed, run_tasks, ReportsTasks}
+pub use Rattle.maildir_run.specs.Private.Parts.{DeliversMessages, Conversion, messages_after, names_in, OneTouches, Performed, run_tasks, ReportsTasks}
+pub use Rattle.maildir_run.specs.Touched.{Touches, TouchedOnly, TouchedConverters}
 pub use Rattle.maildir_run.specs.Seen.{Seen, CallOf, ListingOf}
 pub use Rattle.maildir_run.specs.Parts.{deliveries_of, delivery_if, delivery_of, sweep_of}
 pub use Rattle.maildir_run.specs.Plan.{deliveries_from, steps_for, each_alone, is_listed, planned, removals}

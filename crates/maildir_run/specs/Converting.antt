@@ -17,6 +17,7 @@ use Rattle.maildir_run.specs.Runs.{CountsRun, Link, Possible, IsRun, Runs}
 use Rattle.maildir_run.specs.Seen.{Seen}
 use Rattle.maildir_run.specs.Tasks.{Listings, Performs, honestly, leaving, planned_tasks}
 use Rattle.maildir_run.specs.Texts.{MessagesOf}
+use Rattle.maildir_run.specs.Touched.{TouchedConverters}
 
 -- A run delivered the messages of its source, of which it may make so many reads, into a folder.
 pub record Converts (before after : Option (List ℕ)) (reads : ℕ) (old new : Seen) (result : Result Report RunFault) : Type 0 where
@@ -35,6 +36,8 @@ pub record Converts (before after : Option (List ℕ)) (reads : ℕ) (old new : 
   pub alone : old.quiet → (t : List ℕ) (ms : List Message) → Possible before after t → MessagesOf t ms
       → IfOk result (λ report. (new.files ≡ alone_after ms old.files) × (report.swept ≡ leftover_count old.files))
   pub others : old.quiet → KeepsForeign old.files new.files
+  -- whatever the folder and others do
+  pub touches : TouchedConverters old.touched new.touched
   -- what it counts
   pub calls : IfOk result (λ report. CountsRun report old.calls new.calls)
   pub cause : CountsFault result old.failures new.failures

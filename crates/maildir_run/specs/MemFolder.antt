@@ -104,6 +104,7 @@ seen_of m = record {
   files = files_of m;
   may_leave = λ left. left ≡ files_of m;
   rooted = Unit {0};
+  touched = λ name. Unit {0};
   calls = all_call_count m;
   failures = failure_count m;
 }

@@ -1,5 +1,5 @@
 -- What a call of the folder did, from what its last system call did.
-use Rattle.std.proofs.Common.{◌≡◌, [], ◌∷◌, ◌++◌, List, Result, Ok, Err, IfOk, IsErr, OnErr, Vec, String, Global}
+use Rattle.std.proofs.Common.{◌≡◌, inr, [], ◌∷◌, ◌++◌, List, Result, Ok, Err, IfOk, IsErr, OnErr, Vec, String, Global}
 use Rattle.maildir_run.specs.declared.folder.FolderFault.{FolderFault}
 use Rattle.maildir_run.specs.Calls.{IsNotAbsent, MayAnswer}
 use Rattle.maildir_run.specs.Seen.{CallOf, ListingOf}
@@ -36,6 +36,7 @@ call_answered f call old new outcome {answer} did counts ok err answers = rw cou
   called = λ h. rw counts.system (called_answered call _ _ outcome answer ok err (did.called h));
   left = λ h. rw counts.system (left_answered call outcome answer err (did.left h));
   still_rooted = λ h r. rw counts.system (did.still_rooted h r);
+  touches = rw counts.system did.touches;
   quiet = λ q. rw counts.system (did.quiet q);
   quietly = λ q. rw counts.system (quietly_answered call _ _ outcome answer ok err (did.quietly q));
   counted = counts.calls;
@@ -51,6 +52,7 @@ taken outcome whole takes = record {
   called = takes.called;
   left = λ h. left_always outcome whole (takes.left h);
   still_rooted = takes.still_rooted;
+  touches = takes.touches;
   quiet = takes.quiet;
   quietly = takes.quietly;
 }
@@ -85,6 +87,7 @@ listing sub outcome did = record {
   called = λ h. listed_called sub _ outcome _ (did.listed h);
   left = λ h. left_always outcome (λ s. tt) (left_early {call = Listing sub} (did.looks.left h));
   still_rooted = did.looks.still_rooted;
+  touches = λ name now. inr (did.looks.touches name now);
   quiet = did.looks.quiet;
   quietly = λ q. same_quietly sub outcome (did.looks.quietly q);
 }

@@ -10,6 +10,7 @@ looks_none = record {
   acts = λ h. acts_none;
   left = λ h. left_none;
   still_rooted = λ h r. r;
+  touches = λ name now. now;
   quiet = λ q. q;
   quietly = λ q. refl;
 }
@@ -20,6 +21,7 @@ looks_then first then = record {
   acts = λ h. acts_on (first.acts h) (then.acts (first.honest h));
   left = λ h. left_by_others_then (first.left h) (then.left (first.honest h));
   still_rooted = λ h r. then.still_rooted (first.honest h) (first.still_rooted h r);
+  touches = λ name now. first.touches name (then.touches name now);
   quiet = λ q. then.quiet (first.quiet q);
   quietly = λ q. then.quietly (first.quiet q) ∙ first.quietly q;
 }
@@ -30,6 +32,7 @@ asks_then first then = record {
   acts = λ h. acts_on (first.acts h) (then.acts (first.honest h));
   left = λ h. left_by_others_then (first.left h) (then.left (first.honest h));
   still_rooted = λ h r. then.still_rooted (first.honest h) (first.still_rooted h r);
+  touches = λ name now. first.touches name (then.touches name now);
   quiet = λ q. then.quiet (first.quiet q);
   quietly = λ q. then.quietly (first.quiet q) ∙ first.quietly q;
 }
@@ -41,6 +44,7 @@ kept_looks asks = record {
   acts = asks.acts;
   left = asks.left;
   still_rooted = asks.still_rooted;
+  touches = asks.touches;
   quiet = asks.quiet;
   quietly = asks.quietly;
 }

@@ -20,6 +20,7 @@ sync_failed f (Err e) is asks = record {
   left = asks.left;
   rooted = λ h. tt;
   still_rooted = asks.still_rooted;
+  touches = asks.touches;
   synced = λ h. tt;
   quiet = λ q. tt;
   quietly = asks.quietly;

@@ -3,6 +3,7 @@ use Rattle.std.proofs.Common.{◌≡◌, ◌∙◌, inl, inr, ℕ, [], List, ◌
 use Rattle.std.proofs.lemmas.Bool.{false≢true}
 use Rattle.std.specs.IoError.{error_kind}
 use Rattle.std.specs.declared.io.ErrorKind.TheVariants.{Interrupted}
+use Rattle.maildir_run.specs.Touched.{TouchedOnly, Touches}
 use Rattle.maildir_disk.proofs.Common.{Appended, AppendedQuietly, effect, Error, Follows, KeepsHeld, Leaves, Writing, Written}
 use Rattle.maildir_disk.specs.Private.Effects.{TakesEffect}
 use Rattle.maildir_disk.specs.SeenSystem.{Appends, Looks, MakesFile, SeenSystem}
@@ -15,6 +16,7 @@ pub record WritesSoFar (name held under : List ℕ) (is_current : Type 0) (old n
   pub honest : old.honest → new.honest
   pub left : old.honest → Follows (Leaves (Writing name [])) old.may_leave new.may_leave
   pub still_rooted : old.honest → old.rooted → new.rooted
+  pub touches : TouchedOnly (Touches (Writing name [])) old.touched new.touched
   pub quiet : old.quiet → new.quiet
   pub quiet_is_honest : old.quiet → old.honest
   pub named : old.honest → under ≡ name
@@ -31,6 +33,7 @@ not_made {name = name} {bytes = bytes} (Err _) is_err makes = record {
   called = λ h. not_created name bytes (makes.created h);
   left = λ h. left_torn (makes.left h);
   still_rooted = makes.still_rooted;
+  touches = makes.touches;
   quiet = makes.quiet;
   quietly = λ q. not_created_quietly name bytes (makes.quietly q);
 }
@@ -41,6 +44,7 @@ made makes named current quiet_is_honest = record {
   honest = makes.honest;
   left = makes.left;
   still_rooted = makes.still_rooted;
+  touches = makes.touches;
   quiet = makes.quiet;
   quiet_is_honest = quiet_is_honest;
   named = named;
@@ -58,6 +62,7 @@ given_up {held = held} (Err _) is_err was = record {
   called = λ h. write_failed held (was.holds h);
   left = λ h. left_torn (was.left h);
   still_rooted = was.still_rooted;
+  touches = was.touches;
   quiet = was.quiet;
   quietly = λ q. torn_quietly held (was.quietly q);
 }
@@ -75,6 +80,7 @@ synced {name = name} {bytes = bytes} {a = a} outcome was looks kept =
           left_written outcome (write_succeeded (holds h)) (rw (was.named h) at (kept (was.honest h) (was.current h)))
           (left_torn (left_more (was.left h) (looks.left (was.honest h))));
       still_rooted = λ h r. looks.still_rooted (was.honest h) (was.still_rooted h r);
+      touches = λ name now. was.touches name (looks.touches name now);
       quiet = λ q. looks.quiet (was.quiet q);
       quietly = λ q. written_quietly name bytes _ outcome (looks.quietly (was.quiet q) ∙ was.quietly q);
     }
@@ -90,6 +96,7 @@ module _ {name held under piece : List ℕ} {is_current : Type 0} {a b c : SeenS
     honest = λ h. appends.honest (was.honest h);
     left = λ h. left_both (was.left h) (rw (was.named h) at (appends.left (was.honest h)));
     still_rooted = λ h r. appends.still_rooted (was.honest h) (was.still_rooted h r);
+    touches = λ name now. was.touches name (appends.touches name now);
     quiet = λ q. appends.quiet (was.quiet q);
     quiet_is_honest = was.quiet_is_honest;
     named = λ h. same ∙ was.named h;
@@ -122,6 +129,7 @@ module _ {name held under piece : List ℕ} {is_current : Type 0} {a b c : SeenS
     called = λ h. append_failed held piece c.world outcome (was.holds h) (rw (was.named h) at (appends.appended (was.honest h) (was.current h)));
     left = λ h. left_torn (left_both (was.left h) (rw (was.named h) at (appends.left (was.honest h))));
     still_rooted = λ h r. appends.still_rooted (was.honest h) (was.still_rooted h r);
+    touches = λ name now. was.touches name (appends.touches name now);
     quiet = λ q. appends.quiet (was.quiet q);
     quietly = λ q.
         let h = was.quiet_is_honest q in

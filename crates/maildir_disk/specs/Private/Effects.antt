@@ -2,6 +2,7 @@
 use Rattle.std.specs.Prelude.{◌≡◌, Result}
 use Rattle.maildir_run.specs.Calls.{Call, Called, CalledQuietly, CountsFailure, GoesUp}
 use Rattle.maildir_run.specs.Cuts.{Follows, LeavesOf}
+use Rattle.maildir_run.specs.Touched.{TouchedOnly, Touches}
 use Rattle.maildir_run.specs.declared.folder.FolderFault.{FolderFault}
 use Rattle.maildir_disk.specs.declared.disk_folder.DiskFolder.{DiskFolder}
 use Rattle.maildir_disk.specs.SeenSystem.{SeenSystem}
@@ -12,6 +13,7 @@ pub record TakesEffect {A E : Type 0} (call : Call) (old : SeenSystem) (result :
   pub called : old.honest → Called call old.world.files result new.world.files
   pub left : old.honest → Follows (λ before now. LeavesOf call before result now) old.may_leave new.may_leave
   pub still_rooted : old.honest → old.rooted → new.rooted
+  pub touches : TouchedOnly (Touches call) old.touched new.touched
   pub quiet : old.quiet → new.quiet
   pub quietly : old.quiet → CalledQuietly call old.world.files result new.world.files
 

@@ -124,6 +124,7 @@ taken change old folder cases stamp calls result lines more called quietly = rec
   called = λ h. called;
   left = λ h. left_made change old.folder folder old.cases cases result left_none more called;
   still_rooted = λ h rooted. rooted;
+  touches = λ name now. inr tt;
   quiet = λ q. record { no_script = lines ∙ q.no_script; no_turns = q.no_turns };
   quietly = λ q. quietly q.no_script;
 }

@@ -1,5 +1,5 @@
 -- What is seen of a Maildir in memory after a call that only looks, or that failed.
-use Rattle.std.proofs.Common.{◌≡◌, ◌∙◌, ◌↔◌, [], refl, inl, arith, ℕ, List, Contains, Result, Ok, Err, IfOk, IsErr, Vec, String, Global}
+use Rattle.std.proofs.Common.{◌≡◌, ◌∙◌, ◌↔◌, [], refl, inl, inr, arith, ℕ, List, Contains, Result, Ok, Err, IfOk, IsErr, Vec, String, Global}
 use Rattle.std.proofs.lemmas.Bool.{false≢true}
 use Rattle.std.specs.declared.io.Error.{Error}
 use Rattle.std.specs.declared.time.SystemTime.{SystemTime}
@@ -11,6 +11,7 @@ use Rattle.maildir_disk.specs.SeenSystem.{Appends, Asks, Looks, MakesFile, Reads
 use Rattle.maildir_disk.specs.World.{Acts, ReadsNames}
 use Rattle.maildir_run.specs.Calls.{CalledQuietly, names_of}
 use Rattle.maildir_run.specs.MemFolder.{IsQuiet, lines_of}
+use Rattle.maildir_run.specs.Touched.{TouchedNone}
 use Rattle.maildir_run.specs.declared.folder.FolderFault.{FolderFault}
 use Rattle.maildir_memory.proofs.Common.{Call, Cases, Files, Follows, Leaves, lefts_of, Listing, MemFolder, Passes, Sub, Writing, files_of, may_find}
 use Rattle.maildir_memory.proofs.Memory.Changes.{left_stayed, same_found}
@@ -26,6 +27,7 @@ looks_short did quiet quietly = record {
   acts = λ h. did.acts;
   left = λ h. did.left;
   still_rooted = λ h rooted. rw did.root rooted;
+  touches = λ name now. tt;
   quiet = quiet;
   quietly = quietly;
 }
@@ -37,6 +39,7 @@ looks_begun old calls = record {
   acts = λ h. record { actions = []; files_are = refl };
   left = λ h. left_none;
   still_rooted = λ h rooted. rooted;
+  touches = λ name now. tt;
   quiet = λ q. record { no_script = q.no_script; no_turns = q.no_turns };
   quietly = λ q. refl;
 }
@@ -50,6 +53,7 @@ looks_stayed P old cases stays = record {
   acts = λ h. record { actions = []; files_are = refl };
   left = λ h. left_stayed P old.folder old.cases cases stays;
   still_rooted = λ h rooted. rooted;
+  touches = λ name now. tt;
   quiet = λ q. record { no_script = q.no_script; no_turns = q.no_turns };
   quietly = λ q. refl;
 }
@@ -60,6 +64,7 @@ asked looks = record {
   acts = looks.acts;
   left = looks.left;
   still_rooted = looks.still_rooted;
+  touches = looks.touches;
   quiet = looks.quiet;
   quietly = looks.quietly;
 }
@@ -72,6 +77,7 @@ looks_same old folder lines same = record {
   acts = λ h. record { actions = []; files_are = same h };
   left = λ h. same_found old.folder folder old.cases (same h) left_none;
   still_rooted = λ h rooted. rooted;
+  touches = λ name now. tt;
   quiet = λ q. record { no_script = lines ∙ q.no_script; no_turns = q.no_turns };
   quietly = λ q. same q.no_script;
 }
@@ -100,6 +106,7 @@ pub record Fails (call : Call) (old new : SeenSystem) : Type 0 where
   pub acts : old.honest → Acts old.world new.world
   pub left : old.honest → Follows (Leaves call) old.may_leave new.may_leave
   pub still_rooted : old.honest → old.rooted → new.rooted
+  pub touches : TouchedNone old.touched new.touched
   pub quiet : old.quiet → new.quiet
   pub quietly : old.quiet → SameFiles old.world new.world
 
@@ -109,6 +116,7 @@ fails_early looks = record {
   acts = looks.acts;
   left = λ h. left_early (looks.left h);
   still_rooted = looks.still_rooted;
+  touches = looks.touches;
   quiet = looks.quiet;
   quietly = looks.quietly;
 }
@@ -123,6 +131,7 @@ fails old mid folder cases stamp calls looks script same left = record {
   acts = λ h. let acts = looks.acts h in record { actions = acts.actions; files_are = same (looks.honest h) ∙ acts.files_are };
   left = left;
   still_rooted = looks.still_rooted;
+  touches = looks.touches;
   quiet = λ q. let still = looks.quiet q in record { no_script = script still.no_script; no_turns = still.no_turns };
   quietly = λ q. same (looks.quiet q).no_script ∙ looks.quietly q;
 }
@@ -135,6 +144,7 @@ not_made (Err _) is_err fails = record {
   created = λ h. inl (fails.acts h);
   left = fails.left;
   still_rooted = fails.still_rooted;
+  touches = λ name now. inr (fails.touches name now);
   quiet = fails.quiet;
   quietly = λ q. ([], tt, fails.quietly q);
 }
@@ -147,6 +157,7 @@ not_appended (Err _) is_err fails = record {
   appended = λ h current. inl (fails.acts h);
   left = fails.left;
   still_rooted = fails.still_rooted;
+  touches = fails.touches;
   quiet = fails.quiet;
   quietly = λ q current. inl (fails.quietly q);
 }
@@ -158,6 +169,7 @@ not_taken (Err _) is_err fails = record {
   called = λ h. acts_failed (fails.acts h);
   left = fails.left;
   still_rooted = fails.still_rooted;
+  touches = λ name now. inr (fails.touches name now);
   quiet = fails.quiet;
   quietly = λ q. ([], tt, fails.quietly q);
 }

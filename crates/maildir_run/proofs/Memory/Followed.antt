@@ -77,6 +77,7 @@ call_made call old new result scripted counted cause =
       called = λ honest. called;
       left = λ honest. called_left call result called;
       still_rooted = λ honest rooted. tt;
+      touches = λ name now. inr tt;
       quiet = λ quiet. scripted.script.lines ∙ quiet;
       quietly = grind (arith, follows_quietly);
       counted = counted;

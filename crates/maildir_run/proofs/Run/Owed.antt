@@ -6,7 +6,7 @@ use Rattle.maildir_run.proofs.Common.{is_converter_name, is_converter_base, RunF
 use Rattle.maildir_run.proofs.Common.{alone, Conversion, ReportsTasks, run_tasks, Seen, Performed, sweep_of, delivery_of, delivery_if}
 use Rattle.maildir_run.proofs.Common.{deliveries_of, fault_of, capped, HasCallNumber, CallNumber, Follows, Message, IsSoundAt, IsMissing}
 use Rattle.maildir_run.proofs.Common.{Delivered, AreDistinct, Sound, has_home, there_count, leftover_count, Files, SourceStopped}
-use Rattle.maildir_run.proofs.Common.{is_listed, TmpWithin, Knows, Progress, IsTarget, KeepsForeign, ReadsAtLeast, Possible, Keeps, IsRun}
+use Rattle.maildir_run.proofs.Common.{is_listed, TmpWithin, TouchedConverters, Knows, Progress, IsTarget, KeepsForeign, ReadsAtLeast, Possible, Keeps, IsRun}
 use Rattle.maildir_run.proofs.Common.{CountsRun, Link, Runs, Mbox, Task, Performs, AllDone, Stopped, honestly, quietly, Listings}
 use Rattle.maildir_run.proofs.Common.{listing_tasks, planned_tasks, Way, leaving, messages_of, bodies_of, MessagesOf, flat_map-append}
 use Rattle.maildir_run.specs.Converting.{Converts}
@@ -21,10 +21,10 @@ use Rattle.maildir_run.proofs.Call.Steps.{leaves_trans}
 use Rattle.maildir_run.proofs.Call.FolderListings.{filter-length}
 use Rattle.maildir_run.proofs.Chains.BaseNumbers.{count-cons}
 use Rattle.maildir_run.proofs.Tasks.PlanLemmas.{planned_are}
-use Rattle.maildir_run.proofs.Tasks.Tasks.{stopped_before, honestly_stops, MayStop, leaving_stops}
+use Rattle.maildir_run.proofs.Tasks.Tasks.{stopped_before, honestly_stops, MayStop, leaving_stops, touched_as}
 use Rattle.maildir_run.proofs.Tasks.TaskEffects.{EachTask, each_of_both, PlacesNone, IsOurs, done_leaves, all_parts, stopped_parts}
 use Rattle.maildir_run.proofs.Tasks.TaskEffects.{known_by_listings, listed_quietly, all_swept, sweep_ours, listings_place_none}
-use Rattle.maildir_run.proofs.Tasks.TaskEffects.{sweep_places_none, all_progress, stopped_came, CameTo, all_filled, done_others}
+use Rattle.maildir_run.proofs.Tasks.TaskEffects.{sweep_places_none, all_progress, stopped_came, CameTo, all_filled, done_others, ours_touched}
 
 -- ---- tasks that name converter's names alone
 delivery_ours : {t : Target} (body : List ℕ) → IsTarget t → EachTask IsOurs (delivery_of t body)
@@ -223,11 +223,14 @@ module _ {before after : Option (List ℕ)} {reads : ℕ} {start now : Seen} {r 
       (filled_all run.names (messages_of (bodies_of run.given)) (messages_distinct (bodies_of run.given) few_bodies)
       (messages_targets (bodies_of run.given) few_bodies) start.files now.files r (run.ran.done_honestly (honest_of q)) (run.ran.done_quietly q) run.tells)
 
+  ours : EachTask IsOurs (run_tasks run.names (messages_of (bodies_of run.given)))
+  ours = run_ours run.names _ (messages_targets _ few_bodies)
+
   owes_others : start.quiet → KeepsForeign start.files now.files
-  owes_others q =
-      done_others (fault_of r) (run_tasks run.names (messages_of (bodies_of run.given)))
-      (run_ours run.names _ (messages_targets _ few_bodies))
-      start.files now.files (run.ran.done_quietly q)
+  owes_others q = done_others (fault_of r) (run_tasks run.names (messages_of (bodies_of run.given))) ours start.files now.files (run.ran.done_quietly q)
+
+  owes_touches : TouchedConverters start.touched now.touched
+  owes_touches = touched_as (ours_touched (run_tasks run.names (messages_of (bodies_of run.given))) ours) run.ran.touches
 
   owes_calls : IfOk r (λ report. CountsRun report start.calls now.calls)
   owes_calls = calls_made _ r run.ran run.tells
@@ -255,6 +258,7 @@ module _ {before after : Option (List ℕ)} {reads : ℕ} {start now : Seen} {r 
     as_planned = owes_planned;
     left = owes_left;
     still_rooted = run.ran.still_rooted;
+    touches = owes_touches;
     owes = owes_run;
     restartable = owes_restart;
     quiet = run.ran.quiet;

@@ -5,6 +5,7 @@ use Rattle.std.proofs.Common.{Option, Some, None, IsErrAnd, flat_map, take-appen
 use Rattle.maildir_run.proofs.Common.{keys, take_more, flat_map-append, RunFault, FolderFault, Sub, Call, Called, CalledQuietly}
 use Rattle.maildir_run.proofs.Common.{Listed, Listing, GoesUp, CountsFailure, folder_of, names_of, fault_of, run_answer, capped}
 use Rattle.maildir_run.proofs.Common.{CountsFault, HasCallNumber, Follows, LeavesOf, Files, Task, Ask, Do, Way, honestly}
+use Rattle.maildir_run.proofs.Common.{OneTouches, Touches, TouchedOnly, call_of}
 use Rattle.maildir_run.proofs.Common.{quietly, leaving, AllDone, Stopped, DoneUntil, Performs, Seen, CallOf, ListingOf, Performed, names_in, IsReading}
 use Rattle.maildir_run.proofs.Tasks.Faults.{at_reading}
 use Rattle.maildir_run.proofs.Call.Cuts.{left_as, left_then}
@@ -42,6 +43,24 @@ stopped_before w still [] ys a b e = rw e (stopped_here w still ys a)
 stopped_before w still (x ∷ xs) ys a b (inl h) = inl h
 stopped_before w still (x ∷ xs) ys a b (inr (mid, one, more)) = inr (mid, one, stopped_before w still xs ys mid b more)
 
+-- ---- names that are touched by tasks after one another
+touched_first : (xs ys : List Task) (name : List ℕ) → OneTouches xs name → OneTouches (xs ++ ys) name
+touched_first [] ys name h = absurd h
+touched_first (x ∷ xs) ys name (inl h) = inl h
+touched_first (x ∷ xs) ys name (inr h) = inr (touched_first xs ys name h)
+
+touched_last : (xs ys : List Task) (name : List ℕ) → OneTouches ys name → OneTouches (xs ++ ys) name
+touched_last [] ys name h = h
+touched_last (x ∷ xs) ys name h = inr (touched_last xs ys name h)
+
+pub touched_as : {P Q old new : List ℕ → Type 0} → ((name : List ℕ) → P name → Q name) → TouchedOnly P old new → TouchedOnly Q old new
+touched_as f h name now = elim (h name now) [ inl p ↦ inl (f name p) | inr was ↦ inr was ]
+
+touched_then : (xs ys : List Task) {a b c : List ℕ → Type 0} → TouchedOnly (OneTouches xs) a b → TouchedOnly (OneTouches ys) b c
+    → TouchedOnly (OneTouches (xs ++ ys)) a c
+touched_then xs ys first then name now =
+    elim (then name now) [ inl own ↦ inl (touched_last xs ys name own) | inr mid ↦ touched_as (touched_first xs ys) first name mid ]
+
 -- ---- runs after one another
 pub ran_none : {s : Seen} {made : ℕ} → Performed [] s s made made None
 ran_none {s} {made} = record {
@@ -49,6 +68,7 @@ ran_none {s} {made} = record {
   done_honestly = λ h. refl;
   left = λ h new may. (new, may, refl);
   still_rooted = λ h r. r;
+  touches = λ name now. inr now;
   quiet = λ q. q;
   done_quietly = λ q. refl;
   n = 0;
@@ -70,6 +90,7 @@ ran_then {xs} {ys} {a} {b} {c} {made} {mid} {made'} {fault} first then =
       left = λ h.
           left_then _ _ _ a.may_leave b.may_leave c.may_leave (λ x y z. done_then leaving xs ys x y z fault) (first.left h) (then.left (first.honest h));
       still_rooted = grind arith;
+      touches = touched_then xs ys first.touches then.touches;
       quiet = λ q. then.quiet (first.quiet q);
       done_quietly = grind (arith, done_then);
       n = first.n + then.n;
@@ -90,6 +111,7 @@ ran_before {xs} {a} {b} ys h =
       done_honestly = grind (arith, stopped_before);
       left = λ q. left_as _ _ a.may_leave b.may_leave (stopped_before leaving leaving_stops xs ys) (h.left q);
       still_rooted = h.still_rooted;
+      touches = touched_as (touched_first xs ys) h.touches;
       quiet = h.quiet;
       done_quietly = grind (arith, stopped_before);
       n = h.n;
@@ -108,6 +130,7 @@ ran_stop {xs} {a} {b} {made} {made'} reading h = record {
   done_honestly = grind (arith, all_stopped);
   left = λ q. left_as _ _ a.may_leave b.may_leave (all_stopped leaving xs) (h.left q);
   still_rooted = h.still_rooted;
+  touches = h.touches;
   quiet = h.quiet;
   done_quietly = grind (arith, all_stopped);
   n = h.n;
@@ -145,14 +168,16 @@ told_names r number = grind arith
 ran_one : {A : Type 0} {task : Task} {old new : Seen} {made made' : ℕ} (r : Result A FolderFault) {answer : Result A RunFault} → made' ≡ capped (made + 1)
     → answer ≡ run_answer made' r → (old.honest → new.honest) → (old.honest → Performs honestly (task ∷ []) old.files r new.files)
     → (old.honest → Follows (λ before now. Performs leaving (task ∷ []) before r now) old.may_leave new.may_leave)
-    → (old.honest → old.rooted → new.rooted) → (old.quiet → new.quiet) → (old.quiet → Performs quietly (task ∷ []) old.files r new.files)
+    → (old.honest → old.rooted → new.rooted) → TouchedOnly (Touches (call_of task)) old.touched new.touched
+    → (old.quiet → new.quiet) → (old.quiet → Performs quietly (task ∷ []) old.files r new.files)
     → GoesUp old.calls new.calls → CountsFailure r old.failures new.failures → Performed (task ∷ []) old new made made' (fault_of answer)
-ran_one {task} {old} {new} {made} {made'} r up is honest called left rooted quiet alone counted cause =
+ran_one {task} {old} {new} {made} {made'} r up is honest called left rooted touches quiet alone counted cause =
     subst (λ x. Performed (task ∷ []) old new made made' (fault_of x)) (sym is) (record {
       honest = honest;
       done_honestly = grind arith;
       left = λ h. left_as _ _ old.may_leave new.may_leave (λ before now. run_performs leaving (task ∷ []) before r now made') (left h);
       still_rooted = rooted;
+      touches = touched_as (λ name. inl) touches;
       quiet = quiet;
       done_quietly = grind (arith, run_performs);
       n = 1;
@@ -198,7 +223,7 @@ pub ran_do : {A : Type 0} {call : Call} {old new : Seen} {made made' : ℕ} (r :
 ran_do {call = call} {old} {new} r answer up is did =
     ran_one r up is did.honest (λ h. do_honestly call _ r _ (did.called h))
     (λ h. left_as _ _ old.may_leave new.may_leave (do_leaving call r) (did.left h))
-    did.still_rooted did.quiet (λ q. do_quietly call _ r _ (did.quietly q)) did.counted did.cause
+    did.still_rooted did.touches did.quiet (λ q. do_quietly call _ r _ (did.quietly q)) did.counted did.cause
 
 -- a listing
 pub ran_ask : {sub : Sub} {old new : Seen} {made made' : ℕ} (r : Result (Vec (String Global) Global) FolderFault) {answer : Result (Vec (String Global) Global)
@@ -208,7 +233,7 @@ ran_ask {sub} {old} {new} {made} {made'} r {answer} up is did =
     let call = did.call in
     rw (ap names_in is ∙ told_names r made') (ran_one r up is call.honest
     (λ h. ask_honestly sub _ r _ (did.listed h)) (λ h. left_as _ _ old.may_leave new.may_leave (ask_leaving sub r) (call.left h))
-    call.still_rooted call.quiet (λ q. ask_quietly sub _ r _ (call.quietly q) (did.names q)) call.counted call.cause)
+    call.still_rooted call.touches call.quiet (λ q. ask_quietly sub _ r _ (call.quietly q) (did.names q)) call.counted call.cause)
 
 -- one more step of a plan, which has these tasks
 module _ {X : Type 0} (f : X → List Task) (xs : List X) (i : ℕ) (x : X) (h : i < length xs)

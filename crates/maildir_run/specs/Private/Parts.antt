@@ -20,10 +20,16 @@ use Rattle.maildir_run.specs.Private.Given.{IsPrefixOf, GaveAll, SourceStopped}
 use Rattle.maildir_run.specs.Plan.{is_listed}
 use Rattle.maildir_run.specs.Private.Progress.{message_at}
 use Rattle.maildir_run.specs.Reading.{IsReading}
-use Rattle.maildir_run.specs.Tasks.{Task, DoneUntil, honestly, leaving, Listings, listing_tasks}
+use Rattle.maildir_run.specs.Tasks.{Task, DoneUntil, call_of, honestly, leaving, Listings, listing_tasks}
 use Rattle.maildir_run.specs.Private.Tasks.{quietly}
 use Rattle.maildir_run.specs.Texts.{messages_of, bodies_of}
 use Rattle.maildir_run.specs.Parts.{deliveries_of, sweep_of}
+use Rattle.maildir_run.specs.Touched.{Touches, TouchedOnly}
+
+-- one of these tasks touches this name
+abbrev pub OneTouches : List Task → List ℕ → Type 0
+OneTouches [] name = ⊥
+OneTouches (task ∷ tasks) name = Touches (call_of task) name ⊎ OneTouches tasks name
 
 -- A run that had made so many calls performed these tasks: all of them with no fault, and with one up to the one that was refused.
 pub record Performed (tasks : List Task) (old new : Seen) (made made' : ℕ) (fault : Option RunFault) : Type 0 where
@@ -33,6 +39,7 @@ pub record Performed (tasks : List Task) (old new : Seen) (made made' : ℕ) (fa
   pub still_rooted : old.honest → old.rooted → new.rooted
   pub quiet : old.quiet → new.quiet
   pub done_quietly : old.quiet → DoneUntil quietly tasks old.files fault new.files
+  pub touches : TouchedOnly (OneTouches tasks) old.touched new.touched
   pub n : ℕ
   pub most : n ≤ length tasks
   pub all : fault ≡ None → n ≡ length tasks

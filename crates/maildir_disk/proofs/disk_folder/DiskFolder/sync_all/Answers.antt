@@ -22,6 +22,7 @@ returns-clause-syncs g c =
       left = asks.left;
       rooted = λ h. root.rooted (looks.honest h);
       still_rooted = asks.still_rooted;
+      touches = asks.touches;
       synced = λ h.
           let on = first.asks.honest h in
           let last = looks.honest h in

@@ -18,6 +18,7 @@ returns-in_default-clause-appends c =
       appended = grind arith;
       left = λ honest. left_early (looks.left honest);
       still_rooted = looks.still_rooted;
+      touches = looks.touches;
       quiet = looks.quiet;
       quietly = grind arith;
     }
@@ -47,6 +48,7 @@ returns-in-Ok-clause-appends c =
           let bytes = rw (c.as_str-2.ensures.value) at c.may_lose_bytes.ensures.left in
           left_of_bytes mid.folder c.write.new.self mid.cases c.may_lose_bytes.new.self (looks.left honest) bytes written;
       still_rooted = looks.still_rooted;
+      touches = looks.touches;
       quiet = λ quiet. let still = looks.quiet quiet in record { no_script = lines ∙ still.no_script; no_turns = still.no_turns };
       quietly = grind arith;
     }

@@ -1,4 +1,4 @@
-use Rattle.std.proofs.Common.{◌∙◌, [], ap, refl, rules}
+use Rattle.std.proofs.Common.{◌∙◌, [], ap, inr, refl, rules}
 use Rattle.maildir_run.proofs.Memory.Followed.{quiet_fault}
 use Rattle.maildir_memory.proofs.Common.{Make, Writing, effect}
 use Rattle.maildir_memory.proofs.Memory.Changes.{left_made, left_unmade, lost}
@@ -38,6 +38,7 @@ returns-in-Ok-clause-makes c =
           left_made (Make c.args.name) mid.folder c.write.new.self mid.cases c.may_lose.new.self c.write.result
           (looks.left h) c.may_lose.ensures.more (c.write.ensures.writes.called tt);
       still_rooted = looks.still_rooted;
+      touches = λ name now. inr tt;
       quiet = λ q. let still = looks.quiet q in record { no_script = lines ∙ still.no_script; no_turns = still.no_turns };
       quietly = λ q. (tt, (did.quietly (looks.quiet q).no_script).1 ∙ ap (effect (Writing c.args.name.now [])) (looks.quietly q));
     }
