@@ -66,7 +66,7 @@ module _ {texts : List Mailbox} (fit : AreFit texts) {old new : HeldMaildir} (so
       intact = λ k d below. (stays k d below).intact (sound.intact k d below);
     };
     safe = λ text among.
-        safe_stay (All-contains (λ (t : Mailbox). Stays t.messages old.files old.may_leave new.files new.may_leave) texts text stays among) found;
+        safe_stay old new (All-contains (λ (t : Mailbox). Stays t.messages old.files old.may_leave new.files new.may_leave) texts text stays among) found;
   }
 
   goes_resting : Rests old new → Goes texts old new

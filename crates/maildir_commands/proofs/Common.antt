@@ -27,6 +27,7 @@ pub use Rattle.maildir_run.specs.Output.{GivesAll, GivesNothing, GivesPrefix, Wr
 pub use Rattle.maildir_run.specs.Reading.{IsReading, ReadsAtLeast, ReadsAtMost}
 pub use Rattle.maildir_run.specs.Runs.{IsRun, Possible, ReportsMessages}
 pub use Rattle.maildir_run.specs.Several.{IsMailbox, Mailbox}
+pub use Rattle.maildir_run.specs.Touched.{TouchedConverters, TouchedNone}
 pub use Rattle.maildir_run.specs.declared.fault.RunFault.{RunFault}
 pub use Rattle.maildir_run.specs.declared.report.Report.{Report}
 pub use Rattle.mbox_text.specs.Writing.{AppendsPrefix}

@@ -2,7 +2,8 @@
 use Rattle.std.proofs.Common.{◌≡◌, ◌⊎◌, ◌<◌, ℕ, List, [], ◌∷◌, length, map, max, Some, Result, Ok, Err, IfErr, OnOk, refl, sym, ap, subst, ◌∙◌, arith}
 use Rattle.maildir_commands.proofs.Common.{AreFit, Bytes, ClosesMaildir, Delivers, DeliversFiles, DeliversSource, Does, Fault, GivesTexts, IfErr-weaker}
 use Rattle.maildir_commands.proofs.Common.{IsCauseOf, IsSoundFor, KeepsForeign, Mailbox, OpenFault, OpensMaildir, OpensSources, Possible, PrintsReports}
-use Rattle.maildir_commands.proofs.Common.{Run, SeenMachine, SeenMaildir, Source, ToConvert, bytes_of, fault_of_opening, opened, seen_folder, seen_with}
+use Rattle.maildir_commands.proofs.Common.{Run, SeenMachine, SeenMaildir, Source, ToConvert, TouchedConverters, bytes_of, fault_of_opening, opened}
+use Rattle.maildir_commands.proofs.Common.{seen_folder, seen_with}
 use Rattle.maildir_run.specs.declared.fault.RunFault.TheVariants as run
 use Rattle.maildir_disk.specs.declared.disk_folder.DiskFolder.{DiskFolder}
 use Rattle.maildir_disk.specs.declared.system.System.{Ghosts}
@@ -10,7 +11,7 @@ use Rattle.maildir_commands.proofs.Causes.{files_before, holds_first, of_files, 
 use Rattle.maildir_commands.proofs.Delivered.{closed, none_delivered, one_delivered}
 use Rattle.maildir_commands.proofs.Delivering.{one_of}
 use Rattle.maildir_commands.proofs.Reports.{one_each, one_report}
-use Rattle.maildir_commands.proofs.Resting.{foreign_same, foreign_within, opens_none, rest_then}
+use Rattle.maildir_commands.proofs.Resting.{foreign_same, foreign_within, opens_none, rest_then, touched_none, touched_then}
 use Rattle.maildir_commands.proofs.Several.{on_ok_then, rest_sound, text_at}
 
 -- the first file was not opened
@@ -21,6 +22,7 @@ source_refused {maildir} {first = first} {rest} {old} {input = input} {was} {fau
   works = record {
     printed = tt;
     delivers = λ h texts given fit sound. none_delivered texts fit.are (sources.rests h maildir) sound;
+    touches = λ h. touched_none (sources.rests h maildir).touches;
     foreign = λ q. foreign_same refl (sources.quietly q maildir);
     elsewhere = λ h word other. sources.rests h word;
     elsewhere_quietly = λ q word other. sources.quietly q word;
@@ -56,6 +58,7 @@ module _ {M S File : Type 0} (seen : M → SeenMachine) (f : Ghosts S File)
     works = record {
       printed = tt;
       delivers = λ h texts given fit sound. none_delivered texts fit.are (rest_then (sources.rests h maildir) (folder.rests (sources.honest h))) sound;
+      touches = λ h. touched_none (rest_then (sources.rests h maildir) (folder.rests (sources.honest h))).touches;
       foreign = λ q. foreign_same (sources.quietly q maildir) (folder.rests_quietly (sources.quiet q));
       elsewhere = λ h word other.
           rest_then (sources.rests h word) (folder.others (sources.honest h) word (λ is. other (alike mid old maildir word is)));
@@ -77,22 +80,24 @@ module _ {M S File : Type 0} (seen : M → SeenMachine) (f : Ghosts S File)
     converted : OnOk answer (PrintsReports was is (max 1 (length files)))
         → ((seen old).honest → (texts : List Mailbox) → GivesTexts (seen old).text_of input left files texts → AreFit texts
         → IsSoundFor texts (opened f start.system).held → Delivers answer texts (opened f start.system).held (opened f now.system).held was is)
+        → TouchedConverters (opened f start.system).held.touched (opened f now.system).held.touched
         → ((opened f start.system).quiet → KeepsForeign (opened f start.system).held.files (opened f now.system).held.files)
         → ((seen old).honest → OnOk answer (opened f now.system).honest)
         → ((seen old).honest → IfErr answer (IsCauseOf (ToConvert maildir files) (seen_with (seen old) input was) left))
         → (¬ (files ≡ []) → left ≡ input)
         → Does (ToConvert maildir files) answer (seen_with (seen old) input was) (seen_with (seen new) left is)
-    converted printed delivers foreign honest cause unread =
+    converted printed delivers touches foreign honest cause unread =
         let good = λ (h : (seen old).honest). folder.honest (sources.honest h) in
         let still = λ (q : (seen old).quiet). folder.quiet (sources.quiet q) in
+        let opens = λ (h : (seen old).honest). rest_then (sources.rests h maildir) (folder.opens (sources.honest h)) in
+        let closes = λ (h : (seen old).honest).
+        closing.closes (each.honest (good h)) (each.still_open (good h) maildir (folder.is_open (sources.honest h))) in
         record {
           works = record {
             printed = printed;
             delivers = λ h texts given fit sound.
-                let opens = rest_then (sources.rests h maildir) (folder.opens (sources.honest h)) in
-                closed texts fit.are answer _ _ _ _ opens
-                (closing.closes (each.honest (good h)) (each.still_open (good h) maildir (folder.is_open (sources.honest h))))
-                (delivers h texts given fit (rest_sound texts fit.are opens sound));
+                closed texts fit.are answer _ _ _ _ (opens h) (closes h) (delivers h texts given fit (rest_sound texts fit.are (opens h) sound));
+            touches = λ h. touched_then (touched_none (opens h).touches) (touched_then touches (touched_none (closes h).touches));
             foreign = λ q.
                 foreign_within (folder.opens_quietly (sources.quiet q) ∙ sources.quietly q maildir) (foreign (folder.works_quietly (sources.quiet q)))
                 (closing.closes_quietly (each.quiet (still q))
@@ -121,7 +126,7 @@ module _ {M S File : Type 0} (seen : M → SeenMachine) (f : Ghosts S File)
       → Does (ToConvert maildir []) answer (seen_with (seen old) input was) (seen_with (seen new) left is)
   input_converted {left} folder closing one =
       converted seen f alike sure opens_none start now folder closing opens_none (on_ok_then answer (one_report _) one.printed)
-      (λ h texts given fit sound. input_delivered one (folder.works h) texts given.1 given.2 fit sound) one.keeps.foreign
+      (λ h texts given fit sound. input_delivered one (folder.works h) texts given.1 given.2 fit sound) one.keeps.touches one.keeps.foreign
       (λ h. on_ok_then answer (λ printed. printed.said.honest (folder.works h)) one.printed)
       (λ h. IfErr-weaker answer _ _ (λ fault stops. of_input maildir (seen_with (seen old) input was) left fault stops.cause) one.stopped)
       (λ named. absurd (named refl))
@@ -140,7 +145,7 @@ module _ {M S File : Type 0} (seen : M → SeenMachine) (f : Ghosts S File)
       (λ h texts given fit sound.
       each.delivers (good h) (folder.works (sources.honest h)) texts ((seen old).text_of first) (reads h)
       (subst (λ (f : List ℕ → List ℕ). bytes_of texts ≡ (seen old).text_of first ∷ map f rest) (sym (same h)) given) fit sound)
-      each.foreign (λ h. each.honest (good h) (folder.works (sources.honest h)))
+      each.touches each.foreign (λ h. each.honest (good h) (folder.works (sources.honest h)))
       (λ h. IfErr-weaker answer _ _ (λ fault is. of_files maildir first rest (seen_with (seen old) input was) input fault
       (files_before (seen old) (seen ready) (first ∷ rest) (same h)
       (λ word refused. sources.refusals h word (folder.refusals (sources.honest h) word refused)) fault is))

@@ -2,14 +2,15 @@
 use Rattle.std.proofs.Common.{◌≡◌, ℕ, ◌+◌, ◌<◌, ◌⊎◌, List, ◌∷◌, length, get_or, map, Contains, Some, Result, Ok, Err, IsErrAnd}
 use Rattle.std.proofs.Common.{sym, ap, subst, ◌∙◌, arith, add-one}
 use Rattle.maildir_commands.proofs.Common.{AreFit, Bytes, DeliversFiles, DeliversOne, DeliversSource, Fault, IsOfFiles, IsSoundFor, KeepsForeign, Mailbox}
-use Rattle.maildir_commands.proofs.Common.{OpensSources, PrintsReports, Run, SeenMachine, SeenMaildir, Source, bytes_of, get_or-map, length-map}
+use Rattle.maildir_commands.proofs.Common.{OpensSources, PrintsReports, Run, SeenMachine, SeenMaildir, Source, TouchedConverters, bytes_of}
+use Rattle.maildir_commands.proofs.Common.{get_or-map, length-map}
 use Rattle.maildir_run.specs.declared.fault.RunFault.TheVariants as run
 use Rattle.maildir_run.proofs.Tasks.QuietRuns.{foreign_then, others_same}
 use Rattle.maildir_commands.proofs.Causes.{delivered_file, holds_first, refused_file}
 use Rattle.maildir_commands.proofs.Delivered.{all_delivered, more_delivered, stopped_delivered, then_delivered}
 use Rattle.maildir_commands.proofs.Delivering.{one_of}
 use Rattle.maildir_commands.proofs.Reports.{more_reports, none_reported, one_report}
-use Rattle.maildir_commands.proofs.Resting.{opens_none, opens_then}
+use Rattle.maildir_commands.proofs.Resting.{opens_none, opens_then, touched_none, touched_then}
 use Rattle.maildir_commands.proofs.Several.{UpTo, after_length, first_text, none_printed, possible_whole, text_after, text_at, text_read}
 
 -- where `?` answered this fault
@@ -31,6 +32,7 @@ pub record SoFar (n : ℕ) (first : Bytes) (files : List (List ℕ)) (old now : 
   pub printed : PrintsReports was is n
   pub honest : old.honest → start.honest → work.honest
   pub quiet : start.quiet → work.quiet
+  pub touches : TouchedConverters start.held.touched work.held.touched
   pub foreign : start.quiet → KeepsForeign start.held.files work.held.files
   pub delivers : old.honest → start.honest → (texts : List Mailbox) → Given old first files texts → AreFit texts → IsSoundFor texts start.held →
       UpTo n texts start.held work.held was is
@@ -48,6 +50,7 @@ module _ {first : Bytes} {files : List (List ℕ)} {old : SeenMachine} where
     printed = none_reported was;
     honest = λ h s. s;
     quiet = λ q. q;
+    touches = touched_none (λ name now. now);
     foreign = λ q. others_same start.held.files;
     delivers = λ h s texts given fit sound. none_printed sound;
   }
@@ -69,6 +72,7 @@ module _ {n : ℕ} {first : Bytes} {files : List (List ℕ)} {old now : SeenMach
       printed = tt;
       cause = cause;
       delivers = λ h s texts text is are fit sound. stopped_delivered (so_far.delivers h s texts (text, is, are) fit sound);
+      touches = so_far.touches;
       foreign = so_far.foreign;
       honest = λ h s. tt;
     }
@@ -90,6 +94,7 @@ module _ {n : ℕ} {first : Bytes} {files : List (List ℕ)} {old now : SeenMach
         printed = more_reports was mid is so_far.printed (one_report _ did.printed);
         honest = λ h s. did.printed.said.honest (so_far.honest h s);
         quiet = λ q. did.printed.said.quiet (so_far.quiet q);
+        touches = touched_then so_far.touches did.keeps.touches;
         foreign = λ q. foreign_then _ _ _ (so_far.foreign q) (did.keeps.foreign (so_far.quiet q));
         delivers = λ h s texts given fit sound.
             more_delivered (so_far.delivers h s texts given fit sound) fit (this.text h texts given).0 (one did h s texts given fit sound);
@@ -106,6 +111,7 @@ module _ {n : ℕ} {first : Bytes} {files : List (List ℕ)} {old now : SeenMach
         delivers = λ h s texts text is are fit sound.
             let given : Given old first files texts = (text, is, are) in
             then_delivered (so_far.delivers h s texts given fit sound) fit (this.text h texts given).0 (one did h s texts given fit sound);
+        touches = touched_then so_far.touches did.keeps.touches;
         foreign = λ q. foreign_then _ _ _ (so_far.foreign q) (did.keeps.foreign (so_far.quiet q));
         honest = λ h s. tt;
       }
@@ -119,6 +125,7 @@ module _ {n : ℕ} {first : Bytes} {files : List (List ℕ)} {old now : SeenMach
     delivers = λ h s texts text is are fit sound.
         let many = after_length texts _ _ are in
         all_delivered (so_far.delivers h s texts (text, is, are) fit sound) (omega (arith, all)) (omega (arith, all, many));
+    touches = so_far.touches;
     foreign = so_far.foreign;
     honest = so_far.honest;
   }

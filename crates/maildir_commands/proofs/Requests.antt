@@ -167,6 +167,7 @@ module _ (old : Seen) (machine : SeenMachine) (input given kept : Bytes) (keeps 
   works_both (ToConvert maildir files) did = record {
     printed = both_ok answer handed (λ printed. handed_reports _ old.output given kept printed keeps) did.printed;
     delivers = λ h texts these fit sound. delivers_both answer handed keeps (did.delivers h texts these fit sound);
+    touches = did.touches;
     foreign = did.foreign;
     elsewhere = did.elsewhere;
     elsewhere_quietly = did.elsewhere_quietly;

@@ -61,9 +61,9 @@ stay_both texts a b c first then = λ others named alike.
     stays_then others a.files a.may_leave b.files b.may_leave c.files c.may_leave (first others named alike) (then others named alike)
 
 -- safe messages stay so
-pub safe_stay : {ms : List Message} {old new : HeldMaildir} → Stays ms old.files old.may_leave new.files new.may_leave → (old.rooted → new.rooted)
+pub safe_stay : {ms : List Message} (old new : HeldMaildir) → Stays ms old.files old.may_leave new.files new.may_leave → (old.rooted → new.rooted)
     → AreSafe ms old.files old.may_leave old.rooted → AreSafe ms new.files new.may_leave new.rooted
-safe_stay stays rooted was = record { home = stays.home was.home; survive = stays.survive was.survive; found = rooted was.found }
+safe_stay old new stays rooted was = record { home = stays.home was.home; survive = stays.survive was.survive; found = rooted was.found }
 
 pub named_of : {text : Mailbox} → IsMailbox text → AreNamed text.messages
 named_of {text} is = text_named text.bytes text.messages is.are is.small
@@ -83,7 +83,7 @@ module _ (texts : List Mailbox) (are : All IsMailbox texts) {old new : HeldMaild
   }
 
   pub rest_all_safe : AreAllSafe texts old → AreAllSafe texts new
-  rest_all_safe safe k d below = safe_stay (rest_stays k d below) rests.found (safe k d below)
+  rest_all_safe safe k d below = safe_stay old new (rest_stays k d below) rests.found (safe k d below)
 
   -- a Maildir at rest before the texts are delivered, and after it
   rest_true : (reports : List Report) → AreTrueOf new.files texts reports → AreTrueOf old.files texts reports
@@ -171,9 +171,9 @@ module _ (was mid is : Bytes) (reports : List Report) (report : Report) (before 
   )
 
 -- of the first texts
-first_safe : (texts : List Mailbox) {n : ℕ} {now : HeldMaildir}
+first_safe : (texts : List Mailbox) {n : ℕ} (now : HeldMaildir)
     → ((k : ℕ) (d : Mailbox) → k < n → k < length texts → IsSafeIn now (get_or texts k d)) → AreAllSafe (take n texts) now
-first_safe texts {n} {now} safe k d below =
+first_safe texts {n} now safe k d below =
     let most = length-take n texts in
     let lt : k < n = omega (arith, below, most) in
     subst (IsSafeIn now) (sym (get_or-take n texts k d lt)) (safe k d lt (omega (arith, below, most)))
@@ -199,7 +199,7 @@ module _ {texts : List Mailbox} (fit : AreFit texts) {n : ℕ} (inside : n < len
 
   -- those that are safe, and one more
   still_safe : (k : ℕ) (d : Mailbox) → k < n → k < length texts → IsSafeIn new (get_or texts k d)
-  still_safe k d less below = safe_stay (others_at k d below) one.still_rooted (up.safe k d less below)
+  still_safe k d less below = safe_stay old new (others_at k d below) one.still_rooted (up.safe k d less below)
 
   safe_more : IsSafeIn new (text_at texts n) → (k : ℕ) (d : Mailbox) → k < n + 1 → k < length texts → IsSafeIn new (get_or texts k d)
   safe_more last k d lt below =
@@ -245,14 +245,14 @@ module _ {texts : List Mailbox} (fit : AreFit texts) {n : ℕ} (inside : n < len
     n = n;
     reports = up.reports;
     true_of = up.true_of;
-    safe = first_safe texts still_safe;
+    safe = first_safe texts new still_safe;
     lines = prefix_of_all was is (Appends-kept was mid is (flat_map report_line up.reports) up.lines keeps);
   }
   then_stopped (inr last) = record {
     n = n + 1;
     reports = up.reports ++ last.report ∷ [];
     true_of = true_more last.true_of;
-    safe = first_safe texts (safe_more last.safe);
+    safe = first_safe texts new (safe_more last.safe);
     lines = more_prefix was mid is _ _ up.lines last.line;
   }
 
@@ -260,7 +260,7 @@ module _ {n : ℕ} {texts : List Mailbox} {start now : HeldMaildir} {was is : By
   -- the next text could not be opened
   pub stopped_between : PrintsSome start now texts was is
   stopped_between =
-      record { n = n; reports = up.reports; true_of = up.true_of; safe = first_safe texts up.safe; lines = prefix_of_all was is up.lines }
+      record { n = n; reports = up.reports; true_of = up.true_of; safe = first_safe texts now up.safe; lines = prefix_of_all was is up.lines }
 
   -- at the end
   pub all_safe : length texts ≤ n → AreAllSafe texts now

@@ -29,6 +29,7 @@ module _ {S File : Type 0} (f : Ghosts S File) (old mid : DiskFolder S) {before 
               stays_after_run text.bytes text.messages fits.are fits.small others named alike _ _ was is answer
               (run.owes h text.bytes fits.small p) sound left;
         };
+    touches = run.touches;
     foreign = run.others;
   }
 
@@ -49,5 +50,6 @@ module _ {S File : Type 0} (f : Ghosts S File) (old mid : DiskFolder S) {before 
               stays_after_both text.bytes text.messages fits.are fits.small others named alike _ _ _ was is now answer
               (run.owes h text.bytes fits.small p) sound left acts beside;
         };
+    touches = λ name now. run.touches name (sync.touches name now);
     foreign = λ q. subst (KeepsForeign _) (sym (sync.quietly (run.quiet q))) (run.others q);
   }

@@ -7,18 +7,21 @@ use Rattle.maildir_run.specs.Files.{Files, Action, all_acted}
 use Rattle.maildir_run.specs.MemFiles.{no_files}
 use Rattle.maildir_run.specs.Runs.{Possible}
 use Rattle.maildir_run.specs.Several.{Mailbox, IsMailbox, OfEach}
+use Rattle.maildir_run.specs.Touched.{TouchedNone}
 use Rattle.maildir_disk.specs.Others.{Stays}
 use Rattle.maildir_disk.specs.PowerCuts.{AreAlike, AreIntact, AreSafe, LeftByOthers}
 
--- a Maildir at one moment: its files, what a power cut may leave of it, and that one leaves it and its three folders
+-- a Maildir at one moment: its files, what a power cut may leave of it, that one leaves it and its three folders, and what was touched
 pub record HeldMaildir : Type 1 where
   pub files : Files
   pub may_leave : Files → Type 0
   pub rooted : Type 0
+  -- the names of which calls that were made here may have touched a file until now
+  pub touched : List ℕ → Type 0
 
 -- no Maildir, and a power cut leaves none
 abbrev pub nothing_held : HeldMaildir
-nothing_held = record { files = no_files; may_leave = λ left. left ≡ no_files; rooted = ⊥ }
+nothing_held = record { files = no_files; may_leave = λ left. left ≡ no_files; rooted = ⊥; touched = λ _. Unit {0} }
 
 -- A Maildir from one moment to the next, while nothing is done to it here: other programs acted, or none did.
 pub record Rests (old new : HeldMaildir) : Type 0 where
@@ -26,6 +29,7 @@ pub record Rests (old new : HeldMaildir) : Type 0 where
   pub files_are : new.files ≡ all_acted actions old.files
   pub left : Follows LeftByOthers old.may_leave new.may_leave
   pub found : old.rooted → new.rooted
+  pub touches : TouchedNone old.touched new.touched
 
 -- what two words have that name the same Maildir: what was under one is under the other, as after no time
 abbrev pub AreAt : HeldMaildir → HeldMaildir → Type 0

@@ -7,6 +7,7 @@ use Rattle.maildir_run.specs.Delivery.{IsSwept}
 use Rattle.maildir_run.specs.Foreign.{KeepsForeign}
 use Rattle.maildir_run.specs.Runs.{Possible}
 use Rattle.maildir_run.specs.Several.{Mailbox}
+use Rattle.maildir_run.specs.Touched.{TouchedConverters}
 use Rattle.maildir_commands.specs.declared.ending.Ending.{Ending}
 use Rattle.maildir_commands.specs.declared.ending.Ending.TheVariants.{Done, Stopped, WrongWords}
 use Rattle.maildir_commands.specs.declared.fault.Fault.{Fault}
@@ -69,6 +70,8 @@ pub record DeliversInto (maildir : List ℕ) (files : List (List ℕ)) (answer :
   pub delivers : old.machine.honest → (texts : List Mailbox) → GivesTexts old.machine.text_of old.input new.input files texts → AreFit texts →
       IsSoundFor texts (old.machine.maildir_at maildir) →
       Delivers answer texts (old.machine.maildir_at maildir) (new.machine.maildir_at maildir) old.output new.output
+  -- of its files the program touched those with converter's names alone
+  pub touches : old.machine.honest → TouchedConverters (old.machine.maildir_at maildir).touched (new.machine.maildir_at maildir).touched
   -- where no other program acts, files of other programs stay as they are
   pub foreign : old.machine.quiet → KeepsForeign (old.machine.maildir_at maildir).files (new.machine.maildir_at maildir).files
   -- no other Maildir was touched

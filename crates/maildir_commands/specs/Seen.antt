@@ -44,7 +44,7 @@ abbrev pub opened : {S File : Type 0} → Ghosts S File → S → OpenMaildir
 opened f s = record {
   honest = (f.at s).honest;
   quiet = (f.at s).quiet;
-  held = record { files = (f.at s).world.files; may_leave = (f.at s).may_leave; rooted = (f.at s).rooted };
+  held = record { files = (f.at s).world.files; may_leave = (f.at s).may_leave; rooted = (f.at s).rooted; touched = (f.at s).touched };
 }
 
 -- what is seen of a machine, and of what is left of standard input and was written to standard output, where these are known

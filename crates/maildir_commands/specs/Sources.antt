@@ -11,6 +11,7 @@ use Rattle.maildir_run.specs.Reading.{ReadsAtMost}
 use Rattle.maildir_run.specs.Runs.{CountsRun, Possible, ReportsMessages}
 use Rattle.maildir_run.specs.Several.{Mailbox, IsMailbox}
 use Rattle.maildir_run.specs.Texts.{MessagesOf}
+use Rattle.maildir_run.specs.Touched.{TouchedConverters}
 use Rattle.maildir_disk.specs.declared.disk_folder.DiskFolder.{DiskFolder}
 use Rattle.maildir_disk.specs.declared.system.System.{Ghosts}
 use Rattle.maildir_disk.specs.Others.{Stays}
@@ -61,6 +62,8 @@ pub record KeepsSource (before after : Option (List ℕ)) (old new : SeenMaildir
   -- where the system does as assumed, for each text that the source may have had
   pub still_rooted : old.honest → old.held.rooted → new.held.rooted
   pub texts : old.honest → (text : Mailbox) → IsMailbox text → Possible before after text.bytes → KeepsText text old.held new.held
+  -- whatever the system and others do
+  pub touches : TouchedConverters old.held.touched new.held.touched
   -- where no other program acts
   pub foreign : old.quiet → KeepsForeign old.held.files new.held.files
 

@@ -26,6 +26,7 @@ rest_fresh {system} fresh = record {
   files_are = fresh.empty;
   left = λ left may. (no_files, refl, record { kept = []; are = fresh.none_left left may });
   found = λ h. absurd h;
+  touches = λ name now. tt;
 }
 
 module _ {X : Type 0} (old new : BTreeMap (String X) (Option MemSystem)) (path : List ℕ) (slot : Option MemSystem)

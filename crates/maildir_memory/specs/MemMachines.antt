@@ -35,7 +35,7 @@ abbrev pub open_in_memory : MemSystem → OpenMaildir
 open_in_memory system = record {
   honest = IsQuiet system.folder;
   quiet = HasNoTurns system;
-  held = record { files = (world_of system).files; may_leave = may_be_left system; rooted = IsTrue system.is_rooted };
+  held = record { files = (world_of system).files; may_leave = may_be_left system; rooted = IsTrue system.is_rooted; touched = λ _. Unit {0} };
 }
 
 -- the Maildir that is there and not open

@@ -6,6 +6,7 @@ use Rattle.maildir_run.specs.Delivery.{IsSwept, has_home, leftover_count}
 use Rattle.maildir_run.specs.declared.report.Report.{Report}
 use Rattle.maildir_run.specs.Foreign.{KeepsForeign}
 use Rattle.maildir_run.specs.Several.{Mailbox}
+use Rattle.maildir_run.specs.Touched.{TouchedConverters}
 use Rattle.maildir_commands.specs.Machines.{AreFit, HasAlso, HeldMaildir, IsSafeIn, IsSoundFor, OthersStay, bytes_of}
 use Rattle.maildir_commands.specs.declared.fault.Fault.{Fault}
 use Rattle.maildir_commands.specs.Private.Causes.{IsOfFiles}
@@ -42,5 +43,6 @@ pub record DeliversFiles (first : Option (List ℕ)) (files : List (List ℕ)) (
   pub delivers : old.honest → start.honest → (texts : List Mailbox) (text : List ℕ) → first ≡ Some text →
       bytes_of texts ≡ text ∷ map old.text_of files → AreFit texts → IsSoundFor texts start.held →
       Delivers answer texts start.held now.held was is
+  pub touches : TouchedConverters start.held.touched now.held.touched
   pub foreign : start.quiet → KeepsForeign start.held.files now.held.files
   pub honest : old.honest → start.honest → OnOk answer now.honest
