@@ -201,7 +201,7 @@ impl MemFolder {
 impl Folder for MemFolder {
     ghost at = { seen_of };
 
-    ghost quiet_is_honest = { λ _ _. tt };
+    ghost quiet_is_honest = { λ _ _ _. tt };
 
     fn list(&mut self, sub: Sub) -> Result<Vec<String>, FolderFault>
         ensures lists { ListingOf sub (seen_of self.old) result (seen_of self.new) }
