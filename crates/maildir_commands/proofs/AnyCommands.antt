@@ -5,8 +5,7 @@ use Rattle.std.specs.FinMap.{empty, get-empty}
 use Rattle.std.proofs.lemmas.List.Sorted.{IsPermutation-trans}
 use Rattle.maildir_commands.proofs.Common.{All-contains, All-nil, AreAlike, AreAllSafe, AreAt, AreFit, AreIntact, Does, Fault, Files, HasBody, HeldMaildir}
 use Rattle.maildir_commands.proofs.Common.{IsIntact, IsMailbox, IsSafeIn, IsSoundFor, Mailbox, OthersStay, Ran, Request, Rests, Seen, SeenMachine, Stays}
-use Rattle.maildir_commands.proofs.Common.{ToConvert, ToWrite, seen_at}
-use Rattle.maildir_name.specs.Names.{is_converter_base}
+use Rattle.maildir_commands.proofs.Common.{ToConvert, ToWrite, seen_at, AllSpared, Spared, is_spared, spared_named}
 use Rattle.maildir_run.specs.Delivery.{Message, IsMissing, IsSoundAt, IsSwept}
 use Rattle.maildir_run.specs.Files.{name_cmp}
 use Rattle.maildir_run.specs.MemFiles.{no_files}
@@ -36,10 +35,10 @@ module _ (texts named : List Mailbox) (among : All (Contains texts) named) where
         (λ k d below. all_among (λ other. AreAlike (get_or texts k d).messages other.messages) (fit.alike k d below));
   }
 
-  sound_among : {maildir : HeldMaildir} → IsSoundFor texts maildir → IsSoundFor named maildir
-  sound_among {maildir} is = record {
-    sound = all_among (λ text. All (IsSoundAt maildir.files) text.messages) is.sound;
-    intact = all_among (λ text. AreIntact text.messages maildir.may_leave) is.intact;
+  sound_among : {spared : Spared} {maildir : HeldMaildir} → IsSoundFor spared texts maildir → IsSoundFor spared named maildir
+  sound_among {spared} {maildir} is = record {
+    sound = all_among (λ text. AllSpared spared (IsSoundAt maildir.files) text.messages) is.sound;
+    intact = all_among (λ text. AreIntact spared text.messages maildir.may_leave) is.intact;
   }
 
 -- ---- no message is there
@@ -51,79 +50,81 @@ none_at_all m = rw (held_none m.target.base empty (λ q on. get-empty {X = List 
 
 -- ---- from one moment to another
 -- The texts stay sound, and those that are safe stay safe.
-record Goes (texts : List Mailbox) (old new : HeldMaildir) : Type 0 where
-  pub sound : IsSoundFor texts new
-  pub safe : (text : Mailbox) → Contains texts text → IsSafeIn old text → IsSafeIn new text
+record Goes (spared : Spared) (texts : List Mailbox) (old new : HeldMaildir) : Type 0 where
+  pub sound : IsSoundFor spared texts new
+  pub safe : (text : Mailbox) → Contains texts text → IsSafeIn spared old text → IsSafeIn spared new text
 
-goes_then : {texts : List Mailbox} {a b c : HeldMaildir} → Goes texts a b → Goes texts b c → Goes texts a c
+goes_then : {spared : Spared} {texts : List Mailbox} {a b c : HeldMaildir} → Goes spared texts a b → Goes spared texts b c → Goes spared texts a c
 goes_then first then = record { sound = then.sound; safe = λ text among safe. then.safe text among (first.safe text among safe) }
 
-module _ {texts : List Mailbox} (fit : AreFit texts) {old new : HeldMaildir} (sound : IsSoundFor texts old) where
-  goes_on : All (λ text. Stays text.messages old.files old.may_leave new.files new.may_leave) texts → (old.rooted → new.rooted) → Goes texts old new
+module _ {spared : Spared} {texts : List Mailbox} (fit : AreFit texts) {old new : HeldMaildir} (sound : IsSoundFor spared texts old) where
+  goes_on : All (λ text. Stays spared text.messages old.files old.may_leave new.files new.may_leave) texts → (old.rooted → new.rooted) → Goes spared texts old new
   goes_on stays found = record {
     sound = record {
       sound = λ k d below. (stays k d below).sound (sound.sound k d below);
       intact = λ k d below. (stays k d below).intact (sound.intact k d below);
     };
     safe = λ text among.
-        safe_stay old new (All-contains (λ (t : Mailbox). Stays t.messages old.files old.may_leave new.files new.may_leave) texts text stays among) found;
+        safe_stay old new (All-contains (λ (t : Mailbox). Stays spared t.messages old.files old.may_leave new.files new.may_leave) texts text stays among) found;
   }
 
-  goes_resting : Rests old new → Goes texts old new
+  goes_resting : Rests spared old new → Goes spared texts old new
   goes_resting rests = goes_on (rest_stays texts fit.are rests) rests.found
 
-  goes_delivering : (named : List Mailbox) → All (Contains texts) named → OthersStay named old new → (old.rooted → new.rooted) → Goes texts old new
+  goes_delivering : (named : List Mailbox) → All (Contains texts) named → OthersStay spared named old new → (old.rooted → new.rooted) → Goes spared texts old new
   goes_delivering named among stay found =
       goes_on (λ k d below. stay (get_or texts k d).messages (named_of (fit.are k d below))
       (all_among texts named among (λ other. AreAlike (get_or texts k d).messages other.messages) (fit.alike k d below))) found
 
   -- ---- a power cut
-  module _ (cut : LeftByPowerCut old new) where
-    left_intact : (k : ℕ) (d : Mailbox) → k < length texts → All (IsIntact cut.left) (get_or texts k d).messages
-    left_intact k d below j e inside = elim cut.may as (λ _. IsIntact cut.left (get_or (get_or texts k d).messages j e)) [
-      | inl may ↦ sound.intact k d below cut.left may j e inside
+  module _ (cut : LeftByPowerCut spared old new) where
+    left_intact : (k : ℕ) (d : Mailbox) → k < length texts → AllSpared spared (IsIntact cut.left) (get_or texts k d).messages
+    left_intact k d below j e inside sp = elim cut.may as (λ _. IsIntact cut.left (get_or (get_or texts k d).messages j e)) [
+      | inl may ↦ sound.intact k d below cut.left may j e inside sp
       | inr gone ↦ subst (λ left. IsIntact left (get_or (get_or texts k d).messages j e)) (sym gone.1)
           (missing_intact (get_or (get_or texts k d).messages j e) no_files (none_at_all (get_or (get_or texts k d).messages j e)))
     ]
 
-    later_holds : (m : Message) → IsTrue (is_converter_base m.target.base) → (later : Files) → new.may_leave later
+    later_holds : (m : Message) → IsTrue (is_spared spared m.target.base) → (later : Files) → new.may_leave later
         → SteadyAt m.target.base m.body cut.left later
     later_holds m named later may =
         steady_kept m.target.base m.body cut.left later
         (IsPermutation-trans _ _ _ (cut.found.kept m.target.base named) ((cut.stays later may).kept m.target.base named))
 
-    goes_cut : Goes texts old new
+    goes_cut : Goes spared texts old new
     goes_cut = record {
       sound = record {
-        sound = λ k d below j e inside.
+        sound = λ k d below j e inside sp.
             let m = get_or (get_or texts k d).messages j e in
-            let named = named_of (fit.are k d below) j e inside in
+            let named = spared_named spared _ sp (named_of (fit.are k d below) j e inside) in
             moved_sound m cut.left new.files (cut.found.kept m.target.base named)
-            (single_sound m named old.files cut.left (sound.sound k d below j e inside) (left_intact k d below j e inside) cut.single);
-        intact = λ k d below later may j e inside.
+            (single_sound spared m named old.files cut.left (sound.sound k d below j e inside sp) (left_intact k d below j e inside sp) cut.single);
+        intact = λ k d below later may j e inside sp.
             let m = get_or (get_or texts k d).messages j e in
-            intact_on m cut.left later (later_holds m (named_of (fit.are k d below) j e inside) later may) (left_intact k d below j e inside);
+            let named = spared_named spared _ sp (named_of (fit.are k d below) j e inside) in
+            intact_on m cut.left later (later_holds m named later may) (left_intact k d below j e inside sp);
       };
       safe = λ text among safe.
           let all = named_of (All-contains IsMailbox texts text fit.are among) in
-          let bodies : All (HasBody cut.left) text.messages = elim cut.may as (λ _. All (HasBody cut.left) text.messages) [
+          let bodies : AllSpared spared (HasBody cut.left) text.messages = elim cut.may as (λ _. AllSpared spared (HasBody cut.left) text.messages) [
             | inl may ↦ safe.survive cut.left may
             | inr gone ↦ absurd (gone.0 safe.found)
           ] in
           record {
-            home = λ j e inside.
+            home = λ j e inside sp.
                 let m = get_or text.messages j e in
-                let named = all j e inside in
+                let named = spared_named spared _ sp (all j e inside) in
                 homes_one m.target.base m.body cut.left new.files (cut.found.kept m.target.base named)
-                (single_home m named old.files cut.left (safe.home j e inside) (bodies j e inside) cut.single);
-            survive = λ later may j e inside. (later_holds (get_or text.messages j e) (all j e inside) later may).still (bodies j e inside);
+                (single_home spared m named old.files cut.left (safe.home j e inside sp) (bodies j e inside sp) cut.single);
+            survive = λ later may j e inside sp.
+                (later_holds (get_or text.messages j e) (spared_named spared _ sp (all j e inside)) later may).still (bodies j e inside sp);
             found = cut.still_rooted safe.found;
           };
     }
 
 -- ---- a command
-module _ {M : Type 0} (seen : M → SeenMachine)
-    (alike : (machine : M) (word other : List ℕ) → (seen machine).same word other → AreAt ((seen machine).maildir_at word) ((seen machine).maildir_at other))
+module _ (spared : Spared) {M : Type 0} (seen : M → SeenMachine)
+    (alike : (machine : M) (word other : List ℕ) → (seen machine).same word other → AreAt spared ((seen machine).maildir_at word) ((seen machine).maildir_at other))
     (still : (one next : M) (word other : List ℕ) → (seen one).same word other → (seen next).same word other)
     (maildir : List ℕ) (texts : List Mailbox) where
   abbrev at : M → HeldMaildir
@@ -131,15 +132,15 @@ module _ {M : Type 0} (seen : M → SeenMachine)
 
   -- the machine does as assumed, and the Maildir is sound
   abbrev IsWell : M → Type 0
-  IsWell m = (seen m).honest × IsSoundFor texts (at m)
+  IsWell m = (seen m).honest spared × IsSoundFor spared texts (at m)
 
   -- once they were delivered, these texts are safe, and `tmp` is swept
   abbrev IsDone : List Mailbox → M → Type 0
-  IsDone named m = All (Contains texts) named × AreAllSafe named (at m) × (0 < length named → IsSwept (at m).files)
+  IsDone named m = All (Contains texts) named × AreAllSafe spared named (at m) × (0 < length named → IsSwept spared (at m).files)
 
   module _ (fit : AreFit texts) where
     module _ {words : List (List ℕ)} {named : List Mailbox} {status : ℕ} {old new : M}
-        (ran : Commanded seen maildir texts words named status old new) (well : IsWell old) where
+        (ran : Commanded spared seen maildir texts words named status old new) (well : IsWell old) where
       abbrev was : Seen
       was = seen_at (seen old) ran.was
 
@@ -148,93 +149,94 @@ module _ {M : Type 0} (seen : M → SeenMachine)
 
       none_due : named ≡ [] → IsDone named new
       none_due none =
-          subst (λ these. IsDone these new) (sym none) (All-nil (Contains texts), All-nil (IsSafeIn (at new)), λ some. absurd (omega (arith, some)))
+          subst (λ these. IsDone these new) (sym none) (All-nil (Contains texts), All-nil (IsSafeIn spared (at new)), λ some. absurd (omega (arith, some)))
 
       doing : (request : Request) (answer : Result Unit Fault) → Does request answer was is → IsToDeliver maildir texts named was ran.is.input request
-          → Goes texts (at old) (at new) × OnOk answer (IsDone named new)
+          → Goes spared texts (at old) (at new) × OnOk answer (IsDone named new)
       doing (ToWrite form file) answer does none =
-          (goes_resting fit well.1 (does.works.rests well.0 maildir), on_ok answer (none_due none))
+          (goes_resting fit well.1 (does.works.rests spared well.0 maildir), on_ok answer (none_due none))
       doing (ToConvert into files) answer does (inr (other, none)) =
-          (goes_resting fit well.1 (does.works.elsewhere well.0 maildir other), on_ok answer (none_due none))
+          (goes_resting fit well.1 (does.works.elsewhere spared well.0 maildir other), on_ok answer (none_due none))
       doing (ToConvert into files) answer does (inl (same, among, given)) =
           let there = (alike old into maildir same).1 in
           let here = (alike new into maildir (still old new into maildir same)).0 in
           let sound = rest_sound texts fit.are there well.1 in
-          let delivers = does.works.delivers well.0 named given (fit_among texts named among fit) (sound_among texts named among sound) in
+          let delivers = does.works.delivers spared well.0 named given (fit_among texts named among fit) (sound_among texts named among sound) in
           let goes = goes_delivering fit sound named among delivers.stay delivers.found in (
             goes_then (goes_resting fit well.1 there) (goes_then goes (goes_resting fit goes.sound here)),
-            on_ok_then answer (λ (both : AreAllSafe named ((seen new).maildir_at into) × IsSwept ((seen new).maildir_at into).files).
+            on_ok_then answer (λ (both : AreAllSafe spared named ((seen new).maildir_at into) × IsSwept spared ((seen new).maildir_at into).files).
                 (among, rest_all_safe named (all_among texts named among IsMailbox fit.are) here both.0, λ some. swept_rests _ _ here both.1))
                 (both_of answer _ _ delivers.safe delivers.swept),
           )
 
       ended : (ending : Ending) → status ≡ status_of ending → Ran words ending was is ran.was.errors ran.is.errors
-          → Goes texts (at old) (at new) × (seen new).honest × (status ≡ 0 → IsDone named new)
+          → Goes spared texts (at old) (at new) × (seen new).honest spared × (status ≡ 0 → IsDone named new)
       ended Done ends (did, keeps) =
           let asks = did.form in
           let does = did.does asks.0 asks.1 in
           let all = doing asks.0 (Ok tt) does (ran.delivers asks.0 asks.1) in
-          (all.0, does.honest well.0, λ zero. all.1)
+          (all.0, does.honest spared well.0, λ zero. all.1)
       ended (Stopped fault written) ends (did, line) =
           let asks = did.form in
           let some = doing asks.0 (Err fault) (did.does asks.0 asks.1) (ran.delivers asks.0 asks.1) in
           (some.0, ran.again ends, λ zero. absurd (one_no_zero (sym ends ∙ zero)))
       ended (WrongWords written) ends wrong =
           let same = (ran.ran.untouched ends).0 in (
-            subst (λ m. Goes texts (at old) (at m)) (sym same) (goes_resting fit well.1 rest_same),
-            subst (λ m. (seen m).honest) (sym same) well.0,
+            subst (λ m. Goes spared texts (at old) (at m)) (sym same) (goes_resting fit well.1 rest_same),
+            subst (λ m. (seen m).honest spared) (sym same) well.0,
             λ zero. absurd (two_no_zero (sym ends ∙ zero)),
           )
 
-      commanded : Goes texts (at old) (at new) × (seen new).honest × (status ≡ 0 → IsDone named new)
+      commanded : Goes spared texts (at old) (at new) × (seen new).honest spared × (status ≡ 0 → IsDone named new)
       commanded = ended ran.ran.ending ran.ran.status_is ran.ran.ran
 
     -- ---- any events
-    goes_event : (event : Event) (old new : M) → IsWell old → Happens seen maildir texts event old new → Goes texts (at old) (at new) × (seen new).honest
+    goes_event : (event : Event) (old new : M) → IsWell old → Happens spared seen maildir texts event old new → Goes spared texts (at old) (at new) × (seen new).honest spared
     goes_event (Command words named status) old new well ran =
         let all = commanded ran well in
         (all.0, all.1)
     goes_event Readers old new well (rests, honest) = (goes_resting fit well.1 rests, honest well.0)
     goes_event Cut old new well (cut, honest) = (goes_cut fit well.1 cut, honest)
 
-    well_after : (event : Event) (old new : M) → IsWell old → Happens seen maildir texts event old new → IsWell new
+    well_after : (event : Event) (old new : M) → IsWell old → Happens spared seen maildir texts event old new → IsWell new
     well_after event old new well happens =
         let goes = goes_event event old new well happens in
         (goes.1, goes.0.sound)
 
-    well_through : (events : List Event) (old new : M) → IsWell old → IsHistory seen maildir texts events old new → IsWell new
-    well_through = chain_keeps (Happens seen maildir texts) IsWell well_after
+    well_through : (events : List Event) (old new : M) → IsWell old → IsHistory spared seen maildir texts events old new → IsWell new
+    well_through = chain_keeps (Happens spared seen maildir texts) IsWell well_after
 
-    safe_through : (named : List Mailbox) → All (Contains texts) named → (events : List Event) (old new : M) → IsWell old × AreAllSafe named (at old)
-        → IsHistory seen maildir texts events old new → IsWell new × AreAllSafe named (at new)
-    safe_through named among = chain_keeps (Happens seen maildir texts) (λ m. IsWell m × AreAllSafe named (at m)) (λ event a b is happens. (
+    safe_through : (named : List Mailbox) → All (Contains texts) named → (events : List Event) (old new : M) → IsWell old × AreAllSafe spared named (at old)
+        → IsHistory spared seen maildir texts events old new → IsWell new × AreAllSafe spared named (at new)
+    safe_through named among = chain_keeps (Happens spared seen maildir texts) (λ m. IsWell m × AreAllSafe spared named (at m)) (λ event a b is happens. (
       well_after event a b is.0 happens,
       λ k d below. (goes_event event a b is.0 happens).0.safe (get_or named k d) (among k d below) (is.1 k d below),
     ))
 
   -- ---- a Maildir that has none of the messages
-  sound_new : (old : M) → AreNewTo (at old) texts → IsSoundFor texts (at old)
+  sound_new : (old : M) → AreNewTo spared (at old) texts → IsSoundFor spared texts (at old)
   sound_new old none = record {
-    sound = λ k d below j e inside. inl (none.missing k d below j e inside);
-    intact = λ k d below left may j e inside. missing_intact (get_or (get_or texts k d).messages j e) left (none.none_left left may k d below j e inside);
+    sound = λ k d below j e inside sp. inl (none.missing k d below j e inside sp);
+    intact = λ k d below left may j e inside sp.
+        missing_intact (get_or (get_or texts k d).messages j e) left (none.none_left left may k d below j e inside sp);
   }
 
-  module _ (old new : M) (h : (seen old).honest) (none : AreNewTo (at old) texts) where
-    pub sound_through : (events : List Event) → IsHistory seen maildir texts events old new → IsSoundFor texts (at new)
+  module _ (old new : M) (h : (seen old).honest spared) (none : AreNewTo spared (at old) texts) where
+    pub sound_through : (events : List Event) → IsHistory spared seen maildir texts events old new → IsSoundFor spared texts (at new)
     sound_through events come = (well_through none.fit events old new (h, sound_new old none) come).1
 
     pub safe_since : (named : List Mailbox) (words : List (List ℕ)) (before rest : List Event)
-        → IsHistory seen maildir texts (before ++ (Command words named 0 ∷ rest)) old new → AreAllSafe named (at new)
+        → IsHistory spared seen maildir texts (before ++ (Command words named 0 ∷ rest)) old new → AreAllSafe spared named (at new)
     safe_since named words before rest come =
-        let parts = chain_parts (Happens seen maildir texts) before (Command words named 0 ∷ rest) old new come in
+        let parts = chain_parts (Happens spared seen maildir texts) before (Command words named 0 ∷ rest) old new come in
         let still = well_through none.fit before old parts.0 (h, sound_new old none) parts.1 in
         let all = commanded none.fit parts.2.1 still in
         let done = all.2 refl in
         (safe_through none.fit named done.0 rest parts.2.0 new ((all.1, all.0.sound), done.1) parts.2.2).1
 
     pub swept_at : (named : List Mailbox) (words : List (List ℕ)) (before : List Event)
-        → IsHistory seen maildir texts (before ++ (Command words named 0 ∷ [])) old new → 0 < length named → IsSwept (at new).files
+        → IsHistory spared seen maildir texts (before ++ (Command words named 0 ∷ [])) old new → 0 < length named → IsSwept spared (at new).files
     swept_at named words before come =
-        let parts = chain_parts (Happens seen maildir texts) before (Command words named 0 ∷ []) old new come in
+        let parts = chain_parts (Happens spared seen maildir texts) before (Command words named 0 ∷ []) old new come in
         let still = well_through none.fit before old parts.0 (h, sound_new old none) parts.1 in
-        subst (λ m. 0 < length named → IsSwept (at m).files) (sym parts.2.2) ((commanded none.fit parts.2.1 still).2 refl).2
+        subst (λ m. 0 < length named → IsSwept spared (at m).files) (sym parts.2.2) ((commanded none.fit parts.2.1 still).2 refl).2

@@ -1,6 +1,7 @@
 //! Laws over the contracts of the program alone. Each function's contract is a law; its body is empty.
 ghost use Rattle.std.specs.Prelude.{ℕ, ◌<◌, List, [], ◌∷◌, ◌++◌, length};
 ghost use Rattle.maildir_run.specs.Delivery.{IsSwept};
+ghost use Rattle.maildir_run.specs.Files.{Spared};
 ghost use Rattle.maildir_run.specs.Several.{Mailbox};
 ghost use Rattle.maildir_commands.specs.Commands.{AreNewTo, Event, IsHistory};
 ghost use Rattle.maildir_commands.specs.Commands.Event.{Command};
@@ -14,16 +15,16 @@ use crate::machine::Machine;
 /// them is in exactly one file of `new` or `cur`, with exactly its bytes, and stays so through all that follows; and right
 /// after it no file of the converter is left in `tmp`.
 pub fn after_any_commands<M: Machine>()
-    ensures sound { (maildir : List ℕ) (texts : List Mailbox) (events : List Event) (old new : M) →
-        (M.at old).honest → AreNewTo ((M.at old).maildir_at maildir) texts →
-        IsHistory M.at maildir texts events old new →
-        IsSoundFor texts ((M.at new).maildir_at maildir) }
-    ensures safe { (maildir : List ℕ) (texts named : List Mailbox) (words : List (List ℕ)) (before rest : List Event) (old new : M) →
-        (M.at old).honest → AreNewTo ((M.at old).maildir_at maildir) texts →
-        IsHistory M.at maildir texts (before ++ (Command words named 0 ∷ rest)) old new →
-        AreAllSafe named ((M.at new).maildir_at maildir) }
-    ensures swept { (maildir : List ℕ) (texts named : List Mailbox) (words : List (List ℕ)) (before : List Event) (old new : M) →
-        (M.at old).honest → AreNewTo ((M.at old).maildir_at maildir) texts →
-        IsHistory M.at maildir texts (before ++ (Command words named 0 ∷ [])) old new → 0 < length named →
-        IsSwept ((M.at new).maildir_at maildir).files }
+    ensures sound { (spared : Spared) (maildir : List ℕ) (texts : List Mailbox) (events : List Event) (old new : M) →
+        (M.at old).honest spared → AreNewTo spared ((M.at old).maildir_at maildir) texts →
+        IsHistory spared M.at maildir texts events old new →
+        IsSoundFor spared texts ((M.at new).maildir_at maildir) }
+    ensures safe { (spared : Spared) (maildir : List ℕ) (texts named : List Mailbox) (words : List (List ℕ)) (before rest : List Event) (old new : M) →
+        (M.at old).honest spared → AreNewTo spared ((M.at old).maildir_at maildir) texts →
+        IsHistory spared M.at maildir texts (before ++ (Command words named 0 ∷ rest)) old new →
+        AreAllSafe spared named ((M.at new).maildir_at maildir) }
+    ensures swept { (spared : Spared) (maildir : List ℕ) (texts named : List Mailbox) (words : List (List ℕ)) (before : List Event) (old new : M) →
+        (M.at old).honest spared → AreNewTo spared ((M.at old).maildir_at maildir) texts →
+        IsHistory spared M.at maildir texts (before ++ (Command words named 0 ∷ [])) old new → 0 < length named →
+        IsSwept spared ((M.at new).maildir_at maildir).files }
 {}
