@@ -10,6 +10,7 @@ use Rattle.maildir_memory.specs.declared.mem_system.MemSystem.{MemSystem}
 use Rattle.maildir_memory.specs.MemMachines.{AreAll, IsFresh, IsFreshQuietly, held_at, held_under_word}
 use Rattle.maildir_memory.specs.MemSystem.{HasNoTurns}
 use Rattle.maildir_run.specs.MemFolder.{IsQuiet}
+use Rattle.maildir_run.specs.Files.{Spared}
 
 -- a power cut may leave the files as they are
 pub held_may_stay : (found : Option (Option MemSystem)) → (held_at found).may_leave (held_at found).files
@@ -18,10 +19,10 @@ held_may_stay (Some None) = refl
 held_may_stay (Some (Some system)) = inl refl
 
 -- two words with the same bytes have the same Maildir
-pub held_alike : {X : Type 0} (maildirs : BTreeMap (String X) (Option MemSystem)) (word other : List ℕ) → IsTrue (bytes_eq word other)
-    → AreAt (held_under_word maildirs word) (held_under_word maildirs other)
-held_alike maildirs word other same =
-    subst (λ w. AreAt (held_under_word maildirs word) (held_under_word maildirs w)) ((bytes_eq-Decides word other).0 same) same_at
+pub held_alike : {X : Type 0} (maildirs : BTreeMap (String X) (Option MemSystem)) (spared : Spared) (word other : List ℕ) → IsTrue (bytes_eq word other)
+    → AreAt spared (held_under_word maildirs word) (held_under_word maildirs other)
+held_alike maildirs spared word other same =
+    subst (λ w. AreAt spared (held_under_word maildirs word) (held_under_word maildirs w)) ((bytes_eq-Decides word other).0 same) same_at
 
 -- where it is quiet, it does as assumed
 pub quiet_in_memory : {X : Type 0} (maildirs : BTreeMap (String X) (Option MemSystem)) (fresh : Option MemSystem)

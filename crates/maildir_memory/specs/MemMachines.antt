@@ -33,7 +33,7 @@ IsRefusedAt (Some (Some _)) fault = ⊥
 -- a Maildir in memory that is open
 abbrev pub open_in_memory : MemSystem → OpenMaildir
 open_in_memory system = record {
-  honest = IsQuiet system.folder;
+  honest = λ _. IsQuiet system.folder;
   quiet = HasNoTurns system;
   held = record { files = (world_of system).files; may_leave = may_be_left system; rooted = IsTrue system.is_rooted; touched = λ _. Unit {0} };
 }
@@ -66,7 +66,7 @@ pub record IsFreshQuietly (system : MemSystem) : Type 0 where
 -- what is seen of the machine with these texts and Maildirs, and of which the next one is made
 abbrev pub seen_in_memory : {X : Type 0} → List NamedText → BTreeMap (String X) (Option MemSystem) → Option MemSystem → SeenMachine
 seen_in_memory texts maildirs fresh = record {
-  honest = AreAll (λ system. IsQuiet system.folder) maildirs × IfSome fresh IsFresh;
+  honest = λ _. AreAll (λ system. IsQuiet system.folder) maildirs × IfSome fresh IsFresh;
   quiet = AreAll HasNoTurns maildirs × IfSome fresh IsFreshQuietly;
   text_of = text_under texts;
   refuses_source = λ word. has_text texts word ≡ false;

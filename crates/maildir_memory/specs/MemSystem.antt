@@ -46,7 +46,7 @@ pub record HasNoTurns (system : MemSystem) : Type 0 where
 -- what is seen of it as of any system
 abbrev pub seen_system : MemSystem → SeenSystem
 seen_system system = record {
-  honest = IsQuiet system.folder;
+  honest = λ _. IsQuiet system.folder;
   quiet = HasNoTurns system;
   world = world_of system;
   may_leave = may_be_left system;

@@ -108,13 +108,13 @@ impl<'a> Machine for MemMachine<'a> {
 
     ghost at = { λ machine. seen_in_memory machine.texts.now machine.maildirs machine.fresh };
 
-    ghost quiet_is_honest = { λ machine. quiet_in_memory machine.maildirs machine.fresh };
+    ghost quiet_is_honest = { λ machine _. quiet_in_memory machine.maildirs machine.fresh };
 
     ghost same_words = { λ _ _ _ _ same. same };
 
     ghost same_maildir = { λ machine. held_alike machine.maildirs };
 
-    ghost may_stay = { λ machine word _. held_may_stay (get_by_text machine.maildirs word) };
+    ghost may_stay = { λ machine _ word _. held_may_stay (get_by_text machine.maildirs word) };
 
     fn open_source(&mut self, path: &str) -> io::Result<&'a [u8]> {
         let texts = self.texts;

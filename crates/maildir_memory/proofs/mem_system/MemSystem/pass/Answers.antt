@@ -10,11 +10,11 @@ returns-in-Some-clause-others c =
     let did = c.act.ensures.others in
     record {
       honest = did.honest;
-      acts = record { actions = did.acts.actions; files_are = did.acts.files_are };
-      passes = λ sub.
-          let first : Passes sub (world_of c.args.self.now) (world_of (record c.args.self.now { clock = c.tick.new.clock })) =
+      acts = λ spared. let acts = did.acts spared in record { actions = acts.actions; files_are = acts.files_are };
+      passes = λ spared sub.
+          let first : Passes spared sub (world_of c.args.self.now) (world_of (record c.args.self.now { clock = c.tick.new.clock })) =
           record { acts = record { actions = []; files_are = refl }; later = c.tick.ensures; stamp_is = inl refl } in
-          passes_on first (did.passes sub);
+          passes_on first (did.passes spared sub);
       left = did.left;
       keeps = did.keeps;
       root = did.root;
@@ -23,9 +23,9 @@ returns-in-Some-clause-others c =
 pub returns-in_default-clause-others : goal.returns-in_default-clause-others
 returns-in_default-clause-others c = record {
   honest = λ honest. honest;
-  acts = record { actions = []; files_are = refl };
-  passes = λ sub. record { acts = record { actions = []; files_are = refl }; later = c.tick.ensures; stamp_is = inl refl };
-  left = left_none;
+  acts = λ spared. record { actions = []; files_are = refl };
+  passes = λ spared sub. record { acts = record { actions = []; files_are = refl }; later = c.tick.ensures; stamp_is = inl refl };
+  left = λ spared. left_none;
   keeps = keeps_none c.args.self.now.folder;
   root = refl;
 }
