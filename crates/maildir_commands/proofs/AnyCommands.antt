@@ -58,20 +58,23 @@ goes_then : {spared : Spared} {texts : List Mailbox} {a b c : HeldMaildir} → G
 goes_then first then = record { sound = then.sound; safe = λ text among safe. then.safe text among (first.safe text among safe) }
 
 module _ {spared : Spared} {texts : List Mailbox} (fit : AreFit texts) {old new : HeldMaildir} (sound : IsSoundFor spared texts old) where
-  goes_on : All (λ text. Stays spared text.messages old.files old.may_leave new.files new.may_leave) texts → (old.rooted → new.rooted) → Goes spared texts old new
+  goes_on : All (λ text. Stays spared text.messages old.files old.may_leave new.files new.may_leave) texts → (old.rooted → new.rooted)
+      → Goes spared texts old new
   goes_on stays found = record {
     sound = record {
       sound = λ k d below. (stays k d below).sound (sound.sound k d below);
       intact = λ k d below. (stays k d below).intact (sound.intact k d below);
     };
     safe = λ text among.
-        safe_stay old new (All-contains (λ (t : Mailbox). Stays spared t.messages old.files old.may_leave new.files new.may_leave) texts text stays among) found;
+        safe_stay old new (All-contains (λ (t : Mailbox). Stays spared t.messages old.files old.may_leave new.files new.may_leave) texts text stays among)
+        found;
   }
 
   goes_resting : Rests spared old new → Goes spared texts old new
   goes_resting rests = goes_on (rest_stays texts fit.are rests) rests.found
 
-  goes_delivering : (named : List Mailbox) → All (Contains texts) named → OthersStay spared named old new → (old.rooted → new.rooted) → Goes spared texts old new
+  goes_delivering : (named : List Mailbox) → All (Contains texts) named → OthersStay spared named old new → (old.rooted → new.rooted)
+      → Goes spared texts old new
   goes_delivering named among stay found =
       goes_on (λ k d below. stay (get_or texts k d).messages (named_of (fit.are k d below))
       (all_among texts named among (λ other. AreAlike (get_or texts k d).messages other.messages) (fit.alike k d below))) found
@@ -124,7 +127,8 @@ module _ {spared : Spared} {texts : List Mailbox} (fit : AreFit texts) {old new 
 
 -- ---- a command
 module _ (spared : Spared) {M : Type 0} (seen : M → SeenMachine)
-    (alike : (machine : M) (word other : List ℕ) → (seen machine).same word other → AreAt spared ((seen machine).maildir_at word) ((seen machine).maildir_at other))
+    (alike : (machine : M) (word other : List ℕ) → (seen machine).same word other → AreAt spared ((seen machine).maildir_at word)
+    ((seen machine).maildir_at other))
     (still : (one next : M) (word other : List ℕ) → (seen one).same word other → (seen next).same word other)
     (maildir : List ℕ) (texts : List Mailbox) where
   abbrev at : M → HeldMaildir
@@ -191,7 +195,8 @@ module _ (spared : Spared) {M : Type 0} (seen : M → SeenMachine)
       commanded = ended ran.ran.ending ran.ran.status_is ran.ran.ran
 
     -- ---- any events
-    goes_event : (event : Event) (old new : M) → IsWell old → Happens spared seen maildir texts event old new → Goes spared texts (at old) (at new) × (seen new).honest spared
+    goes_event : (event : Event) (old new : M) → IsWell old → Happens spared seen maildir texts event old new
+        → Goes spared texts (at old) (at new) × (seen new).honest spared
     goes_event (Command words named status) old new well ran =
         let all = commanded ran well in
         (all.0, all.1)

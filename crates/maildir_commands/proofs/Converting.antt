@@ -16,7 +16,8 @@ use Rattle.maildir_commands.proofs.Several.{on_ok_then, rest_sound, text_at}
 
 -- the first file was not opened
 pub source_refused : {maildir word first : List ℕ} {rest : List (List ℕ)} {old new : SeenMachine} {input was : Bytes} {fault : Fault}
-    → word ≡ first → OpensSources old new → (fault ≡ Source) ⊎ (fault ≡ Run run.OutOfMemory) → ((spared : Spared) → old.honest spared → fault ≡ Source → old.refuses_source word)
+    → word ≡ first → OpensSources old new → (fault ≡ Source) ⊎ (fault ≡ Run run.OutOfMemory)
+    → ((spared : Spared) → old.honest spared → fault ≡ Source → old.refuses_source word)
     → Does (ToConvert maildir (first ∷ rest)) (Err fault) (seen_with old input was) (seen_with new input was)
 source_refused {maildir} {first = first} {rest} {old} {input = input} {was} {fault} value sources causes refused = record {
   works = record {
@@ -57,7 +58,8 @@ module _ {M S File : Type 0} (seen : M → SeenMachine) (f : Ghosts S File)
   none_into {reason = reason} folder = record {
     works = record {
       printed = tt;
-      delivers = λ spared h texts given fit sound. none_delivered texts fit.are (rest_then (sources.rests spared h maildir) (folder.rests spared (sources.honest spared h))) sound;
+      delivers = λ spared h texts given fit sound.
+          none_delivered texts fit.are (rest_then (sources.rests spared h maildir) (folder.rests spared (sources.honest spared h))) sound;
       touches = λ spared h. touched_none (rest_then (sources.rests spared h maildir) (folder.rests spared (sources.honest spared h))).touches;
       foreign = λ q. foreign_same (sources.quietly q maildir) (folder.rests_quietly (sources.quiet q));
       elsewhere = λ spared h word other.
@@ -66,7 +68,8 @@ module _ {M S File : Type 0} (seen : M → SeenMachine) (f : Ghosts S File)
           folder.others_quietly (sources.quiet q) word (λ is. other (alike mid old maildir word is)) ∙ sources.quietly q word;
     };
     cause = λ spared h.
-        of_maildir maildir files (seen_with (seen old) input was) input reason (sources.maildirs spared h maildir reason (folder.refused spared (sources.honest spared h)));
+        of_maildir maildir files (seen_with (seen old) input was) input reason
+        (sources.maildirs spared h maildir reason (folder.refused spared (sources.honest spared h)));
     unread = λ named. refl;
     texts = λ spared h. folder.texts spared (sources.honest spared h) ∙ sources.texts spared h;
     honest = λ spared h. tt;
@@ -89,29 +92,36 @@ module _ {M S File : Type 0} (seen : M → SeenMachine) (f : Ghosts S File)
     converted printed delivers touches foreign honest cause unread =
         let good = λ (spared : Spared) (h : (seen old).honest spared). folder.honest spared (sources.honest spared h) in
         let still = λ (q : (seen old).quiet). folder.quiet (sources.quiet q) in
-        let opens = λ (spared : Spared) (h : (seen old).honest spared). rest_then (sources.rests spared h maildir) (folder.opens spared (sources.honest spared h)) in
+        let opens =
+        λ (spared : Spared) (h : (seen old).honest spared). rest_then (sources.rests spared h maildir) (folder.opens spared (sources.honest spared h)) in
         let closes = λ (spared : Spared) (h : (seen old).honest spared).
-        closing.closes spared (each.honest spared (good spared h)) (each.still_open spared (good spared h) maildir (folder.is_open spared (sources.honest spared h))) in
+        closing.closes spared (each.honest spared (good spared h))
+        (each.still_open spared (good spared h) maildir (folder.is_open spared (sources.honest spared h))) in
         record {
           works = record {
             printed = printed;
             delivers = λ spared h texts given fit sound.
-                closed texts fit.are answer _ _ _ _ (opens spared h) (closes spared h) (delivers spared h texts given fit (rest_sound texts fit.are (opens spared h) sound));
+                closed texts fit.are answer _ _ _ _ (opens spared h) (closes spared h)
+                (delivers spared h texts given fit (rest_sound texts fit.are (opens spared h) sound));
             touches = λ spared h. touched_then (touched_none (opens spared h).touches) (touched_then touches (touched_none (closes spared h).touches));
             foreign = λ q.
                 foreign_within (folder.opens_quietly (sources.quiet q) ∙ sources.quietly q maildir) (foreign (folder.works_quietly (sources.quiet q)))
                 (closing.closes_quietly (each.quiet (still q))
                 (each.still_open all_bases (sure ready all_bases (still q)) maildir (folder.is_open all_bases (sure mid all_bases (sources.quiet q)))));
             elsewhere = λ spared h word other.
-                rest_then (rest_then (sources.rests spared h word) (folder.others spared (sources.honest spared h) word (λ is. other (alike mid old maildir word is))))
-                (rest_then (each.rests spared (good spared h) word) (closing.others spared (each.honest spared (good spared h)) word (λ is. other (alike work old maildir word is))));
+                rest_then (rest_then (sources.rests spared h word)
+                (folder.others spared (sources.honest spared h) word (λ is. other (alike mid old maildir word is))))
+                (rest_then (each.rests spared (good spared h) word)
+                (closing.others spared (each.honest spared (good spared h)) word (λ is. other (alike work old maildir word is))));
             elsewhere_quietly = λ q word other.
                 (closing.others_quietly (each.quiet (still q)) word (λ is. other (alike work old maildir word is)) ∙ each.quietly (still q) word)
                 ∙ (folder.others_quietly (sources.quiet q) word (λ is. other (alike mid old maildir word is)) ∙ sources.quietly q word);
           };
           cause = cause;
           unread = unread;
-          texts = λ spared h. closing.texts spared (each.honest spared (good spared h)) ∙ (each.texts spared (good spared h) ∙ (folder.texts spared (sources.honest spared h) ∙ sources.texts spared h));
+          texts = λ spared h.
+              closing.texts spared (each.honest spared (good spared h)) ∙
+              (each.texts spared (good spared h) ∙ (folder.texts spared (sources.honest spared h) ∙ sources.texts spared h));
           honest = λ spared h. on_ok_then answer (closing.honest spared (each.honest spared (good spared h))) (honest spared h);
         }
 

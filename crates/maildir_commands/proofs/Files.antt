@@ -34,12 +34,14 @@ pub record SoFar (n : ℕ) (first : Bytes) (files : List (List ℕ)) (old now : 
   pub quiet : start.quiet → work.quiet
   pub touches : TouchedConverters start.held.touched work.held.touched
   pub foreign : start.quiet → KeepsForeign start.held.files work.held.files
-  pub delivers : (spared : Spared) → old.honest spared → start.honest spared → (texts : List Mailbox) → Given old first files texts → AreFit texts → IsSoundFor spared texts start.held →
+  pub delivers : (spared : Spared) → old.honest spared → start.honest spared → (texts : List Mailbox) → Given old first files texts → AreFit texts
+      → IsSoundFor spared texts start.held →
       UpTo spared n texts start.held work.held was is
 
 -- This source has the text of this number, which is that of a source by its word.
 pub record IsText (n : ℕ) (first : Bytes) (files : List (List ℕ)) (old : SeenMachine) (before : Bytes) : Type 0 where
-  pub text : (spared : Spared) → old.honest spared → (texts : List Mailbox) → Given old first files texts → (n < length texts) × (before ≡ Some (text_at texts n).bytes)
+  pub text : (spared : Spared) → old.honest spared → (texts : List Mailbox) → Given old first files texts
+      → (n < length texts) × (before ≡ Some (text_at texts n).bytes)
   pub named : (spared : Spared) → old.honest spared → (name : List ℕ) → first ≡ Some (old.text_of name)
       → (file : List ℕ) × Contains (name ∷ files) file × (before ≡ Some (old.text_of file))
 
@@ -65,7 +67,8 @@ module _ {n : ℕ} {first : Bytes} {files : List (List ℕ)} {old now : SeenMach
     (so_far : SoFar n first files old now start work was mid) where
   -- another file was opened, or was not
   module _ {next : SeenMachine} (opens : OpensSources now next) where
-    not_opened : {fault : Fault} → ((spared : Spared) → old.honest spared → (name : List ℕ) → first ≡ Some (old.text_of name) → IsOfFiles old (name ∷ files) fault)
+    not_opened : {fault : Fault}
+        → ((spared : Spared) → old.honest spared → (name : List ℕ) → first ≡ Some (old.text_of name) → IsOfFiles old (name ∷ files) fault)
         → DeliversFiles first files (Err fault) old next start work was mid
     not_opened cause = record {
       opens = opens_then so_far.opens opens;
@@ -78,7 +81,8 @@ module _ {n : ℕ} {first : Bytes} {files : List (List ℕ)} {old now : SeenMach
     }
 
     module _ {before after is : Bytes} {new : SeenMaildir} (this : IsText n first files old before) where
-      one : {answer : Result Unit Fault} → DeliversSource answer before after mid is work new → (spared : Spared) (h : old.honest spared) (s : start.honest spared)
+      one : {answer : Result Unit Fault} → DeliversSource answer before after mid is work new
+          → (spared : Spared) (h : old.honest spared) (s : start.honest spared)
           (texts : List Mailbox) (given : Given old first files texts) → AreFit texts → IsSoundFor spared texts start.held
           → DeliversOne spared answer (text_at texts n) work.held new.held mid is
       one did spared h s texts given fit sound =
@@ -155,7 +159,8 @@ module _ {X : Type 0} (f : X → List ℕ) (rest : List X) {i : ℕ} {first : By
   }
 
   pub refused_next : {next : SeenMachine} → OpensSources now next → {fault : Fault} → (fault ≡ Source) ⊎ (fault ≡ Run run.OutOfMemory)
-      → ((spared : Spared) → now.honest spared → fault ≡ Source → now.refuses_source word) → DeliversFiles first (map f rest) (Err fault) old next start work was is
+      → ((spared : Spared) → now.honest spared → fault ≡ Source → now.refuses_source word)
+      → DeliversFiles first (map f rest) (Err fault) old next start work was is
   refused_next opens {fault} causes refused =
       not_opened so_far opens (λ spared h name is.
       refused_file old name (map f rest) (f x) (holds name) fault causes

@@ -17,9 +17,11 @@ use Rattle.maildir_run.proofs.Tasks.Progress.{any_kept}
 use Rattle.maildir_commands.proofs.Common.{IsSpared, Spared, SparesAll, is_spared, spared_named}
 
 -- ---- other programs take and bring no base
-acted_has : (spared : Spared) (b : List ℕ) → IsTrue (is_spared spared b) → (actions : List Action) (s : Files) → has_home (all_acted spared actions s) b ≡ has_home s b
+acted_has : (spared : Spared) (b : List ℕ) → IsTrue (is_spared spared b) → (actions : List Action) (s : Files)
+    → has_home (all_acted spared actions s) b ≡ has_home s b
 acted_has spared b named [] s = refl
-acted_has spared b named (action ∷ actions) s = acted_has spared b named actions (acted spared action s) ∙ sym (any_kept _ _ (acted_kept spared b named action s))
+acted_has spared b named (action ∷ actions) s =
+    acted_has spared b named actions (acted spared action s) ∙ sym (any_kept _ _ (acted_kept spared b named action s))
 
 -- the same bases that are spared
 abbrev pub Agree : Spared → (List ℕ → Bool) → (List ℕ → Bool) → Type 0
@@ -61,7 +63,8 @@ count_agree spared {has} {had} agree (m ∷ ms) named all =
     ∙ (ap (λ k. cond (had m.target.base) 1 0 + k) (count_agree spared agree ms rest (All-tail (IsSpared spared) m ms all))
     ∙ sym (count-cons (λ (n : Message). had n.target.base) m ms (had m.target.base) refl))
 
-pub report_agree : (spared : Spared) {has had : List ℕ → Bool} → Agree spared has had → {left most : ℕ} → (SparesAll spared → left ≤ most) → {text : Mailbox} → AreNamed text.messages
+pub report_agree : (spared : Spared) {has had : List ℕ → Bool} → Agree spared has had → {left most : ℕ} → (SparesAll spared → left ≤ most) → {text : Mailbox}
+    → AreNamed text.messages
     → {report : Report} → IsReportOf spared had left text report → IsReportOf spared has most text report
 report_agree spared {has} {had} agree {left} {most} few {text} named {report} is =
     let same = count_agree spared agree _ named in

@@ -51,7 +51,8 @@ of_form {before = before} {after} {was} {is} {reads} {answer} same =
 -- of a source that was opened, if it is a file
 module _ (form : Form) {file : Option (List ℕ)} {old new : SeenMachine} (opens : OpensSources old new) {input left was is before after : Bytes}
     (has : (spared : Spared) → IsKnown spared file (seen_with old input was) → source_of file (seen_with old input was) ≡ before)
-    (had : (spared : Spared) → IsKnown spared file (seen_with old input was) → (t : List ℕ) → MayHaveHad file (seen_with old input was) left t → Possible before after t)
+    (had : (spared : Spared) → IsKnown spared file (seen_with old input was) → (t : List ℕ) → MayHaveHad file (seen_with old input was) left t → Possible
+    before after t)
     (unread : ¬ (files_of (ToWrite form file) ≡ []) → left ≡ input) where
   stopped : {fault : RunFault} → WritesMessages (output_of form) before after was is (2 ^ 40) (Err fault)
       → ((spared : Spared) → old.honest spared → IsCauseOf (ToWrite form file) (seen_with old input was) left (Run fault))
@@ -103,7 +104,8 @@ file_had : (old : SeenMachine) (file : List ℕ) (before after : Bytes) → ((sp
 file_had old file before after text budget spared h t same = possible_whole before after (subst (λ t. before ≡ Some t) (sym same) (text spared h)) budget
 
 module _ (form : Form) {file : List ℕ} {old new : SeenMachine} (opens : OpensSources old new) {input was : Bytes} where
-  pub not_opened : {fault : Fault} → (fault ≡ Source) ⊎ (fault ≡ Run run.OutOfMemory) → ((spared : Spared) → old.honest spared → fault ≡ Source → old.refuses_source file)
+  pub not_opened : {fault : Fault} → (fault ≡ Source) ⊎ (fault ≡ Run run.OutOfMemory)
+      → ((spared : Spared) → old.honest spared → fault ≡ Source → old.refuses_source file)
       → Does (ToWrite form (Some file)) (Err fault) (seen_with old input was) (seen_with new input was)
   not_opened causes refused = record {
     works = record { all = λ spared h. tt; prefix = λ spared h t is. nothing_prefix (output_of form) t was; rests = opens.rests; quietly = opens.quietly };
@@ -148,7 +150,8 @@ delivers_both {spared} answer handed {given} {kept} keeps {texts} {maildir} {now
   safe = both_ok answer handed (λ safe. safe) did.safe;
   each = both_ok answer handed (λ each. handed_each maildir texts was given kept each keeps) did.each;
   some = both_err answer handed (some_kept maildir now texts was given kept keeps)
-      (λ (both : PrintsEach spared maildir texts was given × AreAllSafe spared texts now). each_some keeps both.0 both.1) did.some (both_of answer _ _ did.each did.safe);
+      (λ (both : PrintsEach spared maildir texts was given × AreAllSafe spared texts now). each_some keeps both.0 both.1) did.some
+      (both_of answer _ _ did.each did.safe);
   stay = did.stay;
   found = did.found;
   swept = both_ok answer handed (λ swept. swept) did.swept;

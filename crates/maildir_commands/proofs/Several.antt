@@ -56,12 +56,14 @@ rest_of {others} named rests = stays_acted others named rests.actions _ _ _ _ re
 pub stay_rest : {spared : Spared} (texts : List Mailbox) {old new : HeldMaildir} → Rests spared old new → OthersStay spared texts old new
 stay_rest texts rests = λ others named alike. rest_of named rests
 
-pub stay_both : {spared : Spared} (texts : List Mailbox) (a b c : HeldMaildir) → OthersStay spared texts a b → OthersStay spared texts b c → OthersStay spared texts a c
+pub stay_both : {spared : Spared} (texts : List Mailbox) (a b c : HeldMaildir) → OthersStay spared texts a b → OthersStay spared texts b c
+    → OthersStay spared texts a c
 stay_both texts a b c first then = λ others named alike.
     stays_then others a.files a.may_leave b.files b.may_leave c.files c.may_leave (first others named alike) (then others named alike)
 
 -- safe messages stay so
-pub safe_stay : {spared : Spared} {ms : List Message} (old new : HeldMaildir) → Stays spared ms old.files old.may_leave new.files new.may_leave → (old.rooted → new.rooted)
+pub safe_stay : {spared : Spared} {ms : List Message} (old new : HeldMaildir) → Stays spared ms old.files old.may_leave new.files new.may_leave
+    → (old.rooted → new.rooted)
     → AreSafe spared ms old.files old.may_leave old.rooted → AreSafe spared ms new.files new.may_leave new.rooted
 safe_stay old new stays rooted was = record { home = stays.home was.home; survive = stays.survive was.survive; found = rooted was.found }
 
@@ -130,7 +132,8 @@ pub record UpTo (spared : Spared) (n : ℕ) (texts : List Mailbox) (start now : 
   pub found : start.rooted → now.rooted
   pub swept : 0 < n → IsSwept spared now.files
 
-pub none_printed : {spared : Spared} {texts : List Mailbox} {start : HeldMaildir} {was : Bytes} → IsSoundFor spared texts start → UpTo spared 0 texts start start was was
+pub none_printed : {spared : Spared} {texts : List Mailbox} {start : HeldMaildir} {was : Bytes} → IsSoundFor spared texts start
+    → UpTo spared 0 texts start start was was
 none_printed {was = was} sound = record {
   sound = sound;
   safe = λ k d lt below. absurd (omega (arith, lt));

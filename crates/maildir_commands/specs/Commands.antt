@@ -1,10 +1,10 @@
 -- Any commands that follow one another, with mail readers and power cuts between them, and a Maildir into which several texts go.
 use Rattle.std.specs.Prelude.{◌≡◌, ◌⊎◌, ℕ, List, [], All, Contains, Option}
-use Rattle.maildir_run.specs.Delivery.{IsMissing, IsSpared}
+use Rattle.maildir_run.specs.Delivery.{IsMissing}
 use Rattle.maildir_run.specs.Files.{Files, KeepsHomes, Spared}
 use Rattle.maildir_run.specs.MemFiles.{no_files}
 use Rattle.maildir_run.specs.Runs.{Chain}
-use Rattle.maildir_run.specs.Several.{Mailbox, OfEach}
+use Rattle.maildir_run.specs.Several.{Mailbox, OfEachSpared}
 use Rattle.maildir_disk.specs.PowerCuts.{IsSingle}
 use Rattle.maildir_commands.specs.Machines.{AreFit, GivesTexts, HeldMaildir, Rests}
 use Rattle.maildir_commands.specs.Program.{RanOn}
@@ -15,14 +15,14 @@ use Rattle.maildir_commands.specs.Words.Request.{ToWrite, ToConvert}
 -- These texts can go into one Maildir, which has none of their messages that are spared, and nor has anything that a power cut may leave of it.
 pub record AreNewTo (spared : Spared) (maildir : HeldMaildir) (texts : List Mailbox) : Type 0 where
   pub fit : AreFit texts
-  pub missing : OfEach (λ m. IsSpared spared m → IsMissing maildir.files m) texts
-  pub none_left : (left : Files) → maildir.may_leave left → OfEach (λ m. IsSpared spared m → IsMissing left m) texts
+  pub missing : OfEachSpared spared (IsMissing maildir.files) texts
+  pub none_left : (left : Files) → maildir.may_leave left → OfEachSpared spared (IsMissing left) texts
 
 -- what happens to a Maildir
 pub data Event : Type 0 where
   -- a command with these words, which is to deliver these texts into it, ended with this status
   Command : (words : List (List ℕ)) → (named : List Mailbox) → (status : ℕ) → Event
-  -- mail readers acted, or none did
+  -- other programs acted, or none did
   Readers : Event
   -- the power was cut
   Cut : Event
@@ -46,7 +46,7 @@ pub record Commanded {M : Type 0} (spared : Spared) (at : M → SeenMachine) (ma
   -- after a fault, or where it was killed, the machine is again one that does as assumed
   pub again : status ≡ 1 → (at new).honest spared
 
--- A power cut left of a Maildir what it might, each file under one name, or nothing where it might not find it. A later one would leave the same.
+-- A power cut left of a Maildir what it might, each file that is spared under one name, or nothing where it might not find it. A later one would leave the same.
 pub record LeftByPowerCut (spared : Spared) (old new : HeldMaildir) : Type 0 where
   pub left : Files
   pub may : old.may_leave left ⊎ ((¬ old.rooted) × (left ≡ no_files))

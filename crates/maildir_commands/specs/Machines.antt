@@ -1,11 +1,11 @@
 -- What a machine has under a word, and what it is for several texts.
 use Rattle.std.specs.Prelude.{◌≡◌, ℕ, List, [], ◌∷◌, All, Option, map, ◌||◌, IsTrue}
 use Rattle.maildir_run.specs.Cuts.{Follows}
-use Rattle.maildir_run.specs.Delivery.{Message, AreNamed, IsSoundAt, has_home, is_base_of, IsSpared}
+use Rattle.maildir_run.specs.Delivery.{Message, AreNamed, IsSoundAt, has_home, is_base_of}
 use Rattle.maildir_run.specs.Files.{Files, Action, all_acted, Spared, is_spared}
 use Rattle.maildir_run.specs.MemFiles.{no_files}
 use Rattle.maildir_run.specs.Runs.{Possible}
-use Rattle.maildir_run.specs.Several.{Mailbox, IsMailbox, OfEach}
+use Rattle.maildir_run.specs.Several.{Mailbox, IsMailbox, OfEachSpared}
 use Rattle.maildir_run.specs.Touched.{TouchedNone}
 use Rattle.maildir_disk.specs.Others.{Stays}
 use Rattle.maildir_disk.specs.PowerCuts.{AreAlike, AreIntact, AreSafe, LeftByOthers}
@@ -41,7 +41,7 @@ pub record AreFit (texts : List Mailbox) : Type 0 where
 
 -- A Maildir is sound for the messages of the texts that are spared, and so is what a power cut may leave of it.
 pub record IsSoundFor (spared : Spared) (texts : List Mailbox) (maildir : HeldMaildir) : Type 0 where
-  pub sound : OfEach (λ m. IsSpared spared m → IsSoundAt maildir.files m) texts
+  pub sound : OfEachSpared spared (IsSoundAt maildir.files) texts
   pub intact : All (λ text. AreIntact spared text.messages maildir.may_leave) texts
 
 -- what is spared of the text is delivered in the Maildir, and survives a power cut
@@ -55,7 +55,8 @@ AreAllSafe spared texts maildir = All (IsSafeIn spared maildir) texts
 -- messages of other texts stay, where those that have the base of a message of these texts have its body
 abbrev pub OthersStay : Spared → List Mailbox → HeldMaildir → HeldMaildir → Type 0
 OthersStay spared texts old new =
-    (others : List Message) → AreNamed others → All (λ text. AreAlike others text.messages) texts → Stays spared others old.files old.may_leave new.files new.may_leave
+    (others : List Message) → AreNamed others → All (λ text. AreAlike others text.messages) texts →
+    Stays spared others old.files old.may_leave new.files new.may_leave
 
 -- afterwards a base that is spared has a home if it had one, or if it is one of the messages'
 abbrev pub HasAlso : Spared → List Message → Files → Files → Type 0

@@ -48,7 +48,8 @@ pub record WritesOut (output : List Entry → List ℕ) (file : Option (List ℕ
 
 -- ---- `convert`
 -- What came of delivering texts into a Maildir.
-pub record Delivers {A E : Type 0} (spared : Spared) (answer : Result A E) (texts : List Mailbox) (old new : HeldMaildir) (was is : Option (List ℕ)) : Type 0 where
+pub record Delivers {A E : Type 0} (spared : Spared) (answer : Result A E) (texts : List Mailbox) (old new : HeldMaildir)
+    (was is : Option (List ℕ)) : Type 0 where
   -- with Ok each is in the Maildir, and survives a power cut, and has its line
   pub safe : OnOk answer (AreAllSafe spared texts new)
   pub each : OnOk answer (PrintsEach spared old texts was is)
@@ -68,11 +69,12 @@ pub record DeliversInto (maildir : List ℕ) (files : List (List ℕ)) (answer :
   -- with Ok a line was written for each source
   pub printed : OnOk answer (PrintsReports old.output new.output (max 1 (length files)))
   -- texts that can go into the Maildir, which is sound for them
-  pub delivers : (spared : Spared) → old.machine.honest spared → (texts : List Mailbox) → GivesTexts old.machine.text_of old.input new.input files texts → AreFit texts →
-      IsSoundFor spared texts (old.machine.maildir_at maildir) →
+  pub delivers : (spared : Spared) → old.machine.honest spared → (texts : List Mailbox) → GivesTexts old.machine.text_of old.input new.input files texts →
+      AreFit texts → IsSoundFor spared texts (old.machine.maildir_at maildir) →
       Delivers spared answer texts (old.machine.maildir_at maildir) (new.machine.maildir_at maildir) old.output new.output
   -- of its files the program touched those with converter's names alone
-  pub touches : (spared : Spared) → old.machine.honest spared → TouchedConverters (old.machine.maildir_at maildir).touched (new.machine.maildir_at maildir).touched
+  pub touches : (spared : Spared) → old.machine.honest spared
+      → TouchedConverters (old.machine.maildir_at maildir).touched (new.machine.maildir_at maildir).touched
   -- where no other program acts, files of other programs stay as they are
   pub foreign : old.machine.quiet → KeepsForeign (old.machine.maildir_at maildir).files (new.machine.maildir_at maildir).files
   -- no other Maildir was touched

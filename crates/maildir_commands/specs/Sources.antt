@@ -62,7 +62,8 @@ pub record KeepsSource (before after : Option (List ℕ)) (old new : SeenMaildir
   pub budget : ReadsAtMost before after (2 ^ 56)
   -- where the system does as assumed, for each text that the source may have had
   pub still_rooted : (spared : Spared) → old.honest spared → old.held.rooted → new.held.rooted
-  pub texts : (spared : Spared) → old.honest spared → (text : Mailbox) → IsMailbox text → Possible before after text.bytes → KeepsText spared text old.held new.held
+  pub texts : (spared : Spared) → old.honest spared → (text : Mailbox) → IsMailbox text → Possible before after text.bytes →
+      KeepsText spared text old.held new.held
   -- whatever the system and others do
   pub touches : TouchedConverters old.held.touched new.held.touched
   -- where no other program acts
@@ -74,8 +75,8 @@ pub record StoresSource (report : Report) (before after : Option (List ℕ)) (ol
   pub calls : CountsRun report old.calls new.calls
   -- where the system does as assumed, each text that the source may have had
   pub honest : (spared : Spared) → old.honest spared → new.honest spared
-  pub texts : (spared : Spared) → old.honest spared → (text : Mailbox) → IsMailbox text → Possible before after text.bytes → AllSpared spared (IsSoundAt old.held.files) text.messages →
-      StoresText spared report text old.held new.held
+  pub texts : (spared : Spared) → old.honest spared → (text : Mailbox) → IsMailbox text → Possible before after text.bytes →
+      AllSpared spared (IsSoundAt old.held.files) text.messages → StoresText spared report text old.held new.held
   -- where no other program acts
   pub quiet : old.quiet → new.quiet
   pub alone : old.quiet → (t : List ℕ) (ms : List Message) → Possible before after t → MessagesOf t ms → new.held.files ≡ alone_after ms old.held.files

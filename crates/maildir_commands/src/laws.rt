@@ -19,11 +19,13 @@ pub fn after_any_commands<M: Machine>()
         (M.at old).honest spared → AreNewTo spared ((M.at old).maildir_at maildir) texts →
         IsHistory spared M.at maildir texts events old new →
         IsSoundFor spared texts ((M.at new).maildir_at maildir) }
-    ensures safe { (spared : Spared) (maildir : List ℕ) (texts named : List Mailbox) (words : List (List ℕ)) (before rest : List Event) (old new : M) →
+    ensures safe { (spared : Spared) (maildir : List ℕ) (texts named : List Mailbox) (words : List (List ℕ)) (before rest : List Event)
+        (old new : M) →
         (M.at old).honest spared → AreNewTo spared ((M.at old).maildir_at maildir) texts →
         IsHistory spared M.at maildir texts (before ++ (Command words named 0 ∷ rest)) old new →
         AreAllSafe spared named ((M.at new).maildir_at maildir) }
-    ensures swept { (spared : Spared) (maildir : List ℕ) (texts named : List Mailbox) (words : List (List ℕ)) (before : List Event) (old new : M) →
+    ensures swept { (spared : Spared) (maildir : List ℕ) (texts named : List Mailbox) (words : List (List ℕ)) (before : List Event)
+        (old new : M) →
         (M.at old).honest spared → AreNewTo spared ((M.at old).maildir_at maildir) texts →
         IsHistory spared M.at maildir texts (before ++ (Command words named 0 ∷ [])) old new → 0 < length named →
         IsSwept spared ((M.at new).maildir_at maildir).files }

@@ -2,10 +2,10 @@
 use Rattle.std.specs.Prelude.{◌≡◌, List, [], All, Contains, Result}
 use Rattle.maildir_run.specs.declared.fault.RunFault.{RunFault}
 use Rattle.maildir_run.specs.declared.report.Report.{Report}
-use Rattle.maildir_run.specs.Delivery.{IsMissing, IsSpared}
+use Rattle.maildir_run.specs.Delivery.{IsMissing}
 use Rattle.maildir_run.specs.Files.{Action, Spared}
 use Rattle.maildir_run.specs.Runs.{Chain}
-use Rattle.maildir_run.specs.Several.{Mailbox, IsMailbox, OfEach}
+use Rattle.maildir_run.specs.Several.{OfEachSpared, Mailbox, IsMailbox, OfEach}
 use Rattle.maildir_disk.specs.PowerCuts.{FilesAndLeft, Syncs, Ran, Acted, Cut, Happens}
 
 -- an event of a folder into which several texts are delivered
@@ -35,5 +35,5 @@ pub record AreNew (spared : Spared) (texts : List Mailbox) (moment : FilesAndLef
   pub are : All IsMailbox texts
   -- messages with the same base have the same body
   pub alike : OfEach (λ m. OfEach (λ n. n.target.base ≡ m.target.base → n.body ≡ m.body) texts) texts
-  pub missing : OfEach (λ m. IsSpared spared m → IsMissing moment.files m) texts
-  pub none_left : OfEach (λ m. IsSpared spared m → IsMissing moment.left m) texts
+  pub missing : OfEachSpared spared (IsMissing moment.files) texts
+  pub none_left : OfEachSpared spared (IsMissing moment.left) texts

@@ -99,7 +99,8 @@ impl<S: System> Folder for DiskFolder<S> {
     fn place(&mut self, name: &str, place: Place, target: &str) -> Result<(), FolderFault>
         ensures places { CallOf (Placing name.now place target.now) (seen_of S.System self.old) result (seen_of S.System self.new) }
         ensures gone { (spared : Spared) → (S.at self.old.system).honest spared → IsErrOf result FolderFault.Absent →
-            WasGone spared name.now (Placing name.now place target.now) (S.at self.old.system).world.files (S.at self.new.system).world.files }
+            WasGone spared name.now (Placing name.now place target.now) (S.at self.old.system).world.files
+            (S.at self.new.system).world.files }
     {
         let answer = match self.system.rename(name, place, target) {
             Err(error) if error.kind() == ErrorKind::NotFound => Err(FolderFault::Absent),

@@ -84,7 +84,8 @@ pub trait System {
     fn sync_folder(&mut self, place: Place) -> io::Result<()>
         ensures asks { Asks (at self.old) result (at self.new) }
         ensures names { (spared : Spared) → (at self.old).honest spared → OnOk result
-            (Follows (λ before left. KeepsNames spared (folder_of_place place) (at self.old).world.files before (at self.new).world.files left)
+            (Follows (λ before left.
+            KeepsNames spared (folder_of_place place) (at self.old).world.files before (at self.new).world.files left)
             (at self.old).may_leave (at self.new).may_leave) };
 
     /// fsync(2) of the Maildir, so that it and its three folders are durable. After an error nothing is assumed, as for

@@ -83,7 +83,8 @@ impl Cases {
         requires { held ≤ length holds.now }
         ensures room { self.new.room ≡ self.old.room }
         ensures no_fewer { length (lefts_of self.old) ≤ length (lefts_of self.new) }
-        ensures left { (spared : Spared) → Follows (Leaves spared (Writing name.now [])) (may_find folder.now self.old) (Contains (lefts_of self.new)) }
+        ensures left { (spared : Spared) →
+            Follows (Leaves spared (Writing name.now [])) (may_find folder.now self.old) (Contains (lefts_of self.new)) }
         ensures loses { OnOk result (HasRoom self.new → LosesBytes name.now holds.now held folder.now self.old self.new) }
         ensures refused { IfErr result (λ fault. fault ≡ FolderFault.OutOfMemory) }
     {
@@ -127,7 +128,8 @@ impl Cases {
     /// Other programs do this in the folder. A power cut may lose each of their acts, or leave half of it.
     pub(crate) fn act(&mut self, folder: &mut MemFolder, acts: &[Act]) -> Result<(), FolderFault>
         ensures script { SameScript folder.old folder.new }
-        ensures acts { (spared : Spared) → (actions : List Action) × (files_of folder.new ≡ all_acted spared actions (files_of folder.old)) }
+        ensures acts { (spared : Spared) →
+            (actions : List Action) × (files_of folder.new ≡ all_acted spared actions (files_of folder.old)) }
         ensures left { (spared : Spared) → Follows (LeftByOthers spared) (may_find folder.old self.old) (may_find folder.new self.new) }
         ensures keeps { OnOk result (KeepsCases (may_find folder.old self.old) (may_find folder.new self.new) self.old self.new) }
         ensures done { OnOk result (files_of folder.new ≡ all_performed acts.now (files_of folder.old)) }
@@ -141,7 +143,8 @@ impl Cases {
 
     fn act_once(&mut self, folder: &mut MemFolder, act: &Act) -> Result<(), FolderFault>
         ensures script { SameScript folder.old folder.new }
-        ensures acts { (spared : Spared) → (actions : List Action) × (files_of folder.new ≡ all_acted spared actions (files_of folder.old)) }
+        ensures acts { (spared : Spared) →
+            (actions : List Action) × (files_of folder.new ≡ all_acted spared actions (files_of folder.old)) }
         ensures left { (spared : Spared) → Follows (LeftByOthers spared) (may_find folder.old self.old) (may_find folder.new self.new) }
         ensures keeps { OnOk result (KeepsCases (may_find folder.old self.old) (may_find folder.new self.new) self.old self.new) }
         ensures done { OnOk result (files_of folder.new ≡ performed act.now (files_of folder.old)) }

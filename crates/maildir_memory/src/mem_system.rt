@@ -91,7 +91,8 @@ impl MemSystem {
     /// From now on a power cut may lose what was not synced, and the Maildir itself. At most `room` cases of what it leaves are
     /// recorded, besides the files as they are; it leaves no other.
     pub fn lose(&mut self, room: usize)
-        ensures honest { (spared : Spared) → (⟦<MemSystem as System>⟧.at self.old).honest spared → (⟦<MemSystem as System>⟧.at self.new).honest spared }
+        ensures honest { (spared : Spared) → (⟦<MemSystem as System>⟧.at self.old).honest spared →
+            (⟦<MemSystem as System>⟧.at self.new).honest spared }
         ensures quiet { (⟦<MemSystem as System>⟧.at self.old).quiet → (⟦<MemSystem as System>⟧.at self.new).quiet }
         ensures files { files_of self.new.folder ≡ files_of self.old.folder }
         ensures room { self.new.cases.room ≡ room }

@@ -25,6 +25,10 @@ pub record IsMailbox (text : Mailbox) : Type 0 where
 abbrev pub OfEach : (Message → Type 0) → List Mailbox → Type 0
 OfEach P texts = All (λ text. All P text.messages) texts
 
+-- this holds of each of them that is spared
+abbrev pub OfEachSpared : Spared → (Message → Type 0) → List Mailbox → Type 0
+OfEachSpared spared P texts = OfEach (λ m. IsSpared spared m → P m) texts
+
 -- whether a base is that of a message of one of the texts
 abbrev pub is_base_of_any : List Mailbox → List ℕ → Bool
 is_base_of_any texts b = list_any (λ text. is_base_of text.messages b) texts
@@ -42,7 +46,7 @@ pub record HoldsGiven (texts : List Mailbox) (s : Files) (m : Message) : Type 0 
 -- A folder is sound for several texts, as against an earlier moment: each base of their messages that is spared has at most one home, which
 -- holds a body that one of the texts gives to this base, and the homes of each other base that is spared hold what they held.
 pub record SoundForAll (spared : Spared) (texts : List Mailbox) (old new : Files) : Type 0 where
-  pub own : OfEach (λ m. IsSpared spared m → IsMissing new m ⊎ HoldsGiven texts new m) texts
+  pub own : OfEachSpared spared (λ m. IsMissing new m ⊎ HoldsGiven texts new m) texts
   pub others : (b : List ℕ) → IsTrue (is_spared spared b) → IsFalse (is_base_of_any texts b) → IsPermutation (homes old b) (homes new b)
 
 -- a link of a chain over several texts: a run over one of them with this answer, or an action of another program

@@ -7,11 +7,13 @@ ghost use Rattle.maildir_name.specs.declared.target.Place.{Place};
 ghost use Rattle.maildir_name.specs.declared.target.Target.{Target};
 ghost use Rattle.maildir_run.specs.declared.folder.Sub.TheVariants as sub;
 ghost use Rattle.maildir_run.specs.declared.report.Report.{Report};
-ghost use Rattle.maildir_run.specs.Files.{Spared, SparesAll, Files, Action, KeepsSpared, acted, all_acted, all_bases, homes, has_base, is_spared, is_spared_name};
+ghost use Rattle.maildir_run.specs.Files.{Spared, SparesAll, Files, Action, KeepsSpared, acted, all_acted, all_bases, homes, has_base,
+is_spared, is_spared_name};
 ghost use Rattle.maildir_run.specs.Files.Action.{Outside};
 ghost use Rattle.maildir_run.specs.Calls.{Call, Move, after, Lists, Succeeded, PlacesElsewhere, WritesElsewhere, StaysOrGoes, NoneOrOne};
 ghost use Rattle.maildir_run.specs.Calls.Call.{Placing};
-ghost use Rattle.maildir_run.specs.Delivery.{Message, leftover_count, AllSpared, IsMissing, IsHome, IsSoundAt, AreNamed, AreDistinct, Sound, Delivered};
+ghost use Rattle.maildir_run.specs.Delivery.{Message, leftover_count, AllSpared, IsMissing, IsHome, IsSoundAt, AreNamed, AreDistinct,
+Sound, Delivered};
 ghost use Rattle.maildir_run.specs.Texts.{MessagesOf};
 ghost use Rattle.maildir_run.specs.Runs.{CountsRun, Link, IsRun, Runs};
 ghost use Rattle.maildir_run.specs.Several.{Mailbox, IsMailbox, OfEach, SoundForAll, LinkOver};
@@ -46,10 +48,13 @@ pub fn homes_are_kept()
 {}
 
 /// An action outside leaves all names that are spared and their bytes as they are, and each state that leaves them
-/// so is reached by one.
+/// so is reached by one. Where fewer bases are spared, other programs may do all that they may do where more are.
 pub fn outside_actions()
     ensures leaves { (spared : Spared) (files s : Files) → KeepsSpared spared s (acted spared (Outside files) s) }
     ensures reaches { (spared : Spared) (s t : Files) → KeepsSpared spared s t → acted spared (Outside t) s ≡ t }
+    ensures fewer { (more fewer : Spared) (action : Action) (s : Files) →
+        ((b : List ℕ) → IsTrue (fewer b) → IsTrue (more b)) →
+        (other : Action) × (acted fewer other s ≡ acted more action s) }
 {}
 
 /// A placement of a name that is spared under such a base that has no home leaves none, or one that holds what

@@ -27,7 +27,8 @@ watches {sub} {stamp} {a} {b} {c} reads stamps same = record {
   looks = looks_then reads.looks stamps.looks;
   watched = λ spared h.
       let on = reads.looks.honest spared h in
-      watched (reads.passes spared h) (stamps.passes spared on) (reads.names spared h) (subst (λ s. IsStampWithin spared sub b.world s c.world) same (stamps.stamp spared on));
+      watched (reads.passes spared h) (stamps.passes spared on) (reads.names spared h)
+      (subst (λ s. IsStampWithin spared sub b.world s c.world) same (stamps.stamp spared on));
   exact = reads.exact;
 }
 
@@ -41,7 +42,8 @@ must_wait looks = record { looks = looks; looked = looks.acts; exact = λ q. tt 
 
 -- the stamp had settled before the names were read
 pub taken_if_settled : {E F : Type 0} {sub : Sub} {stamp now : ℕ} {a b c : SeenSystem} {names : Vec (String Global) Global} → IsSettled stamp now
-    → Looks a b → ((spared : Spared) → a.honest spared → now ≤ b.world.time) → Watches {E = E} sub stamp b (Ok (Some names)) c → Attempts {E = F} sub a (Ok (Taken names)) c
+    → Looks a b → ((spared : Spared) → a.honest spared → now ≤ b.world.time) → Watches {E = E} sub stamp b (Ok (Some names)) c
+    → Attempts {E = F} sub a (Ok (Taken names)) c
 taken_if_settled settled looks no_later watches = record {
   looks = looks_then looks watches.looks;
   looked = λ spared h.

@@ -14,7 +14,8 @@ pub after-others : (spared : Spared) (xs : List Action) (call : Call) (s : Files
 after-others spared [] call s = refl
 after-others spared (a ∷ xs) call s = after-others spared xs call (acted spared a s)
 
-pub after-append : (spared : Spared) (call : Call) (ms ns : List Move) (s : Files) → after spared s call (ms ++ ns) ≡ after spared (after spared s call ms) call ns
+pub after-append : (spared : Spared) (call : Call) (ms ns : List Move) (s : Files)
+    → after spared s call (ms ++ ns) ≡ after spared (after spared s call ms) call ns
 after-append spared call [] ns s = refl
 after-append spared call (m ∷ ms) ns s = after-append spared call ms ns (moved spared call m s)
 
@@ -59,7 +60,8 @@ lists_at {spared} {sub} {a} {b} {names} p q are =
       whole = others_whole q.actions;
       names_are = subst (λ s. IsPermutation names (keys (folder_of sub s))) at are;
       left =
-          q.files_are ∙ (sym (after-others spared q.actions call b.files) ∙ (ap (λ s. after spared s call rest) at ∙ sym (after-append spared call before (Again ∷ rest) a.files)));
+          q.files_are ∙ (sym (after-others spared q.actions call b.files) ∙
+          (ap (λ s. after spared s call rest) at ∙ sym (after-append spared call before (Again ∷ rest) a.files)));
     }
 
 -- the names of one moment of a later part of the call
@@ -71,7 +73,8 @@ others_then_whole : (xs : List Action) (ns : List Move) → IsWhole ns → IsWho
 others_then_whole [] ns whole = whole
 others_then_whole (a ∷ xs) ns whole = others_then_whole xs ns whole
 
-pub lists_later : {spared : Spared} {sub : Sub} {a b : World} {end : Files} {names : List (List ℕ)} → Acts spared a b → Lists spared sub b.files names end → Lists spared sub a.files names end
+pub lists_later : {spared : Spared} {sub : Sub} {a b : World} {end : Files} {names : List (List ℕ)} → Acts spared a b → Lists spared sub b.files names end
+    → Lists spared sub a.files names end
 lists_later {spared} {sub} {a} {names} p lists =
     let call = Listing sub in
     let others = map Other p.actions in

@@ -39,7 +39,8 @@ acted_on spared (Outside files) m = outsiders_of spared m files.tmp
 apart : (p : List ℕ → Bool) (k q : List ℕ) → p k ≡ false → p q ≡ true → is_name q k ≡ false
 apart p k q off on = false_from_ne_true (is_name q k) (λ e. let same_test : p q ≡ p k = alike p q k e in cc)
 
-acted_apart : (spared : Spared) (a : Action) (s : Files) (m : FileMap) → acted spared a (record s { tmp = m }) ≡ record (acted spared a s) { tmp = acted_on spared a m }
+acted_apart : (spared : Spared) (a : Action) (s : Files) (m : FileMap)
+    → acted spared a (record s { tmp = m }) ≡ record (acted spared a s) { tmp = acted_on spared a m }
 acted_apart spared (ToCur name target) s m = grind arith
 acted_apart spared (Reflag name target) s m = grind arith
 acted_apart spared (DropTmp name) s m = grind arith
@@ -62,14 +63,16 @@ change_then_remove m name other change =
     ∙ sym (get-remove total (rewritten m name change (get m name)) other q))
 
 change_then_outside : (spared : Spared) (m files : FileMap) (name : List ℕ) (change : List ℕ → List ℕ) → is_spared_name spared name ≡ true
-    → rewritten (outsiders_of spared m files) name change (get (outsiders_of spared m files) name) ≡ outsiders_of spared (rewritten m name change (get m name)) files
+    → rewritten (outsiders_of spared m files) name change (get (outsiders_of spared m files) name) ≡ outsiders_of spared (rewritten m name change (get m name))
+    files
 change_then_outside spared m files name change ours =
     let new = rewritten m name change (get m name) in
     same_map total same _ _ (λ q.
     get-rewritten (outsiders_of spared m files) name change q
     ∙ elim (cases_Bool (is_spared_name spared q)) [
       | inl on ↦
-          ap (mapped (is_name q name) change) (get-outsiders_of spared m files q on) ∙ sym (get-rewritten m name change q) ∙ sym (get-outsiders_of spared new files q on)
+          ap (mapped (is_name q name) change) (get-outsiders_of spared m files q on) ∙ sym (get-rewritten m name change q) ∙ sym
+          (get-outsiders_of spared new files q on)
       | inr off ↦ ap (λ b. mapped b change (get (outsiders_of spared m files) q)) (apart (λ n. not (is_spared_name spared n)) name q (ap not ours) (ap not off))
           ∙ get-outsiders_other spared m files q off ∙ sym (get-outsiders_other spared new files q off)
     ])
@@ -84,12 +87,14 @@ change_then_act spared (Outside files) m name change ours = change_then_outside 
 acted_then_changed : (spared : Spared) (a : Action) (name : List ℕ) (change : List ℕ → List ℕ) (s : Files)
     → is_spared_name spared name ≡ true → changed name change (acted spared a s) ≡ acted spared a (changed name change s)
 acted_then_changed spared a name change s ours =
-    grind (arith, acted_apart spared a s s.tmp, change_then_act spared a s.tmp name change ours, acted_apart spared a s (rewritten s.tmp name change (get s.tmp name)))
+    grind (arith, acted_apart spared a s s.tmp, change_then_act spared a s.tmp name change ours, acted_apart spared a s
+    (rewritten s.tmp name change (get s.tmp name)))
 
 all_acted_then_changed : (spared : Spared) (xs : List Action) (name : List ℕ) (change : List ℕ → List ℕ) (s : Files)
     → is_spared_name spared name ≡ true → changed name change (all_acted spared xs s) ≡ all_acted spared xs (changed name change s)
 all_acted_then_changed spared [] name change s ours = refl
-all_acted_then_changed spared (a ∷ xs) name change s ours = grind (arith, all_acted_then_changed spared xs name change (acted spared a s) ours, acted_then_changed)
+all_acted_then_changed spared (a ∷ xs) name change s ours =
+    grind (arith, all_acted_then_changed spared xs name change (acted spared a s) ours, acted_then_changed)
 
 -- two writes of one name
 pub again : {X : Type 0} (here : Bool) (x y : Option X) (z : Option X) → cond here x (cond here y z) ≡ cond here x z
@@ -119,7 +124,8 @@ writing_leaves {spared} name bytes {s} theirs = record {
   cur_alike = λ q ours. refl;
 }
 
-changed_leaves : {spared : Spared} (name : List ℕ) (change : List ℕ → List ℕ) {s : Files} → is_spared_name spared name ≡ false → KeepsSpared spared s (changed name change s)
+changed_leaves : {spared : Spared} (name : List ℕ) (change : List ℕ → List ℕ) {s : Files} → is_spared_name spared name ≡ false
+    → KeepsSpared spared s (changed name change s)
 changed_leaves {spared} name change {s} theirs = record {
   tmp_alike = λ q ours. get-rewritten s.tmp name change q ∙ ap (λ b. mapped b change (get s.tmp q)) (apart (is_spared_name spared) name q theirs ours);
   new_alike = λ q ours. refl;
@@ -135,7 +141,9 @@ comes_acts {spared} {step} {a} leaves comes =
     let s = all_acted spared comes.before a.files in
     record {
       actions = comes.before ++ Outside (step s) ∷ comes.rest;
-      files_are = comes.left ∙ (ap (all_acted spared comes.rest) (as_action (leaves s)) ∙ sym (all_acted-append spared comes.before (Outside (step s) ∷ comes.rest) a.files));
+      files_are =
+          comes.left ∙ (ap (all_acted spared comes.rest) (as_action (leaves s)) ∙ sym
+          (all_acted-append spared comes.before (Outside (step s) ∷ comes.rest) a.files));
     }
 
 -- ---- a write, step by step
@@ -163,7 +171,8 @@ grown {spared} name held change {a} {b} ours first then =
       left = then.left
           ∙ (ap (λ t. all_acted spared then.rest (changed name change t)) at
           ∙ (ap (all_acted spared then.rest)
-          (all_acted_then_changed spared between name change (effect (Writing name held) s) ours ∙ ap (all_acted spared between) (changed_again name held change s))
+          (all_acted_then_changed spared between name change (effect (Writing name held) s) ours ∙ ap (all_acted spared between)
+          (changed_again name held change s))
           ∙ sym (all_acted-append spared between then.rest _)));
     }
 
@@ -185,7 +194,8 @@ with_effect : (spared : Spared) (call : Call) (xs ys : List Action) (s : Files)
     → after spared s call (map Other xs ++ Again ∷ map Other ys) ≡ all_acted spared ys (effect call (all_acted spared xs s))
 with_effect spared call xs ys s = grind (arith, after-append, after-others)
 
-pub write_succeeded : {spared : Spared} {name bytes : List ℕ} {a b : World} → Written spared name bytes a b → Succeeded spared (Writing name bytes) a.files b.files
+pub write_succeeded : {spared : Spared} {name bytes : List ℕ} {a b : World} → Written spared name bytes a b
+    → Succeeded spared (Writing name bytes) a.files b.files
 write_succeeded {spared} {name} {bytes} {a} (inl comes) = record {
   before = map Other comes.before;
   rest = map Other comes.rest;
@@ -208,10 +218,12 @@ write_succeeded {spared} {name} {bytes} {a} {b} (inr other) =
     }
 
 with_torn : (spared : Spared) (name whole bytes : List ℕ) (xs ys : List Action) (s : Files)
-    → after spared s (Writing name whole) (map Other xs ++ Torn bytes ∷ map Other ys) ≡ all_acted spared ys (effect (Writing name bytes) (all_acted spared xs s))
+    → after spared s (Writing name whole) (map Other xs ++ Torn bytes ∷ map Other ys) ≡ all_acted spared ys
+    (effect (Writing name bytes) (all_acted spared xs s))
 with_torn spared name whole bytes xs ys s = grind (arith, after-append, after-others)
 
-pub write_failed : {spared : Spared} {name : List ℕ} (held : List ℕ) {bytes : List ℕ} {a b : World} → Written spared name held a b → AnyMoves spared (Writing name bytes) a.files b.files
+pub write_failed : {spared : Spared} {name : List ℕ} (held : List ℕ) {bytes : List ℕ} {a b : World} → Written spared name held a b
+    → AnyMoves spared (Writing name bytes) a.files b.files
 write_failed {spared} {name} held {bytes} {a} (inl comes) = grind (arith, with_torn spared name bytes held comes.before comes.rest a.files)
 write_failed held (inr other) = acts_failed other.1
 
@@ -221,7 +233,8 @@ write_called name bytes (Ok _) written = write_succeeded written
 write_called name bytes (Err _) written = write_failed bytes written
 
 -- a create that failed
-pub not_created : {spared : Spared} (name bytes : List ℕ) {a b : World} → Acts spared a b ⊎ Comes spared (effect (Writing name [])) a b → AnyMoves spared (Writing name bytes) a.files b.files
+pub not_created : {spared : Spared} (name bytes : List ℕ) {a b : World} → Acts spared a b ⊎ Comes spared (effect (Writing name [])) a b
+    → AnyMoves spared (Writing name bytes) a.files b.files
 not_created name bytes (inl acts) = acts_failed acts
 not_created name bytes (inr comes) = write_failed [] (inl comes)
 

@@ -71,7 +71,8 @@ given_up {held = held} (Err _) is_err was = record {
 -- the file was synced
 pub synced : {A E : Type 0} {name bytes under : List ℕ} {is_current : Type 0} {a b c : SeenSystem} (outcome : Result A E)
     → WritesSoFar name bytes under is_current a b → Looks b c
-    → ((spared : Spared) → b.honest spared → is_current → OnOk outcome (KeepsHeld spared under c.world.files c.may_leave)) → TakesEffect (Writing name bytes) a outcome c
+    → ((spared : Spared) → b.honest spared → is_current → OnOk outcome (KeepsHeld spared under c.world.files c.may_leave))
+    → TakesEffect (Writing name bytes) a outcome c
 synced {name = name} {bytes = bytes} {a = a} outcome was looks kept =
     let holds = λ (spared : Spared) (h : a.honest spared). written_on name bytes (was.holds spared h) (looks.acts spared (was.honest spared h)) in
     record {
@@ -129,7 +130,9 @@ module _ {name held under piece : List ℕ} {is_current : Type 0} {a b c : SeenS
   append_given_up outcome (Ok _) is_err was appends = absurd (false≢true is_err)
   append_given_up outcome (Err _) is_err was appends = record {
     honest = λ spared h. appends.honest spared (was.honest spared h);
-    called = λ spared h. append_failed held piece c.world outcome (was.holds spared h) (rw (was.named spared h) at (appends.appended spared (was.honest spared h) (was.current spared h)));
+    called = λ spared h.
+        append_failed held piece c.world outcome (was.holds spared h)
+        (rw (was.named spared h) at (appends.appended spared (was.honest spared h) (was.current spared h)));
     left = λ spared h. left_torn (left_both (was.left spared h) (rw (was.named spared h) at (appends.left spared (was.honest spared h))));
     still_rooted = λ spared h r. appends.still_rooted spared (was.honest spared h) (was.still_rooted spared h r);
     touches = λ name now. was.touches name (appends.touches name now);

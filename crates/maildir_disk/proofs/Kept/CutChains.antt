@@ -67,7 +67,8 @@ kept_by_run {spared} {ms} {old} {new} keeps m named alike =
           let n = found.0 in
           let body : n.body ≡ m.body = All-contains (λ (o : Message). o.target.base ≡ b → o.body ≡ m.body) ms n alike found.1 found.2 in
           let sp : IsSpared spared n = ap spared found.2 ∙ (and_parts _ _ named).0 in
-          let sound : IsSoundAt new m = on_same n m new found.2 body (All-contains (λ (o : Message). IsSpared spared o → IsSoundAt new o) ms n keeps.sound.own found.1 sp) in
+          let sound : IsSoundAt new m =
+          on_same n m new found.2 body (All-contains (λ (o : Message). IsSpared spared o → IsSoundAt new o) ms n keeps.sound.own found.1 sp) in
           let still = All-contains (λ (o : Message). IsSpared spared o → HasHome old o → HasHome new o) ms n keeps.still found.1 sp in (
             λ before. sound,
             λ home. at_home m new
@@ -118,7 +119,8 @@ module _ (spared : Spared) (texts : List Mailbox) where
     holds_at (RanOver text answer) old new are (among, happens) =
         let is = All-contains IsMailbox texts text are among in
         let planned = happens.1 text.messages is.are in
-        text_holds spared text.bytes text.messages is.are is.small planned.0 old.left answer new.left planned.1 m.target.base m.body known.named (alike_in among)
+        text_holds spared text.bytes text.messages is.are is.small planned.0 old.left answer new.left planned.1 m.target.base m.body known.named
+        (alike_in among)
     holds_at (ActedOver action) old new are (e, leaves) = others_hold m known.named leaves
     holds_at SyncedOver old new are synced =
         steady_then m.target.base m.body old.left synced.mid.left new.left (kept_holds synced.first) (kept_holds synced.then)
@@ -129,14 +131,16 @@ module _ (spared : Spared) (texts : List Mailbox) where
         → HappensOver spared texts event old new → (IsSoundAt old.files m → IsSoundAt new.files m) × (IsHome old.files m → IsHome new.files m)
     kept_at (RanOver text answer) old new are stand uncut (among, happens) =
         let is = All-contains IsMailbox texts text are among in
-        kept_by_run (happens.0.keeps text.messages is.are (sound_now spared text.messages old.files (λ k d below sp. (of_text among old stand k d below sp).sound)))
+        kept_by_run (happens.0.keeps text.messages is.are
+        (sound_now spared text.messages old.files (λ k d below sp. (of_text among old stand k d below sp).sound)))
         m known.named (alike_in among)
     kept_at (ActedOver action) old new are stand uncut (e, leaves) = (
       λ sound. subst (λ s. IsSoundAt s m) (sym e) (still_sound spared m known.named (action ∷ []) old.files sound),
       λ home. subst (λ s. IsHome s m) (sym e) (still_home spared m known.named (action ∷ []) old.files home),
     )
     kept_at SyncedOver old new are stand uncut synced =
-        (synced_on (λ s. IsSoundAt s m) (still_sound spared m known.named) old new synced, synced_on (λ s. IsHome s m) (still_home spared m known.named) old new synced)
+        (synced_on (λ s. IsSoundAt s m) (still_sound spared m known.named) old new synced, synced_on (λ s. IsHome s m) (still_home spared m known.named) old
+        new synced)
     kept_at CutOver old new are stand uncut cut = absurd (uncut refl)
 
     stands_at : (event : EventOver) {old new : FilesAndLeft} → All IsMailbox texts
@@ -153,7 +157,8 @@ module _ (spared : Spared) (texts : List Mailbox) where
     }
 
     -- a message that is at home and would survive a power cut stays at home
-    safe_at : (event : EventOver) {old new : FilesAndLeft} → All IsMailbox texts → Stand old → HappensOver spared texts event old new → IsSafeAt old m → IsSafeAt new m
+    safe_at : (event : EventOver) {old new : FilesAndLeft} → All IsMailbox texts → Stand old → HappensOver spared texts event old new → IsSafeAt old m
+        → IsSafeAt new m
     safe_at CutOver {old} {new} are stand cut safe = record {
       home =
           homes_one m.target.base m.body old.left new.files (cut.found.kept m.target.base known.named)
@@ -164,7 +169,8 @@ module _ (spared : Spared) (texts : List Mailbox) where
         record { home = (kept_at event old new are stand (λ e. cc) happens).1 safe.home; body = (holds_at event old new are happens).still safe.body }
 
     synced_safe : {old new : FilesAndLeft} → StandsAt old m → IsHome old.files m → Syncs spared old.files old.left new.files new.left → IsSafeAt new m
-    synced_safe {old} {new} at home synced = grind (arith, still_home spared m known.named, kept_names spared m known.named home at.intact synced.first synced.then)
+    synced_safe {old} {new} at home synced =
+        grind (arith, still_home spared m known.named, kept_names spared m known.named home at.intact synced.first synced.then)
 
   -- ---- sequences of events
   module _ (are : All IsMailbox texts) (alike : OfEach (λ m. OfEach (λ n. n.target.base ≡ m.target.base → n.body ≡ m.body) texts) texts) where
@@ -185,8 +191,10 @@ module _ (spared : Spared) (texts : List Mailbox) where
       home_then : (events : List EventOver) (old new : FilesAndLeft) → Stand old → ¬ Contains events CutOver
           → HappenOver spared texts events old new → AllSpared spared (IsHome old.files) ms → AllSpared spared (IsHome new.files) ms
       home_then events old new stand uncut happen home =
-          chain_fold (HappensOver spared texts) (λ es a. Stand a → ¬ Contains es CutOver → AllSpared spared (IsHome a.files) ms → AllSpared spared (IsHome new.files) ms) new (λ _ _ at. at)
-          (λ e es a b happens rest on none at. rest (stand_after e a b on happens) (λ has. none (Contains-append_right (e ∷ []) es CutOver has)) (λ k d below sp.
+          chain_fold (HappensOver spared texts)
+          (λ es a. Stand a → ¬ Contains es CutOver → AllSpared spared (IsHome a.files) ms → AllSpared spared (IsHome new.files) ms) new (λ _ _ at. at)
+          (λ e es a b happens rest on none at. rest (stand_after e a b on happens) (λ has. none (Contains-append_right (e ∷ []) es CutOver has))
+          (λ k d below sp.
           (kept_at (get_or ms k d) (knows k d below sp) e a b are on (λ is. none (subst (Contains (e ∷ es)) is (first_in es))) happens).1 (at k d below sp)))
           events old happen stand uncut home
 
@@ -200,7 +208,8 @@ module _ (spared : Spared) (texts : List Mailbox) where
 
       -- sequences that begin with the messages at home
       home_synced : (between rest : List EventOver) (old new : FilesAndLeft)
-          → ((m : Message) (moment : FilesAndLeft) → Stand moment → Contains ms m → IsSpared spared m → StandsAt moment m) → Stand old → ¬ Contains between CutOver
+          → ((m : Message) (moment : FilesAndLeft) → Stand moment → Contains ms m → IsSpared spared m → StandsAt moment m) → Stand old
+          → ¬ Contains between CutOver
           → HappenOver spared texts (between ++ (SyncedOver ∷ rest)) old new → AllSpared spared (IsHome old.files) ms → AllSpared spared (IsSafeAt new) ms
       home_synced between rest old new inside stand uncut happen home =
           let parts = chain_parts (HappensOver spared texts) between _ old new happen in
@@ -216,7 +225,8 @@ module _ (spared : Spared) (texts : List Mailbox) where
         → Stand mid → IsRun spared text.bytes mid.files (Ok report) new → Delivered spared text.messages new
     delivers {text} among mid stand run =
         let is = All-contains IsMailbox texts text are among in
-        (run.keeps text.messages is.are (sound_now spared text.messages mid.files (λ k d below sp. (of_text among mid stand k d below sp).sound))).ends.delivered
+        (run.keeps text.messages is.are
+        (sound_now spared text.messages mid.files (λ k d below sp. (of_text among mid stand k d below sp).sound))).ends.delivered
 
     pub kept_then : (text : Mailbox) (report : Report) (before between rest : List EventOver) (old new : FilesAndLeft)
         → Stand old → HappenOver spared texts (before ++ (RanOver text (Ok report) ∷ (between ++ (SyncedOver ∷ rest)))) old new
@@ -227,7 +237,8 @@ module _ (spared : Spared) (texts : List Mailbox) where
         let stand_mid = stand_then before old mid stand parts.1 in
         let ran = parts.2 in
         let among = ran.1.0 in
-        home_synced text.messages (All-contains (λ (t : Mailbox). AllSpared spared (Known spared texts) t.messages) texts text known among) between rest ran.0 new
+        home_synced text.messages (All-contains (λ (t : Mailbox). AllSpared spared (Known spared texts) t.messages) texts text known among) between rest ran.0
+        new
         (λ m moment on has. All-contains (λ (n : Message). IsSpared spared n → StandsAt moment n) text.messages m (of_text among moment on) has)
         (stand_after (RanOver text (Ok report)) mid ran.0 stand_mid ran.1) uncut ran.2 (delivers among mid stand_mid ran.1.1.0).homes_are
 
@@ -269,4 +280,5 @@ pub cuts_stand : (spared : Spared) {text : Mailbox} (events : List Event) (old :
 cuts_stand spared {text} events old {new} is none none_left happen =
     let fresh = one_new {spared = spared} is none none_left in
     All-head (λ (t : Mailbox). AllSpared spared (StandsAt new) t.messages) text []
-    (stand_then spared (text ∷ []) fresh.are fresh.alike (map (event_over text) events) old new (stand_new fresh) (happen_over spared text events old new happen))
+    (stand_then spared (text ∷ []) fresh.are fresh.alike (map (event_over text) events) old new (stand_new fresh)
+    (happen_over spared text events old new happen))

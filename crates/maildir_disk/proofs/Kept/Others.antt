@@ -39,18 +39,22 @@ stays_then {spared} others r a s b t c first then = record {
 
 module _ (spared : Spared) (t : List ℕ) (ms : List Message) (are : MessagesOf t ms) (small : length t < 2 ^ 63)
     (others : List Message) (named : AreNamed others) (alike : AreAlike others ms) where
-  pub stays_after_run : (old new : Files) (before now : Files → Type 0) (answer : Result Report RunFault) → IsRun spared t old answer new → AllSpared spared (IsSoundAt old) ms
+  pub stays_after_run : (old new : Files) (before now : Files → Type 0) (answer : Result Report RunFault) → IsRun spared t old answer new
+      → AllSpared spared (IsSoundAt old) ms
       → RunLeaves spared ms before answer now → Stays spared others old before new now
   stays_after_run old new before now answer run sound left =
       let keeps = run.keeps ms are (sound_now spared ms old sound) in
       record {
-        sound = λ sound k d below sp. (kept_by_run keeps (get_or others k d) (spared_named spared _ sp (named k d below)) (alike k d below)).0 (sound k d below sp);
+        sound = λ sound k d below sp.
+            (kept_by_run keeps (get_or others k d) (spared_named spared _ sp (named k d below)) (alike k d below)).0 (sound k d below sp);
         intact = left_intact spared others (λ s u (names, ran). texts_hold spared t ms are small names s answer u ran others named alike) left;
-        home = λ home k d below sp. (kept_by_run keeps (get_or others k d) (spared_named spared _ sp (named k d below)) (alike k d below)).1 (home k d below sp);
+        home = λ home k d below sp.
+            (kept_by_run keeps (get_or others k d) (spared_named spared _ sp (named k d below)) (alike k d below)).1 (home k d below sp);
         survive = survive_after_run spared t ms are small others before now answer named alike left;
       }
 
-  pub stays_after_both : (old : Files) (mid new : World) (before between now : Files → Type 0) (answer : Result Report RunFault) → IsRun spared t old answer mid.files
+  pub stays_after_both : (old : Files) (mid new : World) (before between now : Files → Type 0) (answer : Result Report RunFault)
+      → IsRun spared t old answer mid.files
       → AllSpared spared (IsSoundAt old) ms → RunLeaves spared ms before answer between
       → Acts spared mid new → Follows (LeftByOthers spared) between now → Stays spared others old before new.files now
   stays_after_both old mid new before between now answer run sound left acts others_left =

@@ -18,10 +18,12 @@ module _ (spared : Spared) (t : List ℕ) (ms : List Message) (are : MessagesOf 
   survive_after_run others before now answer named alike run =
       left_bodies spared others (λ s u (names, ran). texts_hold spared t ms are small names s answer u ran others named alike) run
 
-  home_after_run : {old new : Files} {report : Report} → IsRun spared t old (Ok report) new → AllSpared spared (IsSoundAt old) ms → AllSpared spared (IsHome new) ms
+  home_after_run : {old new : Files} {report : Report} → IsRun spared t old (Ok report) new → AllSpared spared (IsSoundAt old) ms
+      → AllSpared spared (IsHome new) ms
   home_after_run {old} run sound = search (rules, sound_now)
 
-  pub reports_after_run : (old new : Files) (report : Report) → IsRun spared t old (Ok report) new → AllSpared spared (IsSoundAt old) ms → ReportsMessages spared ms old report
+  pub reports_after_run : (old new : Files) (report : Report) → IsRun spared t old (Ok report) new → AllSpared spared (IsSoundAt old) ms
+      → ReportsMessages spared ms old report
   reports_after_run old new report run sound = (run.keeps ms are (sound_now spared ms old sound)).ends.reports
 
   home_after_others : {old new : World} → Acts spared old new → AllSpared spared (IsHome old.files) ms → AllSpared spared (IsHome new.files) ms
@@ -52,7 +54,8 @@ module _ (spared : Spared) (t : List ℕ) (ms : List Message) (are : MessagesOf 
   pub safe_after_both : {A E : Type 0} (old : Files) (mid new : World) (before between now : Files → Type 0)
       (rooted : Type 0) (report : Report) (synced : Result A E) → IsRun spared t old (Ok report) mid.files → AllSpared spared (IsSoundAt old) ms
       → RunLeaves spared {E = RunFault} ms before (Ok report) between
-      → AreIntact spared ms before → Acts spared mid new → IsOk synced → OnOk synced (Follows (λ before left. Syncs spared mid.files before new.files left) between now)
+      → AreIntact spared ms before → Acts spared mid new → IsOk synced
+      → OnOk synced (Follows (λ before left. Syncs spared mid.files before new.files left) between now)
       → OnOk synced rooted → AreSafe spared ms new.files now rooted
   safe_after_both old mid new before between now rooted report synced run sound left intact acts ok syncs found =
       let home = home_after_run run sound in

@@ -36,7 +36,8 @@ module _ (spared : Spared) (m : Message) (named : IsTrue (is_spared spared m.tar
   pub still_home : (actions : List Action) (s : Files) → IsHome s m → IsHome (all_acted spared actions s) m
   still_home [] s home = home
   still_home (action ∷ actions) s home =
-      still_home actions (acted spared action s) (homes_one m.target.base m.body s (acted spared action s) (acted_kept spared m.target.base named action s) home)
+      still_home actions (acted spared action s)
+      (homes_one m.target.base m.body s (acted spared action s) (acted_kept spared m.target.base named action s) home)
 
   pub kept_names : {s t u before mid left : Files} → IsHome s m → IsIntact before m
       → KeepsNames spared New s before t mid → KeepsNames spared Cur t mid u left → HasBody left m
@@ -55,7 +56,8 @@ module _ (spared : Spared) (m : Message) (named : IsTrue (is_spared spared m.tar
             (all_acted_new spared m.target.base named then.actions (all_acted spared first.rest first.moment)
             (all_acted_new spared m.target.base named first.rest first.moment none)) in
             let home_then : IsHome then.moment m =
-            subst (λ x. IsHome x m) (sym (then.moment_is ∙ (ap (all_acted spared then.actions) (first.new_is ∙ ap (all_acted spared first.rest) first.moment_is))))
+            subst (λ x. IsHome x m)
+            (sym (then.moment_is ∙ (ap (all_acted spared then.actions) (first.new_is ∙ ap (all_acted spared first.rest) first.moment_is))))
             (still_home then.actions _ (still_home first.rest _ (still_home first.actions s home))) in
             let has = found_cur then.moment then.there then.names_are whole_then (λ off.
             let one = sym home_then ∙ (ap (λ xs. xs ++ held_under m.target.base then.moment.cur) none_then ∙ off) in cc) in

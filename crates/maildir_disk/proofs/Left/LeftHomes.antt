@@ -90,7 +90,8 @@ abbrev pub SteadyAt : (b x : List ℕ) (old new : Files) → Type 0
 SteadyAt b x old new = Steady x (homes old b) (homes new b)
 
 -- a file that was written survives whole as long as no call writes it again
-whole_on : (spared : Spared) (name : List ℕ) {x : List ℕ} (s t : Files) → StaysOrGoes name s t → IsFoundWhole spared (Writing name x) s → IsFoundWhole spared (Writing name x) t
+whole_on : (spared : Spared) (name : List ℕ) {x : List ℕ} (s t : Files) → StaysOrGoes name s t → IsFoundWhole spared (Writing name x) s
+    → IsFoundWhole spared (Writing name x) t
 whole_on spared name s t (inl stays) whole = grind arith
 whole_on spared name s t (inr gone) whole = grind arith
 
@@ -178,7 +179,8 @@ module _ (b x : List ℕ) where
         steady_then s (moved spared call move s) (left_after spared s call (Came move ∷ kept))
         (steady_kept s (moved spared call move s) (after_kept spared b named call off (move ∷ []) s)) (left_elsewhere call off kept (moved spared call move s))
     left_elsewhere call off (Doubled action ∷ kept) s =
-        steady_then s (doubled action s) (left_after spared s call (Doubled action ∷ kept)) (doubled_steady action s) (left_elsewhere call off kept (doubled action s))
+        steady_then s (doubled action s) (left_after spared s call (Doubled action ∷ kept)) (doubled_steady action s)
+        (left_elsewhere call off kept (doubled action s))
 
     pub leaves_elsewhere : {call : Call} → PlacesElsewhere b call → {s t : Files} → Leaves spared call s t → SteadyAt b x s t
     leaves_elsewhere {call} off {s} leaves = search (rules, left_elsewhere)
@@ -190,7 +192,8 @@ module _ (b x : List ℕ) where
       placing_moved Again s whole = grind (arith, placed_steady)
       placing_moved (Torn bytes) s whole = steady_same s
 
-      left_placing : (kept : List cuts.CutMove) (s : Files) → IsFoundWhole spared (Writing name x) s → SteadyAt b x s (left_after spared s (Placing name p target) kept)
+      left_placing : (kept : List cuts.CutMove) (s : Files) → IsFoundWhole spared (Writing name x) s
+          → SteadyAt b x s (left_after spared s (Placing name p target) kept)
       left_placing [] s whole = steady_same s
       left_placing (Came move ∷ kept) s whole =
           let t = moved spared (Placing name p target) move s in
@@ -208,7 +211,8 @@ module _ (b x : List ℕ) where
 pub intact_on : (m : Message) (s t : Files) → SteadyAt m.target.base m.body s t → IsIntact s m → IsIntact t m
 intact_on m s t holds intact bytes h = elim (holds.within bytes h) [ inl is ↦ is | inr there ↦ intact bytes there ]
 
-pub others_hold : {spared : Spared} (m : Message) → IsTrue (is_spared spared m.target.base) → {s t : Files} → LeftByOthers spared s t → SteadyAt m.target.base m.body s t
+pub others_hold : {spared : Spared} (m : Message) → IsTrue (is_spared spared m.target.base) → {s t : Files} → LeftByOthers spared s t
+    → SteadyAt m.target.base m.body s t
 others_hold {spared} m named leaves = leaves_elsewhere m.target.base m.body spared named tt leaves
 
 -- ---- several messages
@@ -227,7 +231,8 @@ pub all_beside : {spared : Spared} (ms : List Message) {s t : Files} → AreName
 all_beside {spared} ms named leaves k d below sp = others_hold (get_or ms k d) (spared_named spared _ sp (named k d below)) leaves
 
 -- a step after which the messages hold, over all that a power cut may leave
-module _ (spared : Spared) (ms : List Message) {of : Files → Files → Type 0} {before now : Files → Type 0} (hold : (s t : Files) → of s t → AllHold spared ms s t)
+module _ (spared : Spared) (ms : List Message) {of : Files → Files → Type 0} {before now : Files → Type 0}
+    (hold : (s t : Files) → of s t → AllHold spared ms s t)
     (follows : Follows of before now) where
   pub left_intact : AreIntact spared ms before → AreIntact spared ms now
   left_intact intact left may = let was = follows left may in all_intact spared ms was.0 left (hold was.0 left was.2) (intact was.0 was.1)

@@ -32,16 +32,19 @@ left_of_no_tasks spared false e = e
 one_done : (spared : Spared) (task : Task) (old new : Files) → LeavesTasks spared true (task ∷ []) old new → LeavesDone spared task old new
 one_done spared task old new (mid, done, e) = grind arith
 
-one_left : (spared : Spared) (ended : Bool) (task : Task) {old new : Files} → LeavesTasks spared ended (task ∷ []) old new → Leaves spared (call_of task) old new
+one_left : (spared : Spared) (ended : Bool) (task : Task) {old new : Files} → LeavesTasks spared ended (task ∷ []) old new
+    → Leaves spared (call_of task) old new
 one_left spared true task {old} {new} h = (one_done spared task old new h).0
 one_left spared false task (inl refused) = refused
 one_left spared false task {old} {new} (inr done) = (one_done spared task old new done).0
 
 -- the tasks failed within the first part, or after it
 abbrev pub InParts : (spared : Spared) (ended : Bool) (xs ys : List Task) (old new : Files) → Type 0
-InParts spared ended xs ys old new = LeavesTasks spared ended xs old new ⊎ ((mid : Files) × LeavesTasks spared true xs old mid × LeavesTasks spared ended ys mid new)
+InParts spared ended xs ys old new =
+    LeavesTasks spared ended xs old new ⊎ ((mid : Files) × LeavesTasks spared true xs old mid × LeavesTasks spared ended ys mid new)
 
-parts_left : (spared : Spared) (ended : Bool) (xs ys : List Task) (old new : Files) → LeavesTasks spared ended (xs ++ ys) old new → InParts spared ended xs ys old new
+parts_left : (spared : Spared) (ended : Bool) (xs ys : List Task) (old new : Files) → LeavesTasks spared ended (xs ++ ys) old new
+    → InParts spared ended xs ys old new
 parts_left spared true xs ys old new h = inr (all_parts (leaving spared) xs ys old new h)
 parts_left spared false xs ys old new h = stopped_parts (leaving spared) xs ys old new h
 

@@ -5,7 +5,8 @@ use Rattle.maildir_disk.proofs.Common.{Tmp, Call, Listing, Writing, Other, Again
 use Rattle.maildir_disk.proofs.Common.{IsFoundWhole, Follows, left_after, doubled, Files, left_as, writing_ok, LeftByOthers, KeepsHeld}
 
 -- ---- two steps in sequence
-left_after-append : (spared : Spared) (call : Call) (xs ys : List CutMove) (s : Files) → left_after spared s call (xs ++ ys) ≡ left_after spared (left_after spared s call xs) call ys
+left_after-append : (spared : Spared) (call : Call) (xs ys : List CutMove) (s : Files)
+    → left_after spared s call (xs ++ ys) ≡ left_after spared (left_after spared s call xs) call ys
 left_after-append spared call [] ys s = refl
 left_after-append spared call (Came move ∷ xs) ys s = left_after-append spared call xs ys (moved spared call move s)
 left_after-append spared call (Doubled action ∷ xs) ys s = left_after-append spared call xs ys (doubled action s)
@@ -27,7 +28,8 @@ of_others (Came Again ∷ kept) = of_others kept
 of_others (Came (Torn bytes) ∷ kept) = of_others kept
 of_others (Doubled action ∷ kept) = Doubled action ∷ of_others kept
 
-others_after : (spared : Spared) (call : Call) (kept : List CutMove) (s : Files) → left_after spared s (Listing Tmp) kept ≡ left_after spared s call (of_others kept)
+others_after : (spared : Spared) (call : Call) (kept : List CutMove) (s : Files)
+    → left_after spared s (Listing Tmp) kept ≡ left_after spared s call (of_others kept)
 unfolding of_others
 others_after spared call [] s = refl
 others_after spared call (Came (Other action) ∷ kept) s = others_after spared call kept _
@@ -59,22 +61,26 @@ pub leaves_torn : {spared : Spared} {name held bytes : List ℕ} {a b : Files} �
 leaves_torn {spared} {name} {held} {bytes} {a} h = record { kept = cut_moves_torn held h.kept; are = h.are ∙ torn_after spared name held bytes h.kept a }
 
 -- ---- from one call to the next
-pub left_both : {spared : Spared} {call : Call} {a b c : Files → Type 0} → Follows (Leaves spared call) a b → Follows (Leaves spared call) b c → Follows (Leaves spared call) a c
+pub left_both : {spared : Spared} {call : Call} {a b c : Files → Type 0} → Follows (Leaves spared call) a b → Follows (Leaves spared call) b c
+    → Follows (Leaves spared call) a c
 left_both first then new may = let r = then new may in let q = first r.0 r.1 in (q.0, q.1, leaves_then q.2 r.2)
 
 pub left_early : {spared : Spared} {call : Call} {a b : Files → Type 0} → Follows (LeftByOthers spared) a b → Follows (Leaves spared call) a b
 left_early others new may = let r = others new may in (r.0, r.1, others_leave r.2)
 
-pub left_torn : {spared : Spared} {name held bytes : List ℕ} {a b : Files → Type 0} → Follows (Leaves spared (Writing name held)) a b → Follows (Leaves spared (Writing name bytes)) a b
+pub left_torn : {spared : Spared} {name held bytes : List ℕ} {a b : Files → Type 0} → Follows (Leaves spared (Writing name held)) a b
+    → Follows (Leaves spared (Writing name bytes)) a b
 left_torn torn new may = let r = torn new may in (r.0, r.1, leaves_torn r.2)
 
-pub left_more : {spared : Spared} {call : Call} {a b c : Files → Type 0} → Follows (Leaves spared call) a b → Follows (LeftByOthers spared) b c → Follows (Leaves spared call) a c
+pub left_more : {spared : Spared} {call : Call} {a b c : Files → Type 0} → Follows (Leaves spared call) a b → Follows (LeftByOthers spared) b c
+    → Follows (Leaves spared call) a c
 left_more first then = left_both first (left_early then)
 
 pub left_none : {spared : Spared} {call : Call} {a : Files → Type 0} → Follows (Leaves spared call) a a
 left_none new may = (new, may, leaves_none)
 
-pub left_by_others_then : {spared : Spared} {a b c : Files → Type 0} → Follows (LeftByOthers spared) a b → Follows (LeftByOthers spared) b c → Follows (LeftByOthers spared) a c
+pub left_by_others_then : {spared : Spared} {a b c : Files → Type 0} → Follows (LeftByOthers spared) a b → Follows (LeftByOthers spared) b c
+    → Follows (LeftByOthers spared) a c
 left_by_others_then = left_both
 
 -- ---- a call that returned Ok
@@ -93,7 +99,8 @@ left_always {spared} {call} (Ok x) {a} {b} whole h = left_as (Leaves spared call
 left_always (Err e) whole h = h
 
 -- the result of the folder's call, from that of the system call
-pub left_answered : (spared : Spared) {A E F : Type 0} (call : Call) (outcome : Result A E) (answer : Result A F) {a b : Files → Type 0} → OnErr outcome (IsErr answer)
+pub left_answered : (spared : Spared) {A E F : Type 0} (call : Call) (outcome : Result A E) (answer : Result A F) {a b : Files → Type 0}
+    → OnErr outcome (IsErr answer)
     → Follows (λ before now. LeavesOf spared call before outcome now) a b → Follows (λ before now. LeavesOf spared call before answer now) a b
 left_answered spared call (Ok x) (Ok y) is h = h
 left_answered spared call (Ok x) (Err f) {a} {b} is h = left_as _ (Leaves spared call) a b (λ old new leaves. leaves.0) h

@@ -24,7 +24,8 @@ single_sound spared m named s left sound intact single =
     let no_more = single m.target.base named in
     only_one (homes left m.target.base) (omega (arith, few, no_more)) intact
 
-pub single_home : (spared : Spared) (m : Message) → IsTrue (is_spared spared m.target.base) → (s left : Files) → IsHome s m → HasBody left m → IsSingle spared s left → IsHome left m
+pub single_home : (spared : Spared) (m : Message) → IsTrue (is_spared spared m.target.base) → (s left : Files) → IsHome s m → HasBody left m
+    → IsSingle spared s left → IsHome left m
 single_home spared m named s left home has single =
     let few = at_most_one m s (inr home) in
     let no_more = single m.target.base named in

@@ -75,7 +75,8 @@ module _ (change : Change) (folder then : MemFolder) (old new : Cases) (more : A
   pub keeps_lost : new.room ≡ old.room → (HasRoom new → Loses change (files_of folder) old new) → KeepsCases (may_find folder old) (may_find then new) old new
   keeps_lost room loses = search (rules, no_fewer, lost_there)
 
-pub called_leaves : {spared : Spared} {A E : Type 0} {call : Call} {a : Files} (outcome : Result A E) {b : Files} → Called spared call a outcome b → Leaves spared call a b
+pub called_leaves : {spared : Spared} {A E : Type 0} {call : Call} {a : Files} (outcome : Result A E) {b : Files} → Called spared call a outcome b
+    → Leaves spared call a b
 called_leaves {call} {a} (Ok x) {b} h = grind (arith, leaves_moves)
 called_leaves {spared} {call = call} {a} (Err e) {b} h = leaves_moves spared call a b h.moves h.left
 
@@ -83,12 +84,14 @@ called_leaves {spared} {call = call} {a} (Err e) {b} h = leaves_moves spared cal
 -- a change after other programs acted, with the result of its call
 pub left_made : {spared : Spared} {A E : Type 0} (change : Change) {before : Files → Type 0} (folder then : MemFolder) (old new : Cases) (outcome : Result A E)
     → Follows (LeftByOthers spared) before (may_find folder old) → Adds (IsAdded change (files_of folder) old) (lefts_of old) (lefts_of new)
-    → Called spared (call_of_change change) (files_of folder) outcome (files_of then) → Follows (Leaves spared (call_of_change change)) before (may_find then new)
+    → Called spared (call_of_change change) (files_of folder) outcome (files_of then)
+    → Follows (Leaves spared (call_of_change change)) before (may_find then new)
 left_made change folder then old new outcome first more called =
     left_both (left_early first) (left_by_change change folder then old new more (called_leaves outcome called))
 
 -- a call that made no change
-pub left_unmade : {spared : Spared} (change : Change) {before : Files → Type 0} (folder : MemFolder) (old new : Cases) → Follows (LeftByOthers spared) before (may_find folder old)
+pub left_unmade : {spared : Spared} (change : Change) {before : Files → Type 0} (folder : MemFolder) (old new : Cases)
+    → Follows (LeftByOthers spared) before (may_find folder old)
     → Adds (IsAdded change (files_of folder) old) (lefts_of old) (lefts_of new) → Follows (Leaves spared (call_of_change change)) before (may_find folder new)
 left_unmade change folder old new first more =
     left_both (left_early first) (left_by_change change folder folder old new more leaves_none)

@@ -19,7 +19,8 @@ found_whole {spared} (Writing name bytes) {old} {new} done = λ ours held has.
     ]
 found_whole other done = tt
 
-leaves_called : (spared : Spared) {A : Type 0} (call : Call) (old : Files) (r : Result A FolderFault) (new : Files) → Called spared call old r new → LeavesOf spared call old r new
+leaves_called : (spared : Spared) {A : Type 0} (call : Call) (old : Files) (r : Result A FolderFault) (new : Files) → Called spared call old r new
+    → LeavesOf spared call old r new
 leaves_called spared call old r new h = grind (arith, leaves_moves, found_whole)
 
 -- ---- where a cut leaves what is there, and that alone

@@ -32,7 +32,8 @@ find-both q [] ys none = none
 find-both q (x ∷ xs) ys none = ap (cond (is_name q x.0) (Some x.1)) (find-both q xs ys none)
 
 -- a name that is spared holds what it held
-pub get-outsiders_of : (spared : Spared) (ours theirs : FileMap) (q : List ℕ) → is_spared_name spared q ≡ true → get (outsiders_of spared ours theirs) q ≡ get ours q
+pub get-outsiders_of : (spared : Spared) (ours theirs : FileMap) (q : List ℕ) → is_spared_name spared q ≡ true
+    → get (outsiders_of spared ours theirs) q ≡ get ours q
 get-outsiders_of spared ours theirs q h =
     let mine = retain_keys ours (is_spared_name spared) in
     let other = retain_keys theirs (λ n. not (is_spared_name spared n)) in
@@ -49,7 +50,8 @@ spared_named spared b sp named = rw sp named
 pub converters : (spared : Spared) (b q : List ℕ) → IsTrue (is_spared spared b) → has_base b q ≡ true → is_spared_name spared q ≡ true
 converters spared b q named h = ap (is_spared spared) (sym (is_name-true b (base q) h)) ∙ named
 
-pub held-outsiders_of : (spared : Spared) (b : List ℕ) (ours theirs : FileMap) → IsTrue (is_spared spared b) → held_under b (outsiders_of spared ours theirs) ≡ held_under b ours
+pub held-outsiders_of : (spared : Spared) (b : List ℕ) (ours theirs : FileMap) → IsTrue (is_spared spared b)
+    → held_under b (outsiders_of spared ours theirs) ≡ held_under b ours
 held-outsiders_of spared b ours theirs named = grind (arith, held_same, get-outsiders_of, converters)
 
 -- ---- each action

@@ -66,7 +66,8 @@ module _ (spared : Spared) (b : List ℕ) (named : IsTrue (is_spared spared b)) 
       (homes_none b mid (after spared mid (Listing Cur) listed.rest) (after_kept spared b named (Listing Cur) tt listed.rest mid) none)
 
   pub listed_twice : (s : Files) (t u v : Files) (in_new in_cur : List (List ℕ)) (actions : List Action) → Lists spared New s in_new t
-      → u ≡ all_acted spared actions t → Lists spared Cur u in_cur v → IsFalse (list_any (has_base b) in_new) → IsFalse (list_any (has_base b) in_cur) → homes v b ≡ []
+      → u ≡ all_acted spared actions t → Lists spared Cur u in_cur v → IsFalse (list_any (has_base b) in_new) → IsFalse (list_any (has_base b) in_cur)
+      → homes v b ≡ []
   listed_twice s t u v in_new in_cur actions first between second off_new off_cur =
       listed_cur u in_cur v
       (rw between (all_acted_new actions t (listed_new s in_new t first off_new)))

@@ -173,7 +173,8 @@ module _ (spared : Spared) (b name : List ℕ) (p : Place) (target : List ℕ) (
   waits_again s w = grind (arith, arrives)
 
   arrived_moved : (m : Move) (s : Files) → Arrived b name had s → Arrived b name had (moved spared (Placing name p target) m s)
-  arrived_moved (Other action) s a = arrived_on b name had s (acted spared action s) (acted_kept spared b named action s) (acted_tmp spared name ours action s) a
+  arrived_moved (Other action) s a =
+      arrived_on b name had s (acted spared action s) (acted_kept spared b named action s) (acted_tmp spared name ours action s) a
   arrived_moved Again s a = arrived_again s a
   arrived_moved (Torn bytes) s a = a
 
@@ -183,7 +184,8 @@ module _ (spared : Spared) (b name : List ℕ) (p : Place) (target : List ℕ) (
 
   stage_moved : (m : Move) (s : Files) → Stage b name had s → Stage b name had (moved spared (Placing name p target) m s)
   stage_moved m s (inr a) = inr (arrived_moved m s a)
-  stage_moved (Other action) s (inl w) = inl (waits_on b name had s (acted spared action s) (acted_kept spared b named action s) (acted_tmp spared name ours action s) w)
+  stage_moved (Other action) s (inl w) =
+      inl (waits_on b name had s (acted spared action s) (acted_kept spared b named action s) (acted_tmp spared name ours action s) w)
   stage_moved Again s (inl w) = waits_again s w
   stage_moved (Torn bytes) s (inl w) = inl w
 
@@ -195,13 +197,15 @@ module _ (spared : Spared) (b name : List ℕ) (p : Place) (target : List ℕ) (
   pub waits_after : (ms : List Move) (s : Files) → IsOthers ms → Waits b name had s → Waits b name had (after spared s (Placing name p target) ms)
   waits_after [] s others w = w
   waits_after (Other action ∷ ms) s others w =
-      waits_after ms (acted spared action s) others (waits_on b name had s (acted spared action s) (acted_kept spared b named action s) (acted_tmp spared name ours action s) w)
+      waits_after ms (acted spared action s) others
+      (waits_on b name had s (acted spared action s) (acted_kept spared b named action s) (acted_tmp spared name ours action s) w)
   waits_after (other ∷ ms) s others w = absurd others
 
   ready : (s : Files) → Waits b name had s → IsTrue (contains_key s.tmp name) → Arrived b name had (effect (Placing name p target) s)
   ready s w has = grind (arith, arrives)
 
-pub after-append : (spared : Spared) (s : Files) (call : Call) (ms ns : List Move) → after spared s call (ms ++ ns) ≡ after spared (after spared s call ms) call ns
+pub after-append : (spared : Spared) (s : Files) (call : Call) (ms ns : List Move)
+    → after spared s call (ms ++ ns) ≡ after spared (after spared s call ms) call ns
 after-append spared s call [] ns = refl
 after-append spared s call (m ∷ ms) ns = after-append spared (moved spared call m s) call ms ns
 
@@ -217,7 +221,8 @@ module _ (spared : Spared) (b name : List ℕ) (p : Place) (target : List ℕ) (
       let had = get old.tmp name in
       let call = Placing name p target in
       let mid = after spared old call done.before in
-      let w : Waits b name had mid = waits_after spared b name p target named ours on had done.before old done.others (record { homes_are = e; waiting = inl refl }) in
+      let w : Waits b name had mid =
+      waits_after spared b name p target named ours on had done.before old done.others (record { homes_are = e; waiting = inl refl }) in
       grind (arith, after-append, arrived_after, ready)
 
 -- ---- what was written
@@ -236,7 +241,8 @@ module _ (name bytes : List ℕ) where
   written_after spared ours (Again ∷ ms) s whole w = written_after spared ours ms (effect (Writing name bytes) s) whole (inl (get-insert_same s.tmp name bytes))
   written_after spared ours (Torn _ ∷ ms) s whole w = absurd whole
 
-  pub writing_ok : (spared : Spared) → IsTrue (is_spared_name spared name) → (old new : Files) → Succeeded spared (Writing name bytes) old new → WrittenOrGone new
+  pub writing_ok : (spared : Spared) → IsTrue (is_spared_name spared name) → (old new : Files) → Succeeded spared (Writing name bytes) old new
+      → WrittenOrGone new
   writing_ok spared ours old new done = grind (arith, after-append, written_after, get-insert_same)
 
 pub once : {spared : Spared} (call : Call) (old new : Files) → IsReady call old → new ≡ effect call old → Succeeded spared call old new

@@ -25,7 +25,8 @@ called_tmp q ours {call} h {old} c = grind (arith, after_tmp)
 
 -- ---- tmp
 pub within_on : {spared : Spared} {names : List (List ℕ)} {old new : Files}
-    → ((q : List ℕ) → IsTrue (is_spared_name spared q) → IsFalse (list_any (is_name q) names) → StaysOrGoes q old new) → TmpWithin spared names old → TmpWithin spared names new
+    → ((q : List ℕ) → IsTrue (is_spared_name spared q) → IsFalse (list_any (is_name q) names) → StaysOrGoes q old new) → TmpWithin spared names old
+    → TmpWithin spared names new
 within_on stays within = grind arith
 
 none_within : {spared : Spared} {names : List (List ℕ)} {s : Files} → TmpWithin spared [] s → TmpWithin spared names s
@@ -34,7 +35,8 @@ none_within within = grind arith
 one_off : (q name : List ℕ) → IsFalse (list_any (is_name q) (name ∷ [])) → IsFalse (is_name q name)
 one_off q name off = (or_parts (is_name q name) false off).0
 
-pub writing_within : {spared : Spared} {name bytes : List ℕ} {old new : Files} → AnyMoves spared (Writing name bytes) old new → TmpWithin spared [] old → TmpWithin spared (name ∷ []) new
+pub writing_within : {spared : Spared} {name bytes : List ℕ} {old new : Files} → AnyMoves spared (Writing name bytes) old new → TmpWithin spared [] old
+    → TmpWithin spared (name ∷ []) new
 writing_within {name} {bytes} {old} {new} c within =
     within_on (λ q ours off. called_tmp q ours (one_off q name off) c) (none_within within)
 
@@ -48,7 +50,8 @@ without {spared} name names s gone within = record {
       ];
 }
 
-removing_gone : {spared : Spared} {name : List ℕ} → IsTrue (is_spared_name spared name) → {old new : Files} → Succeeded spared (Removing name) old new → get new.tmp name ≡ None
+removing_gone : {spared : Spared} {name : List ℕ} → IsTrue (is_spared_name spared name) → {old new : Files} → Succeeded spared (Removing name) old new
+    → get new.tmp name ≡ None
 removing_gone {name} ours {old} done = grind (arith, after-append, after_tmp, get-remove_same)
 
 pub removing_within : {spared : Spared} {name : List ℕ} {names : List (List ℕ)} {old new : Files}
@@ -58,7 +61,8 @@ removing_within {name} {names} {old} {new} done within =
     (within_on (λ q is off. called_tmp q is tt (ok_moves done)) within)
 
 pub placing_within : {spared : Spared} {name : List ℕ} {p : Place} {target : List ℕ} {old new : Files}
-    → Succeeded spared (Placing name p target) old new → (IsTrue (is_spared_name spared name) → get new.tmp name ≡ None) → TmpWithin spared (name ∷ []) old → TmpWithin spared [] new
+    → Succeeded spared (Placing name p target) old new → (IsTrue (is_spared_name spared name) → get new.tmp name ≡ None) → TmpWithin spared (name ∷ []) old
+    → TmpWithin spared [] new
 placing_within {name} {p} {target} {old} {new} done gone within =
     without name [] new gone
     (within_on (λ q is off. called_tmp q is tt (ok_moves done)) within)
@@ -74,7 +78,8 @@ listing_within {spared} {old} {names} listed =
     grind (arith, after-append, after_tmp)
 
 -- ---- the homes
-pub listing_keeps_homes : {spared : Spared} (sub : Sub) (old : Files) (names : List (List ℕ)) (new : Files) → Lists spared sub old names new → KeepsHomes spared old new
+pub listing_keeps_homes : {spared : Spared} (sub : Sub) (old : Files) (names : List (List ℕ)) (new : Files) → Lists spared sub old names new
+    → KeepsHomes spared old new
 listing_keeps_homes sub old names new listed = grind (arith, after_kept)
 
 elsewhere : (m : Message) (base target : List ℕ) → IsTrue (has_base m.target.base target)

@@ -54,11 +54,14 @@ sound_trans {b} first then = grind (arith, IsPermutation-trans)
 pub sound_at_start : {spared : Spared} {ms : List Message} {s : Files} → AllSpared spared (IsMissing s) ms → Sound spared ms s s
 sound_at_start {spared} {ms} {s} missing = sound_now spared ms s (λ k d h sp. inl (missing k d h sp))
 
-acted_sound_at : (spared : Spared) (m : Message) → IsTrue (is_spared spared m.target.base) → (action : Action) (s : Files) → IsSoundAt s m → IsSoundAt (acted spared action s) m
-acted_sound_at spared m named action s (inl none) = inl (homes_none m.target.base s (acted spared action s) (acted_kept spared m.target.base named action s) none)
+acted_sound_at : (spared : Spared) (m : Message) → IsTrue (is_spared spared m.target.base) → (action : Action) (s : Files) → IsSoundAt s m
+    → IsSoundAt (acted spared action s) m
+acted_sound_at spared m named action s (inl none) =
+    inl (homes_none m.target.base s (acted spared action s) (acted_kept spared m.target.base named action s) none)
 acted_sound_at spared m named action s (inr one) = grind (arith, homes_one, acted_kept)
 
-pub acted_sound : {spared : Spared} {ms : List Message} → AreNamed ms → {a s : Files} (action : Action) → Sound spared ms a s → Sound spared ms a (acted spared action s)
+pub acted_sound : {spared : Spared} {ms : List Message} → AreNamed ms → {a s : Files} (action : Action) → Sound spared ms a s
+    → Sound spared ms a (acted spared action s)
 acted_sound {spared} {ms} named {s = s} action sound = record {
   own = λ k d h sp. acted_sound_at spared (get_or ms k d) (spared_named spared _ sp (named k d h)) action s (sound.own k d h sp);
   others = λ b is off. IsPermutation-trans _ _ _ (sound.others b is off) (acted_kept spared b is action s);
@@ -72,17 +75,20 @@ module _ (spared : Spared) (t : List ℕ) (ms : List Message) (are : MessagesOf 
 
   pub chain_sound : (links : List Link) (old new : Files) → AllSpared spared (IsMissing old) ms → Runs spared t links old new → Sound spared ms old new
   chain_sound links old new missing runs =
-      chain_keeps (Linked spared t) (Sound spared ms old) (λ link a b sound linked. linked_sound link old a b sound linked) links old new (sound_at_start missing) runs
+      chain_keeps (Linked spared t) (Sound spared ms old) (λ link a b sound linked. linked_sound link old a b sound linked) links old new
+      (sound_at_start missing) runs
 
   pub chain_delivered : (links : List Link) (old mid new : Files) (report : Report)
       → AllSpared spared (IsMissing old) ms → Runs spared t links old mid → IsRun spared t mid (Ok report) new → Delivered spared ms new
   chain_delivered links old mid new report missing runs last =
       (last.keeps ms are (sound_now spared ms mid (chain_sound links old mid missing runs).own)).ends.delivered
 
-still_swept : (spared : Spared) (name : List ℕ) → IsTrue (is_spared_name spared name) → (action : Action) (s : Files) → get s.tmp name ≡ None → get (acted spared action s).tmp name ≡ None
+still_swept : (spared : Spared) (name : List ℕ) → IsTrue (is_spared_name spared name) → (action : Action) (s : Files) → get s.tmp name ≡ None
+    → get (acted spared action s).tmp name ≡ None
 still_swept spared name ours action s h = grind (arith, acted_tmp)
 
-pub acted_delivered : {spared : Spared} {ms : List Message} → AreNamed ms → (action : Action) {s : Files} → Delivered spared ms s → Delivered spared ms (acted spared action s)
+pub acted_delivered : {spared : Spared} {ms : List Message} → AreNamed ms → (action : Action) {s : Files} → Delivered spared ms s
+    → Delivered spared ms (acted spared action s)
 acted_delivered {spared} {ms} named action {s} all = record {
   homes_are = λ k d h sp.
       let m = get_or ms k d in

@@ -99,7 +99,8 @@ module _ (d : Message) (ms : List Message) (b : List ℕ) (nums : AreNumbered ms
 
 -- ---- one run over the text
 module _ {spared : Spared} (d : Message) (ms : List Message) (b : List ℕ) (nums : AreNumbered ms) (own : IsOwnDigest d ms b) (few : length ms ≤ 2 ^ 63)
-    (old new : Files) (answer : Result Report RunFault) (keeps : Keeps spared ms old answer new) (n : ℕ) (there : IsThere spared n b old) (small : n ≤ 2 ^ 63) where
+    (old new : Files) (answer : Result Report RunFault) (keeps : Keeps spared ms old answer new) (n : ℕ) (there : IsThere spared n b old) (small : n ≤ 2 ^ 63)
+    where
   most : with_digest b ms ≤ length ms
   most = rw (take-length ms) at (few_with_digest b ms (length ms))
 

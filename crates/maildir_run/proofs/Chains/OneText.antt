@@ -28,7 +28,8 @@ own_body {text} distinct {i} d below (inr holds) =
     let body : holds.body ≡ m.body = sym ((bytes_decides (get_or ms a.0 d).body holds.body).0 parts.1) ∙ ap (λ k. (get_or ms k d).body) (sym same) in
     inr (holds.homes_are ∙ ap (λ b. b ∷ []) body)
 
-pub one_sound : {spared : Spared} {text : Mailbox} {old new : Files} → IsMailbox text → SoundForAll spared (text ∷ []) old new → Sound spared text.messages old new
+pub one_sound : {spared : Spared} {text : Mailbox} {old new : Files} → IsMailbox text → SoundForAll spared (text ∷ []) old new
+    → Sound spared text.messages old new
 one_sound {text = text} is sound = record {
   own = λ i d below sp. own_body (text_distinct text.bytes text.messages is.are is.small) d below (sound.own zero text (omega arith) i d below sp);
   others = grind arith;
@@ -51,7 +52,8 @@ sound_one {spared} {text} {new = new} sound = record {
 only_one : (text other : Mailbox) → Contains (text ∷ []) other → other ≡ text
 only_one text other h = grind arith
 
-pub one_runs : (spared : Spared) (text : Mailbox) (links : List LinkOver) (old new : Files) → RunsOver spared (text ∷ []) links old new → Runs spared text.bytes (map link_of links) old new
+pub one_runs : (spared : Spared) (text : Mailbox) (links : List LinkOver) (old new : Files) → RunsOver spared (text ∷ []) links old new
+    → Runs spared text.bytes (map link_of links) old new
 one_runs spared text = grind (arith, chain_map)
 
 pub runs_one : (spared : Spared) (text : Mailbox) (links : List Link) (old new : Files)

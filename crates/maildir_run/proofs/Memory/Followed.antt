@@ -21,11 +21,13 @@ use Rattle.maildir_run.proofs.Memory.Scripts.{answered, called_then, cut_fails, 
 follows_called : (spared : Spared) {A : Type 0} (call : Call) (old new : MemFolder) (result : Result A FolderFault)
     → FollowsScript call old result new → Called spared call (files_of old) result (files_of new)
 follows_called spared call old new result (inl a) =
-    called_then spared call (next_acts old) (files_of old) (files_of new) result refl (answered spared (next_mode old) call (next_files old) (files_of new) result a)
+    called_then spared call (next_acts old) (files_of old) (files_of new) result refl
+    (answered spared (next_mode old) call (next_files old) (files_of new) result a)
 follows_called spared call old new (Ok x) (inr w) = cc w.0
 follows_called spared call old new (Err f) (inr w) = cut_fails w.1
 
-follows_listed : (spared : Spared) (sub : Sub) (old new : MemFolder) (result : Result (Vec (String Global) Global) FolderFault) → FollowsScript (Listing sub) old result new
+follows_listed : (spared : Spared) (sub : Sub) (old new : MemFolder) (result : Result (Vec (String Global) Global) FolderFault)
+    → FollowsScript (Listing sub) old result new
     → IfOk result (λ names. names_of names ≡ keys (folder_of sub (files_of new))) → Listed spared sub (files_of old) result (files_of new)
 follows_listed spared sub old new (Ok names) (inl a) is = grind (arith, listed_then)
 follows_listed spared sub old new (Ok names) (inr w) is = cc w.0

@@ -35,7 +35,8 @@ without_leaves spared New k s off = grind (arith, removed_agrees)
 without_leaves spared Cur k s off = grind (arith, removed_agrees)
 
 -- a file is changed where its name is not a converter's
-guarded_action : (spared : Spared) (ours : Bool) (s t : Files) → (ours ≡ false → KeepsSpared spared s t) → (action : Action) × (cond ours s t ≡ acted spared action s)
+guarded_action : (spared : Spared) (ours : Bool) (s t : Files) → (ours ≡ false → KeepsSpared spared s t)
+    → (action : Action) × (cond ours s t ≡ acted spared action s)
 guarded_action spared true s t leaves =
     (Outside s, grind (arith, outside_reaches))
 guarded_action spared false s t leaves = (Outside t, sym (outside_reaches spared s t (leaves refl)))

@@ -92,7 +92,8 @@ module _ (spared : Spared) (names : Listings) (ms : List Message) (distinct : Ar
       let early = listing_tasks names ++ sweep_of names.tmp in
       let last = deliveries_of (is_listed names.new names.cur) ms in
       elim (stopped_parts (honestly spared) early last start now
-      (subst (λ ts. Stopped (honestly spared) ts start now) (sym (append_assoc (listing_tasks names) (sweep_of names.tmp) last)) h)) as (λ _. CameTo spared ms start now) [
+      (subst (λ ts. Stopped (honestly spared) ts start now) (sym (append_assoc (listing_tasks names) (sweep_of names.tmp) last)) h))
+      as (λ _. CameTo spared ms start now) [
         | inl s ↦ record { done = []; rest = ms; is = refl; progress = none_done (done_leaves (Some fault) early (early_none names) start now s) }
         | inr (mid, first, more) ↦
             let parts = all_parts (honestly spared) (listing_tasks names) (sweep_of names.tmp) start mid first in
@@ -101,7 +102,8 @@ module _ (spared : Spared) (names : Listings) (ms : List Message) (distinct : Ar
             (known_by_listings parts.1).knows ms distinct are sound [] ms mid now refl b.0 b.1 more
       ]
 
-  stands : (now : Files) → Stopped (honestly spared) (run_tasks names ms) start now → Sound spared ms start start → (fault : RunFault) → Keeps spared ms start (Err fault) now
+  stands : (now : Files) → Stopped (honestly spared) (run_tasks names ms) start now → Sound spared ms start start → (fault : RunFault)
+      → Keeps spared ms start (Err fault) now
   stands now h sound fault =
       let came = come_to fault now h sound.own in
       stands_keeps (prefix_stands came.rest (λ k d lt. (are k d lt).named) distinct sound came.is came.progress)
@@ -151,7 +153,8 @@ module _ (spared : Spared) (names : Listings) (ms : List Message) (distinct : Ar
       )
 
 -- a run after other runs
-restarted : {spared : Spared} (r : Result Report RunFault) {t : List ℕ} {ms : List Message} (links : List Link) (first : Files) {start now : Files} → length t < 2 ^ 63
+restarted : {spared : Spared} (r : Result Report RunFault) {t : List ℕ} {ms : List Message} (links : List Link) (first : Files) {start now : Files}
+    → length t < 2 ^ 63
     → MessagesOf t ms → AllSpared spared (IsMissing first) ms → Runs spared t links first start → IsRun spared t start r now → OnOk r (Delivered spared ms now)
 restarted {spared} (Ok report) {t} {ms} links first {start} {now} small of missing before run =
     chain_delivered spared t ms of (text_named t ms of small) links first start now report missing before run
@@ -209,7 +212,8 @@ module _ {before after : Option (List ℕ)} {reads : ℕ} {start now : Seen} {r 
     performs_here : Performs (honestly spared) (planned_tasks run.names ms) start.files r now.files
     performs_here =
         let g = given_here t ms p of in
-        planned_performs run.names (messages_of (bodies_of run.given)) g.0 ms g.1 (honestly spared) honestly_stops r g.2 start.files now.files (run.ran.done_honestly spared h)
+        planned_performs run.names (messages_of (bodies_of run.given)) g.0 ms g.1 (honestly spared) honestly_stops r g.2 start.files now.files
+        (run.ran.done_honestly spared h)
 
     owes_planned : (names : Listings) × Performs (honestly spared) (planned_tasks names ms) start.files r now.files
     owes_planned = (run.names, performs_here)
@@ -231,7 +235,8 @@ module _ {before after : Option (List ℕ)} {reads : ℕ} {start now : Seen} {r 
   }
 
   owes_restart : (spared : Spared) → start.honest spared → (t : List ℕ) (ms : List Message) (links : List Link) (first : Files) → length t < 2 ^ 63
-      → Possible before after t → MessagesOf t ms → AllSpared spared (IsMissing first) ms → Runs spared t links first start.files → OnOk r (Delivered spared ms now.files)
+      → Possible before after t → MessagesOf t ms → AllSpared spared (IsMissing first) ms → Runs spared t links first start.files
+      → OnOk r (Delivered spared ms now.files)
   owes_restart spared h t ms links first small p of missing before = restarted r links first small of missing before (owes_run spared h t small p)
 
   owes_alone : (start.quiet → start.honest all_bases) → start.quiet → (t : List ℕ) (ms : List Message) → Possible before after t
@@ -241,7 +246,8 @@ module _ {before after : Option (List ℕ)} {reads : ℕ} {start now : Seen} {r 
       × (report.swept ≡ leftover_count start.files)).
       (grind arith, alone_is.1)) (given_here t ms p of).2
       (filled_all all_bases run.names (messages_of (bodies_of run.given)) (messages_distinct (bodies_of run.given) few_bodies)
-      (messages_targets (bodies_of run.given) few_bodies) start.files (λ b named. refl) now.files r (run.ran.done_honestly all_bases (honest_of q)) (run.ran.done_quietly q) run.tells)
+      (messages_targets (bodies_of run.given) few_bodies) start.files (λ b named. refl) now.files r (run.ran.done_honestly all_bases (honest_of q))
+      (run.ran.done_quietly q) run.tells)
 
   ours : EachTask IsOurs (run_tasks run.names (messages_of (bodies_of run.given)))
   ours = run_ours run.names _ (messages_targets _ few_bodies)

@@ -10,7 +10,8 @@ use Rattle.maildir_run.proofs.Source.Givens.{read_is}
 pub none_done : {spared : Spared} {start now : Files} → KeepsHomes spared start now → Progress spared [] start now
 none_done {now} leaves = grind arith
 
-pub stands_keeps : {spared : Spared} {ms : List Message} {start now : Files} {fault : RunFault} → KeptSoFar spared ms start now → Keeps spared ms start (Err fault) now
+pub stands_keeps : {spared : Spared} {ms : List Message} {start now : Files} {fault : RunFault} → KeptSoFar spared ms start now
+    → Keeps spared ms start (Err fault) now
 stands_keeps s = grind arith
 
 -- messages of which the first are done

@@ -11,7 +11,8 @@ use Rattle.maildir_run.proofs.Call.Homes.{spared_named}
 use Rattle.maildir_run.proofs.Common.{Spared, is_spared, AllSpared, IsSpared, and_parts, IsPermutation-refl, base}
 
 -- a call that leaves the homes
-pub progress_on : {spared : Spared} {done : List Message} {old mid now : Files} → AreNamed done → KeepsHomes spared mid now → Progress spared done old mid → Progress spared done old now
+pub progress_on : {spared : Spared} {done : List Message} {old mid now : Files} → AreNamed done → KeepsHomes spared mid now → Progress spared done old mid
+    → Progress spared done old now
 progress_on {spared} {mid = mid} {now} named leaves p = record {
   homes_are = λ k d h sp. let kept = leaves.kept _ (spared_named spared _ sp (named k d h)) in homes_one _ _ mid now kept (p.homes_are k d h sp);
   kept = grind (arith, IsPermutation-trans);
@@ -22,7 +23,8 @@ not_before : (done : List Message) (m : Message) (base : List ℕ) → IsFalse (
 not_before done m base off = grind (arith, list_any-append)
 
 -- one more message that is there
-pub progress_home : {spared : Spared} {done : List Message} (m : Message) {old now : Files} → (IsSpared spared m → IsHome now m) → Progress spared done old now → Progress spared (done ++ m ∷ []) old now
+pub progress_home : {spared : Spared} {done : List Message} (m : Message) {old now : Files} → (IsSpared spared m → IsHome now m) → Progress spared done old now
+    → Progress spared (done ++ m ∷ []) old now
 progress_home {spared} {done} m {now = now} home p = record {
   homes_are = All-push (λ n. IsSpared spared n → IsHome now n) done m p.homes_are home;
   kept = grind (arith, not_before);
@@ -73,7 +75,8 @@ module _ {spared : Spared} (done rest : List Message) (old now : Files) (named :
         list_any_none _ done (All-from_get_or (λ m. IsFalse (is_name m.target.base (get_or (done ++ rest) k d).target.base)) done d (λ i lt.
         rw (get_or_append_left done rest d i lt) at (distinct i k d (omega arith) h)))
 
-    kept_at : IsSpared spared (get_or (done ++ rest) k d) → IsPermutation (homes old (get_or (done ++ rest) k d).target.base) (homes now (get_or (done ++ rest) k d).target.base)
+    kept_at : IsSpared spared (get_or (done ++ rest) k d)
+        → IsPermutation (homes old (get_or (done ++ rest) k d).target.base) (homes now (get_or (done ++ rest) k d).target.base)
     kept_at sp = p.kept _ (spared_named spared _ sp (named k d h)) (base_apart)
 
   sound_at : (m : Message) → IsPermutation (homes old m.target.base) (homes now m.target.base) → IsSoundAt old m → IsSoundAt now m
@@ -103,7 +106,8 @@ module _ {spared : Spared} (done rest : List Message) (old now : Files) (named :
             omega arith in
             at_done (λ m. IsSpared spared m → HasHome now m) done rest d before (λ own. home_there (get_or done i d) now (p.homes_are i d before own)) sp_i
         | inr ge ↦
-            absurd (missing_there (get_or (done ++ rest) j d) now (homes_none (get_or (done ++ rest) j d).target.base old now (kept_at j d ge h sp_j) missing) there)
+            absurd (missing_there (get_or (done ++ rest) j d) now (homes_none (get_or (done ++ rest) j d).target.base old now (kept_at j d ge h sp_j) missing)
+            there)
       ]
 
   other_now : (base : List ℕ) → IsFalse (is_base_of (done ++ rest) base) → IsFalse (is_base_of done base)
@@ -131,8 +135,10 @@ nothing_delivered {spared} {m} {mid} {now} was is delivers = record {
 }
 
 -- a message that was missing was delivered, or is missing yet
-pub progress_or_more : {spared : Spared} {done : List Message} {m : Message} {old mid now : Files} → AreNamed done → All (λ n. IsFalse (is_name m.target.base n.target.base)) done
-    → (IsSpared spared m → IsMissing mid m) → DeliversMessage spared m mid now → Progress spared done old mid → Progress spared done old now ⊎ Progress spared (done ++ m ∷ []) old now
+pub progress_or_more : {spared : Spared} {done : List Message} {m : Message} {old mid now : Files} → AreNamed done
+    → All (λ n. IsFalse (is_name m.target.base n.target.base)) done
+    → (IsSpared spared m → IsMissing mid m) → DeliversMessage spared m mid now → Progress spared done old mid
+    → Progress spared done old now ⊎ Progress spared (done ++ m ∷ []) old now
 progress_or_more {spared} {done} {m} {old} {mid} {now} named apart was delivers p =
     elim (cases_Bool (spared m.target.base)) [
       | inr off ↦ inr (progress_delivered named apart delivers (λ sp. cc) p)

@@ -61,7 +61,8 @@ module _ (w : Way) (R : Files → Files → Type 0) (same : (s : Files) → R s 
   across (Some f) (task ∷ tasks) each old new (inr (mid, done, more)) =
       then old mid new (one task each.0 old mid (inl done)) (across (Some f) tasks each.1 mid new more)
 
-one_leaves : {spared : Spared} (task : Task) → PlacesNone task → (old new : Files) → Done spared task old new ⊎ TaskRefused spared task old new → KeepsHomes spared old new
+one_leaves : {spared : Spared} (task : Task) → PlacesNone task → (old new : Files) → Done spared task old new ⊎ TaskRefused spared task old new
+    → KeepsHomes spared old new
 one_leaves task off old new h = record {
   kept = λ b named. called_kept b named (off b) (elim h [ inl done ↦ done_moves task done | inr refused ↦ refused ]);
 }
@@ -86,7 +87,8 @@ pub record KnownByListings (spared : Spared) (names : Listings) (old new : Files
   pub few : SparesAll spared → length (filter is_converter_name names.tmp) ≤ leftover_count old
   pub knows : Knows spared (is_listed names.new names.cur) old
 
-pub known_by_listings : {spared : Spared} {names : Listings} {old new : Files} → AllDone (honestly spared) (listing_tasks names) old new → KnownByListings spared names old new
+pub known_by_listings : {spared : Spared} {names : Listings} {old new : Files} → AllDone (honestly spared) (listing_tasks names) old new
+    → KnownByListings spared names old new
 known_by_listings {spared} {names} {old} (a, first, (b, second, (c, third, e))) = record {
   within =
       subst (TmpWithin spared names.tmp) (sym e)
@@ -117,12 +119,14 @@ each_swept : {spared : Spared} (names : List (List ℕ)) {old new : Files}
 each_swept {spared} [] within e = subst (TmpWithin spared []) (sym e) within
 each_swept (name ∷ names) {new} within (mid, one, more) = each_swept names (removing_within one within) more
 
-pub all_swept : {spared : Spared} {names : List (List ℕ)} {old new : Files} → TmpWithin spared names old → AllDone (honestly spared) (sweep_of names) old new → TmpWithin spared [] new
+pub all_swept : {spared : Spared} {names : List (List ℕ)} {old new : Files} → TmpWithin spared names old → AllDone (honestly spared) (sweep_of names) old new
+    → TmpWithin spared [] new
 all_swept {names} {old} {new} within =
     each_swept (filter is_converter_name names) (record {
       gone = λ q ours off.
           within.gone q ours
-          (sym (any-filter_same (is_name q) is_converter_name true (λ k e. ap is_converter_name (sym (is_name-true q k e)) ∙ (and_parts _ _ ours).1) names) ∙ off);
+          (sym (any-filter_same (is_name q) is_converter_name true (λ k e. ap is_converter_name (sym (is_name-true q k e)) ∙ (and_parts _ _ ours).1) names) ∙
+          off);
     })
 
 -- ---- one message
@@ -204,13 +208,15 @@ module _ (spared : Spared) (start : Files) (is_there : List ℕ → Bool) (knows
                 )
             | inr off ↦
                 let d =
-                delivered m (at (λ m. IsTarget m.target) are done ms m e) old new (missing_here old e off p) (as_shown (honestly spared) m false old new off h) in
+                delivered m (at (λ m. IsTarget m.target) are done ms m e) old new (missing_here old e off p) (as_shown (honestly spared) m false old new off h)
+                in
                 (progress_delivered (done_named done (m ∷ ms) e) (apart done ms m e) d.delivers d.home p, d.within within)
           ]
 
     pub all_progress : (done ms : List Message) (old new : Files) → all ≡ done ++ ms → Progress spared done start old
         → TmpWithin spared [] old → AllDone (honestly spared) (deliveries_of is_there ms) old new → Progress spared all start new × TmpWithin spared [] new
-    all_progress done [] old new e p within h = (rw (e ∙ append-nil done) (subst (Progress spared done start) (sym h) p), subst (TmpWithin spared []) (sym h) within)
+    all_progress done [] old new e p within h =
+        (rw (e ∙ append-nil done) (subst (Progress spared done start) (sym h) p), subst (TmpWithin spared []) (sym h) within)
     all_progress done (m ∷ ms) old new e p within h =
         let r = all_parts (honestly spared) _ _ old new h in
         let one = one_done done ms m old r.0 e p within r.1 in

@@ -195,7 +195,8 @@ do_honestly : (spared : Spared) {A : Type 0} (call : Call) (old : Files) (r : Re
 do_honestly spared call old (Ok v) new h = (new, h, refl)
 do_honestly spared call old (Err e) new h = inl h
 
-do_leaving : (spared : Spared) {A : Type 0} (call : Call) (r : Result A FolderFault) (old new : Files) → LeavesOf spared call old r new → Performs (leaving spared) (Do call ∷ []) old r new
+do_leaving : (spared : Spared) {A : Type 0} (call : Call) (r : Result A FolderFault) (old new : Files) → LeavesOf spared call old r new
+    → Performs (leaving spared) (Do call ∷ []) old r new
 do_leaving spared call (Ok v) old new h = (new, h, refl)
 do_leaving spared call (Err e) old new h = inl h
 

@@ -3,12 +3,15 @@ use Rattle.maildir_commands.proofs.laws.after_any_commands.Goals as goal
 
 pub returns-clause-sound : goal.returns-clause-sound
 returns-clause-sound g c = λ spared maildir texts events old new h none come.
-    sound_through spared g.M.Machine.at (λ machine. g.met.M.Machine.same_maildir machine spared) g.met.M.Machine.same_words maildir texts old new h none events come
+    sound_through spared g.M.Machine.at (λ machine. g.met.M.Machine.same_maildir machine spared) g.met.M.Machine.same_words maildir texts old new h none events
+    come
 
 pub returns-clause-safe : goal.returns-clause-safe
 returns-clause-safe g c = λ spared maildir texts named words before rest old new h none come.
-    safe_since spared g.M.Machine.at (λ machine. g.met.M.Machine.same_maildir machine spared) g.met.M.Machine.same_words maildir texts old new h none named words before rest come
+    safe_since spared g.M.Machine.at (λ machine. g.met.M.Machine.same_maildir machine spared) g.met.M.Machine.same_words maildir texts old new h none named
+    words before rest come
 
 pub returns-clause-swept : goal.returns-clause-swept
 returns-clause-swept g c = λ spared maildir texts named words before old new h none come.
-    swept_at spared g.M.Machine.at (λ machine. g.met.M.Machine.same_maildir machine spared) g.met.M.Machine.same_words maildir texts old new h none named words before come
+    swept_at spared g.M.Machine.at (λ machine. g.met.M.Machine.same_maildir machine spared) g.met.M.Machine.same_words maildir texts old new h none named words
+    before come
