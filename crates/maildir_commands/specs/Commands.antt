@@ -46,7 +46,8 @@ pub record Commanded {M : Type 0} (spared : Spared) (at : M → SeenMachine) (ma
   -- after a fault, or where it was killed, the machine is again one that does as assumed
   pub again : status ≡ 1 → (at new).honest spared
 
--- A power cut left of a Maildir what it might, each file that is spared under one name, or nothing where it might not find it. A later one would leave the same.
+-- A power cut left of a Maildir what it might, each file that is spared under one name, or nothing where it might not find it. A later
+-- one would leave the same.
 pub record LeftByPowerCut (spared : Spared) (old new : HeldMaildir) : Type 0 where
   pub left : Files
   pub may : old.may_leave left ⊎ ((¬ old.rooted) × (left ≡ no_files))

@@ -7,13 +7,13 @@ ghost use Rattle.maildir_name.specs.declared.target.Place.{Place};
 ghost use Rattle.maildir_name.specs.declared.target.Target.{Target};
 ghost use Rattle.maildir_run.specs.declared.folder.Sub.TheVariants as sub;
 ghost use Rattle.maildir_run.specs.declared.report.Report.{Report};
-ghost use Rattle.maildir_run.specs.Files.{Spared, SparesAll, Files, Action, KeepsSpared, acted, all_acted, all_bases, homes, has_base,
-is_spared, is_spared_name};
+ghost use Rattle.maildir_run.specs.Files.{Spared, SparesAll, all_bases, is_spared, is_spared_name};
+ghost use Rattle.maildir_run.specs.Files.{Files, Action, KeepsSpared, acted, all_acted, homes, has_base};
 ghost use Rattle.maildir_run.specs.Files.Action.{Outside};
 ghost use Rattle.maildir_run.specs.Calls.{Call, Move, after, Lists, Succeeded, PlacesElsewhere, WritesElsewhere, StaysOrGoes, NoneOrOne};
 ghost use Rattle.maildir_run.specs.Calls.Call.{Placing};
-ghost use Rattle.maildir_run.specs.Delivery.{Message, leftover_count, AllSpared, IsMissing, IsHome, IsSoundAt, AreNamed, AreDistinct,
-Sound, Delivered};
+ghost use Rattle.maildir_run.specs.Delivery.{Message, leftover_count, IsMissing, IsHome, IsSoundAt, AllSpared};
+ghost use Rattle.maildir_run.specs.Delivery.{AreNamed, AreDistinct, Sound, Delivered};
 ghost use Rattle.maildir_run.specs.Texts.{MessagesOf};
 ghost use Rattle.maildir_run.specs.Runs.{CountsRun, Link, IsRun, Runs};
 ghost use Rattle.maildir_run.specs.Several.{Mailbox, IsMailbox, OfEach, SoundForAll, LinkOver};
