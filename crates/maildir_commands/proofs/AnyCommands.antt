@@ -1,11 +1,11 @@
 -- What any commands leave of a Maildir that follow one another.
-use Rattle.std.proofs.Common.{◌≡◌, ℕ, ◌<◌, List, [], ◌∷◌, ◌++◌, length, get_or, All, Contains, IsTrue, Result, Ok, Err}
+use Rattle.std.proofs.Common.{◌≡◌, ℕ, ◌<◌, List, [], ◌∷◌, ◌++◌, length, get_or, All, Contains, IsTrue, Result, Ok, Err, zero, suc, ap, take, Bool}
 use Rattle.std.proofs.Common.{OnOk, refl, sym, subst, ◌∙◌, inl, inr, arith}
 use Rattle.std.specs.FinMap.{empty, get-empty}
 use Rattle.std.proofs.lemmas.List.Sorted.{IsPermutation-trans}
 use Rattle.maildir_commands.proofs.Common.{All-contains, All-nil, AreAlike, AreAllSafe, AreAt, AreFit, AreIntact, Does, Fault, Files, HasBody, HeldMaildir}
 use Rattle.maildir_commands.proofs.Common.{IsIntact, IsMailbox, IsSafeIn, IsSoundFor, Mailbox, OthersStay, Ran, Request, Rests, Seen, SeenMachine, Stays}
-use Rattle.maildir_commands.proofs.Common.{ToConvert, ToWrite, seen_at, AllSpared, Spared, is_spared, spared_named}
+use Rattle.maildir_commands.proofs.Common.{ToConvert, ToWrite, seen_at, AllSpared, Spared, is_spared, spared_named, All-take, AreReportsOf, Report, also}
 use Rattle.maildir_run.specs.Delivery.{Message, IsMissing, IsSoundAt, IsSwept}
 use Rattle.maildir_run.specs.Files.{name_cmp}
 use Rattle.maildir_run.specs.MemFiles.{no_files}
@@ -16,9 +16,9 @@ use Rattle.maildir_disk.proofs.Left.LeftHomes.{SteadyAt, intact_on, none_in, ste
 use Rattle.maildir_disk.proofs.Left.SingleHomes.{single_home, single_sound}
 use Rattle.maildir_commands.specs.declared.ending.Ending.{Ending}
 use Rattle.maildir_commands.specs.declared.ending.Ending.TheVariants.{Done, Stopped, WrongWords}
-use Rattle.maildir_commands.specs.Commands.{AreNewTo, Commanded, Command, Cut, Event, Happens, IsHistory, IsToDeliver, LeftByPowerCut, Readers}
+use Rattle.maildir_commands.specs.Commands.{AreNewTo, Commanded, Command, PrintedSafely, Cut, Event, Happens, IsHistory, IsToDeliver, LeftByPowerCut, Readers}
 use Rattle.maildir_commands.specs.Endings.{status_of}
-use Rattle.maildir_commands.proofs.Endings.{one_no_zero, two_no_zero}
+use Rattle.maildir_commands.proofs.Endings.{one_no_two, one_no_zero, two_no_zero}
 use Rattle.maildir_commands.proofs.Known.{swept_rests}
 use Rattle.maildir_commands.proofs.Resting.{rest_same}
 use Rattle.maildir_commands.proofs.Several.{both_of, named_of, on_ok, on_ok_then, rest_all_safe, rest_sound, rest_stays, safe_stay}
@@ -47,6 +47,23 @@ missing_intact m s none bytes has = absurd (none_in (subst (λ xs. Contains xs b
 
 none_at_all : (m : Message) → IsMissing no_files m
 none_at_all m = rw (held_none m.target.base empty (λ q on. get-empty {X = List ℕ} name_cmp q)) refl
+
+-- ---- the first of some texts
+no_length : {named : List Mailbox} → named ≡ [] → length named ≡ 0
+no_length e = ap length e
+
+as_many : (spared : Spared) (has : List ℕ → Bool) (left : ℕ) (reports : List Report) (texts : List Mailbox)
+    → AreReportsOf spared has left texts reports → length reports ≡ length texts
+as_many spared has left [] [] is = refl
+as_many spared has left [] (text ∷ texts) is = absurd is
+as_many spared has left (report ∷ reports) [] is = absurd is
+as_many spared has left (report ∷ reports) (text ∷ texts) (first, rest) = ap suc (as_many spared (also has text) 0 reports texts rest)
+
+take_of_take : (n : ℕ) (named : List Mailbox) → take (length (take n named)) named ≡ take n named
+take_of_take zero [] = refl
+take_of_take (suc n) [] = refl
+take_of_take zero (text ∷ named) = refl
+take_of_take (suc n) (text ∷ named) = ap (λ ts. text ∷ ts) (take_of_take n named)
 
 -- ---- from one moment to another
 -- The texts stay sound, and those that are safe stay safe.
@@ -194,6 +211,41 @@ module _ (spared : Spared) {M : Type 0} (seen : M → SeenMachine)
       commanded : Goes spared texts (at old) (at new) × (seen new).honest spared × (status ≡ 0 → IsDone named new)
       commanded = ended ran.ran.ending ran.ran.status_is ran.ran.ran
 
+    -- ---- a command that ended with a fault
+    module _ {words : List (List ℕ)} {named : List Mailbox} {old new : M}
+        (ran : Commanded spared seen maildir texts words named 1 old new) (well : IsWell old) (some : 0 < length named) where
+      failing : (request : Request) {fault : Fault} → Does request (Err fault) (seen_at (seen old) ran.was) (seen_at (seen new) ran.is)
+          → IsToDeliver maildir texts named (seen_at (seen old) ran.was) ran.is.input request
+          → All (Contains texts) named × PrintedSafely spared named ran.was.output ran.is.output (at new)
+      failing (ToWrite form file) does none = absurd (omega (arith, some, no_length none))
+      failing (ToConvert into files) does (inr (other, none)) = absurd (omega (arith, some, no_length none))
+      failing (ToConvert into files) does (inl (same, among, given)) =
+          let there = (alike old into maildir same).1 in
+          let here = (alike new into maildir (still old new into maildir same)).0 in
+          let sound = rest_sound texts fit.are there well.1 in
+          let delivers = does.works.delivers spared well.0 named given (fit_among texts named among fit) (sound_among texts named among sound) in
+          let first = delivers.some in
+          let fits = (fit_among texts named among fit).are in
+          let count : length first.reports ≡ length (take first.n named) = as_many spared _ _ first.reports (take first.n named) first.true_of in (
+            among,
+            record {
+              reports = first.reports;
+              lines = first.lines;
+              safe = rest_all_safe (take (length first.reports) named) (All-take IsMailbox (length first.reports) named fits) here
+                  (subst (λ k. AreAllSafe spared (take k named) ((seen new).maildir_at into)) (sym count)
+                  (subst (λ ts. AreAllSafe spared ts ((seen new).maildir_at into)) (sym (take_of_take first.n named)) first.safe));
+            },
+          )
+
+      failed : (ending : Ending) → 1 ≡ status_of ending
+          → Ran words ending (seen_at (seen old) ran.was) (seen_at (seen new) ran.is) ran.was.errors ran.is.errors
+          → All (Contains texts) named × PrintedSafely spared named ran.was.output ran.is.output (at new)
+      failed Done ends done = absurd (one_no_zero ends)
+      failed (Stopped fault written) ends (did, line) =
+          let asks = did.form in
+          failing asks.0 (did.does asks.0 asks.1) (ran.delivers asks.0 asks.1)
+      failed (WrongWords written) ends wrong = absurd (one_no_two ends)
+
     -- ---- any events
     goes_event : (event : Event) (old new : M) → IsWell old → Happens spared seen maildir texts event old new
         → Goes spared texts (at old) (at new) × (seen new).honest spared
@@ -238,6 +290,21 @@ module _ (spared : Spared) {M : Type 0} (seen : M → SeenMachine)
         let all = commanded none.fit parts.2.1 still in
         let done = all.2 refl in
         (safe_through none.fit named done.0 rest parts.2.0 new ((all.1, all.0.sound), done.1) parts.2.2).1
+
+    pub printed_since : (named : List Mailbox) (words : List (List ℕ)) (before rest : List Event) (mid next : M)
+        → IsHistory spared seen maildir texts before old mid → (ran : Commanded spared seen maildir texts words named 1 mid next)
+        → IsHistory spared seen maildir texts rest next new → 0 < length named → PrintedSafely spared named ran.was.output ran.is.output (at new)
+    printed_since named words before rest mid next come ran more some =
+        let well = well_through none.fit before old mid (h, sound_new old none) come in
+        let now = failed none.fit ran well some ran.ran.ending ran.ran.status_is ran.ran.ran in
+        let all = commanded none.fit ran well in
+        let first = take (length now.1.reports) named in
+        record {
+          reports = now.1.reports;
+          lines = now.1.lines;
+          safe = (safe_through none.fit first (All-take (Contains texts) (length now.1.reports) named now.0) rest next new
+              ((all.1, all.0.sound), now.1.safe) more).1;
+        }
 
     pub swept_at : (named : List Mailbox) (words : List (List ℕ)) (before : List Event)
         → IsHistory spared seen maildir texts (before ++ (Command words named 0 ∷ [])) old new → 0 < length named → IsSwept spared (at new).files

@@ -1,13 +1,17 @@
 -- Any commands that follow one another, with mail readers and power cuts between them, and a Maildir into which several texts go.
-use Rattle.std.specs.Prelude.{◌≡◌, ◌⊎◌, ℕ, List, [], All, Contains, Option}
+use Rattle.std.specs.Prelude.{◌≡◌, ◌⊎◌, ℕ, List, [], All, Contains, Option, length, take}
+use Rattle.std.specs.List.{flat_map}
+use Rattle.mbox_text.specs.Writing.{AppendsPrefix}
+use Rattle.maildir_run.specs.declared.report.Report.{Report}
 use Rattle.maildir_run.specs.Delivery.{IsMissing}
 use Rattle.maildir_run.specs.Files.{Files, KeepsHomes, Spared}
 use Rattle.maildir_run.specs.MemFiles.{no_files}
 use Rattle.maildir_run.specs.Runs.{Chain}
 use Rattle.maildir_run.specs.Several.{Mailbox, OfEachSpared}
 use Rattle.maildir_disk.specs.PowerCuts.{IsSingle}
-use Rattle.maildir_commands.specs.Machines.{AreFit, GivesTexts, HeldMaildir, Rests}
+use Rattle.maildir_commands.specs.Machines.{AreAllSafe, AreFit, GivesTexts, HeldMaildir, Rests}
 use Rattle.maildir_commands.specs.Program.{RanOn}
+use Rattle.maildir_commands.specs.Report.{report_line}
 use Rattle.maildir_commands.specs.Seen.{Seen, SeenMachine, Streams, seen_at}
 use Rattle.maildir_commands.specs.Words.{AskFor, Request}
 use Rattle.maildir_commands.specs.Words.Request.{ToWrite, ToConvert}
@@ -62,6 +66,13 @@ Happens spared at maildir texts (Command words named status) old new = Commanded
 Happens spared at maildir texts Readers old new =
     Rests spared ((at old).maildir_at maildir) ((at new).maildir_at maildir) × ((at old).honest spared → (at new).honest spared)
 Happens spared at maildir texts Cut old new = LeftByPowerCut spared ((at old).maildir_at maildir) ((at new).maildir_at maildir) × (at new).honest spared
+
+-- What was written is a prefix of the lines of as many reports as there are first texts, and each of these is delivered in the Maildir, and
+-- survives a power cut.
+pub record PrintedSafely (spared : Spared) (named : List Mailbox) (was is : Option (List ℕ)) (maildir : HeldMaildir) : Type 0 where
+  pub reports : List Report
+  pub lines : AppendsPrefix was is (flat_map report_line reports)
+  pub safe : AreAllSafe spared (take (length reports) named) maildir
 
 -- any sequence of events
 abbrev pub IsHistory : {M : Type 0} → Spared → (M → SeenMachine) → List ℕ → List Mailbox → List Event → M → M → Type 0

@@ -1,4 +1,4 @@
-use Rattle.maildir_commands.proofs.AnyCommands.{safe_since, sound_through, swept_at}
+use Rattle.maildir_commands.proofs.AnyCommands.{printed_since, safe_since, sound_through, swept_at}
 use Rattle.maildir_commands.proofs.laws.after_any_commands.Goals as goal
 
 pub returns-clause-sound : goal.returns-clause-sound
@@ -15,3 +15,8 @@ pub returns-clause-swept : goal.returns-clause-swept
 returns-clause-swept g c = λ spared maildir texts named words before old new h none come.
     swept_at spared g.M.Machine.at (λ machine. g.met.M.Machine.same_maildir machine spared) g.met.M.Machine.same_words maildir texts old new h none named words
     before come
+
+pub returns-clause-printed : goal.returns-clause-printed
+returns-clause-printed g c = λ spared maildir texts named words before rest old mid next new h none come ran more some.
+    printed_since spared g.M.Machine.at (λ machine. g.met.M.Machine.same_maildir machine spared) g.met.M.Machine.same_words maildir texts old new h none
+    named words before rest mid next come ran more some
