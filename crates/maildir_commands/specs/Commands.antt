@@ -1,4 +1,4 @@
--- Any commands that follow one another, with mail readers and power cuts between them, and a Maildir into which several texts go.
+-- Any commands that follow one another, with other programs and power cuts between them, and a Maildir into which several texts go.
 use Rattle.std.specs.Prelude.{◌≡◌, ◌⊎◌, ℕ, List, [], All, Contains, Option, length, take}
 use Rattle.std.specs.List.{flat_map}
 use Rattle.mbox_text.specs.Writing.{AppendsPrefix}
