@@ -9,13 +9,12 @@ use Rattle.std.specs.Str.{bytes_eq}
 use Rattle.maildir_run.specs.MemFiles.{no_files}
 use Rattle.maildir_run.specs.declared.folder.FolderFault.{FolderFault}
 use Rattle.maildir_run.specs.declared.folder.FolderFault.TheVariants.{Failed, OutOfMemory}
-use Rattle.maildir_run.specs.MemFolder.{IsQuiet}
 use Rattle.maildir_disk.specs.declared.faults.OpenFault.TheVariants.{Folder, Locked}
 use Rattle.maildir_memory.specs.declared.mem_system.MemSystem.{MemSystem}
-use Rattle.maildir_memory.specs.MemSystem.{HasNoTurns}
+use Rattle.maildir_memory.specs.MemSystem.{HasNoTurns, IsHonest}
 use Rattle.maildir_memory.specs.declared.mem_machine.NamedText.{NamedText}
 use Rattle.maildir_commands.specs.Machines.{Rests, nothing_held}
-use Rattle.maildir_memory.specs.MemMachines.{AreAll, IsFresh, IsFreshQuietly, IsRefusedAt, held_at, held_under_word, open_in_memory, seen_in_memory}
+use Rattle.maildir_memory.specs.MemMachines.{AreAll, IsFresh, IsFreshFor, IsFreshQuietly, IsRefusedAt, held_at, held_under_word, open_in_memory, seen_in_memory}
 use Rattle.maildir_commands.specs.Opening.{ClosesMaildir, OpensMaildir}
 use Rattle.maildir_commands.proofs.Resting.{rest_same}
 use Rattle.maildir_run.specs.Files.{Spared}
@@ -114,7 +113,7 @@ module _ {X : Type 0} (old new : BTreeMap (String X) (Option MemSystem)) (path :
   puts texts fresh {system} is_put =
       let at : get_by_text new path ≡ Some (Some system) = at_path ∙ ap Some is_put in
       record {
-        honest = λ spared h working. (put_all (λ system. IsQuiet system.folder) h.0 is_put working, h.1);
+        honest = λ spared h working. (put_all (λ system. IsHonest system spared) h.0 is_put working, h.1);
         texts = λ spared h. refl;
         closes = λ spared h is. subst (λ found. Rests spared (held_at (Some (Some system))) (held_at found)) (sym at) rest_same;
         others = λ spared h. others_rest;
@@ -126,12 +125,12 @@ module _ {X : Type 0} (old new : BTreeMap (String X) (Option MemSystem)) (path :
   makes : (texts : List NamedText) (system : MemSystem) (now : Option MemSystem) → now ≡ None → slot ≡ None → get_by_text old path ≡ None
       → OpensMaildir open_in_memory path (Ok system) (seen_in_memory texts old (Some system)) (seen_in_memory texts new now)
   makes texts system now none is_taken missing = record {
-    honest = λ spared h. (still_all h.0 is_taken, subst (λ fresh. IfSome fresh IsFresh) (sym none) tt);
+    honest = λ spared h. (still_all h.0 is_taken, subst (λ fresh. IfSome fresh (IsFreshFor spared)) (sym none) tt);
     texts = λ spared h. refl;
     refusals = λ spared h word refused. refused;
     is_open = λ spared h. subst IsSome (sym at_path) refl;
     works = λ spared h. h.1.honest;
-    opens = λ spared h. subst (λ found. Rests spared (held_at found) (open_in_memory system).held) (sym missing) (rest_fresh h.1);
+    opens = λ spared h. subst (λ found. Rests spared (held_at found) (open_in_memory system).held) (sym missing) (rest_fresh h.1.fresh);
     refused = λ spared h. tt;
     rests = λ spared h. tt;
     others = λ spared h. others_rest;
@@ -170,7 +169,7 @@ module _ {X : Type 0} (texts : List NamedText) (old new : BTreeMap (String X) (O
       → (fault ≡ Failed) ⊎ (fault ≡ OutOfMemory)
       → OpensMaildir open_in_memory path (Err (Folder fault)) (seen_in_memory texts old fresh) (seen_in_memory texts new now)
   makes_none fresh now none missing fault is = record {
-    honest = λ spared h. (same_all (λ system. IsQuiet system.folder) h.0, subst (λ fresh. IfSome fresh IsFresh) (sym none) tt);
+    honest = λ spared h. (same_all (λ system. IsHonest system spared) h.0, subst (λ fresh. IfSome fresh (IsFreshFor spared)) (sym none) tt);
     texts = λ spared h. refl;
     refusals = λ spared h word refused. refused;
     is_open = λ spared h. tt;
@@ -193,7 +192,7 @@ module _ {X : Type 0} (texts : List NamedText) (old new : BTreeMap (String X) (O
   pub puts_none : (fresh : Option MemSystem) (system : MemSystem) → get_by_text old path ≡ None
       → ClosesMaildir path (open_in_memory system) (seen_in_memory texts old fresh) (seen_in_memory texts new fresh)
   puts_none fresh system none = record {
-    honest = λ spared h working. (same_all (λ system. IsQuiet system.folder) h.0, h.1);
+    honest = λ spared h working. (same_all (λ system. IsHonest system spared) h.0, h.1);
     texts = λ spared h. refl;
     closes = λ spared h is. absurd (false≢true (subst IsSome none is));
     others = λ spared h word other. same_rests word;

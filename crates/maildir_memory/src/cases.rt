@@ -1,12 +1,12 @@
 // What a power cut may leave of a Maildir in memory, besides the files as they are.
-ghost use Rattle.std.specs.Prelude.{◌≡◌, ◌<◌, ◌≤◌, ◌↔◌, List, [], Contains, IfErr, OnOk, length};
+ghost use Rattle.std.specs.Prelude.{◌≡◌, ◌<◌, ◌≤◌, ◌↔◌, All, List, [], Contains, IfErr, OnOk, length};
 ghost use Rattle.std.specs.FinMap.{get, keys};
 ghost use Rattle.maildir_run.specs.Calls.{folder_of};
 ghost use Rattle.maildir_run.specs.Calls.Call.{Writing};
 ghost use Rattle.maildir_run.specs.Cuts.{Leaves, Follows};
 ghost use Rattle.maildir_run.specs.Files.{Action, Files, Spared, all_acted};
 ghost use Rattle.maildir_run.specs.MemFolder.{IsQuiet, HasNoScript, SameScript, files_of};
-ghost use Rattle.maildir_run.specs.Script.{all_performed, performed};
+ghost use Rattle.maildir_run.specs.Script.{Spares, all_performed, performed};
 ghost use Rattle.maildir_memory.specs.Private.Cases.{Adds, IsAdded, KeepsCases, Loses, LosesBytes, made, nth_left};
 ghost use Rattle.maildir_memory.specs.Cases.{HasRoom, lefts_of, may_find};
 ghost use Rattle.maildir_disk.specs.PowerCuts.{LeftByOthers};
@@ -128,9 +128,10 @@ impl Cases {
     /// Other programs do this in the folder. A power cut may lose each of their acts, or leave half of it.
     pub(crate) fn act(&mut self, folder: &mut MemFolder, acts: &[Act]) -> Result<(), FolderFault>
         ensures script { SameScript folder.old folder.new }
-        ensures acts { (spared : Spared) →
+        ensures acts { (spared : Spared) → All (Spares spared) acts.now →
             (actions : List Action) × (files_of folder.new ≡ all_acted spared actions (files_of folder.old)) }
-        ensures left { (spared : Spared) → Follows (LeftByOthers spared) (may_find folder.old self.old) (may_find folder.new self.new) }
+        ensures left { (spared : Spared) → All (Spares spared) acts.now →
+            Follows (LeftByOthers spared) (may_find folder.old self.old) (may_find folder.new self.new) }
         ensures keeps { OnOk result (KeepsCases (may_find folder.old self.old) (may_find folder.new self.new) self.old self.new) }
         ensures done { OnOk result (files_of folder.new ≡ all_performed acts.now (files_of folder.old)) }
         ensures refused { IfErr result (λ fault. fault ≡ FolderFault.OutOfMemory) }
@@ -143,9 +144,10 @@ impl Cases {
 
     fn act_once(&mut self, folder: &mut MemFolder, act: &Act) -> Result<(), FolderFault>
         ensures script { SameScript folder.old folder.new }
-        ensures acts { (spared : Spared) →
+        ensures acts { (spared : Spared) → Spares spared act.now →
             (actions : List Action) × (files_of folder.new ≡ all_acted spared actions (files_of folder.old)) }
-        ensures left { (spared : Spared) → Follows (LeftByOthers spared) (may_find folder.old self.old) (may_find folder.new self.new) }
+        ensures left { (spared : Spared) → Spares spared act.now →
+            Follows (LeftByOthers spared) (may_find folder.old self.old) (may_find folder.new self.new) }
         ensures keeps { OnOk result (KeepsCases (may_find folder.old self.old) (may_find folder.new self.new) self.old self.new) }
         ensures done { OnOk result (files_of folder.new ≡ performed act.now (files_of folder.old)) }
         ensures refused { IfErr result (λ fault. fault ≡ FolderFault.OutOfMemory) }

@@ -108,7 +108,7 @@ impl<'a> Machine for MemMachine<'a> {
 
     ghost at = { λ machine. seen_in_memory machine.texts.now machine.maildirs machine.fresh };
 
-    ghost quiet_is_honest = { λ machine _. quiet_in_memory machine.maildirs machine.fresh };
+    ghost quiet_is_honest = { λ machine. quiet_in_memory machine.maildirs machine.fresh };
 
     ghost same_words = { λ _ _ _ _ same. same };
 

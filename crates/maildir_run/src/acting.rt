@@ -66,6 +66,10 @@ impl MemFiles {
                 }
                 Ok(())
             }
+            Act::Delete(sub, name) => {
+                self.remove(*sub, name.as_str());
+                Ok(())
+            }
         }
     }
 

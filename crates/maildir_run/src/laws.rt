@@ -5,8 +5,10 @@ ghost use Rattle.std.specs.List.{list_any};
 ghost use Rattle.std.specs.FinMap.{get};
 ghost use Rattle.maildir_name.specs.declared.target.Place.{Place};
 ghost use Rattle.maildir_name.specs.declared.target.Target.{Target};
+ghost use Rattle.maildir_run.specs.declared.folder.Sub.{Sub};
 ghost use Rattle.maildir_run.specs.declared.folder.Sub.TheVariants as sub;
 ghost use Rattle.maildir_run.specs.declared.report.Report.{Report};
+ghost use Rattle.maildir_run.specs.MemFiles.{without_file};
 ghost use Rattle.maildir_run.specs.Files.{Spared, SparesAll, all_bases, is_spared, is_spared_name};
 ghost use Rattle.maildir_run.specs.Files.{Files, Action, KeepsSpared, acted, all_acted, homes, has_base};
 ghost use Rattle.maildir_run.specs.Files.Action.{Outside};
@@ -48,10 +50,14 @@ pub fn homes_are_kept()
 {}
 
 /// An action outside leaves all names that are spared and their bytes as they are, and each state that leaves them
-/// so is reached by one. Where fewer bases are spared, other programs may do all that they may do where more are.
+/// so is reached by one, as where a file is deleted whose name is not spared. Where fewer bases are spared, other
+/// programs may do all that they may do where more are.
 pub fn outside_actions()
     ensures leaves { (spared : Spared) (files s : Files) → KeepsSpared spared s (acted spared (Outside files) s) }
     ensures reaches { (spared : Spared) (s t : Files) → KeepsSpared spared s t → acted spared (Outside t) s ≡ t }
+    ensures deletes { (spared : Spared) (folder : Sub) (name : List ℕ) (s : Files) →
+        IsFalse (is_spared_name spared name) →
+        acted spared (Outside (without_file folder name s)) s ≡ without_file folder name s }
     ensures fewer { (more fewer : Spared) (action : Action) (s : Files) →
         ((b : List ℕ) → IsTrue (fewer b) → IsTrue (more b)) →
         (other : Action) × (acted fewer other s ≡ acted more action s) }

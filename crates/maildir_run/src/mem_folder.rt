@@ -201,7 +201,9 @@ impl MemFolder {
 impl Folder for MemFolder {
     ghost at = { seen_of };
 
-    ghost quiet_is_honest = { λ _ _ _. tt };
+    ghost use Rattle.maildir_run.specs.MemFolder.{seen_of, quiet_spares};
+
+    ghost quiet_is_honest = { quiet_spares };
 
     fn list(&mut self, sub: Sub) -> Result<Vec<String>, FolderFault>
         ensures lists { ListingOf sub (seen_of self.old) result (seen_of self.new) }

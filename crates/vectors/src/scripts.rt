@@ -15,6 +15,7 @@ pub(crate) enum Deed<'a> {
     DropTmp(&'a str),
     PutOther(Sub, &'a str),
     DropOther(Sub, &'a str),
+    Delete(Sub, &'a str),
 }
 
 // A name, and the one that comes in its place.
@@ -42,6 +43,7 @@ impl Deed<'_> {
             Deed::DropTmp(name) => Ok(Act::DropTmp(String::from_str(alloc, name)?)),
             Deed::PutOther(sub, name) => put_other(alloc, sub, name),
             Deed::DropOther(sub, name) => Ok(Act::DropOther(sub, String::from_str(alloc, name)?)),
+            Deed::Delete(sub, name) => Ok(Act::Delete(sub, String::from_str(alloc, name)?)),
         }
     }
 }

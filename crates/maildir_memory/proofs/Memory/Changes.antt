@@ -1,5 +1,6 @@
 -- Changes of a Maildir in memory: what each may leave, and to which call it belongs.
-use Rattle.std.proofs.Common.{◌≡◌, ◌⊎◌, ◌↔◌, ◌+◌, ◌<◌, ◌≤◌, ℕ, List, [], ◌∷◌, ◌++◌, length, take, Contains, Option, Some, None, Result, Ok, Err, OnOk, OnErr}
+use Rattle.std.proofs.Common.{◌≡◌, ◌⊎◌, ◌↔◌, ◌+◌, ◌<◌, ◌≤◌, ℕ, All, List, [], ◌∷◌, ◌++◌, get_or, length, take, Contains, Option, Some, None, Result, Ok, Err}
+use Rattle.std.proofs.Common.{OnOk, OnErr}
 use Rattle.std.proofs.Common.{refl, sym, ◌∙◌, ap, subst, inl, inr, arith, string_bytes, take-take, rules}
 use Rattle.maildir_memory.proofs.Common.{get, keys, contains_key, contains_key-keys, Sub, Tmp, MemFolder, Call, Listing, Writing, Placing, Removing, Again}
 use Rattle.maildir_memory.proofs.Common.{Torn}
@@ -8,20 +9,25 @@ use Rattle.maildir_memory.proofs.Common.{all_acted, performed, half_performed, l
 use Rattle.maildir_memory.proofs.Common.{IsAdded, KeepsCases, Loses, LosesBytes, made, HasRoom, lefts_of, may_find, KeepsNames, LeftByOthers, World, changed}
 use Rattle.maildir_memory.proofs.Common.{rewritten}
 use Rattle.std.proofs.Math.Seq.{take-append-add}
+use Rattle.std.proofs.lemmas.List.Elements.{All-contains, All-get_or, Contains-append_right}
+use Rattle.maildir_run.proofs.Memory.Scripts.{first_of}
+use Rattle.std.specs.Global.{Vec}
+use Rattle.std.specs.Prelude.{IfSome, option_to_list}
 use Rattle.maildir_run.specs.declared.script.Act.{Act}
 use Rattle.std.specs.declared.time.SystemTime.{SystemTime}
 use Rattle.maildir_disk.specs.SeenSystem.{TakesFromTmp}
 use Rattle.maildir_run.specs.Calls.{CalledQuietly}
-use Rattle.maildir_run.specs.MemFolder.{IsQuiet, lines_of}
+use Rattle.maildir_run.specs.MemFolder.{IsQuiet, SparesByScript, lines_of, quiet_spares}
 use Rattle.maildir_memory.specs.declared.cases.Change.TheVariants.{Place}
 use Rattle.maildir_memory.specs.declared.mem_system.MemSystem.{MemSystem}
-use Rattle.maildir_memory.specs.MemSystem.{may_be_left, MayLose, seen_system}
+use Rattle.maildir_memory.specs.MemSystem.{may_be_left, MayLose, SparesByTurns, seen_system}
 use Rattle.maildir_memory.proofs.Memory.CaseLists.{no_fewer, there_or_added}
 use Rattle.maildir_disk.proofs.Left.Lefts.{leaves_none, leaves_then, left_both, left_early, left_none}
 use Rattle.maildir_disk.proofs.Calls.Passing.{all_acted-append}
 use Rattle.maildir_run.specs.declared.script.Act.TheVariants as act
 use Rattle.maildir_memory.specs.declared.cases.Change.TheVariants as change
 use Rattle.maildir_run.specs.Files.{Spared}
+use Rattle.maildir_run.specs.Script.{Spares}
 
 -- the call that a change belongs to; what other programs do counts as part of a listing
 abbrev pub call_of_change : Change → Call
@@ -42,25 +48,48 @@ half_leaves (act.ToCur name target) = record { kept = Doubled (ToCur (string_byt
 half_leaves (act.Reflag name target) = record { kept = Doubled (Reflag (string_bytes name) (string_bytes target)) ∷ []; are = refl }
 half_leaves other = record { kept = []; are = refl }
 
-pub made_leaves : {spared : Spared} (change : Change) {s : Files} → Leaves spared (call_of_change change) s (made change s)
-made_leaves (Make name) = record { kept = Came Again ∷ []; are = refl }
-made_leaves (Hold name bytes) {s} = held_leaves bytes.now (get s.tmp name.now)
-made_leaves (Place name place target) = record { kept = Came Again ∷ []; are = refl }
-made_leaves (Remove name) = record { kept = Came Again ∷ []; are = refl }
-made_leaves {spared} (change.Other act) {s} = let action = an_action spared act.now s in record { kept = Came (Other action.0) ∷ []; are = action.1 }
-made_leaves (Half act) = half_leaves act.now
+-- other programs' acts among the changes spare these bases
+abbrev pub SparesChange : Spared → Change → Type 0
+SparesChange spared (change.Other act) = Spares spared act.now
+SparesChange spared other = Unit {0}
+
+-- each of some acts that spare these bases
+pub spares_at : (spared : Spared) (acts : List Act) {i : ℕ} (d : Act) {act : Act} → i < length acts → act ≡ get_or acts i d
+    → All (Spares spared) acts → Spares spared act
+spares_at spared acts {i} d lt is spares = subst (Spares spared) (sym is) (All-get_or (Spares spared) acts i d lt spares)
+
+abbrev TurnSpares : Spared → Vec Act → Type 0
+TurnSpares spared turn = All (Spares spared) turn.items
+
+-- of turns that spare these bases, the last one and those before it
+pub turns_spare : (spared : Spared) {turns : List (Vec Act)} (others : List (Vec Act)) (turn : Option (Vec Act)) → turns ≡ others ++ option_to_list turn
+    → SparesByTurns spared turns → SparesByTurns spared others × IfSome turn (TurnSpares spared)
+turns_spare spared others None is spares = (first_of (TurnSpares spared) others [] (subst (SparesByTurns spared) is spares), tt)
+turns_spare spared others (Some turn) is spares =
+    let all = subst (SparesByTurns spared) is spares in
+    let last = Contains-append_right others (turn ∷ []) turn (0, omega arith, refl) in
+    (first_of (TurnSpares spared) others (turn ∷ []) all, All-contains (TurnSpares spared) (others ++ turn ∷ []) turn all last)
+
+pub made_leaves : {spared : Spared} (change : Change) → SparesChange spared change → {s : Files} → Leaves spared (call_of_change change) s (made change s)
+made_leaves (Make name) spares = record { kept = Came Again ∷ []; are = refl }
+made_leaves (Hold name bytes) spares {s} = held_leaves bytes.now (get s.tmp name.now)
+made_leaves (Place name place target) spares = record { kept = Came Again ∷ []; are = refl }
+made_leaves (Remove name) spares = record { kept = Came Again ∷ []; are = refl }
+made_leaves {spared} (change.Other act) spares {s} =
+    let action = an_action spared act.now spares s in record { kept = Came (Other action.0) ∷ []; are = action.1 }
+made_leaves (Half act) spares = half_leaves act.now
 
 -- ---- what a cut may leave
 module _ (change : Change) (folder then : MemFolder) (old new : Cases) (more : Adds (IsAdded change (files_of folder) old) (lefts_of old) (lefts_of new)) where
   -- how a call whose change may be lost leaves the folder
-  pub left_by_change : {spared : Spared} → Leaves spared (call_of_change change) (files_of folder) (files_of then)
+  pub left_by_change : {spared : Spared} → SparesChange spared change → Leaves spared (call_of_change change) (files_of folder) (files_of then)
       → Follows (Leaves spared (call_of_change change)) (may_find folder old) (may_find then new)
-  left_by_change {spared} own left (inl e) = (files_of folder, inl refl, subst (Leaves spared (call_of_change change) (files_of folder)) (sym e) own)
-  left_by_change {spared} own left (inr has) =
+  left_by_change {spared} spares own left (inl e) = (files_of folder, inl refl, subst (Leaves spared (call_of_change change) (files_of folder)) (sym e) own)
+  left_by_change {spared} spares own left (inr has) =
       elim (there_or_added more has) [
         | inl before ↦ (left, inr before, leaves_none)
         | inr (inl now) ↦ (left, inl now, leaves_none)
-        | inr (inr (was, had, is)) ↦ (was, inr had, subst (Leaves spared (call_of_change change) was) (sym is) (made_leaves change))
+        | inr (inr (was, had, is)) ↦ (was, inr had, subst (Leaves spared (call_of_change change) was) (sym is) (made_leaves change spares))
       ]
 
   pub lost_there : Loses change (files_of folder) old new → (left : Files) → may_find folder old left → may_find then new left
@@ -82,19 +111,20 @@ called_leaves {spared} {call = call} {a} (Err e) {b} h = leaves_moves spared cal
 
 -- ---- calls
 -- a change after other programs acted, with the result of its call
-pub left_made : {spared : Spared} {A E : Type 0} (change : Change) {before : Files → Type 0} (folder then : MemFolder) (old new : Cases) (outcome : Result A E)
+pub left_made : {spared : Spared} {A E : Type 0} (change : Change) → SparesChange spared change
+    → {before : Files → Type 0} (folder then : MemFolder) (old new : Cases) (outcome : Result A E)
     → Follows (LeftByOthers spared) before (may_find folder old) → Adds (IsAdded change (files_of folder) old) (lefts_of old) (lefts_of new)
     → Called spared (call_of_change change) (files_of folder) outcome (files_of then)
     → Follows (Leaves spared (call_of_change change)) before (may_find then new)
-left_made change folder then old new outcome first more called =
-    left_both (left_early first) (left_by_change change folder then old new more (called_leaves outcome called))
+left_made change spares folder then old new outcome first more called =
+    left_both (left_early first) (left_by_change change folder then old new more spares (called_leaves outcome called))
 
 -- a call that made no change
-pub left_unmade : {spared : Spared} (change : Change) {before : Files → Type 0} (folder : MemFolder) (old new : Cases)
+pub left_unmade : {spared : Spared} (change : Change) → SparesChange spared change → {before : Files → Type 0} (folder : MemFolder) (old new : Cases)
     → Follows (LeftByOthers spared) before (may_find folder old)
     → Adds (IsAdded change (files_of folder) old) (lefts_of old) (lefts_of new) → Follows (Leaves spared (call_of_change change)) before (may_find folder new)
-left_unmade change folder old new first more =
-    left_both (left_early first) (left_by_change change folder folder old new more leaves_none)
+left_unmade change spares folder old new first more =
+    left_both (left_early first) (left_by_change change folder folder old new more spares leaves_none)
 
 -- only the script of the folder changed
 pub same_found : {of : Files → Files → Type 0} (folder same : MemFolder) (cases : Cases) {now : Files → Type 0}
@@ -117,16 +147,18 @@ lost change mid {new} keeps more room loses is has =
     }
 
 -- the folder made a change
-pub taken : {A E : Type 0} (change : Change) (old : MemSystem) (folder : MemFolder) (cases : Cases) (stamp : SystemTime) (calls : ℕ)
+pub taken : {A E : Type 0} (change : Change) → ((spared : Spared) → SparesChange spared change)
+    → (old : MemSystem) (folder : MemFolder) (cases : Cases) (stamp : SystemTime) (calls : ℕ)
     (result : Result A E) → lines_of folder ≡ lines_of old.folder → Adds (IsAdded change (files_of old.folder) old.cases) (lefts_of old.cases) (lefts_of cases)
-    → ((spared : Spared) → Called spared (call_of_change change) (files_of old.folder) result (files_of folder))
+    → ((spared : Spared) → SparesByScript spared old.folder → Called spared (call_of_change change) (files_of old.folder) result (files_of folder))
     → (IsQuiet old.folder → CalledQuietly (call_of_change change) (files_of old.folder) result (files_of folder))
     → TakesFromTmp (call_of_change change) (seen_system old) result
     (seen_system (record old { folder = folder; cases = cases; stamp = stamp; calls_left = calls }))
-taken change old folder cases stamp calls result lines more called quietly = record {
-  honest = λ spared h. lines ∙ h;
-  called = λ spared h. called spared;
-  left = λ spared h. left_made change old.folder folder old.cases cases result left_none more (called spared);
+taken change spares old folder cases stamp calls result lines more called quietly = record {
+  honest = λ spared h. record { no_script = lines ∙ h.no_script; spares = h.spares };
+  called = λ spared h. called spared (quiet_spares old.folder spared h.no_script);
+  left = λ spared h.
+      left_made change (spares spared) old.folder folder old.cases cases result left_none more (called spared (quiet_spares old.folder spared h.no_script));
   still_rooted = λ spared h rooted. rooted;
   touches = λ name now. inr tt;
   quiet = λ q. record { no_script = lines ∙ q.no_script; no_turns = q.no_turns };
@@ -178,15 +210,16 @@ bytes_lost mid new keeps longer room loses has above below = record {
 }
 
 -- another program's act, or what it leaves if an allocation failed
-pub acts_of_act : (spared : Spared) {E : Type 0} (a : Act) (old : Files) (outcome : Result (Unit {0}) E) {new : Files}
+pub acts_of_act : (spared : Spared) {E : Type 0} (a : Act) → Spares spared a → (old : Files) (outcome : Result (Unit {0}) E) {new : Files}
     → OnOk outcome (new ≡ performed a old) → OnErr outcome (new ≡ old) → (actions : List Action) × (new ≡ all_acted spared actions old)
-acts_of_act spared a old (Ok x) ok err = let action = an_action spared a old in (action.0 ∷ [], ok ∙ action.1)
-acts_of_act spared a old (Err e) ok err = ([], err)
+acts_of_act spared a spares old (Ok x) ok err = let action = an_action spared a spares old in (action.0 ∷ [], ok ∙ action.1)
+acts_of_act spared a spares old (Err e) ok err = ([], err)
 
-pub acted_leaves : {spared : Spared} {E : Type 0} (a : Act) {old : Files} (outcome : Result (Unit {0}) E) {new : Files}
+pub acted_leaves : {spared : Spared} {E : Type 0} (a : Act) → Spares spared a → {old : Files} (outcome : Result (Unit {0}) E) {new : Files}
     → OnOk outcome (new ≡ performed a old) → OnErr outcome (new ≡ old) → Leaves spared (Listing Tmp) old new
-acted_leaves {spared} a {old} (Ok x) ok err = let action = an_action spared a old in record { kept = Came (Other action.0) ∷ []; are = ok ∙ action.1 }
-acted_leaves a (Err e) ok err = record { kept = []; are = err }
+acted_leaves {spared} a spares {old} (Ok x) ok err =
+    let action = an_action spared a spares old in record { kept = Came (Other action.0) ∷ []; are = ok ∙ action.1 }
+acted_leaves a spares (Err e) ok err = record { kept = []; are = err }
 
 pub actions_then : (spared : Spared) {a b c : Files} → (actions : List Action) × (b ≡ all_acted spared actions a)
     → (actions : List Action) × (c ≡ all_acted spared actions b) → (actions : List Action) × (c ≡ all_acted spared actions a)

@@ -16,17 +16,18 @@ use Rattle.maildir_run.specs.declared.folder.FolderFault.{FolderFault}
 use Rattle.maildir_memory.proofs.Common.{Call, Cases, Files, Follows, Leaves, lefts_of, Listing, MemFolder, Passes, Sub, Writing, files_of, may_find}
 use Rattle.maildir_memory.proofs.Memory.Changes.{left_stayed, same_found}
 use Rattle.maildir_memory.specs.declared.mem_system.MemSystem.{MemSystem}
-use Rattle.maildir_memory.specs.MemSystem.{HasNoTurns, may_be_left, seen_system, world_of}
+use Rattle.maildir_memory.specs.MemSystem.{HasNoTurns, IsHonest, SparesByTurns, may_be_left, seen_system, world_of}
 use Rattle.maildir_memory.specs.Private.Turns.{OthersAct}
 use Rattle.maildir_run.specs.Files.{Spared}
 
 -- others had their turn, and nothing else happened
-pub looks_short : {A E : Type 0} {old new : MemSystem} {result : Result A E} → OthersAct old result new → (HasNoTurns old → HasNoTurns new)
+pub looks_short : {A E : Type 0} {old new : MemSystem} {result : Result A E} → OthersAct (λ spared. SparesByTurns spared old.turns.items) old result new
+    → (HasNoTurns old → HasNoTurns new)
     → (HasNoTurns old → SameFiles (world_of old) (world_of new)) → Looks (seen_system old) (seen_system new)
 looks_short did quiet quietly = record {
-  honest = λ spared. did.honest;
-  acts = λ spared h. did.acts spared;
-  left = λ spared h. did.left spared;
+  honest = λ spared h. record { no_script = did.honest h.no_script; spares = did.still spared h.spares };
+  acts = λ spared h. did.acts spared h.spares;
+  left = λ spared h. did.left spared h.spares;
   still_rooted = λ spared h rooted. rw did.root rooted;
   touches = λ name now. tt;
   quiet = quiet;
@@ -36,7 +37,7 @@ looks_short did quiet quietly = record {
 -- a call begins
 pub looks_begun : (old : MemSystem) (calls : ℕ) → Looks (seen_system old) (seen_system (record old { calls_left = calls }))
 looks_begun old calls = record {
-  honest = λ spared h. h;
+  honest = λ spared h. record { no_script = h.no_script; spares = h.spares };
   acts = λ spared h. record { actions = []; files_are = refl };
   left = λ spared h. left_none;
   still_rooted = λ spared h rooted. rooted;
@@ -50,7 +51,7 @@ pub looks_stayed : (P : Files → Type 0) (old : MemSystem) (cases : Cases)
     → ((left : Files) → Contains (lefts_of cases) left ↔ (Contains (lefts_of old.cases) left × P left))
     → Looks (seen_system old) (seen_system (record old { cases = cases }))
 looks_stayed P old cases stays = record {
-  honest = λ spared h. h;
+  honest = λ spared h. record { no_script = h.no_script; spares = h.spares };
   acts = λ spared h. record { actions = []; files_are = refl };
   left = λ spared h. left_stayed P old.folder old.cases cases stays;
   still_rooted = λ spared h rooted. rooted;
@@ -74,9 +75,9 @@ asked looks = record {
 pub looks_same : (old : MemSystem) (folder : MemFolder) → lines_of folder ≡ lines_of old.folder
     → (IsQuiet old.folder → files_of folder ≡ files_of old.folder) → Looks (seen_system old) (seen_system (record old { folder = folder }))
 looks_same old folder lines same = record {
-  honest = λ spared h. lines ∙ h;
-  acts = λ spared h. record { actions = []; files_are = same h };
-  left = λ spared h. same_found old.folder folder old.cases (same h) left_none;
+  honest = λ spared h. record { no_script = lines ∙ h.no_script; spares = h.spares };
+  acts = λ spared h. record { actions = []; files_are = same h.no_script };
+  left = λ spared h. same_found old.folder folder old.cases (same h.no_script) left_none;
   still_rooted = λ spared h rooted. rooted;
   touches = λ name now. tt;
   quiet = λ q. record { no_script = lines ∙ q.no_script; no_turns = q.no_turns };
@@ -91,12 +92,13 @@ passes_same sub old folder same = record { acts = record { actions = []; files_a
 pub reads : {A E F : Type 0} (old new : MemSystem) (folder : MemFolder) (sub : Sub) (listed : Vec (String Global) Global) {passed : Result A F}
     (result : Result (Vec (String Global) Global) E) → lines_of folder ≡ lines_of old.folder
     → (IsQuiet old.folder → CalledQuietly {E = FolderFault} (Listing sub) (files_of old.folder) (Ok listed) (files_of folder))
-    → OthersAct (record old { folder = folder }) passed new → Looks (seen_system (record old { folder = folder })) (seen_system new)
-    → ((spared : Spared) → IsQuiet old.folder → IfOk result (λ names. ReadsNames sub (world_of old) (names_of names) (world_of new)))
+    → OthersAct (λ spared. SparesByTurns spared old.turns.items) (record old { folder = folder }) passed new
+    → Looks (seen_system (record old { folder = folder })) (seen_system new)
+    → ((spared : Spared) → IsHonest old spared → IfOk result (λ names. ReadsNames sub (world_of old) (names_of names) (world_of new)))
     → (HasNoTurns old → IfOk result (AreNames sub (files_of old.folder))) → ReadsFolder sub (seen_system old) result (seen_system new)
 reads old new folder sub listed result lines quietly others looks names exact = record {
   looks = looks_then (looks_same old folder lines (λ h. (quietly h).1)) looks;
-  passes = λ spared h. passes_on (passes_same sub old folder (quietly h).1) (others.passes spared sub);
+  passes = λ spared h. passes_on (passes_same sub old folder (quietly h.no_script).1) (others.passes spared h.spares sub);
   names = names;
   exact = exact;
 }
@@ -125,11 +127,12 @@ fails_early looks = record {
 -- the folder has another script, other cases may be left, and the folders were stamped
 pub fails : {call : Call} (old mid : MemSystem) (folder : MemFolder) (cases : Cases) (stamp : SystemTime) (calls : ℕ)
     → Looks (seen_system old) (seen_system mid) → (IsQuiet mid.folder → IsQuiet folder) → (IsQuiet mid.folder → files_of folder ≡ files_of mid.folder)
-    → ((spared : Spared) → IsQuiet old.folder → Follows (Leaves spared call) (may_be_left old) (may_find folder cases))
+    → ((spared : Spared) → IsHonest old spared → Follows (Leaves spared call) (may_be_left old) (may_find folder cases))
     → Fails call (seen_system old) (seen_system (record mid { folder = folder; cases = cases; stamp = stamp; calls_left = calls }))
 fails old mid folder cases stamp calls looks script same left = record {
-  honest = λ spared h. script (looks.honest spared h);
-  acts = λ spared h. let acts = looks.acts spared h in record { actions = acts.actions; files_are = same (looks.honest spared h) ∙ acts.files_are };
+  honest = λ spared h. let on = looks.honest spared h in record { no_script = script on.no_script; spares = on.spares };
+  acts = λ spared h.
+      let acts = looks.acts spared h in record { actions = acts.actions; files_are = same (looks.honest spared h).no_script ∙ acts.files_are };
   left = left;
   still_rooted = looks.still_rooted;
   touches = looks.touches;

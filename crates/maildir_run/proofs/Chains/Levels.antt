@@ -151,7 +151,7 @@ module _ {spared : Spared} (d : Message) (ms : List Message) (b : List ℕ) (num
   -- a message without a home has none after it with one that came
   none_later : (x : List ℕ) (o : OfBody d ms b x) → IsTrue (is_spared spared x) → take 64 x ≡ digest_text b → risen.j ≤ o.k → homes new x ≡ []
   none_later x o named digits ge =
-      let sp = (and_parts _ _ named).0 in
+      let sp : IsTrue (spared x) = (and_parts _ _ named).0 in
       let at_end = lacks_it (numbered b (risen.j + 1)) (risen.ends (omega (arith, ge, o.below, risen.from))) in
       let none = at_end.0 in
       elim (cases_lt risen.j o.k) [

@@ -17,7 +17,7 @@ use Rattle.maildir_run.proofs.Call.Moves.{homes_none, homes_one}
 use Rattle.maildir_run.proofs.Chains.MessageLemmas.{text_named}
 use Rattle.maildir_run.proofs.Chains.BaseNumbers.{has_digest_of, with_digest, count-cons, count-taken, text_numbered, text_few}
 use Rattle.maildir_run.proofs.Chains.Levels.{Level, Rise, home_level, sound_level, rise}
-use Rattle.maildir_run.proofs.Common.{Spared, is_spared, AllSpared, base}
+use Rattle.maildir_run.proofs.Common.{Spared, is_spared, AllSpared}
 
 -- ---- a count of bodies is one of digests
 same_test : (b : List ℕ) (m : Message) → (digest_text m.body ≡ digest_text b → m.body ≡ b) → same_digest b m.body ≡ bytes_eq b m.body

@@ -3,7 +3,7 @@ use Rattle.std.proofs.Common.{Option, Some, None, ◌≡◌, ℕ, ◌≤◌, Boo
 use Rattle.std.proofs.Common.{IsFalse, IsTrue, refl, sym, ap, subst, ◌∙◌, inl, inr, arith, append_assoc, length-append, filter, append-nil}
 use Rattle.maildir_run.proofs.Common.{get, keys, cases_Bool, get_or-append_seam, get_or_append_left, All-head, All-tail, any-filter_same}
 use Rattle.maildir_run.proofs.Common.{Target, is_converter_name, RunFault, filled, added, Call, Listing, Writing, Placing, Removing, AnyMoves}
-use Rattle.maildir_run.proofs.Common.{OneTouches, Touches, Spared, SparesAll, AllSpared, IsSpared, and_parts, base}
+use Rattle.maildir_run.proofs.Common.{OneTouches, Touches, Spared, SparesAll, AllSpared, IsSpared, and_parts}
 use Rattle.maildir_run.proofs.Common.{PlacesElsewhere, IsSwept, Message, IsMissing, IsHome, IsSoundAt, AreNamed, AreDistinct, has_home}
 use Rattle.maildir_run.proofs.Common.{leftover_count, Files, is_name, is_listed, KeepsHomes, TmpWithin, DeliversMessage}
 use Rattle.maildir_run.proofs.Common.{Progress, Knows, IsTarget, KeepsForeign, Task, Ask, Do, call_of, Done, Way, honestly, quietly, AllDone}

@@ -4,6 +4,7 @@ use Rattle.maildir_memory.proofs.Common.{HasRoom, LosesBytes, changed, opened_as
 use Rattle.maildir_memory.proofs.Memory.Changes.{bytes_lost, called_leaves, left_of_bytes, prefix_of_appended}
 use Rattle.maildir_memory.proofs.Memory.Looking.{fails, fails_early, not_appended}
 use Rattle.maildir_memory.specs.MemSystem.{MayLose}
+use Rattle.maildir_run.specs.MemFolder.{quiet_spares}
 use Rattle.maildir_disk.proofs.Left.Lefts.{if_ok, left_early, leaves_none, leaves_torn}
 use Rattle.maildir_memory.proofs.mem_system.MemSystemSystem.append.Goals as goal
 
@@ -41,12 +42,15 @@ returns-in-Ok-clause-appends c =
     let looks = c.pass_shortly.ensures.looks in
     let lines = c.write.ensures.scripted.script.lines in
     record {
-      honest = λ spared honest. lines ∙ looks.honest spared honest;
+      honest = λ spared honest. let still = looks.honest spared honest in record { no_script = lines ∙ still.no_script; spares = still.spares };
       appended = λ spared h current. let acts = looks.acts spared h in record { before = acts.actions; rest = []; left = grind arith };
-      left = λ spared honest.
-          let written = rw (c.as_str-3.ensures.value) at (leaves_torn {bytes = []} (called_leaves _ (c.write.ensures.writes.called spared tt))) in
+      left = λ spared h.
+          let written =
+          rw (c.as_str-3.ensures.value) at
+          (leaves_torn {bytes = []}
+          (called_leaves _ (c.write.ensures.writes.called spared (quiet_spares mid.folder spared (looks.honest spared h).no_script)))) in
           let bytes = rw (c.as_str-2.ensures.value) at (c.may_lose_bytes.ensures.left spared) in
-          left_of_bytes mid.folder c.write.new.self mid.cases c.may_lose_bytes.new.self (looks.left spared honest) bytes written;
+          left_of_bytes mid.folder c.write.new.self mid.cases c.may_lose_bytes.new.self (looks.left spared h) bytes written;
       still_rooted = looks.still_rooted;
       touches = looks.touches;
       quiet = λ quiet. let still = looks.quiet quiet in record { no_script = lines ∙ still.no_script; no_turns = still.no_turns };
@@ -84,6 +88,8 @@ returns-clause-appends c =
     (fails c.args.self.now mid c.write.new.self c.may_lose_bytes.new.self mid.stamp mid.calls_left looks
     (λ h. c.write.ensures.scripted.script.lines ∙ h) (λ h. quiet_fault _ _ _ _ h c.in-Err.ensures.scripted)
     (λ spared h.
-    let written = rw (c.as_str-3.ensures.value) at (leaves_torn {bytes = []} (called_leaves _ (c.write.ensures.writes.called spared tt))) in
+    let written =
+    rw (c.as_str-3.ensures.value) at
+    (leaves_torn {bytes = []} (called_leaves _ (c.write.ensures.writes.called spared (quiet_spares mid.folder spared (looks.honest spared h).no_script)))) in
     let bytes = rw (c.as_str-2.ensures.value) at (c.may_lose_bytes.ensures.left spared) in
     left_of_bytes mid.folder c.write.new.self mid.cases c.may_lose_bytes.new.self (looks.left spared h) bytes written))
