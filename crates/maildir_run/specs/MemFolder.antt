@@ -1,7 +1,5 @@
 -- What a folder in memory shows.
-use Rattle.std.specs.Prelude.{◌≡◌, ◌⊎◌, ℕ, ◌+◌, ◌-◌, ◌^◌, min, List, [], All, Option, IsFalse, Result, IsErrOf}
-use Rattle.std.proofs.Common.{subst, sym}
-use Rattle.std.proofs.lemmas.List.Elements.{All-nil}
+use Rattle.std.specs.Prelude.{◌≡◌, ◌⊎◌, ℕ, ◌+◌, ◌-◌, ◌^◌, min, List, [], Option, IsFalse, Result, IsErrOf}
 use Rattle.maildir_run.specs.declared.folder.FolderFault.{FolderFault}
 use Rattle.maildir_run.specs.declared.folder.FolderFault.TheVariants.{OutOfMemory}
 use Rattle.maildir_run.specs.declared.mem_folder.MemFolder.{MemFolder}
@@ -10,10 +8,10 @@ use Rattle.maildir_run.specs.declared.script.Mode.{Mode}
 use Rattle.maildir_run.specs.declared.script.Mode.TheVariants.{Plain}
 use Rattle.maildir_run.specs.declared.script.ScriptLine.{ScriptLine}
 use Rattle.maildir_run.specs.Calls.{Call}
-use Rattle.maildir_run.specs.Files.{Files, Spared}
+use Rattle.maildir_run.specs.Files.{Files}
 use Rattle.maildir_run.specs.MemFiles.{files_in}
 use Rattle.maildir_run.specs.Seen.{Seen}
-use Rattle.maildir_run.specs.Script.{is_from, mode_of, acts_at, all_performed, Answers, IsCutShort, Spares}
+use Rattle.maildir_run.specs.Script.{is_from, mode_of, acts_at, all_performed, Answers, IsCutShort}
 
 -- its files
 abbrev pub files_of : MemFolder → Files
@@ -98,18 +96,10 @@ pub record Scripted {A : Type 0} (call : Call) (old : MemFolder) (result : Resul
   pub script : SameScript old new
   pub told : CountsCall old new
 
--- the acts of its script spare these bases
-abbrev pub SparesByScript : Spared → MemFolder → Type 0
-SparesByScript spared m = All (λ line. All (Spares spared) line.acts.items) (lines_of m)
-
--- where its script has no line, they spare all (a proof of a law of the trait `Folder`)
-pub quiet_spares : (m : MemFolder) (spared : Spared) → IsQuiet m → SparesByScript spared m
-quiet_spares m spared quiet = subst (All (λ line. All (Spares spared) line.acts.items)) (sym quiet) (All-nil (λ line. All (Spares spared) line.acts.items))
-
 -- what is seen of it as of any folder: it takes effect as reported, and a power cut takes nothing from it
 abbrev pub seen_of : MemFolder → Seen
 seen_of m = record {
-  honest = λ spared. SparesByScript spared m;
+  honest = λ _. Unit {0};
   quiet = IsQuiet m;
   files = files_of m;
   may_leave = λ left. left ≡ files_of m;

@@ -9,7 +9,7 @@ use Rattle.maildir_run.specs.declared.script.Act.TheVariants as act
 use Rattle.maildir_run.specs.declared.script.Mode.{Mode}
 use Rattle.maildir_run.specs.declared.script.Mode.TheVariants.{Plain, FailBefore, FailAfter, Half, Twice}
 use Rattle.maildir_run.specs.declared.script.ScriptLine.{ScriptLine}
-use Rattle.maildir_run.specs.Files.{Files, ToCur, Reflag, DropTmp, Spared, acted, all_bases, is_spared_name}
+use Rattle.maildir_run.specs.Files.{Files, ToCur, Reflag, DropTmp, acted, all_bases}
 use Rattle.maildir_run.specs.Cuts.{doubled}
 use Rattle.maildir_run.specs.Calls.{Call, Writing, Placing, Removing, effect, torn, IsReady}
 use Rattle.maildir_run.specs.MemFiles.{with_file, without_file}
@@ -21,12 +21,6 @@ performed (act.Reflag name target) s = acted all_bases (Reflag (string_bytes nam
 performed (act.DropTmp name) s = acted all_bases (DropTmp (string_bytes name)) s
 performed (act.PutOther sub name bytes) s = if is_converter_name (string_bytes name) then s else with_file sub (string_bytes name) bytes.items s
 performed (act.DropOther sub name) s = if is_converter_name (string_bytes name) then s else without_file sub (string_bytes name) s
-performed (act.Delete sub name) s = without_file sub (string_bytes name) s
-
--- the act spares these bases
-abbrev pub Spares : Spared → Act → Type 0
-Spares spared (act.Delete sub name) = IsFalse (is_spared_name spared (string_bytes name))
-Spares spared other = Unit {0}
 
 -- the files after half of an act: a file that is moved is under both names, and of any other act half is nothing
 abbrev pub half_performed : Act → Files → Files

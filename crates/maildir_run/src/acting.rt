@@ -66,10 +66,6 @@ impl MemFiles {
                 }
                 Ok(())
             }
-            Act::Delete(sub, name) => {
-                self.remove(*sub, name.as_str());
-                Ok(())
-            }
         }
     }
 

@@ -1,5 +1,5 @@
 //! Laws over the definitions alone. Each function's contract is a law; its body is empty.
-ghost use Rattle.std.specs.Prelude.{◌≡◌, ◌↔◌, ℕ, map, ◌<◌, ◌≤◌, ◌+◌, ◌%◌, ◌^◌, length, List, [], ◌∷◌};
+ghost use Rattle.std.specs.Prelude.{◌≡◌, ◌↔◌, ℕ, map, ◌<◌, ◌≤◌, ◌+◌, ◌-◌, ◌%◌, ◌^◌, length, List, [], ◌∷◌};
 ghost use Rattle.std.specs.Prelude.{◌++◌, Some, Ok, All, Contains, IsTrue, IsFalse, IsPermutation};
 ghost use Rattle.std.specs.List.{list_any};
 ghost use Rattle.std.specs.FinMap.{get};
@@ -14,10 +14,10 @@ ghost use Rattle.maildir_run.specs.Files.{Files, Action, KeepsSpared, acted, all
 ghost use Rattle.maildir_run.specs.Files.Action.{Outside};
 ghost use Rattle.maildir_run.specs.Calls.{Call, Move, after, Lists, Succeeded, PlacesElsewhere, WritesElsewhere, StaysOrGoes, NoneOrOne};
 ghost use Rattle.maildir_run.specs.Calls.Call.{Placing};
-ghost use Rattle.maildir_run.specs.Delivery.{Message, leftover_count, IsMissing, IsHome, IsSoundAt, AllSpared};
+ghost use Rattle.maildir_run.specs.Delivery.{Message, leftover_count, there_count, IsMissing, IsHome, IsSoundAt, IsSpared, AllSpared};
 ghost use Rattle.maildir_run.specs.Delivery.{AreNamed, AreDistinct, Sound, Delivered};
 ghost use Rattle.maildir_run.specs.Texts.{MessagesOf};
-ghost use Rattle.maildir_run.specs.Runs.{CountsRun, Link, IsRun, Runs};
+ghost use Rattle.maildir_run.specs.Runs.{CountsRun, Link, IsRun, ReportsMessages, Runs};
 ghost use Rattle.maildir_run.specs.Several.{Mailbox, IsMailbox, OfEach, SoundForAll, LinkOver};
 ghost use Rattle.maildir_run.specs.Several.{RunsOver, link_over, link_of, AreFresh, StandsAfter};
 ghost use Rattle.maildir_run.specs.Several.LinkOver.{RanOver};
@@ -147,11 +147,14 @@ pub fn one_text()
         Runs spared text.bytes links old new → RunsOver spared (text ∷ []) (map (link_over text) links) old new }
 {}
 
-/// Of the set of all bases each message is spared.
+/// Of the set of all bases each message is spared, and a report is exact.
 pub fn all_are_spared()
+    ensures spared { (ms : List Message) → All (IsSpared all_bases) ms }
     ensures home { (ms : List Message) (s : Files) → AllSpared all_bases (IsHome s) ms ↔ All (IsHome s) ms }
     ensures missing { (ms : List Message) (s : Files) → AllSpared all_bases (IsMissing s) ms ↔ All (IsMissing s) ms }
     ensures sound { (ms : List Message) (s : Files) → AllSpared all_bases (IsSoundAt s) ms ↔ All (IsSoundAt s) ms }
+    ensures reports { (ms : List Message) (s : Files) (report : Report) → ReportsMessages all_bases ms s report →
+        (report.there ≡ there_count s ms) × (report.placed ≡ length ms - there_count s ms) × (report.swept ≤ leftover_count s) }
 {}
 
 /// If the messages are delivered, a quiet run changes no file, and a run that returns Ok places nothing, sweeps nothing

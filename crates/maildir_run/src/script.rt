@@ -17,8 +17,6 @@ pub enum Act {
     PutOther(Sub, String, Vec<u8>),
     /// Removes a file whose name is not a converter's.
     DropOther(Sub, String),
-    /// Deletes a file, whatever its name: a message of a converter's too, whose base is not spared then.
-    Delete(Sub, String),
 }
 
 /// What becomes of a call.

@@ -1,9 +1,9 @@
 -- What a script makes of a folder in memory is what other programs and a call may do.
-use Rattle.std.proofs.Common.{◌≡◌, ℕ, Bool, true, false, cond, List, [], ◌∷◌, ◌++◌, length, take, drop, get_or, ◌<◌, ◌+◌, ◌==◌, map, Option, All, IsTrue, subst}
+use Rattle.std.proofs.Common.{◌≡◌, ℕ, Bool, true, false, cond, List, [], ◌∷◌, ◌++◌, length, take, drop, get_or, ◌<◌, ◌+◌, ◌==◌, map, Option, IsTrue, ◌&&◌}
 use Rattle.std.proofs.Common.{Some, None, Result, Ok, Err, OnErr, string_bytes, ◌/◌}
 use Rattle.std.proofs.Common.{append-nil, refl, sym, ap, ◌∙◌, inl, inr, append_assoc, suc, arith, take-append-drop, is_some, bytes_eq}
 use Rattle.maildir_run.proofs.Common.{drop-cons, false_from_ne_true, take_more, insert, remove, get, keys, contains_key, Spared, all_bases}
-use Rattle.maildir_run.proofs.Common.{base, is_converter_name, Sub, Tmp, New, Cur, FolderFault, Mode, Plain, FailBefore, FailAfter, Half}
+use Rattle.maildir_run.proofs.Common.{base, is_converter_name, is_spared_name, Sub, Tmp, New, Cur, FolderFault, Mode, Plain, FailBefore, FailAfter, Half}
 use Rattle.maildir_run.proofs.Common.{Twice, Files, FileMap, Action, ToCur, Reflag, DropTmp, Outside, acted, all_acted, is_name, may_take}
 use Rattle.maildir_run.proofs.Common.{AgreeOnSpared, KeepsSpared, Call, Listing, Writing, Move, Other, Again, Torn}
 use Rattle.maildir_run.proofs.Common.{after, IsOthers, IsWhole, folder_of, AnyMoves, Lists, Called, linked, with_file}
@@ -16,39 +16,31 @@ use Rattle.maildir_run.proofs.Call.Moves.{after-append}
 use Rattle.maildir_run.proofs.Call.Outsiders.{outside_reaches}
 use Rattle.maildir_run.specs.declared.folder.FolderFault.TheVariants as fault
 use Rattle.maildir_run.specs.declared.script.Act.TheVariants as act
-use Rattle.std.proofs.lemmas.List.Elements.{All-append}
-use Rattle.maildir_run.specs.Script.{Spares}
-use Rattle.maildir_run.proofs.Common.{All-head, All-tail, All-nil, All-cons, is_spared_name}
 
 -- ---- acts are actions of other programs
 set_agrees : (spared : Spared) (m : FileMap) (k v : List ℕ) → is_converter_name k ≡ false → AgreeOnSpared spared m (insert m k v)
 set_agrees spared m k v off = λ q ours. grind (arith, get_inserted, alike is_converter_name q k)
-
-removed_agrees : (spared : Spared) (m : FileMap) (k : List ℕ) → is_converter_name k ≡ false → AgreeOnSpared spared m (remove m k)
-removed_agrees spared m k off = λ q ours. grind (arith, get_removed, alike is_converter_name q k)
 
 with_leaves : (spared : Spared) (sub : Sub) (k v : List ℕ) (s : Files) → is_converter_name k ≡ false → KeepsSpared spared s (with_file sub k v s)
 with_leaves spared Tmp k v s off = grind (arith, set_agrees)
 with_leaves spared New k v s off = grind (arith, set_agrees)
 with_leaves spared Cur k v s off = grind (arith, set_agrees)
 
-without_leaves : (spared : Spared) (sub : Sub) (k : List ℕ) (s : Files) → is_converter_name k ≡ false → KeepsSpared spared s (without_file sub k s)
-without_leaves spared Tmp k s off = grind (arith, removed_agrees)
-without_leaves spared New k s off = grind (arith, removed_agrees)
-without_leaves spared Cur k s off = grind (arith, removed_agrees)
-
--- a file is deleted whose name is not spared
+-- a file is removed whose name is not spared
 apart_name : (spared : Spared) (k q : List ℕ) → is_spared_name spared k ≡ false → IsTrue (is_spared_name spared q) → is_name q k ≡ false
 apart_name spared k q off on =
     false_from_ne_true (is_name q k) (λ e. let same : is_spared_name spared q ≡ is_spared_name spared k = alike (is_spared_name spared) q k e in cc)
 
-deleted_agrees : (spared : Spared) (m : FileMap) (k : List ℕ) → is_spared_name spared k ≡ false → AgreeOnSpared spared m (remove m k)
-deleted_agrees spared m k off = λ q ours. grind (arith, get_removed, apart_name)
+removed_agrees : (spared : Spared) (m : FileMap) (k : List ℕ) → is_spared_name spared k ≡ false → AgreeOnSpared spared m (remove m k)
+removed_agrees spared m k off = λ q ours. grind (arith, get_removed, apart_name)
 
-pub deleted_leaves : (spared : Spared) (sub : Sub) (k : List ℕ) (s : Files) → is_spared_name spared k ≡ false → KeepsSpared spared s (without_file sub k s)
-deleted_leaves spared Tmp k s off = grind (arith, deleted_agrees)
-deleted_leaves spared New k s off = grind (arith, deleted_agrees)
-deleted_leaves spared Cur k s off = grind (arith, deleted_agrees)
+pub without_leaves : (spared : Spared) (sub : Sub) (k : List ℕ) (s : Files) → is_spared_name spared k ≡ false → KeepsSpared spared s (without_file sub k s)
+without_leaves spared Tmp k s off = grind (arith, removed_agrees)
+without_leaves spared New k s off = grind (arith, removed_agrees)
+without_leaves spared Cur k s off = grind (arith, removed_agrees)
+
+foreign_apart : (spared : Spared) (k : List ℕ) → is_converter_name k ≡ false → is_spared_name spared k ≡ false
+foreign_apart spared k off = elim (spared (base k)) as (λ t. (t && is_converter_name k) ≡ false) [ true ↦ off | false ↦ refl ]
 
 -- a file is changed where its name is not a converter's
 guarded_action : (spared : Spared) (ours : Bool) (s t : Files) → (ours ≡ false → KeepsSpared spared s t)
@@ -57,36 +49,20 @@ guarded_action spared true s t leaves =
     (Outside s, grind (arith, outside_reaches))
 guarded_action spared false s t leaves = (Outside t, sym (outside_reaches spared s t (leaves refl)))
 
-pub an_action : (spared : Spared) (a : Act) → Spares spared a → (s : Files) → (action : Action) × (performed a s ≡ acted spared action s)
-an_action spared (act.ToCur name target) spares s = (ToCur (string_bytes name) (string_bytes target), refl)
-an_action spared (act.Reflag name target) spares s = (Reflag (string_bytes name) (string_bytes target), refl)
-an_action spared (act.DropTmp name) spares s = (DropTmp (string_bytes name), refl)
-an_action spared (act.PutOther sub name bytes) spares s = guarded_action spared _ s _ (with_leaves spared sub (string_bytes name) bytes.items s)
-an_action spared (act.DropOther sub name) spares s = guarded_action spared _ s _ (without_leaves spared sub (string_bytes name) s)
-an_action spared (act.Delete sub name) spares s =
-    (Outside (without_file sub (string_bytes name) s), sym (outside_reaches spared s _ (deleted_leaves spared sub (string_bytes name) s spares)))
+pub an_action : (spared : Spared) (a : Act) (s : Files) → (action : Action) × (performed a s ≡ acted spared action s)
+an_action spared (act.ToCur name target) s = (ToCur (string_bytes name) (string_bytes target), refl)
+an_action spared (act.Reflag name target) s = (Reflag (string_bytes name) (string_bytes target), refl)
+an_action spared (act.DropTmp name) s = (DropTmp (string_bytes name), refl)
+an_action spared (act.PutOther sub name bytes) s = guarded_action spared _ s _ (with_leaves spared sub (string_bytes name) bytes.items s)
+an_action spared (act.DropOther sub name) s =
+    guarded_action spared _ s _ (λ off. without_leaves spared sub (string_bytes name) s (foreign_apart spared (string_bytes name) off))
 
-actions : (spared : Spared) (acts : List Act) → All (Spares spared) acts → (s : Files) → (done : List Action) × (all_performed acts s ≡ all_acted spared done s)
-actions spared [] all s = ([], refl)
-actions spared (a ∷ acts) all s =
-    let first = an_action spared a (All-head (Spares spared) a acts all) s in
-    let others = actions spared acts (All-tail (Spares spared) a acts all) (acted spared first.0 s) in
+actions : (spared : Spared) (acts : List Act) (s : Files) → (done : List Action) × (all_performed acts s ≡ all_acted spared done s)
+actions spared [] s = ([], refl)
+actions spared (a ∷ acts) s =
+    let first = an_action spared a s in
+    let others = actions spared acts (acted spared first.0 s) in
     (first.0 ∷ others.0, ap (all_performed acts) first.1 ∙ others.1)
-
--- the first of some things
-pub first_of : {X : Type 0} (P : X → Type 0) (xs ys : List X) → All P (xs ++ ys) → All P xs
-first_of P [] ys all = All-nil P
-first_of P (x ∷ xs) ys all = All-cons P x xs (All-head P x (xs ++ ys) all) (first_of P xs ys (All-tail P x (xs ++ ys) all))
-
--- the acts before a call are of the script
-pub acts_spare : (spared : Spared) (call : ℕ) (lines : List ScriptLine) → All (λ line. All (Spares spared) line.acts.items) lines
-    → All (Spares spared) (acts_at call lines)
-acts_spare spared call [] all = All-nil (Spares spared)
-acts_spare spared call (line ∷ lines) all =
-    let here = All-head (λ (l : ScriptLine). All (Spares spared) l.acts.items) line lines all in
-    let rest = acts_spare spared call lines (All-tail (λ (l : ScriptLine). All (Spares spared) l.acts.items) line lines all) in
-    All-append (Spares spared) _ (acts_at call lines)
-    (elim (line.call == call) as (λ t. All (Spares spared) (cond t line.acts.items [])) [ true ↦ here | false ↦ All-nil (Spares spared) ]) rest
 
 no_parts : {X : Type 0} (xs : List X) (y : X) (zs : List X) → [] ≡ xs ++ y ∷ zs → ⊥
 no_parts [] y zs e = cc
@@ -186,38 +162,34 @@ others_whole [] = tt
 others_whole (a ∷ more) = others_whole more
 
 -- acts and then moves are moves
-acts_then : (spared : Spared) (acts : List Act) (all : All (Spares spared) acts) (old : Files) {mid : Files} → mid ≡ all_performed acts old
-    → (call : Call) (ms : List Move)
-    → after spared mid call ms ≡ after spared old call (map Other (actions spared acts all old).0 ++ ms)
-acts_then spared acts all old is call ms = grind (arith, after_others, after-append)
+acts_then : (spared : Spared) (acts : List Act) (old : Files) {mid : Files} → mid ≡ all_performed acts old → (call : Call) (ms : List Move)
+    → after spared mid call ms ≡ after spared old call (map Other (actions spared acts old).0 ++ ms)
+acts_then spared acts old is call ms = grind (arith, after_others, after-append)
 
-pub called_then : (spared : Spared) {A : Type 0} (call : Call) (acts : List Act) (all : All (Spares spared) acts) (old : Files) {mid : Files} (new : Files)
-    (result : Result A FolderFault)
+pub called_then : (spared : Spared) {A : Type 0} (call : Call) (acts : List Act) (old : Files) {mid : Files} (new : Files) (result : Result A FolderFault)
     → mid ≡ all_performed acts old → Called spared call mid result new → Called spared call old result new
-called_then spared call acts all old {mid} new (Ok x) is done =
-    let others = map Other (actions spared acts all old).0 in
+called_then spared call acts old {mid} new (Ok x) is done =
+    let others = map Other (actions spared acts old).0 in
     record {
       before = others ++ done.before;
       rest = done.rest;
-      others = others_before (actions spared acts all old).0 _ done.others;
+      others = others_before (actions spared acts old).0 _ done.others;
       ready = grind (arith, acts_then);
       whole = done.whole;
       left = grind (arith, acts_then, append_assoc);
     }
-called_then spared call acts all old {mid} new (Err f) is done =
-    record { moves = map Other (actions spared acts all old).0 ++ done.moves; left = grind (arith, acts_then) }
+called_then spared call acts old {mid} new (Err f) is done =
+    record { moves = map Other (actions spared acts old).0 ++ done.moves; left = grind (arith, acts_then) }
 
-pub cut_fails : {spared : Spared} {call : Call} {acts : List Act} {old new : Files} → All (Spares spared) acts → IsCutShort acts old new
-    → AnyMoves spared call old new
-cut_fails {spared} {call} {acts} {old} all cut =
-    let made = first_of (Spares spared) cut.made (cut.refused ∷ cut.rest) (subst (All (Spares spared)) cut.parts all) in
-    let done = actions spared cut.made made old in
+pub cut_fails : {spared : Spared} {call : Call} {acts : List Act} {old new : Files} → IsCutShort acts old new → AnyMoves spared call old new
+cut_fails {spared} {call} {old} cut =
+    let done = actions spared cut.made old in
     record { moves = map Other done.0; left = grind (arith, after_others) }
 
-pub listed_then : {spared : Spared} {sub : Sub} (acts : List Act) → All (Spares spared) acts → {old new : Files} {names : List (List ℕ)}
+pub listed_then : {spared : Spared} {sub : Sub} (acts : List Act) {old new : Files} {names : List (List ℕ)}
     → new ≡ all_performed acts old → names ≡ keys (folder_of sub new) → Lists spared sub old names new
-listed_then {spared} {sub} acts all {old} {new} {names} is names_are =
-    let done = actions spared acts all old in
+listed_then {spared} {sub} acts {old} {new} {names} is names_are =
+    let done = actions spared acts old in
     let others = map Other done.0 in
     let reached : new ≡ after spared old (Listing sub) others = grind (arith, after_others) in
     grind (arith, others_whole, after-append)
