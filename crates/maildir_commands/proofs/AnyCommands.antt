@@ -16,7 +16,7 @@ use Rattle.maildir_disk.proofs.Left.LeftHomes.{SteadyAt, intact_on, none_in, ste
 use Rattle.maildir_disk.proofs.Left.SingleHomes.{single_home, single_sound}
 use Rattle.maildir_commands.specs.declared.ending.Ending.{Ending}
 use Rattle.maildir_commands.specs.declared.ending.Ending.TheVariants.{Done, Stopped, WrongWords}
-use Rattle.maildir_commands.specs.Commands.{AreNewTo, Commanded, Command, PrintedSafely, Cut, Event, Happens, IsHistory, IsToDeliver, LeftByPowerCut, Readers}
+use Rattle.maildir_commands.specs.Commands.{Commanded, Command, PrintedSafely, Cut, Event, Happens, IsHistory, IsNewTo, IsToDeliver, LeftByPowerCut, Readers}
 use Rattle.maildir_commands.specs.Endings.{status_of}
 use Rattle.maildir_commands.proofs.Endings.{one_no_two, one_no_zero, two_no_zero}
 use Rattle.maildir_commands.proofs.Known.{swept_rests}
@@ -47,6 +47,13 @@ missing_intact m s none bytes has = absurd (none_in (subst (λ xs. Contains xs b
 
 none_at_all : (m : Message) → IsMissing no_files m
 none_at_all m = rw (held_none m.target.base empty (λ q on. get-empty {X = List ℕ} name_cmp q)) refl
+
+pub sound_new : {spared : Spared} {texts : List Mailbox} {maildir : HeldMaildir} → IsNewTo spared texts maildir → IsSoundFor spared texts maildir
+sound_new {texts} new = record {
+  sound = λ k d below j e inside sp. inl (new.missing k d below j e inside sp);
+  intact = λ k d below left may j e inside sp.
+      missing_intact (get_or (get_or texts k d).messages j e) left (new.none_left left may k d below j e inside sp);
+}
 
 -- ---- the first of some texts
 no_length : {named : List Mailbox} → named ≡ [] → length named ≡ 0
@@ -270,39 +277,32 @@ module _ (spared : Spared) {M : Type 0} (seen : M → SeenMachine)
       λ k d below. (goes_event event a b is.0 happens).0.safe (get_or named k d) (among k d below) (is.1 k d below),
     ))
 
-  -- ---- a Maildir that has none of the messages
-  sound_new : (old : M) → AreNewTo spared (at old) texts → IsSoundFor spared texts (at old)
-  sound_new old none = record {
-    sound = λ k d below j e inside sp. inl (none.missing k d below j e inside sp);
-    intact = λ k d below left may j e inside sp.
-        missing_intact (get_or (get_or texts k d).messages j e) left (none.none_left left may k d below j e inside sp);
-  }
-
-  module _ (old new : M) (h : (seen old).honest spared) (none : AreNewTo spared (at old) texts) where
+  -- ---- a Maildir that is sound at first
+  module _ (old new : M) (h : (seen old).honest spared) (fit : AreFit texts) (sound : IsSoundFor spared texts (at old)) where
     pub sound_through : (events : List Event) → IsHistory spared seen maildir texts events old new → IsSoundFor spared texts (at new)
-    sound_through events come = (well_through none.fit events old new (h, sound_new old none) come).1
+    sound_through events come = (well_through fit events old new (h, sound) come).1
 
     pub safe_since : (named : List Mailbox) (words : List (List ℕ)) (before rest : List Event)
         → IsHistory spared seen maildir texts (before ++ (Command words named 0 ∷ rest)) old new → AreAllSafe spared named (at new)
     safe_since named words before rest come =
         let parts = chain_parts (Happens spared seen maildir texts) before (Command words named 0 ∷ rest) old new come in
-        let still = well_through none.fit before old parts.0 (h, sound_new old none) parts.1 in
-        let all = commanded none.fit parts.2.1 still in
+        let still = well_through fit before old parts.0 (h, sound) parts.1 in
+        let all = commanded fit parts.2.1 still in
         let done = all.2 refl in
-        (safe_through none.fit named done.0 rest parts.2.0 new ((all.1, all.0.sound), done.1) parts.2.2).1
+        (safe_through fit named done.0 rest parts.2.0 new ((all.1, all.0.sound), done.1) parts.2.2).1
 
     pub printed_since : (named : List Mailbox) (words : List (List ℕ)) (before rest : List Event) (mid next : M)
         → IsHistory spared seen maildir texts before old mid → (ran : Commanded spared seen maildir texts words named 1 mid next)
         → IsHistory spared seen maildir texts rest next new → 0 < length named → PrintedSafely spared named ran.was.output ran.is.output (at new)
     printed_since named words before rest mid next come ran more some =
-        let well = well_through none.fit before old mid (h, sound_new old none) come in
-        let now = failed none.fit ran well some ran.ran.ending ran.ran.status_is ran.ran.ran in
-        let all = commanded none.fit ran well in
+        let well = well_through fit before old mid (h, sound) come in
+        let now = failed fit ran well some ran.ran.ending ran.ran.status_is ran.ran.ran in
+        let all = commanded fit ran well in
         let first = take (length now.1.reports) named in
         record {
           reports = now.1.reports;
           lines = now.1.lines;
-          safe = (safe_through none.fit first (All-take (Contains texts) (length now.1.reports) named now.0) rest next new
+          safe = (safe_through fit first (All-take (Contains texts) (length now.1.reports) named now.0) rest next new
               ((all.1, all.0.sound), now.1.safe) more).1;
         }
 
@@ -310,5 +310,5 @@ module _ (spared : Spared) {M : Type 0} (seen : M → SeenMachine)
         → IsHistory spared seen maildir texts (before ++ (Command words named 0 ∷ [])) old new → 0 < length named → IsSwept spared (at new).files
     swept_at named words before come =
         let parts = chain_parts (Happens spared seen maildir texts) before (Command words named 0 ∷ []) old new come in
-        let still = well_through none.fit before old parts.0 (h, sound_new old none) parts.1 in
-        subst (λ m. 0 < length named → IsSwept spared (at m).files) (sym parts.2.2) ((commanded none.fit parts.2.1 still).2 refl).2
+        let still = well_through fit before old parts.0 (h, sound) parts.1 in
+        subst (λ m. 0 < length named → IsSwept spared (at m).files) (sym parts.2.2) ((commanded fit parts.2.1 still).2 refl).2

@@ -9,16 +9,15 @@ use Rattle.maildir_run.specs.MemFiles.{no_files}
 use Rattle.maildir_run.specs.Runs.{Chain}
 use Rattle.maildir_run.specs.Several.{Mailbox, OfEachSpared}
 use Rattle.maildir_disk.specs.PowerCuts.{IsSingle}
-use Rattle.maildir_commands.specs.Machines.{AreAllSafe, AreFit, GivesTexts, HeldMaildir, Rests}
+use Rattle.maildir_commands.specs.Machines.{AreAllSafe, GivesTexts, HeldMaildir, Rests}
 use Rattle.maildir_commands.specs.Program.{RanOn}
 use Rattle.maildir_commands.specs.Report.{report_line}
 use Rattle.maildir_commands.specs.Seen.{Seen, SeenMachine, Streams, seen_at}
 use Rattle.maildir_commands.specs.Words.{AskFor, Request}
 use Rattle.maildir_commands.specs.Words.Request.{ToWrite, ToConvert}
 
--- These texts can go into one Maildir, which has none of their messages that are spared, and nor has anything that a power cut may leave of it.
-pub record AreNewTo (spared : Spared) (maildir : HeldMaildir) (texts : List Mailbox) : Type 0 where
-  pub fit : AreFit texts
+-- A Maildir has none of the messages of the texts that are spared, and nor has anything that a power cut may leave of it.
+pub record IsNewTo (spared : Spared) (texts : List Mailbox) (maildir : HeldMaildir) : Type 0 where
   pub missing : OfEachSpared spared (IsMissing maildir.files) texts
   pub none_left : (left : Files) → maildir.may_leave left → OfEachSpared spared (IsMissing left) texts
 

@@ -10,7 +10,7 @@ use Rattle.maildir_commands.proofs.Resting.{same_at}
 use Rattle.maildir_memory.specs.declared.mem_system.MemSystem.{MemSystem}
 use Rattle.maildir_memory.specs.MemMachines.{AreAll, IsFreshFor, IsFreshQuietly, held_at, held_under_word}
 use Rattle.maildir_memory.specs.MemSystem.{HasNoTurns, IsHonest, SparesByTurns}
-use Rattle.maildir_run.specs.Script.{Spares}
+use Rattle.maildir_memory.specs.TurnActs.{Spares}
 use Rattle.maildir_run.specs.Files.{Spared}
 
 -- a power cut may leave the files as they are

@@ -4,11 +4,11 @@ use Rattle.std.specs.Global.{Vec}
 use Rattle.std.specs.Time.{system_time_nanos}
 use Rattle.std.specs.String.{string_bytes}
 use Rattle.maildir_run.specs.Files.{Files, Spared}
-use Rattle.maildir_run.specs.Script.{Spares}
-use Rattle.maildir_run.specs.declared.script.Act.{Act}
 use Rattle.maildir_run.specs.MemFiles.{no_files}
 use Rattle.maildir_run.specs.MemFolder.{IsQuiet, files_of}
 use Rattle.maildir_memory.specs.declared.mem_system.MemSystem.{MemSystem}
+use Rattle.maildir_memory.specs.declared.turn_act.TurnAct.{TurnAct}
+use Rattle.maildir_memory.specs.TurnActs.{Spares}
 use Rattle.maildir_memory.specs.declared.mem_system.MemFile.{MemFile}
 use Rattle.maildir_memory.specs.Cases.{lefts_of, may_find}
 use Rattle.maildir_disk.specs.SeenSystem.{SeenSystem}
@@ -47,7 +47,7 @@ pub record HasNoTurns (system : MemSystem) : Type 0 where
   pub no_turns : system.turns.items ≡ []
 
 -- other programs' acts in these turns spare these bases
-abbrev pub SparesByTurns : Spared → List (Vec Act) → Type 0
+abbrev pub SparesByTurns : Spared → List (Vec TurnAct) → Type 0
 SparesByTurns spared turns = All (λ turn. All (Spares spared) turn.items) turns
 
 -- The folder follows no script, and other programs spare these bases at their turns.

@@ -17,9 +17,10 @@ ghost use Rattle.maildir_memory.specs.MemSystem.{IsHonest, SparesByTurns, MayLos
 use crate::cases::{Cases, Change};
 use crate::faults::error_of;
 use crate::stamps::{Stamps, begin, stamp_at};
+use crate::turn_act::TurnAct;
 use maildir_disk::System;
 use maildir_name::Place;
-use maildir_run::{Act, Folder, MemFolder, Sub};
+use maildir_run::{Folder, MemFolder, Sub};
 use std::alloc::Global;
 use std::io;
 use std::time::{Duration, Instant, SystemTime};
@@ -47,7 +48,7 @@ pub struct MemSystem {
     instant: Instant,
     // of each of the three folders
     stamp: SystemTime,
-    turns: Vec<Vec<Act>>,
+    turns: Vec<Vec<TurnAct>>,
     // what a power cut may leave, besides the files as they are
     cases: Cases,
     is_rooted: bool,
@@ -63,7 +64,7 @@ impl MemSystem {
         stamps: Stamps,
         clock: SystemTime,
         instant: Instant,
-        turns: Vec<Vec<Act>>,
+        turns: Vec<Vec<TurnAct>>,
     ) -> Self
         ensures honest { (spared : Spared) → SparesByTurns spared turns.items → (⟦<MemSystem as System>⟧.at result).honest spared }
         ensures quiet { turns.items ≡ [] → (⟦<MemSystem as System>⟧.at result).quiet }

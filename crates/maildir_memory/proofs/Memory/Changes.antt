@@ -5,19 +5,19 @@ use Rattle.std.proofs.Common.{refl, sym, ◌∙◌, ap, subst, inl, inr, arith, 
 use Rattle.maildir_memory.proofs.Common.{get, keys, contains_key, contains_key-keys, Sub, Tmp, MemFolder, Call, Listing, Writing, Placing, Removing, Again}
 use Rattle.maildir_memory.proofs.Common.{Torn}
 use Rattle.maildir_memory.proofs.Common.{Other, Called, folder_of, Leaves, Follows, Came, Doubled, files_of, Files, Action, ToCur, Reflag}
-use Rattle.maildir_memory.proofs.Common.{all_acted, performed, half_performed, leaves_moves, an_action, Cases, Change, Make, Hold, Remove, Half, Adds}
+use Rattle.maildir_memory.proofs.Common.{all_acted, half_performed, leaves_moves, an_action, Cases, Change, Make, Hold, Remove, Half, Adds}
 use Rattle.maildir_memory.proofs.Common.{IsAdded, KeepsCases, Loses, LosesBytes, made, HasRoom, lefts_of, may_find, KeepsNames, LeftByOthers, World, changed}
 use Rattle.maildir_memory.proofs.Common.{rewritten}
 use Rattle.std.proofs.Math.Seq.{take-append-add}
-use Rattle.std.proofs.lemmas.List.Elements.{All-contains, All-get_or, Contains-append_right}
-use Rattle.maildir_run.proofs.Memory.Scripts.{first_of}
+use Rattle.std.proofs.lemmas.List.Elements.{All-cons, All-contains, All-get_or, All-head, All-nil, All-tail, Contains-append_right}
+use Rattle.std.proofs.lemmas.List.{take_more}
 use Rattle.std.specs.Global.{Vec}
 use Rattle.std.specs.Prelude.{IfSome, option_to_list}
 use Rattle.maildir_run.specs.declared.script.Act.{Act}
 use Rattle.std.specs.declared.time.SystemTime.{SystemTime}
 use Rattle.maildir_disk.specs.SeenSystem.{TakesFromTmp}
 use Rattle.maildir_run.specs.Calls.{CalledQuietly}
-use Rattle.maildir_run.specs.MemFolder.{IsQuiet, SparesByScript, lines_of, quiet_spares}
+use Rattle.maildir_run.specs.MemFolder.{IsQuiet, lines_of}
 use Rattle.maildir_memory.specs.declared.cases.Change.TheVariants.{Place}
 use Rattle.maildir_memory.specs.declared.mem_system.MemSystem.{MemSystem}
 use Rattle.maildir_memory.specs.MemSystem.{may_be_left, MayLose, SparesByTurns, seen_system}
@@ -25,9 +25,15 @@ use Rattle.maildir_memory.proofs.Memory.CaseLists.{no_fewer, there_or_added}
 use Rattle.maildir_disk.proofs.Left.Lefts.{leaves_none, leaves_then, left_both, left_early, left_none}
 use Rattle.maildir_disk.proofs.Calls.Passing.{all_acted-append}
 use Rattle.maildir_run.specs.declared.script.Act.TheVariants as act
+use Rattle.maildir_run.specs.Files.{Outside, acted}
+use Rattle.maildir_run.specs.MemFiles.{without_file}
+use Rattle.maildir_run.proofs.Call.Outsiders.{outside_reaches}
+use Rattle.maildir_run.proofs.Memory.Scripts.{without_leaves}
+use Rattle.maildir_memory.specs.declared.turn_act.TurnAct.{TurnAct}
+use Rattle.maildir_memory.specs.declared.turn_act.TurnAct.TheVariants.{Reader, Delete}
+use Rattle.maildir_memory.specs.TurnActs.{Spares, all_turned, half_turned, turned}
 use Rattle.maildir_memory.specs.declared.cases.Change.TheVariants as change
 use Rattle.maildir_run.specs.Files.{Spared}
-use Rattle.maildir_run.specs.Script.{Spares}
 
 -- the call that a change belongs to; what other programs do counts as part of a listing
 abbrev pub call_of_change : Change → Call
@@ -43,10 +49,37 @@ held_leaves : {spared : Spared} {name : List ℕ} (bytes : List ℕ) {s : Files}
 held_leaves bytes None = record { kept = []; are = refl }
 held_leaves bytes (Some held) = record { kept = Came (Torn bytes) ∷ []; are = refl }
 
-half_leaves : {spared : Spared} (a : Act) {s : Files} → Leaves spared (Listing Tmp) s (half_performed a s)
-half_leaves (act.ToCur name target) = record { kept = Doubled (ToCur (string_bytes name) (string_bytes target)) ∷ []; are = refl }
-half_leaves (act.Reflag name target) = record { kept = Doubled (Reflag (string_bytes name) (string_bytes target)) ∷ []; are = refl }
-half_leaves other = record { kept = []; are = refl }
+half_act_leaves : {spared : Spared} (a : Act) {s : Files} → Leaves spared (Listing Tmp) s (half_performed a s)
+half_act_leaves (act.ToCur name target) = record { kept = Doubled (ToCur (string_bytes name) (string_bytes target)) ∷ []; are = refl }
+half_act_leaves (act.Reflag name target) = record { kept = Doubled (Reflag (string_bytes name) (string_bytes target)) ∷ []; are = refl }
+half_act_leaves other = record { kept = []; are = refl }
+
+half_leaves : {spared : Spared} (a : TurnAct) {s : Files} → Leaves spared (Listing Tmp) s (half_turned a s)
+half_leaves (Reader act) = half_act_leaves act
+half_leaves (Delete sub name) = record { kept = []; are = refl }
+
+-- what is done at a turn is an action of another program
+a_turn : (spared : Spared) (a : TurnAct) → Spares spared a → (s : Files) → (action : Action) × (turned a s ≡ acted spared action s)
+a_turn spared (Reader act) spares s = an_action spared act s
+a_turn spared (Delete sub name) spares s =
+    let deleted = without_file sub (string_bytes name) s in
+    (Outside deleted, sym (outside_reaches spared s deleted (without_leaves spared sub (string_bytes name) s spares)))
+
+-- ---- what is done at a turn, part by part
+all_turned-append : (xs ys : List TurnAct) (s : Files) → all_turned (xs ++ ys) s ≡ all_turned ys (all_turned xs s)
+all_turned-append [] ys s = refl
+all_turned-append (x ∷ xs) ys s = all_turned-append xs ys (turned x s)
+
+pub one_more : (acts : List TurnAct) (i : ℕ) (d : TurnAct) (s now then : Files) → i < length acts
+    → now ≡ all_turned (take i acts) s → then ≡ turned (get_or acts i d) now → then ≡ all_turned (take (i + 1) acts) s
+one_more acts i d s now then lt is next =
+    next ∙ ap (turned (get_or acts i d)) is
+    ∙ sym (ap (λ xs. all_turned xs s) (take_more acts i d lt) ∙ all_turned-append (take i acts) (get_or acts i d ∷ []) s)
+
+-- the first of some things
+first_of : {X : Type 0} (P : X → Type 0) (xs ys : List X) → All P (xs ++ ys) → All P xs
+first_of P [] ys all = All-nil P
+first_of P (x ∷ xs) ys all = All-cons P x xs (All-head P x (xs ++ ys) all) (first_of P xs ys (All-tail P x (xs ++ ys) all))
 
 -- other programs' acts among the changes spare these bases
 abbrev pub SparesChange : Spared → Change → Type 0
@@ -54,15 +87,15 @@ SparesChange spared (change.Other act) = Spares spared act.now
 SparesChange spared other = Unit {0}
 
 -- each of some acts that spare these bases
-pub spares_at : (spared : Spared) (acts : List Act) {i : ℕ} (d : Act) {act : Act} → i < length acts → act ≡ get_or acts i d
+pub spares_at : (spared : Spared) (acts : List TurnAct) {i : ℕ} (d : TurnAct) {act : TurnAct} → i < length acts → act ≡ get_or acts i d
     → All (Spares spared) acts → Spares spared act
 spares_at spared acts {i} d lt is spares = subst (Spares spared) (sym is) (All-get_or (Spares spared) acts i d lt spares)
 
-abbrev TurnSpares : Spared → Vec Act → Type 0
+abbrev TurnSpares : Spared → Vec TurnAct → Type 0
 TurnSpares spared turn = All (Spares spared) turn.items
 
 -- of turns that spare these bases, the last one and those before it
-pub turns_spare : (spared : Spared) {turns : List (Vec Act)} (others : List (Vec Act)) (turn : Option (Vec Act)) → turns ≡ others ++ option_to_list turn
+pub turns_spare : (spared : Spared) {turns : List (Vec TurnAct)} (others : List (Vec TurnAct)) (turn : Option (Vec TurnAct)) → turns ≡ others ++ option_to_list turn
     → SparesByTurns spared turns → SparesByTurns spared others × IfSome turn (TurnSpares spared)
 turns_spare spared others None is spares = (first_of (TurnSpares spared) others [] (subst (SparesByTurns spared) is spares), tt)
 turns_spare spared others (Some turn) is spares =
@@ -76,7 +109,7 @@ made_leaves (Hold name bytes) spares {s} = held_leaves bytes.now (get s.tmp name
 made_leaves (Place name place target) spares = record { kept = Came Again ∷ []; are = refl }
 made_leaves (Remove name) spares = record { kept = Came Again ∷ []; are = refl }
 made_leaves {spared} (change.Other act) spares {s} =
-    let action = an_action spared act.now spares s in record { kept = Came (Other action.0) ∷ []; are = action.1 }
+    let action = a_turn spared act.now spares s in record { kept = Came (Other action.0) ∷ []; are = action.1 }
 made_leaves (Half act) spares = half_leaves act.now
 
 -- ---- what a cut may leave
@@ -150,15 +183,15 @@ lost change mid {new} keeps more room loses is has =
 pub taken : {A E : Type 0} (change : Change) → ((spared : Spared) → SparesChange spared change)
     → (old : MemSystem) (folder : MemFolder) (cases : Cases) (stamp : SystemTime) (calls : ℕ)
     (result : Result A E) → lines_of folder ≡ lines_of old.folder → Adds (IsAdded change (files_of old.folder) old.cases) (lefts_of old.cases) (lefts_of cases)
-    → ((spared : Spared) → SparesByScript spared old.folder → Called spared (call_of_change change) (files_of old.folder) result (files_of folder))
+    → ((spared : Spared) → Called spared (call_of_change change) (files_of old.folder) result (files_of folder))
     → (IsQuiet old.folder → CalledQuietly (call_of_change change) (files_of old.folder) result (files_of folder))
     → TakesFromTmp (call_of_change change) (seen_system old) result
     (seen_system (record old { folder = folder; cases = cases; stamp = stamp; calls_left = calls }))
 taken change spares old folder cases stamp calls result lines more called quietly = record {
   honest = λ spared h. record { no_script = lines ∙ h.no_script; spares = h.spares };
-  called = λ spared h. called spared (quiet_spares old.folder spared h.no_script);
+  called = λ spared h. called spared;
   left = λ spared h.
-      left_made change (spares spared) old.folder folder old.cases cases result left_none more (called spared (quiet_spares old.folder spared h.no_script));
+      left_made change (spares spared) old.folder folder old.cases cases result left_none more (called spared);
   still_rooted = λ spared h rooted. rooted;
   touches = λ name now. inr tt;
   quiet = λ q. record { no_script = lines ∙ q.no_script; no_turns = q.no_turns };
@@ -210,15 +243,15 @@ bytes_lost mid new keeps longer room loses has above below = record {
 }
 
 -- another program's act, or what it leaves if an allocation failed
-pub acts_of_act : (spared : Spared) {E : Type 0} (a : Act) → Spares spared a → (old : Files) (outcome : Result (Unit {0}) E) {new : Files}
-    → OnOk outcome (new ≡ performed a old) → OnErr outcome (new ≡ old) → (actions : List Action) × (new ≡ all_acted spared actions old)
-acts_of_act spared a spares old (Ok x) ok err = let action = an_action spared a spares old in (action.0 ∷ [], ok ∙ action.1)
+pub acts_of_act : (spared : Spared) {E : Type 0} (a : TurnAct) → Spares spared a → (old : Files) (outcome : Result (Unit {0}) E) {new : Files}
+    → OnOk outcome (new ≡ turned a old) → OnErr outcome (new ≡ old) → (actions : List Action) × (new ≡ all_acted spared actions old)
+acts_of_act spared a spares old (Ok x) ok err = let action = a_turn spared a spares old in (action.0 ∷ [], ok ∙ action.1)
 acts_of_act spared a spares old (Err e) ok err = ([], err)
 
-pub acted_leaves : {spared : Spared} {E : Type 0} (a : Act) → Spares spared a → {old : Files} (outcome : Result (Unit {0}) E) {new : Files}
-    → OnOk outcome (new ≡ performed a old) → OnErr outcome (new ≡ old) → Leaves spared (Listing Tmp) old new
+pub acted_leaves : {spared : Spared} {E : Type 0} (a : TurnAct) → Spares spared a → {old : Files} (outcome : Result (Unit {0}) E) {new : Files}
+    → OnOk outcome (new ≡ turned a old) → OnErr outcome (new ≡ old) → Leaves spared (Listing Tmp) old new
 acted_leaves {spared} a spares {old} (Ok x) ok err =
-    let action = an_action spared a spares old in record { kept = Came (Other action.0) ∷ []; are = ok ∙ action.1 }
+    let action = a_turn spared a spares old in record { kept = Came (Other action.0) ∷ []; are = ok ∙ action.1 }
 acted_leaves a spares (Err e) ok err = record { kept = []; are = err }
 
 pub actions_then : (spared : Spared) {a b c : Files} → (actions : List Action) × (b ≡ all_acted spared actions a)

@@ -1,16 +1,17 @@
 // What happens in a Maildir in memory during its calls: time passes, and other programs act.
 ghost use Rattle.std.specs.Prelude.{◌≡◌, ◌+◌, All, IfErr, OnOk};
 ghost use Rattle.maildir_run.specs.MemFolder.{files_of};
-ghost use Rattle.maildir_run.specs.Script.{Spares, all_performed};
 ghost use Rattle.maildir_memory.specs.Private.Turns.{OthersAct};
 ghost use Rattle.maildir_disk.specs.Quiet.{SameFiles};
 ghost use Rattle.maildir_disk.specs.SeenSystem.{Looks};
 ghost use Rattle.maildir_memory.specs.MemSystem.{HasNoTurns, SparesByTurns, seen_system, world_of};
+ghost use Rattle.maildir_memory.specs.TurnActs.{Spares, all_turned};
 
 use super::MemSystem;
 use crate::faults::error_of;
 use crate::stamps::{begin, stamp_at, tick};
-use maildir_run::{Act, FolderFault, Sub};
+use crate::turn_act::TurnAct;
+use maildir_run::{FolderFault, Sub};
 use std::io;
 use std::time::Duration;
 
@@ -47,9 +48,9 @@ impl MemSystem {
     }
 
     // Other programs perform these acts, and the folders are stamped.
-    fn act(&mut self, acts: &[Act]) -> Result<(), FolderFault>
+    fn act(&mut self, acts: &[TurnAct]) -> Result<(), FolderFault>
         ensures others { OthersAct (λ spared. All (Spares spared) acts.now) self.old result self.new }
-        ensures done { OnOk result (files_of self.new.folder ≡ all_performed acts.now (files_of self.old.folder)) }
+        ensures done { OnOk result (files_of self.new.folder ≡ all_turned acts.now (files_of self.old.folder)) }
         ensures calls { self.new.calls_left ≡ self.old.calls_left }
         ensures refused { IfErr result (λ fault. fault ≡ FolderFault.OutOfMemory) }
     {

@@ -1,6 +1,6 @@
 use Rattle.std.proofs.Common.{[], refl, ap, ◌∙◌}
-use Rattle.maildir_memory.proofs.Common.{files_of, performed, one_more}
-use Rattle.maildir_memory.proofs.Memory.Changes.{actions_then, keeps_none, keeps_on, spares_at}
+use Rattle.maildir_memory.proofs.Common.{files_of, turned}
+use Rattle.maildir_memory.proofs.Memory.Changes.{actions_then, keeps_none, keeps_on, one_more, spares_at}
 use Rattle.maildir_disk.proofs.Left.Lefts.{left_none, left_by_others_then}
 use Rattle.maildir_memory.proofs.cases.Cases.act.Goals as goal
 
@@ -35,7 +35,7 @@ loop-act-preserved c = record {
   done =
       one_more c.args.acts.now c.loop-act.act-index c.act-item.result (files_of c.args.folder.now)
       (files_of c.loop-act.folder) (files_of c.act_once.new.folder) c.loop-act-test.true c.loop-act.invariant.done
-      (c.in_ok-act_once.ensures.done ∙ ap (λ act. performed act (files_of c.loop-act.folder)) c.act-item.is);
+      (c.in_ok-act_once.ensures.done ∙ ap (λ act. turned act (files_of c.loop-act.folder)) c.act-item.is);
   left = λ spared spares.
       left_by_others_then (c.loop-act.invariant.left spared spares)
       (c.act_once.ensures.left spared (spares_at spared c.args.acts.now c.act-item.result c.loop-act-test.true c.act-item.is spares));

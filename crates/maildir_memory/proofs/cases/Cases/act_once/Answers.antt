@@ -16,21 +16,21 @@ returns-in_err-may_lose-2-clause-left c = λ spared spares.
     (left_by_change (Other c.args.act) folder folder c.may_lose.new.self c.may_lose-2.new.self c.may_lose-2.ensures.more spares leaves_none)
 
 pub returns-clause-acts : goal.returns-clause-acts
-returns-clause-acts c = λ spared spares. acts_of_act spared c.args.act.now spares (files_of c.args.folder.now) c.act.result c.act.ensures.ok c.act.ensures.err
+returns-clause-acts c = λ spared spares. acts_of_act spared c.args.act.now spares (files_of c.args.folder.now) c.perform.result c.perform.ensures.ok c.perform.ensures.err
 
 pub returns-clause-left : goal.returns-clause-left
 returns-clause-left c = λ spared spares.
     let folder = c.args.folder.now in
     left_by_others_then
     (left_by_change (Half c.args.act) folder folder c.args.self.now c.may_lose.new.self c.may_lose.ensures.more tt leaves_none)
-    (left_by_change (Other c.args.act) folder c.act.new.self c.may_lose.new.self c.may_lose-2.new.self c.may_lose-2.ensures.more spares
-    (acted_leaves _ spares _ c.act.ensures.ok c.act.ensures.err))
+    (left_by_change (Other c.args.act) folder c.perform.new.folder c.may_lose.new.self c.may_lose-2.new.self c.may_lose-2.ensures.more spares
+    (acted_leaves _ spares _ c.perform.ensures.ok c.perform.ensures.err))
 
 pub returns-clause-keeps : goal.returns-clause-keeps
 returns-clause-keeps c =
     let folder = c.args.folder.now in
-    on_ok _ c.act.result (keeps_on
+    on_ok _ c.perform.result (keeps_on
     (keeps_lost (Half c.args.act)
     folder folder c.args.self.now c.may_lose.new.self c.may_lose.ensures.more c.may_lose.ensures.room c.in_ok-may_lose.ensures.loses)
     (keeps_lost (Other c.args.act)
-    folder c.act.new.self c.may_lose.new.self c.may_lose-2.new.self c.may_lose-2.ensures.more c.may_lose-2.ensures.room c.in_ok-may_lose-2.ensures.loses))
+    folder c.perform.new.folder c.may_lose.new.self c.may_lose-2.new.self c.may_lose-2.ensures.more c.may_lose-2.ensures.room c.in_ok-may_lose-2.ensures.loses))

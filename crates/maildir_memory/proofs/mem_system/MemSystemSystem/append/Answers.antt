@@ -4,7 +4,6 @@ use Rattle.maildir_memory.proofs.Common.{HasRoom, LosesBytes, changed, opened_as
 use Rattle.maildir_memory.proofs.Memory.Changes.{bytes_lost, called_leaves, left_of_bytes, prefix_of_appended}
 use Rattle.maildir_memory.proofs.Memory.Looking.{fails, fails_early, not_appended}
 use Rattle.maildir_memory.specs.MemSystem.{MayLose}
-use Rattle.maildir_run.specs.MemFolder.{quiet_spares}
 use Rattle.maildir_disk.proofs.Left.Lefts.{if_ok, left_early, leaves_none, leaves_torn}
 use Rattle.maildir_memory.proofs.mem_system.MemSystemSystem.append.Goals as goal
 
@@ -48,7 +47,7 @@ returns-in-Ok-clause-appends c =
           let written =
           rw (c.as_str-3.ensures.value) at
           (leaves_torn {bytes = []}
-          (called_leaves _ (c.write.ensures.writes.called spared (quiet_spares mid.folder spared (looks.honest spared h).no_script)))) in
+          (called_leaves _ (c.write.ensures.writes.called spared tt))) in
           let bytes = rw (c.as_str-2.ensures.value) at (c.may_lose_bytes.ensures.left spared) in
           left_of_bytes mid.folder c.write.new.self mid.cases c.may_lose_bytes.new.self (looks.left spared h) bytes written;
       still_rooted = looks.still_rooted;
@@ -90,6 +89,6 @@ returns-clause-appends c =
     (λ spared h.
     let written =
     rw (c.as_str-3.ensures.value) at
-    (leaves_torn {bytes = []} (called_leaves _ (c.write.ensures.writes.called spared (quiet_spares mid.folder spared (looks.honest spared h).no_script)))) in
+    (leaves_torn {bytes = []} (called_leaves _ (c.write.ensures.writes.called spared tt))) in
     let bytes = rw (c.as_str-2.ensures.value) at (c.may_lose_bytes.ensures.left spared) in
     left_of_bytes mid.folder c.write.new.self mid.cases c.may_lose_bytes.new.self (looks.left spared h) bytes written))

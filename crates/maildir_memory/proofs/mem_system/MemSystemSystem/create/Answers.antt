@@ -6,7 +6,6 @@ use Rattle.maildir_memory.proofs.Memory.Looking.{fails, fails_early, not_made}
 use Rattle.maildir_disk.proofs.Calls.Looking.{looks_none}
 use Rattle.maildir_disk.proofs.Left.Lefts.{if_ok}
 use Rattle.maildir_memory.proofs.mem_system.MemSystemSystem.create.Goals as goal
-use Rattle.maildir_run.specs.MemFolder.{quiet_spares}
 
 pub returns-in_err-from_str-clause-makes : goal.returns-in_err-from_str-clause-makes
 returns-in_err-from_str-clause-makes c = not_made _ c.from_residual.ensures.0 (fails_early looks_none)
@@ -38,7 +37,7 @@ returns-in-Ok-clause-makes c =
       left = λ spared h.
           left_made (Make c.args.name) tt mid.folder c.write.new.self mid.cases c.may_lose.new.self c.write.result
           (looks.left spared h) c.may_lose.ensures.more
-          (c.write.ensures.writes.called spared (quiet_spares mid.folder spared (looks.honest spared h).no_script));
+          (c.write.ensures.writes.called spared tt);
       still_rooted = looks.still_rooted;
       touches = λ name now. inr tt;
       quiet = λ q. let still = looks.quiet q in record { no_script = lines ∙ still.no_script; no_turns = still.no_turns };
@@ -59,4 +58,4 @@ returns-in-Err-clause-makes c =
     (fails c.args.self.now mid c.write.new.self c.may_lose.new.self c.stamp_at-self.result mid.calls_left looks
     (λ h. c.write.ensures.scripted.script.lines ∙ h) (λ h. quiet_fault _ _ _ _ h c.in-Err.ensures.scripted)
     (λ spared h. left_made (Make c.args.name) tt mid.folder c.write.new.self mid.cases c.may_lose.new.self c.write.result
-    (looks.left spared h) c.may_lose.ensures.more (c.write.ensures.writes.called spared (quiet_spares mid.folder spared (looks.honest spared h).no_script))))
+    (looks.left spared h) c.may_lose.ensures.more (c.write.ensures.writes.called spared tt)))

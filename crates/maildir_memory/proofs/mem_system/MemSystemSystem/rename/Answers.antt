@@ -21,7 +21,7 @@ returns-in-Ok-clause-places c =
     let did = c.in-Ok.ensures.places in
     taken (Place c.args.name c.args.place c.args.target) (λ spared. tt) c.args.self.now c.place.new.self c.may_lose.new.self c.stamp_at-self.result
     c.begin.new.calls_left _
-    c.place.ensures.scripted.script.lines c.may_lose.ensures.more did.called did.quietly
+    c.place.ensures.scripted.script.lines c.may_lose.ensures.more (λ spared. did.called spared tt) did.quietly
 
 pub returns-in-Ok-clause-loses : goal.returns-in-Ok-clause-loses
 returns-in-Ok-clause-loses c = λ honest.
@@ -34,7 +34,7 @@ returns-in-Err-clause-places c =
     let did = c.in-Err.ensures.places in
     taken (Place c.args.name c.args.place c.args.target) (λ spared. tt) c.args.self.now c.place.new.self c.may_lose.new.self c.stamp_at-self.result
     c.begin.new.calls_left _
-    c.place.ensures.scripted.script.lines c.may_lose.ensures.more did.called did.quietly
+    c.place.ensures.scripted.script.lines c.may_lose.ensures.more (λ spared. did.called spared tt) did.quietly
 
 pub returns-in-Err-clause-gone : goal.returns-in-Err-clause-gone
 returns-in-Err-clause-gone c = λ spared quiet is. record { before = []; rest = []; gone = grind arith; left = grind arith }

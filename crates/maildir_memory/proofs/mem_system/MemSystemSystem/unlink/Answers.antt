@@ -20,7 +20,7 @@ pub returns-in-Ok-clause-removes : goal.returns-in-Ok-clause-removes
 returns-in-Ok-clause-removes c =
     let did = c.in-Ok.ensures.removes in
     taken (Remove c.args.name) (λ spared. tt) c.args.self.now c.remove.new.self c.may_lose.new.self c.stamp_at-self.result c.begin.new.calls_left _
-    c.remove.ensures.scripted.script.lines c.may_lose.ensures.more did.called did.quietly
+    c.remove.ensures.scripted.script.lines c.may_lose.ensures.more (λ spared. did.called spared tt) did.quietly
 
 pub returns-in-Ok-clause-loses : goal.returns-in-Ok-clause-loses
 returns-in-Ok-clause-loses c = λ honest.
@@ -32,4 +32,4 @@ pub returns-in-Err-clause-removes : goal.returns-in-Err-clause-removes
 returns-in-Err-clause-removes c =
     let did = c.in-Err.ensures.removes in
     taken (Remove c.args.name) (λ spared. tt) c.args.self.now c.remove.new.self c.may_lose.new.self c.stamp_at-self.result c.begin.new.calls_left _
-    c.remove.ensures.scripted.script.lines c.may_lose.ensures.more did.called did.quietly
+    c.remove.ensures.scripted.script.lines c.may_lose.ensures.more (λ spared. did.called spared tt) did.quietly
