@@ -67,16 +67,6 @@ const TWO_LINES: &[Line<'_>] = &[
     (1, &[Deed::DropOther(Sub::Tmp, "x")], Mode::Plain),
 ];
 
-const DELETES: &[Line<'_>] = &[(3, &[Deed::Delete(Sub::New, EMPTY_ONE)], Mode::Plain)];
-
-const ALL_BUT_ONE: &[File<'_>] = &[(Sub::New, EMPTY_TWO, b""), (Sub::New, ABC, b"abc")];
-
-const ALL_THREE: &[File<'_>] = &[
-    (Sub::New, EMPTY_ONE, b""),
-    (Sub::New, EMPTY_TWO, b""),
-    (Sub::New, ABC, b"abc"),
-];
-
 const SCENES: &[Scene<'_>] = &[
     (
         "moved_between_listings",
@@ -119,15 +109,6 @@ const SCENES: &[Scene<'_>] = &[
             Ok((1, 0, 1, 0)),
             &[(Sub::Tmp, "x", b"z"), (Sub::New, ABC, b"abc")],
         )],
-    ),
-    // the first message is deleted after it was listed, and each of the others is there once all the same
-    (
-        "one_message_is_deleted",
-        &[(Sub::New, EMPTY_ONE, b""), (Sub::New, EMPTY_TWO, b"")],
-        &[
-            (DELETES, THREE, Ok((3, 2, 1, 0)), ALL_BUT_ONE),
-            (&[], THREE, Ok((3, 2, 1, 0)), ALL_THREE),
-        ],
     ),
     // the first one's mode applies, and the acts of both are made
     (

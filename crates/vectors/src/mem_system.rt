@@ -2,7 +2,7 @@
 use crate::mem_folder::lists;
 use crate::rows::same;
 use crate::runs::{folder_of, run_over};
-use crate::scripts::{Deed, turns_of};
+use crate::scripts::{Deed, turn_of, turns_of};
 use crate::texts::{ABC_OLD, ABC_SEEN, File, UNENDED};
 use maildir_disk::DiskFolder;
 use maildir_memory::{MemSystem, Stamps};
@@ -22,7 +22,7 @@ pub(crate) fn system_of(
     let clock = UNIX_EPOCH + Duration::from_millis(1500);
     let instant = Instant::now(&rt)?;
     let folder = folder_of(alloc, files)?;
-    let turns = turns_of(alloc, deeds, turn)?;
+    let turns = turns_of(alloc, turn_of(alloc, deeds)?, turn)?;
     Ok(MemSystem::new(alloc, folder, stamps, clock, instant, turns))
 }
 
