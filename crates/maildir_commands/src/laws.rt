@@ -11,11 +11,11 @@ use crate::machine::Machine;
 
 /// Whatever commands follow one another, with any words and any answers, killed at any moment or not, with other programs
 /// and power cuts between them: a Maildir that is sound for the texts, as one is that has none of their messages, stays
-/// sound for all of them, so that the same words may be given again. Once a command that was to deliver some of the texts answered 0, each message of each of
-/// them is in exactly one file of `new` or `cur`, with exactly its bytes, and stays so through all that follows; and right
-/// after it no file of the converter is left in `tmp`. Where a command ended with a fault, so it is with each of its texts
-/// whose line it had begun to print. All of this is said of the messages whose bases other programs spare, whatever they do
-/// to all others.
+/// sound for all of them, so that the same words may be given again. Once a command that was to deliver some of the texts
+/// answered 0, each message of each of them is in exactly one file of `new` or `cur`, with exactly its bytes, and stays so
+/// through all that follows; and right after it no file of the converter is left in `tmp`. Where a command ended with a
+/// fault, so it is with each of its texts whose line it had begun to print. All of this is said of the messages whose bases
+/// other programs spare, whatever they do to all others.
 pub fn after_any_commands<M: Machine>()
     ensures begins { (spared : Spared) (maildir : List ℕ) (texts : List Mailbox) (old : M) →
         IsNewTo spared texts ((M.at old).maildir_at maildir) → IsSoundFor spared texts ((M.at old).maildir_at maildir) }

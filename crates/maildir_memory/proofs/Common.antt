@@ -15,7 +15,8 @@ pub use Rattle.maildir_run.specs.declared.folder.Sub.TheVariants.{Tmp}
 pub use Rattle.maildir_run.specs.declared.mem_folder.MemFolder.{MemFolder}
 pub use Rattle.maildir_memory.specs.Cases.{HasRoom, lefts_of, may_find}
 pub use Rattle.maildir_memory.specs.MemSystem.{opened_as, world_of}
-pub use Rattle.maildir_memory.specs.TurnActs.{Spares, all_turned, half_turned, turned}
+pub use Rattle.maildir_memory.specs.TurnActs.{Spares}
+pub use Rattle.maildir_memory.specs.Private.TurnActs.{all_turned, half_turned, turned}
 pub use Rattle.maildir_disk.specs.PowerCuts.{KeepsNames, LeftByOthers}
 pub use Rattle.maildir_memory.specs.Private.Cases.{Adds, IsAdded, KeepsCases, Loses, LosesBytes, made, nth_left}
 pub use Rattle.maildir_disk.specs.World.{Passes, World}

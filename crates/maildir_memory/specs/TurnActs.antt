@@ -1,25 +1,8 @@
 -- What other programs do at their turns to a Maildir in memory.
-use Rattle.std.specs.Prelude.{List, [], ◌∷◌, IsFalse, string_bytes}
-use Rattle.maildir_run.specs.Files.{Files, Spared, is_spared_name}
-use Rattle.maildir_run.specs.MemFiles.{without_file}
-use Rattle.maildir_run.specs.Script.{performed, half_performed}
+use Rattle.std.specs.Prelude.{IsFalse, string_bytes}
+use Rattle.maildir_run.specs.Files.{Spared, is_spared_name}
 use Rattle.maildir_memory.specs.declared.turn_act.TurnAct.{TurnAct}
 use Rattle.maildir_memory.specs.declared.turn_act.TurnAct.TheVariants.{Reader, Delete}
-
--- the files after it
-abbrev pub turned : TurnAct → Files → Files
-turned (Reader act) s = performed act s
-turned (Delete sub name) s = without_file sub (string_bytes name) s
-
--- the files after half of it: a file that is moved is under both names, and of anything else half is nothing
-abbrev pub half_turned : TurnAct → Files → Files
-half_turned (Reader act) s = half_performed act s
-half_turned (Delete sub name) s = s
-
--- the files after some of these, one after the other
-abbrev pub all_turned : List TurnAct → Files → Files
-all_turned [] s = s
-all_turned (act ∷ acts) s = all_turned acts (turned act s)
 
 -- it spares these bases
 abbrev pub Spares : Spared → TurnAct → Type 0

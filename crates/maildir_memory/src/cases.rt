@@ -8,7 +8,8 @@ ghost use Rattle.maildir_run.specs.Files.{Action, Files, Spared, all_acted};
 ghost use Rattle.maildir_run.specs.MemFolder.{IsQuiet, HasNoScript, SameScript, files_of};
 ghost use Rattle.maildir_memory.specs.Private.Cases.{Adds, IsAdded, KeepsCases, Loses, LosesBytes, made, nth_left};
 ghost use Rattle.maildir_memory.specs.Cases.{HasRoom, lefts_of, may_find};
-ghost use Rattle.maildir_memory.specs.TurnActs.{Spares, all_turned, turned};
+ghost use Rattle.maildir_memory.specs.TurnActs.{Spares};
+ghost use Rattle.maildir_memory.specs.Private.TurnActs.{all_turned, turned};
 ghost use Rattle.maildir_disk.specs.PowerCuts.{LeftByOthers};
 
 use crate::turn_act::TurnAct;

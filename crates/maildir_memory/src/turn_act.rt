@@ -1,7 +1,7 @@
 // What other programs do at their turns to a Maildir in memory.
 ghost use Rattle.std.specs.Prelude.{◌≡◌, IfErr, OnErr, OnOk};
 ghost use Rattle.maildir_run.specs.MemFolder.{SameScript, files_of};
-ghost use Rattle.maildir_memory.specs.TurnActs.{half_turned, turned};
+ghost use Rattle.maildir_memory.specs.Private.TurnActs.{half_turned, turned};
 
 use maildir_run::{Act, FolderFault, MemFolder, Sub};
 

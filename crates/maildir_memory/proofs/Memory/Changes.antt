@@ -31,7 +31,8 @@ use Rattle.maildir_run.proofs.Call.Outsiders.{outside_reaches}
 use Rattle.maildir_run.proofs.Memory.Scripts.{without_leaves}
 use Rattle.maildir_memory.specs.declared.turn_act.TurnAct.{TurnAct}
 use Rattle.maildir_memory.specs.declared.turn_act.TurnAct.TheVariants.{Reader, Delete}
-use Rattle.maildir_memory.specs.TurnActs.{Spares, all_turned, half_turned, turned}
+use Rattle.maildir_memory.specs.TurnActs.{Spares}
+use Rattle.maildir_memory.specs.Private.TurnActs.{all_turned, half_turned, turned}
 use Rattle.maildir_memory.specs.declared.cases.Change.TheVariants as change
 use Rattle.maildir_run.specs.Files.{Spared}
 
@@ -95,7 +96,8 @@ abbrev TurnSpares : Spared → Vec TurnAct → Type 0
 TurnSpares spared turn = All (Spares spared) turn.items
 
 -- of turns that spare these bases, the last one and those before it
-pub turns_spare : (spared : Spared) {turns : List (Vec TurnAct)} (others : List (Vec TurnAct)) (turn : Option (Vec TurnAct)) → turns ≡ others ++ option_to_list turn
+pub turns_spare : (spared : Spared) {turns : List (Vec TurnAct)} (others : List (Vec TurnAct)) (turn : Option (Vec TurnAct))
+    → turns ≡ others ++ option_to_list turn
     → SparesByTurns spared turns → SparesByTurns spared others × IfSome turn (TurnSpares spared)
 turns_spare spared others None is spares = (first_of (TurnSpares spared) others [] (subst (SparesByTurns spared) is spares), tt)
 turns_spare spared others (Some turn) is spares =

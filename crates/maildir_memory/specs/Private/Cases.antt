@@ -9,7 +9,7 @@ use Rattle.maildir_memory.specs.declared.cases.Change.{Change}
 use Rattle.maildir_memory.specs.declared.cases.Change.TheVariants.{Make, Hold, Place, Remove, Other, Half}
 use Rattle.maildir_disk.specs.Writing.{changed}
 use Rattle.maildir_memory.specs.Cases.{HasRoom, lefts_of, may_find}
-use Rattle.maildir_memory.specs.TurnActs.{half_turned, turned}
+use Rattle.maildir_memory.specs.Private.TurnActs.{half_turned, turned}
 
 -- the files after a change
 abbrev pub made : Change → Files → Files

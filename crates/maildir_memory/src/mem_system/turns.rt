@@ -5,7 +5,8 @@ ghost use Rattle.maildir_memory.specs.Private.Turns.{OthersAct};
 ghost use Rattle.maildir_disk.specs.Quiet.{SameFiles};
 ghost use Rattle.maildir_disk.specs.SeenSystem.{Looks};
 ghost use Rattle.maildir_memory.specs.MemSystem.{HasNoTurns, SparesByTurns, seen_system, world_of};
-ghost use Rattle.maildir_memory.specs.TurnActs.{Spares, all_turned};
+ghost use Rattle.maildir_memory.specs.TurnActs.{Spares};
+ghost use Rattle.maildir_memory.specs.Private.TurnActs.{all_turned};
 
 use super::MemSystem;
 use crate::faults::error_of;

@@ -2,7 +2,8 @@ use Rattle.std.proofs.Common.{◌≡◌, List, take, All}
 use Rattle.maildir_memory.proofs.Common.{Follows, Action, all_acted, SameScript, files_of, KeepsCases, may_find, LeftByOthers}
 use Rattle.maildir_memory.proofs.cases.Cases.act.Given as goal
 use Rattle.maildir_run.specs.Files.{Spared}
-use Rattle.maildir_memory.specs.TurnActs.{Spares, all_turned}
+use Rattle.maildir_memory.specs.TurnActs.{Spares}
+use Rattle.maildir_memory.specs.Private.TurnActs.{all_turned}
 
 abbrev pub invariant-loop-act : goal.invariant-loop-act
 invariant-loop-act l = record {

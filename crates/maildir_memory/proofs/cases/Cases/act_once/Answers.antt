@@ -16,7 +16,8 @@ returns-in_err-may_lose-2-clause-left c = λ spared spares.
     (left_by_change (Other c.args.act) folder folder c.may_lose.new.self c.may_lose-2.new.self c.may_lose-2.ensures.more spares leaves_none)
 
 pub returns-clause-acts : goal.returns-clause-acts
-returns-clause-acts c = λ spared spares. acts_of_act spared c.args.act.now spares (files_of c.args.folder.now) c.perform.result c.perform.ensures.ok c.perform.ensures.err
+returns-clause-acts c = λ spared spares.
+    acts_of_act spared c.args.act.now spares (files_of c.args.folder.now) c.perform.result c.perform.ensures.ok c.perform.ensures.err
 
 pub returns-clause-left : goal.returns-clause-left
 returns-clause-left c = λ spared spares.
