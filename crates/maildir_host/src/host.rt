@@ -112,9 +112,9 @@ impl<'a, R: Files + Clock> System for Host<'a, R> {
 
     ghost is_current = { λ _ _. ⊥ };
 
-    ghost quiet_is_honest = { λ _ quiet. quiet };
+    ghost quiet_is_honest = { λ _ _ quiet. quiet };
 
-    ghost may_stay = { λ _ honest. honest };
+    ghost may_stay = { λ _ _ honest. honest };
 
     fn names(&mut self, sub: Sub) -> io::Result<Vec<String>> {
         disk::names(self.rt, self.alloc, self.path_of(sub)?.as_str())

@@ -20,7 +20,7 @@ pub returns-in-Settled : goal.returns-in-Settled
 returns-in-Settled g c =
     let settled : IsSettled (system_time_nanos c.in_ok-stamp.stamp) (system_time_nanos c.in_ok-now.now) = rw c.in-Settled.is at c.of-age.ensures in
     taken_if_settled settled (looks_then c.stamp.ensures.looks c.now.ensures.looks)
-    (λ h. (c.in_ok-now.ensures.now (c.stamp.ensures.looks.honest h)).no_later) (rw c.in-Some.is at c.in_ok-names.ensures)
+    (λ spared h. (c.in_ok-now.ensures.now spared (c.stamp.ensures.looks.honest spared h)).no_later) (rw c.in-Some.is at c.in_ok-names.ensures)
 
 pub returns-in_err-later : goal.returns-in_err-later
 returns-in_err-later g c = search (rules, attempt_failed, looks_then)
@@ -29,7 +29,7 @@ pub returns-in-Ahead : goal.returns-in-Ahead
 returns-in-Ahead g c =
     let ahead : IsFarAhead (system_time_nanos c.in_ok-stamp.stamp) (system_time_nanos c.in_ok-later.later) = rw c.in-Ahead.is at c.of.ensures in
     taken_if_ahead ahead (looks_then c.stamp.ensures.looks c.now.ensures.looks) (rw c.in-Some.is at c.in_ok-names.ensures)
-    c.now-2.ensures.looks (λ h. (c.in_ok-later.ensures.now h).no_earlier)
+    c.now-2.ensures.looks (λ spared h. (c.in_ok-later.ensures.now spared h).no_earlier)
 
 pub returns-in_default-of : goal.returns-in_default-of
 returns-in_default-of g c = search (rules, must_wait, looks_then)
