@@ -1,6 +1,8 @@
 // The system calls, one function each.
-use maildir_calls::{FILE_MODE, Facts, check_own, check_same, error_of_move, if_allowed, if_new};
-use maildir_calls::{removed, synced_if_possible, there_already};
+use maildir_calls::{
+    FILE_MODE, Facts, check_own, check_same, error_of_move, if_allowed, if_new, removed,
+    synced_if_possible, there_already,
+};
 use std::alloc::Global;
 use std::fs::{DirBuilder, Metadata, OpenFile, OpenOptions};
 use std::os::unix::fs::{DirBuilderExt, MetadataExt, OpenOptionsExt};
@@ -19,6 +21,16 @@ pub(crate) fn make_folder(files: &impl Files, path: &str) -> io::Result<bool> {
         Ok(()) => Ok(true),
         Err(error) => there_already(error, look(files, path)),
     }
+}
+
+/// As `make_folder`, but a folder that was made is removed again if its parent cannot be opened: it could not be synced.
+pub(crate) fn make_root(files: &impl Files, path: &str, parent: &str) -> io::Result<bool> {
+    let made = make_folder(files, path)?;
+    if made && let Err(error) = fs::open(files, parent) {
+        let _ = fs::remove_dir(files, path);
+        return Err(error);
+    }
+    Ok(made)
 }
 
 /// The names of all entries of a folder. A name that is not UTF-8 is an error.

@@ -29,21 +29,23 @@ pub struct Host<'a, R> {
 
 impl<'a, R: Files<File = File> + Clock> Host<'a, R> {
     /// Opens the Maildir at `path`. The folder, and `tmp`, `new` and `cur` in it, are created with mode 0700 if they are
-    /// missing. The parent of `path` must exist. The folder stays locked while it is open, if the file system has locks for
-    /// folders.
+    /// missing. The parent of `path` must exist, and where the folder is created it must be one that can be opened, to be
+    /// synced. The folder stays locked while it is open, if the file system has locks for folders.
     ///
     /// # Errors
     ///
     /// [`OpenFault::Locked`] if another program holds the lock; nothing in the folder was read or changed.
     /// [`FolderFault::Failed`] if the Maildir cannot be opened to be locked, and then nothing in it was changed; or if one of
-    /// the four is no folder and cannot be created. Those that were created stay.
+    /// the four is no folder and cannot be created. Those that were created stay, but for a Maildir whose parent cannot be
+    /// opened.
     /// [`FolderFault::OutOfMemory`] if an allocation failed.
     pub fn open_at(rt: &'a R, alloc: Global, path: &str) -> Result<Self, OpenFault>
         ensures path { IfOk result (λ system. root_at system ≡ path.now) }
         ensures not_absent { IfErr result (λ fault. ¬ (fault ≡ OpenFault.Folder FolderFault.Absent)) }
     {
         let paths = Paths::new(alloc, path).map_err(io::Error::from)?;
-        let made = disk::make_folder(rt, path)?;
+        let parent = paths.parent().map_err(io::Error::from)?;
+        let made = disk::make_root(rt, path, parent.as_str())?;
         let lock = lock_folder(rt, path)?;
         let host = Host {
             rt,
@@ -120,7 +122,10 @@ impl<'a, R: Files + Clock> System for Host<'a, R> {
     }
 
     fn create(&mut self, name: &str) -> io::Result<R::File> {
-        let (folder, path) = (self.paths.folder(Sub::Tmp)?, self.paths.file(Sub::Tmp, name)?);
+        let (folder, path) = (
+            self.paths.folder(Sub::Tmp)?,
+            self.paths.file(Sub::Tmp, name)?,
+        );
         disk::create(self.rt, folder.as_str(), path.as_str())
     }
 
