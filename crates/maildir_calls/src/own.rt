@@ -6,8 +6,11 @@ ghost use Rattle.maildir_calls.specs.Own.{IsFolder, IsOwn, IsSameOwn};
 use std::io;
 use std::io::ErrorKind;
 
-/// The mode of the files that are made: mail is private.
+/// The mode of the files that are made. Mail is private: only its owner can read it, whatever the umask allows.
 pub const FILE_MODE: u32 = 0o600;
+
+/// The mode of the folders that are made.
+pub const FOLDER_MODE: u32 = 0o700;
 
 // The kind of file that `st_mode` has beside the mode: its bits, a regular file and a folder.
 const KIND: u32 = 0o170_000;

@@ -1,7 +1,7 @@
 // The system calls, one function each.
 use maildir_calls::{
-    FILE_MODE, Facts, check_own, check_same, error_of_move, if_allowed, if_new, removed,
-    synced_if_possible, there_already,
+    FILE_MODE, FOLDER_MODE, Facts, check_own, check_same, error_of_move, if_allowed, if_new,
+    removed, synced_if_possible, there_already,
 };
 use std::alloc::Global;
 use std::fs::{DirBuilder, Metadata, OpenFile, OpenOptions};
@@ -9,9 +9,6 @@ use std::os::unix::fs::{DirBuilderExt, MetadataExt, OpenOptionsExt};
 use std::rt::Files;
 use std::time::SystemTime;
 use std::{fs, io};
-
-// Mail is private: only its owner can read what is created here, whatever the umask allows.
-const FOLDER_MODE: u32 = 0o700;
 
 /// Makes a folder if there is none, and returns whether it did. Its parent must exist.
 pub(crate) fn make_folder(files: &impl Files, path: &str) -> io::Result<bool> {
