@@ -22,6 +22,6 @@ mod paths;
 mod stamps;
 
 pub use answers::{error_of_move, if_allowed, if_new, locked, removed, synced_if_possible};
-pub use own::{FILE_MODE, FOLDER_MODE, Facts, check_own, check_same, there_already};
+pub use own::{FILE_MODE, Facts, check_own, check_same, folder_mode, there_already};
 pub use paths::{Paths, sub_of};
 pub use stamps::time_of_change;

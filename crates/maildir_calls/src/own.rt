@@ -9,15 +9,19 @@ use std::io::ErrorKind;
 /// The mode of the files that are made. Mail is private: only its owner can read it, whatever the umask allows.
 pub const FILE_MODE: u32 = 0o600;
 
-/// The mode of the folders that are made.
-pub const FOLDER_MODE: u32 = 0o700;
-
 // The kind of file that `st_mode` has beside the mode: its bits, a regular file and a folder.
 const KIND: u32 = 0o170_000;
 
 const REGULAR: u32 = 0o100_000;
 
 const FOLDER: u32 = 0o040_000;
+
+/// The mode of the folders that are made.
+pub fn folder_mode() -> u32
+    ensures { result ≡ 0o700 }
+{
+    0o700
+}
 
 /// What stat(2) tells of a file.
 #[derive(Clone, Copy)]

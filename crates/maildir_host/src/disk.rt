@@ -1,6 +1,6 @@
 // The system calls, one function each.
 use maildir_calls::{
-    FILE_MODE, FOLDER_MODE, Facts, check_own, check_same, error_of_move, if_allowed, if_new,
+    FILE_MODE, Facts, check_own, check_same, error_of_move, folder_mode, if_allowed, if_new,
     removed, synced_if_possible, there_already,
 };
 use std::alloc::Global;
@@ -13,7 +13,7 @@ use std::{fs, io};
 /// Makes a folder if there is none, and returns whether it did. Its parent must exist.
 pub(crate) fn make_folder(files: &impl Files, path: &str) -> io::Result<bool> {
     let mut builder = DirBuilder::new();
-    builder.mode(FOLDER_MODE);
+    builder.mode(folder_mode());
     match builder.create(files, path) {
         Ok(()) => Ok(true),
         Err(error) => there_already(error, look(files, path)),
