@@ -1,5 +1,5 @@
 // What the answers of calls mean.
-ghost use Rattle.std.specs.Prelude.{◌≡◌, ◌↔◌, IfErr, IsTrue, OnErr, OnOk};
+ghost use Rattle.std.specs.Prelude.{◌≡◌, ◌↔◌, IfErr, IsTrue, OnOk};
 ghost use Rattle.std.specs.IoError.{error_kind};
 ghost use Rattle.maildir_calls.specs.Answers.{GivesNone, HasNoLocks, HasNoSync, LeavesOut, Locks};
 
@@ -10,48 +10,45 @@ use std::io;
 use std::io::ErrorKind;
 
 /// A file that was to be made: none, if its name was taken.
-pub fn if_new<F>(outcome: io::Result<F>) -> io::Result<Option<F>>
+pub fn if_new<T>(outcome: io::Result<T>) -> io::Result<Option<T>>
     ensures { GivesNone (λ error. error_kind error ≡ ErrorKind.AlreadyExists) outcome result }
 {
-    match outcome {
-        Ok(file) => Ok(Some(file)),
-        Err(error) if error.kind() == ErrorKind::AlreadyExists => Ok(None),
-        Err(error) => Err(error),
-    }
+    unless(ErrorKind::AlreadyExists, outcome)
 }
 
 /// A folder that was to be opened: none, if it may not be.
-pub fn if_allowed<F>(outcome: io::Result<F>) -> io::Result<Option<F>>
+pub fn if_allowed<T>(outcome: io::Result<T>) -> io::Result<Option<T>>
     ensures { GivesNone (λ error. error_kind error ≡ ErrorKind.PermissionDenied) outcome result }
 {
+    unless(ErrorKind::PermissionDenied, outcome)
+}
+
+/// A file that was to be moved or removed: none, if it was not found.
+pub fn if_found<T>(outcome: io::Result<T>) -> io::Result<Option<T>>
+    ensures { GivesNone (λ error. error_kind error ≡ ErrorKind.NotFound) outcome result }
+{
+    unless(ErrorKind::NotFound, outcome)
+}
+
+fn unless<T>(kind: ErrorKind, outcome: io::Result<T>) -> io::Result<Option<T>>
+    ensures { GivesNone (λ error. error_kind error ≡ kind) outcome result }
+{
     match outcome {
-        Ok(folder) => Ok(Some(folder)),
-        Err(error) if error.kind() == ErrorKind::PermissionDenied => Ok(None),
+        Ok(value) => Ok(Some(value)),
+        Err(error) if error.kind() == kind => Ok(None),
         Err(error) => Err(error),
     }
 }
 
-/// The error of a rename(2): of the kind `NotFound` only if there was no file to move. If there was, the folder to move it
-/// to is gone, and the error is of the kind `Other`.
-pub fn error_of_move(error: io::Error, found: &io::Result<Facts>) -> io::Error
-    ensures folder { OnOk found.now (error_kind error ≡ ErrorKind.NotFound → error_kind result ≡ ErrorKind.Other) }
-    ensures file { OnErr found.now (result ≡ error) }
-    ensures others { ¬ (error_kind error ≡ ErrorKind.NotFound) → result ≡ error }
+/// The error of a rename(2) that found nothing, by a look at the file to be moved: the look's own error, if it failed too. If
+/// the file is there, the folder to move it to is gone, and the error is of the kind `Other`.
+pub fn not_moved(found: io::Result<Facts>) -> io::Error
+    ensures folder { OnOk found (error_kind result ≡ ErrorKind.Other) }
+    ensures file { IfErr found (λ error. result ≡ error) }
 {
-    if error.kind() == ErrorKind::NotFound && found.is_ok() {
-        io::Error::other("the folder to move to is gone")
-    } else {
-        error
-    }
-}
-
-/// The removal of a file that may be missing.
-pub fn removed(outcome: io::Result<()>) -> io::Result<()>
-    ensures { LeavesOut (λ error. error_kind error ≡ ErrorKind.NotFound) outcome result }
-{
-    match outcome {
-        Err(error) if error.kind() == ErrorKind::NotFound => Ok(()),
-        outcome => outcome,
+    match found {
+        Ok(_) => io::Error::other("the folder to move to is gone"),
+        Err(error) => error,
     }
 }
 

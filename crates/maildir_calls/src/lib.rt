@@ -21,7 +21,7 @@ mod own;
 mod paths;
 mod stamps;
 
-pub use answers::{error_of_move, if_allowed, if_new, locked, removed, synced_if_possible};
+pub use answers::{if_allowed, if_found, if_new, locked, not_moved, synced_if_possible};
 pub use own::{FILE_MODE, Facts, check_own, check_same, folder_mode, there_already};
 pub use paths::{Paths, sub_of};
 pub use stamps::time_of_change;

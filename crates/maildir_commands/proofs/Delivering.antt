@@ -59,7 +59,7 @@ module _ (spared : Spared) (was is : Bytes) {before after : Bytes} {old new : Se
   pub one_of : {answer : Result Unit Fault} → DeliversSource answer before after was is old new → DeliversOne spared answer text old.held new.held was is
   one_of {answer} did =
       let stores = λ (printed : PrintsReport was is (λ report.
-          StoresSource report before after old new)). printed.said.texts spared h text are possible sound in
+      StoresSource report before after old new)). printed.said.texts spared h text are possible sound in
       record {
         safe = on_ok_then answer (λ printed. (stores printed).safe intact) did.printed;
         line = on_ok_then answer (λ printed. record {

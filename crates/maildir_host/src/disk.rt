@@ -1,7 +1,7 @@
 // The system calls, one function each.
 use maildir_calls::{
-    FILE_MODE, Facts, check_own, check_same, error_of_move, folder_mode, if_allowed, if_new,
-    removed, synced_if_possible, there_already,
+    FILE_MODE, Facts, check_own, check_same, folder_mode, if_allowed, if_found, if_new, not_moved,
+    synced_if_possible, there_already,
 };
 use std::alloc::Global;
 use std::fs::{DirBuilder, Metadata, OpenFile, OpenOptions};
@@ -20,14 +20,21 @@ pub(crate) fn make_folder(files: &impl Files, path: &str) -> io::Result<bool> {
     }
 }
 
-/// As `make_folder`, but a folder that was made is removed again if its parent cannot be opened: it could not be synced.
-pub(crate) fn make_root(files: &impl Files, path: &str, parent: &str) -> io::Result<bool> {
-    let made = make_folder(files, path)?;
-    if made && let Err(error) = fs::open(files, parent) {
-        let _ = fs::remove_dir(files, path);
-        return Err(error);
+/// Makes the folder of a Maildir if there is none, and returns its parent then, opened to be synced. If the parent cannot be
+/// opened, the folder is removed again.
+pub(crate) fn make_root<R: Files>(
+    files: &R,
+    path: &str,
+    parent: &str,
+) -> io::Result<Option<R::File>> {
+    if !make_folder(files, path)? {
+        return Ok(None);
     }
-    Ok(made)
+    let parent = fs::open(files, parent);
+    if parent.is_err() {
+        let _ = fs::remove_dir(files, path);
+    }
+    parent.map(Some)
 }
 
 /// The names of all entries of a folder. A name that is not UTF-8 is an error.
@@ -96,15 +103,16 @@ fn empty<R: Files>(files: &R, folder: &str, path: &str) -> io::Result<R::File> {
 
 /// Moves a file by one rename(2). The error is of the kind `NotFound` only if there was no file to move.
 pub(crate) fn rename(files: &impl Files, from: &str, to: &str) -> io::Result<()> {
-    match fs::rename(files, from, to) {
-        Ok(()) => Ok(()),
-        Err(error) => Err(error_of_move(error, &look_at(files, from))),
+    match if_found(fs::rename(files, from, to))? {
+        Some(()) => Ok(()),
+        None => Err(not_moved(look_at(files, from))),
     }
 }
 
 /// Removes a file, if there is one.
 pub(crate) fn remove(files: &impl Files, path: &str) -> io::Result<()> {
-    removed(fs::remove_file(files, path))
+    if_found(fs::remove_file(files, path))?;
+    Ok(())
 }
 
 /// fsync(2) of a directory.

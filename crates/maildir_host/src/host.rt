@@ -21,8 +21,8 @@ pub struct Host<'a, R> {
     rt: &'a R,
     alloc: Global,
     paths: Paths,
-    // whether opening the Maildir created it
-    made: bool,
+    // its parent, if opening the Maildir created it
+    parent: Option<File>,
     // locked while the Maildir is open
     _lock: File,
 }
@@ -45,13 +45,13 @@ impl<'a, R: Files<File = File> + Clock> Host<'a, R> {
     {
         let paths = Paths::new(alloc, path).map_err(io::Error::from)?;
         let parent = paths.parent().map_err(io::Error::from)?;
-        let made = disk::make_root(rt, path, parent.as_str())?;
+        let parent = disk::make_root(rt, path, parent.as_str())?;
         let lock = lock_folder(rt, path)?;
         let host = Host {
             rt,
             alloc,
             paths,
-            made,
+            parent,
             _lock: lock,
         };
         host.make_folders()?;
@@ -153,11 +153,9 @@ impl<'a, R: Files + Clock> System for Host<'a, R> {
 
     fn sync_root(&mut self) -> io::Result<()> {
         disk::sync_folder(self.rt, self.paths.root())?;
-        let parent = self.paths.parent()?;
-        if self.made {
-            disk::sync_folder(self.rt, parent.as_str())
-        } else {
-            disk::sync_folder_if_possible(self.rt, parent.as_str())
+        match &self.parent {
+            Some(parent) => parent.sync_all(),
+            None => disk::sync_folder_if_possible(self.rt, self.paths.parent()?.as_str()),
         }
     }
 }

@@ -12,7 +12,10 @@ const DEEDS: &[&[Deed<'_>]] = &[
     &[],
     &[Deed::DropTmp(EMPTY_ONE), Deed::DropTmp(ABC)],
     &[Deed::ToCur(EMPTY_ONE, ONE_SEEN), Deed::DropTmp(EMPTY_TWO)],
-    &[Deed::Delete(Sub::New, EMPTY_ONE), Deed::Delete(Sub::Tmp, EMPTY_TWO)],
+    &[
+        Deed::Delete(Sub::New, EMPTY_ONE),
+        Deed::Delete(Sub::Tmp, EMPTY_TWO),
+    ],
 ];
 
 const MODES: &[Mode] = &[

@@ -87,8 +87,13 @@ change_then_act spared (Outside files) m name change ours = change_then_outside 
 acted_then_changed : (spared : Spared) (a : Action) (name : List ℕ) (change : List ℕ → List ℕ) (s : Files)
     → is_spared_name spared name ≡ true → changed name change (acted spared a s) ≡ acted spared a (changed name change s)
 acted_then_changed spared a name change s ours =
-    grind (arith, acted_apart spared a s s.tmp, change_then_act spared a s.tmp name change ours, acted_apart spared a s
-    (rewritten s.tmp name change (get s.tmp name)))
+    grind (
+      arith,
+      acted_apart spared a s s.tmp,
+      change_then_act spared a s.tmp name change ours,
+      acted_apart spared a s
+          (rewritten s.tmp name change (get s.tmp name)),
+    )
 
 all_acted_then_changed : (spared : Spared) (xs : List Action) (name : List ℕ) (change : List ℕ → List ℕ) (s : Files)
     → is_spared_name spared name ≡ true → changed name change (all_acted spared xs s) ≡ all_acted spared xs (changed name change s)

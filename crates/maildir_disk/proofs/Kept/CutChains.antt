@@ -138,9 +138,11 @@ module _ (spared : Spared) (texts : List Mailbox) where
       λ sound. subst (λ s. IsSoundAt s m) (sym e) (still_sound spared m known.named (action ∷ []) old.files sound),
       λ home. subst (λ s. IsHome s m) (sym e) (still_home spared m known.named (action ∷ []) old.files home),
     )
-    kept_at SyncedOver old new are stand uncut synced =
-        (synced_on (λ s. IsSoundAt s m) (still_sound spared m known.named) old new synced, synced_on (λ s. IsHome s m) (still_home spared m known.named) old
-        new synced)
+    kept_at SyncedOver old new are stand uncut synced = (
+      synced_on (λ s. IsSoundAt s m) (still_sound spared m known.named) old new synced,
+      synced_on (λ s. IsHome s m) (still_home spared m known.named) old
+          new synced,
+    )
     kept_at CutOver old new are stand uncut cut = absurd (uncut refl)
 
     stands_at : (event : EventOver) {old new : FilesAndLeft} → All IsMailbox texts

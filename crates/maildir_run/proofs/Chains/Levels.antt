@@ -100,113 +100,113 @@ module _ (d : Message) (ms : List Message) (b : List ℕ) (nums : AreNumbered ms
 -- ---- one run over the text
 module _ {spared : Spared} (d : Message) (ms : List Message) (b : List ℕ) (nums : AreNumbered ms) (own : IsOwnDigest d ms b) (few : length ms ≤ 2 ^ 63)
     (old new : Files) (answer : Result Report RunFault) (keeps : Keeps spared ms old answer new) (n : ℕ) (there : IsThere spared n b old) (small : n ≤ 2 ^ 63)
-    where
-  most : with_digest b ms ≤ length ms
-  most = rw (take-length ms) at (few_with_digest b ms (length ms))
+  where
+    most : with_digest b ms ≤ length ms
+    most = rw (take-length ms) at (few_with_digest b ms (length ms))
 
-  named_at : (k : ℕ) → k ≤ 2 ^ 63 → IsTrue (is_converter_base (numbered b (k + 1)))
-  named_at k le = grind (arith, numbered-converter)
+    named_at : (k : ℕ) → k ≤ 2 ^ 63 → IsTrue (is_converter_base (numbered b (k + 1)))
+    named_at k le = grind (arith, numbered-converter)
 
-  spared_at : {x : List ℕ} {k : ℕ} (a : AtNumber d ms b x k) → IsTrue (spared x) → IsSpared spared (get_or ms a.i d)
-  spared_at a sp = ap spared a.base_is ∙ sp
+    spared_at : {x : List ℕ} {k : ℕ} (a : AtNumber d ms b x k) → IsTrue (spared x) → IsSpared spared (get_or ms a.i d)
+    spared_at a sp = ap spared a.base_is ∙ sp
 
-  at_home : (x : List ℕ) (k : ℕ) (a : AtNumber d ms b x k) → IsTrue (spared x) → has_home new x ≡ true → homes new x ≡ b ∷ []
-  at_home x k a sp on = let sound = keeps.sound.own a.i d a.below (spared_at a sp) in grind (arith, has_home new, homes new)
+    at_home : (x : List ℕ) (k : ℕ) (a : AtNumber d ms b x k) → IsTrue (spared x) → has_home new x ≡ true → homes new x ≡ b ∷ []
+    at_home x k a sp on = let sound = keeps.sound.own a.i d a.below (spared_at a sp) in grind (arith, has_home new, homes new)
 
-  -- what was there is there
-  stays : (k : ℕ) → k < n → IsTrue (spared (numbered b (k + 1))) → homes new (numbered b (k + 1)) ≡ b ∷ []
-  stays k lt sp =
-      let x = numbered b (k + 1) in
-      let was : homes old x ≡ b ∷ [] = there.up_to k lt sp in
-      elim (cases_Bool (is_base_of ms x)) [
-        | inl on ↦
-            let o = of_base d ms b nums own x (numbered-digits b (k + 1)) on in
-            let had : has_home old (get_or ms o.at.i d).target.base ≡ true = grind arith in
-            let has = keeps.still o.at.i d o.at.below (spared_at o.at sp) had in
-            at_home x o.k o.at sp (ap (has_home new) (sym o.at.base_is) ∙ has)
-        | inr off ↦ homes_one x b old new (keeps.sound.others x (spared_named spared x sp (named_at k (omega (arith, lt, small)))) off) was
-      ]
+    -- what was there is there
+    stays : (k : ℕ) → k < n → IsTrue (spared (numbered b (k + 1))) → homes new (numbered b (k + 1)) ≡ b ∷ []
+    stays k lt sp =
+        let x = numbered b (k + 1) in
+        let was : homes old x ≡ b ∷ [] = there.up_to k lt sp in
+        elim (cases_Bool (is_base_of ms x)) [
+          | inl on ↦
+              let o = of_base d ms b nums own x (numbered-digits b (k + 1)) on in
+              let had : has_home old (get_or ms o.at.i d).target.base ≡ true = grind arith in
+              let has = keeps.still o.at.i d o.at.below (spared_at o.at sp) had in
+              at_home x o.k o.at sp (ap (has_home new) (sym o.at.base_is) ∙ has)
+          | inr off ↦ homes_one x b old new (keeps.sound.others x (spared_named spared x sp (named_at k (omega (arith, lt, small)))) off) was
+        ]
 
-  -- a base that is spared has a home
-  abbrev has_if_spared : List ℕ → Bool
-  has_if_spared x = has_home new x || not (spared x)
+    -- a base that is spared has a home
+    abbrev has_if_spared : List ℕ → Bool
+    has_if_spared x = has_home new x || not (spared x)
 
-  has_it : (x : List ℕ) → has_if_spared x ≡ true → IsTrue (spared x) → has_home new x ≡ true
-  has_it x on sp = rw (sp, or-false) at on
+    has_it : (x : List ℕ) → has_if_spared x ≡ true → IsTrue (spared x) → has_home new x ≡ true
+    has_it x on sp = rw (sp, or-false) at on
 
-  lacks_it : (x : List ℕ) → has_if_spared x ≡ false → (has_home new x ≡ false) × IsTrue (spared x)
-  lacks_it x off = grind arith
+    lacks_it : (x : List ℕ) → has_if_spared x ≡ false → (has_home new x ≡ false) × IsTrue (spared x)
+    lacks_it x off = grind arith
 
-  risen : Gap (λ k. has_if_spared (numbered b (k + 1))) n (n + (with_digest b ms - n))
-  risen = gap (λ k. has_if_spared (numbered b (k + 1))) _ n _ refl
+    risen : Gap (λ k. has_if_spared (numbered b (k + 1))) n (n + (with_digest b ms - n))
+    risen = gap (λ k. has_if_spared (numbered b (k + 1))) _ n _ refl
 
-  up_to_now : (k : ℕ) → k < risen.j → IsTrue (spared (numbered b (k + 1))) → homes new (numbered b (k + 1)) ≡ b ∷ []
-  up_to_now k lt sp =
-      let x = numbered b (k + 1) in
-      elim (cases_lt k n) [
-        | inl early ↦ stays k early sp
-        | inr ge ↦ at_home x k (at_number d ms b nums own k (omega (arith, lt, ge, risen.to))) sp (has_it x (risen.full k ge lt) sp)
-      ]
+    up_to_now : (k : ℕ) → k < risen.j → IsTrue (spared (numbered b (k + 1))) → homes new (numbered b (k + 1)) ≡ b ∷ []
+    up_to_now k lt sp =
+        let x = numbered b (k + 1) in
+        elim (cases_lt k n) [
+          | inl early ↦ stays k early sp
+          | inr ge ↦ at_home x k (at_number d ms b nums own k (omega (arith, lt, ge, risen.to))) sp (has_it x (risen.full k ge lt) sp)
+        ]
 
-  -- a message without a home has none after it with one that came
-  none_later : (x : List ℕ) (o : OfBody d ms b x) → IsTrue (is_spared spared x) → take 64 x ≡ digest_text b → risen.j ≤ o.k → homes new x ≡ []
-  none_later x o named digits ge =
-      let sp : IsTrue (spared x) = (and_parts _ _ named).0 in
-      let at_end = lacks_it (numbered b (risen.j + 1)) (risen.ends (omega (arith, ge, o.below, risen.from))) in
-      let none = at_end.0 in
-      elim (cases_lt risen.j o.k) [
-        | inr le ↦ none_of _ (ap (has_home new) (o.is ∙ ap (λ k. numbered b (k + 1)) (omega (arith, le, ge))) ∙ none)
-        | inl lt ↦
-            let a = at_number d ms b nums own risen.j (omega (arith, lt, o.below)) in
-            let before : a.i < o.at.i = grind (arith, fewer_before) in
-            let missing : homes old (get_or ms o.at.i d).target.base ≡ [] =
-            ap (homes old) o.at.base_is ∙ there.no_other x named digits
-            (λ k below. other_number b (omega (arith, below, risen.from, ge)) (omega (arith, o.below, most, few)) o.is) in
-            elim (cases_Bool (has_home new x)) [
-              | inr off ↦ none_of _ off
-              | inl on ↦
-                  let came : has_home new (get_or ms a.i d).target.base ≡ true =
-                  keeps.in_order a.i o.at.i d before o.at.below (spared_at a at_end.1) (spared_at o.at sp) missing (ap (has_home new) o.at.base_is ∙ on) in
-                  let came_at : has_home new (numbered b (risen.j + 1)) ≡ true = ap (has_home new) (sym a.base_is) ∙ came in
-                  cc
-            ]
-      ]
+    -- a message without a home has none after it with one that came
+    none_later : (x : List ℕ) (o : OfBody d ms b x) → IsTrue (is_spared spared x) → take 64 x ≡ digest_text b → risen.j ≤ o.k → homes new x ≡ []
+    none_later x o named digits ge =
+        let sp : IsTrue (spared x) = (and_parts _ _ named).0 in
+        let at_end = lacks_it (numbered b (risen.j + 1)) (risen.ends (omega (arith, ge, o.below, risen.from))) in
+        let none = at_end.0 in
+        elim (cases_lt risen.j o.k) [
+          | inr le ↦ none_of _ (ap (has_home new) (o.is ∙ ap (λ k. numbered b (k + 1)) (omega (arith, le, ge))) ∙ none)
+          | inl lt ↦
+              let a = at_number d ms b nums own risen.j (omega (arith, lt, o.below)) in
+              let before : a.i < o.at.i = grind (arith, fewer_before) in
+              let missing : homes old (get_or ms o.at.i d).target.base ≡ [] =
+              ap (homes old) o.at.base_is ∙ there.no_other x named digits
+              (λ k below. other_number b (omega (arith, below, risen.from, ge)) (omega (arith, o.below, most, few)) o.is) in
+              elim (cases_Bool (has_home new x)) [
+                | inr off ↦ none_of _ off
+                | inl on ↦
+                    let came : has_home new (get_or ms a.i d).target.base ≡ true =
+                    keeps.in_order a.i o.at.i d before o.at.below (spared_at a at_end.1) (spared_at o.at sp) missing (ap (has_home new) o.at.base_is ∙ on) in
+                    let came_at : has_home new (numbered b (risen.j + 1)) ≡ true = ap (has_home new) (sym a.base_is) ∙ came in
+                    cc
+              ]
+        ]
 
-  no_other_now : (x : List ℕ) → IsTrue (is_spared spared x) → take 64 x ≡ digest_text b
-      → ((k : ℕ) → k < risen.j → numbered b (k + 1) ≡ x → ⊥) → homes new x ≡ []
-  no_other_now x named digits apart =
-      elim (cases_Bool (is_base_of ms x)) [
-        | inr off ↦
-            homes_none x old new (keeps.sound.others x named off) (there.no_other x named digits (λ k lt. apart k (omega (arith, lt, risen.from))))
-        | inl on ↦
-            let o = of_base d ms b nums own x digits on in
-            elim (cases_lt o.k risen.j) [
-              | inl lt ↦ absurd (apart o.k lt (sym o.is))
-              | inr ge ↦ none_later x o named digits ge
-            ]
-      ]
+    no_other_now : (x : List ℕ) → IsTrue (is_spared spared x) → take 64 x ≡ digest_text b
+        → ((k : ℕ) → k < risen.j → numbered b (k + 1) ≡ x → ⊥) → homes new x ≡ []
+    no_other_now x named digits apart =
+        elim (cases_Bool (is_base_of ms x)) [
+          | inr off ↦
+              homes_none x old new (keeps.sound.others x named off) (there.no_other x named digits (λ k lt. apart k (omega (arith, lt, risen.from))))
+          | inl on ↦
+              let o = of_base d ms b nums own x digits on in
+              elim (cases_lt o.k risen.j) [
+                | inl lt ↦ absurd (apart o.k lt (sym o.is))
+                | inr ge ↦ none_later x o named digits ge
+              ]
+        ]
 
-  all_home : AllSpared spared (IsHome new) ms → with_digest b ms ≤ risen.j
-  all_home all =
-      elim (cases_lt risen.j (with_digest b ms)) [
-        | inr ge ↦ ge
-        | inl lt ↦
-            let a = at_number d ms b nums own risen.j lt in
-            let off = lacks_it (numbered b (risen.j + 1)) (risen.ends (omega (arith, lt, risen.from))) in
-            let home = all a.i d a.below (spared_at a off.1) in
-            let on : has_home new (numbered b (risen.j + 1)) ≡ true = ap (has_home new) (sym a.base_is) ∙ ap is_any home in
-            let none = off.0 in
-            cc
-      ]
+    all_home : AllSpared spared (IsHome new) ms → with_digest b ms ≤ risen.j
+    all_home all =
+        elim (cases_lt risen.j (with_digest b ms)) [
+          | inr ge ↦ ge
+          | inl lt ↦
+              let a = at_number d ms b nums own risen.j lt in
+              let off = lacks_it (numbered b (risen.j + 1)) (risen.ends (omega (arith, lt, risen.from))) in
+              let home = all a.i d a.below (spared_at a off.1) in
+              let on : has_home new (numbered b (risen.j + 1)) ≡ true = ap (has_home new) (sym a.base_is) ∙ ap is_any home in
+              let none = off.0 in
+              cc
+        ]
 
-  done_now : (r : Result Report RunFault) → r ≡ answer → OnOk r (with_digest b ms ≤ risen.j)
-  done_now r e = grind (arith, all_home)
+    done_now : (r : Result Report RunFault) → r ≡ answer → OnOk r (with_digest b ms ≤ risen.j)
+    done_now r e = grind (arith, all_home)
 
-  pub rise : Rise spared b (with_digest b ms) n answer new
-  rise = record {
-    now = risen.j;
-    there = record { up_to = up_to_now; no_other = no_other_now };
-    from = risen.from;
-    to = risen.to;
-    done = done_now answer refl;
-  }
+    pub rise : Rise spared b (with_digest b ms) n answer new
+    rise = record {
+      now = risen.j;
+      there = record { up_to = up_to_now; no_other = no_other_now };
+      from = risen.from;
+      to = risen.to;
+      done = done_now answer refl;
+    }

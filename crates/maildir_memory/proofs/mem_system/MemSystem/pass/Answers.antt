@@ -13,7 +13,7 @@ returns-in-Some-clause-others c =
     let did = c.act.ensures.others in
     let spare = λ (spared : Spared). turns_spare spared c.pop.new.self.items c.pop.result c.pop.ensures.items in
     let turn : (spared : Spared) → SparesByTurns spared c.args.self.now.turns.items → All (Spares spared) c.deref.result.now =
-        λ spared turns. subst (All (Spares spared)) (sym c.deref.ensures.value) (rw c.in-Some.is at ((spare spared turns).1)) in
+    λ spared turns. subst (All (Spares spared)) (sym c.deref.ensures.value) (rw c.in-Some.is at ((spare spared turns).1)) in
     record {
       honest = did.honest;
       still = λ spared turns. did.still spared (spare spared turns).0;
