@@ -206,6 +206,10 @@ int unlink(const char *path) {
     return is_to_fail("remove", path) ? -1 : REAL(unlink)(path);
 }
 
+int rmdir(const char *path) {
+    return is_to_fail("remove", path) ? -1 : REAL(rmdir)(path);
+}
+
 int rename(const char *from, const char *to) {
     if (is_to_fail("move", from))
         return -1;

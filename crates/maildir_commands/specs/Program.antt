@@ -1,16 +1,20 @@
 -- What a run of the program owes.
 use Rattle.std.specs.Prelude.{◌≡◌, ℕ, List, [], length, max, codes, Option, Some, None, Result, Ok, Err, OnOk, OnErr, IfErr}
 use Rattle.std.specs.Io.KnownBytes.{Keeps}
+use Rattle.std.specs.declared.io.Error.{Error}
 use Rattle.mbox_text.specs.declared.entry.Entry.{Entry}
 use Rattle.mbox_text.specs.Writing.{Writes}
+use Rattle.maildir_run.specs.declared.fault.RunFault.TheVariants as run
 use Rattle.maildir_run.specs.Delivery.{IsSwept}
 use Rattle.maildir_run.specs.Foreign.{KeepsForeign}
 use Rattle.maildir_run.specs.Runs.{Possible}
 use Rattle.maildir_run.specs.Several.{Mailbox}
 use Rattle.maildir_run.specs.Touched.{TouchedConverters}
+use Rattle.maildir_disk.specs.Faults.{IsFailedAllocation}
 use Rattle.maildir_commands.specs.declared.ending.Ending.{Ending}
 use Rattle.maildir_commands.specs.declared.ending.Ending.TheVariants.{Done, Stopped, WrongWords}
 use Rattle.maildir_commands.specs.declared.fault.Fault.{Fault}
+use Rattle.maildir_commands.specs.declared.fault.Fault.TheVariants.{Run}
 use Rattle.maildir_commands.specs.Causes.{IsCauseOf}
 use Rattle.maildir_commands.specs.Endings.{status_of}
 use Rattle.maildir_commands.specs.Faults.{fault_text, told}
@@ -120,3 +124,11 @@ pub record RanOn {M : Type 0} (at : M → SeenMachine) (words : List (List ℕ))
   pub ran : Ran words ending (seen_at (at old) was) (seen_at (at new) is) was.errors is.errors
   -- where the words are of no form, nothing was done
   pub untouched : status ≡ 2 → (new ≡ old) × (is.input ≡ was.input)
+
+-- The words could not be read with this error, and the program ended so: for want of memory, or since they are of no form. `was` and `is` are what had
+-- been written to standard error, as above.
+abbrev pub Refuses : Error → Ending → Option (List ℕ) → Option (List ℕ) → Type 0
+Refuses error Done was is = ⊥
+Refuses error (Stopped fault written) was is =
+    IsFailedAllocation error × (fault ≡ Run run.OutOfMemory) × Writes was is written (told (fault_text fault))
+Refuses error (WrongWords written) was is = ¬ IsFailedAllocation error × Writes was is written (told (codes "wrong words"))

@@ -1,6 +1,7 @@
 -- A listing, from the calls of the system.
-use Rattle.std.proofs.Common.{◌≡◌, ◌≤◌, ℕ, Option, Some, None, Result, Ok, Err, IsErr, Vec, String, Global, subst}
+use Rattle.std.proofs.Common.{◌≡◌, ◌≤◌, ◌<◌, ℕ, Option, Some, None, Result, Ok, Err, IsErr, Vec, String, Global, subst}
 use Rattle.std.proofs.lemmas.Bool.{false≢true}
+use Rattle.std.specs.Duration.{as_nanos}
 use Rattle.std.specs.declared.time.Duration.{Duration}
 use Rattle.std.specs.declared.time.SystemTime.{SystemTime}
 use Rattle.maildir_disk.proofs.Common.{Sub, IsSettled, IsFarAhead, IsStampWithin, system_time_nanos, Spared}
@@ -35,10 +36,11 @@ watches {sub} {stamp} {a} {b} {c} reads stamps same = record {
 -- ---- one attempt
 pub attempt_failed : {E : Type 0} (sub : Sub) {a b : SeenSystem} (outcome : Result Look E) → IsErr outcome → Looks a b → Attempts sub a outcome b
 attempt_failed sub (Ok _) is_err looks = absurd (false≢true is_err)
-attempt_failed sub (Err _) is_err looks = record { looks = looks; looked = looks.acts; exact = λ q. tt }
+attempt_failed sub (Err _) is_err looks = record { looks = looks; looked = looks.acts; exact = λ q. tt; pauses = tt }
 
-pub must_wait : {E : Type 0} {sub : Sub} {pause : Duration} {a b : SeenSystem} → Looks a b → Attempts {E = E} sub a (Ok (Wait pause)) b
-must_wait looks = record { looks = looks; looked = looks.acts; exact = λ q. tt }
+pub must_wait : {E : Type 0} {sub : Sub} {pause : Duration} {a b : SeenSystem} → 0 < as_nanos pause → Looks a b
+    → Attempts {E = E} sub a (Ok (Wait pause)) b
+must_wait some looks = record { looks = looks; looked = looks.acts; exact = λ q. tt; pauses = some }
 
 -- the stamp had settled before the names were read
 pub taken_if_settled : {E F : Type 0} {sub : Sub} {stamp now : ℕ} {a b c : SeenSystem} {names : Vec (String Global) Global} → IsSettled stamp now
@@ -50,6 +52,7 @@ taken_if_settled settled looks no_later watches = record {
       let found = watches.watched spared (looks.honest spared h) in
       lists_at (looks.acts spared h) found.acts (exact_if_settled settled (no_later spared h) found);
   exact = λ q. rw (looks.quietly q) at (watches.exact (looks.quiet q));
+  pauses = tt;
 }
 
 -- the stamp was far ahead of the clock after the names were read
@@ -64,6 +67,7 @@ taken_if_ahead ahead looks watches then no_earlier = record {
       let found = watches.watched spared on in
       lists_at (looks.acts spared h) (acts_on found.acts (then.acts spared read)) (exact_if_ahead ahead (no_earlier spared read) found);
   exact = λ q. rw (looks.quietly q) at (watches.exact (looks.quiet q));
+  pauses = tt;
 }
 
 -- ---- several attempts

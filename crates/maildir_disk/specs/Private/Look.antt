@@ -1,5 +1,5 @@
 -- What one attempt at a listing returns.
-use Rattle.std.specs.Prelude.{ℕ, ◌+◌, ◌≤◌, List, Result, Ok, Err, IfOk, Option, Some, None}
+use Rattle.std.specs.Prelude.{◌≡◌, ℕ, ◌+◌, ◌<◌, List, Result, Ok, Err, IfOk, Option, Some, None}
 use Rattle.std.specs.declared.vec.Vec.{Vec}
 use Rattle.std.specs.declared.string.String.{String}
 use Rattle.std.specs.declared.alloc.Global.{Global}
@@ -16,11 +16,11 @@ use Rattle.maildir_disk.specs.Look.{IsFarAhead, IsSettled}
 use Rattle.maildir_disk.specs.Quiet.{AreNames}
 use Rattle.maildir_disk.specs.SeenSystem.{Looks, SeenSystem}
 
--- how the stamp of a folder compares with the clock; the pause lasts until the stamp has settled, and no longer
+-- how the stamp of a folder compares with the clock; the pause is what is left until the stamp has settled, and not nothing
 abbrev pub IsAged : ℕ → ℕ → Age → Type 0
 IsAged stamp now Settled = IsSettled stamp now
 IsAged stamp now Ahead = IsFarAhead stamp now
-IsAged stamp now (Young pause) = now + as_nanos pause ≤ stamp + margin_of stamp
+IsAged stamp now (Young pause) = (now + as_nanos pause ≡ stamp + margin_of stamp) × (0 < as_nanos pause)
 
 -- These names were read, and then the folder had this stamp: they are its names, or the stamp is that of a change meanwhile.
 pub record Watched (spared : Spared) (sub : Sub) (stamp : ℕ) (old : World) (names : List (List ℕ)) (new : World) : Type 0 where
@@ -49,6 +49,11 @@ abbrev pub LookGivesQuietly : Sub → Files → Look → Type 0
 LookGivesQuietly sub s (Taken names) = AreNames sub s names
 LookGivesQuietly sub s (Wait _) = Unit {0}
 
+-- an attempt that gave no names is to be followed by a pause
+abbrev pub Pauses : Look → Type 0
+Pauses (Taken _) = Unit {0}
+Pauses (Wait pause) = 0 < as_nanos pause
+
 -- The names were read, and then the stamp.
 pub record Watches {E : Type 0} (sub : Sub) (stamp : ℕ) (old : SeenSystem) (result : Result (Option (Vec (String Global) Global)) E)
     (new : SeenSystem) : Type 0 where
@@ -61,6 +66,7 @@ pub record Attempts {E : Type 0} (sub : Sub) (old : SeenSystem) (result : Result
   pub looks : Looks old new
   pub looked : (spared : Spared) → old.honest spared → LookGives spared sub old.world result new.world
   pub exact : old.quiet → IfOk result (LookGivesQuietly sub old.world.files)
+  pub pauses : IfOk result Pauses
 
 -- The names of one moment were read, in several attempts.
 pub record ReadsAtOnce {E : Type 0} (sub : Sub) (old : SeenSystem) (result : Result (Vec (String Global) Global) E) (new : SeenSystem) : Type 0 where

@@ -1,4 +1,5 @@
-use Rattle.std.proofs.Common.{rules}
+use Rattle.std.proofs.Common.{◌<◌, arith, rules}
+use Rattle.std.specs.Duration.{as_nanos}
 use Rattle.maildir_disk.proofs.Common.{system_time_nanos, IsSettled, IsFarAhead}
 use Rattle.maildir_disk.proofs.Calls.Listings.{attempt_failed, must_wait, taken_if_ahead, taken_if_settled}
 use Rattle.maildir_disk.proofs.Calls.Looking.{looks_then}
@@ -8,13 +9,15 @@ pub returns-in_err-now : goal.returns-in_err-now
 returns-in_err-now g c = search (rules, attempt_failed, looks_then)
 
 pub returns-in-Young : goal.returns-in-Young
-returns-in-Young g c = search (rules, must_wait, looks_then)
+returns-in-Young g c =
+    let some : 0 < as_nanos c.in-Young.pause = (rw c.in-Young.is at c.of-age.ensures).1 in
+    must_wait some (search (rules, looks_then))
 
 pub returns-in_err-names : goal.returns-in_err-names
 returns-in_err-names g c = search (rules, attempt_failed, looks_then)
 
 pub returns-in_default-2 : goal.returns-in_default-2
-returns-in_default-2 g c = search (rules, must_wait, looks_then)
+returns-in_default-2 g c = must_wait (omega (arith, c.pause.ensures)) (search (rules, looks_then))
 
 pub returns-in-Settled : goal.returns-in-Settled
 returns-in-Settled g c =
@@ -32,4 +35,4 @@ returns-in-Ahead g c =
     c.now-2.ensures.looks (λ spared h. (c.in_ok-later.ensures.now spared h).no_earlier)
 
 pub returns-in_default-of : goal.returns-in_default-of
-returns-in_default-of g c = search (rules, must_wait, looks_then)
+returns-in_default-of g c = must_wait (omega (arith, c.pause-in_default-of.ensures)) (search (rules, looks_then))
