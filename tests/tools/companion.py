@@ -10,6 +10,7 @@ from pathlib import Path
 from tools.common import TOP, differ, equal, program
 
 ADMIN = TOP / "admin/mbox2maildir-admin"
+PACKAGE = TOP / "admin/mbox2maildir_admin"
 
 A = b"From alva@example.org Mon Mar  3 09:12:44 2025\nFrom: alva@example.org\nSubject: one\n"
 B = b"From boris@example.com Mon Mar  3 11:40:02 2025\nFrom: boris@example.com\nSubject: two\n"
@@ -63,6 +64,25 @@ def install(folder):
     folder.mkdir(parents=True, exist_ok=True)
     shutil.copy(program(), folder / "mbox2maildir")
     shutil.copy(ADMIN, folder)
+    shutil.copytree(PACKAGE, folder / PACKAGE.name, ignore=shutil.ignore_patterns("__pycache__"))
+
+
+# a server's own is that of the machine, and may have another separator, or other folders
+DOVECOT = """base_dir = {folder}/dovecot
+state_dir = {folder}/dovecot
+protocols =
+ssl = no
+"""
+
+
+def own_dovecot(folder):
+    """Puts programs of Dovecot into a folder, so that they have a configuration of their own."""
+    (folder / "dovecot.conf").write_text(DOVECOT.format(folder=folder))
+    for name in ("doveadm", "dovecot-lda", "imap"):
+        found = shutil.which(name, path=f"{os.environ['PATH']}:/usr/sbin:/usr/lib/dovecot:/usr/libexec/dovecot")
+        if found:
+            (folder / name).write_text(f'#!/bin/sh\nexec {found} -c {folder}/dovecot.conf "$@"\n')
+            (folder / name).chmod(0o755)
 
 
 @contextmanager

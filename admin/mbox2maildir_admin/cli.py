@@ -1,0 +1,124 @@
+"""The words of the command line."""
+import argparse
+import signal
+import sys
+
+from . import ADMIN
+from .commands import do_dates, do_folders, do_kind, do_quote, do_verify
+from .faults import Fault, OutputFault
+from .terminal import complain, drop, flush, open_streams, reason_of
+
+# the signals that end a program, but for the ones that no program sees, and those of faults of its own
+ENDING = ("SIGHUP", "SIGINT", "SIGQUIT", "SIGTERM", "SIGALRM", "SIGVTALRM", "SIGPROF", "SIGUSR1", "SIGUSR2", "SIGXCPU", "SIGPWR",
+          "SIGPOLL", "SIGSTKFLT")
+
+
+def parser():
+    """The parser of the command line."""
+    top = argparse.ArgumentParser(
+        prog=ADMIN, description="Looks at mailboxes before mbox2maildir converts them, and at the Maildir afterwards.",
+        epilog="`%s WORD --help` describes a word. Status: 0 where all is well, 1 where something was found or left undone, "
+        "2 for wrong words." % ADMIN)
+    words = top.add_subparsers(metavar="WORD", dest="word")
+    words.required = True
+    add(words, "kind", do_kind, "say what files are, and what to do first",
+        "Prints what each FILE is, how many messages it has, and the one command to run next; then why, with the numbers of "
+        "lines. Changes nothing. Status 0 only where every file can be converted as it is. A FILE may be a folder of mailboxes.",
+        "FILE")
+    add_quote(words)
+    add_dates(words)
+    add_folders(words)
+    add(words, "verify", do_verify, "look whether each message is in the Maildir",
+        "Compares each FILE with MAILDIR, and prints how many of its messages are there with exactly their bytes, how many under "
+        "another name, how many with other bytes, how many nowhere, and how many files hold a message again. Writes nothing. "
+        "Status 0 only where each is there, once. A FILE may be a folder of mailboxes.", "MAILDIR", "FILE")
+    return top
+
+
+def add(words, name, task, short, text, *operands):
+    """Adds a word, which does a task."""
+    one = words.add_parser(name, help=short, description=text)
+    one.set_defaults(task=task, error=one.error)
+    for operand in operands:
+        many = operand == "FILE"
+        one.add_argument("files" if many else operand.lower(), metavar=operand, nargs="+" if many else None)
+    return one
+
+
+def add_quote(words):
+    """Adds the word `quote`."""
+    one = add(words, "quote", do_quote, "write a quoted copy of a mailbox",
+              "Writes a copy of FILE for mbox2maildir, in which the lines `From ` of mail are quoted: of each message by its "
+              "Content-Length, which is left out, where no option says otherwise. The copy is FILE.mboxrd, whole or not there "
+              "at all. It begins with the first From_ line.")
+    how = one.add_mutually_exclusive_group()
+    how.add_argument("--lengths", action="store_true",
+                     help="go by lengths also where a message has none, and where they lead over dated From_ lines")
+    how.add_argument("--no-lengths", action="store_true",
+                     help="quote lines `From ` that do not end in a weekday, a date and a time (s-nail, mail.local)")
+    how.add_argument("--mboxo", action="store_true", help="quote lines `>>From ` alone, and with more `>`")
+    how.add_argument("--mboxrd", action="store_true", help="quote nothing")
+    how.add_argument("--line", metavar="N", type=int, action="append", help="quote line N alone; it may be given again")
+    one.add_argument("--all", action="store_true",
+                     help="with --no-lengths: quote `>From ` too, of programs that quote nothing (git, mailutils, mairix)")
+    ends = one.add_mutually_exclusive_group()
+    ends.add_argument("--crlf", action="store_true", help="write CR LF as LF")
+    ends.add_argument("--cr", action="store_true", help="write CR, and CR LF, as LF; by lengths that can't be")
+    one.add_argument("-o", "--output", metavar="COPY", help="the name of the copy; - is standard output")
+    one.add_argument("file", metavar="FILE")
+
+
+def add_dates(words):
+    """Adds the word `dates`."""
+    one = add(words, "dates", do_dates, "give converted files the dates of their From_ lines",
+              "Gives the files in MAILDIR that came from FILE the dates of its From_ lines. A date without a zone is in that of "
+              "TZ, or of this machine. Status 1 where a message has no date, or no file. A FILE may be a folder of mailboxes.",
+              "MAILDIR", "FILE")
+    one.add_argument("--header", action="store_true",
+                     help="take the date of the header Date where the From_ line has none, and where all From_ lines have one")
+
+
+def add_folders(words):
+    """Adds the word `folders`."""
+    one = add(words, "folders", do_folders, "print the folder of each mailbox below a folder, and run a command for each",
+              "Prints which folder of MAILDIR each mailbox below OLD would be, and runs COMMAND FOLDER MAILBOX for each, if "
+              "given. Status 1 where anything was left undone.", "MAILDIR", "OLD")
+    one.add_argument("--jobs", metavar="N", type=int, default=1, help="how many commands run at a time (1)")
+    one.add_argument("command", metavar="COMMAND", nargs=argparse.REMAINDER, help="the command and its words")
+
+
+def end_in_order():
+    """By a signal what is open goes away as by Ctrl-C, unless whoever started this ignores it."""
+    for name in ENDING:
+        number = getattr(signal, name, None)
+        if number is not None and signal.getsignal(number) != signal.SIG_IGN:
+            signal.signal(number, signal.default_int_handler)
+
+
+def run():
+    """Does what the words say, and answers the status."""
+    try:
+        try:
+            words = parser().parse_args()
+            return 0 if words.task(words) else 1
+        finally:
+            flush()
+    except OutputFault as fault:
+        drop(sys.stdout)
+        if not isinstance(fault.__cause__, BrokenPipeError):
+            complain("the output could not be written: %s" % fault.__cause__.strerror)
+    except (Fault, OSError) as fault:
+        complain(reason_of(fault, b""))
+    except MemoryError:
+        complain("out of memory")
+    return 1
+
+
+def main():
+    """Runs the program."""
+    open_streams()
+    end_in_order()
+    try:
+        return run()
+    except KeyboardInterrupt:
+        return 130

@@ -1,0 +1,86 @@
+"""Copies of mailboxes, which appear whole, or not at all."""
+import contextlib
+import os
+import stat
+import tempfile
+
+from . import ADMIN
+from .faults import Fault
+from .parts import from_lines_of
+from .source import BLOCK, Reader
+from .terminal import fault_of, shown
+
+# how a copy is named until it is whole, where it must have a name
+UNFINISHED = b".%s-" % ADMIN.encode()
+
+
+class Copy:
+    """A file that is made beside the place of its name, and gets it when it is whole and on the disk. Until then it has no name,
+    or one that is never taken for a mailbox."""
+
+    def __init__(self, path):
+        self.path, self.folder = path, os.path.dirname(path) or b"."
+        self.file = self.part = None
+
+    @classmethod
+    @contextlib.contextmanager
+    def open(cls, path):
+        """A copy to be written; nothing is left of it but what was placed."""
+        if os.path.lexists(path):
+            raise Fault("%s is there already" % shown(path))
+        copy = cls(path)
+        with fault_of(copy.folder):
+            copy.begin()
+        try:
+            yield copy
+        finally:
+            copy.end()
+
+    def begin(self):
+        """Opens a file without a name, or where none such can get one later, one with an odd name."""
+        try:
+            os.stat("/proc/self/fd")
+            number = os.open(self.folder, os.O_RDWR | os.O_TMPFILE | os.O_CLOEXEC, 0o600)
+        except OSError:
+            number, self.part = tempfile.mkstemp(prefix=UNFINISHED, dir=self.folder)
+        self.file = os.fdopen(number, "w+b", BLOCK)
+
+    def write(self, piece):
+        """Adds bytes to it."""
+        with fault_of(self.path):
+            self.file.write(piece)
+
+    def written(self):
+        """How many bytes, and how many messages, the file has now."""
+        with fault_of(self.path):
+            self.file.flush()
+            return os.fstat(self.file.fileno()).st_size, from_lines_of(Reader(self.file.fileno()))
+
+    def place(self, state):
+        """Gives it its name, and the owner and the mode of the mailbox; where that can't be, its maker's alone."""
+        with fault_of(self.path):
+            with contextlib.suppress(OSError):
+                os.fchown(self.file.fileno(), state.st_uid, state.st_gid)
+                os.fchmod(self.file.fileno(), stat.S_IMODE(state.st_mode) & 0o666)
+            os.fsync(self.file.fileno())
+            folder = os.open(self.folder, os.O_RDONLY | os.O_DIRECTORY)
+            try:
+                self.link(folder)
+                os.fsync(folder)
+            finally:
+                os.close(folder)
+
+    def link(self, folder):
+        """Gives it its name, unless something has that. That a folder is named makes os.link follow the link of /proc."""
+        try:
+            os.link(self.part or "/proc/self/fd/%d" % self.file.fileno(), self.path, src_dir_fd=None if self.part else folder)
+        except FileExistsError as error:
+            raise Fault("%s is there already" % shown(self.path)) from error
+
+    def end(self):
+        """Leaves nothing but what was placed."""
+        if self.part:
+            with contextlib.suppress(FileNotFoundError):
+                os.unlink(self.part)
+        with contextlib.suppress(OSError):
+            self.file.close()

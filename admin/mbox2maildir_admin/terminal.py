@@ -1,0 +1,107 @@
+"""What is printed: names and lines of mail that come from others are escaped."""
+import contextlib
+import os
+import shlex
+import sys
+
+from . import ADMIN
+from .faults import Fault, OutputFault, PlaceFault
+
+# how many lines, messages or files of a sort are named
+NAMED = 5
+
+
+def shown(name):
+    """A name, or a line of mail, as it is printed: bytes that are no printable character are escaped."""
+    def letter_of(letter):
+        return letter if letter.isprintable() else "".join("\\x%02x" % byte for byte in letter.encode("utf-8", "surrogateescape"))
+    return "".join(map(letter_of, os.fsencode(name).decode("utf-8", "surrogateescape")))
+
+
+def word(name):
+    """A name as a word of a shell, which is no option."""
+    name = b"./" + name if name.startswith(b"-") else name
+    text = name.decode("utf-8", "surrogateescape")
+    return shlex.quote(text) if text.isprintable() else "$'%s'" % shown(name.replace(b"\\", b"\\\\").replace(b"'", b"\\'"))
+
+
+def is_text(name):
+    """Whether a name is UTF-8, as the words of mbox2maildir must be."""
+    return os.fsencode(name).decode("utf-8", "ignore").encode() == os.fsencode(name)
+
+
+def write(piece):
+    """Writes bytes to standard output."""
+    try:
+        sys.stdout.buffer.write(piece)
+    except OSError as error:
+        raise OutputFault from error
+
+
+def flush():
+    """Ends with all on standard output that was written."""
+    try:
+        sys.stdout.flush()
+    except OSError as error:
+        raise OutputFault from error
+
+
+def put(line):
+    """Prints a line."""
+    write(line.encode("utf-8", "surrogateescape") + b"\n")
+
+
+def put_some(lines, count):
+    """Prints the first of so many lines, indented, and how many more there are."""
+    for line, _ in zip(lines, range(NAMED)):
+        put("    " + line.rstrip())
+    if count > NAMED:
+        put("    and %d more" % (count - NAMED))
+
+
+def complain(line):
+    """Says what is wrong, after what was printed before."""
+    flush()
+    put_error(("%s: %s\n" % (ADMIN, line)).encode("utf-8", "surrogateescape"))
+
+
+def put_error(piece):
+    """Writes to standard error; that this takes no more changes nothing."""
+    try:
+        sys.stderr.buffer.write(piece)
+        sys.stderr.buffer.flush()
+    except OSError:
+        drop(sys.stderr)
+
+
+def drop(stream):
+    """What a stream still holds, and what comes, goes nowhere."""
+    nowhere = os.open(os.devnull, os.O_WRONLY)
+    os.dup2(nowhere, stream.fileno())
+    os.close(nowhere)
+
+
+def open_streams():
+    """Gives a standard stream that is closed a file that takes nothing, so that no other file gets its number."""
+    for number, name in enumerate(("stdin", "stdout", "stderr")):
+        if getattr(sys, name) is None:
+            os.open(os.devnull, os.O_RDONLY)
+            setattr(sys, name, os.fdopen(number, "w" if number else "r"))
+
+
+def reason_of(fault, path):
+    """What is said of a fault that came up with a file: the place, and the cause."""
+    if isinstance(fault, PlaceFault):
+        return str(fault)
+    if isinstance(fault, Fault):
+        return "%s: %s" % (shown(path), fault)
+    return "%s: %s" % (shown(fault.filename if fault.filename is not None else path), fault.strerror or fault)
+
+
+@contextlib.contextmanager
+def fault_of(path):
+    """What goes wrong in here is the fault of this file or folder."""
+    try:
+        yield
+    except OSError as error:
+        raise PlaceFault("%s: %s" % (shown(path), error.strerror)) from error

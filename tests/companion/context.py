@@ -1,0 +1,27 @@
+"""What the tests of the companion's modules share: the package is found, and texts become files that are open."""
+import contextlib
+import sys
+import tempfile
+from pathlib import Path
+
+sys.path.insert(0, str(Path(__file__).resolve().parents[2] / "admin"))
+
+A = b"From alva@example.org Mon Mar  3 09:12:44 2025\nSubject: one\n"
+B = b"From boris@example.com Mon Mar  3 11:40:02 2025\nSubject: two\n"
+
+
+@contextlib.contextmanager
+def folder():
+    """A folder that goes away, as bytes."""
+    with tempfile.TemporaryDirectory() as name:
+        yield name.encode()
+
+
+@contextlib.contextmanager
+def source_of(text):
+    """An open mailbox with this text."""
+    from mbox2maildir_admin.source import Source
+    with folder() as here:
+        Path(here.decode(), "box").write_bytes(text)
+        with Source.open(here + b"/box") as source:
+            yield source

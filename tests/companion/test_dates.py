@@ -1,0 +1,66 @@
+"""Dates of From_ lines and headers. More forms, and the files that get them, are in tests/admin."""
+import os
+import time
+import unittest
+from datetime import datetime
+
+from context import folder, source_of
+from mbox2maildir_admin.dates import is_dated, seconds_of
+from mbox2maildir_admin.dating import give_dates, set_date
+
+
+class SecondsTest(unittest.TestCase):
+    def setUp(self):
+        self.zone = os.environ.get("TZ")
+        os.environ["TZ"] = "EST5EDT,M3.2.0,M11.1.0"
+        time.tzset()
+
+    def tearDown(self):
+        os.environ.pop("TZ")
+        if self.zone is not None:
+            os.environ["TZ"] = self.zone
+        time.tzset()
+
+    def test_forms(self):
+        for text, moment in (("From a Mon Mar  3 09:12:44 2025", "2025-03-03T09:12:44-05:00"),
+                             ("From a Thu Jul  3 09:12:44 2025", "2025-07-03T09:12:44-04:00"),
+                             ("From a Mon Mar  3 09:12:44 MET DST 2025", "2025-03-03T09:12:44+02:00"),
+                             ("From a Mon Mar  3 09:12:44 2025 +0530", "2025-03-03T09:12:44+05:30"),
+                             ("Mon, 3 Mar 97 09:12:44 EST", "1997-03-03T09:12:44-05:00")):
+            self.assertEqual(seconds_of(text.encode()), datetime.fromisoformat(moment).timestamp(), text)
+
+    def test_none(self):
+        for text in ("From a", "From a Mon Feb 31 09:12:44 2025", "From a Thu Jan  1 00:00:00 1970", "From a Wed Dec 31 19:00:00 1969",
+                     "From a Thu Jan  1 00:00:00 1970 +0100", "From a Mon Mar  3 09:12:44 XYZ 2025"):
+            self.assertIsNone(seconds_of(text.encode()), text)
+
+    def test_is_dated(self):
+        for line, dated in ((b"From a Mon Mar  3 09:12:44 2025", True), (b"From a Mon Mar  3 09:12:44 2025 remote from b", True),
+                            (b"From Mon Mar  3 09:12:44 2025 on", False), (b"From a" + b"x" * 998 + b" Mon Mar  3 09:12:44 2025", False)):
+            self.assertEqual(is_dated(line), dated, line)
+
+
+class FilesTest(unittest.TestCase):
+    def test_a_file_that_has_its_date_is_not_touched(self):
+        with folder() as here:
+            path = here + b"/file"
+            with open(path, "wb"):
+                pass
+            self.assertTrue(set_date(path, 1_000_000_000))
+            self.assertEqual(os.stat(path).st_mtime_ns, 1_000_000_000_000_000_000)
+            before = os.stat(path).st_ctime_ns
+            self.assertTrue(set_date(path, 1_000_000_000))
+            self.assertEqual(os.stat(path).st_ctime_ns, before)
+
+    def test_one_pass_where_a_message_is_missing(self):
+        with folder() as here, source_of(b"From a Mon Mar  3 09:12:44 2025\n\nhello\n") as source:
+            for sub in (b"/new", b"/cur"):
+                os.mkdir(here + sub)
+                os.utime(here + sub, (1, 1))
+            dating = give_dates(here, source)
+            self.assertEqual((dating.messages, dating.dated), (1, 0))
+            self.assertEqual(len(list(dating.undone(here))), 1)
+
+
+if __name__ == "__main__":
+    unittest.main()

@@ -1,0 +1,84 @@
+"""The reader of texts: its parts, its messages, and the handle that it reads by."""
+import hashlib
+import os
+import unittest
+from unittest import mock
+
+from context import A, B, source_of
+from mbox2maildir_admin import parts
+from mbox2maildir_admin.faults import Fault
+from mbox2maildir_admin.messages import messages_of
+from mbox2maildir_admin.parts import FROM_LINE, MARK, TEXT, from_lines_of, parts_of
+from mbox2maildir_admin.source import LineEnds, Reader
+
+
+class PartsTest(unittest.TestCase):
+    TEXT = A + b"\n>From x\n>>From y\nFrom\n" + B + b"\nend"
+
+    def parts(self, block):
+        with source_of(self.TEXT) as source, mock.patch.object(parts, "BLOCK", block):
+            return list(parts_of(source.file))
+
+    def test_parts_are_the_whole_text(self):
+        for block in (1, 2, 3, 7, 64, 1 << 20):
+            with self.subTest(block=block):
+                found = self.parts(block)
+                self.assertEqual(b"".join(part.piece for part in found if part.what != MARK), self.TEXT)
+                self.assertEqual([(part.line, part.quotes) for part in found if part.what == MARK], [(1, 0), (4, 1), (5, 2), (7, 0)])
+
+    def test_offsets(self):
+        for part in self.parts(5):
+            self.assertTrue(self.TEXT.startswith(part.piece, part.offset), part)
+        self.assertEqual({part.what for part in self.parts(5)}, {TEXT, FROM_LINE, MARK})
+
+    def test_a_line_that_ends_with_the_text_is_no_mark(self):
+        with source_of(A + b"\nFrom") as source:
+            self.assertEqual(from_lines_of(source.file), 1)
+
+
+class MessagesTest(unittest.TestCase):
+    def test_bodies(self):
+        with source_of(A + b"\n>From x\n\n" + B + b"\nyes\n") as source:
+            found = list(messages_of(source))
+        bodies = [b"Subject: one\n\nFrom x\n", b"Subject: two\n\nyes\n"]
+        self.assertEqual([message.hash.digest() for message in found], [hashlib.sha256(body).digest() for body in bodies])
+        self.assertEqual([message.size for message in found], [len(body) for body in bodies])
+        self.assertEqual([message.line for message in found], [1, 6])
+        self.assertEqual(sum(message.read_size for message in found), source.size)
+
+    def test_from_an_offset(self):
+        with source_of(b"\n\n" + A + b"\n" + B) as source:
+            self.assertEqual([(message.number, message.line, message.offset) for message in messages_of(source, 2, 3)],
+                             [(1, 3, 2), (2, 6, 3 + len(A))])
+
+    def test_no_from_line(self):
+        with source_of(b"hello\n") as source, self.assertRaises(Fault):
+            list(messages_of(source))
+
+
+class SourceTest(unittest.TestCase):
+    def test_the_place_of_the_handle_stays(self):
+        with source_of(A + b"\n") as source:
+            os.lseek(source.number, 3, os.SEEK_SET)
+            list(messages_of(source))
+            self.assertEqual(os.lseek(source.number, 0, os.SEEK_CUR), 3)
+
+    def test_a_change_is_a_fault(self):
+        with source_of(A) as source:
+            source.check()
+            with open(source.path, "ab") as file:
+                file.write(b"\n")
+            with self.assertRaises(Fault):
+                source.check()
+
+    def test_line_ends(self):
+        for size in range(1, 9):
+            with source_of(b"\ra\r\nb\r\r\nc\n") as source:
+                file, read = LineEnds(Reader(source.number)), b""
+                for block in iter(lambda: file.read(size), b""):
+                    read += block
+            self.assertEqual(read, b"\na\nb\n\nc\n")
+
+
+if __name__ == "__main__":
+    unittest.main()
