@@ -1,0 +1,142 @@
+"""The words of `migrate`, for one Maildir."""
+import os
+import pwd
+import sys
+
+from . import ADMIN
+from .converting import Program
+from .faults import Fault, OutputFault
+from .migrating import Migration
+from .outcome import INBOX, LEFT, Row
+from .record import Record
+from .reporting import Reporter
+from .room import make_maildir, want_maildir, want_own
+from .terminal import complain, drop, shown, word
+from .tree_plans import Planned, folder_of, on_disk, plan_of_tree
+from .verifying import find_program
+
+
+def do_migrate(words):
+    """Migrates mailboxes, and answers whether all are done."""
+    check_words(words)
+    reporter = Reporter()
+    try:
+        if words.users:
+            from .users import migrate_users
+            migrate_users(words, reporter)
+        else:
+            migrate_own(words, reporter)
+        return reporter.end()
+    except KeyboardInterrupt:
+        reporter.end()
+        raise
+    except OutputFault as fault:
+        drop(sys.stdout)
+        complain("the output could not be written: %s; what was done is in the record" % fault.__cause__.strerror)
+        return False
+
+
+def check_words(words):
+    """Ends where words are wrong together."""
+    if words.users and os.geteuid() != 0:
+        words.error("--users is for root")
+    if not words.users and not words.names:
+        words.error("a MAILBOX is wanted")
+    if not words.users and (words.tree or words.jobs != 1 or words.maildir != "Maildir"):
+        words.error("--maildir, --tree and --jobs go with --users")
+    if words.jobs < 1:
+        words.error("--jobs wants a number from 1 on")
+    if words.users and words.folder:
+        words.error("--folder goes without --users")
+    if words.folder and any(map(os.path.isdir, words.names)):
+        words.error("--folder is for a MAILBOX that is a file")
+    if words.again and (len(words.names) != 1 or words.tree or not words.users and os.path.isdir(words.names[0])):
+        words.error("--again is for one MAILBOX that is a file, or for one NAME without --tree")
+    for name in (words.maildir, words.tree or "."):
+        if os.path.isabs(name) or ".." in name.split("/"):
+            words.error("%s: a name below each home is wanted" % shown(name))
+
+
+def migrate_own(words, reporter):
+    """Migrates into a Maildir of whoever runs this."""
+    root, names = os.fsencode(words.target), list(map(os.fsencode, words.names))
+    refuse(root, names)
+    os.umask(0o077)
+    run_all(words, root, names, reporter, Program(os.fsencode(find_program())))
+
+
+def refuse(root, names):
+    """A fault for what is refused before anything is made."""
+    want_maildir(root)
+    for name in names:
+        if os.path.isdir(os.path.join(name, b"cur")):
+            raise Fault("%s: it is a Maildir, and no mailbox: the Maildir comes first" % shown(name))
+    if os.geteuid() == 0:
+        parent = os.path.dirname(os.path.abspath(root))
+        want_roots(root if os.path.lexists(root) else parent, root, names)
+        for name in names:
+            if os.path.exists(name):
+                want_roots(name, root, names)
+
+
+def want_roots(path, root, names):
+    """A fault where what root names is another user's, with the words that would do it as that."""
+    owner = os.stat(path).st_uid
+    if owner == 0:
+        return
+    try:
+        user = pwd.getpwuid(owner).pw_name
+    except KeyError:
+        raise Fault("%s: it belongs to the user %d; run this as that one" % (shown(path), owner)) from None
+    words = " ".join(word(os.path.abspath(name)) for name in [root, *names])
+    raise Fault("%s: it belongs to %s; next: runuser -u %s -- %s migrate %s" % (shown(path), user, user, ADMIN, words))
+
+
+def run_all(words, root, names, reporter, program, own=False):
+    """Migrates each mailbox into its folder. With `own` nothing is touched but what is the user's own, over no link."""
+    if own:
+        want_own(root)
+    if not words.dry_run:
+        make_maildir(root, True)
+    with Record.open(root, not words.dry_run) as record:
+        plan = list(plan_of(words, names, reporter, own))
+        reporter.total += len(plan)
+        for one in plan:
+            reporter.begin()
+            work = Migration(program, root, record, lambda *says, path=one.path: reporter.progress(shown(path), *says),
+                             words.dry_run, words.again)
+            reporter.row(with_name(run_one(work, one, root, own, names), one))
+
+
+def run_one(work, one, root, own, names):
+    """Migrates a mailbox."""
+    if own and one.folder != INBOX:
+        try:
+            want_own(os.path.join(root, one.folder))
+        except Fault as fault:
+            return Row(one.path, one.folder, "", None, LEFT, str(fault))
+    return work.run(one.path, one.folder, follow=not own and one.path in names)
+
+
+def with_name(row, one):
+    """Says too that mail programs will see another name."""
+    if not one.before:
+        return row
+    return row._replace(why="; ".join(filter(None, [row.why, "its name was %s" % shown(one.before)])))
+
+
+def plan_of(words, names, reporter, own):
+    """The mailboxes in their order, with their folders; the rows of what is not migrated are reported."""
+    # an Inbox of a user's tree is not the user's mailbox
+    taken = {INBOX} if own else set()
+    for name in names:
+        if not os.path.isdir(name) or own and os.path.islink(name):
+            folder = on_disk(folder_of(words.folder)) if words.folder else INBOX
+            taken.add(folder)
+            yield Planned(name, folder)
+            continue
+        plan, rows = plan_of_tree(name.rstrip(b"/") or b"/", taken)
+        for row in rows:
+            reporter.row(row)
+        taken.update(one.folder for one in plan)
+        yield from plan

@@ -1,0 +1,130 @@
+"""What of a text is in a folder of a Maildir, before more is placed there."""
+import array
+import collections
+import os
+import stat
+
+from .handle import silent
+from .maildir import BASE, digest_of, paths_of
+
+# how far apart the times are that the kernel gives to a file and to its folder in one rename, in nanoseconds
+TICK = 20000000
+
+
+def names_of(folder):
+    """The names and paths of the mail in a folder; none where it is not there."""
+    try:
+        yield from paths_of(folder)
+    except FileNotFoundError:
+        pass
+
+
+class Presence:
+    """Which messages of a text have a file under their base, and which under another name, that a mail program gave it."""
+
+    def __init__(self, folder, inventory, say=silent):
+        self.folder, self.inventory, self.say = folder, inventory, say
+        self.there, self.renamed = bytearray(len(inventory)), set()
+
+    @classmethod
+    def look(cls, folder, inventory, say=silent):
+        """Looks into a folder."""
+        self = cls(folder, inventory, say)
+        for name, _ in names_of(folder):
+            place = inventory.place(name)
+            if place is not None:
+                self.there[place] = 1
+            say("looking into the folder")
+        if not all(self.there):
+            self.look_for_renamed()
+        return self
+
+    def look_for_renamed(self):
+        """Looks among files of other names, of which those of the right size are read."""
+        lacking, sizes = collections.defaultdict(list), set()
+        for base, place in self.inventory.table.places.items():
+            if not self.there[place]:
+                lacking[base[:32]].append(place)
+                sizes.add(self.inventory.sizes[place])
+        for name, path in names_of(self.folder):
+            self.say("looking into the folder")
+            if BASE.match(name) and b"," not in name.split(b":")[0]:
+                continue
+            digest = digest_of_file(path, sizes)
+            if lacking.get(digest):
+                self.renamed.add(lacking[digest].pop(0))
+
+    def is_nowhere(self, place):
+        """Whether a message has no file."""
+        return not self.there[place] and place not in self.renamed
+
+    def nowhere(self, first=0):
+        """How many messages from a place on have no file."""
+        return sum(map(self.is_nowhere, range(first, len(self.there))))
+
+    def count(self):
+        """How many messages have a file."""
+        return sum(self.there) + len(self.renamed)
+
+    def is_plain(self, first):
+        """Whether the messages from a place on are converted by themselves as they must be: none of them was renamed, or is equal
+        to one before."""
+        if any(place >= first for place in self.renamed):
+            return False
+        return not first or not any(places[0] < first <= places[-1] for places in self.inventory.equal().values())
+
+    def wanted(self, first):
+        """The places of the messages of which a text must be made, so that each from a place on that is nowhere gets a file: of
+        equal ones as many as leave as many without a home as are nowhere."""
+        equal = self.inventory.equal()
+        grouped = {place for places in equal.values() for place in places}
+        wanted = [place for place in range(first, len(self.there)) if place not in grouped and self.is_nowhere(place)]
+        for places in equal.values():
+            if any(place >= first and self.is_nowhere(place) for place in places):
+                lacking = sum(map(self.is_nowhere, places))
+                for place in places:
+                    if lacking:
+                        wanted.append(place)
+                        lacking -= not self.there[place]
+        return sorted(wanted)
+
+    def may_come_back(self, first, begun_at):
+        """How many messages may have been placed, and deleted or moved since, by a run that was broken off. It placed them in
+        their order: so those that lack one after them; and all that lack, where names have changed since the last was placed."""
+        last = self.there.rfind(1)
+        if not self.is_untouched(first, begun_at):
+            last = len(self.there) - 1
+        return sum(map(self.is_nowhere, range(first, last + 1)))
+
+    def is_untouched(self, first, begun_at):
+        """Whether no name has changed since the last message was placed, by the times that the kernel gives to files and folders."""
+        times = array.array("q", bytes(8 * len(self.there)))
+        try:
+            for name, path in names_of(self.folder):
+                place = self.inventory.place(name)
+                if place is not None:
+                    times[place] = os.lstat(path).st_ctime_ns
+            changed = max(os.stat(os.path.join(self.folder, sub)).st_mtime_ns for sub in (b"new", b"cur"))
+        except FileNotFoundError:
+            return False
+        placed = [time for time in times[first:] if time]
+        if not placed:
+            return begun_at is not None and changed // 10**9 <= begun_at
+        return changed <= placed[-1] + TICK and all(one <= other for one, other in zip(placed, placed[1:]))
+
+
+def digest_of_file(path, sizes):
+    """The digest of a file of one of these sizes; None of others. No link is followed."""
+    try:
+        state = os.lstat(path)
+        return digest_of(path)[0] if stat.S_ISREG(state.st_mode) and state.st_size in sizes else None
+    except OSError:
+        return None
+
+
+def is_file(path):
+    """Whether a path is that of a plain file."""
+    try:
+        return stat.S_ISREG(os.lstat(path).st_mode)
+    except OSError:
+        return False

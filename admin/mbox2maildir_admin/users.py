@@ -1,0 +1,98 @@
+"""The mailboxes of a spool, each migrated by a child that has its user's rights alone."""
+import argparse
+import os
+import pwd
+
+from .accounts import account_of, first_uid, is_users, want_entered, want_home
+from .children import Crew
+from .converting import Program
+from .faults import Fault
+from .migrate import refuse, run_all
+from .outcome import LEFT, Left, Row, why_left
+from .terminal import shown
+from .verifying import find_program
+
+
+def migrate_users(words, reporter):
+    """Migrates the mailboxes of a spool, and a folder of mailboxes of each home, user by user."""
+    spool = os.path.abspath(os.fsencode(words.target))
+    os.listdir(spool)
+    want_entered(spool)
+    program, first = os.path.abspath(os.fsencode(find_program())), first_uid()
+    names = list(map(os.fsencode, words.names)) or names_of(spool, words.tree, first)
+    reporter.total = len(names)
+
+    def leave(name, why):
+        reporter.row(Row(name.encode("utf-8", "replace"), b"", "", None, LEFT, why), name)
+
+    with Crew(words.jobs, reporter, leave) as crew:
+        for name in names:
+            reporter.begin()
+            try:
+                account, has_mail = account_of(spool, name, first)
+                if not has_mail and not words.tree:
+                    raise Left("no mailbox of that name is in %s" % shown(spool))
+                mailbox = os.path.join(spool, name) if has_mail else None
+                crew.add(shown(name), account, lambda *pipes: as_user(words, mailbox, account, program, *pipes))
+            except Left as left:
+                leave(shown(name), str(left))
+            if crew.is_asked:
+                break
+    if crew.is_asked:
+        raise KeyboardInterrupt
+
+
+def names_of(spool, tree, first):
+    """The names of a spool that may be mailboxes, and with a folder of mailboxes in the homes those of all users."""
+    names = set(os.listdir(spool))
+    names = {name for name in names if not is_passed(spool, name, names)}
+    if tree:
+        names |= {account.pw_name.encode() for account in pwd.getpwall() if is_users(account, first)}
+    return sorted(names)
+
+
+def is_passed(spool, name, names):
+    """Whether a name of a spool is no mailbox of its own: a lock, a copy that was made by hand, an empty file that is hidden."""
+    if name.endswith(b".lock") or name.endswith(b".mboxrd") and name[:-len(b".mboxrd")] in names:
+        return True
+    return name.startswith(b".") and os.lstat(os.path.join(spool, name)).st_size == 0
+
+
+def as_user(words, mailbox, account, program, teller, alive):
+    """What a child does: the same as `migrate` of its user, who owns all of it."""
+    home = os.fsencode(account.pw_dir)
+    tree = os.path.join(home, os.fsencode(words.tree)) if words.tree else None
+    try:
+        if mailbox is None and not has_tree(tree):
+            teller.tell("end")
+            return 0
+        want_home(account)
+        root = os.path.join(home, os.fsencode(words.maildir))
+        names = [name for name in (mailbox, tree if has_tree(tree) else None) if name]
+        own = argparse.Namespace(**dict(vars(words), users=False))
+        refuse(root, names)
+        run_all(own, root, names, Named(teller, mailbox, home), Program(program, alive), True)
+    except (Left, Fault, OSError) as fault:
+        teller.row(Row(mailbox or tree, b"", "", None, LEFT, why_left(fault, b"")), "")
+    except Exception as fault:  # pylint: disable=broad-except
+        teller.row(Row(mailbox or tree, b"", "", None, LEFT, "a fault of this command: %r" % fault), "")
+    teller.tell("end")
+    return 0
+
+
+def has_tree(tree):
+    """Whether a home has the folder of mailboxes."""
+    return tree is not None and os.path.lexists(tree)
+
+
+class Named:
+    """Tells rows by the names that root prints after the user's: none for the mailbox of the spool, and else one below home."""
+
+    def __init__(self, teller, mailbox, home):
+        self.teller, self.mailbox, self.home = teller, mailbox, home
+        self.total, self.begin, self.progress = 0, teller.begin, teller.progress
+
+    def row(self, row):
+        """Tells a row."""
+        name = b"" if row.path == self.mailbox else os.path.relpath(row.path, self.home)
+        self.teller.row(row._replace(path=name))
