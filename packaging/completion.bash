@@ -27,7 +27,7 @@ _mbox2maildir_admin() {
         return
     fi
     case ${COMP_WORDS[1]} in
-        quote) options+=' --no-lengths --all --mboxo --mboxrd --line --crlf --cr --output' ;;
+        quote) options+=' --lengths --no-lengths --all --mboxo --mboxrd --line --crlf --cr --output' ;;
         dates) options+=' --header' ;;
         folders) options+=' --jobs' ;;
     esac

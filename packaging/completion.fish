@@ -50,6 +50,7 @@ complete -c mbox2maildir-admin -n '__mbox2maildir_at kind 0 9999; or __mbox2mail
 complete -c mbox2maildir-admin -n '__mbox2maildir_at dates 1 9999; or __mbox2maildir_at verify 1 9999' -F
 complete -c mbox2maildir-admin -n '__mbox2maildir_at dates 0 0; or __mbox2maildir_at verify 0 0; or __mbox2maildir_at folders 0 1' -a '(__fish_complete_directories)'
 complete -c mbox2maildir-admin -n '__mbox2maildir_at folders 2 9999' -a '(__fish_complete_subcommand --fcs-skip=4)'
+complete -c mbox2maildir-admin -n '__mbox2maildir_at quote 0 1' -l lengths -d 'go by all lengths'
 complete -c mbox2maildir-admin -n '__mbox2maildir_at quote 0 1' -l no-lengths -d 'quote lines without a date at their end'
 complete -c mbox2maildir-admin -n '__mbox2maildir_at quote 0 1' -l all -d 'quote >From too'
 complete -c mbox2maildir-admin -n '__mbox2maildir_at quote 0 1' -l mboxo -d 'quote >>From alone'

@@ -37,11 +37,12 @@ _mbox2maildir_admin() {
         kind) _arguments '--help[print help]' '*:mailbox:_files' ;;
         quote)
             _arguments '--help[print help]' '(-o --output)'{-o,--output}'[name of the copy]:copy:_files' \
-                '(--mboxo --mboxrd --line)--no-lengths[quote lines without a date at their end]' \
+                '(--no-lengths --mboxo --mboxrd --line)--lengths[go by all lengths]' \
+                '(--lengths --mboxo --mboxrd --line)--no-lengths[quote lines without a date at their end]' \
                 '--all[quote >From too]' \
-                '(--no-lengths --mboxrd --line)--mboxo[quote >>From alone]' \
-                '(--no-lengths --mboxo --line)--mboxrd[quote nothing]' \
-                '(--no-lengths --mboxo --mboxrd)*--line[quote this line alone]:line' \
+                '(--lengths --no-lengths --mboxrd --line)--mboxo[quote >>From alone]' \
+                '(--lengths --no-lengths --mboxo --line)--mboxrd[quote nothing]' \
+                '(--lengths --no-lengths --mboxo --mboxrd)*--line[quote this line alone]:line' \
                 '(--cr)--crlf[write CR LF as LF]' '(--crlf)--cr[write CR as LF]' ':mailbox:_files'
             ;;
         dates) _arguments '--help[print help]' '--header[take the date of the header Date]' ':Maildir:_path_files -/' '*:mailbox:_files' ;;

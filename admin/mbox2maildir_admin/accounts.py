@@ -5,7 +5,7 @@ import re
 import stat
 
 from . import ADMIN
-from .faults import Fault
+from .faults import PlaceFault
 from .outcome import Left
 from .terminal import shown, word
 
@@ -33,7 +33,7 @@ def want_entered(spool):
     here = spool
     while True:
         if not os.stat(here).st_mode & 0o001:
-            raise Fault("users can't enter %s; next: chmod 711 %s" % (shown(here), word(here)))
+            raise PlaceFault("users can't enter %s; next: chmod 711 %s" % (shown(here), word(here)))
         if here == b"/":
             return
         here = os.path.dirname(here)

@@ -10,8 +10,8 @@ from .migrate import do_migrate
 from .terminal import complain, drop, flush, open_streams, reason_of
 
 # the signals that end a program, but for the ones that no program sees, and those of faults of its own
-ENDING = ("SIGHUP", "SIGINT", "SIGQUIT", "SIGTERM", "SIGALRM", "SIGVTALRM", "SIGPROF", "SIGUSR1", "SIGUSR2", "SIGXCPU", "SIGPWR",
-          "SIGPOLL", "SIGSTKFLT")
+ENDING = ("SIGHUP", "SIGINT", "SIGQUIT", "SIGTERM", "SIGALRM", "SIGVTALRM", "SIGPROF", "SIGUSR1", "SIGUSR2", "SIGXCPU",
+          "SIGPWR", "SIGPOLL", "SIGSTKFLT")
 
 
 def parser():
@@ -24,16 +24,16 @@ def parser():
     words.required = True
     add(words, "kind", do_kind, "say what files are, and what to do first",
         "Prints what each FILE is, how many messages it has, and the one command to run next; then why, with the numbers of "
-        "lines. Changes nothing. Status 0 only where every file can be converted as it is. A FILE may be a folder of mailboxes.",
-        "FILE")
+        "lines. Changes nothing. Status 0 only where every file can be converted as it is. A FILE may be a folder of "
+        "mailboxes.", "FILE")
     add_quote(words)
     add_dates(words)
     add_folders(words)
     add_migrate(words)
     add(words, "verify", do_verify, "look whether each message is in the Maildir",
-        "Compares each FILE with MAILDIR, and prints how many of its messages are there with exactly their bytes, how many under "
-        "another name, how many with other bytes, how many nowhere, and how many files hold a message again. Writes nothing. "
-        "Status 0 only where each is there, once. A FILE may be a folder of mailboxes.", "MAILDIR", "FILE")
+        "Compares each FILE with MAILDIR, and prints how many of its messages are there with exactly their bytes, how many "
+        "under another name, how many with other bytes, how many nowhere, and how many files hold a message again. "
+        "Writes nothing. Status 0 only where each is there, once. A FILE may be a folder of mailboxes.", "MAILDIR", "FILE")
     return top
 
 
@@ -73,9 +73,9 @@ def add_quote(words):
 def add_dates(words):
     """Adds the word `dates`."""
     one = add(words, "dates", do_dates, "give converted files the dates of their From_ lines",
-              "Gives the files in MAILDIR that came from FILE the dates of its From_ lines. A date without a zone is in that of "
-              "TZ, or of this machine. Status 1 where a message has no date, or no file. A FILE may be a folder of mailboxes.",
-              "MAILDIR", "FILE")
+              "Gives the files in MAILDIR that came from FILE the dates of its From_ lines. A date without a zone is in that "
+              "of TZ, or of this machine. Status 1 where a message has no date, or no file. A FILE may be a folder of "
+              "mailboxes.", "MAILDIR", "FILE")
     one.add_argument("--header", action="store_true",
                      help="take the date of the header Date where the From_ line has none, and where all From_ lines have one")
 

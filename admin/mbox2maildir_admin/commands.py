@@ -181,12 +181,14 @@ def verify_file(maildir, file):
     put("%s: messages %d, bytes %d, there %d, under another name %d, other bytes %d, nowhere %d, doubles %d" % (
         shown(file), len(verified.sizes), sum(verified.sizes), *states, len(verified.doubles)))
     for state, says in ((OTHER, "other bytes in"), (RENAMED, "under another name,"), (NOWHERE, "nowhere")):
-        lines = ("message %d (line %d): %s %s" % (place + 1, line, says, shown(path)) for place, line, path in verified.found(state))
+        lines = ("message %d (line %d): %s %s" % (place + 1, line, says, shown(path))
+                 for place, line, path in verified.found(state))
         put_some(lines, verified.count(state))
     put_some(("one file more of a message: %s" % shown(path) for path in verified.doubles), len(verified.doubles))
     strangers = sorted(verified.strangers.values())
     put_some(("of another owner than the Maildir: %s" % shown(path) for path in strangers), len(strangers))
-    put_some(("line %d: a From_ line in which mail may stand" % line for line, *_ in verified.doubts.first), verified.doubts.count)
+    doubts = verified.doubts
+    put_some(("line %d: a From_ line in which mail may stand" % line for line, *_ in doubts.first), doubts.count)
     if verified.count(RENAMED):
         put("    another program renamed mail: to convert this mailbox again would deliver that mail a second time")
     return verified.is_right()

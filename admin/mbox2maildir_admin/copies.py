@@ -15,8 +15,8 @@ UNFINISHED = b".%s-" % ADMIN.encode()
 
 
 class Copy:
-    """A file that is made beside the place of its name, and gets it when it is whole and on the disk. Until then it has no name,
-    or one that is never taken for a mailbox."""
+    """A file that is made beside the place of its name, and gets it when it is whole and on the disk. Until then it has no
+    name, or one that is never taken for a mailbox."""
 
     def __init__(self, path):
         self.path, self.folder = path, os.path.dirname(path) or b"."

@@ -6,18 +6,19 @@ import time
 
 from .source import LONG
 
-MONTHS = "jan feb mar apr may jun jul aug sep oct nov dec".split()
+MONTHS = {name: number for number, name in enumerate("jan feb mar apr may jun jul aug sep oct nov dec".split(), 1)}
 WEEKDAY = r"(?i:mon|tue|wed|thu|fri|sat|sun)"
 # hours east of Greenwich; of names that several zones have, the one that mail mostly means
-ZONES = {"Z": 0, "UT": 0, "UTC": 0, "GMT": 0, "WET": 0, "WEST": 1, "BST": 1, "CET": 1, "MET": 1, "MEZ": 1, "CEST": 2, "MEST": 2,
-         "MESZ": 2, "EET": 2, "EEST": 3, "MSK": 3, "MSD": 4, "SGT": 8, "HKT": 8, "AWST": 8, "JST": 9, "KST": 9, "ACST": 9.5,
-         "ACDT": 10.5, "AEST": 10, "AEDT": 11, "NZST": 12, "NZDT": 13, "NST": -3.5, "NDT": -2.5, "AST": -4, "ADT": -3, "EST": -5,
-         "EDT": -4, "CST": -6, "CDT": -5, "MST": -7, "MDT": -6, "PST": -8, "PDT": -7, "AKST": -9, "AKDT": -8, "HST": -10}
+ZONES = {"Z": 0, "UT": 0, "UTC": 0, "GMT": 0, "WET": 0, "WEST": 1, "BST": 1, "CET": 1, "MET": 1, "MEZ": 1, "CEST": 2,
+         "MEST": 2, "MESZ": 2, "EET": 2, "EEST": 3, "MSK": 3, "MSD": 4, "SGT": 8, "HKT": 8, "AWST": 8, "JST": 9, "KST": 9,
+         "ACST": 9.5, "ACDT": 10.5, "AEST": 10, "AEDT": 11, "NZST": 12, "NZDT": 13, "NST": -3.5, "NDT": -2.5, "AST": -4, "ADT": -3,
+         "EST": -5, "EDT": -4, "CST": -6, "CDT": -5, "MST": -7, "MDT": -6, "PST": -8, "PDT": -7, "AKST": -9, "AKDT": -8, "HST": -10}
 MONTH = "(?P<{0}month>(?i:%s))" % "|".join(MONTHS)
 CLOCK = r"(?P<{0}hour>[01]?\d|2[0-3]):(?P<{0}minute>[0-5]\d)(?::(?P<{0}second>[0-5]\d|60))?"
 ZONE = r"(?:\s+(?P<{0}zone>(?:GMT|UTC)?[-+]\d{{4}}|[A-Z]+(?:\s+DST)?)\b)?"
 # as in a From_ line, and as in a header
-ASCTIME = (MONTH + r"\s+(?P<{0}day>\d\d?)\s+" + CLOCK + ZONE + r"\s+(?P<{0}year>(?:19|20)\d\d)\b" + ZONE.replace("zone", "last_zone"))
+ASCTIME = (MONTH + r"\s+(?P<{0}day>\d\d?)\s+" + CLOCK + ZONE + r"\s+(?P<{0}year>(?:19|20)\d\d)\b" +
+           ZONE.replace("zone", "last_zone"))
 HEADER = r"(?P<{0}day>\d\d?)\s+" + MONTH + r"\s+(?P<{0}year>(?:19|20)\d\d|\d\d)\s+" + CLOCK + ZONE
 DATE = "(?:%s|%s)" % (ASCTIME.format(""), HEADER.format("header_"))
 HAS_DATE = re.compile(r"\b" + DATE)
@@ -46,7 +47,7 @@ def seconds_of(text):
     year, month, day, hour, minute, second, zone = found.group(*FORMS[found["month"] is None])
     zone = zone or found[LAST_ZONE]
     year = int(year) + (0 if len(year) > 2 else 2000 if year < "50" else 1900)
-    moment = (year, MONTHS.index(month.lower()) + 1, int(day), int(hour), int(minute), int(second or 0))
+    moment = (year, MONTHS[month.lower()], int(day), int(hour), int(minute), int(second or 0))
     try:
         days = datetime.date(*moment[:3]).toordinal() - FIRST_DAY
         if zone:

@@ -118,8 +118,8 @@ class Look:
             self.header(header, mark)
 
     def sort_of(self, mark, header):
-        """What a line `From ` before something like a header looks like: a From_ line, "dated" or "undated", an "odd" one without
-        a header, a "doubtful" one of several words without a date, or "text"."""
+        """What a line `From ` before something like a header looks like: a From_ line, "dated" or "undated", an "odd" one
+        without a header, a "doubtful" one of several words without a date, or "text"."""
         has_header = FIELD.match(header.text)
         if is_dated(mark.piece):
             return "dated" if has_header or header.is_empty() else "odd"

@@ -1,4 +1,5 @@
 """The files of a Maildir."""
+import binascii
 import hashlib
 import os
 import re
@@ -54,7 +55,10 @@ class Table:
     def place(self, name):
         """The place of the message whose base a name begins with; nothing where it has no such base."""
         found = BASE.match(name)
-        return self.places.get(bytes.fromhex(found["digest"].decode()) + found["count"]) if found else None
+        if not found:
+            return None
+        digest, count = found.groups()
+        return self.places.get(binascii.unhexlify(digest) + count)
 
     def has(self, digest):
         """Whether a message has this digest."""

@@ -5,7 +5,7 @@ import sys
 
 from . import ADMIN
 from .converting import Program
-from .faults import Fault, OutputFault
+from .faults import Fault, OutputFault, PlaceFault
 from .migrating import Migration
 from .outcome import INBOX, LEFT, Row
 from .record import Record
@@ -70,7 +70,7 @@ def refuse(root, names):
     want_maildir(root)
     for name in names:
         if os.path.isdir(os.path.join(name, b"cur")):
-            raise Fault("%s: it is a Maildir, and no mailbox: the Maildir comes first" % shown(name))
+            raise PlaceFault("%s: it is a Maildir, and no mailbox: the Maildir comes first" % shown(name))
     if os.geteuid() == 0:
         parent = os.path.dirname(os.path.abspath(root))
         want_roots(root if os.path.lexists(root) else parent, root, names)
@@ -87,9 +87,9 @@ def want_roots(path, root, names):
     try:
         user = pwd.getpwuid(owner).pw_name
     except KeyError:
-        raise Fault("%s: it belongs to the user %d; run this as that one" % (shown(path), owner)) from None
+        raise PlaceFault("%s: it belongs to the user %d; run this as that one" % (shown(path), owner)) from None
     words = " ".join(word(os.path.abspath(name)) for name in [root, *names])
-    raise Fault("%s: it belongs to %s; next: runuser -u %s -- %s migrate %s" % (shown(path), user, user, ADMIN, words))
+    raise PlaceFault("%s: it belongs to %s; next: runuser -u %s -- %s migrate %s" % (shown(path), user, user, ADMIN, words))
 
 
 def run_all(words, root, names, reporter, program, own=False):

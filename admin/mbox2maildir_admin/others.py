@@ -38,6 +38,7 @@ ONE_MAIL = re.compile(HEADER)
 # what stands before the rest of a From_ line, and a line without a colon before a header
 JUNK = re.compile(rb"[\x00\s]*(?P<from>From )?")
 BEFORE_HEADER = re.compile(rb"[^\n:]*\n" + HEADER)
+BEGINS = "line %d, byte %d: mbox text begins here: %s"
 # how much of a file is looked at to know it
 HEAD = 1 << 16
 
@@ -60,7 +61,7 @@ def what_else(source, head, is_from_line):
             begins = part
             break
     if begins:
-        remarks.append("line %d, byte %d: mbox text begins here: %s" % (begins.line, begins.offset + 1, shown(begins.piece[:72])))
+        remarks.append(BEGINS % (begins.line, begins.offset + 1, shown(begins.piece[:72])))
     if ONE_MAIL.match(head) and not begins:
         return "one mail without a From_ line", WITH_FROM_LINE, []
     return ("damaged", WITH_FROM_LINE, remarks) if remarks else (NO_MAIL, LEAVE_OUT, [])
@@ -76,7 +77,7 @@ def cut_line(source):
     line = head.split(b"\n")[0][:LONG]
     if junk["from"]:
         number = 1 + junk.group().count(b"\n")
-        yield "line %d, byte %d: mbox text begins here: %s" % (number, offset + 1, shown(line[:72]))
+        yield BEGINS % (number, offset + 1, shown(line[:72]))
     elif is_dated(b" " + line) or BEFORE_HEADER.match(head):
         yield "line 1: it may be what is left of a From_ line: %s" % shown(line[:72])
 

@@ -106,7 +106,8 @@ class Quoter:
     def check(self, size, messages):
         """What was written is what was read, and what was counted; the copy has this size, and so many messages."""
         if size != self.given or size != self.read + self.quoted - self.left_out:
-            raise Fault("of %d bytes, with %d more and %d less, the copy has %d" % (self.read, self.quoted, self.left_out, size))
+            raise Fault("of %d bytes, with %d more and %d less, the copy has %d" % (
+                self.read, self.quoted, self.left_out, size))
         text = self.source.size - self.bounds.start
         if not self.how.cr and self.read != text:
             raise Fault("of its %d bytes %d were read" % (text, self.read))
@@ -140,7 +141,8 @@ def check_lengths(look, trusted):
     if trusted:
         return
     for line, _, by in look.first("inside, dated"):
-        raise Fault("line %d: a dated From_ line within the message of line %d, by its length: --lengths quotes it" % (line, by))
+        raise Fault("line %d: a dated From_ line within the message of line %d, by its length: --lengths quotes it" % (
+            line, by))
     if look.without:
         raise Fault("line %d: this message has no length, and others may be no better: --lengths goes by them" % look.without)
 

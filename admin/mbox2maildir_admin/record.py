@@ -12,7 +12,7 @@ import re
 import stat
 import time
 
-from .faults import Fault
+from .faults import PlaceFault
 from .terminal import shown
 
 NAME = b"mbox2maildir-record"
@@ -49,7 +49,7 @@ class Record:
         except OSError as fault:
             if fault.errno == errno.ENOENT and not make:
                 return cls(path)
-            raise Fault("%s: %s" % (shown(path), "it is a link" if fault.errno == errno.ELOOP else fault.strerror)) from fault
+            raise PlaceFault("%s: %s" % (shown(path), "it is a link" if fault.errno == errno.ELOOP else fault.strerror)) from fault
         self = cls(path, number)
         try:
             self.check()
@@ -79,16 +79,16 @@ class Record:
         """Whether it is a file that nobody else may write."""
         state = os.fstat(self.number)
         if not stat.S_ISREG(state.st_mode) or state.st_uid != os.geteuid() or state.st_mode & 0o022 or state.st_nlink != 1:
-            raise Fault("%s: it is no file of yours, or others may write it: look at it, and put it aside" % shown(self.path))
+            raise PlaceFault("%s: it is no file of yours, or others may write it: look at it, and put it aside" % shown(self.path))
         if state.st_size > MOST:
-            raise Fault("%s: it is too large for a record: look at it, and put it aside" % shown(self.path))
+            raise PlaceFault("%s: it is too large for a record: look at it, and put it aside" % shown(self.path))
 
     def lock(self, maildir):
         """Locks it, so that one `migrate` is at work in a Maildir."""
         try:
             fcntl.flock(self.number, fcntl.LOCK_EX | fcntl.LOCK_NB)
         except BlockingIOError as fault:
-            raise Fault("another migrate is at work in %s, or a convert that one left: wait" % shown(maildir)) from fault
+            raise PlaceFault("another migrate is at work in %s, or a convert that one left: wait" % shown(maildir)) from fault
 
     def read(self):
         """Reads its lines. A last line that was cut counts for nothing."""
@@ -131,7 +131,7 @@ class Record:
             self.is_cut = False
             os.fsync(self.number)
         except OSError as fault:
-            raise Fault("%s: %s" % (shown(self.path), fault.strerror)) from fault
+            raise PlaceFault("%s: %s" % (shown(self.path), fault.strerror)) from fault
         self.take(parsed(piece.strip(b"\n")))
 
     def sizes(self, folder):
@@ -143,12 +143,12 @@ class Record:
         return {size for (its, size, _), step in self.steps.items() if its == folder and step == DONE}
 
     def beginning(self, folder, size, digests):
-        """Of a text that grew, of which some beginnings have these digests: how much of it is done, and the step of the longest
-        beginning that has one."""
+        """Of a text that grew, of which some beginnings have these digests: how much of it is done, and the size and the step of
+        the longest beginning that has one, if any has."""
         steps = {long: self.steps[folder, long, digest] for long, digest in digests.items()
                  if long < size and (folder, long, digest) in self.steps}
         done = max((long for long in steps if steps[long] == DONE), default=0)
-        return done, steps[max(steps)] if steps else None
+        return done, max(steps.items()) if steps else None
 
     def begun_at(self, key):
         """When a mailbox was begun first, in seconds since 1970; None if it wasn't."""

@@ -5,7 +5,7 @@ import stat
 import tempfile
 
 from . import ADMIN
-from .faults import Fault
+from .faults import PlaceFault
 from .outcome import Left
 from .record import NAME as RECORD
 from .record import sync_folder
@@ -25,7 +25,7 @@ def want_maildir(maildir):
             raise
         return
     if names and not names & {*SUBFOLDERS, RECORD}:
-        raise Fault("%s: it is no Maildir, and something stands there" % shown(maildir))
+        raise PlaceFault("%s: it is no Maildir, and something stands there" % shown(maildir))
 
 
 def want_own(folder):
@@ -36,7 +36,7 @@ def want_own(folder):
         except FileNotFoundError:
             continue
         if not stat.S_ISDIR(state.st_mode) or state.st_uid != os.geteuid():
-            raise Fault("%s: it is no folder of its user's own" % shown(path))
+            raise PlaceFault("%s: it is no folder of its user's own" % shown(path))
 
 
 def make_maildir(folder, is_root):

@@ -14,7 +14,9 @@ NAMED = 5
 def shown(name):
     """A name, or a line of mail, as it is printed: bytes that are no printable character are escaped."""
     def letter_of(letter):
-        return letter if letter.isprintable() else "".join("\\x%02x" % byte for byte in letter.encode("utf-8", "surrogateescape"))
+        if letter.isprintable():
+            return letter
+        return "".join("\\x%02x" % byte for byte in letter.encode("utf-8", "surrogateescape"))
     return "".join(map(letter_of, os.fsencode(name).decode("utf-8", "surrogateescape")))
 
 
