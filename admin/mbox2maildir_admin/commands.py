@@ -14,6 +14,7 @@ from .kinds import Quoting, look_at
 from .quoting import print_quoted, quote
 from .source import Source
 from .terminal import complain, flush, is_text, put, put_error, put_some, reason_of, shown, word, write
+from .texts import open_text
 from .trees import Tree
 from .verifying import NOWHERE, OTHER, RENAMED, THERE, verify
 
@@ -155,8 +156,8 @@ def do_dates(words):
 
 def date_file(maildir, file, by_header):
     """Gives the files of one mailbox their dates, and says which have none."""
-    with Source.open(file) as source:
-        dating = give_dates(maildir, source, by_header)
+    with open_text(file, maildir) as (source, start):
+        dating = give_dates(maildir, source, by_header, start, 1 + source.at(0, start).count(b"\n"))
         if dating.one_date is not None:
             complain("%s: all From_ lines have one date: %s" % (shown(file), shown(dating.one_date.rstrip())))
         for count, line in enumerate(dating.undone(maildir)):
@@ -175,8 +176,8 @@ def do_verify(words):
 
 def verify_file(maildir, file):
     """Says what of one mailbox is there, and answers whether each message is, once."""
-    with Source.open(file) as source:
-        verified = verify(maildir, source)
+    with open_text(file, maildir) as (source, start):
+        verified = verify(maildir, source, start, 1 + source.at(0, start).count(b"\n"))
     states = [verified.count(state) for state in (THERE, RENAMED, OTHER, NOWHERE)]
     put("%s: messages %d, bytes %d, there %d, under another name %d, other bytes %d, nowhere %d, doubles %d" % (
         shown(file), len(verified.sizes), sum(verified.sizes), *states, len(verified.doubles)))
