@@ -43,7 +43,7 @@ class Teller:
 
     def row(self, row, name=None):
         """Tells what became of a mailbox."""
-        self.tell("row", shown(name or row.path), shown(row.folder), row.kind, row.messages, row.verdict, row.why[:LONGEST // 4])
+        self.tell("row", shown(row.path if name is None else name), shown(row.folder), row.kind, row.messages, row.verdict, row.why[:LONGEST // 4])
 
 
 def start(account, task):

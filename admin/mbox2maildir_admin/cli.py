@@ -4,7 +4,7 @@ import signal
 import sys
 
 from . import ADMIN
-from .commands import do_dates, do_folders, do_kind, do_quote, do_verify
+from .commands import do_dates, do_kind, do_quote, do_verify
 from .faults import Fault, OutputFault
 from .migrate import do_migrate
 from .terminal import complain, drop, flush, open_streams, reason_of
@@ -28,7 +28,6 @@ def parser():
         "mailboxes.", "FILE")
     add_quote(words)
     add_dates(words)
-    add_folders(words)
     add_migrate(words)
     add(words, "verify", do_verify, "look whether each message is in the Maildir",
         "Compares each FILE with MAILDIR, and prints how many of its messages are there with exactly their bytes, how many "
@@ -78,15 +77,6 @@ def add_dates(words):
               "mailboxes.", "MAILDIR", "FILE")
     one.add_argument("--header", action="store_true",
                      help="take the date of the header Date where the From_ line has none, and where all From_ lines have one")
-
-
-def add_folders(words):
-    """Adds the word `folders`."""
-    one = add(words, "folders", do_folders, "print the folder of each mailbox below a folder, and run a command for each",
-              "Prints which folder of MAILDIR each mailbox below OLD would be, and runs COMMAND FOLDER MAILBOX for each, if "
-              "given. Status 1 where anything was left undone.", "MAILDIR", "OLD")
-    one.add_argument("--jobs", metavar="N", type=int, default=1, help="how many commands run at a time (1)")
-    one.add_argument("command", metavar="COMMAND", nargs=argparse.REMAINDER, help="the command and its words")
 
 
 def add_migrate(words):

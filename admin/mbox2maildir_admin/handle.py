@@ -149,8 +149,11 @@ def look_for_lock_file(handle):
     path = handle.path + b".lock"
     try:
         age = time.time() - os.lstat(path).st_mtime
-    except FileNotFoundError:
-        return
+    except OSError as fault:
+        # a lock's name may be longer than names can be
+        if fault.errno in (errno.ENOENT, errno.ENAMETOOLONG):
+            return
+        raise
     if age < STALE:
         raise Left("a program is at work there: %s" % shown(path))
     handle.remarks.append("%s is there, and older than 20 minutes" % shown(path))

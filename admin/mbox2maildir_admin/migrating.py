@@ -240,7 +240,7 @@ class Migration:
 
     def refuse_cut(self, work):
         """Left where a file stands of a message that was read when it was not whole."""
-        path = shown(work.handle.path)
+        path = shown(os.path.abspath(work.handle.path))
         cut = {digest.encode() for folder, digest, its in self.record.lasts if folder == work.name and its == path and
                bytes.fromhex(digest) + b".1" not in work.inventory.table.places}
         for name, where in names_of(work.folder) if cut else ():

@@ -120,11 +120,3 @@ def digest_of_file(path, sizes):
         return digest_of(path)[0] if stat.S_ISREG(state.st_mode) and state.st_size in sizes else None
     except OSError:
         return None
-
-
-def is_file(path):
-    """Whether a path is that of a plain file."""
-    try:
-        return stat.S_ISREG(os.lstat(path).st_mode)
-    except OSError:
-        return False

@@ -26,7 +26,8 @@ MOST = 1 << 23
 TIME = "%Y-%m-%dT%H:%M:%SZ"
 
 Line = collections.namedtuple("Line", "step folder size digest messages when path")
-LINE = re.compile(rb"([a-z]+)\t([^\t]+)\t(\d{1,19})\t([0-9a-f]{64})\t(\d{1,19})\t(\d{4}-\d\d-\d\dT\d\d:\d\d:\d\dZ)\t([^\t]*)\Z")
+LINE = re.compile(rb"([a-z]+)\t([^\t]+)\t(\d{1,19})\t([0-9a-f]{64})\t(\d{1,19})\t"
+                  rb"([12]\d{3}-(?:0[1-9]|1[0-2])-\d\dT\d\d:\d\d:\d\dZ)\t([^\t]*)\Z")
 
 
 class Record:
@@ -117,7 +118,7 @@ class Record:
         """Appends a line, which is on the disk when this ends."""
         folder, size, digest = key
         when = time.strftime(TIME, time.gmtime())
-        words = [step, shown(folder), str(size), digest, str(messages), when, shown(path)]
+        words = [step, shown(folder), str(size), digest, str(messages), when, shown(os.path.abspath(path))]
         # a line before it that a full disk cut is ended first
         piece = b"\n" * self.is_cut + "\t".join(words).encode() + b"\n"
         try:
@@ -152,7 +153,9 @@ class Record:
 
     def begun_at(self, key):
         """When a mailbox was begun first, in seconds since 1970; None if it wasn't."""
-        return calendar.timegm(time.strptime(self.first_begun[key], TIME)) if key in self.first_begun else None
+        if key not in self.first_begun:
+            return None
+        return calendar.timegm(tuple(map(int, re.findall(r"\d+", self.first_begun[key]))))
 
     def notes(self, word, folder):
         """The lines with another first word of a folder, in their order."""
