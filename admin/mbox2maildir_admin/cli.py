@@ -82,12 +82,12 @@ def add_dates(words):
 def add_migrate(words):
     """Adds the word `migrate`."""
     one = add(words, "migrate", do_migrate, "do the whole migration of mailboxes into a Maildir",
-              "Looks at each MAILBOX, converts it into MAILDIR, sets the dates, verifies it, and keeps a record in MAILDIR: what is "
-              "done there is never converted again. A MAILBOX that is a folder of mailboxes becomes folders of MAILDIR. With "
-              "--users the mailboxes of the folder OLD are those of the users that they are named after, and each is migrated with "
-              "its user's rights into a Maildir of the home. Status 0 only where each mailbox is done and verified.")
-    one.usage = ("%s migrate [--dry-run] [--folder NAME] [--again] MAILDIR MAILBOX...\n"
-                 "       %s migrate --users [--dry-run] [--maildir NAME] [--tree NAME] [--jobs N] [--again] OLD [NAME...]" % (ADMIN, ADMIN))
+              "Looks at each MAILBOX, converts it into MAILDIR, sets the dates, verifies it, and keeps a record in MAILDIR: what "
+              "is done there is never converted again. A MAILBOX that is a folder of mailboxes becomes folders of MAILDIR. With "
+              "--users the mailboxes of the folder OLD are those of the users that they are named after, and each is migrated "
+              "with its user's rights into a Maildir of the home. Status 0 only where each mailbox is done and verified.")
+    one.usage = ("%s migrate [--dry-run] [--folder NAME] [--again] MAILDIR MAILBOX...\n       %s migrate --users [--dry-run] "
+                 "[--maildir NAME] [--tree NAME] [--jobs N] [--again] OLD [NAME...]" % (ADMIN, ADMIN))
     one.add_argument("--dry-run", action="store_true", help="print what would be done, and make nothing")
     one.add_argument("--folder", metavar="NAME", help="the folder of MAILDIR into which the mailboxes go")
     one.add_argument("--again", action="store_true", help="convert one mailbox whatever stands there")

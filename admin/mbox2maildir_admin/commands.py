@@ -4,7 +4,7 @@ import os
 import pwd
 import stat
 
-from . import ADMIN, PROGRAM
+from . import PROGRAM
 from .copies import Copy
 from .dating import give_dates
 from .faults import Fault

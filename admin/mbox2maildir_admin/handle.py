@@ -113,8 +113,8 @@ class Handle:
 
 
 def open_mailbox(path, sizes=(), say=silent, follow=False, quiet=True):
-    """Opens and locks a mailbox, and waits until it was left alone for a minute. The digests of its beginnings of these sizes are
-    wanted."""
+    """Opens and locks a mailbox, and waits until it was left alone for a minute. The digests of its beginnings of these sizes
+    are wanted."""
     try:
         flags = os.O_RDONLY | os.O_NONBLOCK | os.O_NOCTTY | os.O_CLOEXEC
         number = os.open(path, flags if follow else flags | os.O_NOFOLLOW)

@@ -50,7 +50,8 @@ class Record:
         except OSError as fault:
             if fault.errno == errno.ENOENT and not make:
                 return cls(path)
-            raise PlaceFault("%s: %s" % (shown(path), "it is a link" if fault.errno == errno.ELOOP else fault.strerror)) from fault
+            why = "it is a link" if fault.errno == errno.ELOOP else fault.strerror
+            raise PlaceFault("%s: %s" % (shown(path), why)) from fault
         self = cls(path, number)
         try:
             self.check()
@@ -80,7 +81,8 @@ class Record:
         """Whether it is a file that nobody else may write."""
         state = os.fstat(self.number)
         if not stat.S_ISREG(state.st_mode) or state.st_uid != os.geteuid() or state.st_mode & 0o022 or state.st_nlink != 1:
-            raise PlaceFault("%s: it is no file of yours, or others may write it: look at it, and put it aside" % shown(self.path))
+            raise PlaceFault("%s: it is no file of yours, or others may write it: look at it, and put it aside" %
+                             shown(self.path))
         if state.st_size > MOST:
             raise PlaceFault("%s: it is too large for a record: look at it, and put it aside" % shown(self.path))
 
@@ -144,8 +146,8 @@ class Record:
         return {size for (its, size, _), step in self.steps.items() if its == folder and step == DONE}
 
     def beginning(self, folder, size, digests):
-        """Of a text that grew, of which some beginnings have these digests: how much of it is done, and the size and the step of
-        the longest beginning that has one, if any has."""
+        """Of a text that grew, of which some beginnings have these digests: how much of it is done, and the size and the step
+        of the longest beginning that has one, if any has."""
         steps = {long: self.steps[folder, long, digest] for long, digest in digests.items()
                  if long < size and (folder, long, digest) in self.steps}
         done = max((long for long in steps if steps[long] == DONE), default=0)
@@ -168,7 +170,8 @@ def parsed(piece):
     if not found:
         return None
     step, folder, size, digest, messages, when, path = found.groups()
-    return Line(step.decode(), folder, int(size), digest.decode(), int(messages), when.decode(), path.decode("utf-8", "replace"))
+    path = path.decode("utf-8", "replace")
+    return Line(step.decode(), folder, int(size), digest.decode(), int(messages), when.decode(), path)
 
 
 def sync_folder(path):

@@ -17,7 +17,7 @@ def open_text(path, maildir):
 
 
 def text_of(stack, path, maildir):
-    """Opens the text: a copy that was made by hand, or one without a name, or the mailbox, also where that is to be looked at."""
+    """Opens the text: a copy that was made by hand, or one without a name, or the mailbox, also where that is left."""
     handle, by_hand = stack.enter_context(opened(path)), path + b".mboxrd"
     try:
         if os.path.lexists(by_hand):

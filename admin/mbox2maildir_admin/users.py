@@ -55,7 +55,7 @@ def names_of(spool, tree, first):
 
 
 def is_passed(spool, name, names):
-    """Whether a name of a spool is no mailbox of its own: a lock, a copy that was made by hand, an empty file that is hidden."""
+    """Whether a name of a spool is no mailbox of its own: a lock, a copy that was made by hand, an empty hidden file."""
     if name.endswith(b".lock") or name.endswith(b".mboxrd") and name[:-len(b".mboxrd")] in names:
         return True
     return name.startswith(b".") and os.lstat(os.path.join(spool, name)).st_size == 0
