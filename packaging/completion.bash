@@ -23,29 +23,27 @@ _mbox2maildir_admin() {
     local place=0 index options=--help
     COMPREPLY=()
     if ((COMP_CWORD == 1)); then
-        _mbox2maildir_offer -W 'kind quote dates folders verify --help' -- "$2"
+        _mbox2maildir_offer -W 'kind quote dates migrate verify --help' -- "$2"
         return
     fi
     case ${COMP_WORDS[1]} in
         quote) options+=' --lengths --no-lengths --all --mboxo --mboxrd --line --crlf --cr --output' ;;
         dates) options+=' --header' ;;
-        folders) options+=' --jobs' ;;
+        migrate) options+=' --dry-run --folder --again --users --maildir --tree --jobs' ;;
     esac
     for ((index = 2; index < COMP_CWORD; index++)); do
         case ${COMP_WORDS[index]} in
-            --line | --jobs | --output | -o) ((index++)) ;;
+            --line | --jobs | --output | -o | --folder | --maildir | --tree) ((index++)) ;;
             -*) ;;
             *) ((++place)) ;;
         esac
     done
     case ${COMP_WORDS[1]},$place,$3 in
-        folders,2,*) _mbox2maildir_offer -A command -- "$2" ;;
-        folders,[3-9],* | folders,??*,*) _mbox2maildir_offer -A file -- "$2" ;;
-        *,--line | *,--jobs) ;;
+        *,--line | *,--jobs | *,--folder | *,--maildir | *,--tree) ;;
         *) case ${COMP_WORDS[1]},$place,$2 in
             *,*,-*) _mbox2maildir_offer -W "$options" -- "$2" ;;
-            dates,0,* | verify,0,* | folders,*) _mbox2maildir_offer -A directory -- "$2" ;;
-            kind,* | quote,0,* | dates,* | verify,*) _mbox2maildir_offer -A file -- "$2" ;;
+            dates,0,* | verify,0,* | migrate,0,*) _mbox2maildir_offer -A directory -- "$2" ;;
+            kind,* | quote,0,* | dates,* | migrate,* | verify,*) _mbox2maildir_offer -A file -- "$2" ;;
         esac ;;
     esac
 }

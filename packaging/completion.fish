@@ -12,7 +12,7 @@ function __mbox2maildir_operands
     for word in $words[3..-1]
         if test $skip = 1
             set skip 0
-        else if contains -- $word --line --jobs --output -o
+        else if contains -- $word --line --jobs --output -o --folder --maildir --tree
             set skip 1
         else if not string match --quiet -- '-*' $word
             set count (math $count + 1)
@@ -44,12 +44,11 @@ complete -c mbox2maildir-admin -l help -d 'print help'
 complete -c mbox2maildir-admin -n __mbox2maildir_first -a kind -d 'say what files are, and what to do first'
 complete -c mbox2maildir-admin -n __mbox2maildir_first -a quote -d 'write a quoted copy of a mailbox'
 complete -c mbox2maildir-admin -n __mbox2maildir_first -a dates -d 'give converted files the dates of their From_ lines'
-complete -c mbox2maildir-admin -n __mbox2maildir_first -a folders -d 'print the folder of each mailbox below a folder'
+complete -c mbox2maildir-admin -n __mbox2maildir_first -a migrate -d 'do the whole migration of mailboxes into a Maildir'
 complete -c mbox2maildir-admin -n __mbox2maildir_first -a verify -d 'look whether each message is in the Maildir'
 complete -c mbox2maildir-admin -n '__mbox2maildir_at kind 0 9999; or __mbox2maildir_at quote 0 0' -F
-complete -c mbox2maildir-admin -n '__mbox2maildir_at dates 1 9999; or __mbox2maildir_at verify 1 9999' -F
-complete -c mbox2maildir-admin -n '__mbox2maildir_at dates 0 0; or __mbox2maildir_at verify 0 0; or __mbox2maildir_at folders 0 1' -a '(__fish_complete_directories)'
-complete -c mbox2maildir-admin -n '__mbox2maildir_at folders 2 9999' -a '(__fish_complete_subcommand --fcs-skip=4)'
+complete -c mbox2maildir-admin -n '__mbox2maildir_at dates 1 9999; or __mbox2maildir_at verify 1 9999; or __mbox2maildir_at migrate 1 9999' -F
+complete -c mbox2maildir-admin -n '__mbox2maildir_at dates 0 0; or __mbox2maildir_at verify 0 0; or __mbox2maildir_at migrate 0 0' -a '(__fish_complete_directories)'
 complete -c mbox2maildir-admin -n '__mbox2maildir_at quote 0 1' -l lengths -d 'go by all lengths'
 complete -c mbox2maildir-admin -n '__mbox2maildir_at quote 0 1' -l no-lengths -d 'quote lines without a date at their end'
 complete -c mbox2maildir-admin -n '__mbox2maildir_at quote 0 1' -l all -d 'quote >From too'
@@ -60,4 +59,10 @@ complete -c mbox2maildir-admin -n '__mbox2maildir_at quote 0 1' -l crlf -d 'writ
 complete -c mbox2maildir-admin -n '__mbox2maildir_at quote 0 1' -l cr -d 'write CR as LF'
 complete -c mbox2maildir-admin -n '__mbox2maildir_at quote 0 1' -s o -l output -r -d 'name of the copy'
 complete -c mbox2maildir-admin -n '__mbox2maildir_at dates 0 9999' -l header -d 'take the date of the header Date'
-complete -c mbox2maildir-admin -n '__mbox2maildir_at folders 0 0' -l jobs -x -d 'how many commands run at a time'
+complete -c mbox2maildir-admin -n '__mbox2maildir_at migrate 0 9999' -l dry-run -d 'print what would be done'
+complete -c mbox2maildir-admin -n '__mbox2maildir_at migrate 0 9999' -l folder -x -d 'folder of the Maildir'
+complete -c mbox2maildir-admin -n '__mbox2maildir_at migrate 0 9999' -l again -d 'convert one mailbox whatever stands there'
+complete -c mbox2maildir-admin -n '__mbox2maildir_at migrate 0 9999' -l users -d 'migrate a spool, each mailbox as its user'
+complete -c mbox2maildir-admin -n '__mbox2maildir_at migrate 0 9999' -l maildir -x -d 'Maildir of each home'
+complete -c mbox2maildir-admin -n '__mbox2maildir_at migrate 0 9999' -l tree -x -d 'folder of mailboxes of each home'
+complete -c mbox2maildir-admin -n '__mbox2maildir_at migrate 0 9999' -l jobs -x -d 'how many users at a time'

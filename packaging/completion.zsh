@@ -23,7 +23,7 @@ _mbox2maildir_admin() {
         'kind:say what files are, and what to do first'
         'quote:write a quoted copy of a mailbox'
         'dates:give converted files the dates of their From_ lines'
-        'folders:print the folder of each mailbox below a folder'
+        'migrate:do the whole migration of mailboxes into a Maildir'
         'verify:look whether each message is in the Maildir'
     )
     if ((CURRENT == 2)); then
@@ -46,9 +46,11 @@ _mbox2maildir_admin() {
                 '(--cr)--crlf[write CR LF as LF]' '(--crlf)--cr[write CR as LF]' ':mailbox:_files'
             ;;
         dates) _arguments '--help[print help]' '--header[take the date of the header Date]' ':Maildir:_path_files -/' '*:mailbox:_files' ;;
-        folders)
-            _arguments '--help[print help]' '--jobs[how many commands run at a time]:number' ':Maildir:_path_files -/' \
-                ':old folder:_path_files -/' ':command: _command_names -e' '*::arguments:_normal'
+        migrate)
+            _arguments '--help[print help]' '--dry-run[print what would be done]' '--folder[folder of the Maildir]:name' \
+                '--again[convert one mailbox whatever stands there]' '--users[migrate a spool, each mailbox as its user]' \
+                '--maildir[Maildir of each home]:name' '--tree[folder of mailboxes of each home]:name' \
+                '--jobs[how many users at a time]:number' ':Maildir, or old spool:_path_files -/' '*:mailbox:_files'
             ;;
         verify) _arguments '--help[print help]' ':Maildir:_path_files -/' '*:mailbox:_files' ;;
     esac

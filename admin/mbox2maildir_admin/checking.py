@@ -1,5 +1,5 @@
 """The dates of what was converted, and whether each of its messages is there, once."""
-from .dating import DONE, NONE, Dating
+from .dating import NONE, NOT_HELD, Dating
 from .handle import silent
 from .terminal import NAMED, shown
 from .verifying import NOWHERE, OTHER, RENAMED, THERE, Verified
@@ -13,7 +13,8 @@ def give_dates(folder, inventory, first):
     for place in range(first):
         dating.dates[place] = NONE
     dating.give(folder)
-    return sum(inventory.dates[place] == NONE or dating.states[place] not in (DONE, 0) for place in range(first, len(inventory)))
+    places = range(first, len(inventory))
+    return sum(inventory.dates[place] == NONE or dating.states[place] == NOT_HELD for place in places)
 
 
 class Check(Verified):

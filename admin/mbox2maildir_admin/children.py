@@ -43,11 +43,13 @@ class Teller:
 
     def row(self, row, name=None):
         """Tells what became of a mailbox."""
-        self.tell("row", shown(name or row.path), shown(row.folder), row.kind, row.messages, row.verdict, row.why[:LONGEST // 4])
+        path, why = shown(row.path if name is None else name), row.why[:LONGEST // 4]
+        self.tell("row", path, shown(row.folder), row.kind, row.messages, row.verdict, why)
 
 
 def start(account, task):
-    """Starts a task with the rights of an account; answers the process, and the pipes by which it tells and that it lives by."""
+    """Starts a task with the rights of an account; answers the process, and its pipes: one that it tells by, one that it lives
+    by."""
     tells, told = os.pipe()
     alive, life = os.pipe()
     signal.pthread_sigmask(signal.SIG_BLOCK, SIGNALS)

@@ -4,7 +4,7 @@ import signal
 import sys
 
 from . import ADMIN
-from .commands import do_dates, do_folders, do_kind, do_quote, do_verify
+from .commands import do_dates, do_kind, do_quote, do_verify
 from .faults import Fault, OutputFault
 from .migrate import do_migrate
 from .terminal import complain, drop, flush, open_streams, reason_of
@@ -28,7 +28,6 @@ def parser():
         "mailboxes.", "FILE")
     add_quote(words)
     add_dates(words)
-    add_folders(words)
     add_migrate(words)
     add(words, "verify", do_verify, "look whether each message is in the Maildir",
         "Compares each FILE with MAILDIR, and prints how many of its messages are there with exactly their bytes, how many "
@@ -80,24 +79,15 @@ def add_dates(words):
                      help="take the date of the header Date where the From_ line has none, and where all From_ lines have one")
 
 
-def add_folders(words):
-    """Adds the word `folders`."""
-    one = add(words, "folders", do_folders, "print the folder of each mailbox below a folder, and run a command for each",
-              "Prints which folder of MAILDIR each mailbox below OLD would be, and runs COMMAND FOLDER MAILBOX for each, if "
-              "given. Status 1 where anything was left undone.", "MAILDIR", "OLD")
-    one.add_argument("--jobs", metavar="N", type=int, default=1, help="how many commands run at a time (1)")
-    one.add_argument("command", metavar="COMMAND", nargs=argparse.REMAINDER, help="the command and its words")
-
-
 def add_migrate(words):
     """Adds the word `migrate`."""
     one = add(words, "migrate", do_migrate, "do the whole migration of mailboxes into a Maildir",
-              "Looks at each MAILBOX, converts it into MAILDIR, sets the dates, verifies it, and keeps a record in MAILDIR: what is "
-              "done there is never converted again. A MAILBOX that is a folder of mailboxes becomes folders of MAILDIR. With "
-              "--users the mailboxes of the folder OLD are those of the users that they are named after, and each is migrated with "
-              "its user's rights into a Maildir of the home. Status 0 only where each mailbox is done and verified.")
-    one.usage = ("%s migrate [--dry-run] [--folder NAME] [--again] MAILDIR MAILBOX...\n"
-                 "       %s migrate --users [--dry-run] [--maildir NAME] [--tree NAME] [--jobs N] [--again] OLD [NAME...]" % (ADMIN, ADMIN))
+              "Looks at each MAILBOX, converts it into MAILDIR, sets the dates, verifies it, and keeps a record in MAILDIR: what "
+              "is done there is never converted again. A MAILBOX that is a folder of mailboxes becomes folders of MAILDIR. With "
+              "--users the mailboxes of the folder OLD are those of the users that they are named after, and each is migrated "
+              "with its user's rights into a Maildir of the home. Status 0 only where each mailbox is done and verified.")
+    one.usage = ("%s migrate [--dry-run] [--folder NAME] [--again] MAILDIR MAILBOX...\n       %s migrate --users [--dry-run] "
+                 "[--maildir NAME] [--tree NAME] [--jobs N] [--again] OLD [NAME...]" % (ADMIN, ADMIN))
     one.add_argument("--dry-run", action="store_true", help="print what would be done, and make nothing")
     one.add_argument("--folder", metavar="NAME", help="the folder of MAILDIR into which the mailboxes go")
     one.add_argument("--again", action="store_true", help="convert one mailbox whatever stands there")

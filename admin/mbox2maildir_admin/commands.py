@@ -2,20 +2,20 @@
 import grp
 import os
 import pwd
-import shutil
 import stat
 
-from . import ADMIN, PROGRAM
+from . import PROGRAM
 from .copies import Copy
 from .dating import give_dates
 from .dovecot import left_out
-from .faults import Fault, OutputFault, PlaceFault
-from .folders import run_all, run_here
+from .faults import Fault
 from .kinds import Quoting, look_at
+from .outcome import PASSED
 from .quoting import print_quoted, quote
 from .source import Source
-from .terminal import complain, flush, is_text, put, put_error, put_some, reason_of, shown, word, write
-from .trees import Tree
+from .terminal import complain, is_text, put, put_some, reason_of, shown, word, write
+from .texts import open_text
+from .trees import COPY, Tree
 from .verifying import NOWHERE, OTHER, RENAMED, THERE, verify
 
 # how many messages without a date are named
@@ -35,18 +35,21 @@ def each(files, task):
 
 
 def read_tree(path):
-    """The files below a folder."""
-    tree = Tree(path).read()
-    if not tree.files and not tree.left:
+    """The files below a folder, and the mailboxes among them."""
+    if os.path.isdir(os.path.join(path, b"cur")):
+        raise Fault("it is a Maildir, and no mailbox")
+    tree = Tree(path.rstrip(b"/") or b"/").read()
+    plan = tree.plan()
+    if not plan and not tree.rows:
         raise Fault("no mailbox is in it")
-    return tree
+    return tree, plan
 
 
 def leave_out(tree):
     """Says what was left out of a tree, and answers whether no mail was."""
-    for left in tree.left:
-        complain("left out, %s: %s" % (left.why, shown(left.path)))
-    return all(left.harmless for left in tree.left)
+    for row in tree.rows:
+        complain("left out, %s: %s" % (row.why, shown(row.path)))
+    return all(row.verdict == PASSED for row in tree.rows)
 
 
 def do_kind(words):
@@ -61,13 +64,18 @@ def kind_below(path):
     if os.path.isdir(os.path.join(path, b"cur")):
         put("%s: a Maildir; next: leave it as it is" % shown(path))
         return False
-    tree, right = read_tree(path), []
-    for file, verdict in tree.verdicts():
-        if verdict.is_mail:
-            right.append(say_kind(file, verdict))
-        else:
-            tree.leave(file, verdict.kind, True)
-    return leave_out(tree) and all(right)
+    tree, plan = read_tree(path)
+    right = each([one.path for one in plan], lambda file: kind_in(tree, file))
+    return leave_out(tree) and right
+
+
+def kind_in(tree, path):
+    """Prints what a file of a tree is, or its copy that was made by hand."""
+    with Source.open(path + COPY if os.path.lexists(path + COPY) else path) as source:
+        verdict = look_at(source)
+    if not verdict.is_mail:
+        tree.leave(path, verdict.kind, PASSED)
+    return not verdict.is_mail or say_kind(source.path, verdict)
 
 
 def kind_of(path):
@@ -140,12 +148,18 @@ def for_mailboxes(maildir, path, task):
     """Does a task for a Maildir and a mailbox, or for the folder and the mailbox of each that is below a folder."""
     if not os.path.isdir(path):
         return task(maildir, path)
-    if os.path.isdir(os.path.join(path, b"cur")):
-        raise Fault("it is a Maildir, and no mailbox")
-    tree = read_tree(path)
-    mailboxes = tree.mailboxes()
-    right = [each([mailbox.path], lambda file, folder=mailbox.folder(maildir): task(folder, file)) for mailbox in mailboxes]
+    tree, plan = read_tree(path)
+    right = [each([one.path], lambda file, one=one: not has_mail(tree, file) or task(one.folder_in(maildir), file)) for one in plan]
     return leave_out(tree) and all(right)
+
+
+def has_mail(tree, path):
+    """Whether a file of a tree is a mailbox that has mail."""
+    with Source.open(path) as source:
+        is_mail = source.size and look_at(source).is_mail
+    if not is_mail:
+        tree.leave(path, "no mail", PASSED)
+    return is_mail
 
 
 def do_dates(words):
@@ -156,8 +170,9 @@ def do_dates(words):
 
 def date_file(maildir, file, by_header):
     """Gives the files of one mailbox their dates, and says which have none."""
-    with Source.open(file) as source:
-        dating = give_dates(maildir, source, by_header, *left_out(source, maildir))
+    with open_text(file, maildir) as (source, start):
+        start = left_out(source, maildir, start)
+        dating = give_dates(maildir, source, by_header, start, 1 + source.at(0, start).count(b"\n"))
         if dating.one_date is not None:
             complain("%s: all From_ lines have one date: %s" % (shown(file), shown(dating.one_date.rstrip())))
         for count, line in enumerate(dating.undone(maildir)):
@@ -176,8 +191,9 @@ def do_verify(words):
 
 def verify_file(maildir, file):
     """Says what of one mailbox is there, and answers whether each message is, once."""
-    with Source.open(file) as source:
-        verified = verify(maildir, source, *left_out(source, maildir))
+    with open_text(file, maildir) as (source, start):
+        start = left_out(source, maildir, start)
+        verified = verify(maildir, source, start, 1 + source.at(0, start).count(b"\n"))
     states = [verified.count(state) for state in (THERE, RENAMED, OTHER, NOWHERE)]
     put("%s: messages %d, bytes %d, there %d, under another name %d, other bytes %d, nowhere %d, doubles %d" % (
         shown(file), len(verified.sizes), sum(verified.sizes), *states, len(verified.doubles)))
@@ -193,44 +209,3 @@ def verify_file(maildir, file):
     if verified.count(RENAMED):
         put("    another program renamed mail: to convert this mailbox again would deliver that mail a second time")
     return verified.is_right()
-
-
-def do_folders(words):
-    """Says the folder of each mailbox below a folder, and runs a command for each."""
-    if words.jobs < 1:
-        words.error("--jobs wants a number from 1 on")
-    command = words.command[words.command[:1] == ["--"]:]
-    if command and not shutil.which(command[0]):
-        raise PlaceFault("%s: no such command" % shown(command[0]))
-    maildir, old = (b"./" + name if name.startswith(b"-") else name for name in map(os.fsencode, (words.maildir, words.old)))
-    tree = Tree(old.rstrip(b"/") or b"/").read()
-    plan = [(mailbox.path, mailbox.folder(maildir)) for mailbox in tree.mailboxes()]
-    done = leave_out(tree)
-    if command and words.jobs > 1:
-        right = [say_run(run) for run in run_all(command, plan, words.jobs)]
-    else:
-        right = [say_folder(*pair) and (not command or ended(run_here(command, *pair))) for pair in plan]
-    return done and all(right)
-
-
-def say_folder(mailbox, folder):
-    """Prints which folder a mailbox has."""
-    put("%s -> %s" % (shown(mailbox), shown(folder)))
-    flush()
-    return True
-
-
-def say_run(run):
-    """Prints a run that ended, and answers whether it ended well."""
-    say_folder(run.mailbox, run.folder)
-    write(run.out)
-    flush()
-    put_error(run.err)
-    return ended(run)
-
-
-def ended(run):
-    """Says of a run that it failed; answers whether it ended well."""
-    if run.status:
-        complain("failed (status %d): %s" % (run.status, shown(run.mailbox)))
-    return run.status == 0

@@ -87,16 +87,14 @@ class Dovecot(Extra):
         return any(note.digest == digest and os.fsencode(note.path) == name for note in self.record.notes(WROTE, work.name))
 
 
-def left_out(source, maildir):
-    """Where the text of a mailbox begins, and in which line: after the message that is left out with its numbers, unless the
+def left_out(source, maildir, start):
+    """Where the text of a mailbox goes on that begins there: after the message that is left out with its numbers, unless the
     Maildir has it."""
-    head, end = internal_head(source, 0)
+    head, end = internal_head(source, start)
     if not head:
-        return 0, 1
-    base = next(messages_of(source)).hash.hexdigest().encode() + b".1"
-    if any(name.startswith(base) for name, _ in paths_of(maildir)):
-        return 0, 1
-    return end, 1 + source.at(0, end).count(b"\n")
+        return start
+    base = next(messages_of(source, start)).hash.hexdigest().encode() + b".1"
+    return start if any(name.startswith(base) for name, _ in paths_of(maildir)) else end
 
 
 def is_beginning(work, note):

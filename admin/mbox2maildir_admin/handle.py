@@ -113,8 +113,8 @@ class Handle:
 
 
 def open_mailbox(path, sizes=(), say=silent, follow=False, quiet=True):
-    """Opens and locks a mailbox, and waits until it was left alone for a minute. The digests of its beginnings of these sizes are
-    wanted."""
+    """Opens and locks a mailbox, and waits until it was left alone for a minute. The digests of its beginnings of these sizes
+    are wanted."""
     try:
         flags = os.O_RDONLY | os.O_NONBLOCK | os.O_NOCTTY | os.O_CLOEXEC
         number = os.open(path, flags if follow else flags | os.O_NOFOLLOW)
@@ -149,8 +149,11 @@ def look_for_lock_file(handle):
     path = handle.path + b".lock"
     try:
         age = time.time() - os.lstat(path).st_mtime
-    except FileNotFoundError:
-        return
+    except OSError as fault:
+        # a lock's name may be longer than names can be
+        if fault.errno in (errno.ENOENT, errno.ENAMETOOLONG):
+            return
+        raise
     if age < STALE:
         raise Left("a program is at work there: %s" % shown(path))
     handle.remarks.append("%s is there, and older than 20 minutes" % shown(path))

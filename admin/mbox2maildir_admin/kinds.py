@@ -54,6 +54,10 @@ class Verdict(NamedTuple):
     # where the text begins, and how a copy is to be made where that is no guess
     start: int = 0
     quoting: Optional[Quoting] = None
+    # what is said of the lines that keep it from being converted as it is; and how many messages it has where these are From_
+    # lines, and nothing else keeps it
+    reasons: List[str] = []
+    decided: Optional[int] = None
 
     @property
     def is_mail(self):
@@ -193,6 +197,20 @@ class Look:
             if self.count(sort) > NAMED:
                 yield "and %d lines more like the last" % (self.count(sort) - NAMED)
 
+    def reasons(self):
+        """What is said of the lines that keep it from being converted as it is."""
+        for sorts in KEEPING:
+            found = [(line, dict(SAID)[sort].format(text, other)) for sort in sorts if sort != "doubtful" or self.doubts()
+                     for line, text, other in self.first(sort)]
+            if found:
+                return ["line %d: %s" % one for one in sorted(found)]
+        return []
+
+    def decided(self):
+        """How many messages there are where a human has decided that doubtful lines are From_ lines, and nothing else keeps it."""
+        others = [sort for sorts in KEEPING for sort in sorts if sort not in ("odd", "doubtful")]
+        return None if self.start or self.count(*others) else self.messages
+
 
 # what is said of lines of a sort, in this order, where {0} stands for the line and {1} for another's number
 SAID = [
@@ -231,6 +249,10 @@ def look_at(source):
     return verdict_on(Look(source, start).read())
 
 
+# the sorts that keep a text from being converted as it is, as they are to be looked after
+KEEPING = (("deleted",), ("inside, dated", "odd", "doubtful"), ("inside", "text"), ("holds mail",), ("no end",), ("CR LF",))
+
+
 def verdict_on(look):
     """What an mbox text is, and the command to run next."""
     then, quoting = next_of(look)
@@ -238,7 +260,7 @@ def verdict_on(look):
     # a guess is what a human may decide otherwise
     sure = quoting and not quoting.trusted and quoting.by in ("lengths", "mboxrd") and look.count("CR LF") in (0, look.messages)
     return Verdict(kind_of(look), then, int(then != CONVERT), look.fewest(), look.most(), list(look.remarks()), look.start,
-                   quoting if sure else None)
+                   quoting if sure else None, look.reasons(), look.decided())
 
 
 def kind_of(look):

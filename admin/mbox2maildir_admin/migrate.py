@@ -13,7 +13,7 @@ from .record import Record
 from .reporting import Reporter
 from .room import make_maildir, want_maildir, want_own
 from .terminal import complain, drop, shown, word
-from .tree_plans import Planned, folder_of, on_disk, plan_of_tree
+from .trees import Planned, Tree, folder_of, on_disk
 from .verifying import find_program
 
 
@@ -153,8 +153,9 @@ def plan_of(words, names, reporter, own):
             taken.add(folder)
             yield Planned(name, folder)
             continue
-        plan, rows = plan_of_tree(name.rstrip(b"/") or b"/", taken)
-        for row in rows:
+        tree = Tree(name.rstrip(b"/") or b"/").read()
+        plan = tree.plan(taken)
+        for row in tree.rows:
             reporter.row(row)
         taken.update(one.folder for one in plan)
         yield from plan

@@ -162,8 +162,9 @@ class Migration:
         size, offsets = work.done_size, work.inventory.offsets
         if work.source is not work.handle:
             if not work.plan.quoting:
-                raise Left("it grew after it was done: what is new can't be told from its copy, so put it into a mailbox of its own; "
-                           "next: tail -c +%d %s" % (size + 1, word(work.handle.path)))
+                path = work.handle.path
+                raise Left("it grew after it was done, and what is new can't be told from its copy; next: tail -c +%d %s >%s, and "
+                           "migrate that" % (size + 1, word(path), word(path + b".rest")))
             size = quoted_size(work.handle, work.plan, size)
         work.first = bisect.bisect_left(offsets, size)
         if offsets[work.first] == size:
@@ -240,7 +241,7 @@ class Migration:
 
     def refuse_cut(self, work):
         """Left where a file stands of a message that was read when it was not whole."""
-        path = shown(work.handle.path)
+        path = shown(os.path.abspath(work.handle.path))
         cut = {digest.encode() for folder, digest, its in self.record.lasts if folder == work.name and its == path and
                bytes.fromhex(digest) + b".1" not in work.inventory.table.places}
         for name, where in names_of(work.folder) if cut else ():

@@ -3,7 +3,7 @@ import os
 import re
 from typing import NamedTuple, Optional
 
-from .kinds import Quoting, look_at
+from .kinds import CONVERT, LOOK_AT_END, LOOK_AT_LINES, Quoting, look_at
 from .outcome import Left
 from .terminal import shown, word
 
@@ -42,16 +42,25 @@ def plan_of(handle):
         return Plan(verdict.kind, verdict.messages, verdict.start)
     if how:
         return Plan(verdict.kind + ", quoted", verdict.messages, verdict.start, how)
-    says = list(verdict.remarks[:1])
-    if len(verdict.remarks) > 1:
-        says[0] += " (and %d lines more: see `kind`)" % (len(verdict.remarks) - 1)
+    says = [*verdict.reasons, *([] if verdict.reasons else verdict.remarks)][:1]
+    if len(verdict.reasons) > 1:
+        says[0] += " (and %d more: see `kind`)" % (len(verdict.reasons) - 1)
     says.append("next: " + next_of(verdict, handle.path))
     raise Left("; ".join(says), verdict.kind, verdict.messages, verdict.most)
 
 
 def next_of(verdict, path):
-    """The next command for a mailbox that is left, whose copy stands beside it."""
-    return verdict.next.replace("{output}", "").replace("{copy}", "{}.mboxrd").replace("{}", word(path))
+    """The next command for a mailbox that is left: it makes the copy that is taken in its place."""
+    for convert, copy in ((LOOK_AT_LINES + CONVERT, "look at these lines, and mend them in a copy, {copy}"),
+                          (LOOK_AT_END + CONVERT, LOOK_AT_END + "(cat {}; echo) >{copy}"), (CONVERT, "cp {} {copy}")):
+        if convert in verdict.next:
+            return named(verdict.next.replace(convert, copy), path)
+    return named(verdict.next, path)
+
+
+def named(command, path):
+    """A command with the names of a mailbox and of its copy."""
+    return command.replace("{output}", "").replace("{copy}", word(path + b".mboxrd")).replace("{}", word(path))
 
 
 def plan_by_hand(handle, copy):
@@ -66,9 +75,10 @@ def plan_by_hand(handle, copy):
         fewest = most = plan.messages
     except Left as left:
         fewest, most = left.messages, left.most
-    made = plan_of(copy)
-    if made.quoting or made.start:
-        raise Left("its copy %s can't be converted as it is" % name)
-    if fewest is not None and not fewest <= made.messages <= (fewest if most is None else most):
-        raise Left("it has %d messages, and its copy %s has %d" % (fewest, name, made.messages), messages=fewest)
-    return made._replace(kind="a copy made by hand")
+    verdict = look_at(copy)
+    count = verdict.messages if verdict.status == 0 else verdict.decided
+    if count is None:
+        raise Left("its copy %s can't be converted as it is: see `kind`" % name)
+    if fewest is not None and not fewest <= count <= (fewest if most is None else most):
+        raise Left("it has %d messages, and its copy %s has %d" % (fewest, name, count), messages=fewest)
+    return Plan("a copy made by hand", count)

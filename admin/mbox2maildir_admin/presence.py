@@ -67,8 +67,8 @@ class Presence:
         return sum(self.there) + len(self.renamed)
 
     def is_plain(self, first):
-        """Whether the messages from a place on are converted by themselves as they must be: none of them was renamed, or is equal
-        to one before."""
+        """Whether the messages from a place on are converted by themselves as they must be: none of them was renamed, or is
+        equal to one before."""
         if any(place >= first for place in self.renamed):
             return False
         return not first or not any(places[0] < first <= places[-1] for places in self.inventory.equal().values())
@@ -97,7 +97,7 @@ class Presence:
         return sum(map(self.is_nowhere, range(first, last + 1)))
 
     def is_untouched(self, first, begun_at):
-        """Whether no name has changed since the last message was placed, by the times that the kernel gives to files and folders."""
+        """Whether no name has changed since the last message was placed, by the times that the kernel gives files and folders."""
         times = array.array("q", bytes(8 * len(self.there)))
         try:
             for name, path in names_of(self.folder):
@@ -120,11 +120,3 @@ def digest_of_file(path, sizes):
         return digest_of(path)[0] if stat.S_ISREG(state.st_mode) and state.st_size in sizes else None
     except OSError:
         return None
-
-
-def is_file(path):
-    """Whether a path is that of a plain file."""
-    try:
-        return stat.S_ISREG(os.lstat(path).st_mode)
-    except OSError:
-        return False

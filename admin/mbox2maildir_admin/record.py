@@ -26,7 +26,8 @@ MOST = 1 << 23
 TIME = "%Y-%m-%dT%H:%M:%SZ"
 
 Line = collections.namedtuple("Line", "step folder size digest messages when path")
-LINE = re.compile(rb"([a-z]+)\t([^\t]+)\t(\d{1,19})\t([0-9a-f]{64})\t(\d{1,19})\t(\d{4}-\d\d-\d\dT\d\d:\d\d:\d\dZ)\t([^\t]*)\Z")
+LINE = re.compile(rb"([a-z]+)\t([^\t]+)\t(\d{1,19})\t([0-9a-f]{64})\t(\d{1,19})\t"
+                  rb"([12]\d{3}-(?:0[1-9]|1[0-2])-\d\dT\d\d:\d\d:\d\dZ)\t([^\t]*)\Z")
 
 
 class Record:
@@ -49,7 +50,8 @@ class Record:
         except OSError as fault:
             if fault.errno == errno.ENOENT and not make:
                 return cls(path)
-            raise PlaceFault("%s: %s" % (shown(path), "it is a link" if fault.errno == errno.ELOOP else fault.strerror)) from fault
+            why = "it is a link" if fault.errno == errno.ELOOP else fault.strerror
+            raise PlaceFault("%s: %s" % (shown(path), why)) from fault
         self = cls(path, number)
         try:
             self.check()
@@ -79,7 +81,8 @@ class Record:
         """Whether it is a file that nobody else may write."""
         state = os.fstat(self.number)
         if not stat.S_ISREG(state.st_mode) or state.st_uid != os.geteuid() or state.st_mode & 0o022 or state.st_nlink != 1:
-            raise PlaceFault("%s: it is no file of yours, or others may write it: look at it, and put it aside" % shown(self.path))
+            raise PlaceFault("%s: it is no file of yours, or others may write it: look at it, and put it aside" %
+                             shown(self.path))
         if state.st_size > MOST:
             raise PlaceFault("%s: it is too large for a record: look at it, and put it aside" % shown(self.path))
 
@@ -117,7 +120,7 @@ class Record:
         """Appends a line, which is on the disk when this ends."""
         folder, size, digest = key
         when = time.strftime(TIME, time.gmtime())
-        words = [step, shown(folder), str(size), digest, str(messages), when, shown(path)]
+        words = [step, shown(folder), str(size), digest, str(messages), when, shown(os.path.abspath(path))]
         # a line before it that a full disk cut is ended first
         piece = b"\n" * self.is_cut + "\t".join(words).encode() + b"\n"
         try:
@@ -143,8 +146,8 @@ class Record:
         return {size for (its, size, _), step in self.steps.items() if its == folder and step == DONE}
 
     def beginning(self, folder, size, digests):
-        """Of a text that grew, of which some beginnings have these digests: how much of it is done, and the size and the step of
-        the longest beginning that has one, if any has."""
+        """Of a text that grew, of which some beginnings have these digests: how much of it is done, and the size and the step
+        of the longest beginning that has one, if any has."""
         steps = {long: self.steps[folder, long, digest] for long, digest in digests.items()
                  if long < size and (folder, long, digest) in self.steps}
         done = max((long for long in steps if steps[long] == DONE), default=0)
@@ -152,7 +155,9 @@ class Record:
 
     def begun_at(self, key):
         """When a mailbox was begun first, in seconds since 1970; None if it wasn't."""
-        return calendar.timegm(time.strptime(self.first_begun[key], TIME)) if key in self.first_begun else None
+        if key not in self.first_begun:
+            return None
+        return calendar.timegm(tuple(map(int, re.findall(r"\d+", self.first_begun[key]))))
 
     def notes(self, word, folder):
         """The lines with another first word of a folder, in their order."""
@@ -165,7 +170,8 @@ def parsed(piece):
     if not found:
         return None
     step, folder, size, digest, messages, when, path = found.groups()
-    return Line(step.decode(), folder, int(size), digest.decode(), int(messages), when.decode(), path.decode("utf-8", "replace"))
+    path = path.decode("utf-8", "replace")
+    return Line(step.decode(), folder, int(size), digest.decode(), int(messages), when.decode(), path)
 
 
 def sync_folder(path):

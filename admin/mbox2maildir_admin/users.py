@@ -10,6 +10,7 @@ from .faults import Fault
 from .migrate import refuse, run_all
 from .outcome import LEFT, Left, Row, why_left
 from .terminal import shown
+from .trees import folder_of
 from .verifying import find_program
 
 
@@ -18,6 +19,8 @@ def migrate_users(words, reporter):
     spool = os.path.abspath(os.fsencode(words.target))
     os.listdir(spool)
     want_entered(spool)
+    # what Python loads when it is wanted first may be where users can't read
+    folder_of("\u00e4")
     program, first = os.path.abspath(os.fsencode(find_program())), first_uid()
     names = list(map(os.fsencode, words.names)) or names_of(spool, words.tree, first)
     reporter.total = len(names)
@@ -52,7 +55,7 @@ def names_of(spool, tree, first):
 
 
 def is_passed(spool, name, names):
-    """Whether a name of a spool is no mailbox of its own: a lock, a copy that was made by hand, an empty file that is hidden."""
+    """Whether a name of a spool is no mailbox of its own: a lock, a copy that was made by hand, an empty hidden file."""
     if name.endswith(b".lock") or name.endswith(b".mboxrd") and name[:-len(b".mboxrd")] in names:
         return True
     return name.startswith(b".") and os.lstat(os.path.join(spool, name)).st_size == 0

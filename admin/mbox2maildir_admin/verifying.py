@@ -8,7 +8,7 @@ import subprocess
 import sys
 
 from . import PROGRAM
-from .faults import Fault
+from .faults import Fault, PlaceFault
 from .kinds import Lines
 from .maildir import BASE, Table, digest_of, listings_of, paths_of
 from .messages import messages_of
@@ -20,7 +20,7 @@ def find_program():
     beside = os.path.join(os.path.dirname(os.path.realpath(sys.argv[0])), PROGRAM)
     program = beside if os.path.isfile(beside) else shutil.which(PROGRAM)
     if not program:
-        raise Fault("no %s is here, whose list is to be compared" % PROGRAM)
+        raise PlaceFault("no %s is here, beside this program or in PATH" % PROGRAM)
     return program
 
 

@@ -1,10 +1,11 @@
-"""The finder of files, and the names of their folders. More names, and links of others, are in tests/admin."""
+"""The finder of files, and the names of their folders. More names are in tests/admin."""
 import os
 import unittest
 from pathlib import Path
 
 from context import A, folder
 from mbox2maildir_admin.copies import UNFINISHED
+from mbox2maildir_admin.outcome import LEFT, PASSED
 from mbox2maildir_admin.trees import Tree, folder_of
 
 MAIL = A + b"\n"
@@ -24,38 +25,33 @@ class TreeTest(unittest.TestCase):
     def found(self):
         """The folders of the mailboxes, and what is left out, with the reason."""
         tree = Tree(self.here).read()
-        names = [mailbox.name for mailbox in tree.mailboxes()]
-        return names, {os.path.relpath(left.path, self.here).decode(): (left.why, left.harmless) for left in tree.left}
+        plan = tree.plan()
+        return [one.folder for one in plan], {os.path.relpath(row.path, self.here).decode(): (row.why, row.verdict) for row in tree.rows}
 
     def test_mailboxes(self):
-        for name in ("Inbox", "Inbox.sbd/Sent", "a.mbox"):
+        for name in ("Inbox", "Inbox.sbd/Sent", "a.mbox", "quoted", "quoted.mboxrd"):
             self.write(name)
-        self.assertEqual(self.found(), (["INBOX", "INBOX.Sent", "a"], {}))
+        self.assertEqual(self.found(), ([b".", b".INBOX.Sent", b".a", b".quoted"], {}))
 
     def test_what_is_left_out(self):
         self.write("M/cur/1")
         self.write("index.msf", b"// <!-- <mdb:mork")
-        self.write("empty", b"")
-        self.write("cut", A[1:])
-        self.write("late", A + b"hello\n" * 2000 + b"From here on\n\n")
+        self.write(".empty", b"")
         self.write(UNFINISHED.decode() + "abc")
         self.write("one")
         self.write("one.mbox")
-        self.write("quoted")
-        self.write("quoted.mboxrd")
-        self.assertEqual(self.found(), (["quoted"], {
-            "M": ("a Maildir", True), "index.msf": ("no mail: Thunderbird's index (.msf)", True), "empty": ("no mail", True),
-            "cut": ("damaged; see `kind`", False), "late": ("not quoted; see `kind`", False),
-            UNFINISHED.decode() + "abc": ("what a `quote` left that was broken off: remove it", False),
-            "one": ("it shares the folder one", False), "one.mbox": ("it shares the folder one", False),
-            "quoted": ("its copy .mboxrd is there", True)}))
+        shared = "another mailbox goes into one too; next: migrate it by itself, with --folder NAME", LEFT
+        self.assertEqual(self.found(), ([], {
+            "M": ("a Maildir", PASSED), "index.msf": ("no mail", PASSED), ".empty": ("no mail", PASSED), "one": shared, "one.mbox": shared,
+            UNFINISHED.decode() + "abc": ("what a `quote` left that was broken off: remove it", LEFT)}))
 
     def test_links(self):
         self.write("a/box")
+        os.link(self.here + b"/a/box", self.here + b"/z")
         os.symlink("a", self.here + b"/b")
-        os.symlink("none", self.here + b"/lost")
-        self.assertEqual(self.found(), (["a.box"], {
-            "b": ("the same as %s/a" % self.here.decode(), True), "lost": ("a link that leads nowhere", False)}))
+        self.assertEqual(self.found(), ([b".z"], {
+            "b": ("it is a link; next: migrate what it leads to, with --folder NAME", LEFT),
+            "a/box": ("the same as %s/z" % self.here.decode(), PASSED)}))
 
     def test_names(self):
         for path, name in (("Inbox.sbd/inbox.mbox", "INBOX.inbox"), ("2005.archive.mbox", "2005-archive"), ("Apple.mbox/mbox", "Apple"),

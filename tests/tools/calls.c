@@ -4,10 +4,12 @@
    has no number. CLOCK is what the clocks show, in milliseconds since 1970, and each sleep moves it on at once. FOLDER is
    the path of a folder with a slash after it: its first CHANGES readings see it change, and each takes READING
    milliseconds. OUTPUT is how many bytes standard output takes. Where SHORT is set, a read and a write move one byte at
-   most and every other write is interrupted; where GONE is set, what is to be moved is removed before. PLANTED is put where
-   a file is to be made, and REPLACED in place of what is opened to be written and is there: by the first letter a link or
-   a hard link to the path after it, a pipe, a directory, a file, or one that others may read. The time of modification is
-   shown as the time of change, which no test can set, and 1970 in its place. It needs no headers, so that any C compiler makes it. */
+   most, and where it is 1 every other write is interrupted. GONE is put in place of what is to be moved, PLANTED where a
+   file is to be made, and REPLACED in place of what is opened to be written and is there: by the first letter a link or a
+   hard link to the path after it, a pipe, a directory, a file, one that others may read, another owner's, or, as 1, nothing.
+   REPLACED may be a change of the file instead: for others to read, an owner, a second name, or another device, as is
+   shown through the handle. The time of modification is shown as the time of change, which no test can set, and 1970 in its
+   place. It needs no headers, so that any C compiler makes it. */
 typedef unsigned long size_t;
 typedef long ssize_t;
 
@@ -24,13 +26,15 @@ int utimensat(int, const char *, const struct moment *, int);
 int symlink(const char *, const char *);
 int link(const char *, const char *);
 int mkfifo(const char *, unsigned);
+int chmod(const char *, unsigned);
+int lchown(const char *, unsigned, unsigned);
 int remove(const char *);
 int mkdir(const char *, unsigned);
 int close(int);
 int openat(int, const char *, int, ...);
 
 enum { OUTPUT = 1, ERRORS = 2, CALLS = 3, OPEN = 64 };
-enum { INTERRUPTED = 4, NO_SPACE = 28, HERE = -100, WRITING = 03, CREATE = 0100 };
+enum { INTERRUPTED = 4, NO_SPACE = 28, HERE = -100, WRITING = 03, CREATE = 0100, NOBODY = 65534 };
 
 /* The function that stands behind this one. */
 #define REAL(name) ((__typeof__(&name))dlsym((void *)-1, #name))
@@ -95,6 +99,14 @@ static int opened(int file, const char *path) {
     return file;
 }
 
+/* Makes a file that holds more than the messages of the tests. */
+static void make(const char *path, unsigned mode) {
+    static const char text[] = "planted long before";
+    int file = REAL(openat)(HERE, path, CREATE | 1, mode);
+    REAL(write)(file, text, sizeof text - 1);
+    REAL(close)(file);
+}
+
 static void plant(const char *what, const char *path) {
     switch (what ? *what : 0) {
     case 'l':
@@ -110,11 +122,38 @@ static void plant(const char *what, const char *path) {
         REAL(mkdir)(path, 0700);
         break;
     case 'f':
-        REAL(close)(REAL(openat)(HERE, path, CREATE, 0600));
+        make(path, 0600);
         break;
     case 'r':
-        REAL(close)(REAL(openat)(HERE, path, CREATE, 0644));
+        make(path, 0644);
         break;
+    case 'o':
+        make(path, 0600);
+        lchown(path, NOBODY, NOBODY);
+        break;
+    }
+}
+
+/* Whether a file that is looked at through its handle is shown as one of another device. */
+static int is_elsewhere;
+
+static void replace(const char *what, const char *path) {
+    switch (*what) {
+    case 'R':
+        chmod(path, 0644);
+        break;
+    case 'O':
+        lchown(path, NOBODY, NOBODY);
+        break;
+    case 'N':
+        link(path, what + 1);
+        break;
+    case 'D':
+        is_elsewhere = 1;
+        break;
+    default:
+        remove(path);
+        plant(what, path);
     }
 }
 
@@ -126,10 +165,8 @@ int openat(int folder, const char *path, int flags, ...) {
     const char *replaced = getenv("REPLACED");
     if (flags & CREATE)
         plant(getenv("PLANTED"), path);
-    else if (flags & WRITING && replaced && *replaced) {
-        remove(path);
-        plant(replaced, path);
-    }
+    else if (flags & WRITING && replaced && *replaced)
+        replace(replaced, path);
     return is_to_fail("open", path) ? -1 : opened(REAL(openat)(folder, path, flags, mode), path);
 }
 
@@ -160,7 +197,7 @@ ssize_t write(int file, const void *bytes, size_t size) {
     if (is_to_fail("write", name_of(file)))
         return -1;
     if (getenv("SHORT")) {
-        was_interrupted = !was_interrupted;
+        was_interrupted = !was_interrupted && number("SHORT", 0) == 1;
         if (was_interrupted)
             return failed(INTERRUPTED);
         size = size > 1 ? 1 : size;
@@ -179,6 +216,10 @@ ssize_t getdents64(int file, void *entries, size_t size) {
     return is_to_fail("list", name_of(file)) ? -1 : REAL(getdents64)(file, entries, size);
 }
 
+int ftruncate(int file, long size) {
+    return is_to_fail("empty", name_of(file)) ? -1 : REAL(ftruncate)(file, size);
+}
+
 int fsync(int file) {
     return is_to_fail("sync", name_of(file)) ? -1 : REAL(fsync)(file);
 }
@@ -192,7 +233,10 @@ int mkdir(const char *path, unsigned mode) {
 }
 
 int statx(int folder, const char *path, int flags, unsigned mask, void *found) {
-    int status = is_to_fail("look at", path) ? -1 : REAL(statx)(folder, path, flags, mask, found);
+    const char *name = *path ? path : name_of(folder);
+    int status = is_to_fail(*path ? "look at" : "look through", name) ? -1 : REAL(statx)(folder, path, flags, mask, found);
+    if (status == 0 && !*path && is_elsewhere)
+        *(unsigned *)((char *)found + 140) += 1; /* the device's minor number */
     /* the time of change is before that of modification */
     struct moment *moments = (struct moment *)((char *)found + 96);
     if (status == 0) {
@@ -206,12 +250,16 @@ int unlink(const char *path) {
     return is_to_fail("remove", path) ? -1 : REAL(unlink)(path);
 }
 
+int rmdir(const char *path) {
+    return is_to_fail("remove", path) ? -1 : REAL(rmdir)(path);
+}
+
 int rename(const char *from, const char *to) {
-    if (is_to_fail("move", from))
-        return -1;
-    if (getenv("GONE"))
+    if (getenv("GONE")) {
         REAL(unlink)(from);
-    return REAL(rename)(from, to);
+        plant(getenv("GONE"), from);
+    }
+    return is_to_fail("move", from) ? -1 : REAL(rename)(from, to);
 }
 
 int clock_gettime(int clock, struct moment *shown) {

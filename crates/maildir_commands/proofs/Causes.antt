@@ -1,5 +1,5 @@
 -- Why a command ended with a fault.
-use Rattle.std.proofs.Common.{◌≡◌, ℕ, ◌+◌, ◌≤◌, ◌⊎◌, ◌^◌, List, [], ◌∷◌, ◌++◌, length}
+use Rattle.std.proofs.Common.{◌≡◌, ℕ, ◌≤◌, ◌⊎◌, ◌^◌, List, [], ◌∷◌, ◌++◌, length}
 use Rattle.std.proofs.Common.{Some, None, Result, Ok, Err, IfErr, IsErrAnd, refl, sym, ap, subst, inl, inr, arith}
 use Rattle.maildir_commands.proofs.Common.{Bytes, Contains, Fault, Folder, Form, GivesNothing, IsCauseOf, IsFailedCall, IsNoMbox, IsOfDelivery, IsOfFiles}
 use Rattle.maildir_commands.proofs.Common.{IsOfOne, IsOfRun, IsPossibly, IsReading, IsTooLong, Locked, OpenFault, Possible, ReadsAtLeast, ReadsAtMost}

@@ -21,12 +21,16 @@ pub use Rattle.maildir_disk.specs.Others.{Stays}
 pub use Rattle.maildir_disk.specs.PowerCuts.{AreAlike, AreIntact, AreSafe, HasBody, IsIntact, LeftByOthers}
 pub use Rattle.maildir_disk.specs.World.{Acts, World}
 pub use Rattle.maildir_disk.specs.declared.faults.OpenFault.{OpenFault}
+pub use Rattle.maildir_run.specs.Delivery.{AllSpared, IsSpared}
+pub use Rattle.maildir_run.specs.Files.{Spared, SparesAll, all_bases, is_spared, is_spared_name}
 pub use Rattle.maildir_run.specs.Files.{Action, Files, acted, all_acted, is_name}
+pub use Rattle.maildir_run.proofs.Call.Homes.{spared_named}
 pub use Rattle.maildir_run.specs.Foreign.{KeepsForeign}
 pub use Rattle.maildir_run.specs.Output.{GivesAll, GivesNothing, GivesPrefix, WritesMessages}
 pub use Rattle.maildir_run.specs.Reading.{IsReading, ReadsAtLeast, ReadsAtMost}
 pub use Rattle.maildir_run.specs.Runs.{IsRun, Possible, ReportsMessages}
 pub use Rattle.maildir_run.specs.Several.{IsMailbox, Mailbox}
+pub use Rattle.maildir_run.specs.Touched.{TouchedConverters, TouchedNone}
 pub use Rattle.maildir_run.specs.declared.fault.RunFault.{RunFault}
 pub use Rattle.maildir_run.specs.declared.report.Report.{Report}
 pub use Rattle.mbox_text.specs.Writing.{AppendsPrefix}

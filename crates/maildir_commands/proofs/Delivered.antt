@@ -1,15 +1,15 @@
 -- What came of delivering several texts.
 use Rattle.std.proofs.Common.{◌≡◌, ◌+◌, ◌<◌, ◌≤◌, ℕ, List, [], ◌∷◌, length, All, Result, Ok, Err, ap, arith}
-use Rattle.maildir_commands.proofs.Common.{AreFit, Bytes, Delivers, DeliversOne, HeldMaildir, IsMailbox, IsSoundFor, Keeps-refl, Mailbox, Rests}
+use Rattle.maildir_commands.proofs.Common.{AreFit, Bytes, Delivers, DeliversOne, HeldMaildir, IsMailbox, IsSoundFor, Keeps-refl, Mailbox, Rests, Spared}
 use Rattle.maildir_commands.proofs.Known.{swept_rests}
 use Rattle.maildir_commands.proofs.Several.{UpTo, all_each, all_safe, none_printed, none_some, on_err_then, on_ok_then, one_more, rest_all_safe}
 use Rattle.maildir_commands.proofs.Several.{rest_each, rest_some, rest_sound, sound_more, stay_both, stay_more}
 use Rattle.maildir_commands.proofs.Several.{stay_rest, stopped_between, text_at, then_stopped}
 
-module _ (texts : List Mailbox) (are : All IsMailbox texts) where
+module _ {spared : Spared} (texts : List Mailbox) (are : All IsMailbox texts) where
   -- nothing was opened, or written
   pub none_delivered : {A E : Type 0} {fault : E} {old new : HeldMaildir} {was : Bytes}
-      → Rests old new → IsSoundFor texts old → Delivers {A = A} (Err fault) texts old new was was
+      → Rests spared old new → IsSoundFor spared texts old → Delivers {A = A} spared (Err fault) texts old new was was
   none_delivered {was = was} rests sound = record {
     safe = tt;
     each = tt;
@@ -22,7 +22,7 @@ module _ (texts : List Mailbox) (are : All IsMailbox texts) where
 
   -- the Maildir was opened before, and is closed
   pub closed : {A E : Type 0} (answer : Result A E) (old ready work new : HeldMaildir) {was is : Bytes}
-      → Rests old ready → Rests work new → Delivers answer texts ready work was is → Delivers answer texts old new was is
+      → Rests spared old ready → Rests spared work new → Delivers spared answer texts ready work was is → Delivers spared answer texts old new was is
   closed answer old ready work new opens closes did = record {
     safe = on_ok_then answer (rest_all_safe texts are closes) did.safe;
     each = on_ok_then answer (rest_each texts are opens) did.each;
@@ -33,9 +33,9 @@ module _ (texts : List Mailbox) (are : All IsMailbox texts) where
     sound = rest_sound texts are closes did.sound;
   }
 
-module _ {texts : List Mailbox} {start now : HeldMaildir} {was mid : Bytes} {n : ℕ} (up : UpTo n texts start now was mid) where
+module _ {spared : Spared} {texts : List Mailbox} {start now : HeldMaildir} {was mid : Bytes} {n : ℕ} (up : UpTo spared n texts start now was mid) where
   -- all of them
-  pub all_delivered : {A E : Type 0} {value : A} → 0 < n → length texts ≤ n → Delivers {E = E} (Ok value) texts start now was mid
+  pub all_delivered : {A E : Type 0} {value : A} → 0 < n → length texts ≤ n → Delivers {E = E} spared (Ok value) texts start now was mid
   all_delivered one most = record {
     safe = all_safe up most;
     each = all_each up most;
@@ -47,14 +47,14 @@ module _ {texts : List Mailbox} {start now : HeldMaildir} {was mid : Bytes} {n :
   }
 
   -- some of them, and the next could not be opened
-  pub stopped_delivered : {A E : Type 0} {fault : E} → Delivers {A = A} (Err fault) texts start now was mid
+  pub stopped_delivered : {A E : Type 0} {fault : E} → Delivers {A = A} spared (Err fault) texts start now was mid
   stopped_delivered =
       record { safe = tt; each = tt; some = stopped_between up; stay = up.stay; found = up.found; swept = tt; sound = up.sound }
 
   module _ (fit : AreFit texts) (inside : n < length texts) {new : HeldMaildir} {is : Bytes} {A E : Type 0} where
     -- some of them, and the next ended with a fault
-    pub then_delivered : {fault : E} → DeliversOne {A = A} (Err fault) (text_at texts n) now new mid is
-        → Delivers {A = A} (Err fault) texts start new was is
+    pub then_delivered : {fault : E} → DeliversOne {A = A} spared (Err fault) (text_at texts n) now new mid is
+        → Delivers {A = A} spared (Err fault) texts start new was is
     then_delivered one = record {
       safe = tt;
       each = tt;
@@ -66,13 +66,13 @@ module _ {texts : List Mailbox} {start now : HeldMaildir} {was mid : Bytes} {n :
     }
 
     -- one more of them
-    pub more_delivered : {value : A} → DeliversOne {E = E} (Ok value) (text_at texts n) now new mid is → UpTo (n + 1) texts start new was is
+    pub more_delivered : {value : A} → DeliversOne {E = E} spared (Ok value) (text_at texts n) now new mid is → UpTo spared (n + 1) texts start new was is
     more_delivered one = one_more fit inside up one one.safe one.line one.known one.swept
 
 -- where one text is all
-pub one_delivered : {A E : Type 0} (answer : Result A E) {texts : List Mailbox} → AreFit texts → {text : Mailbox} → texts ≡ text ∷ []
-    → {start now : HeldMaildir} {was is : Bytes} → IsSoundFor texts start
-    → DeliversOne answer (text_at texts 0) start now was is → Delivers answer texts start now was is
+pub one_delivered : {spared : Spared} {A E : Type 0} (answer : Result A E) {texts : List Mailbox} → AreFit texts → {text : Mailbox} → texts ≡ text ∷ []
+    → {start now : HeldMaildir} {was is : Bytes} → IsSoundFor spared texts start
+    → DeliversOne spared answer (text_at texts 0) start now was is → Delivers spared answer texts start now was is
 one_delivered (Ok x) {texts} fit one sound did =
     let many : length texts ≡ 1 = ap length one in
     all_delivered (more_delivered (none_printed sound) fit (omega (arith, many)) did) (omega arith) (omega (arith, many))

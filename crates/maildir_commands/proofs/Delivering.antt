@@ -1,7 +1,7 @@
 -- What the delivery of one source owes, as the work goes on.
-use Rattle.std.proofs.Common.{◌≡◌, ◌⊎◌, [], All, Result, Ok, Err, IfErr, inl, inr}
+use Rattle.std.proofs.Common.{◌≡◌, ◌⊎◌, [], Result, Ok, Err, IfErr, inl, inr}
 use Rattle.maildir_commands.proofs.Common.{All-head, Appends-kept, AppendsPrefix, AreAlike, AreIntact, Bytes, DeliversOne, DeliversSource, Fault, IsMailbox}
-use Rattle.maildir_commands.proofs.Common.{Keeps-refl, KeepsSource, Mailbox, Possible, PrintsOne, PrintsReport, Report, Run, SeenMaildir}
+use Rattle.maildir_commands.proofs.Common.{Keeps-refl, KeepsSource, Mailbox, Possible, PrintsOne, PrintsReport, Report, Run, SeenMaildir, AllSpared, Spared}
 use Rattle.maildir_commands.proofs.Common.{StopsSource, StoresSource, report_line}
 use Rattle.std.specs.Io.KnownBytes.{Keeps}
 use Rattle.maildir_run.specs.Delivery.{IsSoundAt}
@@ -46,19 +46,20 @@ source_handed {was = was} {given} {kept} keeps did (Err fault) is_output =
     not_printed did.keeps did.printed.report did.printed.said is_output (prefix_of_all was kept line)
 
 -- ---- a text that the source may have had, and for which the Maildir is sound
-module _ (was is : Bytes) {before after : Bytes} {old new : SeenMaildir} (h : old.honest) (text : Mailbox) (are : IsMailbox text)
-    (possible : Possible before after text.bytes) (sound : All (IsSoundAt old.held.files) text.messages)
-    (intact : AreIntact text.messages old.held.may_leave) where
+module _ (spared : Spared) (was is : Bytes) {before after : Bytes} {old new : SeenMaildir} (h : old.honest spared) (text : Mailbox) (are : IsMailbox text)
+    (possible : Possible before after text.bytes) (sound : AllSpared spared (IsSoundAt old.held.files) text.messages)
+    (intact : AreIntact spared text.messages old.held.may_leave) where
   one_stopped : Keeps was is ⊎ ((report : Report) × StoresSource report before after old new × AppendsPrefix was is (report_line report))
-      → Keeps was is ⊎ PrintsOne old.held new.held text was is
+      → Keeps was is ⊎ PrintsOne spared old.held new.held text was is
   one_stopped (inl keeps) = inl keeps
   one_stopped (inr (report, stored, prefix)) =
-      let stores = stored.texts h text are possible sound in
+      let stores = stored.texts spared h text are possible sound in
       inr (record { report = report; true_of = of_reports stores.reports; safe = stores.safe intact; line = prefix })
 
-  pub one_of : {answer : Result Unit Fault} → DeliversSource answer before after was is old new → DeliversOne answer text old.held new.held was is
+  pub one_of : {answer : Result Unit Fault} → DeliversSource answer before after was is old new → DeliversOne spared answer text old.held new.held was is
   one_of {answer} did =
-      let stores = λ (printed : PrintsReport was is (λ report. StoresSource report before after old new)). printed.said.texts h text are possible sound in
+      let stores = λ (printed : PrintsReport was is (λ report.
+      StoresSource report before after old new)). printed.said.texts spared h text are possible sound in
       record {
         safe = on_ok_then answer (λ printed. (stores printed).safe intact) did.printed;
         line = on_ok_then answer (λ printed. record {
@@ -70,6 +71,6 @@ module _ (was is : Bytes) {before after : Bytes} {old new : SeenMaildir} (h : ol
         swept = on_ok_then answer (λ printed. (stores printed).swept) did.printed;
         stopped = on_err_then answer one_stopped did.prefix;
         stays = λ others named alike.
-            (did.keeps.texts h text are possible).stays sound others named (All-head (λ (t : Mailbox). AreAlike others t.messages) text [] alike);
-        still_rooted = did.keeps.still_rooted h;
+            (did.keeps.texts spared h text are possible).stays sound others named (All-head (λ (t : Mailbox). AreAlike others t.messages) text [] alike);
+        still_rooted = did.keeps.still_rooted spared h;
       }

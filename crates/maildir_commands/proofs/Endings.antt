@@ -5,5 +5,8 @@ use Rattle.std.proofs.Common.{◌≡◌, ℕ}
 pub one_no_zero : ¬ (◌≡◌ {A = ℕ} 1 0)
 one_no_zero e = cc
 
+pub one_no_two : ¬ (◌≡◌ {A = ℕ} 1 2)
+one_no_two e = cc
+
 pub two_no_zero : ¬ (◌≡◌ {A = ℕ} 2 0)
 two_no_zero e = cc

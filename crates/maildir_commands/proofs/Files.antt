@@ -2,14 +2,15 @@
 use Rattle.std.proofs.Common.{◌≡◌, ℕ, ◌+◌, ◌<◌, ◌⊎◌, List, ◌∷◌, length, get_or, map, Contains, Some, Result, Ok, Err, IsErrAnd}
 use Rattle.std.proofs.Common.{sym, ap, subst, ◌∙◌, arith, add-one}
 use Rattle.maildir_commands.proofs.Common.{AreFit, Bytes, DeliversFiles, DeliversOne, DeliversSource, Fault, IsOfFiles, IsSoundFor, KeepsForeign, Mailbox}
-use Rattle.maildir_commands.proofs.Common.{OpensSources, PrintsReports, Run, SeenMachine, SeenMaildir, Source, bytes_of, get_or-map, length-map}
+use Rattle.maildir_commands.proofs.Common.{OpensSources, PrintsReports, Run, SeenMachine, SeenMaildir, Source, TouchedConverters, bytes_of, Spared}
+use Rattle.maildir_commands.proofs.Common.{get_or-map, length-map}
 use Rattle.maildir_run.specs.declared.fault.RunFault.TheVariants as run
 use Rattle.maildir_run.proofs.Tasks.QuietRuns.{foreign_then, others_same}
 use Rattle.maildir_commands.proofs.Causes.{delivered_file, holds_first, refused_file}
 use Rattle.maildir_commands.proofs.Delivered.{all_delivered, more_delivered, stopped_delivered, then_delivered}
 use Rattle.maildir_commands.proofs.Delivering.{one_of}
 use Rattle.maildir_commands.proofs.Reports.{more_reports, none_reported, one_report}
-use Rattle.maildir_commands.proofs.Resting.{opens_none, opens_then}
+use Rattle.maildir_commands.proofs.Resting.{opens_none, opens_then, touched_none, touched_then}
 use Rattle.maildir_commands.proofs.Several.{UpTo, after_length, first_text, none_printed, possible_whole, text_after, text_at, text_read}
 
 -- where `?` answered this fault
@@ -29,16 +30,19 @@ pub record SoFar (n : ℕ) (first : Bytes) (files : List (List ℕ)) (old now : 
     (was is : Bytes) : Type 0 where
   pub opens : OpensSources old now
   pub printed : PrintsReports was is n
-  pub honest : old.honest → start.honest → work.honest
+  pub honest : (spared : Spared) → old.honest spared → start.honest spared → work.honest spared
   pub quiet : start.quiet → work.quiet
+  pub touches : TouchedConverters start.held.touched work.held.touched
   pub foreign : start.quiet → KeepsForeign start.held.files work.held.files
-  pub delivers : old.honest → start.honest → (texts : List Mailbox) → Given old first files texts → AreFit texts → IsSoundFor texts start.held →
-      UpTo n texts start.held work.held was is
+  pub delivers : (spared : Spared) → old.honest spared → start.honest spared → (texts : List Mailbox) → Given old first files texts → AreFit texts
+      → IsSoundFor spared texts start.held →
+      UpTo spared n texts start.held work.held was is
 
 -- This source has the text of this number, which is that of a source by its word.
 pub record IsText (n : ℕ) (first : Bytes) (files : List (List ℕ)) (old : SeenMachine) (before : Bytes) : Type 0 where
-  pub text : old.honest → (texts : List Mailbox) → Given old first files texts → (n < length texts) × (before ≡ Some (text_at texts n).bytes)
-  pub named : old.honest → (name : List ℕ) → first ≡ Some (old.text_of name)
+  pub text : (spared : Spared) → old.honest spared → (texts : List Mailbox) → Given old first files texts
+      → (n < length texts) × (before ≡ Some (text_at texts n).bytes)
+  pub named : (spared : Spared) → old.honest spared → (name : List ℕ) → first ≡ Some (old.text_of name)
       → (file : List ℕ) × Contains (name ∷ files) file × (before ≡ Some (old.text_of file))
 
 module _ {first : Bytes} {files : List (List ℕ)} {old : SeenMachine} where
@@ -46,41 +50,45 @@ module _ {first : Bytes} {files : List (List ℕ)} {old : SeenMachine} where
   none_yet {start} {was} = record {
     opens = opens_none;
     printed = none_reported was;
-    honest = λ h s. s;
+    honest = λ spared h s. s;
     quiet = λ q. q;
+    touches = touched_none (λ name now. now);
     foreign = λ q. others_same start.held.files;
-    delivers = λ h s texts given fit sound. none_printed sound;
+    delivers = λ spared h s texts given fit sound. none_printed sound;
   }
 
   pub first_source : IsText 0 first files old first
   first_source = record {
-    text = λ h texts given. let many = after_length texts _ _ given.2 in (omega (arith, many), given.1 ∙ ap Some (first_text texts _ _ given.2));
-    named = λ h name is. (name, holds_first files, is);
+    text = λ spared h texts given. let many = after_length texts _ _ given.2 in (omega (arith, many), given.1 ∙ ap Some (first_text texts _ _ given.2));
+    named = λ spared h name is. (name, holds_first files, is);
   }
 
 module _ {n : ℕ} {first : Bytes} {files : List (List ℕ)} {old now : SeenMachine} {start work : SeenMaildir} {was mid : Bytes}
     (so_far : SoFar n first files old now start work was mid) where
   -- another file was opened, or was not
   module _ {next : SeenMachine} (opens : OpensSources now next) where
-    not_opened : {fault : Fault} → (old.honest → (name : List ℕ) → first ≡ Some (old.text_of name) → IsOfFiles old (name ∷ files) fault)
+    not_opened : {fault : Fault}
+        → ((spared : Spared) → old.honest spared → (name : List ℕ) → first ≡ Some (old.text_of name) → IsOfFiles old (name ∷ files) fault)
         → DeliversFiles first files (Err fault) old next start work was mid
     not_opened cause = record {
       opens = opens_then so_far.opens opens;
       printed = tt;
       cause = cause;
-      delivers = λ h s texts text is are fit sound. stopped_delivered (so_far.delivers h s texts (text, is, are) fit sound);
+      delivers = λ spared h s texts text is are fit sound. stopped_delivered (so_far.delivers spared h s texts (text, is, are) fit sound);
+      touches = so_far.touches;
       foreign = so_far.foreign;
-      honest = λ h s. tt;
+      honest = λ spared h s. tt;
     }
 
     module _ {before after is : Bytes} {new : SeenMaildir} (this : IsText n first files old before) where
-      one : {answer : Result Unit Fault} → DeliversSource answer before after mid is work new → (h : old.honest) (s : start.honest)
-          (texts : List Mailbox) (given : Given old first files texts) → AreFit texts → IsSoundFor texts start.held
-          → DeliversOne answer (text_at texts n) work.held new.held mid is
-      one did h s texts given fit sound =
-          let text = this.text h texts given in
-          let is_sound = (so_far.delivers h s texts given fit sound).sound in
-          one_of mid is (so_far.honest h s) (text_at texts n) (fit.are n _ text.0) (possible_whole _ _ text.1 did.keeps.budget)
+      one : {answer : Result Unit Fault} → DeliversSource answer before after mid is work new
+          → (spared : Spared) (h : old.honest spared) (s : start.honest spared)
+          (texts : List Mailbox) (given : Given old first files texts) → AreFit texts → IsSoundFor spared texts start.held
+          → DeliversOne spared answer (text_at texts n) work.held new.held mid is
+      one did spared h s texts given fit sound =
+          let text = this.text spared h texts given in
+          let is_sound = (so_far.delivers spared h s texts given fit sound).sound in
+          one_of spared mid is (so_far.honest spared h s) (text_at texts n) (fit.are n _ text.0) (possible_whole _ _ text.1 did.keeps.budget)
           (is_sound.sound n _ text.0) (is_sound.intact n _ text.0) did
 
       -- it was delivered, or was not
@@ -88,11 +96,12 @@ module _ {n : ℕ} {first : Bytes} {files : List (List ℕ)} {old now : SeenMach
       more did = record {
         opens = opens_then so_far.opens opens;
         printed = more_reports was mid is so_far.printed (one_report _ did.printed);
-        honest = λ h s. did.printed.said.honest (so_far.honest h s);
+        honest = λ spared h s. did.printed.said.honest spared (so_far.honest spared h s);
         quiet = λ q. did.printed.said.quiet (so_far.quiet q);
+        touches = touched_then so_far.touches did.keeps.touches;
         foreign = λ q. foreign_then _ _ _ (so_far.foreign q) (did.keeps.foreign (so_far.quiet q));
-        delivers = λ h s texts given fit sound.
-            more_delivered (so_far.delivers h s texts given fit sound) fit (this.text h texts given).0 (one did h s texts given fit sound);
+        delivers = λ spared h s texts given fit sound.
+            more_delivered (so_far.delivers spared h s texts given fit sound) fit (this.text spared h texts given).0 (one did spared h s texts given fit sound);
       }
 
       pub not_delivered : {fault : Fault} → DeliversSource (Err fault) before after mid is work new
@@ -100,14 +109,15 @@ module _ {n : ℕ} {first : Bytes} {files : List (List ℕ)} {old now : SeenMach
       not_delivered {fault} did = record {
         opens = opens_then so_far.opens opens;
         printed = tt;
-        cause = λ h name is.
-            let source = this.named h name is in
+        cause = λ spared h name is.
+            let source = this.named spared h name is in
             delivered_file old name files _ _ _ source.0 source.1 source.2 did.keeps.budget fault did.stopped.cause;
-        delivers = λ h s texts text is are fit sound.
+        delivers = λ spared h s texts text is are fit sound.
             let given : Given old first files texts = (text, is, are) in
-            then_delivered (so_far.delivers h s texts given fit sound) fit (this.text h texts given).0 (one did h s texts given fit sound);
+            then_delivered (so_far.delivers spared h s texts given fit sound) fit (this.text spared h texts given).0 (one did spared h s texts given fit sound);
+        touches = touched_then so_far.touches did.keeps.touches;
         foreign = λ q. foreign_then _ _ _ (so_far.foreign q) (did.keeps.foreign (so_far.quiet q));
-        honest = λ h s. tt;
+        honest = λ spared h s. tt;
       }
 
   -- each was delivered
@@ -115,10 +125,11 @@ module _ {n : ℕ} {first : Bytes} {files : List (List ℕ)} {old now : SeenMach
   all_done all = record {
     opens = so_far.opens;
     printed = subst (PrintsReports was mid) all so_far.printed;
-    cause = λ h name is. tt;
-    delivers = λ h s texts text is are fit sound.
+    cause = λ spared h name is. tt;
+    delivers = λ spared h s texts text is are fit sound.
         let many = after_length texts _ _ are in
-        all_delivered (so_far.delivers h s texts (text, is, are) fit sound) (omega (arith, all)) (omega (arith, all, many));
+        all_delivered (so_far.delivers spared h s texts (text, is, are) fit sound) (omega (arith, all)) (omega (arith, all, many));
+    touches = so_far.touches;
     foreign = so_far.foreign;
     honest = so_far.honest;
   }
@@ -137,19 +148,20 @@ module _ {X : Type 0} (f : X → List ℕ) (rest : List X) {i : ℕ} {first : By
       let inside = place.0 in
       (i + 1, omega (arith, inside), rw add-one place.1)
 
-  pub next_source : {before : Bytes} → (now.honest → before ≡ Some (now.text_of word)) → IsText (i + 1) first (map f rest) old before
+  pub next_source : {before : Bytes} → ((spared : Spared) → now.honest spared → before ≡ Some (now.text_of word)) → IsText (i + 1) first (map f rest) old before
   next_source reads = record {
-    text = λ h texts given.
+    text = λ spared h texts given.
         let many = after_length texts _ _ given.2 in
         let inside = place.0 in
-        let read = text_read (reads (so_far.opens.honest h)) (so_far.opens.texts h) value in
+        let read = text_read (reads spared (so_far.opens.honest spared h)) (so_far.opens.texts spared h) value in
         (omega (arith, many, inside), read ∙ ap Some (text_after texts _ _ given.2 inside place.1));
-    named = λ h name is. (f x, holds name, text_read (reads (so_far.opens.honest h)) (so_far.opens.texts h) value);
+    named = λ spared h name is. (f x, holds name, text_read (reads spared (so_far.opens.honest spared h)) (so_far.opens.texts spared h) value);
   }
 
   pub refused_next : {next : SeenMachine} → OpensSources now next → {fault : Fault} → (fault ≡ Source) ⊎ (fault ≡ Run run.OutOfMemory)
-      → (now.honest → fault ≡ Source → now.refuses_source word) → DeliversFiles first (map f rest) (Err fault) old next start work was is
+      → ((spared : Spared) → now.honest spared → fault ≡ Source → now.refuses_source word)
+      → DeliversFiles first (map f rest) (Err fault) old next start work was is
   refused_next opens {fault} causes refused =
-      not_opened so_far opens (λ h name is.
+      not_opened so_far opens (λ spared h name is.
       refused_file old name (map f rest) (f x) (holds name) fault causes
-      (λ e. so_far.opens.refusals h (f x) (subst now.refuses_source value (refused (so_far.opens.honest h) e))))
+      (λ e. so_far.opens.refusals spared h (f x) (subst now.refuses_source value (refused spared (so_far.opens.honest spared h) e))))

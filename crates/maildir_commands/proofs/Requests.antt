@@ -1,6 +1,6 @@
 -- What is owed for a request, as the work goes on.
 use Rattle.std.proofs.Common.{◌≡◌, ◌⊎◌, ◌*◌, ◌^◌, ℕ, List, [], Option, Some, None, Result, Ok, Err, IsErrAnd, OnErr, OnOk, IfErr, refl, sym, ap, subst}
-use Rattle.maildir_commands.proofs.Common.{AreAllSafe, AskFor, Bytes, Delivers, Did, Does, Fault, Form, HeldMaildir, IfErr-weaker, IsCauseOf, IsKnown}
+use Rattle.maildir_commands.proofs.Common.{AreAllSafe, AskFor, Bytes, Delivers, Did, Does, Fault, Form, HeldMaildir, IfErr-weaker, IsCauseOf, IsKnown, Spared}
 use Rattle.maildir_commands.proofs.Common.{Mailbox, MayHaveHad, OpensSources, Possible, PrintsEach, ReadsAtMost, Request, Run, RunFault, Seen, SeenMachine}
 use Rattle.maildir_commands.proofs.Common.{Source, ToConvert, ToWrite, Works, WritesAll, WritesMessages, files_of, output_of, seen_with, source_of}
 use denote.Ref.{Bor}
@@ -50,35 +50,36 @@ of_form {before = before} {after} {was} {is} {reads} {answer} same =
 
 -- of a source that was opened, if it is a file
 module _ (form : Form) {file : Option (List ℕ)} {old new : SeenMachine} (opens : OpensSources old new) {input left was is before after : Bytes}
-    (has : IsKnown file (seen_with old input was) → source_of file (seen_with old input was) ≡ before)
-    (had : IsKnown file (seen_with old input was) → (t : List ℕ) → MayHaveHad file (seen_with old input was) left t → Possible before after t)
+    (has : (spared : Spared) → IsKnown spared file (seen_with old input was) → source_of file (seen_with old input was) ≡ before)
+    (had : (spared : Spared) → IsKnown spared file (seen_with old input was) → (t : List ℕ) → MayHaveHad file (seen_with old input was) left t → Possible
+    before after t)
     (unread : ¬ (files_of (ToWrite form file) ≡ []) → left ≡ input) where
   stopped : {fault : RunFault} → WritesMessages (output_of form) before after was is (2 ^ 40) (Err fault)
-      → (old.honest → IsCauseOf (ToWrite form file) (seen_with old input was) left (Run fault))
+      → ((spared : Spared) → old.honest spared → IsCauseOf (ToWrite form file) (seen_with old input was) left (Run fault))
       → Does (ToWrite form file) (Err (Run fault)) (seen_with old input was) (seen_with new left is)
   stopped did cause = record {
     works = record {
-      all = λ h. tt;
-      prefix = λ h t may entries mbox. did.prefix t entries (had h t may) mbox;
+      all = λ spared h. tt;
+      prefix = λ spared h t may entries mbox. did.prefix t entries (had spared h t may) mbox;
       rests = opens.rests;
       quietly = opens.quietly;
     };
     cause = cause;
     unread = unread;
     texts = opens.texts;
-    honest = λ h. tt;
+    honest = λ spared h. tt;
   }
 
   done : {count : ℕ} → WritesMessages (output_of form) before after was is (2 ^ 40) (Ok count)
       → Does (ToWrite form file) (Ok tt) (seen_with old input was) (seen_with new left is)
   done {count} did = record {
     works = record {
-      all = λ h. subst (λ source. WritesAll (output_of form) source was is) (sym (has h)) (count, did.all);
-      prefix = λ h t may entries mbox. all_given (output_of form) before after was is did.end (count, did.all) t entries (had h t may) mbox;
+      all = λ spared h. subst (λ source. WritesAll (output_of form) source was is) (sym (has spared h)) (count, did.all);
+      prefix = λ spared h t may entries mbox. all_given (output_of form) before after was is did.end (count, did.all) t entries (had spared h t may) mbox;
       rests = opens.rests;
       quietly = opens.quietly;
     };
-    cause = λ h. tt;
+    cause = λ spared h. tt;
     unread = unread;
     texts = opens.texts;
     honest = opens.honest;
@@ -89,41 +90,42 @@ module _ (form : Form) {machine : SeenMachine} {before after was is : Bytes} whe
   pub input_stopped : {fault : RunFault} → WritesMessages (output_of form) before after was is (2 ^ 40) (Err fault)
       → Does (ToWrite form None) (Err (Run fault)) (seen_with machine before was) (seen_with machine after is)
   input_stopped did =
-      stopped form opens_none (λ h. refl) (λ h t may. may) (λ named. absurd (named refl)) did
-      (λ h. of_read_input form (seen_with machine before was) after _
+      stopped form opens_none (λ spared h. refl) (λ spared h t may. may) (λ named. absurd (named refl)) did
+      (λ spared h. of_read_input form (seen_with machine before was) after _
       (of_reads was is did.causes (λ e. did.no_from_line (ap Err e)) (λ e. did.spent (ap Err e))))
 
   pub input_done : {count : ℕ} → WritesMessages (output_of form) before after was is (2 ^ 40) (Ok count)
       → Does (ToWrite form None) (Ok tt) (seen_with machine before was) (seen_with machine after is)
-  input_done = done form opens_none (λ h. refl) (λ h t may. may) (λ named. absurd (named refl))
+  input_done = done form opens_none (λ spared h. refl) (λ spared h t may. may) (λ named. absurd (named refl))
 
 -- and from a file
-file_had : (old : SeenMachine) (file : List ℕ) (before after : Bytes) → (old.honest → before ≡ Some (old.text_of file))
-    → ReadsAtMost before after (65536 * 2 ^ 40) → old.honest → (t : List ℕ) → t ≡ old.text_of file → Possible before after t
-file_had old file before after text budget h t same = possible_whole before after (subst (λ t. before ≡ Some t) (sym same) (text h)) budget
+file_had : (old : SeenMachine) (file : List ℕ) (before after : Bytes) → ((spared : Spared) → old.honest spared → before ≡ Some (old.text_of file))
+    → ReadsAtMost before after (65536 * 2 ^ 40) → (spared : Spared) → old.honest spared → (t : List ℕ) → t ≡ old.text_of file → Possible before after t
+file_had old file before after text budget spared h t same = possible_whole before after (subst (λ t. before ≡ Some t) (sym same) (text spared h)) budget
 
 module _ (form : Form) {file : List ℕ} {old new : SeenMachine} (opens : OpensSources old new) {input was : Bytes} where
-  pub not_opened : {fault : Fault} → (fault ≡ Source) ⊎ (fault ≡ Run run.OutOfMemory) → (old.honest → fault ≡ Source → old.refuses_source file)
+  pub not_opened : {fault : Fault} → (fault ≡ Source) ⊎ (fault ≡ Run run.OutOfMemory)
+      → ((spared : Spared) → old.honest spared → fault ≡ Source → old.refuses_source file)
       → Does (ToWrite form (Some file)) (Err fault) (seen_with old input was) (seen_with new input was)
   not_opened causes refused = record {
-    works = record { all = λ h. tt; prefix = λ h t is. nothing_prefix (output_of form) t was; rests = opens.rests; quietly = opens.quietly };
-    cause = λ h. of_opening form (seen_with old input was) input file causes (refused h);
+    works = record { all = λ spared h. tt; prefix = λ spared h t is. nothing_prefix (output_of form) t was; rests = opens.rests; quietly = opens.quietly };
+    cause = λ spared h. of_opening form (seen_with old input was) input file causes (refused spared h);
     unread = λ named. refl;
     texts = opens.texts;
-    honest = λ h. tt;
+    honest = λ spared h. tt;
   }
 
-  module _ {before after is : Bytes} (text : old.honest → before ≡ Some (old.text_of file)) where
+  module _ {before after is : Bytes} (text : (spared : Spared) → old.honest spared → before ≡ Some (old.text_of file)) where
     pub file_stopped : {fault : RunFault} → WritesMessages (output_of form) before after was is (2 ^ 40) (Err fault)
         → Does (ToWrite form (Some file)) (Err (Run fault)) (seen_with old input was) (seen_with new input is)
     file_stopped did =
-        stopped form opens (λ h. sym (text h)) (file_had old file before after text did.budget) (λ named. refl) did
-        (λ h. of_read_file form (seen_with old input was) input file before after _ (text h) did.budget _
+        stopped form opens (λ spared h. sym (text spared h)) (file_had old file before after text did.budget) (λ named. refl) did
+        (λ spared h. of_read_file form (seen_with old input was) input file before after _ (text spared h) did.budget _
         (of_reads was is did.causes (λ e. did.no_from_line (ap Err e)) (λ e. did.spent (ap Err e))))
 
     pub file_done : {count : ℕ} → WritesMessages (output_of form) before after was is (2 ^ 40) (Ok count)
         → Does (ToWrite form (Some file)) (Ok tt) (seen_with old input was) (seen_with new input is)
-    file_done did = done form opens (λ h. sym (text h)) (file_had old file before after text did.budget) (λ named. refl) did
+    file_done did = done form opens (λ spared h. sym (text spared h)) (file_had old file before after text did.budget) (λ named. refl) did
 
 -- ---- what was given to a buffer, and what it keeps
 -- with Ok, where all was handed on; else where it was done and not handed on, or not done
@@ -141,14 +143,15 @@ both_causes : (answer handed : Result Unit Fault) (P : Fault → Type 0) → IfE
 both_causes (Ok _) handed P first then = then
 both_causes (Err _) handed P first then = first
 
-delivers_both : (answer handed : Result Unit Fault) {given kept : Bytes} → Keeps given kept
-    → {texts : List Mailbox} {maildir now : HeldMaildir} {was : Bytes} → Delivers answer texts maildir now was given
-    → Delivers (result_and answer handed) texts maildir now was kept
-delivers_both answer handed {given} {kept} keeps {texts} {maildir} {now} {was} did = record {
+delivers_both : {spared : Spared} (answer handed : Result Unit Fault) {given kept : Bytes} → Keeps given kept
+    → {texts : List Mailbox} {maildir now : HeldMaildir} {was : Bytes} → Delivers spared answer texts maildir now was given
+    → Delivers spared (result_and answer handed) texts maildir now was kept
+delivers_both {spared} answer handed {given} {kept} keeps {texts} {maildir} {now} {was} did = record {
   safe = both_ok answer handed (λ safe. safe) did.safe;
   each = both_ok answer handed (λ each. handed_each maildir texts was given kept each keeps) did.each;
   some = both_err answer handed (some_kept maildir now texts was given kept keeps)
-      (λ (both : PrintsEach maildir texts was given × AreAllSafe texts now). each_some keeps both.0 both.1) did.some (both_of answer _ _ did.each did.safe);
+      (λ (both : PrintsEach spared maildir texts was given × AreAllSafe spared texts now). each_some keeps both.0 both.1) did.some
+      (both_of answer _ _ did.each did.safe);
   stay = did.stay;
   found = did.found;
   swept = both_ok answer handed (λ swept. swept) did.swept;
@@ -159,14 +162,15 @@ module _ (old : Seen) (machine : SeenMachine) (input given kept : Bytes) (keeps 
   works_both : (request : Request) → Works request answer old (seen_with machine input given)
       → Works request (result_and answer handed) old (seen_with machine input kept)
   works_both (ToWrite form file) did = record {
-    all = λ h. both_ok answer handed (λ all. handed_all (output_of form) (source_of file old) old.output given kept all keeps) (did.all h);
-    prefix = λ h t had entries mbox. prefix_kept old.output given kept keeps (did.prefix h t had entries mbox);
+    all = λ spared h. both_ok answer handed (λ all. handed_all (output_of form) (source_of file old) old.output given kept all keeps) (did.all spared h);
+    prefix = λ spared h t had entries mbox. prefix_kept old.output given kept keeps (did.prefix spared h t had entries mbox);
     rests = did.rests;
     quietly = did.quietly;
   }
   works_both (ToConvert maildir files) did = record {
     printed = both_ok answer handed (λ printed. handed_reports _ old.output given kept printed keeps) did.printed;
-    delivers = λ h texts these fit sound. delivers_both answer handed keeps (did.delivers h texts these fit sound);
+    delivers = λ spared h texts these fit sound. delivers_both answer handed keeps (did.delivers spared h texts these fit sound);
+    touches = did.touches;
     foreign = did.foreign;
     elsewhere = did.elsewhere;
     elsewhere_quietly = did.elsewhere_quietly;
@@ -179,9 +183,9 @@ module _ (old : Seen) (machine : SeenMachine) (input given kept : Bytes) (keeps 
   does_both {request} is causes does =
       subst (λ ending. Does request ending old (seen_with machine input kept)) (sym is) (record {
         works = works_both request does.works;
-        cause = λ h. both_causes answer handed (IsCauseOf request old input) (does.cause h)
+        cause = λ spared h. both_causes answer handed (IsCauseOf request old input) (does.cause spared h)
             (IfErr-weaker handed _ _ (λ fault output. subst (IsCauseOf request old input) (sym output) tt) causes);
         unread = does.unread;
         texts = does.texts;
-        honest = λ h. both_ok answer handed (λ honest. honest) (does.honest h);
+        honest = λ spared h. both_ok answer handed (λ honest. honest) (does.honest spared h);
       })

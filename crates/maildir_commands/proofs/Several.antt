@@ -1,7 +1,7 @@
 -- Several texts that are delivered one after the other.
 use Rattle.std.proofs.Common.{◌≡◌, ℕ, suc, ◌+◌, ◌<◌, ◌≤◌, ◌⊎◌, List, [], ◌∷◌, ◌++◌, length, get_or, map, take, All, Some, None}
 use Rattle.std.proofs.Common.{Result, OnOk, OnErr, Ok, Err, refl, sym, ap, subst, ◌∙◌, inl, inr, arith, add-one, append-nil, append_assoc}
-use Rattle.maildir_commands.proofs.Common.{All-cons, All-nil, All-take, Appends, Appends-kept, Appends-nil, Appends-trans, AppendsPrefix}
+use Rattle.maildir_commands.proofs.Common.{All-cons, All-nil, All-take, Appends, Appends-kept, Appends-nil, Appends-trans, AppendsPrefix, Spared, SparesAll}
 use Rattle.maildir_commands.proofs.Common.{AreAlike, AreAllSafe, AreFit, AreSafe, AreTrueOf, Bytes, DeliversOne, Files, HasAlso, HeldMaildir}
 use Rattle.maildir_commands.proofs.Common.{IsMailbox, IsReportOf, IsSafeIn, IsSoundFor, Mailbox, OthersStay, Possible, PrintsEach, PrintsOne, PrintsReport}
 use Rattle.maildir_commands.proofs.Common.{PrintsSome, ReadsAtMost, Report, Rests, Stays, bytes_of, cases_order, flat_map, flat_map-append, get_or-map}
@@ -46,24 +46,26 @@ possible_whole (Some xs) (Some left) {t} e reads =
     }
 
 -- ---- other messages
-no_stay : {others : List Message} {s : Files} {left : Files → Type 0} → Stays others s left s left
+no_stay : {spared : Spared} {others : List Message} {s : Files} {left : Files → Type 0} → Stays spared others s left s left
 no_stay = record { sound = λ h. h; intact = λ h. h; home = λ h. h; survive = λ h. h }
 
-rest_of : {others : List Message} → AreNamed others → {old new : HeldMaildir} → Rests old new
-    → Stays others old.files old.may_leave new.files new.may_leave
+rest_of : {spared : Spared} {others : List Message} → AreNamed others → {old new : HeldMaildir} → Rests spared old new
+    → Stays spared others old.files old.may_leave new.files new.may_leave
 rest_of {others} named rests = stays_acted others named rests.actions _ _ _ _ rests.files_are rests.left
 
-pub stay_rest : (texts : List Mailbox) {old new : HeldMaildir} → Rests old new → OthersStay texts old new
+pub stay_rest : {spared : Spared} (texts : List Mailbox) {old new : HeldMaildir} → Rests spared old new → OthersStay spared texts old new
 stay_rest texts rests = λ others named alike. rest_of named rests
 
-pub stay_both : (texts : List Mailbox) (a b c : HeldMaildir) → OthersStay texts a b → OthersStay texts b c → OthersStay texts a c
+pub stay_both : {spared : Spared} (texts : List Mailbox) (a b c : HeldMaildir) → OthersStay spared texts a b → OthersStay spared texts b c
+    → OthersStay spared texts a c
 stay_both texts a b c first then = λ others named alike.
     stays_then others a.files a.may_leave b.files b.may_leave c.files c.may_leave (first others named alike) (then others named alike)
 
 -- safe messages stay so
-pub safe_stay : {ms : List Message} {old new : HeldMaildir} → Stays ms old.files old.may_leave new.files new.may_leave → (old.rooted → new.rooted)
-    → AreSafe ms old.files old.may_leave old.rooted → AreSafe ms new.files new.may_leave new.rooted
-safe_stay stays rooted was = record { home = stays.home was.home; survive = stays.survive was.survive; found = rooted was.found }
+pub safe_stay : {spared : Spared} {ms : List Message} (old new : HeldMaildir) → Stays spared ms old.files old.may_leave new.files new.may_leave
+    → (old.rooted → new.rooted)
+    → AreSafe spared ms old.files old.may_leave old.rooted → AreSafe spared ms new.files new.may_leave new.rooted
+safe_stay old new stays rooted was = record { home = stays.home was.home; survive = stays.survive was.survive; found = rooted was.found }
 
 pub named_of : {text : Mailbox} → IsMailbox text → AreNamed text.messages
 named_of {text} is = text_named text.bytes text.messages is.are is.small
@@ -72,30 +74,30 @@ named_all : (texts : List Mailbox) → All IsMailbox texts → All (λ text. Are
 named_all texts are k d below = named_of (are k d below)
 
 -- ---- while nothing is done
-module _ (texts : List Mailbox) (are : All IsMailbox texts) {old new : HeldMaildir} (rests : Rests old new) where
-  pub rest_stays : (k : ℕ) (d : Mailbox) → k < length texts → Stays (get_or texts k d).messages old.files old.may_leave new.files new.may_leave
+module _ {spared : Spared} (texts : List Mailbox) (are : All IsMailbox texts) {old new : HeldMaildir} (rests : Rests spared old new) where
+  pub rest_stays : (k : ℕ) (d : Mailbox) → k < length texts → Stays spared (get_or texts k d).messages old.files old.may_leave new.files new.may_leave
   rest_stays k d below = rest_of (named_all texts are k d below) rests
 
-  pub rest_sound : IsSoundFor texts old → IsSoundFor texts new
+  pub rest_sound : IsSoundFor spared texts old → IsSoundFor spared texts new
   rest_sound is = record {
     sound = λ k d below. (rest_stays k d below).sound (is.sound k d below);
     intact = λ k d below. (rest_stays k d below).intact (is.intact k d below);
   }
 
-  pub rest_all_safe : AreAllSafe texts old → AreAllSafe texts new
-  rest_all_safe safe k d below = safe_stay (rest_stays k d below) rests.found (safe k d below)
+  pub rest_all_safe : AreAllSafe spared texts old → AreAllSafe spared texts new
+  rest_all_safe safe k d below = safe_stay old new (rest_stays k d below) rests.found (safe k d below)
 
   -- a Maildir at rest before the texts are delivered, and after it
-  rest_true : (reports : List Report) → AreTrueOf new.files texts reports → AreTrueOf old.files texts reports
+  rest_true : (reports : List Report) → AreTrueOf spared new.files texts reports → AreTrueOf spared old.files texts reports
   rest_true =
-      reports_agree (has_home old.files) (has_home new.files) (λ b named. sym (rests_has rests b named)) _ _ (rests_left rests)
+      reports_agree spared (has_home old.files) (has_home new.files) (λ b named. sym (rests_has rests b named)) _ _ (rests_left spared rests)
       texts (named_all texts are)
 
-  pub rest_each : {was is : Bytes} → PrintsEach new texts was is → PrintsEach old texts was is
+  pub rest_each : {was is : Bytes} → PrintsEach spared new texts was is → PrintsEach spared old texts was is
   rest_each prints = record { reports = prints.reports; true_of = rest_true prints.reports prints.true_of; lines = prints.lines }
 
-pub rest_some : (texts : List Mailbox) → All IsMailbox texts → {old ready work new : HeldMaildir} {was is : Bytes}
-    → Rests old ready → Rests work new → PrintsSome ready work texts was is → PrintsSome old new texts was is
+pub rest_some : {spared : Spared} (texts : List Mailbox) → All IsMailbox texts → {old ready work new : HeldMaildir} {was is : Bytes}
+    → Rests spared old ready → Rests spared work new → PrintsSome spared ready work texts was is → PrintsSome spared old new texts was is
 rest_some texts are rests closes prints =
     let first = All-take IsMailbox prints.n texts are in
     record {
@@ -107,35 +109,36 @@ rest_some texts are rests closes prints =
     }
 
 -- ---- nothing was delivered
-pub none_some : {texts : List Mailbox} {old new : HeldMaildir} {was is : Bytes} → Keeps was is → PrintsSome old new texts was is
-none_some {new} {was} {is} keeps = record {
+pub none_some : {spared : Spared} {texts : List Mailbox} {old new : HeldMaildir} {was is : Bytes} → Keeps was is → PrintsSome spared old new texts was is
+none_some {spared} {new} {was} {is} keeps = record {
   n = 0;
   reports = [];
   true_of = tt;
-  safe = All-nil (IsSafeIn new);
+  safe = All-nil (IsSafeIn spared new);
   lines = ([], [], refl, Appends-kept was was is [] (Appends-nil was) keeps);
 }
 
 -- ---- how far several texts are
 -- The Maildir is sound for all of them, so many are safe, and their lines were written.
-pub record UpTo (n : ℕ) (texts : List Mailbox) (start now : HeldMaildir) (was is : Bytes) : Type 0 where
-  pub sound : IsSoundFor texts now
-  pub safe : (k : ℕ) (d : Mailbox) → k < n → k < length texts → IsSafeIn now (get_or texts k d)
-  pub has : Agree (has_home now.files) (also_all (has_home start.files) (take n texts))
-  pub left : leftover_count now.files ≤ left_after (leftover_count start.files) (take n texts)
+pub record UpTo (spared : Spared) (n : ℕ) (texts : List Mailbox) (start now : HeldMaildir) (was is : Bytes) : Type 0 where
+  pub sound : IsSoundFor spared texts now
+  pub safe : (k : ℕ) (d : Mailbox) → k < n → k < length texts → IsSafeIn spared now (get_or texts k d)
+  pub has : Agree spared (has_home now.files) (also_all (has_home start.files) (take n texts))
+  pub left : SparesAll spared → leftover_count now.files ≤ left_after (leftover_count start.files) (take n texts)
   pub reports : List Report
-  pub true_of : AreTrueOf start.files (take n texts) reports
+  pub true_of : AreTrueOf spared start.files (take n texts) reports
   pub lines : Appends was is (flat_map report_line reports)
-  pub stay : OthersStay texts start now
+  pub stay : OthersStay spared texts start now
   pub found : start.rooted → now.rooted
-  pub swept : 0 < n → IsSwept now.files
+  pub swept : 0 < n → IsSwept spared now.files
 
-pub none_printed : {texts : List Mailbox} {start : HeldMaildir} {was : Bytes} → IsSoundFor texts start → UpTo 0 texts start start was was
+pub none_printed : {spared : Spared} {texts : List Mailbox} {start : HeldMaildir} {was : Bytes} → IsSoundFor spared texts start
+    → UpTo spared 0 texts start start was was
 none_printed {was = was} sound = record {
   sound = sound;
   safe = λ k d lt below. absurd (omega (arith, lt));
   has = λ b named. refl;
-  left = omega arith;
+  left = λ all. omega arith;
   reports = [];
   true_of = tt;
   lines = Appends-nil was;
@@ -171,66 +174,66 @@ module _ (was mid is : Bytes) (reports : List Report) (report : Report) (before 
   )
 
 -- of the first texts
-first_safe : (texts : List Mailbox) {n : ℕ} {now : HeldMaildir}
-    → ((k : ℕ) (d : Mailbox) → k < n → k < length texts → IsSafeIn now (get_or texts k d)) → AreAllSafe (take n texts) now
-first_safe texts {n} {now} safe k d below =
+first_safe : {spared : Spared} (texts : List Mailbox) {n : ℕ} (now : HeldMaildir)
+    → ((k : ℕ) (d : Mailbox) → k < n → k < length texts → IsSafeIn spared now (get_or texts k d)) → AreAllSafe spared (take n texts) now
+first_safe {spared} texts {n} now safe k d below =
     let most = length-take n texts in
     let lt : k < n = omega (arith, below, most) in
-    subst (IsSafeIn now) (sym (get_or-take n texts k d lt)) (safe k d lt (omega (arith, below, most)))
+    subst (IsSafeIn spared now) (sym (get_or-take n texts k d lt)) (safe k d lt (omega (arith, below, most)))
 
 -- what the delivery of the next one leaves
-module _ {texts : List Mailbox} (fit : AreFit texts) {n : ℕ} (inside : n < length texts) {start old new : HeldMaildir} {was mid is : Bytes}
-    (up : UpTo n texts start old was mid) {A E : Type 0} {answer : Result A E} (one : DeliversOne answer (text_at texts n) old new mid is) where
-  others_at : (k : ℕ) (d : Mailbox) → k < length texts → Stays (get_or texts k d).messages old.files old.may_leave new.files new.may_leave
+module _ {spared : Spared} {texts : List Mailbox} (fit : AreFit texts) {n : ℕ} (inside : n < length texts) {start old new : HeldMaildir} {was mid is : Bytes}
+    (up : UpTo spared n texts start old was mid) {A E : Type 0} {answer : Result A E} (one : DeliversOne spared answer (text_at texts n) old new mid is) where
+  others_at : (k : ℕ) (d : Mailbox) → k < length texts → Stays spared (get_or texts k d).messages old.files old.may_leave new.files new.may_leave
   others_at k d below =
       one.stays (get_or texts k d).messages (named_all texts fit.are k d below)
       (all_one (λ (t : Mailbox). AreAlike (get_or texts k d).messages t.messages) (fit.alike k d below n no_text inside))
 
-  pub stay_more : OthersStay texts start new
+  pub stay_more : OthersStay spared texts start new
   stay_more = λ others named alike.
       stays_then others _ _ _ _ _ _ (up.stay others named alike)
       (one.stays others named (all_one (λ (t : Mailbox). AreAlike others t.messages) (alike n no_text inside)))
 
-  pub sound_more : IsSoundFor texts new
+  pub sound_more : IsSoundFor spared texts new
   sound_more = record {
     sound = λ k d below. (others_at k d below).sound (up.sound.sound k d below);
     intact = λ k d below. (others_at k d below).intact (up.sound.intact k d below);
   }
 
   -- those that are safe, and one more
-  still_safe : (k : ℕ) (d : Mailbox) → k < n → k < length texts → IsSafeIn new (get_or texts k d)
-  still_safe k d less below = safe_stay (others_at k d below) one.still_rooted (up.safe k d less below)
+  still_safe : (k : ℕ) (d : Mailbox) → k < n → k < length texts → IsSafeIn spared new (get_or texts k d)
+  still_safe k d less below = safe_stay old new (others_at k d below) one.still_rooted (up.safe k d less below)
 
-  safe_more : IsSafeIn new (text_at texts n) → (k : ℕ) (d : Mailbox) → k < n + 1 → k < length texts → IsSafeIn new (get_or texts k d)
+  safe_more : IsSafeIn spared new (text_at texts n) → (k : ℕ) (d : Mailbox) → k < n + 1 → k < length texts → IsSafeIn spared new (get_or texts k d)
   safe_more last k d lt below =
-      elim (last_or lt) as (λ _. IsSafeIn new (get_or texts k d)) [
+      elim (last_or lt) as (λ _. IsSafeIn spared new (get_or texts k d)) [
         | inl less ↦ still_safe k d less below
-        | inr same ↦ subst (IsSafeIn new) (ap (text_at texts) (sym same) ∙ get_or_default texts k no_text d below) last
+        | inr same ↦ subst (IsSafeIn spared new) (ap (text_at texts) (sym same) ∙ get_or_default texts k no_text d below) last
       ]
 
   more : take (n + 1) texts ≡ take n texts ++ text_at texts n ∷ []
   more = take_more texts n no_text inside
 
-  true_more : {report : Report} → IsReportOf (has_home old.files) (leftover_count old.files) (text_at texts n) report
-      → AreTrueOf start.files (take (n + 1) texts) (up.reports ++ report ∷ [])
+  true_more : {report : Report} → IsReportOf spared (has_home old.files) (leftover_count old.files) (text_at texts n) report
+      → AreTrueOf spared start.files (take (n + 1) texts) (up.reports ++ report ∷ [])
   true_more {report} is_true =
-      subst (λ ts. AreTrueOf start.files ts (up.reports ++ report ∷ [])) (sym more)
-      (reports_more (has_home start.files) _ _ _ up.true_of
-      (report_agree (λ b named. sym (up.has b named)) up.left (named_all texts fit.are n no_text inside) is_true))
+      subst (λ ts. AreTrueOf spared start.files ts (up.reports ++ report ∷ [])) (sym more)
+      (reports_more spared (has_home start.files) _ _ _ up.true_of
+      (report_agree spared (λ b named. sym (up.has b named)) up.left (named_all texts fit.are n no_text inside) is_true))
 
   -- one text more
-  pub one_more : IsSafeIn new (text_at texts n)
-      → PrintsReport mid is (IsReportOf (has_home old.files) (leftover_count old.files) (text_at texts n))
-      → HasAlso (text_at texts n).messages old.files new.files → IsSwept new.files → UpTo (n + 1) texts start new was is
+  pub one_more : IsSafeIn spared new (text_at texts n)
+      → PrintsReport mid is (IsReportOf spared (has_home old.files) (leftover_count old.files) (text_at texts n))
+      → HasAlso spared (text_at texts n).messages old.files new.files → IsSwept spared new.files → UpTo spared (n + 1) texts start new was is
   one_more safe line known swept =
       let first = has_home start.files in
       record {
         sound = sound_more;
         safe = safe_more safe;
         has = λ b named.
-            known b named ∙ (also_agree (has_home old.files) (also_all first (take n texts)) up.has (text_at texts n) b named
+            known b named ∙ (also_agree spared (has_home old.files) (also_all first (take n texts)) up.has (text_at texts n) b named
             ∙ (ap (λ f. f b) (sym (also_all-last first (take n texts) (text_at texts n))) ∙ ap (λ ts. also_all first ts b) (sym more)));
-        left = let none = swept_none new.files swept in omega (arith, none);
+        left = λ all. let none = swept_none spared all new.files swept in omega (arith, none);
         reports = up.reports ++ line.report ∷ [];
         true_of = true_more line.said;
         lines = more_lines was mid is _ _ up.lines line.line;
@@ -240,35 +243,35 @@ module _ {texts : List Mailbox} (fit : AreFit texts) {n : ℕ} (inside : n < len
       }
 
   -- and then a text that is not delivered, or whose line was not written whole
-  pub then_stopped : Keeps mid is ⊎ PrintsOne old new (text_at texts n) mid is → PrintsSome start new texts was is
+  pub then_stopped : Keeps mid is ⊎ PrintsOne spared old new (text_at texts n) mid is → PrintsSome spared start new texts was is
   then_stopped (inl keeps) = record {
     n = n;
     reports = up.reports;
     true_of = up.true_of;
-    safe = first_safe texts still_safe;
+    safe = first_safe texts new still_safe;
     lines = prefix_of_all was is (Appends-kept was mid is (flat_map report_line up.reports) up.lines keeps);
   }
   then_stopped (inr last) = record {
     n = n + 1;
     reports = up.reports ++ last.report ∷ [];
     true_of = true_more last.true_of;
-    safe = first_safe texts (safe_more last.safe);
+    safe = first_safe texts new (safe_more last.safe);
     lines = more_prefix was mid is _ _ up.lines last.line;
   }
 
-module _ {n : ℕ} {texts : List Mailbox} {start now : HeldMaildir} {was is : Bytes} (up : UpTo n texts start now was is) where
+module _ {spared : Spared} {n : ℕ} {texts : List Mailbox} {start now : HeldMaildir} {was is : Bytes} (up : UpTo spared n texts start now was is) where
   -- the next text could not be opened
-  pub stopped_between : PrintsSome start now texts was is
+  pub stopped_between : PrintsSome spared start now texts was is
   stopped_between =
-      record { n = n; reports = up.reports; true_of = up.true_of; safe = first_safe texts up.safe; lines = prefix_of_all was is up.lines }
+      record { n = n; reports = up.reports; true_of = up.true_of; safe = first_safe texts now up.safe; lines = prefix_of_all was is up.lines }
 
   -- at the end
-  pub all_safe : length texts ≤ n → AreAllSafe texts now
+  pub all_safe : length texts ≤ n → AreAllSafe spared texts now
   all_safe most k d below = up.safe k d (omega (arith, below, most)) below
 
-  pub all_each : length texts ≤ n → PrintsEach start texts was is
+  pub all_each : length texts ≤ n → PrintsEach spared start texts was is
   all_each most =
-      record { reports = up.reports; true_of = subst (λ ts. AreTrueOf start.files ts up.reports) (take_all n texts most) up.true_of; lines = up.lines }
+      record { reports = up.reports; true_of = subst (λ ts. AreTrueOf spared start.files ts up.reports) (take_all n texts most) up.true_of; lines = up.lines }
 
 -- ---- the bytes of texts
 bytes_at : (texts : List Mailbox) {all : List (List ℕ)} → bytes_of texts ≡ all

@@ -20,15 +20,16 @@ module _ {S File : Type 0} (f : Ghosts S File) (old mid : DiskFolder S) {before 
   kept_by_run = record {
     budget = run.budget;
     still_rooted = run.still_rooted;
-    texts = λ h text fits p.
-        let left = run.left h text.bytes text.messages p fits.are in
+    texts = λ spared h text fits p.
+        let left = run.left spared h text.bytes text.messages p fits.are in
         record {
-          intact = intact_after_run text.bytes text.messages fits.are fits.small was is answer left;
-          still = λ others named alike. survive_after_run text.bytes text.messages fits.are fits.small others was is answer named alike left;
+          intact = intact_after_run spared text.bytes text.messages fits.are fits.small was is answer left;
+          still = λ others named alike. survive_after_run spared text.bytes text.messages fits.are fits.small others was is answer named alike left;
           stays = λ sound others named alike.
-              stays_after_run text.bytes text.messages fits.are fits.small others named alike _ _ was is answer
-              (run.owes h text.bytes fits.small p) sound left;
+              stays_after_run spared text.bytes text.messages fits.are fits.small others named alike _ _ was is answer
+              (run.owes spared h text.bytes fits.small p) sound left;
         };
+    touches = run.touches;
     foreign = run.others;
   }
 
@@ -36,18 +37,19 @@ module _ {S File : Type 0} (f : Ghosts S File) (old mid : DiskFolder S) {before 
       → KeepsSource before after (seen_folder f old) (seen_folder f new)
   kept_by_both new sync = record {
     budget = run.budget;
-    still_rooted = λ h rooted. sync.still_rooted (run.honest h) (run.still_rooted h rooted);
-    texts = λ h text fits p.
-        let left = run.left h text.bytes text.messages p fits.are in
-        let acts = sync.acts (run.honest h) in
+    still_rooted = λ spared h rooted. sync.still_rooted spared (run.honest spared h) (run.still_rooted spared h rooted);
+    texts = λ spared h text fits p.
+        let left = run.left spared h text.bytes text.messages p fits.are in
+        let acts = sync.acts spared (run.honest spared h) in
         let now = (f.at new.system).may_leave in
-        let beside = sync.left (run.honest h) in
+        let beside = sync.left spared (run.honest spared h) in
         record {
-          intact = intact_after_both text.bytes text.messages fits.are fits.small was is now answer left beside;
-          still = λ others named alike. survive_after_both text.bytes text.messages fits.are fits.small others was is now answer named alike left beside;
+          intact = intact_after_both spared text.bytes text.messages fits.are fits.small was is now answer left beside;
+          still = λ others named alike. survive_after_both spared text.bytes text.messages fits.are fits.small others was is now answer named alike left beside;
           stays = λ sound others named alike.
-              stays_after_both text.bytes text.messages fits.are fits.small others named alike _ _ _ was is now answer
-              (run.owes h text.bytes fits.small p) sound left acts beside;
+              stays_after_both spared text.bytes text.messages fits.are fits.small others named alike _ _ _ was is now answer
+              (run.owes spared h text.bytes fits.small p) sound left acts beside;
         };
+    touches = λ name now. run.touches name (sync.touches name now);
     foreign = λ q. subst (KeepsForeign _) (sym (sync.quietly (run.quiet q))) (run.others q);
   }

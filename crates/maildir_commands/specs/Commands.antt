@@ -1,28 +1,31 @@
--- Any commands that follow one another, with mail readers and power cuts between them, and a Maildir into which several texts go.
-use Rattle.std.specs.Prelude.{◌≡◌, ◌⊎◌, ℕ, List, [], All, Contains, Option}
+-- Any commands that follow one another, with other programs and power cuts between them, and a Maildir into which several texts go.
+use Rattle.std.specs.Prelude.{◌≡◌, ◌⊎◌, ℕ, List, [], All, Contains, Option, length, take}
+use Rattle.std.specs.List.{flat_map}
+use Rattle.mbox_text.specs.Writing.{AppendsPrefix}
+use Rattle.maildir_run.specs.declared.report.Report.{Report}
 use Rattle.maildir_run.specs.Delivery.{IsMissing}
-use Rattle.maildir_run.specs.Files.{Files, KeepsHomes}
+use Rattle.maildir_run.specs.Files.{Files, KeepsHomes, Spared}
 use Rattle.maildir_run.specs.MemFiles.{no_files}
 use Rattle.maildir_run.specs.Runs.{Chain}
-use Rattle.maildir_run.specs.Several.{Mailbox, OfEach}
+use Rattle.maildir_run.specs.Several.{Mailbox, OfEachSpared}
 use Rattle.maildir_disk.specs.PowerCuts.{IsSingle}
-use Rattle.maildir_commands.specs.Machines.{AreFit, GivesTexts, HeldMaildir, Rests}
+use Rattle.maildir_commands.specs.Machines.{AreAllSafe, GivesTexts, HeldMaildir, Rests}
 use Rattle.maildir_commands.specs.Program.{RanOn}
+use Rattle.maildir_commands.specs.Report.{report_line}
 use Rattle.maildir_commands.specs.Seen.{Seen, SeenMachine, Streams, seen_at}
 use Rattle.maildir_commands.specs.Words.{AskFor, Request}
 use Rattle.maildir_commands.specs.Words.Request.{ToWrite, ToConvert}
 
--- These texts can go into one Maildir, which has none of their messages, and nor has anything that a power cut may leave of it.
-pub record AreNewTo (maildir : HeldMaildir) (texts : List Mailbox) : Type 0 where
-  pub fit : AreFit texts
-  pub missing : OfEach (IsMissing maildir.files) texts
-  pub none_left : (left : Files) → maildir.may_leave left → OfEach (IsMissing left) texts
+-- A Maildir has none of the messages of the texts that are spared, and nor has anything that a power cut may leave of it.
+pub record IsNewTo (spared : Spared) (texts : List Mailbox) (maildir : HeldMaildir) : Type 0 where
+  pub missing : OfEachSpared spared (IsMissing maildir.files) texts
+  pub none_left : (left : Files) → maildir.may_leave left → OfEachSpared spared (IsMissing left) texts
 
 -- what happens to a Maildir
 pub data Event : Type 0 where
   -- a command with these words, which is to deliver these texts into it, ended with this status
   Command : (words : List (List ℕ)) → (named : List Mailbox) → (status : ℕ) → Event
-  -- mail readers acted, or none did
+  -- other programs acted, or none did
   Readers : Event
   -- the power was cut
   Cut : Event
@@ -35,7 +38,7 @@ IsToDeliver maildir texts named old left (ToConvert into files) =
     ⊎ ((¬ old.machine.same into maildir) × (named ≡ []))
 
 -- A command with these words ended with this status. One that was killed is one whose calls all failed from some moment on.
-pub record Commanded {M : Type 0} (at : M → SeenMachine) (maildir : List ℕ) (texts : List Mailbox)
+pub record Commanded {M : Type 0} (spared : Spared) (at : M → SeenMachine) (maildir : List ℕ) (texts : List Mailbox)
     (words : List (List ℕ)) (named : List Mailbox) (status : ℕ) (old new : M) : Type 0 where
   -- as the contract of `run` says
   pub was : Streams
@@ -44,24 +47,32 @@ pub record Commanded {M : Type 0} (at : M → SeenMachine) (maildir : List ℕ) 
   -- and this is what it was to deliver
   pub delivers : (request : Request) → AskFor words request → IsToDeliver maildir texts named (seen_at (at old) was) is.input request
   -- after a fault, or where it was killed, the machine is again one that does as assumed
-  pub again : status ≡ 1 → (at new).honest
+  pub again : status ≡ 1 → (at new).honest spared
 
--- A power cut left of a Maildir what it might, each file under one name, or nothing where it might not find it. A later one would leave the same.
-pub record LeftByPowerCut (old new : HeldMaildir) : Type 0 where
+-- A power cut left of a Maildir what it might, each file that is spared under one name, or nothing where it might not find it. A later
+-- one would leave the same.
+pub record LeftByPowerCut (spared : Spared) (old new : HeldMaildir) : Type 0 where
   pub left : Files
   pub may : old.may_leave left ⊎ ((¬ old.rooted) × (left ≡ no_files))
-  pub single : IsSingle old.files left
-  pub found : KeepsHomes left new.files
-  pub stays : (later : Files) → new.may_leave later → KeepsHomes new.files later
+  pub single : IsSingle spared old.files left
+  pub found : KeepsHomes spared left new.files
+  pub stays : (later : Files) → new.may_leave later → KeepsHomes spared new.files later
   pub still_rooted : old.rooted → new.rooted
 
 -- an event leads from one moment of a machine to another
-abbrev pub Happens : {M : Type 0} → (M → SeenMachine) → List ℕ → List Mailbox → Event → M → M → Type 0
-Happens at maildir texts (Command words named status) old new = Commanded at maildir texts words named status old new
-Happens at maildir texts Readers old new =
-    Rests ((at old).maildir_at maildir) ((at new).maildir_at maildir) × ((at old).honest → (at new).honest)
-Happens at maildir texts Cut old new = LeftByPowerCut ((at old).maildir_at maildir) ((at new).maildir_at maildir) × (at new).honest
+abbrev pub Happens : {M : Type 0} → Spared → (M → SeenMachine) → List ℕ → List Mailbox → Event → M → M → Type 0
+Happens spared at maildir texts (Command words named status) old new = Commanded spared at maildir texts words named status old new
+Happens spared at maildir texts Readers old new =
+    Rests spared ((at old).maildir_at maildir) ((at new).maildir_at maildir) × ((at old).honest spared → (at new).honest spared)
+Happens spared at maildir texts Cut old new = LeftByPowerCut spared ((at old).maildir_at maildir) ((at new).maildir_at maildir) × (at new).honest spared
+
+-- What was written is a prefix of the lines of as many reports as there are first texts, and each of these is delivered in the Maildir, and
+-- survives a power cut.
+pub record PrintedSafely (spared : Spared) (named : List Mailbox) (was is : Option (List ℕ)) (maildir : HeldMaildir) : Type 0 where
+  pub reports : List Report
+  pub lines : AppendsPrefix was is (flat_map report_line reports)
+  pub safe : AreAllSafe spared (take (length reports) named) maildir
 
 -- any sequence of events
-abbrev pub IsHistory : {M : Type 0} → (M → SeenMachine) → List ℕ → List Mailbox → List Event → M → M → Type 0
-IsHistory at maildir texts = Chain (Happens at maildir texts)
+abbrev pub IsHistory : {M : Type 0} → Spared → (M → SeenMachine) → List ℕ → List Mailbox → List Event → M → M → Type 0
+IsHistory spared at maildir texts = Chain (Happens spared at maildir texts)

@@ -20,7 +20,7 @@ pub mod Opening
 pub mod Sources
 -- What a run of the program owes.
 pub mod Program
--- Any commands that follow one another, with mail readers and power cuts between them, and a Maildir into which several texts go.
+-- Any commands that follow one another, with other programs and power cuts between them, and a Maildir into which several texts go.
 pub mod Commands
 -- Definitions for private functions and proofs. No public contract uses them, and no reader need believe them.
 pub mod Private

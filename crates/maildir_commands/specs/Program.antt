@@ -1,15 +1,20 @@
 -- What a run of the program owes.
 use Rattle.std.specs.Prelude.{◌≡◌, ℕ, List, [], length, max, codes, Option, Some, None, Result, Ok, Err, OnOk, OnErr, IfErr}
 use Rattle.std.specs.Io.KnownBytes.{Keeps}
+use Rattle.std.specs.declared.io.Error.{Error}
 use Rattle.mbox_text.specs.declared.entry.Entry.{Entry}
 use Rattle.mbox_text.specs.Writing.{Writes}
+use Rattle.maildir_run.specs.declared.fault.RunFault.TheVariants as run
 use Rattle.maildir_run.specs.Delivery.{IsSwept}
 use Rattle.maildir_run.specs.Foreign.{KeepsForeign}
 use Rattle.maildir_run.specs.Runs.{Possible}
 use Rattle.maildir_run.specs.Several.{Mailbox}
+use Rattle.maildir_run.specs.Touched.{TouchedConverters}
+use Rattle.maildir_disk.specs.Faults.{IsFailedAllocation}
 use Rattle.maildir_commands.specs.declared.ending.Ending.{Ending}
 use Rattle.maildir_commands.specs.declared.ending.Ending.TheVariants.{Done, Stopped, WrongWords}
 use Rattle.maildir_commands.specs.declared.fault.Fault.{Fault}
+use Rattle.maildir_commands.specs.declared.fault.Fault.TheVariants.{Run}
 use Rattle.maildir_commands.specs.Causes.{IsCauseOf}
 use Rattle.maildir_commands.specs.Endings.{status_of}
 use Rattle.maildir_commands.specs.Faults.{fault_text, told}
@@ -19,12 +24,13 @@ use Rattle.maildir_commands.specs.Report.{PrintsEach, PrintsReports, PrintsSome}
 use Rattle.maildir_commands.specs.Seen.{Seen, SeenMachine, Streams, seen_at}
 use Rattle.maildir_commands.specs.Words.{AreOfAForm, AskFor, Request, files_of}
 use Rattle.maildir_commands.specs.Words.Request.{ToWrite, ToConvert}
+use Rattle.maildir_run.specs.Files.{Spared}
 
 -- ---- `rewrite` and `list`
 -- a file has the text that the machine says, where that does as assumed; standard input has what is left of it
-abbrev pub IsKnown : Option (List ℕ) → Seen → Type 0
-IsKnown None old = Unit {0}
-IsKnown (Some file) old = old.machine.honest
+abbrev pub IsKnown : Spared → Option (List ℕ) → Seen → Type 0
+IsKnown spared None old = Unit {0}
+IsKnown spared (Some file) old = old.machine.honest spared
 
 abbrev pub source_of : Option (List ℕ) → Seen → Option (List ℕ)
 source_of None old = old.input
@@ -38,42 +44,46 @@ MayHaveHad (Some file) old after t = t ≡ old.machine.text_of file
 -- What belongs to the messages of a source's text was written, all of it or a prefix, and no Maildir was touched.
 pub record WritesOut (output : List Entry → List ℕ) (file : Option (List ℕ)) (answer : Result Unit Fault) (old new : Seen) : Type 0 where
   -- with Ok all of it
-  pub all : IsKnown file old → OnOk answer (WritesAll output (source_of file old) old.output new.output)
+  pub all : (spared : Spared) → IsKnown spared file old → OnOk answer (WritesAll output (source_of file old) old.output new.output)
   -- in any case a prefix
-  pub prefix : IsKnown file old → (t : List ℕ) → MayHaveHad file old new.input t → WritesPrefix output t old.output new.output
-  pub rests : old.machine.honest → (word : List ℕ) → Rests (old.machine.maildir_at word) (new.machine.maildir_at word)
+  pub prefix : (spared : Spared) → IsKnown spared file old → (t : List ℕ) → MayHaveHad file old new.input t → WritesPrefix output t old.output new.output
+  pub rests : (spared : Spared) → old.machine.honest spared → (word : List ℕ) → Rests spared (old.machine.maildir_at word) (new.machine.maildir_at word)
   pub quietly : old.machine.quiet → (word : List ℕ) → (new.machine.maildir_at word).files ≡ (old.machine.maildir_at word).files
 
 -- ---- `convert`
 -- What came of delivering texts into a Maildir.
-pub record Delivers {A E : Type 0} (answer : Result A E) (texts : List Mailbox) (old new : HeldMaildir) (was is : Option (List ℕ)) : Type 0 where
+pub record Delivers {A E : Type 0} (spared : Spared) (answer : Result A E) (texts : List Mailbox) (old new : HeldMaildir)
+    (was is : Option (List ℕ)) : Type 0 where
   -- with Ok each is in the Maildir, and survives a power cut, and has its line
-  pub safe : OnOk answer (AreAllSafe texts new)
-  pub each : OnOk answer (PrintsEach old texts was is)
+  pub safe : OnOk answer (AreAllSafe spared texts new)
+  pub each : OnOk answer (PrintsEach spared old texts was is)
   -- after a fault so are those whose line stands there
-  pub some : OnErr answer (PrintsSome old new texts was is)
+  pub some : OnErr answer (PrintsSome spared old new texts was is)
   -- messages of others stay
-  pub stay : OthersStay texts old new
+  pub stay : OthersStay spared texts old new
   -- and a power cut leaves the Maildir, where it left it before
   pub found : old.rooted → new.rooted
   -- with Ok no file of the converter is left in `tmp`
-  pub swept : OnOk answer (IsSwept new.files)
+  pub swept : OnOk answer (IsSwept spared new.files)
   -- and in any case the Maildir is sound for the texts, so that the same words may be given again
-  pub sound : IsSoundFor texts new
+  pub sound : IsSoundFor spared texts new
 
 -- The messages of the files, or of standard input where none is named, were delivered into a Maildir.
 pub record DeliversInto (maildir : List ℕ) (files : List (List ℕ)) (answer : Result Unit Fault) (old new : Seen) : Type 0 where
   -- with Ok a line was written for each source
   pub printed : OnOk answer (PrintsReports old.output new.output (max 1 (length files)))
   -- texts that can go into the Maildir, which is sound for them
-  pub delivers : old.machine.honest → (texts : List Mailbox) → GivesTexts old.machine.text_of old.input new.input files texts → AreFit texts →
-      IsSoundFor texts (old.machine.maildir_at maildir) →
-      Delivers answer texts (old.machine.maildir_at maildir) (new.machine.maildir_at maildir) old.output new.output
+  pub delivers : (spared : Spared) → old.machine.honest spared → (texts : List Mailbox) → GivesTexts old.machine.text_of old.input new.input files texts →
+      AreFit texts → IsSoundFor spared texts (old.machine.maildir_at maildir) →
+      Delivers spared answer texts (old.machine.maildir_at maildir) (new.machine.maildir_at maildir) old.output new.output
+  -- of its files the program touched those with converter's names alone
+  pub touches : (spared : Spared) → old.machine.honest spared
+      → TouchedConverters (old.machine.maildir_at maildir).touched (new.machine.maildir_at maildir).touched
   -- where no other program acts, files of other programs stay as they are
   pub foreign : old.machine.quiet → KeepsForeign (old.machine.maildir_at maildir).files (new.machine.maildir_at maildir).files
   -- no other Maildir was touched
-  pub elsewhere : old.machine.honest → (word : List ℕ) → ¬ old.machine.same maildir word →
-      Rests (old.machine.maildir_at word) (new.machine.maildir_at word)
+  pub elsewhere : (spared : Spared) → old.machine.honest spared → (word : List ℕ) → ¬ old.machine.same maildir word →
+      Rests spared (old.machine.maildir_at word) (new.machine.maildir_at word)
   pub elsewhere_quietly : old.machine.quiet → (word : List ℕ) → ¬ old.machine.same maildir word →
       (new.machine.maildir_at word).files ≡ (old.machine.maildir_at word).files
 
@@ -87,13 +97,13 @@ Works (ToConvert maildir files) = DeliversInto maildir files
 pub record Does (request : Request) (answer : Result Unit Fault) (old new : Seen) : Type 0 where
   pub works : Works request answer old new
   -- a fault has its cause
-  pub cause : old.machine.honest → IfErr answer (IsCauseOf request old new.input)
+  pub cause : (spared : Spared) → old.machine.honest spared → IfErr answer (IsCauseOf request old new.input)
   -- standard input is read only where no file is named
   pub unread : ¬ (files_of request ≡ []) → new.input ≡ old.input
   -- no file was changed that is named as a source
-  pub texts : old.machine.honest → new.machine.text_of ≡ old.machine.text_of
+  pub texts : (spared : Spared) → old.machine.honest spared → new.machine.text_of ≡ old.machine.text_of
   -- with Ok the machine still does as assumed
-  pub honest : old.machine.honest → OnOk answer new.machine.honest
+  pub honest : (spared : Spared) → old.machine.honest spared → OnOk answer (new.machine.honest spared)
 
 -- The words are of a form, and whatever they ask for was done, or ended with a fault.
 pub record Did (words : List (List ℕ)) (answer : Result Unit Fault) (old new : Seen) : Type 0 where
@@ -114,3 +124,11 @@ pub record RanOn {M : Type 0} (at : M → SeenMachine) (words : List (List ℕ))
   pub ran : Ran words ending (seen_at (at old) was) (seen_at (at new) is) was.errors is.errors
   -- where the words are of no form, nothing was done
   pub untouched : status ≡ 2 → (new ≡ old) × (is.input ≡ was.input)
+
+-- The words could not be read with this error, and the program ended so: for want of memory, or since they are of no form. `was` and `is` are what had
+-- been written to standard error, as above.
+abbrev pub Refuses : Error → Ending → Option (List ℕ) → Option (List ℕ) → Type 0
+Refuses error Done was is = ⊥
+Refuses error (Stopped fault written) was is =
+    IsFailedAllocation error × (fault ≡ Run run.OutOfMemory) × Writes was is written (told (fault_text fault))
+Refuses error (WrongWords written) was is = ¬ IsFailedAllocation error × Writes was is written (told (codes "wrong words"))

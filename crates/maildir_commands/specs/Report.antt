@@ -1,11 +1,11 @@
 -- What is printed of a conversion.
-use Rattle.std.specs.Prelude.{◌≡◌, ◌≤◌, ℕ, ◌-◌, ◌||◌, Bool, List, [], ◌∷◌, ◌++◌, length, take, count_by, codes, Option}
+use Rattle.std.specs.Prelude.{◌≡◌, ◌≤◌, ℕ, ◌-◌, ◌||◌, Bool, List, [], ◌∷◌, ◌++◌, length, take, count_by, codes, Option, All}
 use Rattle.std.specs.Fmt.{decimal}
 use Rattle.std.specs.Io.KnownBytes.{Appends}
 use Rattle.std.specs.List.{flat_map}
 use Rattle.mbox_text.specs.Writing.{AppendsPrefix}
-use Rattle.maildir_run.specs.Delivery.{has_home, is_base_of, leftover_count}
-use Rattle.maildir_run.specs.Files.{Files}
+use Rattle.maildir_run.specs.Delivery.{has_home, is_base_of, leftover_count, IsSpared}
+use Rattle.maildir_run.specs.Files.{Files, Spared, SparesAll}
 use Rattle.maildir_run.specs.declared.report.Report.{Report}
 use Rattle.maildir_run.specs.Several.{Mailbox}
 use Rattle.maildir_commands.specs.Machines.{HeldMaildir, AreAllSafe}
@@ -31,38 +31,40 @@ known_count has text = count_by (λ m. has m.target.base) text.messages
 
 -- A report of a run over a text: its messages, those that had a home as the run began, and those that it placed; and of this many leftovers at
 -- most, those that it swept.
-pub record IsReportOf (has : List ℕ → Bool) (leftovers : ℕ) (text : Mailbox) (report : Report) : Type 0 where
+pub record IsReportOf (spared : Spared) (has : List ℕ → Bool) (leftovers : ℕ) (text : Mailbox) (report : Report) : Type 0 where
   pub messages : report.messages ≡ length text.messages
-  pub there : report.there ≡ known_count has text
-  pub placed : report.placed ≡ length text.messages - known_count has text
-  pub swept : report.swept ≤ leftovers
+  -- if all of its messages are spared
+  pub there : All (IsSpared spared) text.messages → report.there ≡ known_count has text
+  pub placed : All (IsSpared spared) text.messages → report.placed ≡ length text.messages - known_count has text
+  -- if every converter's base is
+  pub swept : SparesAll spared → report.swept ≤ leftovers
 
 -- which bases have a home once a text was delivered
 abbrev pub also : (List ℕ → Bool) → Mailbox → List ℕ → Bool
 also has text b = is_base_of text.messages b || has b
 
 -- the reports of runs over these texts, one after the other, each where the texts before it were delivered, and what was left in `tmp` was swept
-abbrev pub AreReportsOf : (List ℕ → Bool) → ℕ → List Mailbox → List Report → Type 0
-AreReportsOf has leftovers [] [] = Unit {0}
-AreReportsOf has leftovers [] (report ∷ reports) = ⊥
-AreReportsOf has leftovers (text ∷ texts) [] = ⊥
-AreReportsOf has leftovers (text ∷ texts) (report ∷ reports) =
-    IsReportOf has leftovers text report × AreReportsOf (also has text) 0 texts reports
+abbrev pub AreReportsOf : Spared → (List ℕ → Bool) → ℕ → List Mailbox → List Report → Type 0
+AreReportsOf spared has leftovers [] [] = Unit {0}
+AreReportsOf spared has leftovers [] (report ∷ reports) = ⊥
+AreReportsOf spared has leftovers (text ∷ texts) [] = ⊥
+AreReportsOf spared has leftovers (text ∷ texts) (report ∷ reports) =
+    IsReportOf spared has leftovers text report × AreReportsOf spared (also has text) 0 texts reports
 
 -- reports that are true of runs over these texts, which begin with these files
-abbrev pub AreTrueOf : Files → List Mailbox → List Report → Type 0
-AreTrueOf old = AreReportsOf (has_home old) (leftover_count old)
+abbrev pub AreTrueOf : Spared → Files → List Mailbox → List Report → Type 0
+AreTrueOf spared old = AreReportsOf spared (has_home old) (leftover_count old)
 
 -- The line of a true report was written for each of the texts, in order.
-pub record PrintsEach (old : HeldMaildir) (texts : List Mailbox) (was is : Option (List ℕ)) : Type 0 where
+pub record PrintsEach (spared : Spared) (old : HeldMaildir) (texts : List Mailbox) (was is : Option (List ℕ)) : Type 0 where
   pub reports : List Report
-  pub true_of : AreTrueOf old.files texts reports
+  pub true_of : AreTrueOf spared old.files texts reports
   pub lines : Appends was is (flat_map report_line reports)
 
 -- A prefix was written of the lines of true reports of some first texts, and each of these texts is in the Maildir, and survives a power cut.
-pub record PrintsSome (old new : HeldMaildir) (texts : List Mailbox) (was is : Option (List ℕ)) : Type 0 where
+pub record PrintsSome (spared : Spared) (old new : HeldMaildir) (texts : List Mailbox) (was is : Option (List ℕ)) : Type 0 where
   pub n : ℕ
   pub reports : List Report
-  pub true_of : AreTrueOf old.files (take n texts) reports
-  pub safe : AreAllSafe (take n texts) new
+  pub true_of : AreTrueOf spared old.files (take n texts) reports
+  pub safe : AreAllSafe spared (take n texts) new
   pub lines : AppendsPrefix was is (flat_map report_line reports)

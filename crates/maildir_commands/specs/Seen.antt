@@ -3,11 +3,12 @@ use Rattle.std.specs.Prelude.{ℕ, List, [], Option}
 use Rattle.maildir_disk.specs.declared.faults.OpenFault.{OpenFault}
 use Rattle.maildir_disk.specs.declared.system.System.{Ghosts}
 use Rattle.maildir_commands.specs.Machines.{HeldMaildir, nothing_held}
+use Rattle.maildir_run.specs.Files.{Spared}
 
 -- what is seen of a machine
 pub record SeenMachine : Type 1 where
-  -- its calls do what their contracts say
-  pub honest : Type 0
+  -- its calls do what their contracts say, and to the files of these bases in its Maildirs other programs do only what mail readers do
+  pub honest : Spared → Type 0
   -- its calls do what their contracts say, and no other program acts on its Maildirs
   pub quiet : Type 0
   -- the text of the source that a word names, and that this source may be refused
@@ -23,7 +24,7 @@ pub record SeenMachine : Type 1 where
 -- of a machine of which nothing is known
 abbrev pub nothing_seen : SeenMachine
 nothing_seen = record {
-  honest = ⊥;
+  honest = λ _. ⊥;
   quiet = ⊥;
   text_of = λ _. [];
   refuses_source = λ _. Unit {0};
@@ -35,7 +36,7 @@ nothing_seen = record {
 
 -- what is seen of a Maildir that is open
 pub record OpenMaildir : Type 1 where
-  pub honest : Type 0
+  pub honest : Spared → Type 0
   pub quiet : Type 0
   pub held : HeldMaildir
 
@@ -44,7 +45,7 @@ abbrev pub opened : {S File : Type 0} → Ghosts S File → S → OpenMaildir
 opened f s = record {
   honest = (f.at s).honest;
   quiet = (f.at s).quiet;
-  held = record { files = (f.at s).world.files; may_leave = (f.at s).may_leave; rooted = (f.at s).rooted };
+  held = record { files = (f.at s).world.files; may_leave = (f.at s).may_leave; rooted = (f.at s).rooted; touched = (f.at s).touched };
 }
 
 -- what is seen of a machine, and of what is left of standard input and was written to standard output, where these are known

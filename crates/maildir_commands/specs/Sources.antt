@@ -1,16 +1,17 @@
 -- What the delivery of one source owes.
-use Rattle.std.specs.Prelude.{◌≡◌, ◌⊎◌, ℕ, ◌^◌, List, All, Option, Result, IfErr, OnErr, OnOk}
+use Rattle.std.specs.Prelude.{◌≡◌, ◌⊎◌, ℕ, ◌^◌, List, Option, Result, IfErr, OnErr, OnOk}
 use Rattle.std.specs.Io.KnownBytes.{IsAtEnd, Keeps}
 use Rattle.mbox_text.specs.Writing.{AppendsPrefix}
 use Rattle.maildir_run.specs.declared.fault.RunFault.TheVariants.{FolderFailed}
 use Rattle.maildir_run.specs.declared.report.Report.{Report}
 use Rattle.maildir_run.specs.Alone.{alone as alone_after}
-use Rattle.maildir_run.specs.Delivery.{AreNamed, IsSoundAt, IsSwept, Message}
+use Rattle.maildir_run.specs.Delivery.{AreNamed, IsSoundAt, IsSwept, Message, AllSpared}
 use Rattle.maildir_run.specs.Foreign.{KeepsForeign}
 use Rattle.maildir_run.specs.Reading.{ReadsAtMost}
 use Rattle.maildir_run.specs.Runs.{CountsRun, Possible, ReportsMessages}
 use Rattle.maildir_run.specs.Several.{Mailbox, IsMailbox}
 use Rattle.maildir_run.specs.Texts.{MessagesOf}
+use Rattle.maildir_run.specs.Touched.{TouchedConverters}
 use Rattle.maildir_disk.specs.declared.disk_folder.DiskFolder.{DiskFolder}
 use Rattle.maildir_disk.specs.declared.system.System.{Ghosts}
 use Rattle.maildir_disk.specs.Others.{Stays}
@@ -21,10 +22,11 @@ use Rattle.maildir_commands.specs.Causes.{IsFailedCall, IsOfDelivery}
 use Rattle.maildir_commands.specs.Machines.{HasAlso, HeldMaildir, IsSafeIn}
 use Rattle.maildir_commands.specs.Report.{PrintsReport, report_line}
 use Rattle.maildir_commands.specs.Seen.{opened}
+use Rattle.maildir_run.specs.Files.{Spared}
 
 -- what is seen of a folder, at one moment
 pub record SeenMaildir : Type 1 where
-  pub honest : Type 0
+  pub honest : Spared → Type 0
   pub quiet : Type 0
   pub held : HeldMaildir
   pub calls : ℕ
@@ -37,30 +39,33 @@ seen_folder f folder =
     record { honest = seen.honest; quiet = seen.quiet; held = seen.held; calls = folder.calls; failures = folder.failures }
 
 -- What is kept in a Maildir while a text is delivered into it, whatever comes of that.
-pub record KeepsText (text : Mailbox) (old new : HeldMaildir) : Type 0 where
+pub record KeepsText (spared : Spared) (text : Mailbox) (old new : HeldMaildir) : Type 0 where
   -- a power cut leaves no part of a message of it, where it left none before; and messages of others survive one as they did
-  pub intact : AreIntact text.messages old.may_leave → AreIntact text.messages new.may_leave
+  pub intact : AreIntact spared text.messages old.may_leave → AreIntact spared text.messages new.may_leave
   pub still : (others : List Message) → AreNamed others → AreAlike others text.messages →
-      Survive others old.may_leave → Survive others new.may_leave
+      Survive spared others old.may_leave → Survive spared others new.may_leave
   -- where the files are sound for it, messages of others stay
-  pub stays : All (IsSoundAt old.files) text.messages → (others : List Message) → AreNamed others → AreAlike others text.messages →
-      Stays others old.files old.may_leave new.files new.may_leave
+  pub stays : AllSpared spared (IsSoundAt old.files) text.messages → (others : List Message) → AreNamed others → AreAlike others text.messages →
+      Stays spared others old.files old.may_leave new.files new.may_leave
 
 -- A text was delivered into a Maildir whose files were sound for it, and this report is true of that.
-pub record StoresText (report : Report) (text : Mailbox) (old new : HeldMaildir) : Type 0 where
-  pub reports : ReportsMessages text.messages old.files report
+pub record StoresText (spared : Spared) (report : Report) (text : Mailbox) (old new : HeldMaildir) : Type 0 where
+  pub reports : ReportsMessages spared text.messages old.files report
   -- the bases of its messages have a home, and no file of the converter is left in `tmp`
-  pub known : HasAlso text.messages old.files new.files
-  pub swept : IsSwept new.files
+  pub known : HasAlso spared text.messages old.files new.files
+  pub swept : IsSwept spared new.files
   -- where a power cut left no part of a message, the text is in the Maildir, and survives a power cut
-  pub safe : AreIntact text.messages old.may_leave → IsSafeIn new text
+  pub safe : AreIntact spared text.messages old.may_leave → IsSafeIn spared new text
 
 -- What is kept while a source is delivered, of which this was left before and after, whatever comes of that.
 pub record KeepsSource (before after : Option (List ℕ)) (old new : SeenMaildir) : Type 0 where
   pub budget : ReadsAtMost before after (2 ^ 56)
   -- where the system does as assumed, for each text that the source may have had
-  pub still_rooted : old.honest → old.held.rooted → new.held.rooted
-  pub texts : old.honest → (text : Mailbox) → IsMailbox text → Possible before after text.bytes → KeepsText text old.held new.held
+  pub still_rooted : (spared : Spared) → old.honest spared → old.held.rooted → new.held.rooted
+  pub texts : (spared : Spared) → old.honest spared → (text : Mailbox) → IsMailbox text → Possible before after text.bytes →
+      KeepsText spared text old.held new.held
+  -- whatever the system and others do
+  pub touches : TouchedConverters old.held.touched new.held.touched
   -- where no other program acts
   pub foreign : old.quiet → KeepsForeign old.held.files new.held.files
 
@@ -69,9 +74,9 @@ pub record StoresSource (report : Report) (before after : Option (List ℕ)) (ol
   pub end : IsAtEnd after
   pub calls : CountsRun report old.calls new.calls
   -- where the system does as assumed, each text that the source may have had
-  pub honest : old.honest → new.honest
-  pub texts : old.honest → (text : Mailbox) → IsMailbox text → Possible before after text.bytes → All (IsSoundAt old.held.files) text.messages →
-      StoresText report text old.held new.held
+  pub honest : (spared : Spared) → old.honest spared → new.honest spared
+  pub texts : (spared : Spared) → old.honest spared → (text : Mailbox) → IsMailbox text → Possible before after text.bytes →
+      AllSpared spared (IsSoundAt old.held.files) text.messages → StoresText spared report text old.held new.held
   -- where no other program acts
   pub quiet : old.quiet → new.quiet
   pub alone : old.quiet → (t : List ℕ) (ms : List Message) → Possible before after t → MessagesOf t ms → new.held.files ≡ alone_after ms old.held.files

@@ -35,6 +35,6 @@ mod telling;
 pub use ending::Ending;
 pub use fault::Fault;
 pub use machine::Machine;
-pub use program::{execute, run};
+pub use program::{execute, refuse, run};
 pub use sources::deliver;
 pub use telling::{tell_fault, tell_wrong_words};

@@ -1,6 +1,7 @@
 // What the program asks of the machine that it runs on.
 ghost use Rattle.std.specs.Prelude.{ℕ, List};
 ghost use Rattle.maildir_disk.specs.Faults.{IsFailedAllocation};
+ghost use Rattle.maildir_run.specs.Files.{Spared};
 ghost use Rattle.maildir_commands.specs.Machines.{AreAt};
 ghost use Rattle.maildir_commands.specs.Opening.{ClosesMaildir, OpensMaildir, OpensSource};
 ghost use Rattle.maildir_commands.specs.Seen.{SeenMachine, opened};
@@ -33,16 +34,16 @@ pub trait Machine {
     fn close_maildir(&mut self, path: &str, maildir: Self::Maildir)
         ensures { ClosesMaildir path.now (opened Self.Maildir.System maildir) (at self.old) (at self.new) };
 
-    ghost quiet_is_honest: { (machine : Self) → (at machine).quiet → (at machine).honest };
+    ghost quiet_is_honest: { (machine : Self) (spared : Spared) → (at machine).quiet → (at machine).honest spared };
 
     /// Which words name the same Maildir never changes.
     ghost same_words: { (one other : Self) (word another : List ℕ) → (at one).same word another → (at other).same word another };
 
     /// Two words that name the same Maildir have the same files, of which a power cut may leave the same.
-    ghost same_maildir: { (machine : Self) (word other : List ℕ) → (at machine).same word other →
-        AreAt ((at machine).maildir_at word) ((at machine).maildir_at other) };
+    ghost same_maildir: { (machine : Self) (spared : Spared) (word other : List ℕ) → (at machine).same word other →
+        AreAt spared ((at machine).maildir_at word) ((at machine).maildir_at other) };
 
     /// A power cut may leave the files of a Maildir as they are.
-    ghost may_stay: { (machine : Self) (word : List ℕ) → (at machine).honest →
+    ghost may_stay: { (machine : Self) (spared : Spared) (word : List ℕ) → (at machine).honest spared →
         ((at machine).maildir_at word).may_leave ((at machine).maildir_at word).files };
 }

@@ -4,7 +4,7 @@ ghost use Rattle.std.specs.Io.Buffered.{writer_buffer, writer_contents};
 ghost use Rattle.maildir_run.specs.Output.{WritesMessages};
 ghost use Rattle.maildir_commands.specs.Endings.{status_of};
 ghost use Rattle.maildir_commands.specs.Output.{output_of};
-ghost use Rattle.maildir_commands.specs.Program.{Does, Ran, RanOn};
+ghost use Rattle.maildir_commands.specs.Program.{Does, Ran, RanOn, Refuses};
 ghost use Rattle.maildir_commands.specs.Seen.{seen_with, streams};
 ghost use Rattle.maildir_commands.specs.Words.Request.{ToWrite};
 ghost use Rattle.maildir_commands.specs.Private.Words.{name_of, request};
@@ -16,8 +16,10 @@ use crate::machine::Machine;
 use crate::sources::deliver_sources;
 use crate::streams::{READS, flush, open};
 use crate::telling::{tell_fault, tell_wrong_words};
+use maildir_disk::is_failed_allocation;
 use maildir_run::{RunFault, list_text, rewrite};
 use std::alloc::Global;
+use std::io;
 use std::io::{BufWriter, Read, Write};
 
 /// Does the program's work, and returns its status: 0 if it is done; 1 after a fault and 2 for wrong words, each with one
@@ -68,6 +70,19 @@ pub fn execute<M: Machine, I: Read, W: Write + Drop, E: Write>(
     match answer.and(flush(out)) {
         Ok(()) => Ending::Done,
         Err(fault) => Ending::Stopped(fault, tell_fault(fault, err)),
+    }
+}
+
+/// Tells on standard error why the words could not be read, and returns how the program ended: an allocation failed, or they
+/// are of no form, as those that are not UTF-8.
+pub fn refuse<E: Write>(error: &io::Error, err: &mut E) -> Ending
+    ensures { Refuses error.now result (E.contents err.old) (E.contents err.new) }
+{
+    if is_failed_allocation(error) {
+        let fault = Fault::Run(RunFault::OutOfMemory);
+        Ending::Stopped(fault, tell_fault(fault, err))
+    } else {
+        Ending::WrongWords(tell_wrong_words(err))
     }
 }
 

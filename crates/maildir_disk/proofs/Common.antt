@@ -9,7 +9,7 @@ pub use Rattle.maildir_name.specs.Names.{is_converter_base, is_converter_name}
 pub use Rattle.maildir_name.specs.declared.target.Place.{Place}
 pub use Rattle.maildir_run.proofs.Call.Cuts.{left_as}
 pub use Rattle.maildir_run.proofs.Call.Homes.{absent, acted_kept, converters, equally, get-outsiders_of, held-insert_new, held-insert_other}
-pub use Rattle.maildir_run.proofs.Call.Homes.{held-remove_old}
+pub use Rattle.maildir_run.proofs.Call.Homes.{held-remove_old, spared_named}
 pub use Rattle.maildir_run.proofs.Call.Moves.{after_kept, after_tmp, held_none, homes_none, homes_one, none_held, writing_ok}
 pub use Rattle.maildir_run.proofs.Chains.Chains.{chain_fold, chain_keeps, chain_map, chain_parts, sound_now}
 pub use Rattle.maildir_run.proofs.Chains.MessageLemmas.{text_distinct, text_named, text_targets}
@@ -18,8 +18,10 @@ pub use Rattle.maildir_run.specs.Calls.{after, Again, AnyMoves, Call, Called, Ca
 pub use Rattle.maildir_run.specs.Calls.{Listing, Lists, Move, moved, Other, placed, PlacesElsewhere, Placing, Removing, StaysOrGoes, Succeeded, Torn}
 pub use Rattle.maildir_run.specs.Calls.{Writing}
 pub use Rattle.maildir_run.specs.Cuts.{Came, CutMove, Doubled, doubled, Follows, IsFoundWhole, Leaves, LeavesOf, left_after, linked}
+pub use Rattle.maildir_run.specs.Delivery.{AllSpared, IsSpared}
 pub use Rattle.maildir_run.specs.Delivery.{AreDistinct, AreNamed, Delivered, HasHome, is_any, is_base_of, IsHome, IsMissing, IsSoundAt, Message}
-pub use Rattle.maildir_run.specs.Files.{acted, Action, all_acted, DropTmp, FileMap, Files, has_base, held_under, homes, is_name, KeepsConverters}
+pub use Rattle.maildir_run.specs.Files.{acted, Action, all_acted, DropTmp, FileMap, Files, has_base, held_under, homes, is_name}
+pub use Rattle.maildir_run.specs.Files.{all_bases, is_spared, is_spared_name, KeepsSpared, Spared}
 pub use Rattle.maildir_run.specs.Files.{may_take, Outside, outsiders_of, Reflag, ToCur}
 pub use Rattle.maildir_run.specs.Runs.{IsRun, Keeps, ReportsMessages}
 pub use Rattle.maildir_run.specs.Texts.{MessagesOf}

@@ -1,15 +1,14 @@
 -- What a power cut may leave of the messages of a text.
 use Rattle.std.specs.Prelude.{◌≡◌, ◌≤◌, ℕ, List, length, All, Contains, IsTrue, Result}
 use Rattle.std.specs.FinMap.{get, contains_key}
-use Rattle.maildir_name.specs.Names.{is_converter_base, is_converter_name}
 use Rattle.maildir_run.specs.declared.fault.RunFault.{RunFault}
 use Rattle.maildir_run.specs.declared.folder.Sub.{Sub}
 use Rattle.maildir_run.specs.declared.folder.Sub.TheVariants.{Tmp, New, Cur}
 use Rattle.maildir_run.specs.declared.report.Report.{Report}
 use Rattle.maildir_run.specs.Calls.{Listing, folder_of}
 use Rattle.maildir_run.specs.Cuts.{Leaves}
-use Rattle.maildir_run.specs.Delivery.{Message, IsHome}
-use Rattle.maildir_run.specs.Files.{Files, Action, acted, all_acted, homes, KeepsHomes}
+use Rattle.maildir_run.specs.Delivery.{Message, IsHome, AllSpared}
+use Rattle.maildir_run.specs.Files.{Files, Action, acted, all_acted, homes, KeepsHomes, Spared, is_spared, is_spared_name}
 use Rattle.maildir_run.specs.Runs.{Chain, IsRun}
 use Rattle.maildir_run.specs.Tasks.{Listings, Performs, leaving, planned_tasks}
 use Rattle.maildir_run.specs.Texts.{MessagesOf}
@@ -18,53 +17,53 @@ use Rattle.maildir_run.specs.Texts.{MessagesOf}
 abbrev pub IsIntact : Files → Message → Type 0
 IsIntact s m = (bytes : List ℕ) → Contains (homes s m.target.base) bytes → bytes ≡ m.body
 
--- each message is intact in whatever a power cut may leave
-abbrev pub AreIntact : List Message → (Files → Type 0) → Type 0
-AreIntact ms may_leave = (left : Files) → may_leave left → All (IsIntact left) ms
+-- each message that is spared is intact in whatever a power cut may leave
+abbrev pub AreIntact : Spared → List Message → (Files → Type 0) → Type 0
+AreIntact spared ms may_leave = (left : Files) → may_leave left → AllSpared spared (IsIntact left) ms
 
 -- a file of the message in `new` or `cur` holds its body
 abbrev pub HasBody : Files → Message → Type 0
 HasBody s m = Contains (homes s m.target.base) m.body
 
--- each message has a file with its body in whatever a power cut may leave
-abbrev pub Survive : List Message → (Files → Type 0) → Type 0
-Survive ms may_leave = (left : Files) → may_leave left → All (HasBody left) ms
+-- each message that is spared has a file with its body in whatever a power cut may leave
+abbrev pub Survive : Spared → List Message → (Files → Type 0) → Type 0
+Survive spared ms may_leave = (left : Files) → may_leave left → AllSpared spared (HasBody left) ms
 
 -- messages with the same base have the same body
 abbrev pub AreAlike : List Message → List Message → Type 0
 AreAlike others ms = All (λ m. All (λ n. n.target.base ≡ m.target.base → n.body ≡ m.body) ms) others
 
--- The messages are at home, each has a file with its body in whatever a power cut may leave, and a power cut leaves the Maildir.
-pub record AreSafe (ms : List Message) (s : Files) (may_leave : Files → Type 0) (rooted : Type 0) : Type 0 where
-  pub home : All (IsHome s) ms
-  pub survive : Survive ms may_leave
+-- The messages that are spared are at home, each has a file with its body in whatever a power cut may leave, and a power cut leaves the Maildir.
+pub record AreSafe (spared : Spared) (ms : List Message) (s : Files) (may_leave : Files → Type 0) (rooted : Type 0) : Type 0 where
+  pub home : AllSpared spared (IsHome s) ms
+  pub survive : Survive spared ms may_leave
   pub found : rooted
 
--- a power cut leaves no file under two names: no converter's base has more files after it than before
-abbrev pub IsSingle : Files → Files → Type 0
-IsSingle s left = (b : List ℕ) → IsTrue (is_converter_base b) → length (homes left b) ≤ length (homes s b)
+-- a power cut leaves no file under two names: no base that is spared has more files after it than before
+abbrev pub IsSingle : Spared → Files → Files → Type 0
+IsSingle spared s left = (b : List ℕ) → IsTrue (is_spared spared b) → length (homes left b) ≤ length (homes s b)
 
 -- how what a power cut leaves changes while only other programs act
-abbrev pub LeftByOthers : Files → Files → Type 0
-LeftByOthers = Leaves (Listing Tmp)
+abbrev pub LeftByOthers : Spared → Files → Files → Type 0
+LeftByOthers spared = Leaves spared (Listing Tmp)
 
--- a converter's file of this name in `tmp` has the same bytes after a power cut
-abbrev pub KeepsHeld : List ℕ → Files → (Files → Type 0) → Type 0
-KeepsHeld name s may_leave = (left : Files) → may_leave left → IsTrue (is_converter_name name) → get left.tmp name ≡ get s.tmp name
+-- a file of this name in `tmp` has the same bytes after a power cut, if the name is spared
+abbrev pub KeepsHeld : Spared → List ℕ → Files → (Files → Type 0) → Type 0
+KeepsHeld spared name s may_leave = (left : Files) → may_leave left → IsTrue (is_spared_name spared name) → get left.tmp name ≡ get s.tmp name
 
--- At some moment of the call, a power cut would have left exactly the converter's names that the folder had then. What other programs did
+-- At some moment of the call, a power cut would have left exactly the names that are spared and that the folder had then. What other programs did
 -- later may be left or lost.
-pub record KeepsNames (sub : Sub) (old before new left : Files) : Type 0 where
+pub record KeepsNames (spared : Spared) (sub : Sub) (old before new left : Files) : Type 0 where
   pub moment : Files
   pub actions : List Action
-  pub moment_is : moment ≡ all_acted actions old
+  pub moment_is : moment ≡ all_acted spared actions old
   pub rest : List Action
-  pub new_is : new ≡ all_acted rest moment
+  pub new_is : new ≡ all_acted spared rest moment
   -- what a power cut would have left at that moment
   pub there : Files
-  pub earlier : LeftByOthers before there
-  pub later : LeftByOthers there left
-  pub names_are : (name : List ℕ) → IsTrue (is_converter_name name) → contains_key (folder_of sub there) name ≡ contains_key (folder_of sub moment) name
+  pub earlier : LeftByOthers spared before there
+  pub later : LeftByOthers spared there left
+  pub names_are : (name : List ℕ) → IsTrue (is_spared_name spared name) → contains_key (folder_of sub there) name ≡ contains_key (folder_of sub moment) name
 
 -- a folder at one moment: its files, and what a power cut would leave
 pub record FilesAndLeft : Type 0 where
@@ -72,10 +71,10 @@ pub record FilesAndLeft : Type 0 where
   pub left : Files
 
 -- A sync of the Maildir that returned Ok: first the names in `new` became durable, then those in `cur`.
-pub record Syncs (old before new left : Files) : Type 0 where
+pub record Syncs (spared : Spared) (old before new left : Files) : Type 0 where
   pub mid : FilesAndLeft
-  pub first : KeepsNames New old before mid.files mid.left
-  pub then : KeepsNames Cur mid.files mid.left new left
+  pub first : KeepsNames spared New old before mid.files mid.left
+  pub then : KeepsNames spared Cur mid.files mid.left new left
 
 -- an event: a run with this result, an action of another program, or a power cut
 pub data Event : Type 0 where
@@ -84,19 +83,19 @@ pub data Event : Type 0 where
   Cut : Event
 
 -- The power cut left what it would have left, with no file under two names, and a later one would leave the same.
-pub record IsCut (old new : FilesAndLeft) : Type 0 where
-  pub found : KeepsHomes old.left new.files
-  pub stays : KeepsHomes new.files new.left
-  pub single : IsSingle old.files old.left
+pub record IsCut (spared : Spared) (old new : FilesAndLeft) : Type 0 where
+  pub found : KeepsHomes spared old.left new.files
+  pub stays : KeepsHomes spared new.files new.left
+  pub single : IsSingle spared old.files old.left
 
 -- an event leads from one moment to another
-abbrev pub Happens : List ℕ → Event → FilesAndLeft → FilesAndLeft → Type 0
-Happens t (Ran answer) old new =
-    IsRun t old.files answer new.files
-    × ((ms : List Message) → MessagesOf t ms → (names : Listings) × Performs leaving (planned_tasks names ms) old.left answer new.left)
-Happens t (Acted action) old new = (new.files ≡ acted action old.files) × LeftByOthers old.left new.left
-Happens t Cut old new = IsCut old new
+abbrev pub Happens : Spared → List ℕ → Event → FilesAndLeft → FilesAndLeft → Type 0
+Happens spared t (Ran answer) old new =
+    IsRun spared t old.files answer new.files
+    × ((ms : List Message) → MessagesOf t ms → (names : Listings) × Performs (leaving spared) (planned_tasks names ms) old.left answer new.left)
+Happens spared t (Acted action) old new = (new.files ≡ acted spared action old.files) × LeftByOthers spared old.left new.left
+Happens spared t Cut old new = IsCut spared old new
 
 -- a finite sequence of runs over a text, with any results, of other programs' actions and of power cuts
-abbrev pub Happen : List ℕ → List Event → FilesAndLeft → FilesAndLeft → Type 0
-Happen t = Chain (Happens t)
+abbrev pub Happen : Spared → List ℕ → List Event → FilesAndLeft → FilesAndLeft → Type 0
+Happen spared t = Chain (Happens spared t)

@@ -3,9 +3,9 @@ use Rattle.std.specs.Prelude.{◌≡◌, List, [], All, Contains, Result}
 use Rattle.maildir_run.specs.declared.fault.RunFault.{RunFault}
 use Rattle.maildir_run.specs.declared.report.Report.{Report}
 use Rattle.maildir_run.specs.Delivery.{IsMissing}
-use Rattle.maildir_run.specs.Files.{Action}
+use Rattle.maildir_run.specs.Files.{Action, Spared}
 use Rattle.maildir_run.specs.Runs.{Chain}
-use Rattle.maildir_run.specs.Several.{Mailbox, IsMailbox, OfEach}
+use Rattle.maildir_run.specs.Several.{OfEachSpared, Mailbox, IsMailbox, OfEach}
 use Rattle.maildir_disk.specs.PowerCuts.{FilesAndLeft, Syncs, Ran, Acted, Cut, Happens}
 
 -- an event of a folder into which several texts are delivered
@@ -20,20 +20,20 @@ pub data EventOver : Type 0 where
   CutOver : EventOver
 
 -- an event leads from one moment to another
-abbrev pub HappensOver : List Mailbox → EventOver → FilesAndLeft → FilesAndLeft → Type 0
-HappensOver texts (RanOver text answer) old new = Contains texts text × Happens text.bytes (Ran answer) old new
-HappensOver texts (ActedOver action) old new = Happens [] (Acted action) old new
-HappensOver texts SyncedOver old new = Syncs old.files old.left new.files new.left
-HappensOver texts CutOver old new = Happens [] Cut old new
+abbrev pub HappensOver : Spared → List Mailbox → EventOver → FilesAndLeft → FilesAndLeft → Type 0
+HappensOver spared texts (RanOver text answer) old new = Contains texts text × Happens spared text.bytes (Ran answer) old new
+HappensOver spared texts (ActedOver action) old new = Happens spared [] (Acted action) old new
+HappensOver spared texts SyncedOver old new = Syncs spared old.files old.left new.files new.left
+HappensOver spared texts CutOver old new = Happens spared [] Cut old new
 
 -- a finite sequence of runs over any of the texts, with any results, of other programs' actions, of syncs and of power cuts
-abbrev pub HappenOver : List Mailbox → List EventOver → FilesAndLeft → FilesAndLeft → Type 0
-HappenOver texts = Chain (HappensOver texts)
+abbrev pub HappenOver : Spared → List Mailbox → List EventOver → FilesAndLeft → FilesAndLeft → Type 0
+HappenOver spared texts = Chain (HappensOver spared texts)
 
 -- The premises on several texts, and on the folder before any run over them.
-pub record AreNew (texts : List Mailbox) (moment : FilesAndLeft) : Type 0 where
+pub record AreNew (spared : Spared) (texts : List Mailbox) (moment : FilesAndLeft) : Type 0 where
   pub are : All IsMailbox texts
   -- messages with the same base have the same body
   pub alike : OfEach (λ m. OfEach (λ n. n.target.base ≡ m.target.base → n.body ≡ m.body) texts) texts
-  pub missing : OfEach (IsMissing moment.files) texts
-  pub none_left : OfEach (IsMissing moment.left) texts
+  pub missing : OfEachSpared spared (IsMissing moment.files) texts
+  pub none_left : OfEachSpared spared (IsMissing moment.left) texts

@@ -2,7 +2,7 @@
 use Rattle.std.specs.Prelude.{◌≡◌, ◌⊎◌, ℕ, ◌+◌, ◌%◌, ◌≤◌, ◌<◌, ◌==◌, List, if◌then◌else◌, IsPermutation}
 use Rattle.std.specs.FinMap.{empty, keys}
 use Rattle.maildir_run.specs.declared.folder.Sub.{Sub}
-use Rattle.maildir_run.specs.Files.{Files, Action, all_acted}
+use Rattle.maildir_run.specs.Files.{Files, Action, all_acted, Spared}
 use Rattle.maildir_run.specs.Calls.{folder_of}
 
 -- one moment of the system; times are nanoseconds since 1970
@@ -32,22 +32,22 @@ pub record IsOfChange (start end stamp : ℕ) : Type 0 where
   pub less_ahead : stamp < time + margin_of stamp
 
 -- Other programs may have acted.
-pub record Acts (old new : World) : Type 0 where
+pub record Acts (spared : Spared) (old new : World) : Type 0 where
   pub actions : List Action
-  pub files_are : new.files ≡ all_acted actions old.files
+  pub files_are : new.files ≡ all_acted spared actions old.files
 
 -- Other programs may have acted while the folder was watched: the clock did not go back, and the folder has the
 -- stamp that it had, or that of a change meanwhile.
-pub record Passes (sub : Sub) (old new : World) : Type 0 where
-  pub acts : Acts old new
+pub record Passes (spared : Spared) (sub : Sub) (old new : World) : Type 0 where
+  pub acts : Acts spared old new
   pub later : old.time ≤ new.time
   pub stamp_is : (new.stamp_of sub ≡ old.stamp_of sub) ⊎ IsOfChange old.time new.time (new.stamp_of sub)
 
 -- The stamp of the folder at some moment of a call.
-pub record IsStampWithin (sub : Sub) (old : World) (stamp : ℕ) (new : World) : Type 0 where
+pub record IsStampWithin (spared : Spared) (sub : Sub) (old : World) (stamp : ℕ) (new : World) : Type 0 where
   pub moment : World
-  pub before : Passes sub old moment
-  pub rest : Passes sub moment new
+  pub before : Passes spared sub old moment
+  pub rest : Passes spared sub moment new
   pub is : stamp ≡ moment.stamp_of sub
 
 -- The time at some moment of a call.

@@ -2,6 +2,7 @@
 ghost use Rattle.std.specs.Prelude.{◌≡◌, IsErrOf};
 ghost use Rattle.maildir_run.specs.Calls.{IsNotAbsent};
 ghost use Rattle.maildir_run.specs.Calls.Call.{Placing};
+ghost use Rattle.maildir_run.specs.Files.{Spared};
 ghost use Rattle.maildir_run.specs.Seen.{CallOf};
 ghost use Rattle.maildir_disk.specs.Placing.{WasGone};
 ghost use Rattle.maildir_disk.specs.Private.Effects.{Counts};
@@ -97,8 +98,9 @@ impl<S: System> Folder for DiskFolder<S> {
 
     fn place(&mut self, name: &str, place: Place, target: &str) -> Result<(), FolderFault>
         ensures places { CallOf (Placing name.now place target.now) (seen_of S.System self.old) result (seen_of S.System self.new) }
-        ensures gone { (S.at self.old.system).honest → IsErrOf result FolderFault.Absent →
-            WasGone name.now (Placing name.now place target.now) (S.at self.old.system).world.files (S.at self.new.system).world.files }
+        ensures gone { (spared : Spared) → (S.at self.old.system).honest spared → IsErrOf result FolderFault.Absent →
+            WasGone spared name.now (Placing name.now place target.now) (S.at self.old.system).world.files
+            (S.at self.new.system).world.files }
     {
         let answer = match self.system.rename(name, place, target) {
             Err(error) if error.kind() == ErrorKind::NotFound => Err(FolderFault::Absent),

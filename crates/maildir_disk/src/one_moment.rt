@@ -1,7 +1,8 @@
 // The names in a folder at one moment.
-ghost use Rattle.std.specs.Prelude.{◌≡◌};
+ghost use Rattle.std.specs.Prelude.{◌≡◌, ◌-◌, ◌≤◌, ◌↔◌, IfErr, IsErr, IsTrue};
 ghost use Rattle.std.specs.Duration.{as_nanos};
-ghost use Rattle.std.specs.Time.{system_time_nanos};
+ghost use Rattle.std.specs.IoError.{error_kind};
+ghost use Rattle.std.specs.Time.{instant_nanos, system_time_nanos};
 ghost use Rattle.maildir_disk.specs.Private.Look.{Attempts, IsAged, ReadsAtOnce, Watches};
 ghost use Rattle.maildir_disk.specs.World.{margin_of};
 
@@ -9,7 +10,7 @@ use crate::system::System;
 use maildir_run::Sub;
 use std::io;
 use std::io::ErrorKind;
-use std::time::{Duration, SystemTime, UNIX_EPOCH};
+use std::time::{Duration, Instant, SystemTime, UNIX_EPOCH};
 
 // How far the stamp that a change sets may be from the clock at that moment: file systems stamp by the ticks of a clock,
 // which are late on a busy machine.
@@ -31,18 +32,38 @@ const PAUSE_MILLIS: u64 = 1;
 pub(crate) fn names_of_one_moment<S: System>(system: &mut S, sub: Sub) -> io::Result<Vec<String>>
     ensures { ReadsAtOnce sub (S.at system.old) result (S.at system.new) }
 {
-    let patience = Duration::from_secs(PATIENCE_SECS);
     let start = system.instant()?;
     for _ in 0..u64::MAX {
         let pause = match take_names(system, sub)? {
             Look::Taken(names) => return Ok(names),
             Look::Wait(pause) => pause,
         };
-        if system.instant()?.duration_since(start) >= patience {
+        if is_over(start, system.instant()?) {
             break;
         }
         system.sleep(pause);
     }
+    give_up()
+}
+
+// Whether the time to try that began at `start` is over.
+fn is_over(start: Instant, now: Instant) -> bool
+    ensures { IsTrue result ↔ 30_000_000_000 ≤ instant_nanos now - instant_nanos start }
+{
+    now.duration_since(start) >= Duration::from_secs(PATIENCE_SECS)
+}
+
+fn pause() -> Duration
+    ensures { as_nanos result ≡ 1_000_000 }
+{
+    Duration::from_millis(PAUSE_MILLIS)
+}
+
+// The fault of a folder that keeps changing. It is no want of memory.
+fn give_up() -> io::Result<Vec<String>>
+    ensures err { IsErr result }
+    ensures kind { IfErr result (λ error. error_kind error ≡ ErrorKind.TimedOut) }
+{
     Err(io::Error::from(ErrorKind::TimedOut))
 }
 
@@ -65,7 +86,7 @@ fn take_names<S: System>(system: &mut S, sub: Sub) -> io::Result<Look>
         return Ok(Look::Wait(pause));
     }
     let Some(names) = watched_names(system, sub, stamp)? else {
-        return Ok(Look::Wait(Duration::from_millis(PAUSE_MILLIS)));
+        return Ok(Look::Wait(pause()));
     };
     if let Age::Settled = age {
         return Ok(Look::Taken(names));
@@ -74,7 +95,7 @@ fn take_names<S: System>(system: &mut S, sub: Sub) -> io::Result<Look>
     if let Age::Ahead = Age::of(stamp, later) {
         Ok(Look::Taken(names))
     } else {
-        Ok(Look::Wait(Duration::from_millis(PAUSE_MILLIS)))
+        Ok(Look::Wait(pause()))
     }
 }
 

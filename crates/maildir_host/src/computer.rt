@@ -36,13 +36,13 @@ impl<'a, R: Files<File = File> + Clock> Machine for Computer<'a, R> {
 
     ghost at = { λ _. nothing_seen };
 
-    ghost quiet_is_honest = { λ _ quiet. quiet };
+    ghost quiet_is_honest = { λ _ _ quiet. quiet };
 
     ghost same_words = { λ _ _ _ _ same. same };
 
-    ghost same_maildir = { λ _ _ _ _. same_at };
+    ghost same_maildir = { λ _ _ _ _ _. same_at };
 
-    ghost may_stay = { λ _ _ honest. absurd honest };
+    ghost may_stay = { λ _ _ _ honest. absurd honest };
 
     fn open_source(&mut self, path: &str) -> io::Result<File> {
         fs::open(self.rt, path)

@@ -4,8 +4,9 @@
 //! [`System`](maildir_disk::System) asks for. [`Host::open_at`] makes the Maildir and its folders if they are missing, and locks
 //! it while it is open, if the file system has locks.
 //!
-//! This crate is trusted: no proof knows what these calls do to a disk. What is proved is that they are safe and end, that a
-//! Maildir is opened at the path that was named, and that its folder begins with no calls and no failures.
+//! This crate is trusted: no proof knows what these calls do to a disk. It makes them in order; what their answers mean is
+//! decided in `maildir_calls`. What is proved is that they are safe and end, that a Maildir is opened at the path that was
+//! named, and that its folder begins with no calls and no failures.
 //!
 //! ```rust
 //! use maildir_disk::DiskFolder;

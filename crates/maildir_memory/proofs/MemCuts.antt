@@ -5,7 +5,7 @@ use Rattle.std.proofs.lemmas.Bool.{cases_lt}
 use Rattle.std.proofs.lemmas.List.{get_or_past}
 use Rattle.std.proofs.lemmas.List.Elements.{All-contains, Contains-append_cases, Contains-append_left, Contains-get_or}
 use Rattle.std.proofs.lemmas.List.Sorted.{IsPermutation-refl}
-use Rattle.maildir_run.specs.Files.{Files, KeepsHomes, homes}
+use Rattle.maildir_run.specs.Files.{Files, KeepsHomes, homes, Spared}
 use Rattle.maildir_run.specs.MemFiles.{no_files}
 use Rattle.maildir_run.specs.MemFolder.{files_of}
 use Rattle.maildir_memory.specs.declared.mem_system.MemSystem.{MemSystem}
@@ -16,7 +16,7 @@ use Rattle.maildir_disk.proofs.Left.LeftHomes.{first_or, none_in}
 use Rattle.maildir_commands.specs.Commands.{LeftByPowerCut}
 use Rattle.maildir_memory.specs.MemMachines.{held_at}
 
-same_homes : (left new : Files) → new ≡ left → KeepsHomes left new
+same_homes : {spared : Spared} (left new : Files) → new ≡ left → KeepsHomes spared left new
 same_homes left new same = record { kept = λ b named. subst (λ s. IsPermutation (homes left b) (homes s b)) (sym same) (IsPermutation-refl _) }
 
 none_but : (rooted : Bool) (left : Files) → Contains (if rooted then [] else no_files ∷ []) left → (¬ IsTrue rooted) × (left ≡ no_files)
@@ -27,8 +27,7 @@ none_but false left has = elim (first_or [] has) as (λ _. (¬ IsTrue false) × 
 ]
 
 module _ (old new : MemSystem) (case : ℕ) (found : files_of new.folder ≡ get_or (cases_of old) case (files_of old.folder))
-    (stays : All (λ left. left ≡ files_of new.folder) (cases_of new)) (still : IsTrue old.is_rooted → IsTrue new.is_rooted)
-    (single : IsSingle (files_of old.folder) (get_or (cases_of old) case (files_of old.folder))) where
+    (stays : All (λ left. left ≡ files_of new.folder) (cases_of new)) (still : IsTrue old.is_rooted → IsTrue new.is_rooted) where
   abbrev left : Files
   left = get_or (cases_of old) case (files_of old.folder)
 
@@ -52,8 +51,8 @@ module _ (old new : MemSystem) (case : ℕ) (found : files_of new.folder ≡ get
   later_same later (inr has) =
       All-contains (λ (left : Files). left ≡ files_of new.folder) (cases_of new) later stays (Contains-append_left (lefts_of new.cases) _ later has)
 
-  pub mem_cut : LeftByPowerCut (held_at (Some (Some old))) (held_at (Some (Some new)))
-  mem_cut = record {
+  pub mem_cut : {spared : Spared} → IsSingle spared (files_of old.folder) left → LeftByPowerCut spared (held_at (Some (Some old))) (held_at (Some (Some new)))
+  mem_cut single = record {
     left = left;
     may = may;
     single = single;

@@ -9,23 +9,24 @@ use Rattle.std.specs.Str.{bytes_eq}
 use Rattle.maildir_run.specs.MemFiles.{no_files}
 use Rattle.maildir_run.specs.declared.folder.FolderFault.{FolderFault}
 use Rattle.maildir_run.specs.declared.folder.FolderFault.TheVariants.{Failed, OutOfMemory}
-use Rattle.maildir_run.specs.MemFolder.{IsQuiet}
 use Rattle.maildir_disk.specs.declared.faults.OpenFault.TheVariants.{Folder, Locked}
 use Rattle.maildir_memory.specs.declared.mem_system.MemSystem.{MemSystem}
-use Rattle.maildir_memory.specs.MemSystem.{HasNoTurns}
+use Rattle.maildir_memory.specs.MemSystem.{HasNoTurns, IsHonest}
 use Rattle.maildir_memory.specs.declared.mem_machine.NamedText.{NamedText}
 use Rattle.maildir_commands.specs.Machines.{Rests, nothing_held}
-use Rattle.maildir_memory.specs.MemMachines.{AreAll, IsFresh, IsFreshQuietly, IsRefusedAt, held_at, held_under_word, open_in_memory, seen_in_memory}
+use Rattle.maildir_memory.specs.MemMachines.{AreAll, IsFresh, IsFreshFor, IsFreshQuietly, IsRefusedAt, held_at, held_under_word, open_in_memory, seen_in_memory}
 use Rattle.maildir_commands.specs.Opening.{ClosesMaildir, OpensMaildir}
 use Rattle.maildir_commands.proofs.Resting.{rest_same}
+use Rattle.maildir_run.specs.Files.{Spared}
 
 -- a fresh Maildir has what is where none is
-rest_fresh : {system : MemSystem} → IsFresh system → Rests nothing_held (open_in_memory system).held
+rest_fresh : {spared : Spared} {system : MemSystem} → IsFresh system → Rests spared nothing_held (open_in_memory system).held
 rest_fresh {system} fresh = record {
   actions = [];
   files_are = fresh.empty;
   left = λ left may. (no_files, refl, record { kept = []; are = fresh.none_left left may });
   found = λ h. absurd h;
+  touches = λ name now. tt;
 }
 
 module _ {X : Type 0} (old new : BTreeMap (String X) (Option MemSystem)) (path : List ℕ) (slot : Option MemSystem)
@@ -42,8 +43,8 @@ module _ {X : Type 0} (old new : BTreeMap (String X) (Option MemSystem)) (path :
   at_path : get_by_text new path ≡ Some slot
   at_path = on_path path (search (rules, bytes_eq-Decides))
 
-  pub others_rest : (word : List ℕ) → ¬ IsTrue (bytes_eq path word) → Rests (held_under_word old word) (held_under_word new word)
-  others_rest word other = subst (λ found. Rests (held_under_word old word) (held_at found)) (sym (off_path word other)) (rest_same)
+  pub others_rest : {spared : Spared} (word : List ℕ) → ¬ IsTrue (bytes_eq path word) → Rests spared (held_under_word old word) (held_under_word new word)
+  others_rest {spared} word other = subst (λ found. Rests spared (held_under_word old word) (held_at found)) (sym (off_path word other)) (rest_same)
 
   pub still_all : {P : MemSystem → Type 0} → AreAll P old → slot ≡ None → AreAll P new
   still_all {P} all none word system is = elim (cases_Bool (bytes_eq path word)) as (λ _. P system) [
@@ -68,15 +69,15 @@ module _ {X : Type 0} (old new : BTreeMap (String X) (Option MemSystem)) (path :
     pub takes : {system : MemSystem} → get_by_text old path ≡ Some (Some system)
         → OpensMaildir open_in_memory path (Ok system) (seen_in_memory texts old fresh) (seen_in_memory texts new fresh)
     takes {system} is = record {
-      honest = λ h. (still_all h.0 is_taken, h.1);
-      texts = λ h. refl;
-      refusals = λ h word refused. refused;
-      is_open = λ h. subst IsSome (sym at_path) refl;
-      works = λ h. h.0 path system is;
-      opens = λ h. subst (λ found. Rests (held_at found) (held_at (Some (Some system)))) (sym is) rest_same;
-      refused = λ h. tt;
-      rests = λ h. tt;
-      others = λ h. others_rest;
+      honest = λ spared h. (still_all h.0 is_taken, h.1);
+      texts = λ spared h. refl;
+      refusals = λ spared h word refused. refused;
+      is_open = λ spared h. subst IsSome (sym at_path) refl;
+      works = λ spared h. h.0 path system is;
+      opens = λ spared h. subst (λ found. Rests spared (held_at found) (held_at (Some (Some system)))) (sym is) rest_same;
+      refused = λ spared h. tt;
+      rests = λ spared h. tt;
+      others = λ spared h. others_rest;
       quiet = λ q. (still_all q.0 is_taken, q.1);
       works_quietly = λ q. q.0 path system is;
       opens_quietly = λ q. sym (ap (λ found. (held_at found).files) is);
@@ -90,15 +91,15 @@ module _ {X : Type 0} (old new : BTreeMap (String X) (Option MemSystem)) (path :
     takes_none is =
         let same : get_by_text new path ≡ get_by_text old path = at_path ∙ (ap Some is_taken ∙ sym is) in
         record {
-          honest = λ h. (still_all h.0 is_taken, h.1);
-          texts = λ h. refl;
-          refusals = λ h word refused. refused;
-          is_open = λ h. tt;
-          works = λ h. tt;
-          opens = λ h. tt;
-          refused = λ h. subst (λ found. IsRefusedAt found Locked) (sym is) refl;
-          rests = λ h. subst (λ found. Rests (held_under_word old path) (held_at found)) (sym same) rest_same;
-          others = λ h. others_rest;
+          honest = λ spared h. (still_all h.0 is_taken, h.1);
+          texts = λ spared h. refl;
+          refusals = λ spared h word refused. refused;
+          is_open = λ spared h. tt;
+          works = λ spared h. tt;
+          opens = λ spared h. tt;
+          refused = λ spared h. subst (λ found. IsRefusedAt found Locked) (sym is) refl;
+          rests = λ spared h. subst (λ found. Rests spared (held_under_word old path) (held_at found)) (sym same) rest_same;
+          others = λ spared h. others_rest;
           quiet = λ q. (still_all q.0 is_taken, q.1);
           works_quietly = λ q. tt;
           opens_quietly = λ q. tt;
@@ -112,10 +113,10 @@ module _ {X : Type 0} (old new : BTreeMap (String X) (Option MemSystem)) (path :
   puts texts fresh {system} is_put =
       let at : get_by_text new path ≡ Some (Some system) = at_path ∙ ap Some is_put in
       record {
-        honest = λ h working. (put_all (λ system. IsQuiet system.folder) h.0 is_put working, h.1);
-        texts = λ h. refl;
-        closes = λ h is. subst (λ found. Rests (held_at (Some (Some system))) (held_at found)) (sym at) rest_same;
-        others = λ h. others_rest;
+        honest = λ spared h working. (put_all (λ system. IsHonest system spared) h.0 is_put working, h.1);
+        texts = λ spared h. refl;
+        closes = λ spared h is. subst (λ found. Rests spared (held_at (Some (Some system))) (held_at found)) (sym at) rest_same;
+        others = λ spared h. others_rest;
         closes_quietly = λ q is. ap (λ found. (held_at found).files) at;
         others_quietly = λ q. others_files;
       }
@@ -124,15 +125,15 @@ module _ {X : Type 0} (old new : BTreeMap (String X) (Option MemSystem)) (path :
   makes : (texts : List NamedText) (system : MemSystem) (now : Option MemSystem) → now ≡ None → slot ≡ None → get_by_text old path ≡ None
       → OpensMaildir open_in_memory path (Ok system) (seen_in_memory texts old (Some system)) (seen_in_memory texts new now)
   makes texts system now none is_taken missing = record {
-    honest = λ h. (still_all h.0 is_taken, subst (λ fresh. IfSome fresh IsFresh) (sym none) tt);
-    texts = λ h. refl;
-    refusals = λ h word refused. refused;
-    is_open = λ h. subst IsSome (sym at_path) refl;
-    works = λ h. h.1.honest;
-    opens = λ h. subst (λ found. Rests (held_at found) (open_in_memory system).held) (sym missing) (rest_fresh h.1);
-    refused = λ h. tt;
-    rests = λ h. tt;
-    others = λ h. others_rest;
+    honest = λ spared h. (still_all h.0 is_taken, subst (λ fresh. IfSome fresh (IsFreshFor spared)) (sym none) tt);
+    texts = λ spared h. refl;
+    refusals = λ spared h word refused. refused;
+    is_open = λ spared h. subst IsSome (sym at_path) refl;
+    works = λ spared h. h.1.honest;
+    opens = λ spared h. subst (λ found. Rests spared (held_at found) (open_in_memory system).held) (sym missing) (rest_fresh h.1.fresh);
+    refused = λ spared h. tt;
+    rests = λ spared h. tt;
+    others = λ spared h. others_rest;
     quiet = λ q. (still_all q.0 is_taken, subst (λ fresh. IfSome fresh IsFreshQuietly) (sym none) tt);
     works_quietly = λ q. q.1.quiet;
     opens_quietly = λ q. q.1.fresh.empty ∙ sym (ap (λ found. (held_at found).files) missing);
@@ -154,8 +155,8 @@ same_entries old new same word = rw same refl
 
 module _ {X : Type 0} (texts : List NamedText) (old new : BTreeMap (String X) (Option MemSystem)) (path : List ℕ)
     (same : (word : List ℕ) → get_by_text new word ≡ get_by_text old word) where
-  same_rests : (word : List ℕ) → Rests (held_under_word old word) (held_under_word new word)
-  same_rests word = subst (λ found. Rests (held_under_word old word) (held_at found)) (sym (same word)) rest_same
+  same_rests : {spared : Spared} (word : List ℕ) → Rests spared (held_under_word old word) (held_under_word new word)
+  same_rests {spared} word = subst (λ found. Rests spared (held_under_word old word) (held_at found)) (sym (same word)) rest_same
 
   same_files : (word : List ℕ) → (held_under_word new word).files ≡ (held_under_word old word).files
   same_files word = ap (λ found. (held_at found).files) (same word)
@@ -168,19 +169,19 @@ module _ {X : Type 0} (texts : List NamedText) (old new : BTreeMap (String X) (O
       → (fault ≡ Failed) ⊎ (fault ≡ OutOfMemory)
       → OpensMaildir open_in_memory path (Err (Folder fault)) (seen_in_memory texts old fresh) (seen_in_memory texts new now)
   makes_none fresh now none missing fault is = record {
-    honest = λ h. (same_all (λ system. IsQuiet system.folder) h.0, subst (λ fresh. IfSome fresh IsFresh) (sym none) tt);
-    texts = λ h. refl;
-    refusals = λ h word refused. refused;
-    is_open = λ h. tt;
-    works = λ h. tt;
-    opens = λ h. tt;
-    refused = λ h. subst (λ found. IsRefusedAt found (Folder fault)) (sym missing)
+    honest = λ spared h. (same_all (λ system. IsHonest system spared) h.0, subst (λ fresh. IfSome fresh (IsFreshFor spared)) (sym none) tt);
+    texts = λ spared h. refl;
+    refusals = λ spared h word refused. refused;
+    is_open = λ spared h. tt;
+    works = λ spared h. tt;
+    opens = λ spared h. tt;
+    refused = λ spared h. subst (λ found. IsRefusedAt found (Folder fault)) (sym missing)
         (elim is as (λ _. (Folder fault ≡ Folder Failed) ⊎ (Folder fault ≡ Folder OutOfMemory)) [
           | inl failed ↦ inl (ap Folder failed)
           | inr memory ↦ inr (ap Folder memory)
         ]);
-    rests = λ h. same_rests path;
-    others = λ h word other. same_rests word;
+    rests = λ spared h. same_rests path;
+    others = λ spared h word other. same_rests word;
     quiet = λ q. (same_all HasNoTurns q.0, subst (λ fresh. IfSome fresh IsFreshQuietly) (sym none) tt);
     works_quietly = λ q. tt;
     opens_quietly = λ q. tt;
@@ -191,10 +192,10 @@ module _ {X : Type 0} (texts : List NamedText) (old new : BTreeMap (String X) (O
   pub puts_none : (fresh : Option MemSystem) (system : MemSystem) → get_by_text old path ≡ None
       → ClosesMaildir path (open_in_memory system) (seen_in_memory texts old fresh) (seen_in_memory texts new fresh)
   puts_none fresh system none = record {
-    honest = λ h working. (same_all (λ system. IsQuiet system.folder) h.0, h.1);
-    texts = λ h. refl;
-    closes = λ h is. absurd (false≢true (subst IsSome none is));
-    others = λ h word other. same_rests word;
+    honest = λ spared h working. (same_all (λ system. IsHonest system spared) h.0, h.1);
+    texts = λ spared h. refl;
+    closes = λ spared h is. absurd (false≢true (subst IsSome none is));
+    others = λ spared h word other. same_rests word;
     closes_quietly = λ q is. absurd (false≢true (subst IsSome none is));
     others_quietly = λ q word other. same_files word;
   }

@@ -1,5 +1,7 @@
 -- The cases of what a power cut may leave of a Maildir in memory.
 pub mod Cases
+-- What other programs do at their turns to a Maildir in memory.
+pub mod TurnActs
 -- What contracts see of a Maildir in memory.
 pub mod MemSystem
 -- What a machine in memory has under a word.

@@ -2,14 +2,14 @@
 use Rattle.std.specs.Prelude.{◌≡◌, ◌⊎◌, ℕ, Bool, true, false, List, [], ◌∷◌, Option, Some, None, String, IfSome, IsSome, IsTrue, if◌then◌else◌}
 use Rattle.std.specs.BTreeMap.{BTreeMap, get_by_text}
 use Rattle.std.specs.Str.{bytes_eq}
-use Rattle.maildir_run.specs.MemFolder.{IsQuiet, files_of}
-use Rattle.maildir_run.specs.Files.{Files}
+use Rattle.maildir_run.specs.MemFolder.{files_of}
+use Rattle.maildir_run.specs.Files.{Files, Spared}
 use Rattle.maildir_run.specs.MemFiles.{no_files}
 use Rattle.maildir_run.specs.declared.folder.FolderFault.TheVariants.{Failed, OutOfMemory}
 use Rattle.maildir_disk.specs.declared.faults.OpenFault.{OpenFault}
 use Rattle.maildir_disk.specs.declared.faults.OpenFault.TheVariants.{Folder, Locked}
 use Rattle.maildir_memory.specs.declared.mem_system.MemSystem.{MemSystem}
-use Rattle.maildir_memory.specs.MemSystem.{HasNoTurns, may_be_left, world_of}
+use Rattle.maildir_memory.specs.MemSystem.{HasNoTurns, IsHonest, may_be_left, world_of}
 use Rattle.maildir_memory.specs.declared.mem_machine.NamedText.{NamedText}
 use Rattle.maildir_commands.specs.Machines.{HeldMaildir, nothing_held}
 use Rattle.maildir_commands.specs.Seen.{OpenMaildir, SeenMachine}
@@ -33,9 +33,9 @@ IsRefusedAt (Some (Some _)) fault = ⊥
 -- a Maildir in memory that is open
 abbrev pub open_in_memory : MemSystem → OpenMaildir
 open_in_memory system = record {
-  honest = IsQuiet system.folder;
+  honest = IsHonest system;
   quiet = HasNoTurns system;
-  held = record { files = (world_of system).files; may_leave = may_be_left system; rooted = IsTrue system.is_rooted };
+  held = record { files = (world_of system).files; may_leave = may_be_left system; rooted = IsTrue system.is_rooted; touched = λ _. Unit {0} };
 }
 
 -- the Maildir that is there and not open
@@ -54,9 +54,13 @@ AreAll P maildirs = (word : List ℕ) (system : MemSystem) → get_by_text maild
 
 -- A Maildir that holds nothing, and of which a power cut leaves nothing.
 pub record IsFresh (system : MemSystem) : Type 0 where
-  pub honest : IsQuiet system.folder
   pub empty : files_of system.folder ≡ no_files
   pub none_left : (left : Files) → may_be_left system left → left ≡ no_files
+
+-- and other programs spare these bases at their turns
+pub record IsFreshFor (spared : Spared) (system : MemSystem) : Type 0 where
+  pub fresh : IsFresh system
+  pub honest : IsHonest system spared
 
 -- and no other program has a turn
 pub record IsFreshQuietly (system : MemSystem) : Type 0 where
@@ -66,7 +70,7 @@ pub record IsFreshQuietly (system : MemSystem) : Type 0 where
 -- what is seen of the machine with these texts and Maildirs, and of which the next one is made
 abbrev pub seen_in_memory : {X : Type 0} → List NamedText → BTreeMap (String X) (Option MemSystem) → Option MemSystem → SeenMachine
 seen_in_memory texts maildirs fresh = record {
-  honest = AreAll (λ system. IsQuiet system.folder) maildirs × IfSome fresh IsFresh;
+  honest = λ spared. AreAll (λ system. IsHonest system spared) maildirs × IfSome fresh (IsFreshFor spared);
   quiet = AreAll HasNoTurns maildirs × IfSome fresh IsFreshQuietly;
   text_of = text_under texts;
   refuses_source = λ word. has_text texts word ≡ false;

@@ -1,11 +1,14 @@
 -- What contracts see of a Maildir in memory.
-use Rattle.std.specs.Prelude.{◌≡◌, ◌<◌, ◌≤◌, ◌++◌, ◌∷◌, ℕ, List, [], take, if◌then◌else◌, IsTrue}
+use Rattle.std.specs.Prelude.{◌≡◌, ◌<◌, ◌≤◌, ◌++◌, ◌∷◌, ℕ, All, List, [], take, if◌then◌else◌, IsTrue}
+use Rattle.std.specs.Global.{Vec}
 use Rattle.std.specs.Time.{system_time_nanos}
 use Rattle.std.specs.String.{string_bytes}
-use Rattle.maildir_run.specs.Files.{Files}
+use Rattle.maildir_run.specs.Files.{Files, Spared}
 use Rattle.maildir_run.specs.MemFiles.{no_files}
 use Rattle.maildir_run.specs.MemFolder.{IsQuiet, files_of}
 use Rattle.maildir_memory.specs.declared.mem_system.MemSystem.{MemSystem}
+use Rattle.maildir_memory.specs.declared.turn_act.TurnAct.{TurnAct}
+use Rattle.maildir_memory.specs.TurnActs.{Spares}
 use Rattle.maildir_memory.specs.declared.mem_system.MemFile.{MemFile}
 use Rattle.maildir_memory.specs.Cases.{lefts_of, may_find}
 use Rattle.maildir_disk.specs.SeenSystem.{SeenSystem}
@@ -43,12 +46,22 @@ pub record HasNoTurns (system : MemSystem) : Type 0 where
   pub no_script : IsQuiet system.folder
   pub no_turns : system.turns.items ≡ []
 
+-- other programs' acts in these turns spare these bases
+abbrev pub SparesByTurns : Spared → List (Vec TurnAct) → Type 0
+SparesByTurns spared turns = All (λ turn. All (Spares spared) turn.items) turns
+
+-- The folder follows no script, and other programs spare these bases at their turns.
+pub record IsHonest (system : MemSystem) (spared : Spared) : Type 0 where
+  pub no_script : IsQuiet system.folder
+  pub spares : SparesByTurns spared system.turns.items
+
 -- what is seen of it as of any system
 abbrev pub seen_system : MemSystem → SeenSystem
 seen_system system = record {
-  honest = IsQuiet system.folder;
+  honest = IsHonest system;
   quiet = HasNoTurns system;
   world = world_of system;
   may_leave = may_be_left system;
   rooted = IsTrue system.is_rooted;
+  touched = λ name. Unit {0};
 }

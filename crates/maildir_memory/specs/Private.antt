@@ -4,3 +4,5 @@
 pub mod Cases
 -- What other programs do to a Maildir in memory while time passes.
 pub mod Turns
+-- What other programs leave of the files at their turns.
+pub mod TurnActs

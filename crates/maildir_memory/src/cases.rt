@@ -1,18 +1,20 @@
 // What a power cut may leave of a Maildir in memory, besides the files as they are.
-ghost use Rattle.std.specs.Prelude.{◌≡◌, ◌<◌, ◌≤◌, ◌↔◌, List, [], Contains, IfErr, OnOk, length};
+ghost use Rattle.std.specs.Prelude.{◌≡◌, ◌<◌, ◌≤◌, ◌↔◌, All, List, [], Contains, IfErr, OnOk, length};
 ghost use Rattle.std.specs.FinMap.{get, keys};
 ghost use Rattle.maildir_run.specs.Calls.{folder_of};
 ghost use Rattle.maildir_run.specs.Calls.Call.{Writing};
 ghost use Rattle.maildir_run.specs.Cuts.{Leaves, Follows};
-ghost use Rattle.maildir_run.specs.Files.{Action, Files, all_acted};
+ghost use Rattle.maildir_run.specs.Files.{Action, Files, Spared, all_acted};
 ghost use Rattle.maildir_run.specs.MemFolder.{IsQuiet, HasNoScript, SameScript, files_of};
-ghost use Rattle.maildir_run.specs.Script.{all_performed, performed};
 ghost use Rattle.maildir_memory.specs.Private.Cases.{Adds, IsAdded, KeepsCases, Loses, LosesBytes, made, nth_left};
 ghost use Rattle.maildir_memory.specs.Cases.{HasRoom, lefts_of, may_find};
+ghost use Rattle.maildir_memory.specs.TurnActs.{Spares};
+ghost use Rattle.maildir_memory.specs.Private.TurnActs.{all_turned, turned};
 ghost use Rattle.maildir_disk.specs.PowerCuts.{LeftByOthers};
 
+use crate::turn_act::TurnAct;
 use maildir_name::Place;
-use maildir_run::{Act, Folder, FolderFault, MemFolder, Sub};
+use maildir_run::{Folder, FolderFault, MemFolder, Sub};
 use std::alloc::Global;
 
 /// A change of the files of a Maildir at one moment, which a power cut keeps or loses as a whole.
@@ -27,9 +29,9 @@ pub(crate) enum Change<'a> {
     /// A file of `tmp` is removed.
     Remove(&'a str),
     /// Another program acts.
-    Other(&'a Act),
+    Other(&'a TurnAct),
     /// Another program does half of this act.
-    Half(&'a Act),
+    Half(&'a TurnAct),
 }
 
 /// The cases of what a power cut may leave, each as a folder, up to a number of them; none if nothing can be lost.
@@ -83,7 +85,8 @@ impl Cases {
         requires { held ≤ length holds.now }
         ensures room { self.new.room ≡ self.old.room }
         ensures no_fewer { length (lefts_of self.old) ≤ length (lefts_of self.new) }
-        ensures left { Follows (Leaves (Writing name.now [])) (may_find folder.now self.old) (Contains (lefts_of self.new)) }
+        ensures left { (spared : Spared) →
+            Follows (Leaves spared (Writing name.now [])) (may_find folder.now self.old) (Contains (lefts_of self.new)) }
         ensures loses { OnOk result (HasRoom self.new → LosesBytes name.now holds.now held folder.now self.old self.new) }
         ensures refused { IfErr result (λ fault. fault ≡ FolderFault.OutOfMemory) }
     {
@@ -125,12 +128,18 @@ impl Cases {
     }
 
     /// Other programs do this in the folder. A power cut may lose each of their acts, or leave half of it.
-    pub(crate) fn act(&mut self, folder: &mut MemFolder, acts: &[Act]) -> Result<(), FolderFault>
+    pub(crate) fn act(
+        &mut self,
+        folder: &mut MemFolder,
+        acts: &[TurnAct],
+    ) -> Result<(), FolderFault>
         ensures script { SameScript folder.old folder.new }
-        ensures acts { (actions : List Action) × (files_of folder.new ≡ all_acted actions (files_of folder.old)) }
-        ensures left { Follows LeftByOthers (may_find folder.old self.old) (may_find folder.new self.new) }
+        ensures acts { (spared : Spared) → All (Spares spared) acts.now →
+            (actions : List Action) × (files_of folder.new ≡ all_acted spared actions (files_of folder.old)) }
+        ensures left { (spared : Spared) → All (Spares spared) acts.now →
+            Follows (LeftByOthers spared) (may_find folder.old self.old) (may_find folder.new self.new) }
         ensures keeps { OnOk result (KeepsCases (may_find folder.old self.old) (may_find folder.new self.new) self.old self.new) }
-        ensures done { OnOk result (files_of folder.new ≡ all_performed acts.now (files_of folder.old)) }
+        ensures done { OnOk result (files_of folder.new ≡ all_turned acts.now (files_of folder.old)) }
         ensures refused { IfErr result (λ fault. fault ≡ FolderFault.OutOfMemory) }
     {
         for act in acts {
@@ -139,17 +148,19 @@ impl Cases {
         Ok(())
     }
 
-    fn act_once(&mut self, folder: &mut MemFolder, act: &Act) -> Result<(), FolderFault>
+    fn act_once(&mut self, folder: &mut MemFolder, act: &TurnAct) -> Result<(), FolderFault>
         ensures script { SameScript folder.old folder.new }
-        ensures acts { (actions : List Action) × (files_of folder.new ≡ all_acted actions (files_of folder.old)) }
-        ensures left { Follows LeftByOthers (may_find folder.old self.old) (may_find folder.new self.new) }
+        ensures acts { (spared : Spared) → Spares spared act.now →
+            (actions : List Action) × (files_of folder.new ≡ all_acted spared actions (files_of folder.old)) }
+        ensures left { (spared : Spared) → Spares spared act.now →
+            Follows (LeftByOthers spared) (may_find folder.old self.old) (may_find folder.new self.new) }
         ensures keeps { OnOk result (KeepsCases (may_find folder.old self.old) (may_find folder.new self.new) self.old self.new) }
-        ensures done { OnOk result (files_of folder.new ≡ performed act.now (files_of folder.old)) }
+        ensures done { OnOk result (files_of folder.new ≡ turned act.now (files_of folder.old)) }
         ensures refused { IfErr result (λ fault. fault ≡ FolderFault.OutOfMemory) }
     {
         self.may_lose(folder, &Change::Half(act))?;
         self.may_lose(folder, &Change::Other(act))?;
-        folder.act(act)
+        act.perform(folder)
     }
 
     /// A sync of a file of `tmp`: the cases stay in which the file is as it is now.
@@ -188,7 +199,7 @@ fn make(change: &Change<'_>, folder: &mut MemFolder) -> Result<(), FolderFault>
             Some(_) => folder.place(name, place, target),
         },
         Change::Remove(name) => folder.remove(name),
-        Change::Other(act) => folder.act(act),
-        Change::Half(act) => folder.act_half(act),
+        Change::Other(act) => act.perform(folder),
+        Change::Half(act) => act.perform_half(folder),
     }
 }

@@ -25,7 +25,9 @@ mod faults;
 mod mem_machine;
 mod mem_system;
 mod stamps;
+mod turn_act;
 
 pub use mem_machine::{MemMachine, NamedText};
 pub use mem_system::{MemFile, MemSystem};
 pub use stamps::Stamps;
+pub use turn_act::TurnAct;

@@ -114,7 +114,7 @@ impl<'a> Machine for MemMachine<'a> {
 
     ghost same_maildir = { λ machine. held_alike machine.maildirs };
 
-    ghost may_stay = { λ machine word _. held_may_stay (get_by_text machine.maildirs word) };
+    ghost may_stay = { λ machine _ word _. held_may_stay (get_by_text machine.maildirs word) };
 
     fn open_source(&mut self, path: &str) -> io::Result<&'a [u8]> {
         let texts = self.texts;

@@ -5,20 +5,22 @@ ghost use Rattle.std.specs.IoError.{error_kind};
 ghost use Rattle.std.specs.declared.io.ErrorKind.TheVariants.{NotFound};
 ghost use Rattle.maildir_run.specs.Calls.{effect};
 ghost use Rattle.maildir_run.specs.Calls.Call.{Writing, Placing, Removing};
+ghost use Rattle.maildir_run.specs.Files.{Spared};
 ghost use Rattle.maildir_run.specs.MemFiles.{no_files};
 ghost use Rattle.maildir_run.specs.MemFolder.{IsQuiet, files_of};
 ghost use Rattle.maildir_memory.specs.Cases.{HasRoom, lefts_of};
 ghost use Rattle.maildir_disk.specs.Paths.{folder_of_place};
 ghost use Rattle.maildir_disk.specs.Placing.{WasGone};
 ghost use Rattle.maildir_disk.specs.SeenSystem.{Appends, MakesFile, TakesFromTmp};
-ghost use Rattle.maildir_memory.specs.MemSystem.{MayLose, MayLosePrefixes, cases_of, opened_as, seen_system};
+ghost use Rattle.maildir_memory.specs.MemSystem.{IsHonest, SparesByTurns, MayLose, MayLosePrefixes, cases_of, opened_as, seen_system};
 
 use crate::cases::{Cases, Change};
 use crate::faults::error_of;
 use crate::stamps::{Stamps, begin, stamp_at};
+use crate::turn_act::TurnAct;
 use maildir_disk::System;
 use maildir_name::Place;
-use maildir_run::{Act, Folder, MemFolder, Sub};
+use maildir_run::{Folder, MemFolder, Sub};
 use std::alloc::Global;
 use std::io;
 use std::time::{Duration, Instant, SystemTime};
@@ -46,7 +48,7 @@ pub struct MemSystem {
     instant: Instant,
     // of each of the three folders
     stamp: SystemTime,
-    turns: Vec<Vec<Act>>,
+    turns: Vec<Vec<TurnAct>>,
     // what a power cut may leave, besides the files as they are
     cases: Cases,
     is_rooted: bool,
@@ -62,9 +64,9 @@ impl MemSystem {
         stamps: Stamps,
         clock: SystemTime,
         instant: Instant,
-        turns: Vec<Vec<Act>>,
+        turns: Vec<Vec<TurnAct>>,
     ) -> Self
-        ensures honest { (⟦<MemSystem as System>⟧.at result).honest }
+        ensures honest { (spared : Spared) → SparesByTurns spared turns.items → (⟦<MemSystem as System>⟧.at result).honest spared }
         ensures quiet { turns.items ≡ [] → (⟦<MemSystem as System>⟧.at result).quiet }
         ensures files { files_of result.folder ≡ files_of folder }
         ensures clock { result.clock ≡ clock }
@@ -90,7 +92,8 @@ impl MemSystem {
     /// From now on a power cut may lose what was not synced, and the Maildir itself. At most `room` cases of what it leaves are
     /// recorded, besides the files as they are; it leaves no other.
     pub fn lose(&mut self, room: usize)
-        ensures honest { (⟦<MemSystem as System>⟧.at self.old).honest → (⟦<MemSystem as System>⟧.at self.new).honest }
+        ensures honest { (spared : Spared) → (⟦<MemSystem as System>⟧.at self.old).honest spared →
+            (⟦<MemSystem as System>⟧.at self.new).honest spared }
         ensures quiet { (⟦<MemSystem as System>⟧.at self.old).quiet → (⟦<MemSystem as System>⟧.at self.new).quiet }
         ensures files { files_of self.new.folder ≡ files_of self.old.folder }
         ensures room { self.new.cases.room ≡ room }
@@ -127,7 +130,8 @@ impl MemSystem {
 
     /// A power cut that leaves the case with this number, or the files as they are if there are fewer.
     pub fn cut(&mut self, case: usize)
-        ensures honest { (⟦<MemSystem as System>⟧.at self.new).honest }
+        ensures honest { (spared : Spared) → (⟦<MemSystem as System>⟧.at self.old).honest spared →
+            (⟦<MemSystem as System>⟧.at self.new).honest spared }
         ensures quiet { (⟦<MemSystem as System>⟧.at self.old).quiet → (⟦<MemSystem as System>⟧.at self.new).quiet }
         ensures found { files_of self.new.folder ≡ get_or (cases_of self.old) case (files_of self.old.folder) }
         ensures stays { All (λ left. left ≡ files_of self.new.folder) (cases_of self.new) }
@@ -148,6 +152,7 @@ impl MemSystem {
 
 impl System for MemSystem {
     ghost use Rattle.std.proofs.Common.{inl, refl};
+    ghost use Rattle.maildir_memory.specs.Laws.{quiet_system};
     ghost use Rattle.maildir_memory.specs.MemSystem.{opened_as, seen_system};
 
     type File = MemFile;
@@ -158,9 +163,9 @@ impl System for MemSystem {
 
     ghost is_current = { λ _ _. Unit {0} };
 
-    ghost quiet_is_honest = { λ _ quiet. quiet.no_script };
+    ghost quiet_is_honest = { quiet_system };
 
-    ghost may_stay = { λ _ _. inl refl };
+    ghost may_stay = { λ _ _ _. inl refl };
 
     fn names(&mut self, sub: Sub) -> io::Result<Vec<String>> {
         let stamp = self.stamp;
@@ -198,8 +203,8 @@ impl System for MemSystem {
 
     fn create(&mut self, name: &str) -> io::Result<MemFile>
         ensures makes { MakesFile name.now (seen_system self.old) result (seen_system self.new) }
-        ensures name { IsQuiet self.old.folder → IfOk result (λ file. opened_as file ≡ name.now) }
-        ensures current { IsQuiet self.old.folder → IfOk result (λ file. Unit {0}) }
+        ensures name { (spared : Spared) → IsHonest self.old spared → IfOk result (λ file. opened_as file ≡ name.now) }
+        ensures current { (spared : Spared) → IsHonest self.old spared → IfOk result (λ file. Unit {0}) }
         ensures loses { IsQuiet self.old.folder →
             OnOk result (HasRoom self.new.cases → MayLose (effect (Writing name.now [])) self.old self.new) }
     {
@@ -221,7 +226,7 @@ impl System for MemSystem {
         ensures most { IfOk result (λ n. n ≤ length bytes.now) }
         ensures appends { Appends (opened_as file.old) (Unit {0}) bytes.now (seen_system self.old) result (seen_system self.new) }
         ensures name { opened_as file.new ≡ opened_as file.old }
-        ensures current { IsQuiet self.old.folder → Unit {0} → Unit {0} }
+        ensures current { (spared : Spared) → IsHonest self.old spared → Unit {0} → Unit {0} }
         ensures loses { IsQuiet self.old.folder → IfOk result (λ n. HasRoom self.new.cases →
             IsTrue (contains_key (files_of self.new.folder).tmp (opened_as file.old)) →
             MayLosePrefixes (opened_as file.old) bytes.now n self.old self.new) }
@@ -250,8 +255,8 @@ impl System for MemSystem {
 
     fn rename(&mut self, name: &str, place: Place, target: &str) -> io::Result<()>
         ensures places { TakesFromTmp (Placing name.now place target.now) (seen_system self.old) result (seen_system self.new) }
-        ensures gone { IsQuiet self.old.folder → IfErr result (λ error. error_kind error ≡ NotFound →
-            WasGone name.now (Placing name.now place target.now) (files_of self.old.folder) (files_of self.new.folder)) }
+        ensures gone { (spared : Spared) → IsHonest self.old spared → IfErr result (λ error. error_kind error ≡ NotFound →
+            WasGone spared name.now (Placing name.now place target.now) (files_of self.old.folder) (files_of self.new.folder)) }
         ensures loses { IsQuiet self.old.folder →
             OnOk result (HasRoom self.new.cases → MayLose (effect (Placing name.now place target.now)) self.old self.new) }
     {

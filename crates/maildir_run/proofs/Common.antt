@@ -47,14 +47,17 @@ pub use Rattle.maildir_run.specs.Counting.{capped, CountsFault, fault_of, GoesUp
 pub use Rattle.maildir_run.specs.Private.Counting.{Makes, run_answer}
 pub use Rattle.maildir_run.specs.Cuts.{Came, IsFoundWhole, Leaves, LeavesOf, Follows, left_after, linked}
 pub use Rattle.maildir_run.specs.Delivery.{AreDistinct, AreNamed, Delivered, has_home, HasHome, is_any, is_base_of, IsHome}
+pub use Rattle.maildir_run.specs.Delivery.{AllSpared, IsSpared}
 pub use Rattle.maildir_run.specs.Delivery.{IsMissing, IsSoundAt, IsSwept, leftover_count, Message, Sound, there_count}
-pub use Rattle.maildir_run.specs.Files.{acted, Action, AgreeOnConverters, all_acted, DropTmp, FileMap, Files, has_base, held_under, homes, is_name}
-pub use Rattle.maildir_run.specs.Files.{KeepsConverters, may_take, name_cmp, Outside, outsiders_of, Reflag, reflag, to_cur, ToCur, KeepsHomes}
+pub use Rattle.maildir_run.specs.Files.{all_bases, is_spared, is_spared_name, Spared, SparesAll}
+pub use Rattle.maildir_run.specs.Files.{acted, Action, AgreeOnSpared, all_acted, DropTmp, FileMap, Files, has_base, held_under, homes, is_name}
+pub use Rattle.maildir_run.specs.Files.{KeepsSpared, may_take, name_cmp, Outside, outsiders_of, Reflag, reflag, to_cur, ToCur, KeepsHomes}
 pub use Rattle.maildir_run.specs.Private.Given.{IsPrefixOf, Gave, GaveAll, IsGiven, SourceStopped}
 pub use Rattle.maildir_run.specs.Private.TableSoFar.{HasListed}
 pub use Rattle.maildir_run.specs.Table.{info, table_of, message_row, place_word, shown_byte, shown_sender}
 pub use Rattle.maildir_run.specs.MemFiles.{files_in, with_file, without_file}
-pub use Rattle.maildir_run.specs.Private.Parts.{DeliversMessages, Conversion, messages_after, names_in, Performed, run_tasks, ReportsTasks}
+pub use Rattle.maildir_run.specs.Private.Parts.{DeliversMessages, Conversion, messages_after, names_in, OneTouches, Performed, run_tasks, ReportsTasks}
+pub use Rattle.maildir_run.specs.Touched.{Touches, TouchedOnly, TouchedConverters}
 pub use Rattle.maildir_run.specs.Seen.{Seen, CallOf, ListingOf}
 pub use Rattle.maildir_run.specs.Parts.{deliveries_of, delivery_if, delivery_of, sweep_of}
 pub use Rattle.maildir_run.specs.Plan.{deliveries_from, steps_for, each_alone, is_listed, planned, removals}

@@ -12,7 +12,7 @@ use Rattle.maildir_run.specs.declared.folder.Sub.TheVariants.{Tmp, New, Cur}
 use Rattle.maildir_run.specs.declared.folder.FolderFault.{FolderFault}
 use Rattle.maildir_run.specs.declared.folder.FolderFault.TheVariants.{Absent, OutOfMemory}
 use Rattle.maildir_run.specs.declared.folder.FolderFault.TheVariants as fault
-use Rattle.maildir_run.specs.Files.{Files, FileMap, Action, acted, has_base, is_name, homes}
+use Rattle.maildir_run.specs.Files.{Spared, Files, FileMap, Action, acted, all_bases, has_base, is_name, homes}
 
 -- a call of a folder, with what it was given
 pub data Call : Type 0 where
@@ -56,15 +56,15 @@ torn (Writing name _) bytes s = record s { tmp = insert s.tmp name bytes }
 torn other bytes s = s
 
 -- the files after one move of a call
-abbrev pub moved : Call → Move → Files → Files
-moved call (Other action) s = acted action s
-moved call Again s = effect call s
-moved call (Torn bytes) s = torn call bytes s
+abbrev pub moved : Spared → Call → Move → Files → Files
+moved spared call (Other action) s = acted spared action s
+moved spared call Again s = effect call s
+moved spared call (Torn bytes) s = torn call bytes s
 
 -- the files after the moves of a call, one after the other
-abbrev pub after : Files → Call → List Move → Files
-after s call [] = s
-after s call (m ∷ ms) = after (moved call m s) call ms
+abbrev pub after : Spared → Files → Call → List Move → Files
+after spared s call [] = s
+after spared s call (m ∷ ms) = after spared (moved spared call m s) call ms
 
 -- the moves are other programs' alone
 abbrev pub IsOthers : List Move → Type 0
@@ -90,47 +90,47 @@ IsReady (Placing name _ _) s = IsTrue (contains_key s.tmp name)
 IsReady other s = Unit {0}
 
 -- The call answered Ok: other programs acted, then its effect came, then others acted and it may have come again, and nothing was torn.
-pub record Succeeded (call : Call) (old new : Files) : Type 0 where
+pub record Succeeded (spared : Spared) (call : Call) (old new : Files) : Type 0 where
   pub before : List Move
   pub rest : List Move
   pub others : IsOthers before
   -- a placement found its file when its effect first came
-  pub ready : IsReady call (after old call before)
+  pub ready : IsReady call (after spared old call before)
   pub whole : IsWhole rest
-  pub left : new ≡ after old call (before ++ Again ∷ rest)
+  pub left : new ≡ after spared old call (before ++ Again ∷ rest)
 
 -- The call failed: any moves were made, or none.
-pub record AnyMoves (call : Call) (old new : Files) : Type 0 where
+pub record AnyMoves (spared : Spared) (call : Call) (old new : Files) : Type 0 where
   pub moves : List Move
-  pub left : new ≡ after old call moves
+  pub left : new ≡ after spared old call moves
 
 -- The listing answered these names: each name of the folder once, as of one moment of the call, in any order.
-pub record Lists (sub : Sub) (old : Files) (names : List (List ℕ)) (new : Files) : Type 0 where
+pub record Lists (spared : Spared) (sub : Sub) (old : Files) (names : List (List ℕ)) (new : Files) : Type 0 where
   pub before : List Move
   pub rest : List Move
   pub whole_before : IsWhole before
   pub whole : IsWhole rest
-  pub names_are : IsPermutation names (keys (folder_of sub (after old (Listing sub) before)))
-  pub left : new ≡ after old (Listing sub) (before ++ Again ∷ rest)
+  pub names_are : IsPermutation names (keys (folder_of sub (after spared old (Listing sub) before)))
+  pub left : new ≡ after spared old (Listing sub) (before ++ Again ∷ rest)
 
 -- a call took effect as reported
-abbrev pub Called : {A E : Type 0} → Call → Files → Result A E → Files → Type 0
-Called call old (Ok _) new = Succeeded call old new
-Called call old (Err _) new = AnyMoves call old new
+abbrev pub Called : {A E : Type 0} → Spared → Call → Files → Result A E → Files → Type 0
+Called spared call old (Ok _) new = Succeeded spared call old new
+Called spared call old (Err _) new = AnyMoves spared call old new
 
 -- the names of a list of texts, as lists of bytes
 abbrev pub names_of : Vec (String Global) Global → List (List ℕ)
 names_of names = map string_bytes names.items
 
 -- a listing took effect as reported
-abbrev pub Listed : {E : Type 0} → Sub → Files → Result (Vec (String Global) Global) E → Files → Type 0
-Listed sub old (Ok names) new = Lists sub old (names_of names) new
-Listed sub old (Err _) new = AnyMoves (Listing sub) old new
+abbrev pub Listed : {E : Type 0} → Spared → Sub → Files → Result (Vec (String Global) Global) E → Files → Type 0
+Listed spared sub old (Ok names) new = Lists spared sub old (names_of names) new
+Listed spared sub old (Err _) new = AnyMoves spared (Listing sub) old new
 
 -- in a quiet folder no other program acts, and a call that returned Ok had its effect once
 abbrev pub CalledQuietly : {A E : Type 0} → Call → Files → Result A E → Files → Type 0
 CalledQuietly call old (Ok _) new = IsReady call old × (new ≡ effect call old)
-CalledQuietly call old (Err _) new = (moves : List Move) × IsOwn moves × (new ≡ after old call moves)
+CalledQuietly call old (Err _) new = (moves : List Move) × IsOwn moves × (new ≡ after all_bases old call moves)
 
 -- a count of 128 bits goes up by one: after its greatest number comes 0
 abbrev pub GoesUp : ℕ → ℕ → Type 0

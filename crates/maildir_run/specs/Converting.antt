@@ -1,5 +1,5 @@
 -- What a run did.
-use Rattle.std.specs.Prelude.{◌≡◌, ℕ, ◌*◌, ◌^◌, ◌<◌, ◌⊎◌, List, length, All, Option, Result, IfOk, OnOk, IfErr, IsErrOf}
+use Rattle.std.specs.Prelude.{◌≡◌, ℕ, ◌*◌, ◌^◌, ◌<◌, ◌⊎◌, List, length, Option, Result, IfOk, OnOk, IfErr, IsErrOf}
 use Rattle.std.specs.Io.KnownBytes.{IsAtEnd}
 use Rattle.mbox_text.specs.declared.entry.Entry.{Entry}
 use Rattle.mbox_text.specs.Mbox.{Mbox}
@@ -9,32 +9,36 @@ use Rattle.maildir_run.specs.declared.report.Report.{Report}
 use Rattle.maildir_run.specs.Alone.{alone as alone_after}
 use Rattle.maildir_run.specs.Counting.{CountsFault, IsOfFolder, CallNumber}
 use Rattle.maildir_run.specs.Cuts.{Follows}
-use Rattle.maildir_run.specs.Delivery.{Message, Delivered, IsMissing, leftover_count}
-use Rattle.maildir_run.specs.Files.{Files}
+use Rattle.maildir_run.specs.Delivery.{Message, AllSpared, Delivered, IsMissing, leftover_count}
+use Rattle.maildir_run.specs.Files.{Spared, Files}
 use Rattle.maildir_run.specs.Foreign.{KeepsForeign}
 use Rattle.maildir_run.specs.Reading.{IsReading, ReadsAtLeast, ReadsAtMost}
 use Rattle.maildir_run.specs.Runs.{CountsRun, Link, Possible, IsRun, Runs}
 use Rattle.maildir_run.specs.Seen.{Seen}
 use Rattle.maildir_run.specs.Tasks.{Listings, Performs, honestly, leaving, planned_tasks}
 use Rattle.maildir_run.specs.Texts.{MessagesOf}
+use Rattle.maildir_run.specs.Touched.{TouchedConverters}
 
 -- A run delivered the messages of its source, of which it may make so many reads, into a folder.
 pub record Converts (before after : Option (List ℕ)) (reads : ℕ) (old new : Seen) (result : Result Report RunFault) : Type 0 where
   -- if the folder is honest
-  pub honest : old.honest → new.honest
-  pub as_planned : old.honest → (t : List ℕ) (ms : List Message) → Possible before after t → MessagesOf t ms
-      → (names : Listings) × Performs honestly (planned_tasks names ms) old.files result new.files
-  pub left : old.honest → (t : List ℕ) (ms : List Message) → Possible before after t → MessagesOf t ms
-      → Follows (λ was is. (names : Listings) × Performs leaving (planned_tasks names ms) was result is) old.may_leave new.may_leave
-  pub still_rooted : old.honest → old.rooted → new.rooted
-  pub owes : old.honest → (t : List ℕ) → length t < 2 ^ 63 → Possible before after t → IsRun t old.files result new.files
-  pub restartable : old.honest → (t : List ℕ) (ms : List Message) (links : List Link) (start : Files) → length t < 2 ^ 63 → Possible before after t
-      → MessagesOf t ms → All (IsMissing start) ms → Runs t links start old.files → OnOk result (Delivered ms new.files)
+  pub honest : (spared : Spared) → old.honest spared → new.honest spared
+  pub as_planned : (spared : Spared) → old.honest spared → (t : List ℕ) (ms : List Message) → Possible before after t → MessagesOf t ms
+      → (names : Listings) × Performs (honestly spared) (planned_tasks names ms) old.files result new.files
+  pub left : (spared : Spared) → old.honest spared → (t : List ℕ) (ms : List Message) → Possible before after t → MessagesOf t ms
+      → Follows (λ was is. (names : Listings) × Performs (leaving spared) (planned_tasks names ms) was result is) old.may_leave new.may_leave
+  pub still_rooted : (spared : Spared) → old.honest spared → old.rooted → new.rooted
+  pub owes : (spared : Spared) → old.honest spared → (t : List ℕ) → length t < 2 ^ 63 → Possible before after t → IsRun spared t old.files result new.files
+  pub restartable : (spared : Spared) → old.honest spared → (t : List ℕ) (ms : List Message) (links : List Link) (start : Files) → length t < 2 ^ 63
+      → Possible before after t → MessagesOf t ms → AllSpared spared (IsMissing start) ms → Runs spared t links start old.files
+      → OnOk result (Delivered spared ms new.files)
   -- if the folder is quiet
   pub quiet : old.quiet → new.quiet
   pub alone : old.quiet → (t : List ℕ) (ms : List Message) → Possible before after t → MessagesOf t ms
       → IfOk result (λ report. (new.files ≡ alone_after ms old.files) × (report.swept ≡ leftover_count old.files))
   pub others : old.quiet → KeepsForeign old.files new.files
+  -- whatever the folder and others do
+  pub touches : TouchedConverters old.touched new.touched
   -- what it counts
   pub calls : IfOk result (λ report. CountsRun report old.calls new.calls)
   pub cause : CountsFault result old.failures new.failures

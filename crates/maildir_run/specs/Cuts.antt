@@ -2,9 +2,8 @@
 -- For `new` and `cur`: the files that a reader finds after the cut. For `tmp`: what each file that is there now would hold, wherever a reader finds it.
 use Rattle.std.specs.Prelude.{◌≡◌, ℕ, List, [], ◌∷◌, IsTrue, Option, Some, None, Result, Ok, Err, if◌then◌else◌}
 use Rattle.std.specs.FinMap.{get, insert}
-use Rattle.maildir_name.specs.Names.{is_converter_name}
 use Rattle.maildir_run.specs.Calls.{Call, Writing, Move, moved}
-use Rattle.maildir_run.specs.Files.{Files, Action, ToCur, Reflag, may_take}
+use Rattle.maildir_run.specs.Files.{Spared, Files, Action, ToCur, Reflag, is_spared_name, may_take}
 
 -- one thing that is kept of a call
 pub data CutMove : Type 0 where
@@ -25,25 +24,25 @@ doubled (Reflag name target) s = linked s name target (get s.cur name)
 doubled other s = s
 
 -- the files after what was kept of a call, one after the other
-abbrev pub left_after : Files → Call → List CutMove → Files
-left_after s call [] = s
-left_after s call (Came move ∷ kept) = left_after (moved call move s) call kept
-left_after s call (Doubled action ∷ kept) = left_after (doubled action s) call kept
+abbrev pub left_after : Spared → Files → Call → List CutMove → Files
+left_after spared s call [] = s
+left_after spared s call (Came move ∷ kept) = left_after spared (moved spared call move s) call kept
+left_after spared s call (Doubled action ∷ kept) = left_after spared (doubled action s) call kept
 
 -- A power cut leaves any of the moves of a call, each by itself, or none.
-pub record Leaves (call : Call) (old new : Files) : Type 0 where
+pub record Leaves (spared : Spared) (call : Call) (old new : Files) : Type 0 where
   pub kept : List CutMove
-  pub are : new ≡ left_after old call kept
+  pub are : new ≡ left_after spared old call kept
 
 -- a reader finds a written file with its bytes, wherever it finds it
-abbrev pub IsFoundWhole : Call → Files → Type 0
-IsFoundWhole (Writing name bytes) s = IsTrue (is_converter_name name) → (held : List ℕ) → get s.tmp name ≡ Some held → held ≡ bytes
-IsFoundWhole other s = Unit {0}
+abbrev pub IsFoundWhole : Spared → Call → Files → Type 0
+IsFoundWhole spared (Writing name bytes) s = IsTrue (is_spared_name spared name) → (held : List ℕ) → get s.tmp name ≡ Some held → held ≡ bytes
+IsFoundWhole spared other s = Unit {0}
 
 -- what a power cut leaves of a call with this result
-abbrev pub LeavesOf : {A E : Type 0} → Call → Files → Result A E → Files → Type 0
-LeavesOf call old (Ok _) new = Leaves call old new × IsFoundWhole call new
-LeavesOf call old (Err _) new = Leaves call old new
+abbrev pub LeavesOf : {A E : Type 0} → Spared → Call → Files → Result A E → Files → Type 0
+LeavesOf spared call old (Ok _) new = Leaves spared call old new × IsFoundWhole spared call new
+LeavesOf spared call old (Err _) new = Leaves spared call old new
 
 -- whatever a power cut may leave now follows from something that a cut might have left before
 abbrev pub Follows : (Files → Files → Type 0) → (Files → Type 0) → (Files → Type 0) → Type 0

@@ -4,7 +4,7 @@ use Rattle.std.specs.List.{list_any}
 use Rattle.std.specs.FinMap.{get, keys}
 use Rattle.maildir_name.specs.declared.target.Target.{Target}
 use Rattle.maildir_name.specs.Names.{is_converter_base, is_converter_name}
-use Rattle.maildir_run.specs.Files.{Files, homes, is_name}
+use Rattle.maildir_run.specs.Files.{Spared, Files, homes, is_name, is_spared, is_spared_name}
 
 -- a message of a text: where it is delivered, and its body
 pub record Message : Type 0 where
@@ -36,6 +36,14 @@ IsHome s m = homes s m.target.base ≡ m.body ∷ []
 abbrev pub IsSoundAt : Files → Message → Type 0
 IsSoundAt s m = IsMissing s m ⊎ IsHome s m
 
+-- the message's base is spared
+abbrev pub IsSpared : Spared → Message → Type 0
+IsSpared spared m = IsTrue (spared m.target.base)
+
+-- this holds of each of the messages that is spared
+abbrev pub AllSpared : Spared → (Message → Type 0) → List Message → Type 0
+AllSpared spared P ms = All (λ m. IsSpared spared m → P m) ms
+
 -- the messages' bases are a converter's
 abbrev pub AreNamed : List Message → Type 0
 AreNamed ms = All (λ m. IsTrue (is_converter_base m.target.base)) ms
@@ -48,20 +56,20 @@ AreDistinct ms = AllPairs (λ m n. IsFalse (is_name m.target.base n.target.base)
 abbrev pub is_base_of : List Message → List ℕ → Bool
 is_base_of ms b = list_any (λ m. is_name m.target.base b) ms
 
--- A folder is sound for the messages, as against an earlier moment: each has at most one home,
--- which holds its body, and the homes of each other converter's base hold what they held.
-pub record Sound (ms : List Message) (old new : Files) : Type 0 where
-  pub own : All (IsSoundAt new) ms
-  pub others : (b : List ℕ) → IsTrue (is_converter_base b) → IsFalse (is_base_of ms b) → IsPermutation (homes old b) (homes new b)
+-- A folder is sound for the messages that are spared, as against an earlier moment: each has at most one home,
+-- which holds its body, and the homes of each other base that is spared hold what they held.
+pub record Sound (spared : Spared) (ms : List Message) (old new : Files) : Type 0 where
+  pub own : AllSpared spared (IsSoundAt new) ms
+  pub others : (b : List ℕ) → IsTrue (is_spared spared b) → IsFalse (is_base_of ms b) → IsPermutation (homes old b) (homes new b)
 
--- no converter's name is in `tmp`
-abbrev pub IsSwept : Files → Type 0
-IsSwept s = (name : List ℕ) → IsTrue (is_converter_name name) → get s.tmp name ≡ None
+-- no name that is spared is in `tmp`
+abbrev pub IsSwept : Spared → Files → Type 0
+IsSwept spared s = (name : List ℕ) → IsTrue (is_spared_name spared name) → get s.tmp name ≡ None
 
--- Each message has exactly one home, which holds its body, and no converter's name is in `tmp`.
-pub record Delivered (ms : List Message) (s : Files) : Type 0 where
-  pub homes_are : All (IsHome s) ms
-  pub swept : IsSwept s
+-- Each message that is spared has exactly one home, which holds its body, and no name that is spared is in `tmp`.
+pub record Delivered (spared : Spared) (ms : List Message) (s : Files) : Type 0 where
+  pub homes_are : AllSpared spared (IsHome s) ms
+  pub swept : IsSwept spared s
 
 -- how many of the messages have a home
 abbrev pub there_count : Files → List Message → ℕ

@@ -1,5 +1,5 @@
 -- The files of a Maildir, and what other programs may do to them.
-use Rattle.std.specs.Prelude.{◌≡◌, ◌&&◌, not, ℕ, Bool, IsTrue, List, [], ◌∷◌, ◌++◌, Option, Some, None, if◌then◌else◌, IsPermutation}
+use Rattle.std.specs.Prelude.{◌≡◌, ◌&&◌, not, ℕ, Bool, true, IsTrue, List, [], ◌∷◌, ◌++◌, Option, Some, None, if◌then◌else◌, IsPermutation}
 use Rattle.std.specs.declared.cmp.Ordering.{Ordering}
 use Rattle.std.specs.Ordering.{nat_cmp, eq_by_cmp}
 use Rattle.std.specs.Cmp.Lexicographic.{slice_cmp}
@@ -36,6 +36,26 @@ held_under b files = values (retain_keys files (has_base b))
 abbrev pub homes : Files → List ℕ → List (List ℕ)
 homes s b = held_under b s.new ++ held_under b s.cur
 
+-- a set of bases, whose files other programs spare: they do to these only what mail readers do
+abbrev pub Spared : Type 0
+Spared = List ℕ → Bool
+
+-- the set of all bases
+abbrev pub all_bases : Spared
+all_bases b = true
+
+-- every converter's base is of the set
+abbrev pub SparesAll : Spared → Type 0
+SparesAll spared = (b : List ℕ) → IsTrue (is_converter_base b) → IsTrue (spared b)
+
+-- whether a base is a converter's, and spared
+abbrev pub is_spared : Spared → List ℕ → Bool
+is_spared spared b = spared b && is_converter_base b
+
+-- whether a name's base is
+abbrev pub is_spared_name : Spared → List ℕ → Bool
+is_spared_name spared name = is_spared spared (base name)
+
 -- one action of another program, as data
 pub data Action : Type 0 where
   -- it moves a file of `new` to `cur` (maildir(5))
@@ -44,7 +64,7 @@ pub data Action : Type 0 where
   Reflag : (name target : List ℕ) → Action
   -- it removes a converter's name from `tmp` (maildir(5): files left in `tmp` are cleaned up)
   DropTmp : (name : List ℕ) → Action
-  -- it leaves all converter's names and their bytes as they are, and makes the other names those of `files`
+  -- it leaves all names that are spared and their bytes as they are, and makes the other names those of `files`: it may delete and rename them
   Outside : (files : Files) → Action
 
 -- whether a file may be moved to this name: it is free there, and has the same base
@@ -63,32 +83,34 @@ reflag s name target None = s
 reflag s name target (Some bytes) =
     if may_take s.cur name target then record s { cur = insert (remove s.cur name) target bytes } else s
 
--- our files of converter's names, and their files of other names
-abbrev pub outsiders_of : FileMap → FileMap → FileMap
-outsiders_of ours theirs = from_entries (entries (retain_keys ours is_converter_name) ++ entries (retain_keys theirs (λ name. not (is_converter_name name))))
+-- our files of names that are spared, and their files of other names
+abbrev pub outsiders_of : Spared → FileMap → FileMap → FileMap
+outsiders_of spared ours theirs =
+    from_entries (entries (retain_keys ours (is_spared_name spared)) ++ entries (retain_keys theirs (λ name. not (is_spared_name spared name))))
 
--- the files after an action; one whose condition fails changes nothing (maildir(5), and this project's own rule for what is no converter's)
-abbrev pub acted : Action → Files → Files
-acted (ToCur name target) s = to_cur s name target (get s.new name)
-acted (Reflag name target) s = reflag s name target (get s.cur name)
-acted (DropTmp name) s = if is_converter_name name then record s { tmp = remove s.tmp name } else s
-acted (Outside files) s = record { tmp = outsiders_of s.tmp files.tmp; new = outsiders_of s.new files.new; cur = outsiders_of s.cur files.cur }
+-- the files after an action; one whose condition fails changes nothing (maildir(5), and this project's own rule for what is not spared)
+abbrev pub acted : Spared → Action → Files → Files
+acted spared (ToCur name target) s = to_cur s name target (get s.new name)
+acted spared (Reflag name target) s = reflag s name target (get s.cur name)
+acted spared (DropTmp name) s = if is_converter_name name then record s { tmp = remove s.tmp name } else s
+acted spared (Outside files) s =
+    record { tmp = outsiders_of spared s.tmp files.tmp; new = outsiders_of spared s.new files.new; cur = outsiders_of spared s.cur files.cur }
 
 -- the files after some actions, one after the other
-abbrev pub all_acted : List Action → Files → Files
-all_acted [] s = s
-all_acted (action ∷ actions) s = all_acted actions (acted action s)
+abbrev pub all_acted : Spared → List Action → Files → Files
+all_acted spared [] s = s
+all_acted spared (action ∷ actions) s = all_acted spared actions (acted spared action s)
 
--- two folders have the same converter's names, with the same bytes
-abbrev pub AgreeOnConverters : FileMap → FileMap → Type 0
-AgreeOnConverters old new = (name : List ℕ) → IsTrue (is_converter_name name) → get new name ≡ get old name
+-- two folders have the same names that are spared, with the same bytes
+abbrev pub AgreeOnSpared : Spared → FileMap → FileMap → Type 0
+AgreeOnSpared spared old new = (name : List ℕ) → IsTrue (is_spared_name spared name) → get new name ≡ get old name
 
--- All converter's names of the three folders and their bytes are as they were.
-pub record KeepsConverters (old new : Files) : Type 0 where
-  pub tmp_alike : AgreeOnConverters old.tmp new.tmp
-  pub new_alike : AgreeOnConverters old.new new.new
-  pub cur_alike : AgreeOnConverters old.cur new.cur
+-- All names of the three folders that are spared and their bytes are as they were.
+pub record KeepsSpared (spared : Spared) (old new : Files) : Type 0 where
+  pub tmp_alike : AgreeOnSpared spared old.tmp new.tmp
+  pub new_alike : AgreeOnSpared spared old.new new.new
+  pub cur_alike : AgreeOnSpared spared old.cur new.cur
 
--- each converter's base keeps its homes
-pub record KeepsHomes (old new : Files) : Type 0 where
-  pub kept : (b : List ℕ) → IsTrue (is_converter_base b) → IsPermutation (homes old b) (homes new b)
+-- each base that is spared keeps its homes
+pub record KeepsHomes (spared : Spared) (old new : Files) : Type 0 where
+  pub kept : (b : List ℕ) → IsTrue (is_spared spared b) → IsPermutation (homes old b) (homes new b)

@@ -8,6 +8,8 @@ pub mod Texts
 pub mod Runs
 -- The calls of a folder: the effect of each, and what may happen before, within and after it.
 pub mod Calls
+-- Which files the calls of this program touch, whatever other programs do.
+pub mod Touched
 -- What contracts see of a folder, and what a call does to that.
 pub mod Seen
 -- What a power cut may leave of a folder, from one call to the next.

@@ -99,11 +99,12 @@ pub record Scripted {A : Type 0} (call : Call) (old : MemFolder) (result : Resul
 -- what is seen of it as of any folder: it takes effect as reported, and a power cut takes nothing from it
 abbrev pub seen_of : MemFolder → Seen
 seen_of m = record {
-  honest = Unit {0};
+  honest = λ _. Unit {0};
   quiet = IsQuiet m;
   files = files_of m;
   may_leave = λ left. left ≡ files_of m;
   rooted = Unit {0};
+  touched = λ name. Unit {0};
   calls = all_call_count m;
   failures = failure_count m;
 }

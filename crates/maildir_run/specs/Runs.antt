@@ -4,8 +4,8 @@ use Rattle.mbox_text.specs.declared.entry.Entry.{Entry}
 use Rattle.mbox_text.specs.Mbox.{Mbox}
 use Rattle.maildir_run.specs.declared.fault.RunFault.{RunFault}
 use Rattle.maildir_run.specs.declared.report.Report.{Report}
-use Rattle.maildir_run.specs.Files.{Files, Action, acted}
-use Rattle.maildir_run.specs.Delivery.{Message, HasHome, IsMissing, Sound, Delivered, there_count, leftover_count}
+use Rattle.maildir_run.specs.Files.{Spared, SparesAll, Files, Action, acted}
+use Rattle.maildir_run.specs.Delivery.{Message, HasHome, IsMissing, IsSpared, AllSpared, Sound, Delivered, there_count, leftover_count}
 use Rattle.maildir_run.specs.Texts.{MessagesOf}
 
 -- A text is possible for a call that read from a source: what was read is a prefix of it, and all of it if the source has
@@ -20,31 +20,33 @@ pub record Possible (before after : Option (List ℕ)) (t : List ℕ) : Type 0 w
   pub whole : left ≡ [] → more ≡ []
 
 -- A report is true of a run over these messages from these files.
-pub record ReportsMessages (ms : List Message) (old : Files) (report : Report) : Type 0 where
+pub record ReportsMessages (spared : Spared) (ms : List Message) (old : Files) (report : Report) : Type 0 where
   pub messages : report.messages ≡ length ms
-  pub there : report.there ≡ there_count old ms
-  pub placed : report.placed ≡ length ms - there_count old ms
-  pub swept : report.swept ≤ leftover_count old
+  -- if all messages are spared
+  pub there : All (IsSpared spared) ms → report.there ≡ there_count old ms
+  pub placed : All (IsSpared spared) ms → report.placed ≡ length ms - there_count old ms
+  -- if every converter's base is
+  pub swept : SparesAll spared → report.swept ≤ leftover_count old
 
 -- A run over these messages ended with Ok: they are delivered, and the report is true.
-pub record EndedWell (ms : List Message) (old : Files) (report : Report) (new : Files) : Type 0 where
-  pub delivered : Delivered ms new
-  pub reports : ReportsMessages ms old report
+pub record EndedWell (spared : Spared) (ms : List Message) (old : Files) (report : Report) (new : Files) : Type 0 where
+  pub delivered : Delivered spared ms new
+  pub reports : ReportsMessages spared ms old report
 
 -- What a run over these messages owes, whatever it returned.
-pub record Keeps (ms : List Message) (old : Files) (answer : Result Report RunFault) (new : Files) : Type 0 where
+pub record Keeps (spared : Spared) (ms : List Message) (old : Files) (answer : Result Report RunFault) (new : Files) : Type 0 where
   -- the folder is sound, as against the run's start
-  pub sound : Sound ms old new
+  pub sound : Sound spared ms old new
   -- a message that had a home has one
-  pub still : All (λ m. HasHome old m → HasHome new m) ms
+  pub still : AllSpared spared (λ m. HasHome old m → HasHome new m) ms
   -- a message has come only after all before it
-  pub in_order : AllPairs (λ m n. IsMissing old n → HasHome new n → HasHome new m) ms
-  pub ends : IfOk answer (λ report. EndedWell ms old report new)
+  pub in_order : AllPairs (λ m n. IsSpared spared m → IsSpared spared n → IsMissing old n → HasHome new n → HasHome new m) ms
+  pub ends : IfOk answer (λ report. EndedWell spared ms old report new)
 
--- One run over a text, starting from a folder where each message is missing or correctly delivered:
+-- One run over a text, starting from a folder where each message that is spared is missing or correctly delivered:
 -- it keeps what it owes to the messages, and with Ok the text is in `Mbox`.
-pub record IsRun (t : List ℕ) (old : Files) (answer : Result Report RunFault) (new : Files) : Type 0 where
-  pub keeps : (ms : List Message) → MessagesOf t ms → Sound ms old old → Keeps ms old answer new
+pub record IsRun (spared : Spared) (t : List ℕ) (old : Files) (answer : Result Report RunFault) (new : Files) : Type 0 where
+  pub keeps : (ms : List Message) → MessagesOf t ms → Sound spared ms old old → Keeps spared ms old answer new
   pub is_read : OnOk answer ((entries : List Entry) × Mbox t entries)
 
 -- the calls of a run that returned Ok: three listings, one removal for each swept name,
@@ -63,10 +65,10 @@ pub data Link : Type 0 where
   Acted : (action : Action) → Link
 
 -- a link leads from one moment to another
-abbrev pub Linked : List ℕ → Link → Files → Files → Type 0
-Linked t (Ran answer) old new = IsRun t old answer new
-Linked t (Acted action) old new = new ≡ acted action old
+abbrev pub Linked : Spared → List ℕ → Link → Files → Files → Type 0
+Linked spared t (Ran answer) old new = IsRun spared t old answer new
+Linked spared t (Acted action) old new = new ≡ acted spared action old
 
 -- a finite sequence of runs over a text, with any results, and of other programs' actions
-abbrev pub Runs : List ℕ → List Link → Files → Files → Type 0
-Runs t = Chain (Linked t)
+abbrev pub Runs : Spared → List ℕ → List Link → Files → Files → Type 0
+Runs spared t = Chain (Linked spared t)

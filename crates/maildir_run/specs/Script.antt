@@ -9,16 +9,16 @@ use Rattle.maildir_run.specs.declared.script.Act.TheVariants as act
 use Rattle.maildir_run.specs.declared.script.Mode.{Mode}
 use Rattle.maildir_run.specs.declared.script.Mode.TheVariants.{Plain, FailBefore, FailAfter, Half, Twice}
 use Rattle.maildir_run.specs.declared.script.ScriptLine.{ScriptLine}
-use Rattle.maildir_run.specs.Files.{Files, ToCur, Reflag, DropTmp, acted}
+use Rattle.maildir_run.specs.Files.{Files, ToCur, Reflag, DropTmp, acted, all_bases}
 use Rattle.maildir_run.specs.Cuts.{doubled}
 use Rattle.maildir_run.specs.Calls.{Call, Writing, Placing, Removing, effect, torn, IsReady}
 use Rattle.maildir_run.specs.MemFiles.{with_file, without_file}
 
 -- the files after an act; one whose condition fails changes nothing (maildir(5), and this project's own rule)
 abbrev pub performed : Act → Files → Files
-performed (act.ToCur name target) s = acted (ToCur (string_bytes name) (string_bytes target)) s
-performed (act.Reflag name target) s = acted (Reflag (string_bytes name) (string_bytes target)) s
-performed (act.DropTmp name) s = acted (DropTmp (string_bytes name)) s
+performed (act.ToCur name target) s = acted all_bases (ToCur (string_bytes name) (string_bytes target)) s
+performed (act.Reflag name target) s = acted all_bases (Reflag (string_bytes name) (string_bytes target)) s
+performed (act.DropTmp name) s = acted all_bases (DropTmp (string_bytes name)) s
 performed (act.PutOther sub name bytes) s = if is_converter_name (string_bytes name) then s else with_file sub (string_bytes name) bytes.items s
 performed (act.DropOther sub name) s = if is_converter_name (string_bytes name) then s else without_file sub (string_bytes name) s
 

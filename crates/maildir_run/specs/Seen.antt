@@ -1,5 +1,5 @@
 -- What contracts see of a folder, and what a call does to that.
-use Rattle.std.specs.Prelude.{ℕ, IfOk, IsPermutation, Result}
+use Rattle.std.specs.Prelude.{ℕ, List, IfOk, IsPermutation, Result}
 use Rattle.std.specs.FinMap.{keys}
 use Rattle.std.specs.declared.vec.Vec.{Vec}
 use Rattle.std.specs.declared.string.String.{String}
@@ -8,13 +8,14 @@ use Rattle.maildir_run.specs.declared.folder.FolderFault.{FolderFault}
 use Rattle.maildir_run.specs.declared.folder.Sub.{Sub}
 use Rattle.maildir_run.specs.Calls.{Call, Listing, Called, Listed, CalledQuietly, GoesUp, CountsFailure, MayAnswer, folder_of, names_of}
 use Rattle.maildir_run.specs.Cuts.{Follows, LeavesOf}
-use Rattle.maildir_run.specs.Files.{Files}
+use Rattle.maildir_run.specs.Files.{Spared, Files}
+use Rattle.maildir_run.specs.Touched.{Touches, TouchedOnly}
 
 -- what contracts see of a folder at one moment
 pub record Seen : Type 1 where
-  -- it takes effect as reported
-  pub honest : Type 0
-  -- it does, no other program acts, and a call that answers Ok has its effect once
+  -- it takes effect as reported, and to the files of these bases other programs do only what mail readers do
+  pub honest : Spared → Type 0
+  -- it takes effect as reported, no other program acts, and a call that answers Ok has its effect once
   pub quiet : Type 0
   -- the files that are there
   pub files : Files
@@ -23,6 +24,8 @@ pub record Seen : Type 1 where
   pub may_leave : Files → Type 0
   -- a power cut leaves the Maildir and its three folders
   pub rooted : Type 0
+  -- the names of which its calls, as against other programs, may have touched a file until now
+  pub touched : List ℕ → Type 0
   -- how many calls were made, in 128 bits: after the greatest number comes 0
   pub calls : ℕ
   -- how many of them answered `Absent` or `Failed`, in 128 bits
@@ -31,14 +34,15 @@ pub record Seen : Type 1 where
 -- A call was made, and answered this.
 pub record CallOf {A : Type 0} (call : Call) (old : Seen) (result : Result A FolderFault) (new : Seen) : Type 0 where
   -- if the folder is honest
-  pub honest : old.honest → new.honest
-  pub called : old.honest → Called call old.files result new.files
-  pub left : old.honest → Follows (λ before now. LeavesOf call before result now) old.may_leave new.may_leave
-  pub still_rooted : old.honest → old.rooted → new.rooted
+  pub honest : (spared : Spared) → old.honest spared → new.honest spared
+  pub called : (spared : Spared) → old.honest spared → Called spared call old.files result new.files
+  pub left : (spared : Spared) → old.honest spared → Follows (λ before now. LeavesOf spared call before result now) old.may_leave new.may_leave
+  pub still_rooted : (spared : Spared) → old.honest spared → old.rooted → new.rooted
   -- if the folder is quiet
   pub quiet : old.quiet → new.quiet
   pub quietly : old.quiet → CalledQuietly call old.files result new.files
   -- whatever the folder does
+  pub touches : TouchedOnly (Touches call) old.touched new.touched
   pub counted : GoesUp old.calls new.calls
   pub cause : CountsFailure result old.failures new.failures
   pub answers : MayAnswer call result
@@ -46,5 +50,5 @@ pub record CallOf {A : Type 0} (call : Call) (old : Seen) (result : Result A Fol
 -- A listing was made. Its answer is each name of the folder once, in any order, as of one moment of the call.
 pub record ListingOf (sub : Sub) (old : Seen) (result : Result (Vec (String Global) Global) FolderFault) (new : Seen) : Type 0 where
   pub call : CallOf (Listing sub) old result new
-  pub listed : old.honest → Listed sub old.files result new.files
+  pub listed : (spared : Spared) → old.honest spared → Listed spared sub old.files result new.files
   pub names : old.quiet → IfOk result (λ names. IsPermutation (names_of names) (keys (folder_of sub old.files)))

@@ -3,12 +3,11 @@ use Rattle.std.specs.Prelude.{◌≡◌, ◌≢◌, ℕ, ◌+◌, ◌<◌, ◌�
 use Rattle.std.specs.Prelude.{[], ◌∷◌, length, take, count_by, All, Contains, IsPermutation, Result, Ok, Err}
 use Rattle.std.specs.List.{list_any}
 use Rattle.std.specs.Str.{bytes_eq}
-use Rattle.maildir_name.specs.Names.{is_converter_base}
 use Rattle.maildir_name.specs.Targets.{digest_text, numbered}
 use Rattle.maildir_run.specs.declared.fault.RunFault.{RunFault}
 use Rattle.maildir_run.specs.declared.report.Report.{Report}
-use Rattle.maildir_run.specs.Files.{Files, Action, acted, homes, is_name}
-use Rattle.maildir_run.specs.Delivery.{Message, IsMissing, is_base_of}
+use Rattle.maildir_run.specs.Files.{Spared, Files, Action, acted, homes, is_name, is_spared}
+use Rattle.maildir_run.specs.Delivery.{Message, IsMissing, IsSpared, is_base_of}
 use Rattle.maildir_run.specs.Texts.{MessagesOf}
 use Rattle.maildir_run.specs.Runs.{Chain, IsRun, Link, Ran, Acted}
 
@@ -26,6 +25,10 @@ pub record IsMailbox (text : Mailbox) : Type 0 where
 abbrev pub OfEach : (Message → Type 0) → List Mailbox → Type 0
 OfEach P texts = All (λ text. All P text.messages) texts
 
+-- this holds of each of them that is spared
+abbrev pub OfEachSpared : Spared → (Message → Type 0) → List Mailbox → Type 0
+OfEachSpared spared P texts = OfEach (λ m. IsSpared spared m → P m) texts
+
 -- whether a base is that of a message of one of the texts
 abbrev pub is_base_of_any : List Mailbox → List ℕ → Bool
 is_base_of_any texts b = list_any (λ text. is_base_of text.messages b) texts
@@ -40,11 +43,11 @@ pub record HoldsGiven (texts : List Mailbox) (s : Files) (m : Message) : Type 0 
   pub given : IsTrue (gives texts m.target.base body)
   pub homes_are : homes s m.target.base ≡ body ∷ []
 
--- A folder is sound for several texts, as against an earlier moment: each base of their messages has at most one home, which
--- holds a body that one of the texts gives to this base, and the homes of each other converter's base hold what they held.
-pub record SoundForAll (texts : List Mailbox) (old new : Files) : Type 0 where
-  pub own : OfEach (λ m. IsMissing new m ⊎ HoldsGiven texts new m) texts
-  pub others : (b : List ℕ) → IsTrue (is_converter_base b) → IsFalse (is_base_of_any texts b) → IsPermutation (homes old b) (homes new b)
+-- A folder is sound for several texts, as against an earlier moment: each base of their messages that is spared has at most one home, which
+-- holds a body that one of the texts gives to this base, and the homes of each other base that is spared hold what they held.
+pub record SoundForAll (spared : Spared) (texts : List Mailbox) (old new : Files) : Type 0 where
+  pub own : OfEachSpared spared (λ m. IsMissing new m ⊎ HoldsGiven texts new m) texts
+  pub others : (b : List ℕ) → IsTrue (is_spared spared b) → IsFalse (is_base_of_any texts b) → IsPermutation (homes old b) (homes new b)
 
 -- a link of a chain over several texts: a run over one of them with this answer, or an action of another program
 pub data LinkOver : Type 0 where
@@ -62,33 +65,33 @@ link_of (RanOver _ answer) = Ran answer
 link_of (ActedOver action) = Acted action
 
 -- a link leads from one moment to another
-abbrev pub LinkedOver : List Mailbox → LinkOver → Files → Files → Type 0
-LinkedOver texts (RanOver text answer) old new = Contains texts text × IsRun text.bytes old answer new
-LinkedOver texts (ActedOver action) old new = new ≡ acted action old
+abbrev pub LinkedOver : Spared → List Mailbox → LinkOver → Files → Files → Type 0
+LinkedOver spared texts (RanOver text answer) old new = Contains texts text × IsRun spared text.bytes old answer new
+LinkedOver spared texts (ActedOver action) old new = new ≡ acted spared action old
 
 -- a finite chain of runs over any of the texts, with any answers, and of other programs' actions
-abbrev pub RunsOver : List Mailbox → List LinkOver → Files → Files → Type 0
-RunsOver texts = Chain (LinkedOver texts)
+abbrev pub RunsOver : Spared → List Mailbox → List LinkOver → Files → Files → Type 0
+RunsOver spared texts = Chain (LinkedOver spared texts)
 
 -- distinct bodies of the texts have distinct digests
 abbrev pub HaveOwnDigests : List Mailbox → Type 0
 HaveOwnDigests texts = OfEach (λ m. OfEach (λ n. digest_text m.body ≡ digest_text n.body → m.body ≡ n.body) texts) texts
 
--- no converter's base with the digest of this body has a home
-abbrev pub IsUnknown : Files → List ℕ → Type 0
-IsUnknown s body = (b : List ℕ) → IsTrue (is_converter_base b) → take 64 b ≡ digest_text body → homes s b ≡ []
+-- no base that is spared and has the digest of this body has a home
+abbrev pub IsUnknown : Spared → Files → List ℕ → Type 0
+IsUnknown spared s body = (b : List ℕ) → IsTrue (is_spared spared b) → take 64 b ≡ digest_text body → homes s b ≡ []
 
 -- What is wanted of several texts and of the folder before any run over them.
-pub record AreFresh (texts : List Mailbox) (s : Files) : Type 0 where
+pub record AreFresh (spared : Spared) (texts : List Mailbox) (s : Files) : Type 0 where
   pub are : All IsMailbox texts
   pub own : HaveOwnDigests texts
-  pub unknown : OfEach (λ m. IsUnknown s m.body) texts
+  pub unknown : OfEach (λ m. IsUnknown spared s m.body) texts
 
--- A body is there n times: its bases with the numbers 1 to n have exactly one home
--- each, which holds the body, and no other converter's base with its digest has a home.
-pub record IsThere (n : ℕ) (body : List ℕ) (s : Files) : Type 0 where
-  pub up_to : (k : ℕ) → k < n → homes s (numbered body (k + 1)) ≡ body ∷ []
-  pub no_other : (b : List ℕ) → IsTrue (is_converter_base b) → take 64 b ≡ digest_text body → ((k : ℕ) → k < n → numbered body (k + 1) ≢ b) → homes s b ≡ []
+-- A body is there n times: of its bases with the numbers 1 to n each that is spared has exactly one home,
+-- which holds the body, and no other base that is spared and has its digest has a home.
+pub record IsThere (spared : Spared) (n : ℕ) (body : List ℕ) (s : Files) : Type 0 where
+  pub up_to : (k : ℕ) → k < n → IsTrue (spared (numbered body (k + 1))) → homes s (numbered body (k + 1)) ≡ body ∷ []
+  pub no_other : (b : List ℕ) → IsTrue (is_spared spared b) → take 64 b ≡ digest_text body → ((k : ℕ) → k < n → numbered body (k + 1) ≢ b) → homes s b ≡ []
 
 -- how often a body stands in a text
 abbrev pub count_in : List ℕ → Mailbox → ℕ
@@ -108,8 +111,8 @@ most_tried body (RanOver text _ ∷ links) = max (count_in body text) (most_trie
 most_tried body (ActedOver _ ∷ links) = most_tried body links
 
 -- A body is there, after a chain, at least as often as in each text of which a run answered Ok, and at most as often as in one of which a run was made.
-pub record StandsAfter (links : List LinkOver) (body : List ℕ) (s : Files) : Type 0 where
+pub record StandsAfter (spared : Spared) (links : List LinkOver) (body : List ℕ) (s : Files) : Type 0 where
   pub n : ℕ
-  pub there : IsThere n body s
+  pub there : IsThere spared n body s
   pub at_least : most_delivered body links ≤ n
   pub at_most : n ≤ most_tried body links

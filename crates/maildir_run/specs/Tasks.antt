@@ -9,7 +9,7 @@ use Rattle.maildir_run.specs.Calls.{Call, Listing, Writing, Placing, Removing, S
 use Rattle.maildir_run.specs.Cuts.{Leaves, IsFoundWhole}
 use Rattle.maildir_run.specs.Counting.{fault_of}
 use Rattle.maildir_run.specs.Delivery.{Message}
-use Rattle.maildir_run.specs.Files.{Files}
+use Rattle.maildir_run.specs.Files.{Spared, Files}
 use Rattle.maildir_run.specs.Plan.{planned}
 
 -- a call that a run makes; a listing with the names that it answers
@@ -23,13 +23,13 @@ call_of (Ask sub names) = Listing sub
 call_of (Do call) = call
 
 -- the task's call returned Ok, in an honest folder
-abbrev pub Done : Task → Files → Files → Type 0
-Done (Ask sub names) old new = Lists sub old names new
-Done (Do call) old new = Succeeded call old new
+abbrev pub Done : Spared → Task → Files → Files → Type 0
+Done spared (Ask sub names) old new = Lists spared sub old names new
+Done spared (Do call) old new = Succeeded spared call old new
 
 -- the task's call failed, or was not made
-abbrev pub TaskRefused : Task → Files → Files → Type 0
-TaskRefused task old new = AnyMoves (call_of task) old new
+abbrev pub TaskRefused : Spared → Task → Files → Files → Type 0
+TaskRefused spared task old new = AnyMoves spared (call_of task) old new
 
 -- how tasks succeed or fail
 pub record Way : Type 1 where
@@ -37,16 +37,16 @@ pub record Way : Type 1 where
   pub refused : Task → Files → Files → Type 0
 
 -- how tasks succeed or fail in an honest folder
-abbrev pub honestly : Way
-honestly = record { done = Done; refused = TaskRefused }
+abbrev pub honestly : Spared → Way
+honestly spared = record { done = Done spared; refused = TaskRefused spared }
 
 -- what a power cut leaves of a task that succeeded
-abbrev pub LeavesDone : Task → Files → Files → Type 0
-LeavesDone task old new = Leaves (call_of task) old new × IsFoundWhole (call_of task) new
+abbrev pub LeavesDone : Spared → Task → Files → Files → Type 0
+LeavesDone spared task old new = Leaves spared (call_of task) old new × IsFoundWhole spared (call_of task) new
 
 -- how tasks succeed or fail in what a power cut leaves
-abbrev pub leaving : Way
-leaving = record { done = LeavesDone; refused = λ task. Leaves (call_of task) }
+abbrev pub leaving : Spared → Way
+leaving spared = record { done = LeavesDone spared; refused = λ task. Leaves spared (call_of task) }
 
 -- all tasks succeeded, in order
 abbrev pub AllDone : Way → List Task → Files → Files → Type 0

@@ -3,7 +3,7 @@ ghost use Rattle.std.specs.Prelude.{◌≡◌, IfOk, OnOk, OnErr};
 ghost use Rattle.std.specs.FinMap.{get};
 ghost use Rattle.maildir_run.specs.Calls.{folder_of};
 ghost use Rattle.maildir_run.specs.Cuts.{linked};
-ghost use Rattle.maildir_run.specs.Files.{acted, may_take};
+ghost use Rattle.maildir_run.specs.Files.{acted, all_bases, may_take};
 ghost use Rattle.maildir_run.specs.Files.Action.{ToCur, Reflag};
 ghost use Rattle.maildir_run.specs.declared.folder.Sub.TheVariants.{New, Cur};
 ghost use Rattle.maildir_run.specs.MemFiles.{files_in};
@@ -84,8 +84,8 @@ impl MemFiles {
 
     // Moves a file of `new` to `cur`, or renames one of `cur`.
     fn move_to_cur(&mut self, sub: Sub, name: &str, target: &str) -> Result<(), AllocError>
-        ensures to_cur { sub ≡ New → OnOk result (files_in self.new ≡ acted (ToCur name.now target.now) (files_in self.old)) }
-        ensures reflag { sub ≡ Cur → OnOk result (files_in self.new ≡ acted (Reflag name.now target.now) (files_in self.old)) }
+        ensures to_cur { sub ≡ New → OnOk result (files_in self.new ≡ acted all_bases (ToCur name.now target.now) (files_in self.old)) }
+        ensures reflag { sub ≡ Cur → OnOk result (files_in self.new ≡ acted all_bases (Reflag name.now target.now) (files_in self.old)) }
         ensures err { OnErr result (files_in self.new ≡ files_in self.old) }
     {
         if self.link(sub, name, target)? {

@@ -1,6 +1,7 @@
 // The three folders of a Maildir, by what each call does to their files.
 ghost use Rattle.std.specs.Prelude.{◌≡◌};
 ghost use Rattle.maildir_run.specs.Calls.Call.{Writing, Placing, Removing};
+ghost use Rattle.maildir_run.specs.Files.{Spared};
 ghost use Rattle.maildir_run.specs.Seen.{Seen, CallOf, ListingOf};
 ghost use Rattle.maildir_run.specs.declared.folder.FolderFault.TheVariants.{OutOfMemory};
 
@@ -86,5 +87,5 @@ pub trait Folder {
     fn remove(&mut self, name: &str) -> Result<(), FolderFault>
         ensures removes { CallOf (Removing name.now) (at self.old) result (at self.new) };
 
-    ghost quiet_is_honest: { (folder : Self) → (at folder).quiet → (at folder).honest };
+    ghost quiet_is_honest: { (folder : Self) (spared : Spared) → (at folder).quiet → (at folder).honest spared };
 }

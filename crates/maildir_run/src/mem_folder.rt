@@ -5,7 +5,7 @@ ghost use Rattle.std.specs.FinMap.{get, keys, len};
 ghost use Rattle.std.specs.Option.{option_copied};
 ghost use Rattle.maildir_run.specs.Calls.{folder_of, names_of, CountsFailure};
 ghost use Rattle.maildir_run.specs.Calls.Call.{Listing, Writing, Placing, Removing};
-ghost use Rattle.maildir_run.specs.MemFiles.{no_files, with_file};
+ghost use Rattle.maildir_run.specs.MemFiles.{no_files, with_file, without_file};
 ghost use Rattle.maildir_run.specs.MemFolder.{files_of, call_count, all_call_count, failure_count, lines_of, seen_of};
 ghost use Rattle.maildir_run.specs.MemFolder.{fail_from_of, IsQuiet, Scripted, SameCounts, SameScript, IsUnchanged};
 ghost use Rattle.maildir_run.specs.Private.MemFolder.{BeginsCall};
@@ -129,6 +129,15 @@ impl MemFolder {
         Ok(())
     }
 
+    /// Deletes a file, if it is there. No call is counted.
+    pub fn delete(&mut self, sub: Sub, name: &str)
+        ensures files { files_of self.new ≡ without_file sub name.now (files_of self.old) }
+        ensures counts { SameCounts self.old self.new }
+        ensures script { SameScript self.old self.new }
+    {
+        self.files.remove(sub, name);
+    }
+
     /// A folder with the same files, no calls, and a script with no line.
     ///
     /// # Errors
@@ -201,7 +210,7 @@ impl MemFolder {
 impl Folder for MemFolder {
     ghost at = { seen_of };
 
-    ghost quiet_is_honest = { λ _ _. tt };
+    ghost quiet_is_honest = { λ _ _ _. tt };
 
     fn list(&mut self, sub: Sub) -> Result<Vec<String>, FolderFault>
         ensures lists { ListingOf sub (seen_of self.old) result (seen_of self.new) }

@@ -1,5 +1,5 @@
 // The same words given again and again, broken off at each call, with a power cut after each command.
-use crate::cuts::losing;
+use crate::cuts::{losing, losing_one};
 use crate::planning::names;
 use crate::rows::same;
 use crate::sources::Cut;
@@ -28,14 +28,9 @@ const TEXTS: &[NamedText<'static>] = &[
     },
 ];
 
-const MESSAGES: &[(&str, &[u8])] = &[
-    (
-        "594e519ae499312b29433b7dd8a97ff068defcba9755b6d5d00e84c524d67b06.1",
-        b"z",
-    ),
-    (ABC_LINE, b"abc\n"),
-    (HELLO_LINE, b"hello\n"),
-];
+const Z: &str = "594e519ae499312b29433b7dd8a97ff068defcba9755b6d5d00e84c524d67b06.1";
+
+const MESSAGES: &[(&str, &[u8])] = &[(Z, b"z"), (ABC_LINE, b"abc\n"), (HELLO_LINE, b"hello\n")];
 
 // One command, of which so many calls of the Maildir are answered; then a power cut leaves this case. The status, how many
 // cases there were, and how many of the messages are in `new`, if each file there is one of them with its body.
@@ -130,4 +125,48 @@ fn commands_and_power_cuts(rt: HostRuntime) -> Result<(), Fail> {
         }
     }
     same(&"done, and stopped", &ended, &(true, true))
+}
+
+// What a command leaves after another program deleted the first message: the status, whether the message is there, and how
+// many are.
+type Left = (u8, bool, Option<usize>);
+
+fn left_by(rt: HostRuntime, machine: &mut MemMachine<'static>) -> Result<Left, Fail> {
+    let (status, _, found) = command(rt, machine, u64::MAX, CASES)?;
+    let is_there = match machine.maildir("M") {
+        Some(system) => system.folder().bytes_of(Sub::New, Z).is_some(),
+        None => false,
+    };
+    Ok((status, is_there, found))
+}
+
+// A command is broken off, and a power cut follows; at this turn another program deletes the first message, if it is there;
+// then the words are given again, and once more.
+fn deletion(rt: HostRuntime, turn: u8) -> Result<(u8, Left, Left), Fail> {
+    let mut machine = MemMachine::new(rt.alloc(), TEXTS);
+    machine.make_of(losing_one(rt, Z, turn)?);
+    let (first, _, _) = command(rt, &mut machine, 40, CASES)?;
+    Ok((
+        first,
+        left_by(rt, &mut machine)?,
+        left_by(rt, &mut machine)?,
+    ))
+}
+
+// The other messages are there after each status 0, and the one that was deleted after the next.
+#[test]
+fn deletions_between_commands(rt: HostRuntime) -> Result<(), Fail> {
+    let mut deleted = (false, false);
+    for turn in 1..80u8 {
+        let (first, second, third) = deletion(rt, turn)?;
+        let owed = if second.1 { 3 } else { 2 };
+        same(
+            &turn,
+            &(first, second, third),
+            &(1, (0, second.1, Some(owed)), (0, true, Some(3))),
+        )?;
+        deleted.0 = deleted.0 || second.1;
+        deleted.1 = deleted.1 || !second.1;
+    }
+    same(&"there, and deleted", &deleted, &(true, true))
 }

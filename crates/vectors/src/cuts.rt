@@ -1,12 +1,12 @@
 // Power cuts of a system in memory that loses what was not synced. In each other order than the right one the steps that
 // bring a message lose it in some case of what a cut leaves.
-use crate::mem_system::system_of;
+use crate::mem_system::{system_of, system_with};
 use crate::rows::same;
-use crate::scripts::Deed;
+use crate::scripts::{Deed, turns_of};
 use crate::texts::{ABC, ABC_SEEN};
 use Step::{Rename, SyncCur, SyncFile, SyncNew, SyncRoot, Write};
 use maildir_disk::System;
-use maildir_memory::{MemSystem, Stamps};
+use maildir_memory::{MemSystem, Stamps, TurnAct};
 use maildir_name::Place;
 use maildir_run::{MemFolder, Sub};
 use std::io;
@@ -21,6 +21,17 @@ const MOVES: &[Deed<'_>] = &[Deed::ToCur(ABC, ABC_SEEN)];
 /// An empty Maildir that was not synced yet and loses what is not, and a program that does this.
 pub(crate) fn losing(rt: HostRuntime, deeds: &[Deed<'_>], turn: u8) -> Result<MemSystem, Fail> {
     let mut system = system_of(rt, Stamps::Fine, &[], deeds, turn)?;
+    system.lose(ROOM);
+    Ok(system)
+}
+
+/// The same, where the program deletes this file of `new`.
+pub(crate) fn losing_one(rt: HostRuntime, name: &str, turn: u8) -> Result<MemSystem, Fail> {
+    let alloc = rt.alloc();
+    let mut acts = Vec::new(alloc);
+    acts.push(TurnAct::Delete(Sub::New, String::from_str(alloc, name)?))?;
+    let turns = turns_of(alloc, acts, turn)?;
+    let mut system = system_with(rt, Stamps::Fine, &[], turns)?;
     system.lose(ROOM);
     Ok(system)
 }

@@ -2,6 +2,7 @@
 use crate::disk_folder::fresh_path;
 use crate::mem_system::system_of;
 use crate::planning::names;
+use maildir_calls::{Facts, check_own};
 use maildir_commands::run;
 use maildir_disk::DiskFolder;
 use maildir_host::OpenAt;
@@ -87,6 +88,22 @@ fn of_maildir_memory(rt: HostRuntime) -> Result<(), Fail> {
     );
     let mut folder = DiskFolder::new(system);
     assert!(rt; folder.list(Sub::New)?.is_empty());
+    Ok(())
+}
+
+#[test]
+fn of_maildir_calls(rt: HostRuntime) -> Result<(), Fail> {
+    let found = Facts {
+        mode: 0o100_600,
+        links: 1,
+        owner: 1000,
+        device: 1,
+        number: 2,
+        seconds: 1,
+        nanos: 0,
+    };
+    assert!(rt; check_own(&found, 1000).is_ok());
+    assert!(rt; check_own(&found, 0).is_err());
     Ok(())
 }
 

@@ -2,10 +2,10 @@
 use crate::mem_folder::lists;
 use crate::rows::same;
 use crate::runs::{folder_of, run_over};
-use crate::scripts::{Deed, turns_of};
+use crate::scripts::{Deed, turn_of, turns_of};
 use crate::texts::{ABC_OLD, ABC_SEEN, File, UNENDED};
 use maildir_disk::DiskFolder;
-use maildir_memory::{MemSystem, Stamps};
+use maildir_memory::{MemSystem, Stamps, TurnAct};
 use maildir_run::Sub;
 use std::test::Fail;
 use std::time::{Duration, Instant, UNIX_EPOCH};
@@ -19,10 +19,21 @@ pub(crate) fn system_of(
     turn: u8,
 ) -> Result<MemSystem, Fail> {
     let alloc = rt.alloc();
+    let turns = turns_of(alloc, turn_of(alloc, deeds)?, turn)?;
+    system_with(rt, stamps, files, turns)
+}
+
+/// The same with other programs' turns.
+pub(crate) fn system_with(
+    rt: HostRuntime,
+    stamps: Stamps,
+    files: &[File<'_>],
+    turns: Vec<Vec<TurnAct>>,
+) -> Result<MemSystem, Fail> {
+    let alloc = rt.alloc();
     let clock = UNIX_EPOCH + Duration::from_millis(1500);
     let instant = Instant::now(&rt)?;
     let folder = folder_of(alloc, files)?;
-    let turns = turns_of(alloc, deeds, turn)?;
     Ok(MemSystem::new(alloc, folder, stamps, clock, instant, turns))
 }
 

@@ -2,6 +2,7 @@
 use crate::rows::same;
 use crate::runs::{Answer, folder_of, run_over, same_files};
 use crate::texts::File;
+use maildir_memory::TurnAct;
 use maildir_run::{Act, MemFolder, Mode, RunFault, ScriptLine, Sub};
 use std::alloc::{AllocError, Global};
 use std::fmt::Debug;
@@ -55,14 +56,23 @@ pub(crate) fn acts_of(alloc: Global, deeds: &[Deed<'_>]) -> Result<Vec<Act>, All
     Ok(acts)
 }
 
+/// The same at a turn of the system in memory.
+pub(crate) fn turn_of(alloc: Global, deeds: &[Deed<'_>]) -> Result<Vec<TurnAct>, AllocError> {
+    let mut acts = Vec::new(alloc);
+    for deed in deeds {
+        acts.push(TurnAct::Reader(deed.act(alloc)?))?;
+    }
+    Ok(acts)
+}
+
 /// The turns of a program that does this at the turn of this number. The last turn comes first.
 pub(crate) fn turns_of(
     alloc: Global,
-    deeds: &[Deed<'_>],
+    acts: Vec<TurnAct>,
     turn: u8,
-) -> Result<Vec<Vec<Act>>, AllocError> {
+) -> Result<Vec<Vec<TurnAct>>, AllocError> {
     let mut turns = Vec::new(alloc);
-    turns.push(acts_of(alloc, deeds)?)?;
+    turns.push(acts)?;
     for _ in 1..turn {
         turns.push(Vec::new(alloc))?;
     }

@@ -6,6 +6,7 @@ use Rattle.maildir_run.specs.Delivery.{IsSwept, has_home, leftover_count}
 use Rattle.maildir_run.specs.declared.report.Report.{Report}
 use Rattle.maildir_run.specs.Foreign.{KeepsForeign}
 use Rattle.maildir_run.specs.Several.{Mailbox}
+use Rattle.maildir_run.specs.Touched.{TouchedConverters}
 use Rattle.maildir_commands.specs.Machines.{AreFit, HasAlso, HeldMaildir, IsSafeIn, IsSoundFor, OthersStay, bytes_of}
 use Rattle.maildir_commands.specs.declared.fault.Fault.{Fault}
 use Rattle.maildir_commands.specs.Private.Causes.{IsOfFiles}
@@ -14,22 +15,23 @@ use Rattle.maildir_commands.specs.Program.{Delivers}
 use Rattle.maildir_commands.specs.Report.{IsReportOf, PrintsReport, PrintsReports, report_line}
 use Rattle.maildir_commands.specs.Seen.{SeenMachine}
 use Rattle.maildir_commands.specs.Sources.{SeenMaildir}
+use Rattle.maildir_run.specs.Files.{Spared}
 
 -- The line of a true report of the text was written, or a prefix of it; the text is in the Maildir, and survives a power cut.
-pub record PrintsOne (old new : HeldMaildir) (text : Mailbox) (was is : Option (List ℕ)) : Type 0 where
+pub record PrintsOne (spared : Spared) (old new : HeldMaildir) (text : Mailbox) (was is : Option (List ℕ)) : Type 0 where
   pub report : Report
-  pub true_of : IsReportOf (has_home old.files) (leftover_count old.files) text report
-  pub safe : IsSafeIn new text
+  pub true_of : IsReportOf spared (has_home old.files) (leftover_count old.files) text report
+  pub safe : IsSafeIn spared new text
   pub line : AppendsPrefix was is (report_line report)
 
 -- What came of delivering one text.
-pub record DeliversOne {A E : Type 0} (answer : Result A E) (text : Mailbox) (old new : HeldMaildir) (was is : Option (List ℕ)) : Type 0 where
-  pub safe : OnOk answer (IsSafeIn new text)
-  pub line : OnOk answer (PrintsReport was is (IsReportOf (has_home old.files) (leftover_count old.files) text))
-  pub known : OnOk answer (HasAlso text.messages old.files new.files)
-  pub swept : OnOk answer (IsSwept new.files)
-  pub stopped : OnErr answer (Keeps was is ⊎ PrintsOne old new text was is)
-  pub stays : OthersStay (text ∷ []) old new
+pub record DeliversOne {A E : Type 0} (spared : Spared) (answer : Result A E) (text : Mailbox) (old new : HeldMaildir) (was is : Option (List ℕ)) : Type 0 where
+  pub safe : OnOk answer (IsSafeIn spared new text)
+  pub line : OnOk answer (PrintsReport was is (IsReportOf spared (has_home old.files) (leftover_count old.files) text))
+  pub known : OnOk answer (HasAlso spared text.messages old.files new.files)
+  pub swept : OnOk answer (IsSwept spared new.files)
+  pub stopped : OnErr answer (Keeps was is ⊎ PrintsOne spared old new text was is)
+  pub stays : OthersStay spared (text ∷ []) old new
   pub still_rooted : old.rooted → new.rooted
 
 -- The messages of a source that is open, and then of each of these files, were delivered into a Maildir that is open, and the machine did no
@@ -38,9 +40,10 @@ pub record DeliversFiles (first : Option (List ℕ)) (files : List (List ℕ)) (
     (old new : SeenMachine) (start now : SeenMaildir) (was is : Option (List ℕ)) : Type 0 where
   pub opens : OpensSources old new
   pub printed : OnOk answer (PrintsReports was is (1 + length files))
-  pub cause : old.honest → (name : List ℕ) → first ≡ Some (old.text_of name) → IfErr answer (IsOfFiles old (name ∷ files))
-  pub delivers : old.honest → start.honest → (texts : List Mailbox) (text : List ℕ) → first ≡ Some text →
-      bytes_of texts ≡ text ∷ map old.text_of files → AreFit texts → IsSoundFor texts start.held →
-      Delivers answer texts start.held now.held was is
+  pub cause : (spared : Spared) → old.honest spared → (name : List ℕ) → first ≡ Some (old.text_of name) → IfErr answer (IsOfFiles old (name ∷ files))
+  pub delivers : (spared : Spared) → old.honest spared → start.honest spared → (texts : List Mailbox) (text : List ℕ) → first ≡ Some text →
+      bytes_of texts ≡ text ∷ map old.text_of files → AreFit texts → IsSoundFor spared texts start.held →
+      Delivers spared answer texts start.held now.held was is
+  pub touches : TouchedConverters start.held.touched now.held.touched
   pub foreign : start.quiet → KeepsForeign start.held.files now.held.files
-  pub honest : old.honest → start.honest → OnOk answer now.honest
+  pub honest : (spared : Spared) → old.honest spared → start.honest spared → OnOk answer (now.honest spared)

@@ -1,9 +1,9 @@
 -- What a call of the folder did, from what its last system call did.
-use Rattle.std.proofs.Common.{◌≡◌, [], ◌∷◌, ◌++◌, List, Result, Ok, Err, IfOk, IsErr, OnErr, Vec, String, Global}
+use Rattle.std.proofs.Common.{◌≡◌, inr, [], ◌∷◌, ◌++◌, List, Result, Ok, Err, IfOk, IsErr, OnErr, Vec, String, Global}
 use Rattle.maildir_run.specs.declared.folder.FolderFault.{FolderFault}
 use Rattle.maildir_run.specs.Calls.{IsNotAbsent, MayAnswer}
 use Rattle.maildir_run.specs.Seen.{CallOf, ListingOf}
-use Rattle.maildir_disk.proofs.Common.{Files, Call, Called, CalledQuietly, IsFoundWhole, Listed, Listing, Sub, Move, Other, Again, IsWhole}
+use Rattle.maildir_disk.proofs.Common.{Files, Call, Called, CalledQuietly, IsFoundWhole, Listed, Listing, Sub, Move, Other, Again, IsWhole, Spared}
 use Rattle.maildir_disk.specs.declared.disk_folder.DiskFolder.{DiskFolder}
 use Rattle.maildir_disk.specs.declared.system.System.{Ghosts}
 use Rattle.maildir_disk.specs.Private.Effects.{Counts, TakesEffect}
@@ -13,12 +13,12 @@ use Rattle.maildir_disk.specs.Seen.{seen_of}
 use Rattle.maildir_disk.specs.SeenSystem.{SeenSystem, TakesFromTmp}
 use Rattle.maildir_disk.proofs.Left.Lefts.{left_always, left_answered, left_early}
 
-called_answered : {A E F : Type 0} (call : Call) (a b : Files) (outcome : Result A E) (answer : Result A F)
-    → IfOk outcome (λ value. answer ≡ Ok value) → OnErr outcome (IsErr answer) → Called call a outcome b → Called call a answer b
-called_answered call a b (Ok x) (Ok y) ok err h = h
-called_answered call a b (Ok x) (Err f) ok err h = cc
-called_answered call a b (Err e) (Ok y) ok err h = cc
-called_answered call a b (Err e) (Err f) ok err h = h
+called_answered : (spared : Spared) {A E F : Type 0} (call : Call) (a b : Files) (outcome : Result A E) (answer : Result A F)
+    → IfOk outcome (λ value. answer ≡ Ok value) → OnErr outcome (IsErr answer) → Called spared call a outcome b → Called spared call a answer b
+called_answered spared call a b (Ok x) (Ok y) ok err h = h
+called_answered spared call a b (Ok x) (Err f) ok err h = cc
+called_answered spared call a b (Err e) (Ok y) ok err h = cc
+called_answered spared call a b (Err e) (Err f) ok err h = h
 
 quietly_answered : {A E F : Type 0} (call : Call) (a b : Files) (outcome : Result A E) (answer : Result A F)
     → IfOk outcome (λ value. answer ≡ Ok value) → OnErr outcome (IsErr answer) → CalledQuietly call a outcome b → CalledQuietly call a answer b
@@ -32,10 +32,11 @@ pub call_answered : {S File A E : Type 0} (f : Ghosts S File) (call : Call) (old
     {answer result : Result A FolderFault} → TakesEffect call (f.at old.system) outcome (f.at mid) → Counts answer (record old { system = mid }) result new
     → IfOk outcome (λ value. answer ≡ Ok value) → OnErr outcome (IsErr answer) → MayAnswer call answer → CallOf call (seen_of f old) result (seen_of f new)
 call_answered f call old new outcome {answer} did counts ok err answers = rw counts.same (record {
-  honest = λ h. rw counts.system (did.honest h);
-  called = λ h. rw counts.system (called_answered call _ _ outcome answer ok err (did.called h));
-  left = λ h. rw counts.system (left_answered call outcome answer err (did.left h));
-  still_rooted = λ h r. rw counts.system (did.still_rooted h r);
+  honest = λ spared h. rw counts.system (did.honest spared h);
+  called = λ spared h. rw counts.system (called_answered spared call _ _ outcome answer ok err (did.called spared h));
+  left = λ spared h. rw counts.system (left_answered spared call outcome answer err (did.left spared h));
+  still_rooted = λ spared h r. rw counts.system (did.still_rooted spared h r);
+  touches = rw counts.system did.touches;
   quiet = λ q. rw counts.system (did.quiet q);
   quietly = λ q. rw counts.system (quietly_answered call _ _ outcome answer ok err (did.quietly q));
   counted = counts.calls;
@@ -44,13 +45,14 @@ call_answered f call old new outcome {answer} did counts ok err answers = rw cou
 })
 
 -- a file of `tmp` was moved or removed
-pub taken : {A E : Type 0} {call : Call} {a b : SeenSystem} (outcome : Result A E) → ((s : Files) → IsFoundWhole call s)
+pub taken : {A E : Type 0} {call : Call} {a b : SeenSystem} (outcome : Result A E) → ((spared : Spared) (s : Files) → IsFoundWhole spared call s)
     → TakesFromTmp call a outcome b → TakesEffect call a outcome b
 taken outcome whole takes = record {
   honest = takes.honest;
   called = takes.called;
-  left = λ h. left_always outcome whole (takes.left h);
+  left = λ spared h. left_always outcome (whole spared) (takes.left spared h);
   still_rooted = takes.still_rooted;
+  touches = takes.touches;
   quiet = takes.quiet;
   quietly = takes.quietly;
 }
@@ -62,9 +64,9 @@ whole_both (Other a ∷ xs) ys h k = whole_both xs ys h k
 whole_both (Again ∷ xs) ys h k = whole_both xs ys h k
 whole_both (other ∷ xs) ys h k = absurd h
 
-listed_called : {E : Type 0} (sub : Sub) (old : Files) (result : Result (Vec (String Global) Global) E) (new : Files)
-    → Listed sub old result new → Called (Listing sub) old result new
-listed_called sub old (Ok names) new h = record {
+listed_called : (spared : Spared) {E : Type 0} (sub : Sub) (old : Files) (result : Result (Vec (String Global) Global) E) (new : Files)
+    → Listed spared sub old result new → Called spared (Listing sub) old result new
+listed_called spared sub old (Ok names) new h = record {
   before = [];
   rest = h.before ++ Again ∷ h.rest;
   others = tt;
@@ -72,7 +74,7 @@ listed_called sub old (Ok names) new h = record {
   whole = whole_both h.before (Again ∷ h.rest) h.whole_before h.whole;
   left = h.left;
 }
-listed_called sub old (Err e) new h = h
+listed_called spared sub old (Err e) new h = h
 
 same_quietly : {A E : Type 0} (sub : Sub) {old : Files} (result : Result A E) {new : Files} → new ≡ old → CalledQuietly (Listing sub) old result new
 same_quietly sub (Ok x) same = (tt, same)
@@ -82,19 +84,20 @@ listing : {E : Type 0} (sub : Sub) {a b : SeenSystem} (outcome : Result (Vec (St
     → ReadsAtOnce sub a outcome b → TakesEffect (Listing sub) a outcome b
 listing sub outcome did = record {
   honest = did.looks.honest;
-  called = λ h. listed_called sub _ outcome _ (did.listed h);
-  left = λ h. left_always outcome (λ s. tt) (left_early {call = Listing sub} (did.looks.left h));
+  called = λ spared h. listed_called spared sub _ outcome _ (did.listed spared h);
+  left = λ spared h. left_always outcome (λ s. tt) (left_early {call = Listing sub} (did.looks.left spared h));
   still_rooted = did.looks.still_rooted;
+  touches = λ name now. inr (did.looks.touches name now);
   quiet = did.looks.quiet;
   quietly = λ q. same_quietly sub outcome (did.looks.quietly q);
 }
 
-listed_answered : {E : Type 0} (sub : Sub) (a b : Files) (outcome : Result (Vec (String Global) Global) E)
+listed_answered : (spared : Spared) {E : Type 0} (sub : Sub) (a b : Files) (outcome : Result (Vec (String Global) Global) E)
     (answer : Result (Vec (String Global) Global) FolderFault)
-    → IfOk outcome (λ names. answer ≡ Ok names) → OnErr outcome (IsErr answer) → Listed sub a outcome b → Listed sub a answer b
-listed_answered sub a b (Ok x) answer ok err h = rw ok h
-listed_answered sub a b (Err e) (Ok y) ok err h = cc
-listed_answered sub a b (Err e) (Err f) ok err h = h
+    → IfOk outcome (λ names. answer ≡ Ok names) → OnErr outcome (IsErr answer) → Listed spared sub a outcome b → Listed spared sub a answer b
+listed_answered spared sub a b (Ok x) answer ok err h = rw ok h
+listed_answered spared sub a b (Err e) (Ok y) ok err h = cc
+listed_answered spared sub a b (Err e) (Err f) ok err h = h
 
 names_answered : {E : Type 0} (sub : Sub) (a : Files) (outcome : Result (Vec (String Global) Global) E)
     (answer : Result (Vec (String Global) Global) FolderFault)
@@ -109,6 +112,6 @@ pub listing_answered : {S File E : Type 0} (f : Ghosts S File) (sub : Sub) (old 
     → IfOk outcome (λ names. answer ≡ Ok names) → OnErr outcome (IsErr answer) → IsNotAbsent answer → ListingOf sub (seen_of f old) result (seen_of f new)
 listing_answered f sub old new outcome {answer} did counts ok err not_absent = record {
   call = call_answered f (Listing sub) old new outcome (listing sub outcome did) counts ok err not_absent;
-  listed = λ h. rw (counts.same, counts.system) (listed_answered sub _ _ outcome answer ok err (did.listed h));
+  listed = λ spared h. rw (counts.same, counts.system) (listed_answered spared sub _ _ outcome answer ok err (did.listed spared h));
   names = λ q. rw counts.same (names_answered sub _ outcome answer ok err (did.exact q));
 }

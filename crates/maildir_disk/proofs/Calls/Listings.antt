@@ -1,9 +1,10 @@
 -- A listing, from the calls of the system.
-use Rattle.std.proofs.Common.{◌≡◌, ◌≤◌, ℕ, Option, Some, None, Result, Ok, Err, IsErr, Vec, String, Global, subst}
+use Rattle.std.proofs.Common.{◌≡◌, ◌≤◌, ◌<◌, ℕ, Option, Some, None, Result, Ok, Err, IsErr, Vec, String, Global, subst}
 use Rattle.std.proofs.lemmas.Bool.{false≢true}
+use Rattle.std.specs.Duration.{as_nanos}
 use Rattle.std.specs.declared.time.Duration.{Duration}
 use Rattle.std.specs.declared.time.SystemTime.{SystemTime}
-use Rattle.maildir_disk.proofs.Common.{Sub, IsSettled, IsFarAhead, IsStampWithin, system_time_nanos}
+use Rattle.maildir_disk.proofs.Common.{Sub, IsSettled, IsFarAhead, IsStampWithin, system_time_nanos, Spared}
 use Rattle.maildir_disk.specs.declared.one_moment.Look.{Look}
 use Rattle.maildir_disk.specs.declared.one_moment.Look.TheVariants.{Taken, Wait}
 use Rattle.maildir_disk.specs.Private.Look.{Attempts, ReadsAtOnce, Watches}
@@ -25,55 +26,60 @@ pub watches : {E F G : Type 0} {sub : Sub} {stamp : ℕ} {a b c : SeenSystem} {n
     → Watches {E = G} sub stamp a (Ok (Some names)) c
 watches {sub} {stamp} {a} {b} {c} reads stamps same = record {
   looks = looks_then reads.looks stamps.looks;
-  watched = λ h.
-      let on = reads.looks.honest h in
-      watched (reads.passes h) (stamps.passes on) (reads.names h) (subst (λ s. IsStampWithin sub b.world s c.world) same (stamps.stamp on));
+  watched = λ spared h.
+      let on = reads.looks.honest spared h in
+      watched (reads.passes spared h) (stamps.passes spared on) (reads.names spared h)
+      (subst (λ s. IsStampWithin spared sub b.world s c.world) same (stamps.stamp spared on));
   exact = reads.exact;
 }
 
 -- ---- one attempt
 pub attempt_failed : {E : Type 0} (sub : Sub) {a b : SeenSystem} (outcome : Result Look E) → IsErr outcome → Looks a b → Attempts sub a outcome b
 attempt_failed sub (Ok _) is_err looks = absurd (false≢true is_err)
-attempt_failed sub (Err _) is_err looks = record { looks = looks; looked = looks.acts; exact = λ q. tt }
+attempt_failed sub (Err _) is_err looks = record { looks = looks; looked = looks.acts; exact = λ q. tt; pauses = tt }
 
-pub must_wait : {E : Type 0} {sub : Sub} {pause : Duration} {a b : SeenSystem} → Looks a b → Attempts {E = E} sub a (Ok (Wait pause)) b
-must_wait looks = record { looks = looks; looked = looks.acts; exact = λ q. tt }
+pub must_wait : {E : Type 0} {sub : Sub} {pause : Duration} {a b : SeenSystem} → 0 < as_nanos pause → Looks a b
+    → Attempts {E = E} sub a (Ok (Wait pause)) b
+must_wait some looks = record { looks = looks; looked = looks.acts; exact = λ q. tt; pauses = some }
 
 -- the stamp had settled before the names were read
 pub taken_if_settled : {E F : Type 0} {sub : Sub} {stamp now : ℕ} {a b c : SeenSystem} {names : Vec (String Global) Global} → IsSettled stamp now
-    → Looks a b → (a.honest → now ≤ b.world.time) → Watches {E = E} sub stamp b (Ok (Some names)) c → Attempts {E = F} sub a (Ok (Taken names)) c
+    → Looks a b → ((spared : Spared) → a.honest spared → now ≤ b.world.time) → Watches {E = E} sub stamp b (Ok (Some names)) c
+    → Attempts {E = F} sub a (Ok (Taken names)) c
 taken_if_settled settled looks no_later watches = record {
   looks = looks_then looks watches.looks;
-  looked = λ h.
-      let found = watches.watched (looks.honest h) in
-      lists_at (looks.acts h) found.acts (exact_if_settled settled (no_later h) found);
+  looked = λ spared h.
+      let found = watches.watched spared (looks.honest spared h) in
+      lists_at (looks.acts spared h) found.acts (exact_if_settled settled (no_later spared h) found);
   exact = λ q. rw (looks.quietly q) at (watches.exact (looks.quiet q));
+  pauses = tt;
 }
 
 -- the stamp was far ahead of the clock after the names were read
 pub taken_if_ahead : {E F : Type 0} {sub : Sub} {stamp later : ℕ} {a b c d : SeenSystem} {names : Vec (String Global) Global} → IsFarAhead stamp later
-    → Looks a b → Watches {E = E} sub stamp b (Ok (Some names)) c → Looks c d → (c.honest → c.world.time ≤ later)
+    → Looks a b → Watches {E = E} sub stamp b (Ok (Some names)) c → Looks c d → ((spared : Spared) → c.honest spared → c.world.time ≤ later)
     → Attempts {E = F} sub a (Ok (Taken names)) d
 taken_if_ahead ahead looks watches then no_earlier = record {
   looks = looks_then looks (looks_then watches.looks then);
-  looked = λ h.
-      let on = looks.honest h in
-      let read = watches.looks.honest on in
-      let found = watches.watched on in
-      lists_at (looks.acts h) (acts_on found.acts (then.acts read)) (exact_if_ahead ahead (no_earlier read) found);
+  looked = λ spared h.
+      let on = looks.honest spared h in
+      let read = watches.looks.honest spared on in
+      let found = watches.watched spared on in
+      lists_at (looks.acts spared h) (acts_on found.acts (then.acts spared read)) (exact_if_ahead ahead (no_earlier spared read) found);
   exact = λ q. rw (looks.quietly q) at (watches.exact (looks.quiet q));
+  pauses = tt;
 }
 
 -- ---- several attempts
 pub reading_failed : {E : Type 0} (sub : Sub) {a b : SeenSystem} (outcome : Result (Vec (String Global) Global) E)
     → IsErr outcome → Looks a b → ReadsAtOnce sub a outcome b
 reading_failed sub (Ok _) is_err looks = absurd (false≢true is_err)
-reading_failed sub (Err _) is_err looks = record { looks = looks; listed = λ h. acts_failed (looks.acts h); exact = λ q. tt }
+reading_failed sub (Err _) is_err looks = record { looks = looks; listed = λ spared h. acts_failed (looks.acts spared h); exact = λ q. tt }
 
 pub names_taken : {E F : Type 0} {sub : Sub} {a b c : SeenSystem} {names : Vec (String Global) Global} → Looks a b
     → Attempts {E = E} sub b (Ok (Taken names)) c → ReadsAtOnce {E = F} sub a (Ok names) c
 names_taken looks attempt = record {
   looks = looks_then looks attempt.looks;
-  listed = λ h. lists_later (looks.acts h) (attempt.looked (looks.honest h));
+  listed = λ spared h. lists_later (looks.acts spared h) (attempt.looked spared (looks.honest spared h));
   exact = λ q. rw (looks.quietly q) at (attempt.exact (looks.quiet q));
 }

@@ -6,30 +6,33 @@ use Rattle.maildir_disk.proofs.Left.Lefts.{left_by_others_then, left_none}
 
 pub looks_none : {a : SeenSystem} → Looks a a
 looks_none = record {
-  honest = λ h. h;
-  acts = λ h. acts_none;
-  left = λ h. left_none;
-  still_rooted = λ h r. r;
+  honest = λ spared h. h;
+  acts = λ spared h. acts_none;
+  left = λ spared h. left_none;
+  still_rooted = λ spared h r. r;
+  touches = λ name now. now;
   quiet = λ q. q;
   quietly = λ q. refl;
 }
 
 pub looks_then : {a b c : SeenSystem} → Looks a b → Looks b c → Looks a c
 looks_then first then = record {
-  honest = λ h. then.honest (first.honest h);
-  acts = λ h. acts_on (first.acts h) (then.acts (first.honest h));
-  left = λ h. left_by_others_then (first.left h) (then.left (first.honest h));
-  still_rooted = λ h r. then.still_rooted (first.honest h) (first.still_rooted h r);
+  honest = λ spared h. then.honest spared (first.honest spared h);
+  acts = λ spared h. acts_on (first.acts spared h) (then.acts spared (first.honest spared h));
+  left = λ spared h. left_by_others_then (first.left spared h) (then.left spared (first.honest spared h));
+  still_rooted = λ spared h r. then.still_rooted spared (first.honest spared h) (first.still_rooted spared h r);
+  touches = λ name now. first.touches name (then.touches name now);
   quiet = λ q. then.quiet (first.quiet q);
   quietly = λ q. then.quietly (first.quiet q) ∙ first.quietly q;
 }
 
 pub asks_then : {A E : Type 0} {a b c : SeenSystem} {outcome : Result A E} → Looks a b → Asks b outcome c → Asks a outcome c
 asks_then first then = record {
-  honest = λ h. then.honest (first.honest h);
-  acts = λ h. acts_on (first.acts h) (then.acts (first.honest h));
-  left = λ h. left_by_others_then (first.left h) (then.left (first.honest h));
-  still_rooted = λ h r. then.still_rooted (first.honest h) (first.still_rooted h r);
+  honest = λ spared h. then.honest spared (first.honest spared h);
+  acts = λ spared h. acts_on (first.acts spared h) (then.acts spared (first.honest spared h));
+  left = λ spared h. left_by_others_then (first.left spared h) (then.left spared (first.honest spared h));
+  still_rooted = λ spared h r. then.still_rooted spared (first.honest spared h) (first.still_rooted spared h r);
+  touches = λ name now. first.touches name (then.touches name now);
   quiet = λ q. then.quiet (first.quiet q);
   quietly = λ q. then.quietly (first.quiet q) ∙ first.quietly q;
 }
@@ -41,6 +44,7 @@ kept_looks asks = record {
   acts = asks.acts;
   left = asks.left;
   still_rooted = asks.still_rooted;
+  touches = asks.touches;
   quiet = asks.quiet;
   quietly = asks.quietly;
 }

@@ -2,6 +2,7 @@
 use Rattle.std.proofs.Common.{◌≡◌, inl, inr, ℕ, List, [], ◌∷◌, ◌++◌, refl, ◌∙◌, Result, Ok, Err, take, rules}
 use Rattle.maildir_disk.proofs.Common.{Error, Files, Writing, Move, Other, Again, Torn, after, effect, IsOwn, CalledQuietly, AppendedQuietly, changed}
 use Rattle.maildir_disk.proofs.Calls.Pieces.{changed_again}
+use Rattle.maildir_disk.proofs.Common.{all_bases}
 
 -- the effect of a torn write, as a write of other bytes
 abbrev as_torn : List ℕ → List Move → List Move
@@ -17,7 +18,7 @@ as_torn_own bytes (Again ∷ ms) own = as_torn_own bytes ms own
 as_torn_own bytes (Torn held ∷ ms) own = as_torn_own bytes ms own
 
 after_torn : (name whole bytes : List ℕ) (ms : List Move) (s : Files) → IsOwn ms
-    → after s (Writing name bytes) ms ≡ after s (Writing name whole) (as_torn bytes ms)
+    → after all_bases s (Writing name bytes) ms ≡ after all_bases s (Writing name whole) (as_torn bytes ms)
 after_torn name whole bytes [] s own = refl
 after_torn name whole bytes (Other action ∷ ms) s own = absurd own
 after_torn name whole bytes (Again ∷ ms) s own = after_torn name whole bytes ms (effect (Writing name bytes) s) own
@@ -25,7 +26,7 @@ after_torn name whole bytes (Torn held ∷ ms) s own = after_torn name whole byt
 
 -- what a failed write leaves
 abbrev pub WriteEndedEarly : List ℕ → List ℕ → Files → Files → Type 0
-WriteEndedEarly name bytes old new = (moves : List Move) × IsOwn moves × (new ≡ after old (Writing name bytes) moves)
+WriteEndedEarly name bytes old new = (moves : List Move) × IsOwn moves × (new ≡ after all_bases old (Writing name bytes) moves)
 
 pub torn_quietly : {name : List ℕ} (held : List ℕ) {bytes : List ℕ} {old new : Files} → new ≡ effect (Writing name held) old
     → WriteEndedEarly name bytes old new

@@ -15,12 +15,13 @@ pub sync_failed : {S File A B E F : Type 0} (f : Ghosts S File) {old new : S} {o
     → Asks (f.at old) outcome (f.at new) → SyncsMaildir f old result new
 sync_failed f (Ok x) is asks = absurd (false≢true is)
 sync_failed f (Err e) is asks = record {
-  honest = λ h. tt;
+  honest = λ spared h. tt;
   acts = asks.acts;
   left = asks.left;
-  rooted = λ h. tt;
+  rooted = λ spared h. tt;
   still_rooted = asks.still_rooted;
-  synced = λ h. tt;
+  touches = asks.touches;
+  synced = λ spared h. tt;
   quiet = λ q. tt;
   quietly = asks.quietly;
 }

@@ -1,13 +1,14 @@
 -- What a power cut leaves after a sync of `new`, and then of `cur`.
-use Rattle.std.proofs.Common.{◌≡◌, ℕ, false, List, [], ◌∷◌, ◌++◌, Option, Some, None, IsTrue, All, refl, sym, ap, subst, ◌∙◌, Contains, is_some, arith}
+use Rattle.std.proofs.Common.{◌≡◌, ℕ, false, List, [], ◌∷◌, ◌++◌, Option, Some, None, IsTrue, refl, sym, ap, subst, ◌∙◌, Contains, is_some, arith, get_or}
 use Rattle.std.proofs.Common.{rules}
-use Rattle.maildir_disk.proofs.Common.{contains_key, Contains-append_left, Contains-append_right, is_converter_name, is_converter_base, Sub, New}
+use Rattle.maildir_disk.proofs.Common.{contains_key, Contains-append_left, Contains-append_right, Sub, New}
 use Rattle.maildir_disk.proofs.Common.{Cur, World, Acts, Message, AreNamed, IsHome, FileMap, Files, Action, acted, all_acted, held_under, acted_kept}
 use Rattle.maildir_disk.proofs.Common.{is_name-true, homes_one, none_held, held_none, IsIntact, HasBody, KeepsNames, LeftByOthers, Syncs}
 use Rattle.maildir_disk.proofs.Calls.Passing.{all_acted-append}
 use Rattle.maildir_disk.proofs.Left.Lefts.{leaves_then}
 use Rattle.maildir_run.proofs.Call.ListedNowhere.{all_acted_new}
 use Rattle.maildir_disk.proofs.Left.LeftHomes.{first_in, intact_on, others_hold}
+use Rattle.maildir_disk.proofs.Common.{Spared, is_spared, is_spared_name, AllSpared, spared_named}
 
 -- what a list holds if it can hold one thing alone
 only : {x : List ℕ} (found : List (List ℕ)) → ((y : List ℕ) → Contains found y → y ≡ x) → (found ≡ [] → ⊥) → Contains found x
@@ -18,10 +19,10 @@ none_if_not_some : (o : Option (List ℕ)) → is_some o ≡ false → o ≡ Non
 none_if_not_some None e = refl
 none_if_not_some (Some x) e = cc
 
-module _ (m : Message) (named : IsTrue (is_converter_base m.target.base)) where
+module _ (spared : Spared) (m : Message) (named : IsTrue (is_spared spared m.target.base)) where
   -- two folders that have the same converter's names
   abbrev Alike : FileMap → FileMap → Type 0
-  Alike there moment = (name : List ℕ) → IsTrue (is_converter_name name) → contains_key there name ≡ contains_key moment name
+  Alike there moment = (name : List ℕ) → IsTrue (is_spared_name spared name) → contains_key there name ≡ contains_key moment name
 
   none_alike : (there moment : FileMap) → Alike there moment → held_under m.target.base there ≡ [] → held_under m.target.base moment ≡ []
   none_alike there moment alike none = grind (arith, held_none, is_name-true, none_if_not_some, none_held)
@@ -32,13 +33,14 @@ module _ (m : Message) (named : IsTrue (is_converter_base m.target.base)) where
   found_cur : (moment there : Files) → Alike there.cur moment.cur → IsIntact there m → (held_under m.target.base moment.cur ≡ [] → ⊥) → HasBody there m
   found_cur moment there alike intact some = search (rules, Contains-append_right, only, none_alike)
 
-  pub still_home : (actions : List Action) (s : Files) → IsHome s m → IsHome (all_acted actions s) m
+  pub still_home : (actions : List Action) (s : Files) → IsHome s m → IsHome (all_acted spared actions s) m
   still_home [] s home = home
   still_home (action ∷ actions) s home =
-      still_home actions (acted action s) (homes_one m.target.base m.body s (acted action s) (acted_kept m.target.base named action s) home)
+      still_home actions (acted spared action s)
+      (homes_one m.target.base m.body s (acted spared action s) (acted_kept spared m.target.base named action s) home)
 
   pub kept_names : {s t u before mid left : Files} → IsHome s m → IsIntact before m
-      → KeepsNames New s before t mid → KeepsNames Cur t mid u left → HasBody left m
+      → KeepsNames spared New s before t mid → KeepsNames spared Cur t mid u left → HasBody left m
   kept_names {s} {before} {mid} {left} home intact first then =
       let whole = intact_on m before first.there (others_hold m named first.earlier) intact in
       let whole_mid = intact_on m first.there mid (others_hold m named first.later) whole in
@@ -50,30 +52,32 @@ module _ (m : Message) (named : IsTrue (is_converter_base m.target.base)) where
             ((others_hold m named then.earlier).still ((others_hold m named first.later).still has))
         | [] ↦ λ none.
             let none_then : held_under m.target.base then.moment.new ≡ [] =
-            subst (λ x. held_under m.target.base x.new ≡ []) (sym (then.moment_is ∙ ap (all_acted then.actions) first.new_is))
-            (all_acted_new m.target.base named then.actions (all_acted first.rest first.moment)
-            (all_acted_new m.target.base named first.rest first.moment none)) in
+            subst (λ x. held_under m.target.base x.new ≡ []) (sym (then.moment_is ∙ ap (all_acted spared then.actions) first.new_is))
+            (all_acted_new spared m.target.base named then.actions (all_acted spared first.rest first.moment)
+            (all_acted_new spared m.target.base named first.rest first.moment none)) in
             let home_then : IsHome then.moment m =
-            subst (λ x. IsHome x m) (sym (then.moment_is ∙ (ap (all_acted then.actions) (first.new_is ∙ ap (all_acted first.rest) first.moment_is))))
+            subst (λ x. IsHome x m)
+            (sym (then.moment_is ∙ (ap (all_acted spared then.actions) (first.new_is ∙ ap (all_acted spared first.rest) first.moment_is))))
             (still_home then.actions _ (still_home first.rest _ (still_home first.actions s home))) in
             let has = found_cur then.moment then.there then.names_are whole_then (λ off.
             let one = sym home_then ∙ (ap (λ xs. xs ++ held_under m.target.base then.moment.cur) none_then ∙ off) in cc) in
             (others_hold m named then.later).still has
       ] refl
 
-pub synced_bodies : (ms : List Message) → AreNamed ms → {old before new left : Files}
-    → All (IsHome old) ms → All (IsIntact before) ms → Syncs old before new left → All (HasBody left) ms
-synced_bodies ms named home intact syncs k d below = search (rules, kept_names)
+pub synced_bodies : {spared : Spared} (ms : List Message) → AreNamed ms → {old before new left : Files}
+    → AllSpared spared (IsHome old) ms → AllSpared spared (IsIntact before) ms → Syncs spared old before new left → AllSpared spared (HasBody left) ms
+synced_bodies {spared} ms named home intact syncs k d below sp =
+    kept_names spared (get_or ms k d) (spared_named spared _ sp (named k d below)) (home k d below sp) (intact k d below sp) syncs.first syncs.then
 
 -- a sync of one folder, and then what other programs did
-pub kept_later : {sub : Sub} {s before : Files} {t u : World} {mid left : Files}
-    → KeepsNames sub s before t.files mid → Acts t u → LeftByOthers mid left → KeepsNames sub s before u.files left
-kept_later keeps acts leaves = record {
+pub kept_later : {spared : Spared} {sub : Sub} {s before : Files} {t u : World} {mid left : Files}
+    → KeepsNames spared sub s before t.files mid → Acts spared t u → LeftByOthers spared mid left → KeepsNames spared sub s before u.files left
+kept_later {spared} keeps acts leaves = record {
   moment = keeps.moment;
   actions = keeps.actions;
   moment_is = keeps.moment_is;
   rest = keeps.rest ++ acts.actions;
-  new_is = acts.files_are ∙ (ap (all_acted acts.actions) keeps.new_is ∙ sym (all_acted-append keeps.rest acts.actions keeps.moment));
+  new_is = acts.files_are ∙ (ap (all_acted spared acts.actions) keeps.new_is ∙ sym (all_acted-append spared keeps.rest acts.actions keeps.moment));
   there = keeps.there;
   earlier = keeps.earlier;
   later = leaves_then keeps.later leaves;

@@ -1,13 +1,13 @@
 -- What a power cut leaves of the files of one base, from one move to the next.
-use Rattle.std.proofs.Common.{◌≡◌, ℕ, true, false, cond, zero, suc, List, [], ◌∷◌, ◌++◌, ◌⊎◌, Option, Some, None, All, get_or, IsPermutation, IsTrue, refl, sym}
+use Rattle.std.proofs.Common.{◌≡◌, ℕ, true, false, cond, zero, suc, List, [], ◌∷◌, ◌++◌, ◌⊎◌, Option, Some, None, get_or, IsPermutation, IsTrue, refl, sym}
 use Rattle.std.proofs.Common.{ap, subst, ◌∙◌, inl, inr, arith, Contains, rules}
 use Rattle.maildir_disk.proofs.Common.{get, insert, remove, get-insert, get-remove, same_map, cases_Bool, and_parts, Contains-push, Contains-append_left}
-use Rattle.maildir_disk.proofs.Common.{Contains-append_right, Contains-append_cases, Place, is_converter_name, is_converter_base, FileMap, Files, is_name}
+use Rattle.maildir_disk.proofs.Common.{Contains-append_right, Contains-append_cases, Place, FileMap, Files, is_name}
 use Rattle.maildir_disk.proofs.Common.{has_base, held_under, homes, Action, ToCur, Reflag, DropTmp, Outside, may_take, Call, Writing, Placing, Move}
 use Rattle.maildir_disk.proofs.Common.{Other, Again, Torn, placed, moved, PlacesElsewhere, StaysOrGoes, Leaves, IsFoundWhole, Came, Doubled, linked, doubled}
 use Rattle.maildir_disk.proofs.Common.{left_after, Message, AreNamed, total, same, is_name-true, get-insert_same, absent, acted_kept, equally}
 use Rattle.maildir_disk.proofs.Common.{held-insert_other, held-insert_new, held-remove_old, after_kept, after_tmp, HasBody, IsIntact, LeftByOthers}
-use Rattle.maildir_disk.proofs.Common.{AreIntact, Follows, Survive}
+use Rattle.maildir_disk.proofs.Common.{AreIntact, Follows, Survive, Spared, is_spared, is_spared_name, AllSpared, spared_named}
 use Rattle.std.proofs.lemmas.List.Sorted.{IsPermutation-sym, Contains-permutation}
 use Rattle.maildir_name.specs.declared.target.Place.TheVariants.{New, Cur}
 use Rattle.maildir_disk.proofs.Calls.Pieces.{again}
@@ -90,9 +90,10 @@ abbrev pub SteadyAt : (b x : List ℕ) (old new : Files) → Type 0
 SteadyAt b x old new = Steady x (homes old b) (homes new b)
 
 -- a file that was written survives whole as long as no call writes it again
-whole_on : (name : List ℕ) {x : List ℕ} (s t : Files) → StaysOrGoes name s t → IsFoundWhole (Writing name x) s → IsFoundWhole (Writing name x) t
-whole_on name s t (inl stays) whole = grind arith
-whole_on name s t (inr gone) whole = grind arith
+whole_on : (spared : Spared) (name : List ℕ) {x : List ℕ} (s t : Files) → StaysOrGoes name s t → IsFoundWhole spared (Writing name x) s
+    → IsFoundWhole spared (Writing name x) t
+whole_on spared name s t (inl stays) whole = grind arith
+whole_on spared name s t (inr gone) whole = grind arith
 
 linked_tmp : (s : Files) (name target : List ℕ) (o : Option (List ℕ)) → (linked s name target o).tmp ≡ s.tmp
 linked_tmp s name target None = refl
@@ -170,65 +171,71 @@ module _ (b x : List ℕ) where
   placed_steady s name New target (Some held) on whole = grind (arith, steady_left (held_under b s.cur) (inserted_steady s.new target on))
   placed_steady s name Cur target (Some held) on whole = grind (arith, steady_right (held_under b s.new) (inserted_steady s.cur target on))
 
-  module _ (named : IsTrue (is_converter_base b)) where
+  module _ (spared : Spared) (named : IsTrue (is_spared spared b)) where
     -- a call that places nothing at the base
-    left_elsewhere : (call : Call) → PlacesElsewhere b call → (kept : List cuts.CutMove) (s : Files) → SteadyAt b x s (left_after s call kept)
+    left_elsewhere : (call : Call) → PlacesElsewhere b call → (kept : List cuts.CutMove) (s : Files) → SteadyAt b x s (left_after spared s call kept)
     left_elsewhere call off [] s = steady_same s
     left_elsewhere call off (Came move ∷ kept) s =
-        steady_then s (moved call move s) (left_after s call (Came move ∷ kept))
-        (steady_kept s (moved call move s) (after_kept b named call off (move ∷ []) s)) (left_elsewhere call off kept (moved call move s))
+        steady_then s (moved spared call move s) (left_after spared s call (Came move ∷ kept))
+        (steady_kept s (moved spared call move s) (after_kept spared b named call off (move ∷ []) s)) (left_elsewhere call off kept (moved spared call move s))
     left_elsewhere call off (Doubled action ∷ kept) s =
-        steady_then s (doubled action s) (left_after s call (Doubled action ∷ kept)) (doubled_steady action s) (left_elsewhere call off kept (doubled action s))
+        steady_then s (doubled action s) (left_after spared s call (Doubled action ∷ kept)) (doubled_steady action s)
+        (left_elsewhere call off kept (doubled action s))
 
-    pub leaves_elsewhere : {call : Call} → PlacesElsewhere b call → {s t : Files} → Leaves call s t → SteadyAt b x s t
+    pub leaves_elsewhere : {call : Call} → PlacesElsewhere b call → {s t : Files} → Leaves spared call s t → SteadyAt b x s t
     leaves_elsewhere {call} off {s} leaves = search (rules, left_elsewhere)
 
     -- a call that places a file of `tmp` at the base, which was written with these bytes
-    module _ (name : List ℕ) (p : Place) (target : List ℕ) (ours : IsTrue (is_converter_name name)) (on : has_base b target ≡ true) where
-      placing_moved : (move : Move) (s : Files) → IsFoundWhole (Writing name x) s → SteadyAt b x s (moved (Placing name p target) move s)
+    module _ (name : List ℕ) (p : Place) (target : List ℕ) (ours : IsTrue (is_spared_name spared name)) (on : has_base b target ≡ true) where
+      placing_moved : (move : Move) (s : Files) → IsFoundWhole spared (Writing name x) s → SteadyAt b x s (moved spared (Placing name p target) move s)
       placing_moved (Other action) s whole = grind (arith, steady_kept, acted_kept)
       placing_moved Again s whole = grind (arith, placed_steady)
       placing_moved (Torn bytes) s whole = steady_same s
 
-      left_placing : (kept : List cuts.CutMove) (s : Files) → IsFoundWhole (Writing name x) s → SteadyAt b x s (left_after s (Placing name p target) kept)
+      left_placing : (kept : List cuts.CutMove) (s : Files) → IsFoundWhole spared (Writing name x) s
+          → SteadyAt b x s (left_after spared s (Placing name p target) kept)
       left_placing [] s whole = steady_same s
       left_placing (Came move ∷ kept) s whole =
-          let t = moved (Placing name p target) move s in
-          steady_then s t (left_after s (Placing name p target) (Came move ∷ kept)) (placing_moved move s whole)
-          (left_placing kept t (whole_on name s t (after_tmp name ours (Placing name p target) tt (move ∷ []) s) whole))
+          let t = moved spared (Placing name p target) move s in
+          steady_then s t (left_after spared s (Placing name p target) (Came move ∷ kept)) (placing_moved move s whole)
+          (left_placing kept t (whole_on spared name s t (after_tmp spared name ours (Placing name p target) tt (move ∷ []) s) whole))
       left_placing (Doubled action ∷ kept) s whole =
           let t = doubled action s in
-          steady_then s t (left_after s (Placing name p target) (Doubled action ∷ kept)) (doubled_steady action s)
-          (left_placing kept t (whole_on name s t (inl (ap (λ m. get m name) (doubled_tmp action s))) whole))
+          steady_then s t (left_after spared s (Placing name p target) (Doubled action ∷ kept)) (doubled_steady action s)
+          (left_placing kept t (whole_on spared name s t (inl (ap (λ m. get m name) (doubled_tmp action s))) whole))
 
-      pub leaves_placing : {s t : Files} → IsFoundWhole (Writing name x) s → Leaves (Placing name p target) s t → SteadyAt b x s t
+      pub leaves_placing : {s t : Files} → IsFoundWhole spared (Writing name x) s → Leaves spared (Placing name p target) s t → SteadyAt b x s t
       leaves_placing {s} whole leaves = search (rules, left_placing)
 
 -- ---- a message with this base
 pub intact_on : (m : Message) (s t : Files) → SteadyAt m.target.base m.body s t → IsIntact s m → IsIntact t m
 intact_on m s t holds intact bytes h = elim (holds.within bytes h) [ inl is ↦ is | inr there ↦ intact bytes there ]
 
-pub others_hold : (m : Message) → IsTrue (is_converter_base m.target.base) → {s t : Files} → LeftByOthers s t → SteadyAt m.target.base m.body s t
-others_hold m named leaves = leaves_elsewhere m.target.base m.body named tt leaves
+pub others_hold : {spared : Spared} (m : Message) → IsTrue (is_spared spared m.target.base) → {s t : Files} → LeftByOthers spared s t
+    → SteadyAt m.target.base m.body s t
+others_hold {spared} m named leaves = leaves_elsewhere m.target.base m.body spared named tt leaves
 
 -- ---- several messages
-abbrev pub AllHold : List Message → Files → Files → Type 0
-AllHold ms s t = All (λ m. SteadyAt m.target.base m.body s t) ms
+abbrev pub AllHold : Spared → List Message → Files → Files → Type 0
+AllHold spared ms s t = AllSpared spared (λ m. SteadyAt m.target.base m.body s t) ms
 
-pub all_intact : (ms : List Message) (s t : Files) → AllHold ms s t → All (IsIntact s) ms → All (IsIntact t) ms
-all_intact ms s t hold intact k d below = intact_on (get_or ms k d) s t (hold k d below) (intact k d below)
+pub all_intact : (spared : Spared) (ms : List Message) (s t : Files) → AllHold spared ms s t
+    → AllSpared spared (IsIntact s) ms → AllSpared spared (IsIntact t) ms
+all_intact spared ms s t hold intact k d below sp = intact_on (get_or ms k d) s t (hold k d below sp) (intact k d below sp)
 
-pub all_bodies : (ms : List Message) (s t : Files) → AllHold ms s t → All (HasBody s) ms → All (HasBody t) ms
-all_bodies ms s t hold bodies k d below = (hold k d below).still (bodies k d below)
+pub all_bodies : (spared : Spared) (ms : List Message) (s t : Files) → AllHold spared ms s t
+    → AllSpared spared (HasBody s) ms → AllSpared spared (HasBody t) ms
+all_bodies spared ms s t hold bodies k d below sp = (hold k d below sp).still (bodies k d below sp)
 
-pub all_beside : (ms : List Message) {s t : Files} → AreNamed ms → LeftByOthers s t → AllHold ms s t
-all_beside ms named leaves k d below = grind (arith, others_hold)
+pub all_beside : {spared : Spared} (ms : List Message) {s t : Files} → AreNamed ms → LeftByOthers spared s t → AllHold spared ms s t
+all_beside {spared} ms named leaves k d below sp = others_hold (get_or ms k d) (spared_named spared _ sp (named k d below)) leaves
 
 -- a step after which the messages hold, over all that a power cut may leave
-module _ (ms : List Message) {of : Files → Files → Type 0} {before now : Files → Type 0} (hold : (s t : Files) → of s t → AllHold ms s t)
+module _ (spared : Spared) (ms : List Message) {of : Files → Files → Type 0} {before now : Files → Type 0}
+    (hold : (s t : Files) → of s t → AllHold spared ms s t)
     (follows : Follows of before now) where
-  pub left_intact : AreIntact ms before → AreIntact ms now
-  left_intact intact left may = let was = follows left may in all_intact ms was.0 left (hold was.0 left was.2) (intact was.0 was.1)
+  pub left_intact : AreIntact spared ms before → AreIntact spared ms now
+  left_intact intact left may = let was = follows left may in all_intact spared ms was.0 left (hold was.0 left was.2) (intact was.0 was.1)
 
-  pub left_bodies : Survive ms before → Survive ms now
-  left_bodies survive left may = let was = follows left may in all_bodies ms was.0 left (hold was.0 left was.2) (survive was.0 was.1)
+  pub left_bodies : Survive spared ms before → Survive spared ms now
+  left_bodies survive left may = let was = follows left may in all_bodies spared ms was.0 left (hold was.0 left was.2) (survive was.0 was.1)

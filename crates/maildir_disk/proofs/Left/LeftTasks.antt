@@ -1,8 +1,8 @@
 -- What a power cut leaves of the tasks of a run.
 use Rattle.std.proofs.Common.{◌≡◌, ℕ, ◌<◌, ◌^◌, length, get_or, Bool, true, false, cond, List, [], ◌∷◌, ◌++◌, ◌⊎◌, All, IsTrue, IsFalse, Result, Ok, Err, sym}
 use Rattle.std.proofs.Common.{ap, subst, inl, inr, arith}
-use Rattle.maildir_disk.proofs.Common.{cases_Bool, cases_order, false≢true, All-head, All-tail, is_converter_name, is_converter_base, Writing, Placing}
-use Rattle.maildir_disk.proofs.Common.{Follows}
+use Rattle.maildir_disk.proofs.Common.{cases_Bool, cases_order, false≢true, All-head, All-tail, Writing, Placing}
+use Rattle.maildir_disk.proofs.Common.{Follows, Spared, is_spared, is_spared_name, spared_named}
 use Rattle.maildir_disk.proofs.Common.{PlacesElsewhere, Leaves, Message, AreNamed, AreDistinct, Files, is_name, has_base, MessagesOf, converters, is_name-true}
 use Rattle.maildir_disk.proofs.Common.{is_name-refl, text_named, text_targets, text_distinct, AreAlike}
 use Rattle.std.proofs.lemmas.List.{get_or_default}
@@ -16,52 +16,55 @@ use Rattle.maildir_run.proofs.Tasks.TaskEffects.{EachTask, PlacesNone, all_parts
 use Rattle.maildir_disk.proofs.Left.LeftHomes.{SteadyAt, steady_same, steady_then, leaves_elsewhere, leaves_placing, AllHold}
 
 -- how what a power cut leaves changes in a run with this result
-abbrev pub RunLeaves : {A E : Type 0} → List Message → (Files → Type 0) → Result A E → (Files → Type 0) → Type 0
-RunLeaves ms before answer now = Follows (λ old new. (names : Listings) × Performs leaving (planned_tasks names ms) old answer new) before now
+abbrev pub RunLeaves : (spared : Spared) {A E : Type 0} → List Message → (Files → Type 0) → Result A E → (Files → Type 0) → Type 0
+RunLeaves spared ms before answer now = Follows (λ old new. (names : Listings) × Performs (leaving spared) (planned_tasks names ms) old answer new) before now
 
 -- ---- the parts of a list of tasks
 -- what a power cut leaves of tasks that all succeeded, or of which one failed
-abbrev pub LeavesTasks : (ended : Bool) → List Task → Files → Files → Type 0
-LeavesTasks true tasks old new = AllDone leaving tasks old new
-LeavesTasks false tasks old new = Stopped leaving tasks old new
+abbrev pub LeavesTasks : (spared : Spared) (ended : Bool) → List Task → Files → Files → Type 0
+LeavesTasks spared true tasks old new = AllDone (leaving spared) tasks old new
+LeavesTasks spared false tasks old new = Stopped (leaving spared) tasks old new
 
-left_of_no_tasks : (ended : Bool) {old new : Files} → LeavesTasks ended [] old new → new ≡ old
-left_of_no_tasks true e = e
-left_of_no_tasks false e = e
+left_of_no_tasks : (spared : Spared) (ended : Bool) {old new : Files} → LeavesTasks spared ended [] old new → new ≡ old
+left_of_no_tasks spared true e = e
+left_of_no_tasks spared false e = e
 
-one_done : (task : Task) (old new : Files) → LeavesTasks true (task ∷ []) old new → LeavesDone task old new
-one_done task old new (mid, done, e) = grind arith
+one_done : (spared : Spared) (task : Task) (old new : Files) → LeavesTasks spared true (task ∷ []) old new → LeavesDone spared task old new
+one_done spared task old new (mid, done, e) = grind arith
 
-one_left : (ended : Bool) (task : Task) {old new : Files} → LeavesTasks ended (task ∷ []) old new → Leaves (call_of task) old new
-one_left true task {old} {new} h = (one_done task old new h).0
-one_left false task (inl refused) = refused
-one_left false task {old} {new} (inr done) = (one_done task old new done).0
+one_left : (spared : Spared) (ended : Bool) (task : Task) {old new : Files} → LeavesTasks spared ended (task ∷ []) old new
+    → Leaves spared (call_of task) old new
+one_left spared true task {old} {new} h = (one_done spared task old new h).0
+one_left spared false task (inl refused) = refused
+one_left spared false task {old} {new} (inr done) = (one_done spared task old new done).0
 
 -- the tasks failed within the first part, or after it
-abbrev pub InParts : (ended : Bool) (xs ys : List Task) (old new : Files) → Type 0
-InParts ended xs ys old new = LeavesTasks ended xs old new ⊎ ((mid : Files) × LeavesTasks true xs old mid × LeavesTasks ended ys mid new)
+abbrev pub InParts : (spared : Spared) (ended : Bool) (xs ys : List Task) (old new : Files) → Type 0
+InParts spared ended xs ys old new =
+    LeavesTasks spared ended xs old new ⊎ ((mid : Files) × LeavesTasks spared true xs old mid × LeavesTasks spared ended ys mid new)
 
-parts_left : (ended : Bool) (xs ys : List Task) (old new : Files) → LeavesTasks ended (xs ++ ys) old new → InParts ended xs ys old new
-parts_left true xs ys old new h = inr (all_parts leaving xs ys old new h)
-parts_left false xs ys old new h = stopped_parts leaving xs ys old new h
+parts_left : (spared : Spared) (ended : Bool) (xs ys : List Task) (old new : Files) → LeavesTasks spared ended (xs ++ ys) old new
+    → InParts spared ended xs ys old new
+parts_left spared true xs ys old new h = inr (all_parts (leaving spared) xs ys old new h)
+parts_left spared false xs ys old new h = stopped_parts (leaving spared) xs ys old new h
 
-performs_left : {A E : Type 0} {tasks : List Task} {old new : Files} (r : Result A E)
-    → Performs leaving tasks old r new → (ended : Bool) × LeavesTasks ended tasks old new
-performs_left (Ok _) h = (true, h)
-performs_left (Err _) h = (false, h)
+performs_left : (spared : Spared) {A E : Type 0} {tasks : List Task} {old new : Files} (r : Result A E)
+    → Performs (leaving spared) tasks old r new → (ended : Bool) × LeavesTasks spared ended tasks old new
+performs_left spared (Ok _) h = (true, h)
+performs_left spared (Err _) h = (false, h)
 
 -- ---- a base at which no message has another body than these bytes
-module _ (b x : List ℕ) (named : IsTrue (is_converter_base b)) where
+module _ (spared : Spared) (b x : List ℕ) (named : IsTrue (is_spared spared b)) where
   -- after these tasks, a power cut leaves at the base what it left before, or these bytes
   abbrev pub AreSteady : List Task → Type 0
-  AreSteady tasks = (ended : Bool) (old new : Files) → LeavesTasks ended tasks old new → SteadyAt b x old new
+  AreSteady tasks = (ended : Bool) (old new : Files) → LeavesTasks spared ended tasks old new → SteadyAt b x old new
 
   none_steady : AreSteady []
   none_steady ended old new h = grind (arith, left_of_no_tasks, steady_same)
 
   both_steady : (xs ys : List Task) → AreSteady xs → AreSteady ys → AreSteady (xs ++ ys)
   both_steady xs ys first then ended old new h =
-      elim (parts_left ended xs ys old new h) [
+      elim (parts_left spared ended xs ys old new h) [
         | inl prefix ↦ first ended old new prefix
         | inr (mid, all, more) ↦ steady_then b x old mid new (first true old mid all) (then ended mid new more)
       ]
@@ -80,15 +83,15 @@ module _ (b x : List ℕ) (named : IsTrue (is_converter_base b)) where
       (elsewhere_steady (Do (Writing t.base body)) tt) (elsewhere_steady (Do (Placing t.base t.place t.name)) off)
 
   -- a message of the base, which is placed after it was written
-  own_steady : (t : Target) → IsTrue (is_converter_name t.base) → has_base b t.name ≡ true → AreSteady (delivery_of t x)
+  own_steady : (t : Target) → IsTrue (is_spared_name spared t.base) → has_base b t.name ≡ true → AreSteady (delivery_of t x)
   own_steady t ours on ended old new h =
       let write = Do (Writing t.base x) in
       let place = Do (Placing t.base t.place t.name) in
-      elim (parts_left ended _ _ old new h) [
+      elim (parts_left spared ended _ _ old new h) [
         | inl prefix ↦ elsewhere_steady write tt ended old new prefix
         | inr (mid, wrote, put) ↦
             steady_then b x old mid new (elsewhere_steady write tt true old mid wrote)
-            (leaves_placing b x named t.base t.place t.name ours on (one_done write old mid wrote).1 (one_left ended place put))
+            (leaves_placing b x spared named t.base t.place t.name ours on (one_done spared write old mid wrote).1 (one_left spared ended place put))
       ]
 
   delivery_steady : (m : Message) → IsTarget m.target → (m.target.base ≡ b → m.body ≡ x) → AreSteady (delivery_of m.target m.body)
@@ -118,9 +121,9 @@ module _ (b x : List ℕ) (named : IsTrue (is_converter_base b)) where
       (both_steady sweep deliveries (all_elsewhere sweep (sweep_places_none names.tmp)) (deliveries_steady (is_listed names.new names.cur) ms are bodies)))
 
   run_holds : {A E : Type 0} (names : Listings) (ms : List Message) → All (λ m. IsTarget m.target) ms → All (λ m. m.target.base ≡ b → m.body ≡ x) ms
-      → (old : Files) (r : Result A E) (new : Files) → Performs leaving (planned_tasks names ms) old r new → SteadyAt b x old new
+      → (old : Files) (r : Result A E) (new : Files) → Performs (leaving spared) (planned_tasks names ms) old r new → SteadyAt b x old new
   run_holds names ms are bodies old r new h =
-      let left = performs_left r h in
+      let left = performs_left spared r h in
       planned_steady names ms are bodies left.0 old new left.1
 
 -- ---- no two messages of a text have the same base
@@ -139,13 +142,15 @@ own_bodies ms distinct k d below j e there =
     ])
 
 -- ---- the messages of a text
-module _ (t : List ℕ) (ms : List Message) (are : MessagesOf t ms) (small : length t < 2 ^ 63) (names : Listings) {A E : Type 0}
-    (before : Files) (r : Result A E) (now : Files) (ran : Performs leaving (planned_tasks names ms) before r now) where
-  pub text_holds : (b x : List ℕ) → IsTrue (is_converter_base b) → All (λ m. m.target.base ≡ b → m.body ≡ x) ms → SteadyAt b x before now
-  text_holds b x named bodies = run_holds b x named names ms (text_targets t ms are small) bodies before r now ran
+module _ (spared : Spared) (t : List ℕ) (ms : List Message) (are : MessagesOf t ms) (small : length t < 2 ^ 63) (names : Listings) {A E : Type 0}
+    (before : Files) (r : Result A E) (now : Files) (ran : Performs (leaving spared) (planned_tasks names ms) before r now) where
+  pub text_holds : (b x : List ℕ) → IsTrue (is_spared spared b) → All (λ m. m.target.base ≡ b → m.body ≡ x) ms → SteadyAt b x before now
+  text_holds b x named bodies = run_holds spared b x named names ms (text_targets t ms are small) bodies before r now ran
 
-  pub texts_hold : (others : List Message) → AreNamed others → AreAlike others ms → AllHold others before now
-  texts_hold others named alike k d below = grind (arith, text_holds)
+  pub texts_hold : (others : List Message) → AreNamed others → AreAlike others ms → AllHold spared others before now
+  texts_hold others named alike k d below sp =
+      let m = get_or others k d in
+      text_holds m.target.base m.body (spared_named spared _ sp (named k d below)) (alike k d below)
 
-  pub own_hold : AllHold ms before now
+  pub own_hold : AllHold spared ms before now
   own_hold = texts_hold ms (text_named t ms are small) (own_bodies ms (text_distinct t ms are small))

@@ -1,22 +1,23 @@
 -- What a power cut leaves, from one moment of a call to the next.
 use Rattle.std.proofs.Common.{◌≡◌, inl, inr, ℕ, List, [], ◌∷◌, ◌++◌, refl, ap, sym, ◌∙◌, IsErr, IsOk, OnErr, OnOk, Result, Ok, Err}
 use Rattle.std.proofs.lemmas.Bool.{false≢true}
-use Rattle.maildir_disk.proofs.Common.{Tmp, Call, Listing, Writing, Other, Again, Torn, Succeeded, moved, CutMove, Came, Doubled, Leaves, LeavesOf}
+use Rattle.maildir_disk.proofs.Common.{Tmp, Call, Listing, Writing, Other, Again, Torn, Succeeded, moved, CutMove, Came, Doubled, Leaves, LeavesOf, Spared}
 use Rattle.maildir_disk.proofs.Common.{IsFoundWhole, Follows, left_after, doubled, Files, left_as, writing_ok, LeftByOthers, KeepsHeld}
 
 -- ---- two steps in sequence
-left_after-append : (call : Call) (xs ys : List CutMove) (s : Files) → left_after s call (xs ++ ys) ≡ left_after (left_after s call xs) call ys
-left_after-append call [] ys s = refl
-left_after-append call (Came move ∷ xs) ys s = left_after-append call xs ys (moved call move s)
-left_after-append call (Doubled action ∷ xs) ys s = left_after-append call xs ys (doubled action s)
+left_after-append : (spared : Spared) (call : Call) (xs ys : List CutMove) (s : Files)
+    → left_after spared s call (xs ++ ys) ≡ left_after spared (left_after spared s call xs) call ys
+left_after-append spared call [] ys s = refl
+left_after-append spared call (Came move ∷ xs) ys s = left_after-append spared call xs ys (moved spared call move s)
+left_after-append spared call (Doubled action ∷ xs) ys s = left_after-append spared call xs ys (doubled action s)
 
-pub leaves_none : {call : Call} {s : Files} → Leaves call s s
+pub leaves_none : {spared : Spared} {call : Call} {s : Files} → Leaves spared call s s
 leaves_none = record { kept = []; are = refl }
 
-pub leaves_then : {call : Call} {a b c : Files} → Leaves call a b → Leaves call b c → Leaves call a c
-leaves_then {call} {a} first then = record {
+pub leaves_then : {spared : Spared} {call : Call} {a b c : Files} → Leaves spared call a b → Leaves spared call b c → Leaves spared call a c
+leaves_then {spared} {call} {a} first then = record {
   kept = first.kept ++ then.kept;
-  are = then.are ∙ (ap (λ s. left_after s call then.kept) first.are ∙ sym (left_after-append call first.kept then.kept a));
+  are = then.are ∙ (ap (λ s. left_after spared s call then.kept) first.are ∙ sym (left_after-append spared call first.kept then.kept a));
 }
 
 -- ---- what other programs do within any call
@@ -27,16 +28,17 @@ of_others (Came Again ∷ kept) = of_others kept
 of_others (Came (Torn bytes) ∷ kept) = of_others kept
 of_others (Doubled action ∷ kept) = Doubled action ∷ of_others kept
 
-others_after : (call : Call) (kept : List CutMove) (s : Files) → left_after s (Listing Tmp) kept ≡ left_after s call (of_others kept)
+others_after : (spared : Spared) (call : Call) (kept : List CutMove) (s : Files)
+    → left_after spared s (Listing Tmp) kept ≡ left_after spared s call (of_others kept)
 unfolding of_others
-others_after call [] s = refl
-others_after call (Came (Other action) ∷ kept) s = others_after call kept _
-others_after call (Came Again ∷ kept) s = others_after call kept s
-others_after call (Came (Torn bytes) ∷ kept) s = others_after call kept s
-others_after call (Doubled action ∷ kept) s = others_after call kept _
+others_after spared call [] s = refl
+others_after spared call (Came (Other action) ∷ kept) s = others_after spared call kept _
+others_after spared call (Came Again ∷ kept) s = others_after spared call kept s
+others_after spared call (Came (Torn bytes) ∷ kept) s = others_after spared call kept s
+others_after spared call (Doubled action ∷ kept) s = others_after spared call kept _
 
-pub others_leave : {call : Call} {a b : Files} → LeftByOthers a b → Leaves call a b
-others_leave {call} {a} h = record { kept = of_others h.kept; are = h.are ∙ others_after call h.kept a }
+pub others_leave : {spared : Spared} {call : Call} {a b : Files} → LeftByOthers spared a b → Leaves spared call a b
+others_leave {spared} {call} {a} h = record { kept = of_others h.kept; are = h.are ∙ others_after spared call h.kept a }
 
 -- ---- a write of other bytes, torn
 cut_moves_torn : List ℕ → List CutMove → List CutMove
@@ -46,35 +48,39 @@ cut_moves_torn held (Came Again ∷ kept) = Came (Torn held) ∷ cut_moves_torn 
 cut_moves_torn held (Came (Torn bytes) ∷ kept) = Came (Torn bytes) ∷ cut_moves_torn held kept
 cut_moves_torn held (Doubled action ∷ kept) = Doubled action ∷ cut_moves_torn held kept
 
-torn_after : (name held bytes : List ℕ) (kept : List CutMove) (s : Files)
-    → left_after s (Writing name held) kept ≡ left_after s (Writing name bytes) (cut_moves_torn held kept)
+torn_after : (spared : Spared) (name held bytes : List ℕ) (kept : List CutMove) (s : Files)
+    → left_after spared s (Writing name held) kept ≡ left_after spared s (Writing name bytes) (cut_moves_torn held kept)
 unfolding cut_moves_torn
-torn_after name held bytes [] s = refl
-torn_after name held bytes (Came (Other action) ∷ kept) s = torn_after name held bytes kept _
-torn_after name held bytes (Came Again ∷ kept) s = torn_after name held bytes kept _
-torn_after name held bytes (Came (Torn _) ∷ kept) s = torn_after name held bytes kept _
-torn_after name held bytes (Doubled action ∷ kept) s = torn_after name held bytes kept _
+torn_after spared name held bytes [] s = refl
+torn_after spared name held bytes (Came (Other action) ∷ kept) s = torn_after spared name held bytes kept _
+torn_after spared name held bytes (Came Again ∷ kept) s = torn_after spared name held bytes kept _
+torn_after spared name held bytes (Came (Torn _) ∷ kept) s = torn_after spared name held bytes kept _
+torn_after spared name held bytes (Doubled action ∷ kept) s = torn_after spared name held bytes kept _
 
-pub leaves_torn : {name held bytes : List ℕ} {a b : Files} → Leaves (Writing name held) a b → Leaves (Writing name bytes) a b
-leaves_torn {name} {held} {bytes} {a} h = record { kept = cut_moves_torn held h.kept; are = h.are ∙ torn_after name held bytes h.kept a }
+pub leaves_torn : {spared : Spared} {name held bytes : List ℕ} {a b : Files} → Leaves spared (Writing name held) a b → Leaves spared (Writing name bytes) a b
+leaves_torn {spared} {name} {held} {bytes} {a} h = record { kept = cut_moves_torn held h.kept; are = h.are ∙ torn_after spared name held bytes h.kept a }
 
 -- ---- from one call to the next
-pub left_both : {call : Call} {a b c : Files → Type 0} → Follows (Leaves call) a b → Follows (Leaves call) b c → Follows (Leaves call) a c
+pub left_both : {spared : Spared} {call : Call} {a b c : Files → Type 0} → Follows (Leaves spared call) a b → Follows (Leaves spared call) b c
+    → Follows (Leaves spared call) a c
 left_both first then new may = let r = then new may in let q = first r.0 r.1 in (q.0, q.1, leaves_then q.2 r.2)
 
-pub left_early : {call : Call} {a b : Files → Type 0} → Follows LeftByOthers a b → Follows (Leaves call) a b
+pub left_early : {spared : Spared} {call : Call} {a b : Files → Type 0} → Follows (LeftByOthers spared) a b → Follows (Leaves spared call) a b
 left_early others new may = let r = others new may in (r.0, r.1, others_leave r.2)
 
-pub left_torn : {name held bytes : List ℕ} {a b : Files → Type 0} → Follows (Leaves (Writing name held)) a b → Follows (Leaves (Writing name bytes)) a b
+pub left_torn : {spared : Spared} {name held bytes : List ℕ} {a b : Files → Type 0} → Follows (Leaves spared (Writing name held)) a b
+    → Follows (Leaves spared (Writing name bytes)) a b
 left_torn torn new may = let r = torn new may in (r.0, r.1, leaves_torn r.2)
 
-pub left_more : {call : Call} {a b c : Files → Type 0} → Follows (Leaves call) a b → Follows LeftByOthers b c → Follows (Leaves call) a c
+pub left_more : {spared : Spared} {call : Call} {a b c : Files → Type 0} → Follows (Leaves spared call) a b → Follows (LeftByOthers spared) b c
+    → Follows (Leaves spared call) a c
 left_more first then = left_both first (left_early then)
 
-pub left_none : {call : Call} {a : Files → Type 0} → Follows (Leaves call) a a
+pub left_none : {spared : Spared} {call : Call} {a : Files → Type 0} → Follows (Leaves spared call) a a
 left_none new may = (new, may, leaves_none)
 
-pub left_by_others_then : {a b c : Files → Type 0} → Follows LeftByOthers a b → Follows LeftByOthers b c → Follows LeftByOthers a c
+pub left_by_others_then : {spared : Spared} {a b c : Files → Type 0} → Follows (LeftByOthers spared) a b → Follows (LeftByOthers spared) b c
+    → Follows (LeftByOthers spared) a c
 left_by_others_then = left_both
 
 -- ---- a call that returned Ok
@@ -87,32 +93,33 @@ if_ok (Ok x) is h = h
 if_ok (Err e) is h = cc
 
 -- a call that syncs nothing
-pub left_always : {A E : Type 0} {call : Call} (outcome : Result A E) {a b : Files → Type 0} → ((s : Files) → IsFoundWhole call s)
-    → Follows (Leaves call) a b → Follows (λ before now. LeavesOf call before outcome now) a b
-left_always {call} (Ok x) {a} {b} whole h = left_as (Leaves call) _ a b (λ old new leaves. (leaves, whole new)) h
+pub left_always : {spared : Spared} {A E : Type 0} {call : Call} (outcome : Result A E) {a b : Files → Type 0} → ((s : Files) → IsFoundWhole spared call s)
+    → Follows (Leaves spared call) a b → Follows (λ before now. LeavesOf spared call before outcome now) a b
+left_always {spared} {call} (Ok x) {a} {b} whole h = left_as (Leaves spared call) _ a b (λ old new leaves. (leaves, whole new)) h
 left_always (Err e) whole h = h
 
 -- the result of the folder's call, from that of the system call
-pub left_answered : {A E F : Type 0} (call : Call) (outcome : Result A E) (answer : Result A F) {a b : Files → Type 0} → OnErr outcome (IsErr answer)
-    → Follows (λ before now. LeavesOf call before outcome now) a b → Follows (λ before now. LeavesOf call before answer now) a b
-left_answered call (Ok x) (Ok y) is h = h
-left_answered call (Ok x) (Err f) {a} {b} is h = left_as _ (Leaves call) a b (λ old new leaves. leaves.0) h
-left_answered call (Err e) (Ok y) is h = absurd (false≢true is)
-left_answered call (Err e) (Err f) is h = h
+pub left_answered : (spared : Spared) {A E F : Type 0} (call : Call) (outcome : Result A E) (answer : Result A F) {a b : Files → Type 0}
+    → OnErr outcome (IsErr answer)
+    → Follows (λ before now. LeavesOf spared call before outcome now) a b → Follows (λ before now. LeavesOf spared call before answer now) a b
+left_answered spared call (Ok x) (Ok y) is h = h
+left_answered spared call (Ok x) (Err f) {a} {b} is h = left_as _ (Leaves spared call) a b (λ old new leaves. leaves.0) h
+left_answered spared call (Err e) (Ok y) is h = absurd (false≢true is)
+left_answered spared call (Err e) (Err f) is h = h
 
 -- a file that was written and synced
-pub left_written : {A E : Type 0} {name bytes : List ℕ} (outcome : Result A E) {a b : Files → Type 0} {old new : Files}
-    → Succeeded (Writing name bytes) old new → OnOk outcome (KeepsHeld name new b)
-    → Follows (Leaves (Writing name bytes)) a b → Follows (λ before now. LeavesOf (Writing name bytes) before outcome now) a b
+pub left_written : {spared : Spared} {A E : Type 0} {name bytes : List ℕ} (outcome : Result A E) {a b : Files → Type 0} {old new : Files}
+    → Succeeded spared (Writing name bytes) old new → OnOk outcome (KeepsHeld spared name new b)
+    → Follows (Leaves spared (Writing name bytes)) a b → Follows (λ before now. LeavesOf spared (Writing name bytes) before outcome now) a b
 left_written (Err e) done kept h = h
-left_written {name} {bytes} (Ok x) {old} {new} done kept h = λ left may.
+left_written {spared} {name} {bytes} (Ok x) {old} {new} done kept h = λ left may.
     let r = h left may in (
       r.0,
       r.1,
       (
         r.2,
         λ ours held has.
-            elim (writing_ok name bytes ours old new done) [
+            elim (writing_ok name bytes spared ours old new done) [
               | inl is ↦ let e = sym has ∙ (kept left may ours ∙ is) in cc
               | inr gone ↦ let e = sym has ∙ (kept left may ours ∙ gone) in cc
             ],

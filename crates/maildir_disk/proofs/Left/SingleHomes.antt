@@ -1,6 +1,6 @@
 -- What a power cut leaves of a message if it leaves no file under two names.
 use Rattle.std.proofs.Common.{◌≡◌, ℕ, ◌≤◌, List, [], ◌∷◌, ◌⊎◌, length, IsTrue, ap, inl, inr, arith, refl, Contains}
-use Rattle.maildir_disk.proofs.Common.{is_converter_base, Message, IsHome, IsSoundAt, Files, homes, IsIntact, HasBody, IsSingle}
+use Rattle.maildir_disk.proofs.Common.{Message, IsHome, IsSoundAt, Files, homes, IsIntact, HasBody, IsSingle, Spared, is_spared}
 use Rattle.maildir_disk.proofs.Left.LeftHomes.{none_in, first_in}
 
 only_one : {x : List ℕ} (ys : List (List ℕ)) → length ys ≤ 1 → ((y : List ℕ) → Contains ys y → y ≡ x) → (ys ≡ []) ⊎ (ys ≡ x ∷ [])
@@ -17,15 +17,16 @@ at_most_one : (m : Message) (s : Files) → IsSoundAt s m → length (homes s m.
 at_most_one m s (inl none) = grind arith
 at_most_one m s (inr one) = grind arith
 
-pub single_sound : (m : Message) → IsTrue (is_converter_base m.target.base)
-    → (s left : Files) → IsSoundAt s m → IsIntact left m → IsSingle s left → IsSoundAt left m
-single_sound m named s left sound intact single =
+pub single_sound : (spared : Spared) (m : Message) → IsTrue (is_spared spared m.target.base)
+    → (s left : Files) → IsSoundAt s m → IsIntact left m → IsSingle spared s left → IsSoundAt left m
+single_sound spared m named s left sound intact single =
     let few = at_most_one m s sound in
     let no_more = single m.target.base named in
     only_one (homes left m.target.base) (omega (arith, few, no_more)) intact
 
-pub single_home : (m : Message) → IsTrue (is_converter_base m.target.base) → (s left : Files) → IsHome s m → HasBody left m → IsSingle s left → IsHome left m
-single_home m named s left home has single =
+pub single_home : (spared : Spared) (m : Message) → IsTrue (is_spared spared m.target.base) → (s left : Files) → IsHome s m → HasBody left m
+    → IsSingle spared s left → IsHome left m
+single_home spared m named s left home has single =
     let few = at_most_one m s (inr home) in
     let no_more = single m.target.base named in
     the_one _ (omega (arith, few, no_more)) has

@@ -1,12 +1,12 @@
 -- What one attempt at a listing returns.
-use Rattle.std.specs.Prelude.{ℕ, ◌+◌, ◌≤◌, List, Result, Ok, Err, IfOk, Option, Some, None}
+use Rattle.std.specs.Prelude.{◌≡◌, ℕ, ◌+◌, ◌<◌, List, Result, Ok, Err, IfOk, Option, Some, None}
 use Rattle.std.specs.declared.vec.Vec.{Vec}
 use Rattle.std.specs.declared.string.String.{String}
 use Rattle.std.specs.declared.alloc.Global.{Global}
 use Rattle.std.specs.Duration.{as_nanos}
 use Rattle.maildir_run.specs.declared.folder.Sub.{Sub}
 use Rattle.maildir_run.specs.Calls.{Listed, Lists, names_of}
-use Rattle.maildir_run.specs.Files.{Files}
+use Rattle.maildir_run.specs.Files.{Files, Spared}
 use Rattle.maildir_disk.specs.declared.one_moment.Age.{Age}
 use Rattle.maildir_disk.specs.declared.one_moment.Age.TheVariants.{Settled, Young, Ahead}
 use Rattle.maildir_disk.specs.declared.one_moment.Look.{Look}
@@ -16,28 +16,28 @@ use Rattle.maildir_disk.specs.Look.{IsFarAhead, IsSettled}
 use Rattle.maildir_disk.specs.Quiet.{AreNames}
 use Rattle.maildir_disk.specs.SeenSystem.{Looks, SeenSystem}
 
--- how the stamp of a folder compares with the clock; the pause lasts until the stamp has settled, and no longer
+-- how the stamp of a folder compares with the clock; the pause is what is left until the stamp has settled, and not nothing
 abbrev pub IsAged : ℕ → ℕ → Age → Type 0
 IsAged stamp now Settled = IsSettled stamp now
 IsAged stamp now Ahead = IsFarAhead stamp now
-IsAged stamp now (Young pause) = now + as_nanos pause ≤ stamp + margin_of stamp
+IsAged stamp now (Young pause) = (now + as_nanos pause ≡ stamp + margin_of stamp) × (0 < as_nanos pause)
 
 -- These names were read, and then the folder had this stamp: they are its names, or the stamp is that of a change meanwhile.
-pub record Watched (sub : Sub) (stamp : ℕ) (old : World) (names : List (List ℕ)) (new : World) : Type 0 where
-  pub acts : Acts old new
+pub record Watched (spared : Spared) (sub : Sub) (stamp : ℕ) (old : World) (names : List (List ℕ)) (new : World) : Type 0 where
+  pub acts : Acts spared old new
   pub are : AreUnless sub old names new.time stamp
 
 -- the names, if the folder had this stamp after them; other programs may have acted
-abbrev pub WatchedOr : {E : Type 0} → Sub → ℕ → World → Result (Option (Vec (String Global) Global)) E → World → Type 0
-WatchedOr sub stamp old (Ok (Some names)) new = Watched sub stamp old (names_of names) new
-WatchedOr sub stamp old (Ok None) new = Acts old new
-WatchedOr sub stamp old (Err _) new = Acts old new
+abbrev pub WatchedOr : {E : Type 0} → Spared → Sub → ℕ → World → Result (Option (Vec (String Global) Global)) E → World → Type 0
+WatchedOr spared sub stamp old (Ok (Some names)) new = Watched spared sub stamp old (names_of names) new
+WatchedOr spared sub stamp old (Ok None) new = Acts spared old new
+WatchedOr spared sub stamp old (Err _) new = Acts spared old new
 
 -- the names of one moment, or none; other programs may have acted
-abbrev pub LookGives : {E : Type 0} → Sub → World → Result Look E → World → Type 0
-LookGives sub old (Ok (Taken names)) new = Lists sub old.files (names_of names) new.files
-LookGives sub old (Ok (Wait _)) new = Acts old new
-LookGives sub old (Err _) new = Acts old new
+abbrev pub LookGives : {E : Type 0} → Spared → Sub → World → Result Look E → World → Type 0
+LookGives spared sub old (Ok (Taken names)) new = Lists spared sub old.files (names_of names) new.files
+LookGives spared sub old (Ok (Wait _)) new = Acts spared old new
+LookGives spared sub old (Err _) new = Acts spared old new
 
 -- the folder's names, if any are returned
 abbrev pub FoundNames : Sub → Files → Option (Vec (String Global) Global) → Type 0
@@ -49,21 +49,27 @@ abbrev pub LookGivesQuietly : Sub → Files → Look → Type 0
 LookGivesQuietly sub s (Taken names) = AreNames sub s names
 LookGivesQuietly sub s (Wait _) = Unit {0}
 
+-- an attempt that gave no names is to be followed by a pause
+abbrev pub Pauses : Look → Type 0
+Pauses (Taken _) = Unit {0}
+Pauses (Wait pause) = 0 < as_nanos pause
+
 -- The names were read, and then the stamp.
 pub record Watches {E : Type 0} (sub : Sub) (stamp : ℕ) (old : SeenSystem) (result : Result (Option (Vec (String Global) Global)) E)
     (new : SeenSystem) : Type 0 where
   pub looks : Looks old new
-  pub watched : old.honest → WatchedOr sub stamp old.world result new.world
+  pub watched : (spared : Spared) → old.honest spared → WatchedOr spared sub stamp old.world result new.world
   pub exact : old.quiet → IfOk result (FoundNames sub old.world.files)
 
 -- One attempt at a listing was made.
 pub record Attempts {E : Type 0} (sub : Sub) (old : SeenSystem) (result : Result Look E) (new : SeenSystem) : Type 0 where
   pub looks : Looks old new
-  pub looked : old.honest → LookGives sub old.world result new.world
+  pub looked : (spared : Spared) → old.honest spared → LookGives spared sub old.world result new.world
   pub exact : old.quiet → IfOk result (LookGivesQuietly sub old.world.files)
+  pub pauses : IfOk result Pauses
 
 -- The names of one moment were read, in several attempts.
 pub record ReadsAtOnce {E : Type 0} (sub : Sub) (old : SeenSystem) (result : Result (Vec (String Global) Global) E) (new : SeenSystem) : Type 0 where
   pub looks : Looks old new
-  pub listed : old.honest → Listed sub old.world.files result new.world.files
+  pub listed : (spared : Spared) → old.honest spared → Listed spared sub old.world.files result new.world.files
   pub exact : old.quiet → IfOk result (AreNames sub old.world.files)

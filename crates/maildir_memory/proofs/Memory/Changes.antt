@@ -1,13 +1,18 @@
 -- Changes of a Maildir in memory: what each may leave, and to which call it belongs.
-use Rattle.std.proofs.Common.{◌≡◌, ◌⊎◌, ◌↔◌, ◌+◌, ◌<◌, ◌≤◌, ℕ, List, [], ◌∷◌, ◌++◌, length, take, Contains, Option, Some, None, Result, Ok, Err, OnOk, OnErr}
+use Rattle.std.proofs.Common.{◌≡◌, ◌⊎◌, ◌↔◌, ◌+◌, ◌<◌, ◌≤◌, ℕ, All, List, [], ◌∷◌, ◌++◌, get_or, length, take, Contains, Option, Some, None, Result, Ok, Err}
+use Rattle.std.proofs.Common.{OnOk, OnErr}
 use Rattle.std.proofs.Common.{refl, sym, ◌∙◌, ap, subst, inl, inr, arith, string_bytes, take-take, rules}
 use Rattle.maildir_memory.proofs.Common.{get, keys, contains_key, contains_key-keys, Sub, Tmp, MemFolder, Call, Listing, Writing, Placing, Removing, Again}
 use Rattle.maildir_memory.proofs.Common.{Torn}
 use Rattle.maildir_memory.proofs.Common.{Other, Called, folder_of, Leaves, Follows, Came, Doubled, files_of, Files, Action, ToCur, Reflag}
-use Rattle.maildir_memory.proofs.Common.{all_acted, performed, half_performed, leaves_moves, an_action, Cases, Change, Make, Hold, Remove, Half, Adds}
+use Rattle.maildir_memory.proofs.Common.{all_acted, half_performed, leaves_moves, an_action, Cases, Change, Make, Hold, Remove, Half, Adds}
 use Rattle.maildir_memory.proofs.Common.{IsAdded, KeepsCases, Loses, LosesBytes, made, HasRoom, lefts_of, may_find, KeepsNames, LeftByOthers, World, changed}
 use Rattle.maildir_memory.proofs.Common.{rewritten}
 use Rattle.std.proofs.Math.Seq.{take-append-add}
+use Rattle.std.proofs.lemmas.List.Elements.{All-cons, All-contains, All-get_or, All-head, All-nil, All-tail, Contains-append_right}
+use Rattle.std.proofs.lemmas.List.{take_more}
+use Rattle.std.specs.Global.{Vec}
+use Rattle.std.specs.Prelude.{IfSome, option_to_list}
 use Rattle.maildir_run.specs.declared.script.Act.{Act}
 use Rattle.std.specs.declared.time.SystemTime.{SystemTime}
 use Rattle.maildir_disk.specs.SeenSystem.{TakesFromTmp}
@@ -15,12 +20,21 @@ use Rattle.maildir_run.specs.Calls.{CalledQuietly}
 use Rattle.maildir_run.specs.MemFolder.{IsQuiet, lines_of}
 use Rattle.maildir_memory.specs.declared.cases.Change.TheVariants.{Place}
 use Rattle.maildir_memory.specs.declared.mem_system.MemSystem.{MemSystem}
-use Rattle.maildir_memory.specs.MemSystem.{may_be_left, MayLose, seen_system}
+use Rattle.maildir_memory.specs.MemSystem.{may_be_left, MayLose, SparesByTurns, seen_system}
 use Rattle.maildir_memory.proofs.Memory.CaseLists.{no_fewer, there_or_added}
 use Rattle.maildir_disk.proofs.Left.Lefts.{leaves_none, leaves_then, left_both, left_early, left_none}
 use Rattle.maildir_disk.proofs.Calls.Passing.{all_acted-append}
 use Rattle.maildir_run.specs.declared.script.Act.TheVariants as act
+use Rattle.maildir_run.specs.Files.{Outside, acted}
+use Rattle.maildir_run.specs.MemFiles.{without_file}
+use Rattle.maildir_run.proofs.Call.Outsiders.{outside_reaches}
+use Rattle.maildir_run.proofs.Memory.Scripts.{without_leaves}
+use Rattle.maildir_memory.specs.declared.turn_act.TurnAct.{TurnAct}
+use Rattle.maildir_memory.specs.declared.turn_act.TurnAct.TheVariants.{Reader, Delete}
+use Rattle.maildir_memory.specs.TurnActs.{Spares}
+use Rattle.maildir_memory.specs.Private.TurnActs.{all_turned, half_turned, turned}
 use Rattle.maildir_memory.specs.declared.cases.Change.TheVariants as change
+use Rattle.maildir_run.specs.Files.{Spared}
 
 -- the call that a change belongs to; what other programs do counts as part of a listing
 abbrev pub call_of_change : Change → Call
@@ -31,35 +45,86 @@ call_of_change (Remove name) = Removing name.now
 call_of_change (change.Other act) = Listing Tmp
 call_of_change (Half act) = Listing Tmp
 
-held_leaves : {name : List ℕ} (bytes : List ℕ) {s : Files} (o : Option (List ℕ))
-    → Leaves (Writing name []) s (record s { tmp = rewritten s.tmp name (λ _. bytes) o })
+held_leaves : {spared : Spared} {name : List ℕ} (bytes : List ℕ) {s : Files} (o : Option (List ℕ))
+    → Leaves spared (Writing name []) s (record s { tmp = rewritten s.tmp name (λ _. bytes) o })
 held_leaves bytes None = record { kept = []; are = refl }
 held_leaves bytes (Some held) = record { kept = Came (Torn bytes) ∷ []; are = refl }
 
-half_leaves : (a : Act) {s : Files} → Leaves (Listing Tmp) s (half_performed a s)
-half_leaves (act.ToCur name target) = record { kept = Doubled (ToCur (string_bytes name) (string_bytes target)) ∷ []; are = refl }
-half_leaves (act.Reflag name target) = record { kept = Doubled (Reflag (string_bytes name) (string_bytes target)) ∷ []; are = refl }
-half_leaves other = record { kept = []; are = refl }
+half_act_leaves : {spared : Spared} (a : Act) {s : Files} → Leaves spared (Listing Tmp) s (half_performed a s)
+half_act_leaves (act.ToCur name target) = record { kept = Doubled (ToCur (string_bytes name) (string_bytes target)) ∷ []; are = refl }
+half_act_leaves (act.Reflag name target) = record { kept = Doubled (Reflag (string_bytes name) (string_bytes target)) ∷ []; are = refl }
+half_act_leaves other = record { kept = []; are = refl }
 
-pub made_leaves : (change : Change) {s : Files} → Leaves (call_of_change change) s (made change s)
-made_leaves (Make name) = record { kept = Came Again ∷ []; are = refl }
-made_leaves (Hold name bytes) {s} = held_leaves bytes.now (get s.tmp name.now)
-made_leaves (Place name place target) = record { kept = Came Again ∷ []; are = refl }
-made_leaves (Remove name) = record { kept = Came Again ∷ []; are = refl }
-made_leaves (change.Other act) {s} = let action = an_action act.now s in record { kept = Came (Other action.0) ∷ []; are = action.1 }
-made_leaves (Half act) = half_leaves act.now
+half_leaves : {spared : Spared} (a : TurnAct) {s : Files} → Leaves spared (Listing Tmp) s (half_turned a s)
+half_leaves (Reader act) = half_act_leaves act
+half_leaves (Delete sub name) = record { kept = []; are = refl }
+
+-- what is done at a turn is an action of another program
+a_turn : (spared : Spared) (a : TurnAct) → Spares spared a → (s : Files) → (action : Action) × (turned a s ≡ acted spared action s)
+a_turn spared (Reader act) spares s = an_action spared act s
+a_turn spared (Delete sub name) spares s =
+    let deleted = without_file sub (string_bytes name) s in
+    (Outside deleted, sym (outside_reaches spared s deleted (without_leaves spared sub (string_bytes name) s spares)))
+
+-- ---- what is done at a turn, part by part
+all_turned-append : (xs ys : List TurnAct) (s : Files) → all_turned (xs ++ ys) s ≡ all_turned ys (all_turned xs s)
+all_turned-append [] ys s = refl
+all_turned-append (x ∷ xs) ys s = all_turned-append xs ys (turned x s)
+
+pub one_more : (acts : List TurnAct) (i : ℕ) (d : TurnAct) (s now then : Files) → i < length acts
+    → now ≡ all_turned (take i acts) s → then ≡ turned (get_or acts i d) now → then ≡ all_turned (take (i + 1) acts) s
+one_more acts i d s now then lt is next =
+    next ∙ ap (turned (get_or acts i d)) is
+    ∙ sym (ap (λ xs. all_turned xs s) (take_more acts i d lt) ∙ all_turned-append (take i acts) (get_or acts i d ∷ []) s)
+
+-- the first of some things
+first_of : {X : Type 0} (P : X → Type 0) (xs ys : List X) → All P (xs ++ ys) → All P xs
+first_of P [] ys all = All-nil P
+first_of P (x ∷ xs) ys all = All-cons P x xs (All-head P x (xs ++ ys) all) (first_of P xs ys (All-tail P x (xs ++ ys) all))
+
+-- other programs' acts among the changes spare these bases
+abbrev pub SparesChange : Spared → Change → Type 0
+SparesChange spared (change.Other act) = Spares spared act.now
+SparesChange spared other = Unit {0}
+
+-- each of some acts that spare these bases
+pub spares_at : (spared : Spared) (acts : List TurnAct) {i : ℕ} (d : TurnAct) {act : TurnAct} → i < length acts → act ≡ get_or acts i d
+    → All (Spares spared) acts → Spares spared act
+spares_at spared acts {i} d lt is spares = subst (Spares spared) (sym is) (All-get_or (Spares spared) acts i d lt spares)
+
+abbrev TurnSpares : Spared → Vec TurnAct → Type 0
+TurnSpares spared turn = All (Spares spared) turn.items
+
+-- of turns that spare these bases, the last one and those before it
+pub turns_spare : (spared : Spared) {turns : List (Vec TurnAct)} (others : List (Vec TurnAct)) (turn : Option (Vec TurnAct))
+    → turns ≡ others ++ option_to_list turn
+    → SparesByTurns spared turns → SparesByTurns spared others × IfSome turn (TurnSpares spared)
+turns_spare spared others None is spares = (first_of (TurnSpares spared) others [] (subst (SparesByTurns spared) is spares), tt)
+turns_spare spared others (Some turn) is spares =
+    let all = subst (SparesByTurns spared) is spares in
+    let last = Contains-append_right others (turn ∷ []) turn (0, omega arith, refl) in
+    (first_of (TurnSpares spared) others (turn ∷ []) all, All-contains (TurnSpares spared) (others ++ turn ∷ []) turn all last)
+
+pub made_leaves : {spared : Spared} (change : Change) → SparesChange spared change → {s : Files} → Leaves spared (call_of_change change) s (made change s)
+made_leaves (Make name) spares = record { kept = Came Again ∷ []; are = refl }
+made_leaves (Hold name bytes) spares {s} = held_leaves bytes.now (get s.tmp name.now)
+made_leaves (Place name place target) spares = record { kept = Came Again ∷ []; are = refl }
+made_leaves (Remove name) spares = record { kept = Came Again ∷ []; are = refl }
+made_leaves {spared} (change.Other act) spares {s} =
+    let action = a_turn spared act.now spares s in record { kept = Came (Other action.0) ∷ []; are = action.1 }
+made_leaves (Half act) spares = half_leaves act.now
 
 -- ---- what a cut may leave
 module _ (change : Change) (folder then : MemFolder) (old new : Cases) (more : Adds (IsAdded change (files_of folder) old) (lefts_of old) (lefts_of new)) where
   -- how a call whose change may be lost leaves the folder
-  pub left_by_change : Leaves (call_of_change change) (files_of folder) (files_of then)
-      → Follows (Leaves (call_of_change change)) (may_find folder old) (may_find then new)
-  left_by_change own left (inl e) = (files_of folder, inl refl, subst (Leaves (call_of_change change) (files_of folder)) (sym e) own)
-  left_by_change own left (inr has) =
+  pub left_by_change : {spared : Spared} → SparesChange spared change → Leaves spared (call_of_change change) (files_of folder) (files_of then)
+      → Follows (Leaves spared (call_of_change change)) (may_find folder old) (may_find then new)
+  left_by_change {spared} spares own left (inl e) = (files_of folder, inl refl, subst (Leaves spared (call_of_change change) (files_of folder)) (sym e) own)
+  left_by_change {spared} spares own left (inr has) =
       elim (there_or_added more has) [
         | inl before ↦ (left, inr before, leaves_none)
         | inr (inl now) ↦ (left, inl now, leaves_none)
-        | inr (inr (was, had, is)) ↦ (was, inr had, subst (Leaves (call_of_change change) was) (sym is) (made_leaves change))
+        | inr (inr (was, had, is)) ↦ (was, inr had, subst (Leaves spared (call_of_change change) was) (sym is) (made_leaves change spares))
       ]
 
   pub lost_there : Loses change (files_of folder) old new → (left : Files) → may_find folder old left → may_find then new left
@@ -74,23 +139,27 @@ module _ (change : Change) (folder then : MemFolder) (old new : Cases) (more : A
   pub keeps_lost : new.room ≡ old.room → (HasRoom new → Loses change (files_of folder) old new) → KeepsCases (may_find folder old) (may_find then new) old new
   keeps_lost room loses = search (rules, no_fewer, lost_there)
 
-pub called_leaves : {A E : Type 0} {call : Call} {a : Files} (outcome : Result A E) {b : Files} → Called call a outcome b → Leaves call a b
+pub called_leaves : {spared : Spared} {A E : Type 0} {call : Call} {a : Files} (outcome : Result A E) {b : Files} → Called spared call a outcome b
+    → Leaves spared call a b
 called_leaves {call} {a} (Ok x) {b} h = grind (arith, leaves_moves)
-called_leaves {call} {a} (Err e) {b} h = leaves_moves call a b h.moves h.left
+called_leaves {spared} {call = call} {a} (Err e) {b} h = leaves_moves spared call a b h.moves h.left
 
 -- ---- calls
 -- a change after other programs acted, with the result of its call
-pub left_made : {A E : Type 0} (change : Change) {before : Files → Type 0} (folder then : MemFolder) (old new : Cases) (outcome : Result A E)
-    → Follows LeftByOthers before (may_find folder old) → Adds (IsAdded change (files_of folder) old) (lefts_of old) (lefts_of new)
-    → Called (call_of_change change) (files_of folder) outcome (files_of then) → Follows (Leaves (call_of_change change)) before (may_find then new)
-left_made change folder then old new outcome first more called =
-    left_both (left_early first) (left_by_change change folder then old new more (called_leaves outcome called))
+pub left_made : {spared : Spared} {A E : Type 0} (change : Change) → SparesChange spared change
+    → {before : Files → Type 0} (folder then : MemFolder) (old new : Cases) (outcome : Result A E)
+    → Follows (LeftByOthers spared) before (may_find folder old) → Adds (IsAdded change (files_of folder) old) (lefts_of old) (lefts_of new)
+    → Called spared (call_of_change change) (files_of folder) outcome (files_of then)
+    → Follows (Leaves spared (call_of_change change)) before (may_find then new)
+left_made change spares folder then old new outcome first more called =
+    left_both (left_early first) (left_by_change change folder then old new more spares (called_leaves outcome called))
 
 -- a call that made no change
-pub left_unmade : (change : Change) {before : Files → Type 0} (folder : MemFolder) (old new : Cases) → Follows LeftByOthers before (may_find folder old)
-    → Adds (IsAdded change (files_of folder) old) (lefts_of old) (lefts_of new) → Follows (Leaves (call_of_change change)) before (may_find folder new)
-left_unmade change folder old new first more =
-    left_both (left_early first) (left_by_change change folder folder old new more leaves_none)
+pub left_unmade : {spared : Spared} (change : Change) → SparesChange spared change → {before : Files → Type 0} (folder : MemFolder) (old new : Cases)
+    → Follows (LeftByOthers spared) before (may_find folder old)
+    → Adds (IsAdded change (files_of folder) old) (lefts_of old) (lefts_of new) → Follows (Leaves spared (call_of_change change)) before (may_find folder new)
+left_unmade change spares folder old new first more =
+    left_both (left_early first) (left_by_change change folder folder old new more spares leaves_none)
 
 -- only the script of the folder changed
 pub same_found : {of : Files → Files → Type 0} (folder same : MemFolder) (cases : Cases) {now : Files → Type 0}
@@ -113,17 +182,20 @@ lost change mid {new} keeps more room loses is has =
     }
 
 -- the folder made a change
-pub taken : {A E : Type 0} (change : Change) (old : MemSystem) (folder : MemFolder) (cases : Cases) (stamp : SystemTime) (calls : ℕ)
+pub taken : {A E : Type 0} (change : Change) → ((spared : Spared) → SparesChange spared change)
+    → (old : MemSystem) (folder : MemFolder) (cases : Cases) (stamp : SystemTime) (calls : ℕ)
     (result : Result A E) → lines_of folder ≡ lines_of old.folder → Adds (IsAdded change (files_of old.folder) old.cases) (lefts_of old.cases) (lefts_of cases)
-    → Called (call_of_change change) (files_of old.folder) result (files_of folder)
+    → ((spared : Spared) → Called spared (call_of_change change) (files_of old.folder) result (files_of folder))
     → (IsQuiet old.folder → CalledQuietly (call_of_change change) (files_of old.folder) result (files_of folder))
     → TakesFromTmp (call_of_change change) (seen_system old) result
     (seen_system (record old { folder = folder; cases = cases; stamp = stamp; calls_left = calls }))
-taken change old folder cases stamp calls result lines more called quietly = record {
-  honest = λ h. lines ∙ h;
-  called = λ h. called;
-  left = λ h. left_made change old.folder folder old.cases cases result left_none more called;
-  still_rooted = λ h rooted. rooted;
+taken change spares old folder cases stamp calls result lines more called quietly = record {
+  honest = λ spared h. record { no_script = lines ∙ h.no_script; spares = h.spares };
+  called = λ spared h. called spared;
+  left = λ spared h.
+      left_made change (spares spared) old.folder folder old.cases cases result left_none more (called spared);
+  still_rooted = λ spared h rooted. rooted;
+  touches = λ name now. inr tt;
   quiet = λ q. record { no_script = lines ∙ q.no_script; no_turns = q.no_turns };
   quietly = λ q. quietly q.no_script;
 }
@@ -132,26 +204,26 @@ taken change old folder cases stamp calls result lines more called quietly = rec
 abbrev pub IsOfBytes : (name bytes : List ℕ) → Files → Cases → Files → Type 0
 IsOfBytes name bytes now old left = (left ≡ now) ⊎ ((was : Files) × Contains (lefts_of old) was × (left ≡ changed name (λ _. bytes) was))
 
-pub left_by_bytes : {name : List ℕ} (bytes : List ℕ) (folder : MemFolder) (first old new : Cases)
-    → Follows (Leaves (Writing name [])) (may_find folder first) (Contains (lefts_of old))
+pub left_by_bytes : {spared : Spared} {name : List ℕ} (bytes : List ℕ) (folder : MemFolder) (first old new : Cases)
+    → Follows (Leaves spared (Writing name [])) (may_find folder first) (Contains (lefts_of old))
     → Adds (IsOfBytes name bytes (files_of folder) old) (lefts_of old) (lefts_of new)
-    → Follows (Leaves (Writing name [])) (may_find folder first) (Contains (lefts_of new))
-left_by_bytes {name} bytes folder first old new before more left has =
+    → Follows (Leaves spared (Writing name [])) (may_find folder first) (Contains (lefts_of new))
+left_by_bytes {spared} {name} bytes folder first old new before more left has =
     elim (there_or_added more has) [
       | inl was ↦ before left was
       | inr (inl now) ↦ (left, inl now, leaves_none)
       | inr (inr (was, had, is)) ↦
           let earlier = before was had in
-          let written = subst (Leaves (Writing name []) was) (sym is) (held_leaves bytes (get was.tmp name)) in
+          let written = subst (Leaves spared (Writing name []) was) (sym is) (held_leaves bytes (get was.tmp name)) in
           (earlier.0, earlier.1, leaves_then earlier.2 written)
     ]
 
-pub left_of_bytes : {name : List ℕ} {before : Files → Type 0} (folder then : MemFolder) (old new : Cases)
-    → Follows LeftByOthers before (may_find folder old) → Follows (Leaves (Writing name [])) (may_find folder old) (Contains (lefts_of new))
-    → Leaves (Writing name []) (files_of folder) (files_of then) → Follows (Leaves (Writing name [])) before (may_find then new)
-left_of_bytes {name} folder then old new first bytes own = left_both (left_early first) each where
-  each : Follows (Leaves (Writing name [])) (may_find folder old) (may_find then new)
-  each left (inl e) = (files_of folder, inl refl, subst (Leaves (Writing name []) (files_of folder)) (sym e) own)
+pub left_of_bytes : {spared : Spared} {name : List ℕ} {before : Files → Type 0} (folder then : MemFolder) (old new : Cases)
+    → Follows (LeftByOthers spared) before (may_find folder old) → Follows (Leaves spared (Writing name [])) (may_find folder old) (Contains (lefts_of new))
+    → Leaves spared (Writing name []) (files_of folder) (files_of then) → Follows (Leaves spared (Writing name [])) before (may_find then new)
+left_of_bytes {spared} {name} folder then old new first bytes own = left_both (left_early first) each where
+  each : Follows (Leaves spared (Writing name [])) (may_find folder old) (may_find then new)
+  each left (inl e) = (files_of folder, inl refl, subst (Leaves spared (Writing name []) (files_of folder)) (sym e) own)
   each left (inr has) = bytes left has
 
 pub prefix_of_appended : (held bytes : List ℕ) {n k : ℕ} → k ≤ n → take (length held + k) (held ++ take n bytes) ≡ held ++ take k bytes
@@ -173,19 +245,20 @@ bytes_lost mid new keeps longer room loses has above below = record {
 }
 
 -- another program's act, or what it leaves if an allocation failed
-pub acts_of_act : {E : Type 0} (a : Act) (old : Files) (outcome : Result (Unit {0}) E) {new : Files}
-    → OnOk outcome (new ≡ performed a old) → OnErr outcome (new ≡ old) → (actions : List Action) × (new ≡ all_acted actions old)
-acts_of_act a old (Ok x) ok err = let action = an_action a old in (action.0 ∷ [], ok ∙ action.1)
-acts_of_act a old (Err e) ok err = ([], err)
+pub acts_of_act : (spared : Spared) {E : Type 0} (a : TurnAct) → Spares spared a → (old : Files) (outcome : Result (Unit {0}) E) {new : Files}
+    → OnOk outcome (new ≡ turned a old) → OnErr outcome (new ≡ old) → (actions : List Action) × (new ≡ all_acted spared actions old)
+acts_of_act spared a spares old (Ok x) ok err = let action = a_turn spared a spares old in (action.0 ∷ [], ok ∙ action.1)
+acts_of_act spared a spares old (Err e) ok err = ([], err)
 
-pub acted_leaves : {E : Type 0} (a : Act) {old : Files} (outcome : Result (Unit {0}) E) {new : Files}
-    → OnOk outcome (new ≡ performed a old) → OnErr outcome (new ≡ old) → Leaves (Listing Tmp) old new
-acted_leaves a {old} (Ok x) ok err = let action = an_action a old in record { kept = Came (Other action.0) ∷ []; are = ok ∙ action.1 }
-acted_leaves a (Err e) ok err = record { kept = []; are = err }
+pub acted_leaves : {spared : Spared} {E : Type 0} (a : TurnAct) → Spares spared a → {old : Files} (outcome : Result (Unit {0}) E) {new : Files}
+    → OnOk outcome (new ≡ turned a old) → OnErr outcome (new ≡ old) → Leaves spared (Listing Tmp) old new
+acted_leaves {spared} a spares {old} (Ok x) ok err =
+    let action = a_turn spared a spares old in record { kept = Came (Other action.0) ∷ []; are = ok ∙ action.1 }
+acted_leaves a spares (Err e) ok err = record { kept = []; are = err }
 
-pub actions_then : {a b c : Files} → (actions : List Action) × (b ≡ all_acted actions a)
-    → (actions : List Action) × (c ≡ all_acted actions b) → (actions : List Action) × (c ≡ all_acted actions a)
-actions_then {a} first then = (first.0 ++ then.0, then.1 ∙ (ap (all_acted then.0) first.1 ∙ sym (all_acted-append first.0 then.0 a)))
+pub actions_then : (spared : Spared) {a b c : Files} → (actions : List Action) × (b ≡ all_acted spared actions a)
+    → (actions : List Action) × (c ≡ all_acted spared actions b) → (actions : List Action) × (c ≡ all_acted spared actions a)
+actions_then spared {a} first then = (first.0 ++ then.0, then.1 ∙ (ap (all_acted spared then.0) first.1 ∙ sym (all_acted-append spared first.0 then.0 a)))
 
 pub keeps_none : (folder : MemFolder) {cases : Cases} → KeepsCases (may_find folder cases) (may_find folder cases) cases cases
 keeps_none folder = search (rules, no_fewer)
@@ -200,7 +273,7 @@ module _ (P : Files → Type 0) (folder : MemFolder) (old new : Cases)
   stayed left (inl e) = inl e
   stayed left (inr has) = inr ((stays left).0 has).0
 
-  pub left_stayed : Follows LeftByOthers (may_find folder old) (may_find folder new)
+  pub left_stayed : {spared : Spared} → Follows (LeftByOthers spared) (may_find folder old) (may_find folder new)
   left_stayed left may = (left, stayed left may, leaves_none)
 
   pub all_stayed : P (files_of folder) → (left : Files) → may_find folder new left → P left
@@ -211,10 +284,10 @@ same_names : (sub : Sub) (s t : Files) (name : List ℕ) → keys (folder_of sub
     → contains_key (folder_of sub s) name ≡ contains_key (folder_of sub t) name
 same_names sub s t name e = grind (arith, contains_key-keys)
 
-pub names_stayed : {sub is : Sub} → sub ≡ is → (a : World) {before : Files → Type 0} (folder : MemFolder) (old new : Cases)
-    → (actions : List Action) × (files_of folder ≡ all_acted actions a.files) → Follows LeftByOthers before (may_find folder old)
+pub names_stayed : {spared : Spared} {sub is : Sub} → sub ≡ is → (a : World) {before : Files → Type 0} (folder : MemFolder) (old new : Cases)
+    → (actions : List Action) × (files_of folder ≡ all_acted spared actions a.files) → Follows (LeftByOthers spared) before (may_find folder old)
     → ((left : Files) → Contains (lefts_of new) left ↔ (Contains (lefts_of old) left × (keys (folder_of sub left) ≡ keys (folder_of sub (files_of folder)))))
-    → Follows (λ was left. KeepsNames is a.files was (files_of folder) left) before (may_find folder new)
+    → Follows (λ was left. KeepsNames spared is a.files was (files_of folder) left) before (may_find folder new)
 names_stayed {sub} e a folder old new acts first stays left may =
     let alike = λ (s : Files). keys (folder_of sub s) ≡ keys (folder_of sub (files_of folder)) in
     let was = first left (stayed alike folder old new stays left may) in (

@@ -1,5 +1,5 @@
 -- What is seen of a Maildir in memory after a call that only looks, or that failed.
-use Rattle.std.proofs.Common.{◌≡◌, ◌∙◌, ◌↔◌, [], refl, inl, arith, ℕ, List, Contains, Result, Ok, Err, IfOk, IsErr, Vec, String, Global}
+use Rattle.std.proofs.Common.{◌≡◌, ◌∙◌, ◌↔◌, [], refl, inl, inr, arith, ℕ, List, Contains, Result, Ok, Err, IfOk, IsErr, Vec, String, Global}
 use Rattle.std.proofs.lemmas.Bool.{false≢true}
 use Rattle.std.specs.declared.io.Error.{Error}
 use Rattle.std.specs.declared.time.SystemTime.{SystemTime}
@@ -11,21 +11,25 @@ use Rattle.maildir_disk.specs.SeenSystem.{Appends, Asks, Looks, MakesFile, Reads
 use Rattle.maildir_disk.specs.World.{Acts, ReadsNames}
 use Rattle.maildir_run.specs.Calls.{CalledQuietly, names_of}
 use Rattle.maildir_run.specs.MemFolder.{IsQuiet, lines_of}
+use Rattle.maildir_run.specs.Touched.{TouchedNone}
 use Rattle.maildir_run.specs.declared.folder.FolderFault.{FolderFault}
 use Rattle.maildir_memory.proofs.Common.{Call, Cases, Files, Follows, Leaves, lefts_of, Listing, MemFolder, Passes, Sub, Writing, files_of, may_find}
 use Rattle.maildir_memory.proofs.Memory.Changes.{left_stayed, same_found}
 use Rattle.maildir_memory.specs.declared.mem_system.MemSystem.{MemSystem}
-use Rattle.maildir_memory.specs.MemSystem.{HasNoTurns, may_be_left, seen_system, world_of}
+use Rattle.maildir_memory.specs.MemSystem.{HasNoTurns, IsHonest, SparesByTurns, may_be_left, seen_system, world_of}
 use Rattle.maildir_memory.specs.Private.Turns.{OthersAct}
+use Rattle.maildir_run.specs.Files.{Spared}
 
 -- others had their turn, and nothing else happened
-pub looks_short : {A E : Type 0} {old new : MemSystem} {result : Result A E} → OthersAct old result new → (HasNoTurns old → HasNoTurns new)
+pub looks_short : {A E : Type 0} {old new : MemSystem} {result : Result A E} → OthersAct (λ spared. SparesByTurns spared old.turns.items) old result new
+    → (HasNoTurns old → HasNoTurns new)
     → (HasNoTurns old → SameFiles (world_of old) (world_of new)) → Looks (seen_system old) (seen_system new)
 looks_short did quiet quietly = record {
-  honest = did.honest;
-  acts = λ h. did.acts;
-  left = λ h. did.left;
-  still_rooted = λ h rooted. rw did.root rooted;
+  honest = λ spared h. record { no_script = did.honest h.no_script; spares = did.still spared h.spares };
+  acts = λ spared h. did.acts spared h.spares;
+  left = λ spared h. did.left spared h.spares;
+  still_rooted = λ spared h rooted. rw did.root rooted;
+  touches = λ name now. tt;
   quiet = quiet;
   quietly = quietly;
 }
@@ -33,10 +37,11 @@ looks_short did quiet quietly = record {
 -- a call begins
 pub looks_begun : (old : MemSystem) (calls : ℕ) → Looks (seen_system old) (seen_system (record old { calls_left = calls }))
 looks_begun old calls = record {
-  honest = λ h. h;
-  acts = λ h. record { actions = []; files_are = refl };
-  left = λ h. left_none;
-  still_rooted = λ h rooted. rooted;
+  honest = λ spared h. record { no_script = h.no_script; spares = h.spares };
+  acts = λ spared h. record { actions = []; files_are = refl };
+  left = λ spared h. left_none;
+  still_rooted = λ spared h rooted. rooted;
+  touches = λ name now. tt;
   quiet = λ q. record { no_script = q.no_script; no_turns = q.no_turns };
   quietly = λ q. refl;
 }
@@ -46,10 +51,11 @@ pub looks_stayed : (P : Files → Type 0) (old : MemSystem) (cases : Cases)
     → ((left : Files) → Contains (lefts_of cases) left ↔ (Contains (lefts_of old.cases) left × P left))
     → Looks (seen_system old) (seen_system (record old { cases = cases }))
 looks_stayed P old cases stays = record {
-  honest = λ h. h;
-  acts = λ h. record { actions = []; files_are = refl };
-  left = λ h. left_stayed P old.folder old.cases cases stays;
-  still_rooted = λ h rooted. rooted;
+  honest = λ spared h. record { no_script = h.no_script; spares = h.spares };
+  acts = λ spared h. record { actions = []; files_are = refl };
+  left = λ spared h. left_stayed P old.folder old.cases cases stays;
+  still_rooted = λ spared h rooted. rooted;
+  touches = λ name now. tt;
   quiet = λ q. record { no_script = q.no_script; no_turns = q.no_turns };
   quietly = λ q. refl;
 }
@@ -60,6 +66,7 @@ asked looks = record {
   acts = looks.acts;
   left = looks.left;
   still_rooted = looks.still_rooted;
+  touches = looks.touches;
   quiet = looks.quiet;
   quietly = looks.quietly;
 }
@@ -68,38 +75,41 @@ asked looks = record {
 pub looks_same : (old : MemSystem) (folder : MemFolder) → lines_of folder ≡ lines_of old.folder
     → (IsQuiet old.folder → files_of folder ≡ files_of old.folder) → Looks (seen_system old) (seen_system (record old { folder = folder }))
 looks_same old folder lines same = record {
-  honest = λ h. lines ∙ h;
-  acts = λ h. record { actions = []; files_are = same h };
-  left = λ h. same_found old.folder folder old.cases (same h) left_none;
-  still_rooted = λ h rooted. rooted;
+  honest = λ spared h. record { no_script = lines ∙ h.no_script; spares = h.spares };
+  acts = λ spared h. record { actions = []; files_are = same h.no_script };
+  left = λ spared h. same_found old.folder folder old.cases (same h.no_script) left_none;
+  still_rooted = λ spared h rooted. rooted;
+  touches = λ name now. tt;
   quiet = λ q. record { no_script = lines ∙ q.no_script; no_turns = q.no_turns };
   quietly = λ q. same q.no_script;
 }
 
-pub passes_same : (sub : Sub) (old : MemSystem) (folder : MemFolder) → files_of folder ≡ files_of old.folder
-    → Passes sub (world_of old) (world_of (record old { folder = folder }))
+pub passes_same : {spared : Spared} (sub : Sub) (old : MemSystem) (folder : MemFolder) → files_of folder ≡ files_of old.folder
+    → Passes spared sub (world_of old) (world_of (record old { folder = folder }))
 passes_same sub old folder same = record { acts = record { actions = []; files_are = same }; later = omega arith; stamp_is = inl refl }
 
 -- and then others had their turn
 pub reads : {A E F : Type 0} (old new : MemSystem) (folder : MemFolder) (sub : Sub) (listed : Vec (String Global) Global) {passed : Result A F}
     (result : Result (Vec (String Global) Global) E) → lines_of folder ≡ lines_of old.folder
     → (IsQuiet old.folder → CalledQuietly {E = FolderFault} (Listing sub) (files_of old.folder) (Ok listed) (files_of folder))
-    → OthersAct (record old { folder = folder }) passed new → Looks (seen_system (record old { folder = folder })) (seen_system new)
-    → (IsQuiet old.folder → IfOk result (λ names. ReadsNames sub (world_of old) (names_of names) (world_of new)))
+    → OthersAct (λ spared. SparesByTurns spared old.turns.items) (record old { folder = folder }) passed new
+    → Looks (seen_system (record old { folder = folder })) (seen_system new)
+    → ((spared : Spared) → IsHonest old spared → IfOk result (λ names. ReadsNames sub (world_of old) (names_of names) (world_of new)))
     → (HasNoTurns old → IfOk result (AreNames sub (files_of old.folder))) → ReadsFolder sub (seen_system old) result (seen_system new)
 reads old new folder sub listed result lines quietly others looks names exact = record {
   looks = looks_then (looks_same old folder lines (λ h. (quietly h).1)) looks;
-  passes = λ h. passes_on (passes_same sub old folder (quietly h).1) (others.passes sub);
+  passes = λ spared h. passes_on (passes_same sub old folder (quietly h.no_script).1) (others.passes spared h.spares sub);
   names = names;
   exact = exact;
 }
 
 -- ---- a call that failed without effect, though a power cut may leave more
 pub record Fails (call : Call) (old new : SeenSystem) : Type 0 where
-  pub honest : old.honest → new.honest
-  pub acts : old.honest → Acts old.world new.world
-  pub left : old.honest → Follows (Leaves call) old.may_leave new.may_leave
-  pub still_rooted : old.honest → old.rooted → new.rooted
+  pub honest : (spared : Spared) → old.honest spared → new.honest spared
+  pub acts : (spared : Spared) → old.honest spared → Acts spared old.world new.world
+  pub left : (spared : Spared) → old.honest spared → Follows (Leaves spared call) old.may_leave new.may_leave
+  pub still_rooted : (spared : Spared) → old.honest spared → old.rooted → new.rooted
+  pub touches : TouchedNone old.touched new.touched
   pub quiet : old.quiet → new.quiet
   pub quietly : old.quiet → SameFiles old.world new.world
 
@@ -107,8 +117,9 @@ pub fails_early : {call : Call} {a b : SeenSystem} → Looks a b → Fails call 
 fails_early looks = record {
   honest = looks.honest;
   acts = looks.acts;
-  left = λ h. left_early (looks.left h);
+  left = λ spared h. left_early (looks.left spared h);
   still_rooted = looks.still_rooted;
+  touches = looks.touches;
   quiet = looks.quiet;
   quietly = looks.quietly;
 }
@@ -116,13 +127,15 @@ fails_early looks = record {
 -- the folder has another script, other cases may be left, and the folders were stamped
 pub fails : {call : Call} (old mid : MemSystem) (folder : MemFolder) (cases : Cases) (stamp : SystemTime) (calls : ℕ)
     → Looks (seen_system old) (seen_system mid) → (IsQuiet mid.folder → IsQuiet folder) → (IsQuiet mid.folder → files_of folder ≡ files_of mid.folder)
-    → (IsQuiet old.folder → Follows (Leaves call) (may_be_left old) (may_find folder cases))
+    → ((spared : Spared) → IsHonest old spared → Follows (Leaves spared call) (may_be_left old) (may_find folder cases))
     → Fails call (seen_system old) (seen_system (record mid { folder = folder; cases = cases; stamp = stamp; calls_left = calls }))
 fails old mid folder cases stamp calls looks script same left = record {
-  honest = λ h. script (looks.honest h);
-  acts = λ h. let acts = looks.acts h in record { actions = acts.actions; files_are = same (looks.honest h) ∙ acts.files_are };
+  honest = λ spared h. let on = looks.honest spared h in record { no_script = script on.no_script; spares = on.spares };
+  acts = λ spared h.
+      let acts = looks.acts spared h in record { actions = acts.actions; files_are = same (looks.honest spared h).no_script ∙ acts.files_are };
   left = left;
   still_rooted = looks.still_rooted;
+  touches = looks.touches;
   quiet = λ q. let still = looks.quiet q in record { no_script = script still.no_script; no_turns = still.no_turns };
   quietly = λ q. same (looks.quiet q).no_script ∙ looks.quietly q;
 }
@@ -132,9 +145,10 @@ pub not_made : {A E : Type 0} {name : List ℕ} {a b : SeenSystem} (result : Res
 not_made (Ok _) is_err fails = absurd (false≢true is_err)
 not_made (Err _) is_err fails = record {
   honest = fails.honest;
-  created = λ h. inl (fails.acts h);
+  created = λ spared h. inl (fails.acts spared h);
   left = fails.left;
   still_rooted = fails.still_rooted;
+  touches = λ name now. inr (fails.touches name now);
   quiet = fails.quiet;
   quietly = λ q. ([], tt, fails.quietly q);
 }
@@ -144,9 +158,10 @@ pub not_appended : {name bytes : List ℕ} {is_current : Type 0} {a b : SeenSyst
 not_appended (Ok _) is_err fails = absurd (false≢true is_err)
 not_appended (Err _) is_err fails = record {
   honest = fails.honest;
-  appended = λ h current. inl (fails.acts h);
+  appended = λ spared h current. inl (fails.acts spared h);
   left = fails.left;
   still_rooted = fails.still_rooted;
+  touches = fails.touches;
   quiet = fails.quiet;
   quietly = λ q current. inl (fails.quietly q);
 }
@@ -155,9 +170,10 @@ pub not_taken : {A E : Type 0} {call : Call} {a b : SeenSystem} (result : Result
 not_taken (Ok _) is_err fails = absurd (false≢true is_err)
 not_taken (Err _) is_err fails = record {
   honest = fails.honest;
-  called = λ h. acts_failed (fails.acts h);
+  called = λ spared h. acts_failed (fails.acts spared h);
   left = fails.left;
   still_rooted = fails.still_rooted;
+  touches = λ name now. inr (fails.touches name now);
   quiet = fails.quiet;
   quietly = λ q. ([], tt, fails.quietly q);
 }

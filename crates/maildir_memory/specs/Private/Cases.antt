@@ -4,12 +4,12 @@ use Rattle.maildir_run.specs.Calls.{Writing, Placing, Removing, effect}
 use Rattle.maildir_run.specs.Files.{Files}
 use Rattle.maildir_run.specs.declared.mem_folder.MemFolder.{MemFolder}
 use Rattle.maildir_run.specs.MemFiles.{no_files}
-use Rattle.maildir_run.specs.Script.{performed, half_performed}
 use Rattle.maildir_memory.specs.declared.cases.Cases.{Cases}
 use Rattle.maildir_memory.specs.declared.cases.Change.{Change}
 use Rattle.maildir_memory.specs.declared.cases.Change.TheVariants.{Make, Hold, Place, Remove, Other, Half}
 use Rattle.maildir_disk.specs.Writing.{changed}
 use Rattle.maildir_memory.specs.Cases.{HasRoom, lefts_of, may_find}
+use Rattle.maildir_memory.specs.Private.TurnActs.{half_turned, turned}
 
 -- the files after a change
 abbrev pub made : Change → Files → Files
@@ -17,8 +17,8 @@ made (Make name) s = effect (Writing name.now []) s
 made (Hold name bytes) s = changed name.now (λ _. bytes.now) s
 made (Place name place target) s = effect (Placing name.now place target.now) s
 made (Remove name) s = effect (Removing name.now) s
-made (Other act) s = performed act.now s
-made (Half act) s = half_performed act.now s
+made (Other act) s = turned act.now s
+made (Half act) s = half_turned act.now s
 
 -- the files of the case with this number
 abbrev pub nth_left : ℕ → Cases → Files

@@ -1,34 +1,35 @@
 -- What a power cut leaves, where it leaves all that is there; and from one moment to another.
 use Rattle.std.proofs.Common.{◌≡◌, List, [], ◌∷◌, map, Result, refl, sym, subst, ◌∙◌, inl, inr, arith}
-use Rattle.maildir_run.proofs.Common.{FolderFault, Call, Called, Writing, Move, Succeeded}
+use Rattle.maildir_run.proofs.Common.{FolderFault, Call, Called, Writing, Move, Succeeded, Spared}
 use Rattle.maildir_run.proofs.Common.{after, moved, Came, Leaves, LeavesOf, IsFoundWhole, Follows, left_after, Files}
 use Rattle.maildir_run.proofs.Call.Moves.{writing_ok}
 
-left_moves : (s : Files) (call : Call) (moves : List Move) → left_after s call (map Came moves) ≡ after s call moves
-left_moves s call [] = refl
-left_moves s call (move ∷ moves) = left_moves (moved call move s) call moves
+left_moves : (spared : Spared) (s : Files) (call : Call) (moves : List Move) → left_after spared s call (map Came moves) ≡ after spared s call moves
+left_moves spared s call [] = refl
+left_moves spared s call (move ∷ moves) = left_moves spared (moved spared call move s) call moves
 
-pub leaves_moves : (call : Call) (old new : Files) (moves : List Move) → new ≡ after old call moves → Leaves call old new
-leaves_moves call old new moves e = record { kept = map Came moves; are = e ∙ sym (left_moves old call moves) }
+pub leaves_moves : (spared : Spared) (call : Call) (old new : Files) (moves : List Move) → new ≡ after spared old call moves → Leaves spared call old new
+leaves_moves spared call old new moves e = record { kept = map Came moves; are = e ∙ sym (left_moves spared old call moves) }
 
-found_whole : (call : Call) {old new : Files} → Succeeded call old new → IsFoundWhole call new
-found_whole (Writing name bytes) {old} {new} done = λ ours held has.
-    elim (writing_ok name bytes ours old new done) [
+found_whole : {spared : Spared} (call : Call) {old new : Files} → Succeeded spared call old new → IsFoundWhole spared call new
+found_whole {spared} (Writing name bytes) {old} {new} done = λ ours held has.
+    elim (writing_ok name bytes spared ours old new done) [
       | inl is ↦ let e = sym has ∙ is in cc
       | inr gone ↦ let e = sym has ∙ gone in cc
     ]
 found_whole other done = tt
 
-leaves_called : {A : Type 0} (call : Call) (old : Files) (r : Result A FolderFault) (new : Files) → Called call old r new → LeavesOf call old r new
-leaves_called call old r new h = grind (arith, leaves_moves, found_whole)
+leaves_called : (spared : Spared) {A : Type 0} (call : Call) (old : Files) (r : Result A FolderFault) (new : Files) → Called spared call old r new
+    → LeavesOf spared call old r new
+leaves_called spared call old r new h = grind (arith, leaves_moves, found_whole)
 
 -- ---- where a cut leaves what is there, and that alone
 pub all_left : (of : Files → Files → Type 0) {old new : Files} → of old new → Follows of (λ left. left ≡ old) (λ left. left ≡ new)
 all_left of {old} h left e = (old, refl, subst (of old) (sym e) h)
 
-pub called_left : {A : Type 0} (call : Call) {old : Files} (r : Result A FolderFault) {new : Files}
-    → Called call old r new → Follows (λ before now. LeavesOf call before r now) (λ left. left ≡ old) (λ left. left ≡ new)
-called_left call {old} r {new} h = all_left (λ before now. LeavesOf call before r now) (leaves_called call old r new h)
+pub called_left : (spared : Spared) {A : Type 0} (call : Call) {old : Files} (r : Result A FolderFault) {new : Files}
+    → Called spared call old r new → Follows (λ before now. LeavesOf spared call before r now) (λ left. left ≡ old) (λ left. left ≡ new)
+called_left spared call {old} r {new} h = all_left (λ before now. LeavesOf spared call before r now) (leaves_called spared call old r new h)
 
 -- ---- from one moment to another
 pub left_as : (of other : Files → Files → Type 0) (before now : Files → Type 0)

@@ -3,8 +3,8 @@ use Rattle.std.proofs.Common.{◌≡◌, ℕ, true, false, cond, not, List, [], 
 use Rattle.std.proofs.Common.{None, IsPermutation, IsTrue, refl, sym, ap, ◌∙◌, inl, inr, is_some}
 use Rattle.maildir_run.proofs.Common.{get, insert, remove, values, entries, retain_keys, find, get-entries, get-from_entries, get-remove}
 use Rattle.maildir_run.proofs.Common.{cases_Bool, and_parts, IsPermutation-refl, IsPermutation-sym, IsPermutation-trans, IsPermutation-middle}
-use Rattle.maildir_run.proofs.Common.{IsPermutation-append_left, IsPermutation-append_right, base, is_converter_name, is_converter_base}
-use Rattle.maildir_run.proofs.Common.{name_cmp, is_name, FileMap, Files, has_base, held_under, homes, Action}
+use Rattle.maildir_run.proofs.Common.{IsPermutation-append_left, IsPermutation-append_right, base, is_converter_base}
+use Rattle.maildir_run.proofs.Common.{name_cmp, is_name, FileMap, Files, has_base, held_under, homes, Action, Spared, is_spared, is_spared_name}
 use Rattle.maildir_run.proofs.Common.{outsiders_of, may_take, acted, Message, IsHome, IsSoundAt, is_any, has_home}
 use Rattle.maildir_run.proofs.Names.Maps.{total, is_name-true, get_under, under_same, under_insert, under_insert_other}
 use Rattle.maildir_run.proofs.Names.Maps.{under_remove, under_remove_other, values-insert, values-remove}
@@ -31,22 +31,28 @@ find-both : (q : List ℕ) (xs ys : List (List ℕ × List ℕ)) → find name_c
 find-both q [] ys none = none
 find-both q (x ∷ xs) ys none = ap (cond (is_name q x.0) (Some x.1)) (find-both q xs ys none)
 
--- a converter's name holds what it held
-pub get-outsiders_of : (ours theirs : FileMap) (q : List ℕ) → is_converter_name q ≡ true → get (outsiders_of ours theirs) q ≡ get ours q
-get-outsiders_of ours theirs q h =
-    let mine = retain_keys ours is_converter_name in
-    let other = retain_keys theirs (λ n. not (is_converter_name n)) in
-    let none : find name_cmp q (entries other) ≡ None = sym (get-entries other q) ∙ get_under (λ n. not (is_converter_name n)) theirs q ∙ rw h refl in
+-- a name that is spared holds what it held
+pub get-outsiders_of : (spared : Spared) (ours theirs : FileMap) (q : List ℕ) → is_spared_name spared q ≡ true
+    → get (outsiders_of spared ours theirs) q ≡ get ours q
+get-outsiders_of spared ours theirs q h =
+    let mine = retain_keys ours (is_spared_name spared) in
+    let other = retain_keys theirs (λ n. not (is_spared_name spared n)) in
+    let none : find name_cmp q (entries other) ≡ None = sym (get-entries other q) ∙ get_under (λ n. not (is_spared_name spared n)) theirs q ∙ rw h refl in
     get-from_entries total (entries mine ++ entries other) q
     ∙ find-both q (entries mine) _ none
-    ∙ sym (get-entries mine q) ∙ get_under is_converter_name ours q ∙ rw h refl
+    ∙ sym (get-entries mine q) ∙ get_under (is_spared_name spared) ours q ∙ rw h refl
 
--- a name that has a converter's base is a converter's
-pub converters : (b q : List ℕ) → IsTrue (is_converter_base b) → has_base b q ≡ true → is_converter_name q ≡ true
-converters b q named h = ap is_converter_base (sym (is_name-true b (base q) h)) ∙ named
+-- a converter's base of the set is spared
+pub spared_named : (spared : Spared) (b : List ℕ) → IsTrue (spared b) → IsTrue (is_converter_base b) → IsTrue (is_spared spared b)
+spared_named spared b sp named = rw sp named
 
-pub held-outsiders_of : (b : List ℕ) (ours theirs : FileMap) → IsTrue (is_converter_base b) → held_under b (outsiders_of ours theirs) ≡ held_under b ours
-held-outsiders_of b ours theirs named = grind (arith, held_same, get-outsiders_of, converters)
+-- a name that has a base that is spared is spared
+pub converters : (spared : Spared) (b q : List ℕ) → IsTrue (is_spared spared b) → has_base b q ≡ true → is_spared_name spared q ≡ true
+converters spared b q named h = ap (is_spared spared) (sym (is_name-true b (base q) h)) ∙ named
+
+pub held-outsiders_of : (spared : Spared) (b : List ℕ) (ours theirs : FileMap) → IsTrue (is_spared spared b)
+    → held_under b (outsiders_of spared ours theirs) ≡ held_under b ours
+held-outsiders_of spared b ours theirs named = grind (arith, held_same, get-outsiders_of, converters)
 
 -- ---- each action
 pub absent : (o : Option (List ℕ)) → not (is_some o) ≡ true → o ≡ None
@@ -90,8 +96,8 @@ reflag_kept b s name target {bytes} has may =
       | inr off ↦ grind (arith, held-insert_other, held-remove_other)
     ]
 
-pub acted_kept : (b : List ℕ) → IsTrue (is_converter_base b) → (action : Action) (s : Files) → KeepsHomesOf b s (acted action s)
-acted_kept b named action s = grind (arith, IsPermutation-refl, to_cur_kept, reflag_kept, equally, held-outsiders_of)
+pub acted_kept : (spared : Spared) (b : List ℕ) → IsTrue (is_spared spared b) → (action : Action) (s : Files) → KeepsHomesOf b s (acted spared action s)
+acted_kept spared b named action s = grind (arith, IsPermutation-refl, to_cur_kept, reflag_kept, equally, held-outsiders_of)
 
 -- ---- messages that were done
 pub none_of : (xs : List (List ℕ)) → is_any xs ≡ false → xs ≡ []

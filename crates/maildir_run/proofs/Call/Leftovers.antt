@@ -1,11 +1,11 @@
 -- How many converter's names tmp has, as other programs act.
 use Rattle.std.proofs.Common.{◌≡◌, ℕ, suc, ◌≤◌, ◌-◌, Bool, true, false, cond, List, [], ◌∷◌, map, length, None, refl, sym, ap, ◌∙◌, arith, filter}
-use Rattle.maildir_run.proofs.Common.{remove, entries, keys, len, retain_keys, from_sorted, same_map, get-entries}
+use Rattle.maildir_run.proofs.Common.{remove, entries, keys, len, retain_keys, from_sorted, same_map, get-entries, Spared, SparesAll, is_spared_name, base}
 use Rattle.maildir_run.proofs.Common.{get-from_sorted, entries-from_sorted, entries_sorted, len-entries, len-remove, is_converter_name}
 use Rattle.maildir_run.proofs.Common.{name_cmp, FileMap, Files, Action, acted, leftover_count}
 use Rattle.std.specs.FinMap.Entries.{where_key, is_sorted-where_key, find-where_key}
 use Rattle.maildir_run.proofs.Names.Maps.{total, same, get_under, under_same, under_remove, under_remove_other}
-use Rattle.maildir_run.proofs.Call.Homes.{get-outsiders_of}
+use Rattle.maildir_run.proofs.Call.Homes.{get-outsiders_of, spared_named}
 use Rattle.maildir_run.proofs.Call.Moves.{to_cur_tmp, reflag_tmp}
 
 entries_under : (p : List ℕ → Bool) (m : FileMap) → entries (retain_keys m p) ≡ where_key name_cmp p (entries m)
@@ -38,8 +38,13 @@ one_less t = grind arith
 pub dropped_count : (m : FileMap) (name : List ℕ) → len (retain_keys (remove m name) is_converter_name) ≤ len (retain_keys m is_converter_name)
 dropped_count m name = grind (arith, under_remove, len-remove, total, one_less, under_remove_other)
 
-pub acted_count : (action : Action) (s : Files) → len (retain_keys (acted action s).tmp is_converter_name) ≤ len (retain_keys s.tmp is_converter_name)
-acted_count action s = grind (arith, to_cur_tmp, reflag_tmp, dropped_count, under_same, get-outsiders_of)
+-- every name of a converter's is spared
+pub all_names : (spared : Spared) → SparesAll spared → (q : List ℕ) → is_converter_name q ≡ true → is_spared_name spared q ≡ true
+all_names spared all q ours = spared_named spared (base q) (all (base q) ours) ours
 
-pub leftovers : (action : Action) (s : Files) → leftover_count (acted action s) ≤ leftover_count s
-leftovers action s = grind (arith, leftovers_are, acted_count)
+pub acted_count : (spared : Spared) → SparesAll spared → (action : Action) (s : Files)
+    → len (retain_keys (acted spared action s).tmp is_converter_name) ≤ len (retain_keys s.tmp is_converter_name)
+acted_count spared all action s = grind (arith, to_cur_tmp, reflag_tmp, dropped_count, under_same, get-outsiders_of, all_names spared all)
+
+pub leftovers : (spared : Spared) → SparesAll spared → (action : Action) (s : Files) → leftover_count (acted spared action s) ≤ leftover_count s
+leftovers spared all action s = grind (arith, leftovers_are, acted_count)

@@ -4,8 +4,8 @@ use Rattle.std.proofs.Common.{IsPermutation, IsTrue, refl, sym, ap, ◌∙◌, i
 use Rattle.maildir_run.proofs.Common.{get, insert, remove, values, contains_key, retain_keys, empty, get-entries, get-insert, get-empty}
 use Rattle.maildir_run.proofs.Common.{same_map, len, len-empty, len-entries, All-nil, All-cons, nil_from_length, IsPermutation-refl}
 use Rattle.maildir_run.proofs.Common.{IsPermutation-sym, IsPermutation-trans, IsPermutation-middle, IsPermutation-append_left}
-use Rattle.maildir_run.proofs.Common.{IsPermutation-append_right, length_permutation, All-permutation, is_converter_name, is_converter_base, name_cmp}
-use Rattle.maildir_run.proofs.Common.{is_name, FileMap, Files, has_base, held_under, homes, Action}
+use Rattle.maildir_run.proofs.Common.{IsPermutation-append_right, length_permutation, All-permutation, name_cmp}
+use Rattle.maildir_run.proofs.Common.{is_name, FileMap, Files, has_base, held_under, homes, Action, Spared, is_spared, is_spared_name}
 use Rattle.maildir_run.proofs.Common.{to_cur, reflag, acted, Call, Writing, Placing, Move, Other, Again, Torn, placed, effect}
 use Rattle.maildir_run.proofs.Common.{torn, moved, after, IsOthers, IsWhole, Succeeded, PlacesElsewhere, WritesElsewhere, StaysOrGoes, IsReady}
 use Rattle.maildir_name.specs.declared.target.Place.{Place}
@@ -24,13 +24,13 @@ effect_kept b call h s = grind (arith, placed_kept, IsPermutation-refl)
 pub torn_kept : (b : List ℕ) (call : Call) (bytes : List ℕ) (s : Files) → KeepsHomesOf b s (torn call bytes s)
 torn_kept b call bytes s = grind (arith, IsPermutation-refl)
 
-module _ (b : List ℕ) (named : IsTrue (is_converter_base b)) (call : Call) (h : PlacesElsewhere b call) where
-  moved_kept : (m : Move) (s : Files) → KeepsHomesOf b s (moved call m s)
+module _ (spared : Spared) (b : List ℕ) (named : IsTrue (is_spared spared b)) (call : Call) (h : PlacesElsewhere b call) where
+  moved_kept : (m : Move) (s : Files) → KeepsHomesOf b s (moved spared call m s)
   moved_kept m s = grind (arith, acted_kept, effect_kept, torn_kept)
 
-  pub after_kept : (ms : List Move) (s : Files) → KeepsHomesOf b s (after s call ms)
+  pub after_kept : (ms : List Move) (s : Files) → KeepsHomesOf b s (after spared s call ms)
   after_kept [] s = IsPermutation-refl _
-  after_kept (m ∷ ms) s = IsPermutation-trans _ _ _ (moved_kept m s) (after_kept ms (moved call m s))
+  after_kept (m ∷ ms) s = IsPermutation-trans _ _ _ (moved_kept m s) (after_kept ms (moved spared call m s))
 
 -- ---- a name in tmp
 pub stays : (q : List ℕ) (s : Files) → StaysOrGoes q s s
@@ -49,8 +49,8 @@ module _ (s : Files) (name target : List ℕ) where
   pub reflag_tmp : (o : Option (List ℕ)) → (reflag s name target o).tmp ≡ s.tmp
   reflag_tmp o = grind arith
 
-pub acted_tmp : (q : List ℕ) → IsTrue (is_converter_name q) → (action : Action) (s : Files) → StaysOrGoes q s (acted action s)
-acted_tmp q ours action s = grind (arith, to_cur_tmp, reflag_tmp, dropped, get-outsiders_of)
+pub acted_tmp : (spared : Spared) (q : List ℕ) → IsTrue (is_spared_name spared q) → (action : Action) (s : Files) → StaysOrGoes q s (acted spared action s)
+acted_tmp spared q ours action s = grind (arith, to_cur_tmp, reflag_tmp, dropped, get-outsiders_of)
 
 written_elsewhere : (q name bytes : List ℕ) (s : Files) → is_name q name ≡ false → StaysOrGoes q s (record s { tmp = insert s.tmp name bytes })
 written_elsewhere q name bytes s off = grind (arith, get-insert, total)
@@ -64,13 +64,13 @@ effect_tmp q call h s = grind (arith, written_elsewhere, placed_tmp, dropped)
 torn_tmp : (q : List ℕ) (call : Call) → WritesElsewhere q call → (bytes : List ℕ) (s : Files) → StaysOrGoes q s (torn call bytes s)
 torn_tmp q call h bytes s = grind (arith, written_elsewhere)
 
-module _ (q : List ℕ) (ours : IsTrue (is_converter_name q)) (call : Call) (h : WritesElsewhere q call) where
-  moved_tmp : (m : Move) (s : Files) → StaysOrGoes q s (moved call m s)
+module _ (spared : Spared) (q : List ℕ) (ours : IsTrue (is_spared_name spared q)) (call : Call) (h : WritesElsewhere q call) where
+  moved_tmp : (m : Move) (s : Files) → StaysOrGoes q s (moved spared call m s)
   moved_tmp m s = grind (arith, acted_tmp, effect_tmp, torn_tmp)
 
-  pub after_tmp : (ms : List Move) (s : Files) → StaysOrGoes q s (after s call ms)
+  pub after_tmp : (ms : List Move) (s : Files) → StaysOrGoes q s (after spared s call ms)
   after_tmp [] s = inl refl
-  after_tmp (m ∷ ms) s = stays_trans q s (moved call m s) (after s call (m ∷ ms)) (moved_tmp m s) (after_tmp ms (moved call m s))
+  after_tmp (m ∷ ms) s = stays_trans q s (moved spared call m s) (after spared s call (m ∷ ms)) (moved_tmp m s) (after_tmp ms (moved spared call m s))
 
 -- ---- small lists in any order
 pub permutation_of_none : {X : Type 0} {ys : List X} → IsPermutation [] ys → ys ≡ []
@@ -164,60 +164,65 @@ arrives {b} {name} p target {s} on w {bytes} has = grind (arith, placed_first, p
 abbrev pub Stage : (b name : List ℕ) (had : Option (List ℕ)) (s : Files) → Type 0
 Stage b name had s = Waits b name had s ⊎ Arrived b name had s
 
-module _ (b name : List ℕ) (p : Place) (target : List ℕ) (named : IsTrue (is_converter_base b))
-    (ours : IsTrue (is_converter_name name)) (on : has_base b target ≡ true) (had : Option (List ℕ)) where
+module _ (spared : Spared) (b name : List ℕ) (p : Place) (target : List ℕ) (named : IsTrue (is_spared spared b))
+    (ours : IsTrue (is_spared_name spared name)) (on : has_base b target ≡ true) (had : Option (List ℕ)) where
   arrived_again : (s : Files) → Arrived b name had s → Arrived b name had (effect (Placing name p target) s)
   arrived_again s a = rw a.gone a
 
   waits_again : (s : Files) → Waits b name had s → Stage b name had (effect (Placing name p target) s)
   waits_again s w = grind (arith, arrives)
 
-  arrived_moved : (m : Move) (s : Files) → Arrived b name had s → Arrived b name had (moved (Placing name p target) m s)
-  arrived_moved (Other action) s a = arrived_on b name had s (acted action s) (acted_kept b named action s) (acted_tmp name ours action s) a
+  arrived_moved : (m : Move) (s : Files) → Arrived b name had s → Arrived b name had (moved spared (Placing name p target) m s)
+  arrived_moved (Other action) s a =
+      arrived_on b name had s (acted spared action s) (acted_kept spared b named action s) (acted_tmp spared name ours action s) a
   arrived_moved Again s a = arrived_again s a
   arrived_moved (Torn bytes) s a = a
 
-  pub arrived_after : (ms : List Move) (s : Files) → Arrived b name had s → Arrived b name had (after s (Placing name p target) ms)
+  pub arrived_after : (ms : List Move) (s : Files) → Arrived b name had s → Arrived b name had (after spared s (Placing name p target) ms)
   arrived_after [] s a = a
-  arrived_after (m ∷ ms) s a = arrived_after ms (moved (Placing name p target) m s) (arrived_moved m s a)
+  arrived_after (m ∷ ms) s a = arrived_after ms (moved spared (Placing name p target) m s) (arrived_moved m s a)
 
-  stage_moved : (m : Move) (s : Files) → Stage b name had s → Stage b name had (moved (Placing name p target) m s)
+  stage_moved : (m : Move) (s : Files) → Stage b name had s → Stage b name had (moved spared (Placing name p target) m s)
   stage_moved m s (inr a) = inr (arrived_moved m s a)
-  stage_moved (Other action) s (inl w) = inl (waits_on b name had s (acted action s) (acted_kept b named action s) (acted_tmp name ours action s) w)
+  stage_moved (Other action) s (inl w) =
+      inl (waits_on b name had s (acted spared action s) (acted_kept spared b named action s) (acted_tmp spared name ours action s) w)
   stage_moved Again s (inl w) = waits_again s w
   stage_moved (Torn bytes) s (inl w) = inl w
 
-  pub stage_after : (ms : List Move) (s : Files) → Stage b name had s → Stage b name had (after s (Placing name p target) ms)
+  pub stage_after : (ms : List Move) (s : Files) → Stage b name had s → Stage b name had (after spared s (Placing name p target) ms)
   stage_after [] s st = st
-  stage_after (m ∷ ms) s st = stage_after ms (moved (Placing name p target) m s) (stage_moved m s st)
+  stage_after (m ∷ ms) s st = stage_after ms (moved spared (Placing name p target) m s) (stage_moved m s st)
 
   -- others alone let it wait
-  pub waits_after : (ms : List Move) (s : Files) → IsOthers ms → Waits b name had s → Waits b name had (after s (Placing name p target) ms)
+  pub waits_after : (ms : List Move) (s : Files) → IsOthers ms → Waits b name had s → Waits b name had (after spared s (Placing name p target) ms)
   waits_after [] s others w = w
   waits_after (Other action ∷ ms) s others w =
-      waits_after ms (acted action s) others (waits_on b name had s (acted action s) (acted_kept b named action s) (acted_tmp name ours action s) w)
+      waits_after ms (acted spared action s) others
+      (waits_on b name had s (acted spared action s) (acted_kept spared b named action s) (acted_tmp spared name ours action s) w)
   waits_after (other ∷ ms) s others w = absurd others
 
   ready : (s : Files) → Waits b name had s → IsTrue (contains_key s.tmp name) → Arrived b name had (effect (Placing name p target) s)
   ready s w has = grind (arith, arrives)
 
-pub after-append : (s : Files) (call : Call) (ms ns : List Move) → after s call (ms ++ ns) ≡ after (after s call ms) call ns
-after-append s call [] ns = refl
-after-append s call (m ∷ ms) ns = after-append (moved call m s) call ms ns
+pub after-append : (spared : Spared) (s : Files) (call : Call) (ms ns : List Move)
+    → after spared s call (ms ++ ns) ≡ after spared (after spared s call ms) call ns
+after-append spared s call [] ns = refl
+after-append spared s call (m ∷ ms) ns = after-append spared (moved spared call m s) call ms ns
 
 -- whatever a call that places at a base without a home answers
-module _ (b name : List ℕ) (p : Place) (target : List ℕ) (named : IsTrue (is_converter_base b))
-    (ours : IsTrue (is_converter_name name)) (on : has_base b target ≡ true) where
-  pub placing : (ms : List Move) (s : Files) → homes s b ≡ [] → Stage b name (get s.tmp name) (after s (Placing name p target) ms)
+module _ (spared : Spared) (b name : List ℕ) (p : Place) (target : List ℕ) (named : IsTrue (is_spared spared b))
+    (ours : IsTrue (is_spared_name spared name)) (on : has_base b target ≡ true) where
+  pub placing : (ms : List Move) (s : Files) → homes s b ≡ [] → Stage b name (get s.tmp name) (after spared s (Placing name p target) ms)
   placing ms s e = grind (arith, stage_after)
 
   -- and with Ok
-  pub placing_ok : (old new : Files) → Succeeded (Placing name p target) old new → homes old b ≡ [] → Arrived b name (get old.tmp name) new
+  pub placing_ok : (old new : Files) → Succeeded spared (Placing name p target) old new → homes old b ≡ [] → Arrived b name (get old.tmp name) new
   placing_ok old new done e =
       let had = get old.tmp name in
       let call = Placing name p target in
-      let mid = after old call done.before in
-      let w : Waits b name had mid = waits_after b name p target named ours on had done.before old done.others (record { homes_are = e; waiting = inl refl }) in
+      let mid = after spared old call done.before in
+      let w : Waits b name had mid =
+      waits_after spared b name p target named ours on had done.before old done.others (record { homes_are = e; waiting = inl refl }) in
       grind (arith, after-append, arrived_after, ready)
 
 -- ---- what was written
@@ -228,16 +233,17 @@ module _ (name bytes : List ℕ) where
   written_on : (s : Files) (t : Files) → StaysOrGoes name s t → WrittenOrGone s → WrittenOrGone t
   written_on s t h w = grind (arith, stays)
 
-  written_after : IsTrue (is_converter_name name) → (ms : List Move) (s : Files)
-      → IsWhole ms → WrittenOrGone s → WrittenOrGone (after s (Writing name bytes) ms)
-  written_after ours [] s whole w = w
-  written_after ours (Other action ∷ ms) s whole w =
-      written_after ours ms (acted action s) whole (written_on s (acted action s) (acted_tmp name ours action s) w)
-  written_after ours (Again ∷ ms) s whole w = written_after ours ms (effect (Writing name bytes) s) whole (inl (get-insert_same s.tmp name bytes))
-  written_after ours (Torn _ ∷ ms) s whole w = absurd whole
+  written_after : (spared : Spared) → IsTrue (is_spared_name spared name) → (ms : List Move) (s : Files)
+      → IsWhole ms → WrittenOrGone s → WrittenOrGone (after spared s (Writing name bytes) ms)
+  written_after spared ours [] s whole w = w
+  written_after spared ours (Other action ∷ ms) s whole w =
+      written_after spared ours ms (acted spared action s) whole (written_on s (acted spared action s) (acted_tmp spared name ours action s) w)
+  written_after spared ours (Again ∷ ms) s whole w = written_after spared ours ms (effect (Writing name bytes) s) whole (inl (get-insert_same s.tmp name bytes))
+  written_after spared ours (Torn _ ∷ ms) s whole w = absurd whole
 
-  pub writing_ok : IsTrue (is_converter_name name) → (old new : Files) → Succeeded (Writing name bytes) old new → WrittenOrGone new
-  writing_ok ours old new done = grind (arith, after-append, written_after, get-insert_same)
+  pub writing_ok : (spared : Spared) → IsTrue (is_spared_name spared name) → (old new : Files) → Succeeded spared (Writing name bytes) old new
+      → WrittenOrGone new
+  writing_ok spared ours old new done = grind (arith, after-append, written_after, get-insert_same)
 
-pub once : (call : Call) (old new : Files) → IsReady call old → new ≡ effect call old → Succeeded call old new
+pub once : {spared : Spared} (call : Call) (old new : Files) → IsReady call old → new ≡ effect call old → Succeeded spared call old new
 once call old new ready left = record { before = []; rest = []; others = tt; ready = ready; whole = tt; left = left }

@@ -1,10 +1,11 @@
 -- What any list of runs and actions leaves.
-use Rattle.std.proofs.Common.{◌≡◌, ℕ, zero, suc, List, [], ◌∷◌, ◌++◌, map, All, Contains, None, refl, IsTrue, Ok, sym, subst, inl, inr, arith}
-use Rattle.maildir_run.proofs.Common.{get, IsPermutation-trans, is_converter_name, is_converter_base, Files, Action, acted, Message}
+use Rattle.std.proofs.Common.{◌≡◌, ℕ, zero, suc, List, [], ◌∷◌, ◌++◌, map, Contains, None, refl, IsTrue, Ok, sym, subst, inl, inr, arith, get_or}
+use Rattle.maildir_run.proofs.Common.{get, IsPermutation-trans, Files, Action, acted, Message}
 use Rattle.maildir_run.proofs.Common.{IsMissing, IsSoundAt, AreNamed, Sound, Delivered, Report, MessagesOf, Chain, IsRun, Link, Acted, Linked, Runs}
 use Rattle.maildir_run.specs.Runs.{Ran}
-use Rattle.maildir_run.proofs.Call.Homes.{acted_kept}
+use Rattle.maildir_run.proofs.Call.Homes.{acted_kept, spared_named}
 use Rattle.maildir_run.proofs.Call.Moves.{homes_none, homes_one, acted_tmp}
+use Rattle.maildir_run.proofs.Common.{Spared, is_spared, is_spared_name, AllSpared}
 
 -- ---- any chain
 -- what holds of its end holds of each moment from which its links lead there
@@ -44,42 +45,54 @@ pub chain_parts : {L S : Type 0} (step : L → S → S → Type 0) (xs ys : List
 chain_parts step [] ys old new chain = (old, refl, chain)
 chain_parts step (x ∷ xs) ys old new (next, first, then) = let r = chain_parts step xs ys next new then in (r.0, (next, first, r.1), r.2)
 
-pub sound_now : (ms : List Message) (s : Files) → All (IsSoundAt s) ms → Sound ms s s
-sound_now ms s own = grind arith
+pub sound_now : (spared : Spared) (ms : List Message) (s : Files) → AllSpared spared (IsSoundAt s) ms → Sound spared ms s s
+sound_now spared ms s own = grind arith
 
-sound_trans : {ms : List Message} {a b c : Files} → Sound ms a b → Sound ms b c → Sound ms a c
+sound_trans : {spared : Spared} {ms : List Message} {a b c : Files} → Sound spared ms a b → Sound spared ms b c → Sound spared ms a c
 sound_trans {b} first then = grind (arith, IsPermutation-trans)
 
-pub sound_at_start : {ms : List Message} {s : Files} → All (IsMissing s) ms → Sound ms s s
-sound_at_start {ms} {s} missing = sound_now ms s (λ k d h. inl (missing k d h))
+pub sound_at_start : {spared : Spared} {ms : List Message} {s : Files} → AllSpared spared (IsMissing s) ms → Sound spared ms s s
+sound_at_start {spared} {ms} {s} missing = sound_now spared ms s (λ k d h sp. inl (missing k d h sp))
 
-acted_sound_at : (m : Message) → IsTrue (is_converter_base m.target.base) → (action : Action) (s : Files) → IsSoundAt s m → IsSoundAt (acted action s) m
-acted_sound_at m named action s (inl none) = inl (homes_none m.target.base s (acted action s) (acted_kept m.target.base named action s) none)
-acted_sound_at m named action s (inr one) = grind (arith, homes_one, acted_kept)
+acted_sound_at : (spared : Spared) (m : Message) → IsTrue (is_spared spared m.target.base) → (action : Action) (s : Files) → IsSoundAt s m
+    → IsSoundAt (acted spared action s) m
+acted_sound_at spared m named action s (inl none) =
+    inl (homes_none m.target.base s (acted spared action s) (acted_kept spared m.target.base named action s) none)
+acted_sound_at spared m named action s (inr one) = grind (arith, homes_one, acted_kept)
 
-pub acted_sound : {ms : List Message} → AreNamed ms → {a s : Files} (action : Action) → Sound ms a s → Sound ms a (acted action s)
-acted_sound {ms} named {s} action sound = grind (arith, acted_sound_at, IsPermutation-trans, acted_kept)
+pub acted_sound : {spared : Spared} {ms : List Message} → AreNamed ms → {a s : Files} (action : Action) → Sound spared ms a s
+    → Sound spared ms a (acted spared action s)
+acted_sound {spared} {ms} named {s = s} action sound = record {
+  own = λ k d h sp. acted_sound_at spared (get_or ms k d) (spared_named spared _ sp (named k d h)) action s (sound.own k d h sp);
+  others = λ b is off. IsPermutation-trans _ _ _ (sound.others b is off) (acted_kept spared b is action s);
+}
 
 -- ---- a chain over a text whose messages these are
-module _ (t : List ℕ) (ms : List Message) (are : MessagesOf t ms) (named : AreNamed ms) where
-  linked_sound : (link : Link) (a old new : Files) → Sound ms a old → Linked t link old new → Sound ms a new
-  linked_sound (Ran answer) a old new sound run = sound_trans sound (run.keeps ms are (sound_now ms old sound.own)).sound
-  linked_sound (Acted action) a old new sound e = subst (Sound ms a) (sym e) (acted_sound named action sound)
+module _ (spared : Spared) (t : List ℕ) (ms : List Message) (are : MessagesOf t ms) (named : AreNamed ms) where
+  linked_sound : (link : Link) (a old new : Files) → Sound spared ms a old → Linked spared t link old new → Sound spared ms a new
+  linked_sound (Ran answer) a old new sound run = sound_trans sound (run.keeps ms are (sound_now spared ms old sound.own)).sound
+  linked_sound (Acted action) a old new sound e = subst (Sound spared ms a) (sym e) (acted_sound named action sound)
 
-  pub chain_sound : (links : List Link) (old new : Files) → All (IsMissing old) ms → Runs t links old new → Sound ms old new
+  pub chain_sound : (links : List Link) (old new : Files) → AllSpared spared (IsMissing old) ms → Runs spared t links old new → Sound spared ms old new
   chain_sound links old new missing runs =
-      chain_keeps (Linked t) (Sound ms old) (λ link a b sound linked. linked_sound link old a b sound linked) links old new (sound_at_start missing) runs
+      chain_keeps (Linked spared t) (Sound spared ms old) (λ link a b sound linked. linked_sound link old a b sound linked) links old new
+      (sound_at_start missing) runs
 
   pub chain_delivered : (links : List Link) (old mid new : Files) (report : Report)
-      → All (IsMissing old) ms → Runs t links old mid → IsRun t mid (Ok report) new → Delivered ms new
+      → AllSpared spared (IsMissing old) ms → Runs spared t links old mid → IsRun spared t mid (Ok report) new → Delivered spared ms new
   chain_delivered links old mid new report missing runs last =
-      (last.keeps ms are (sound_now ms mid (chain_sound links old mid missing runs).own)).ends.delivered
+      (last.keeps ms are (sound_now spared ms mid (chain_sound links old mid missing runs).own)).ends.delivered
 
-still_swept : (name : List ℕ) → IsTrue (is_converter_name name) → (action : Action) (s : Files) → get s.tmp name ≡ None → get (acted action s).tmp name ≡ None
-still_swept name ours action s h = grind (arith, acted_tmp)
+still_swept : (spared : Spared) (name : List ℕ) → IsTrue (is_spared_name spared name) → (action : Action) (s : Files) → get s.tmp name ≡ None
+    → get (acted spared action s).tmp name ≡ None
+still_swept spared name ours action s h = grind (arith, acted_tmp)
 
-pub acted_delivered : {ms : List Message} → AreNamed ms → (action : Action) {s : Files} → Delivered ms s → Delivered ms (acted action s)
-acted_delivered {ms} named action {s} d = record {
-  homes_are = grind (arith, homes_one, acted_kept);
+pub acted_delivered : {spared : Spared} {ms : List Message} → AreNamed ms → (action : Action) {s : Files} → Delivered spared ms s
+    → Delivered spared ms (acted spared action s)
+acted_delivered {spared} {ms} named action {s} all = record {
+  homes_are = λ k d h sp.
+      let m = get_or ms k d in
+      homes_one m.target.base m.body s (acted spared action s)
+      (acted_kept spared m.target.base (spared_named spared _ sp (named k d h)) action s) (all.homes_are k d h sp);
   swept = grind (arith, still_swept);
 }

@@ -1,7 +1,7 @@
 -- For one text, what is said of several is what is said of it.
 use Rattle.std.proofs.Common.{◌≡◌, ℕ, zero, suc, ◌<◌, ◌&&◌, ◌⊎◌, true, List, [], ◌∷◌, length, arith}
 use Rattle.std.proofs.Common.{get_or, map, bytes_eq, All, Contains, sym, ap, ◌∙◌, inl, inr, arith}
-use Rattle.maildir_run.proofs.Common.{bytes_decides, or-false, cases_lt, and_parts, All-head, All-from_get_or}
+use Rattle.maildir_run.proofs.Common.{bytes_decides, or-false, cases_lt, and_parts, All-from_get_or, Spared, IsSpared}
 use Rattle.maildir_run.proofs.Common.{Files, is_name, Message, IsMissing, IsSoundAt, AreDistinct, Sound, Link, Runs}
 use Rattle.maildir_run.specs.Several.{Mailbox, IsMailbox, HoldsGiven, SoundForAll, LinkOver, RunsOver, link_over, link_of}
 use Rattle.maildir_run.proofs.Chains.Chains.{chain_map}
@@ -28,18 +28,22 @@ own_body {text} distinct {i} d below (inr holds) =
     let body : holds.body ≡ m.body = sym ((bytes_decides (get_or ms a.0 d).body holds.body).0 parts.1) ∙ ap (λ k. (get_or ms k d).body) (sym same) in
     inr (holds.homes_are ∙ ap (λ b. b ∷ []) body)
 
-pub one_sound : {text : Mailbox} {old new : Files} → IsMailbox text → SoundForAll (text ∷ []) old new → Sound text.messages old new
-one_sound {text} {new} is sound = grind (arith, All-head, own_body, text_distinct)
+pub one_sound : {spared : Spared} {text : Mailbox} {old new : Files} → IsMailbox text → SoundForAll spared (text ∷ []) old new
+    → Sound spared text.messages old new
+one_sound {text = text} is sound = record {
+  own = λ i d below sp. own_body (text_distinct text.bytes text.messages is.are is.small) d below (sound.own zero text (omega arith) i d below sp);
+  others = grind arith;
+}
 
-one_place : {text : Mailbox} {old new : Files} → Sound text.messages old new → (k : ℕ) → k < length (text ∷ [])
-    → All (λ (m : Message). IsMissing new m ⊎ HoldsGiven (text ∷ []) new m) (get_or (text ∷ []) k text).messages
-one_place {text} {new} sound zero below = λ i e inside. home_given text below e inside (sound.own i e inside)
+one_place : {spared : Spared} {text : Mailbox} {old new : Files} → Sound spared text.messages old new → (k : ℕ) → k < length (text ∷ [])
+    → All (λ (m : Message). IsSpared spared m → IsMissing new m ⊎ HoldsGiven (text ∷ []) new m) (get_or (text ∷ []) k text).messages
+one_place {text = text} sound zero below = λ i e inside sp. home_given text below e inside (sound.own i e inside sp)
 one_place sound (suc k) below = absurd (omega (arith, below))
 
-pub sound_one : {text : Mailbox} {old new : Files} → Sound text.messages old new → SoundForAll (text ∷ []) old new
-sound_one {text} {new} sound = record {
+pub sound_one : {spared : Spared} {text : Mailbox} {old new : Files} → Sound spared text.messages old new → SoundForAll spared (text ∷ []) old new
+sound_one {spared} {text} {new = new} sound = record {
   own =
-      All-from_get_or (λ (x : Mailbox). All (λ (m : Message). IsMissing new m ⊎ HoldsGiven (text ∷ []) new m) x.messages)
+      All-from_get_or (λ (x : Mailbox). All (λ (m : Message). IsSpared spared m → IsMissing new m ⊎ HoldsGiven (text ∷ []) new m) x.messages)
       (text ∷ []) text (one_place sound);
   others = grind arith;
 }
@@ -48,9 +52,10 @@ sound_one {text} {new} sound = record {
 only_one : (text other : Mailbox) → Contains (text ∷ []) other → other ≡ text
 only_one text other h = grind arith
 
-pub one_runs : (text : Mailbox) (links : List LinkOver) (old new : Files) → RunsOver (text ∷ []) links old new → Runs text.bytes (map link_of links) old new
-one_runs text = grind (arith, chain_map)
+pub one_runs : (spared : Spared) (text : Mailbox) (links : List LinkOver) (old new : Files) → RunsOver spared (text ∷ []) links old new
+    → Runs spared text.bytes (map link_of links) old new
+one_runs spared text = grind (arith, chain_map)
 
-pub runs_one : (text : Mailbox) (links : List Link) (old new : Files)
-    → Runs text.bytes links old new → RunsOver (text ∷ []) (map (link_over text) links) old new
-runs_one text = grind (arith, chain_map)
+pub runs_one : (spared : Spared) (text : Mailbox) (links : List Link) (old new : Files)
+    → Runs spared text.bytes links old new → RunsOver spared (text ∷ []) (map (link_over text) links) old new
+runs_one spared text = grind (arith, chain_map)

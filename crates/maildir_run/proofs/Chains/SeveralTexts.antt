@@ -3,7 +3,7 @@ use Rattle.std.proofs.Common.{◌≡◌, ℕ, zero, suc, ◌+◌, ◌<◌, ◌�
 use Rattle.std.proofs.Common.{count_by, bytes_eq, All, Contains, IsTrue, IsPermutation, Result, Ok, Err, refl, sym, ap, subst, ◌∙◌, inl, inr, arith}
 use Rattle.maildir_run.proofs.Common.{list_any, nat_list_eq_equiv, bytes_decides, cases_Bool, false_from_ne_true, All-head, All-tail}
 use Rattle.maildir_run.proofs.Common.{All-contains, All-from_get_or, Contains-get_or, list_any_at, count_by-le-length, IsPermutation-refl}
-use Rattle.maildir_run.proofs.Common.{IsPermutation-trans, is_converter_base, digest_text, numbered, same_digest, RunFault, Report, Files}
+use Rattle.maildir_run.proofs.Common.{IsPermutation-trans, digest_text, numbered, same_digest, RunFault, Report, Files}
 use Rattle.maildir_run.proofs.Common.{Action, acted, homes, is_name, Message, IsMissing, IsHome, IsSoundAt, Sound, is_base_of, IsRun}
 use Rattle.maildir_name.specs.declared.target.Place.TheVariants.{New}
 use Rattle.maildir_name.proofs.Digests.{same_digest-refl, same_digest-text}
@@ -12,11 +12,12 @@ use Rattle.maildir_run.specs.Several.{Mailbox, IsMailbox, OfEach, is_base_of_any
 use Rattle.maildir_run.specs.Several.{LinkedOver, RunsOver, HaveOwnDigests, IsUnknown, count_in, most_delivered, most_tried, StandsAfter}
 use Rattle.maildir_run.proofs.Names.Maps.{is_name-refl}
 use Rattle.maildir_run.proofs.Chains.Chains.{chain_fold, chain_keeps, chain_at, sound_now}
-use Rattle.maildir_run.proofs.Call.Homes.{acted_kept}
+use Rattle.maildir_run.proofs.Call.Homes.{acted_kept, spared_named}
 use Rattle.maildir_run.proofs.Call.Moves.{homes_none, homes_one}
 use Rattle.maildir_run.proofs.Chains.MessageLemmas.{text_named}
 use Rattle.maildir_run.proofs.Chains.BaseNumbers.{has_digest_of, with_digest, count-cons, count-taken, text_numbered, text_few}
 use Rattle.maildir_run.proofs.Chains.Levels.{Level, Rise, home_level, sound_level, rise}
+use Rattle.maildir_run.proofs.Common.{Spared, is_spared, AllSpared}
 
 -- ---- a count of bodies is one of digests
 same_test : (b : List ℕ) (m : Message) → (digest_text m.body ≡ digest_text b → m.body ≡ b) → same_digest b m.body ≡ bytes_eq b m.body
@@ -54,14 +55,14 @@ pub record IsBodyOf (texts : List Mailbox) (b : List ℕ) : Type 0 where
   pub is : m.body ≡ b
 
 -- how often a body is there after some links of a chain, where it was there n times before them
-pub record Grown (links : List LinkOver) (b : List ℕ) (n : ℕ) (s : Files) : Type 0 where
-  pub level : Level b s
+pub record Grown (spared : Spared) (links : List LinkOver) (b : List ℕ) (n : ℕ) (s : Files) : Type 0 where
+  pub level : Level spared b s
   pub from : n ≤ level.n
   pub at_least : most_delivered b links ≤ level.n
   pub at_most : level.n ≤ max n (most_tried b links)
 
-grown_ran : {text : Mailbox} (answer : Result Report RunFault) {links : List LinkOver} {b : List ℕ} {n : ℕ} {mid new : Files}
-    (r : Rise b (count_in b text) n answer mid) → Grown links b r.now new → Grown (RanOver text answer ∷ links) b n new
+grown_ran : {spared : Spared} {text : Mailbox} (answer : Result Report RunFault) {links : List LinkOver} {b : List ℕ} {n : ℕ} {mid new : Files}
+    (r : Rise spared b (count_in b text) n answer mid) → Grown spared links b r.now new → Grown spared (RanOver text answer ∷ links) b n new
 grown_ran (Ok report) r g = record {
   level = g.level;
   from = omega (arith, r.from, g.from);
@@ -97,10 +98,10 @@ delivered_count b (RanOver other (Ok _) ∷ links) text report (suc k, below, is
 delivered_count b (RanOver other (Err _) ∷ links) text report (suc k, below, is) = delivered_count b links text report (k, omega (arith, below), is)
 delivered_count b (ActedOver action ∷ links) text report (suc k, below, is) = delivered_count b links text report (k, omega (arith, below), is)
 
-module _ (texts : List Mailbox) (are : All IsMailbox texts) (own : HaveOwnDigests texts) where
+module _ (spared : Spared) (texts : List Mailbox) (are : All IsMailbox texts) (own : HaveOwnDigests texts) where
   -- each body of the texts is there so often
   abbrev pub AreLevel : Files → Type 0
-  AreLevel s = (b : List ℕ) → IsBodyOf texts b → Level b s
+  AreLevel s = (b : List ℕ) → IsBodyOf texts b → Level spared b s
 
   module _ (text : Mailbox) (among : Contains texts text) where
     own_in : (b : List ℕ) → IsBodyOf texts b → All (λ m. digest_text m.body ≡ digest_text b → m.body ≡ b) text.messages
@@ -118,7 +119,7 @@ module _ (texts : List Mailbox) (are : All IsMailbox texts) (own : HaveOwnDigest
     text_at : IsMailbox text
     text_at = All-contains IsMailbox texts text are among
 
-    level_sound_at : (s : Files) → AreLevel s → All (IsSoundAt s) text.messages
+    level_sound_at : (s : Files) → AreLevel s → AllSpared spared (IsSoundAt s) text.messages
     level_sound_at s levels i d below =
         let t = text_at in
         sound_level text.messages (text_numbered text.bytes t.are)
@@ -126,11 +127,11 @@ module _ (texts : List Mailbox) (are : All IsMailbox texts) (own : HaveOwnDigest
         (levels (get_or text.messages i d).body
         (record { text = text; among = among; m = get_or text.messages i d; inside = Contains-get_or text.messages i d below; is = refl }))
 
-    level_sound : (s : Files) → AreLevel s → Sound text.messages s s
-    level_sound s levels = sound_now text.messages s (level_sound_at s levels)
+    level_sound : (s : Files) → AreLevel s → Sound spared text.messages s s
+    level_sound s levels = sound_now spared text.messages s (level_sound_at s levels)
 
-    ran_rise : (answer : Result Report RunFault) (old new : Files) → AreLevel old → IsRun text.bytes old answer new
-        → (b : List ℕ) → IsBodyOf texts b → (l : Level b old) → Rise b (count_in b text) l.n answer new
+    ran_rise : (answer : Result Report RunFault) (old new : Files) → AreLevel old → IsRun spared text.bytes old answer new
+        → (b : List ℕ) → IsBodyOf texts b → (l : Level spared b old) → Rise spared b (count_in b text) l.n answer new
     ran_rise answer old new levels run b is l =
         let t = text_at in
         let keeps = run.keeps text.messages t.are (level_sound old levels) in
@@ -145,37 +146,38 @@ module _ (texts : List Mailbox) (are : All IsMailbox texts) (own : HaveOwnDigest
         let few = text_few text.bytes t.are t.small in
         omega (arith, most, few)
 
-    abbrev rise_level : (answer : Result Report RunFault) (s : Files) (b : List ℕ) (n : ℕ) → n ≤ 2 ^ 63 → Rise b (count_in b text) n answer s → Level b s
+    abbrev rise_level : (answer : Result Report RunFault) (s : Files) (b : List ℕ) (n : ℕ) → n ≤ 2 ^ 63
+        → Rise spared b (count_in b text) n answer s → Level spared b s
     rise_level answer s b n small r = record { n = r.now; there = r.there; small = (let to = r.to in let few = count_small b in omega (arith, to, small, few)) }
 
-  abbrev acted_level : (action : Action) (s : Files) (b : List ℕ) → Level b s → Level b (acted action s)
+  abbrev acted_level : (action : Action) (s : Files) (b : List ℕ) → Level spared b s → Level spared b (acted spared action s)
   acted_level action s b l = record {
     n = l.n;
     there = record {
-      up_to = λ k lt.
-          homes_one (numbered b (k + 1)) b s (acted action s)
-          (acted_kept (numbered b (k + 1)) (numbered-converter b (k + 1) (omega arith) (omega (arith, lt, l.small))) action s) (l.there.up_to k lt);
-      no_other = λ x named digits apart. homes_none x s (acted action s) (acted_kept x named action s) (l.there.no_other x named digits apart);
+      up_to = λ k lt sp.
+          let named = spared_named spared _ sp (numbered-converter b (k + 1) (omega arith) (omega (arith, lt, l.small))) in
+          homes_one (numbered b (k + 1)) b s (acted spared action s) (acted_kept spared (numbered b (k + 1)) named action s) (l.there.up_to k lt sp);
+      no_other = λ x named digits apart. homes_none x s (acted spared action s) (acted_kept spared x named action s) (l.there.no_other x named digits apart);
     };
     small = l.small;
   }
 
   ran_levels : (text : Mailbox) → Contains texts text → (answer : Result Report RunFault) (old new : Files)
-      → AreLevel old → IsRun text.bytes old answer new → AreLevel new
+      → AreLevel old → IsRun spared text.bytes old answer new → AreLevel new
   ran_levels text among answer old new levels run b is =
       rise_level text among answer new b (levels b is).n (levels b is).small (ran_rise text among answer old new levels run b is (levels b is))
 
   -- ---- what a link leaves, and a chain of them
-  linked_levels : (link : LinkOver) (old new : Files) → AreLevel old → LinkedOver texts link old new → AreLevel new
+  linked_levels : (link : LinkOver) (old new : Files) → AreLevel old → LinkedOver spared texts link old new → AreLevel new
   linked_levels (RanOver text answer) old new levels (among, run) = ran_levels text among answer old new levels run
   linked_levels (ActedOver action) old new levels e = subst AreLevel (sym e) (λ b is. acted_level action old b (levels b is))
 
   -- from here to the chain's end each body has grown
   abbrev Grows : Files → List LinkOver → Files → Type 0
-  Grows new links s = AreLevel s → (b : List ℕ) → IsBodyOf texts b → (l : Level b s) → Grown links b l.n new
+  Grows new links s = AreLevel s → (b : List ℕ) → IsBodyOf texts b → (l : Level spared b s) → Grown spared links b l.n new
 
   linked_grows : (new : Files) (link : LinkOver) (links : List LinkOver) (old mid : Files)
-      → LinkedOver texts link old mid → Grows new links mid → Grows new (link ∷ links) old
+      → LinkedOver spared texts link old mid → Grows new links mid → Grows new (link ∷ links) old
   linked_grows new (RanOver text answer) links old mid (among, run) rest levels b is l =
       let r = ran_rise text among answer old mid levels run b is l in
       grown_ran answer r
@@ -184,30 +186,30 @@ module _ (texts : List Mailbox) (are : All IsMailbox texts) (own : HaveOwnDigest
       let g = subst (Grows new links) e rest (λ x at. acted_level action old x (levels x at)) b is (acted_level action old b l) in
       record { level = g.level; from = g.from; at_least = g.at_least; at_most = g.at_most }
 
-  chain_grown : (links : List LinkOver) (old new : Files) → RunsOver texts links old new → Grows new links old
+  chain_grown : (links : List LinkOver) (old new : Files) → RunsOver spared texts links old new → Grows new links old
   chain_grown links old new =
-      chain_fold (LinkedOver texts) (Grows new) new
+      chain_fold (LinkedOver spared texts) (Grows new) new
       (λ levels b is l. record { level = l; from = omega arith; at_least = omega arith; at_most = omega arith }) (linked_grows new) links old
 
-  linked_others : (x : List ℕ) → IsTrue (is_converter_base x) → is_base_of_any texts x ≡ false → (link : LinkOver) (old new : Files)
-      → AreLevel old → LinkedOver texts link old new → IsPermutation (homes old x) (homes new x)
+  linked_others : (x : List ℕ) → IsTrue (is_spared spared x) → is_base_of_any texts x ≡ false → (link : LinkOver) (old new : Files)
+      → AreLevel old → LinkedOver spared texts link old new → IsPermutation (homes old x) (homes new x)
   linked_others x named off (RanOver text answer) old new levels (among, run) =
       let keeps = run.keeps text.messages (text_at text among).are (level_sound text among old levels) in
       keeps.sound.others x named (none_at (λ (y : Mailbox). is_base_of y.messages x) texts off among)
-  linked_others x named off (ActedOver action) old new levels e = rw e (acted_kept x named action old)
+  linked_others x named off (ActedOver action) old new levels e = rw e (acted_kept spared x named action old)
 
-  chain_others : (links : List LinkOver) (old new : Files) → AreLevel old → RunsOver texts links old new → (x : List ℕ)
-      → IsTrue (is_converter_base x) → is_base_of_any texts x ≡ false → IsPermutation (homes old x) (homes new x)
+  chain_others : (links : List LinkOver) (old new : Files) → AreLevel old → RunsOver spared texts links old new → (x : List ℕ)
+      → IsTrue (is_spared spared x) → is_base_of_any texts x ≡ false → IsPermutation (homes old x) (homes new x)
   chain_others links old new levels runs x named off =
-      (chain_keeps (LinkedOver texts) (λ s. AreLevel s × IsPermutation (homes old x) (homes s x)) (λ link a b at linked. (
+      (chain_keeps (LinkedOver spared texts) (λ s. AreLevel s × IsPermutation (homes old x) (homes s x)) (λ link a b at linked. (
         linked_levels link a b at.0 linked,
         grind (arith, IsPermutation-trans, linked_others),
       )) links old new (levels, IsPermutation-refl _) runs).1
 
-  abbrev levels_at_start : (s : Files) → OfEach (λ m. IsUnknown s m.body) texts → AreLevel s
+  abbrev levels_at_start : (s : Files) → OfEach (λ m. IsUnknown spared s m.body) texts → AreLevel s
   levels_at_start s unknown b is =
-      let of_text = All-contains (λ (x : Mailbox). All (λ (m : Message). IsUnknown s m.body) x.messages) texts is.text unknown is.among in
-      let of_m = All-contains (λ (m : Message). IsUnknown s m.body) is.text.messages is.m of_text is.inside in
+      let of_text = All-contains (λ (x : Mailbox). All (λ (m : Message). IsUnknown spared s m.body) x.messages) texts is.text unknown is.among in
+      let of_m = All-contains (λ (m : Message). IsUnknown spared s m.body) is.text.messages is.m of_text is.inside in
       record {
         n = 0;
         there = record {
@@ -221,8 +223,8 @@ module _ (texts : List Mailbox) (are : All IsMailbox texts) (own : HaveOwnDigest
       → i < length (get_or texts k d).messages → IsBodyOf texts (get_or (get_or texts k d).messages i e).body
   body_at k d below i e inside = grind (arith, Contains-get_or)
 
-  pub chain_counted : (links : List LinkOver) (old new : Files) → OfEach (λ m. IsUnknown old m.body) texts
-      → RunsOver texts links old new → OfEach (λ m. StandsAfter links m.body new) texts
+  pub chain_counted : (links : List LinkOver) (old new : Files) → OfEach (λ m. IsUnknown spared old m.body) texts
+      → RunsOver spared texts links old new → OfEach (λ m. StandsAfter spared links m.body new) texts
   chain_counted links old new unknown runs k d below i e inside =
       let b = (get_or (get_or texts k d).messages i e).body in
       let is = body_at k d below i e inside in
@@ -230,12 +232,13 @@ module _ (texts : List Mailbox) (are : All IsMailbox texts) (own : HaveOwnDigest
       let g = chain_grown links old new runs start b is (levels_at_start old unknown b is) in
       grind arith
 
-  pub chain_whole : (links : List LinkOver) (old new : Files) (text : Mailbox) (report : Report) → OfEach (λ m. IsUnknown old m.body) texts
-      → RunsOver texts links old new → Contains links (RanOver text (Ok report)) → All (IsHome new) text.messages
-  chain_whole links old new text report unknown runs ran i d below =
+  pub chain_whole : (links : List LinkOver) (old new : Files) (text : Mailbox) (report : Report) → OfEach (λ m. IsUnknown spared old m.body) texts
+      → RunsOver spared texts links old new → Contains links (RanOver text (Ok report))
+      → AllSpared spared (IsHome new) text.messages
+  chain_whole links old new text report unknown runs ran i d below sp =
       let ms = text.messages in
       let b = (get_or ms i d).body in
-      let among = (chain_at (LinkedOver texts) links old new runs ran).2.0 in
+      let among = (chain_at (LinkedOver spared texts) links old new runs ran).2.0 in
       let t = text_at text among in
       let is : IsBodyOf texts b = grind (arith, Contains-get_or) in
       let start = levels_at_start old unknown in
@@ -243,15 +246,15 @@ module _ (texts : List Mailbox) (are : All IsMailbox texts) (own : HaveOwnDigest
       let count = delivered_count b links text report ran in
       let alike = counts_alike ms (own_in text among b is) in
       let before = count-taken (has_digest_of b) ms i d below (same_digest-refl b) in
-      home_level ms (text_numbered _ t.are) d below g.level (omega (arith, count, alike, before, g.at_least))
+      home_level ms (text_numbered _ t.are) d below g.level (omega (arith, count, alike, before, g.at_least)) sp
 
-  pub chain_sound : (links : List LinkOver) (old new : Files) → OfEach (λ m. IsUnknown old m.body) texts
-      → RunsOver texts links old new → SoundForAll texts old new
+  pub chain_sound : (links : List LinkOver) (old new : Files) → OfEach (λ m. IsUnknown spared old m.body) texts
+      → RunsOver spared texts links old new → SoundForAll spared texts old new
   chain_sound links old new unknown runs =
       let start = levels_at_start old unknown in
       let levels : AreLevel new = λ b is. (chain_grown links old new runs start b is (start b is)).level in
       record {
-        own = λ k d below i e inside.
-            home_given d below e inside (level_sound_at (get_or texts k d) (Contains-get_or texts k d below) new levels i e inside);
+        own = λ k d below i e inside sp.
+            home_given d below e inside (level_sound_at (get_or texts k d) (Contains-get_or texts k d below) new levels i e inside sp);
         others = grind (arith, chain_others);
       }

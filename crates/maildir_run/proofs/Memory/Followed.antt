@@ -1,8 +1,8 @@
 -- What a call of the folder in memory did that followed its script.
-use Rattle.std.proofs.Common.{◌≡◌, ℕ, Option, Result, Ok, Err, IfOk, OnErr, IsErrAnd, IsErrOf, sym, ap, ◌∙◌, inl, inr, arith}
+use Rattle.std.proofs.Common.{◌≡◌, ℕ, Option, Result, Ok, Err, IfOk, OnErr, IsErrAnd, IsErrOf, sym, ap, ◌∙◌, inl, inr, arith, refl}
 use Rattle.std.proofs.Common.{◌⊎◌, [], String, Vec, Global}
 use Rattle.std.specs.declared.alloc.AllocError.{AllocError}
-use Rattle.maildir_run.proofs.Common.{keys, Sub, FolderFault, Mode, Plain, FailBefore, Files, Call, Listing}
+use Rattle.maildir_run.proofs.Common.{keys, Sub, FolderFault, Mode, Plain, FailBefore, Files, Call, Listing, Spared}
 use Rattle.maildir_run.proofs.Common.{Called, CalledQuietly, Listed, MayAnswer, CallOf, ListingOf, folder_of, names_of}
 use Rattle.maildir_run.proofs.Common.{IsCutShort, acts_at, Answers}
 use Rattle.maildir_run.specs.Calls.{CountsFailure, GoesUp}
@@ -11,24 +11,27 @@ use Rattle.maildir_run.specs.declared.mem_files.MemFiles.{MemFiles}
 use Rattle.maildir_run.specs.declared.mem_folder.MemFolder.{MemFolder}
 use Rattle.maildir_run.specs.MemFiles.{files_in}
 use Rattle.maildir_run.specs.MemFolder.{files_of, all_call_count, failure_count}
-use Rattle.maildir_run.specs.MemFolder.{next_call, next_acts}
+use Rattle.maildir_run.specs.MemFolder.{next_acts, next_call, next_files, next_mode}
 use Rattle.maildir_run.specs.MemFolder.{IsQuiet, HasNoScript, FollowsScript, Scripted, seen_of}
 use Rattle.maildir_run.specs.Private.MemFolder.{BeginsCall}
 use Rattle.maildir_run.specs.Script.{mode_of}
 use Rattle.maildir_run.proofs.Call.Cuts.{called_left}
 use Rattle.maildir_run.proofs.Memory.Scripts.{answered, called_then, cut_fails, listed_then, not_cut}
 
-follows_called : {A : Type 0} (call : Call) (old new : MemFolder) (result : Result A FolderFault)
-    → FollowsScript call old result new → Called call (files_of old) result (files_of new)
-follows_called call old new result (inl a) = grind (arith, called_then, answered)
-follows_called call old new (Ok x) (inr w) = cc w.0
-follows_called call old new (Err f) (inr w) = cut_fails w.1
+follows_called : (spared : Spared) {A : Type 0} (call : Call) (old new : MemFolder) (result : Result A FolderFault)
+    → FollowsScript call old result new → Called spared call (files_of old) result (files_of new)
+follows_called spared call old new result (inl a) =
+    called_then spared call (next_acts old) (files_of old) (files_of new) result refl
+    (answered spared (next_mode old) call (next_files old) (files_of new) result a)
+follows_called spared call old new (Ok x) (inr w) = cc w.0
+follows_called spared call old new (Err f) (inr w) = cut_fails w.1
 
-follows_listed : (sub : Sub) (old new : MemFolder) (result : Result (Vec (String Global) Global) FolderFault) → FollowsScript (Listing sub) old result new
-    → IfOk result (λ names. names_of names ≡ keys (folder_of sub (files_of new))) → Listed sub (files_of old) result (files_of new)
-follows_listed sub old new (Ok names) (inl a) is = grind (arith, listed_then)
-follows_listed sub old new (Ok names) (inr w) is = cc w.0
-follows_listed sub old new (Err f) follows is = follows_called {A = Vec (String Global) Global} _ old new (Err f) follows
+follows_listed : (spared : Spared) (sub : Sub) (old new : MemFolder) (result : Result (Vec (String Global) Global) FolderFault)
+    → FollowsScript (Listing sub) old result new
+    → IfOk result (λ names. names_of names ≡ keys (folder_of sub (files_of new))) → Listed spared sub (files_of old) result (files_of new)
+follows_listed spared sub old new (Ok names) (inl a) is = grind (arith, listed_then)
+follows_listed spared sub old new (Ok names) (inr w) is = cc w.0
+follows_listed spared sub old new (Err f) follows is = follows_called spared {A = Vec (String Global) Global} _ old new (Err f) follows
 
 -- `Absent` comes from a placement alone
 may_answer : {A : Type 0} (mode : Mode) (call : Call) (s t : Files) (result : Result A FolderFault) → Answers mode call s result t → MayAnswer call result
@@ -71,12 +74,13 @@ call_made : {A : Type 0} (call : Call) (old new : MemFolder) (result : Result A 
     → GoesUp (all_call_count old) (all_call_count new) → CountsFailure result (failure_count old) (failure_count new)
     → CallOf call (seen_of old) result (seen_of new)
 call_made call old new result scripted counted cause =
-    let called = follows_called call old new result scripted.did in
+    let called = λ (spared : Spared). follows_called spared call old new result scripted.did in
     record {
-      honest = λ honest. tt;
-      called = λ honest. called;
-      left = λ honest. called_left call result called;
-      still_rooted = λ honest rooted. tt;
+      honest = λ spared honest. tt;
+      called = λ spared honest. called spared;
+      left = λ spared honest. called_left spared call result (called spared);
+      still_rooted = λ spared honest rooted. tt;
+      touches = λ name now. inr tt;
       quiet = λ quiet. scripted.script.lines ∙ quiet;
       quietly = grind (arith, follows_quietly);
       counted = counted;

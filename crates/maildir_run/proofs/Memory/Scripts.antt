@@ -1,11 +1,11 @@
 -- What a script makes of a folder in memory is what other programs and a call may do.
-use Rattle.std.proofs.Common.{◌≡◌, ℕ, Bool, true, false, cond, List, [], ◌∷◌, ◌++◌, length, take, drop, get_or, ◌<◌, ◌+◌, ◌==◌, map, Option}
+use Rattle.std.proofs.Common.{◌≡◌, ℕ, Bool, true, false, cond, List, [], ◌∷◌, ◌++◌, length, take, drop, get_or, ◌<◌, ◌+◌, ◌==◌, map, Option, IsTrue, ◌&&◌}
 use Rattle.std.proofs.Common.{Some, None, Result, Ok, Err, OnErr, string_bytes, ◌/◌}
 use Rattle.std.proofs.Common.{append-nil, refl, sym, ap, ◌∙◌, inl, inr, append_assoc, suc, arith, take-append-drop, is_some, bytes_eq}
-use Rattle.maildir_run.proofs.Common.{drop-cons, false_from_ne_true, take_more, insert, remove, get, keys, contains_key}
-use Rattle.maildir_run.proofs.Common.{base, is_converter_name, Sub, Tmp, New, Cur, FolderFault, Mode, Plain, FailBefore, FailAfter, Half}
+use Rattle.maildir_run.proofs.Common.{drop-cons, false_from_ne_true, take_more, insert, remove, get, keys, contains_key, Spared, all_bases}
+use Rattle.maildir_run.proofs.Common.{base, is_converter_name, is_spared_name, Sub, Tmp, New, Cur, FolderFault, Mode, Plain, FailBefore, FailAfter, Half}
 use Rattle.maildir_run.proofs.Common.{Twice, Files, FileMap, Action, ToCur, Reflag, DropTmp, Outside, acted, all_acted, is_name, may_take}
-use Rattle.maildir_run.proofs.Common.{AgreeOnConverters, KeepsConverters, Call, Listing, Writing, Move, Other, Again, Torn}
+use Rattle.maildir_run.proofs.Common.{AgreeOnSpared, KeepsSpared, Call, Listing, Writing, Move, Other, Again, Torn}
 use Rattle.maildir_run.proofs.Common.{after, IsOthers, IsWhole, folder_of, AnyMoves, Lists, Called, linked, with_file}
 use Rattle.maildir_run.proofs.Common.{without_file, performed, all_performed, acts_at, may_link, IsCutShort, IsPart, Answers, halved, done}
 use Rattle.std.proofs.lemmas.Map.Text.{is_eq-slice_cmp}
@@ -18,40 +18,50 @@ use Rattle.maildir_run.specs.declared.folder.FolderFault.TheVariants as fault
 use Rattle.maildir_run.specs.declared.script.Act.TheVariants as act
 
 -- ---- acts are actions of other programs
-set_agrees : (m : FileMap) (k v : List ℕ) → is_converter_name k ≡ false → AgreeOnConverters m (insert m k v)
-set_agrees m k v off = λ q ours. grind (arith, get_inserted, alike is_converter_name q k)
+set_agrees : (spared : Spared) (m : FileMap) (k v : List ℕ) → is_converter_name k ≡ false → AgreeOnSpared spared m (insert m k v)
+set_agrees spared m k v off = λ q ours. grind (arith, get_inserted, alike is_converter_name q k)
 
-removed_agrees : (m : FileMap) (k : List ℕ) → is_converter_name k ≡ false → AgreeOnConverters m (remove m k)
-removed_agrees m k off = λ q ours. grind (arith, get_removed, alike is_converter_name q k)
+with_leaves : (spared : Spared) (sub : Sub) (k v : List ℕ) (s : Files) → is_converter_name k ≡ false → KeepsSpared spared s (with_file sub k v s)
+with_leaves spared Tmp k v s off = grind (arith, set_agrees)
+with_leaves spared New k v s off = grind (arith, set_agrees)
+with_leaves spared Cur k v s off = grind (arith, set_agrees)
 
-with_leaves : (sub : Sub) (k v : List ℕ) (s : Files) → is_converter_name k ≡ false → KeepsConverters s (with_file sub k v s)
-with_leaves Tmp k v s off = grind (arith, set_agrees)
-with_leaves New k v s off = grind (arith, set_agrees)
-with_leaves Cur k v s off = grind (arith, set_agrees)
+-- a file is removed whose name is not spared
+apart_name : (spared : Spared) (k q : List ℕ) → is_spared_name spared k ≡ false → IsTrue (is_spared_name spared q) → is_name q k ≡ false
+apart_name spared k q off on =
+    false_from_ne_true (is_name q k) (λ e. let same : is_spared_name spared q ≡ is_spared_name spared k = alike (is_spared_name spared) q k e in cc)
 
-without_leaves : (sub : Sub) (k : List ℕ) (s : Files) → is_converter_name k ≡ false → KeepsConverters s (without_file sub k s)
-without_leaves Tmp k s off = grind (arith, removed_agrees)
-without_leaves New k s off = grind (arith, removed_agrees)
-without_leaves Cur k s off = grind (arith, removed_agrees)
+removed_agrees : (spared : Spared) (m : FileMap) (k : List ℕ) → is_spared_name spared k ≡ false → AgreeOnSpared spared m (remove m k)
+removed_agrees spared m k off = λ q ours. grind (arith, get_removed, apart_name)
+
+pub without_leaves : (spared : Spared) (sub : Sub) (k : List ℕ) (s : Files) → is_spared_name spared k ≡ false → KeepsSpared spared s (without_file sub k s)
+without_leaves spared Tmp k s off = grind (arith, removed_agrees)
+without_leaves spared New k s off = grind (arith, removed_agrees)
+without_leaves spared Cur k s off = grind (arith, removed_agrees)
+
+foreign_apart : (spared : Spared) (k : List ℕ) → is_converter_name k ≡ false → is_spared_name spared k ≡ false
+foreign_apart spared k off = elim (spared (base k)) as (λ t. (t && is_converter_name k) ≡ false) [ true ↦ off | false ↦ refl ]
 
 -- a file is changed where its name is not a converter's
-guarded_action : (ours : Bool) (s t : Files) → (ours ≡ false → KeepsConverters s t) → (action : Action) × (cond ours s t ≡ acted action s)
-guarded_action true s t leaves =
+guarded_action : (spared : Spared) (ours : Bool) (s t : Files) → (ours ≡ false → KeepsSpared spared s t)
+    → (action : Action) × (cond ours s t ≡ acted spared action s)
+guarded_action spared true s t leaves =
     (Outside s, grind (arith, outside_reaches))
-guarded_action false s t leaves = (Outside t, sym (outside_reaches s t (leaves refl)))
+guarded_action spared false s t leaves = (Outside t, sym (outside_reaches spared s t (leaves refl)))
 
-pub an_action : (a : Act) (s : Files) → (action : Action) × (performed a s ≡ acted action s)
-an_action (act.ToCur name target) s = (ToCur (string_bytes name) (string_bytes target), refl)
-an_action (act.Reflag name target) s = (Reflag (string_bytes name) (string_bytes target), refl)
-an_action (act.DropTmp name) s = (DropTmp (string_bytes name), refl)
-an_action (act.PutOther sub name bytes) s = guarded_action _ s _ (with_leaves sub (string_bytes name) bytes.items s)
-an_action (act.DropOther sub name) s = guarded_action _ s _ (without_leaves sub (string_bytes name) s)
+pub an_action : (spared : Spared) (a : Act) (s : Files) → (action : Action) × (performed a s ≡ acted spared action s)
+an_action spared (act.ToCur name target) s = (ToCur (string_bytes name) (string_bytes target), refl)
+an_action spared (act.Reflag name target) s = (Reflag (string_bytes name) (string_bytes target), refl)
+an_action spared (act.DropTmp name) s = (DropTmp (string_bytes name), refl)
+an_action spared (act.PutOther sub name bytes) s = guarded_action spared _ s _ (with_leaves spared sub (string_bytes name) bytes.items s)
+an_action spared (act.DropOther sub name) s =
+    guarded_action spared _ s _ (λ off. without_leaves spared sub (string_bytes name) s (foreign_apart spared (string_bytes name) off))
 
-actions : (acts : List Act) (s : Files) → (done : List Action) × (all_performed acts s ≡ all_acted done s)
-actions [] s = ([], refl)
-actions (a ∷ acts) s =
-    let first = an_action a s in
-    let others = actions acts (acted first.0 s) in
+actions : (spared : Spared) (acts : List Act) (s : Files) → (done : List Action) × (all_performed acts s ≡ all_acted spared done s)
+actions spared [] s = ([], refl)
+actions spared (a ∷ acts) s =
+    let first = an_action spared a s in
+    let others = actions spared acts (acted spared first.0 s) in
     (first.0 ∷ others.0, ap (all_performed acts) first.1 ∙ others.1)
 
 no_parts : {X : Type 0} (xs : List X) (y : X) (zs : List X) → [] ≡ xs ++ y ∷ zs → ⊥
@@ -130,18 +140,18 @@ not_cut none cut = grind (arith, no_parts)
 
 -- ---- a file under another name
 reflagged : (s : Files) (name target : List ℕ) {bytes : List ℕ} {there : FileMap} → get s.cur name ≡ Some bytes → may_take s.cur name target ≡ true
-    → there ≡ remove (insert s.cur target bytes) name → record s { cur = there } ≡ acted (Reflag name target) s
+    → there ≡ remove (insert s.cur target bytes) name → record s { cur = there } ≡ acted all_bases (Reflag name target) s
 reflagged s name target {bytes} has free is = grind (arith, other_name, remove-insert)
 
 -- one that was put under another name, and is then taken from the old one
 pub unlinked : (s : Files) {mid : Files} (name target : List ℕ) (o : Option (List ℕ)) → get s.cur name ≡ o → may_link s name target o ≡ true
-    → mid ≡ linked s name target o → record mid { cur = remove mid.cur name } ≡ acted (Reflag name target) s
+    → mid ≡ linked s name target o → record mid { cur = remove mid.cur name } ≡ acted all_bases (Reflag name target) s
 unlinked s name target o has may is = grind (arith, reflagged)
 
 -- ---- calls
-after_others : (done : List Action) (s : Files) (call : Call) → after s call (map Other done) ≡ all_acted done s
-after_others [] s call = refl
-after_others (a ∷ more) s call = after_others more (acted a s) call
+after_others : (spared : Spared) (done : List Action) (s : Files) (call : Call) → after spared s call (map Other done) ≡ all_acted spared done s
+after_others spared [] s call = refl
+after_others spared (a ∷ more) s call = after_others spared more (acted spared a s) call
 
 others_before : (done : List Action) (ms : List Move) → IsOthers ms → IsOthers (map Other done ++ ms)
 others_before [] ms h = h
@@ -152,60 +162,60 @@ others_whole [] = tt
 others_whole (a ∷ more) = others_whole more
 
 -- acts and then moves are moves
-acts_then : (acts : List Act) (old : Files) {mid : Files} → mid ≡ all_performed acts old → (call : Call) (ms : List Move)
-    → after mid call ms ≡ after old call (map Other (actions acts old).0 ++ ms)
-acts_then acts old is call ms = grind (arith, after_others, after-append)
+acts_then : (spared : Spared) (acts : List Act) (old : Files) {mid : Files} → mid ≡ all_performed acts old → (call : Call) (ms : List Move)
+    → after spared mid call ms ≡ after spared old call (map Other (actions spared acts old).0 ++ ms)
+acts_then spared acts old is call ms = grind (arith, after_others, after-append)
 
-pub called_then : {A : Type 0} (call : Call) (acts : List Act) (old : Files) {mid : Files} (new : Files) (result : Result A FolderFault)
-    → mid ≡ all_performed acts old → Called call mid result new → Called call old result new
-called_then call acts old {mid} new (Ok x) is done =
-    let others = map Other (actions acts old).0 in
+pub called_then : (spared : Spared) {A : Type 0} (call : Call) (acts : List Act) (old : Files) {mid : Files} (new : Files) (result : Result A FolderFault)
+    → mid ≡ all_performed acts old → Called spared call mid result new → Called spared call old result new
+called_then spared call acts old {mid} new (Ok x) is done =
+    let others = map Other (actions spared acts old).0 in
     record {
       before = others ++ done.before;
       rest = done.rest;
-      others = others_before (actions acts old).0 _ done.others;
+      others = others_before (actions spared acts old).0 _ done.others;
       ready = grind (arith, acts_then);
       whole = done.whole;
       left = grind (arith, acts_then, append_assoc);
     }
-called_then call acts old {mid} new (Err f) is done =
-    record { moves = map Other (actions acts old).0 ++ done.moves; left = grind (arith, acts_then) }
+called_then spared call acts old {mid} new (Err f) is done =
+    record { moves = map Other (actions spared acts old).0 ++ done.moves; left = grind (arith, acts_then) }
 
-pub cut_fails : {call : Call} {acts : List Act} {old new : Files} → IsCutShort acts old new → AnyMoves call old new
-cut_fails {call} {old} cut =
-    let done = actions cut.made old in
+pub cut_fails : {spared : Spared} {call : Call} {acts : List Act} {old new : Files} → IsCutShort acts old new → AnyMoves spared call old new
+cut_fails {spared} {call} {old} cut =
+    let done = actions spared cut.made old in
     record { moves = map Other done.0; left = grind (arith, after_others) }
 
-pub listed_then : {sub : Sub} (acts : List Act) {old new : Files} {names : List (List ℕ)}
-    → new ≡ all_performed acts old → names ≡ keys (folder_of sub new) → Lists sub old names new
-listed_then {sub} acts {old} {new} {names} is names_are =
-    let done = actions acts old in
+pub listed_then : {spared : Spared} {sub : Sub} (acts : List Act) {old new : Files} {names : List (List ℕ)}
+    → new ≡ all_performed acts old → names ≡ keys (folder_of sub new) → Lists spared sub old names new
+listed_then {spared} {sub} acts {old} {new} {names} is names_are =
+    let done = actions spared acts old in
     let others = map Other done.0 in
-    let reached : new ≡ after old (Listing sub) others = grind (arith, after_others) in
+    let reached : new ≡ after spared old (Listing sub) others = grind (arith, after_others) in
     grind (arith, others_whole, after-append)
 
-halved_moves : (call : Call) {s : Files} → (ms : List Move) × (halved call s ≡ after s call ms)
-halved_moves (Writing name bytes) = (Torn (take (length bytes / 2) bytes) ∷ [], refl)
-halved_moves other = ([], refl)
+halved_moves : (spared : Spared) (call : Call) {s : Files} → (ms : List Move) × (halved call s ≡ after spared s call ms)
+halved_moves spared (Writing name bytes) = (Torn (take (length bytes / 2) bytes) ∷ [], refl)
+halved_moves spared other = ([], refl)
 
-mode_moves : (mode : Mode) (call : Call) (s : Files) → (ms : List Move) × (done mode call s ≡ after s call ms)
-mode_moves Plain call s = (Again ∷ [], refl)
-mode_moves FailBefore call s = ([], refl)
-mode_moves FailAfter call s = (Again ∷ [], refl)
-mode_moves Half call s = halved_moves call
-mode_moves Twice call s = (Again ∷ Again ∷ [], refl)
+mode_moves : (spared : Spared) (mode : Mode) (call : Call) (s : Files) → (ms : List Move) × (done mode call s ≡ after spared s call ms)
+mode_moves spared Plain call s = (Again ∷ [], refl)
+mode_moves spared FailBefore call s = ([], refl)
+mode_moves spared FailAfter call s = (Again ∷ [], refl)
+mode_moves spared Half call s = halved_moves spared call
+mode_moves spared Twice call s = (Again ∷ Again ∷ [], refl)
 
-part_moves : {mode : Mode} {call : Call} {old new : Files} → IsPart mode call old new → (ms : List Move) × (new ≡ after old call ms)
-part_moves (inl same) = ([], same)
-part_moves (inr once) = (Again ∷ [], once.1)
+part_moves : (spared : Spared) {mode : Mode} {call : Call} {old new : Files} → IsPart mode call old new → (ms : List Move) × (new ≡ after spared old call ms)
+part_moves spared (inl same) = ([], same)
+part_moves spared (inr once) = (Again ∷ [], once.1)
 
-pub answered : {A : Type 0} (mode : Mode) (call : Call) (old new : Files) (result : Result A FolderFault)
-    → Answers mode call old result new → Called call old result new
-answered Plain call old new (Ok x) a = record { before = []; rest = []; others = tt; ready = a.1; whole = tt; left = a.2 }
-answered Twice call old new (Ok x) a = record { before = []; rest = Again ∷ []; others = tt; ready = a.1; whole = tt; left = a.2 }
-answered other call old new (Ok x) a = cc (a.0)
-answered mode call old new (Err fault.Absent) a = record { moves = []; left = a.2 }
-answered mode call old new (Err fault.Failed) a = let ms = mode_moves mode call old in record { moves = ms.0; left = a.1 ∙ ms.1 }
-answered mode call old new (Err fault.OutOfMemory) a = let ms = part_moves a.1 in record { moves = ms.0; left = ms.1 }
+pub answered : (spared : Spared) {A : Type 0} (mode : Mode) (call : Call) (old new : Files) (result : Result A FolderFault)
+    → Answers mode call old result new → Called spared call old result new
+answered spared Plain call old new (Ok x) a = record { before = []; rest = []; others = tt; ready = a.1; whole = tt; left = a.2 }
+answered spared Twice call old new (Ok x) a = record { before = []; rest = Again ∷ []; others = tt; ready = a.1; whole = tt; left = a.2 }
+answered spared other call old new (Ok x) a = cc (a.0)
+answered spared mode call old new (Err fault.Absent) a = record { moves = []; left = a.2 }
+answered spared mode call old new (Err fault.Failed) a = let ms = mode_moves spared mode call old in record { moves = ms.0; left = a.1 ∙ ms.1 }
+answered spared mode call old new (Err fault.OutOfMemory) a = let ms = part_moves spared a.1 in record { moves = ms.0; left = ms.1 }
 
 -- ---- placements

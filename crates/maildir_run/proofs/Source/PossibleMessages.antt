@@ -1,21 +1,22 @@
 -- What a run has kept at its exits, for each text that its source may have had.
 use Rattle.std.proofs.Common.{◌≡◌, ℕ, ◌+◌, ◌*◌, ◌≤◌, ◌^◌, Option, Result, Ok, Err, OnOk, List, [], ◌++◌}
 use Rattle.std.proofs.Common.{length, sym, ap, subst, ◌∙◌, inl, inr, arith, append-nil, length-append}
-use Rattle.maildir_run.proofs.Common.{map-append, length-map, Entry, Mbox, mbox-one, RunFault, Files, Message, AreNamed, AreDistinct}
+use Rattle.maildir_run.proofs.Common.{map-append, length-map, Entry, Mbox, mbox-one, RunFault, Files, Message, AreNamed, AreDistinct, Spared}
 use Rattle.maildir_run.proofs.Common.{Sound, messages_of, bodies_of, MessagesOf, Possible, Keeps, KeepsHomes, Progress, IsPrefixOf, GaveAll}
 use Rattle.maildir_run.proofs.Tasks.Progress.{KeptSoFar, progress_stands}
 use Rattle.maildir_run.proofs.Run.Batches.{after_these, no_messages}
 use Rattle.maildir_run.proofs.Source.Givens.{read_is}
 
-pub none_done : {start now : Files} → KeepsHomes start now → Progress [] start now
+pub none_done : {spared : Spared} {start now : Files} → KeepsHomes spared start now → Progress spared [] start now
 none_done {now} leaves = grind arith
 
-pub stands_keeps : {ms : List Message} {start now : Files} {fault : RunFault} → KeptSoFar ms start now → Keeps ms start (Err fault) now
+pub stands_keeps : {spared : Spared} {ms : List Message} {start now : Files} {fault : RunFault} → KeptSoFar spared ms start now
+    → Keeps spared ms start (Err fault) now
 stands_keeps s = grind arith
 
 -- messages of which the first are done
-pub prefix_stands : {ms done : List Message} (more : List Message) {start now : Files} → AreNamed ms → AreDistinct ms
-    → Sound ms start start → ms ≡ done ++ more → Progress done start now → KeptSoFar ms start now
+pub prefix_stands : {spared : Spared} {ms done : List Message} (more : List Message) {start now : Files} → AreNamed ms → AreDistinct ms
+    → Sound spared ms start start → ms ≡ done ++ more → Progress spared done start now → KeptSoFar spared ms start now
 prefix_stands {done} more {start} {now} named distinct sound e p =
     rw e (progress_stands done more start now (subst AreNamed e named) (subst AreDistinct e distinct) (rw e at sound) p)
 

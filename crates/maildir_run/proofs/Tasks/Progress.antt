@@ -4,14 +4,17 @@ use Rattle.std.proofs.Common.{get_or, refl, sym, ◌∙◌, inl, inr, ◌⊎◌,
 use Rattle.maildir_run.proofs.Common.{cases_Bool, cases_lt, All-push, All-from_get_or, get_or_append_left, list_any-append}
 use Rattle.maildir_run.proofs.Common.{list_any_none, IsPermutation-sym, IsPermutation-trans, Files, is_name, homes, Message}
 use Rattle.maildir_run.proofs.Common.{IsMissing, IsHome, IsSoundAt, HasHome, is_any, AreNamed, AreDistinct, is_base_of, Sound, KeepsHomes}
-use Rattle.maildir_run.proofs.Common.{DeliversMessage, Progress, get_or-append_seam, eq_by_cmp_equiv, All-weaker, is_converter_base}
+use Rattle.maildir_run.proofs.Common.{DeliversMessage, Progress, get_or-append_seam, eq_by_cmp_equiv, All-weaker}
 use Rattle.maildir_run.proofs.Names.Maps.{is_name-true, total}
 use Rattle.maildir_run.proofs.Call.Moves.{homes_none, homes_one, permutation_of_none}
+use Rattle.maildir_run.proofs.Call.Homes.{spared_named}
+use Rattle.maildir_run.proofs.Common.{Spared, is_spared, AllSpared, IsSpared, and_parts, IsPermutation-refl, base}
 
 -- a call that leaves the homes
-pub progress_on : {done : List Message} {old mid now : Files} → AreNamed done → KeepsHomes mid now → Progress done old mid → Progress done old now
-progress_on {mid} {now} named leaves p = record {
-  homes_are = grind (arith, homes_one);
+pub progress_on : {spared : Spared} {done : List Message} {old mid now : Files} → AreNamed done → KeepsHomes spared mid now → Progress spared done old mid
+    → Progress spared done old now
+progress_on {spared} {mid = mid} {now} named leaves p = record {
+  homes_are = λ k d h sp. let kept = leaves.kept _ (spared_named spared _ sp (named k d h)) in homes_one _ _ mid now kept (p.homes_are k d h sp);
   kept = grind (arith, IsPermutation-trans);
 }
 
@@ -20,22 +23,25 @@ not_before : (done : List Message) (m : Message) (base : List ℕ) → IsFalse (
 not_before done m base off = grind (arith, list_any-append)
 
 -- one more message that is there
-pub progress_home : {done : List Message} (m : Message) {old now : Files} → IsHome now m → Progress done old now → Progress (done ++ m ∷ []) old now
-progress_home {done} m {now} home p = record {
-  homes_are = All-push (IsHome now) done m p.homes_are home;
+pub progress_home : {spared : Spared} {done : List Message} (m : Message) {old now : Files} → (IsSpared spared m → IsHome now m) → Progress spared done old now
+    → Progress spared (done ++ m ∷ []) old now
+progress_home {spared} {done} m {now = now} home p = record {
+  homes_are = All-push (λ n. IsSpared spared n → IsHome now n) done m p.homes_are home;
   kept = grind (arith, not_before);
 }
 
 -- the messages so far keep their homes as another is delivered
-delivers_done : (done : List Message) {m : Message} {mid now : Files} → AreNamed done
-    → All (λ n. IsFalse (is_name m.target.base n.target.base)) done → DeliversMessage m mid now → All (IsHome mid) done → All (IsHome now) done
-delivers_done done {mid} {now} named apart delivers all = grind (arith, homes_one)
+delivers_done : {spared : Spared} (done : List Message) {m : Message} {mid now : Files} → AreNamed done
+    → All (λ n. IsFalse (is_name m.target.base n.target.base)) done → DeliversMessage spared m mid now
+    → AllSpared spared (IsHome mid) done → AllSpared spared (IsHome now) done
+delivers_done {spared} done {mid = mid} {now} named apart delivers all = λ k d h sp.
+    homes_one _ _ mid now (delivers.others _ (spared_named spared _ sp (named k d h)) (apart k d h)) (all k d h sp)
 
-pub progress_delivered : {done : List Message} {m : Message} {old mid now : Files} → AreNamed done
-    → All (λ n. IsFalse (is_name m.target.base n.target.base)) done → DeliversMessage m mid now
-    → IsHome now m → Progress done old mid → Progress (done ++ m ∷ []) old now
-progress_delivered {done} {m} {mid} {now} named apart delivers home p = record {
-  homes_are = All-push (IsHome now) done m (delivers_done done named apart delivers p.homes_are) home;
+pub progress_delivered : {spared : Spared} {done : List Message} {m : Message} {old mid now : Files} → AreNamed done
+    → All (λ n. IsFalse (is_name m.target.base n.target.base)) done → DeliversMessage spared m mid now
+    → (IsSpared spared m → IsHome now m) → Progress spared done old mid → Progress spared (done ++ m ∷ []) old now
+progress_delivered {spared} {done} {m} {mid = mid} {now} named apart delivers home p = record {
+  homes_are = All-push (λ n. IsSpared spared n → IsHome now n) done m (delivers_done done named apart delivers p.homes_are) home;
   kept = grind (arith, not_before, IsPermutation-trans);
 }
 
@@ -53,57 +59,61 @@ missing_there m s h there = grind arith
 
 -- ---- at an exit
 -- what a run keeps, whatever it answers
-pub record KeptSoFar (ms : List Message) (old now : Files) : Type 0 where
-  pub sound : Sound ms old now
-  pub still : All (λ m. HasHome old m → HasHome now m) ms
-  pub in_order : AllPairs (λ m n. IsMissing old n → HasHome now n → HasHome now m) ms
+pub record KeptSoFar (spared : Spared) (ms : List Message) (old now : Files) : Type 0 where
+  pub sound : Sound spared ms old now
+  pub still : AllSpared spared (λ m. HasHome old m → HasHome now m) ms
+  pub in_order : AllPairs (λ m n. IsSpared spared m → IsSpared spared n → IsMissing old n → HasHome now n → HasHome now m) ms
 
 at_done : (P : Message → Type 0) (done rest : List Message) {k : ℕ} (d : Message) → k < length done → P (get_or done k d) → P (get_or (done ++ rest) k d)
 at_done P done rest {k} d lt h = grind (arith, get_or_append_left)
 
-module _ (done rest : List Message) (old now : Files) (named : AreNamed (done ++ rest))
-    (distinct : AreDistinct (done ++ rest)) (sound : Sound (done ++ rest) old old) (p : Progress done old now) where
+module _ {spared : Spared} (done rest : List Message) (old now : Files) (named : AreNamed (done ++ rest))
+    (distinct : AreDistinct (done ++ rest)) (sound : Sound spared (done ++ rest) old old) (p : Progress spared done old now) where
   module _ (k : ℕ) (d : Message) (ge : length done ≤ k) (h : k < length (done ++ rest)) where
     base_apart : IsFalse (is_base_of done (get_or (done ++ rest) k d).target.base)
     base_apart =
         list_any_none _ done (All-from_get_or (λ m. IsFalse (is_name m.target.base (get_or (done ++ rest) k d).target.base)) done d (λ i lt.
         rw (get_or_append_left done rest d i lt) at (distinct i k d (omega arith) h)))
 
-    kept_at : IsPermutation (homes old (get_or (done ++ rest) k d).target.base) (homes now (get_or (done ++ rest) k d).target.base)
-    kept_at = p.kept _ (named k d h) (base_apart)
+    kept_at : IsSpared spared (get_or (done ++ rest) k d)
+        → IsPermutation (homes old (get_or (done ++ rest) k d).target.base) (homes now (get_or (done ++ rest) k d).target.base)
+    kept_at sp = p.kept _ (spared_named spared _ sp (named k d h)) (base_apart)
 
   sound_at : (m : Message) → IsPermutation (homes old m.target.base) (homes now m.target.base) → IsSoundAt old m → IsSoundAt now m
   sound_at m kept h = grind (arith, homes_none, homes_one)
 
-  sound_now : (k : ℕ) (d : Message) → k < length (done ++ rest) → IsSoundAt now (get_or (done ++ rest) k d)
-  sound_now k d h =
+  sound_now : (k : ℕ) (d : Message) → k < length (done ++ rest) → IsSpared spared (get_or (done ++ rest) k d) → IsSoundAt now (get_or (done ++ rest) k d)
+  sound_now k d h sp =
       elim (cases_lt k (length done)) [
-        | inl lt ↦ at_done (IsSoundAt now) done rest d lt (inr (p.homes_are k d lt))
-        | inr ge ↦ sound_at (get_or (done ++ rest) k d) (kept_at k d ge h) (sound.own k d h)
+        | inl lt ↦ at_done (λ m. IsSpared spared m → IsSoundAt now m) done rest d lt (λ own. inr (p.homes_are k d lt own)) sp
+        | inr ge ↦ sound_at (get_or (done ++ rest) k d) (kept_at k d ge h sp) (sound.own k d h sp)
       ]
 
-  still_now : (k : ℕ) (d : Message) → k < length (done ++ rest) → HasHome old (get_or (done ++ rest) k d) → HasHome now (get_or (done ++ rest) k d)
-  still_now k d h there =
+  still_now : (k : ℕ) (d : Message) → k < length (done ++ rest) → IsSpared spared (get_or (done ++ rest) k d)
+      → HasHome old (get_or (done ++ rest) k d) → HasHome now (get_or (done ++ rest) k d)
+  still_now k d h sp there =
       elim (cases_lt k (length done)) [
-        | inl lt ↦ at_done (HasHome now) done rest d lt (home_there (get_or done k d) now (p.homes_are k d lt))
-        | inr ge ↦ sym (any_kept _ _ (kept_at k d ge h)) ∙ there
+        | inl lt ↦ at_done (λ m. IsSpared spared m → HasHome now m) done rest d lt (λ own. home_there (get_or done k d) now (p.homes_are k d lt own)) sp
+        | inr ge ↦ sym (any_kept _ _ (kept_at k d ge h sp)) ∙ there
       ]
 
-  in_order_now : (i j : ℕ) (d : Message) → i < j → j < length (done ++ rest) → IsMissing old (get_or (done ++ rest) j d)
+  in_order_now : (i j : ℕ) (d : Message) → i < j → j < length (done ++ rest) → IsSpared spared (get_or (done ++ rest) i d)
+      → IsSpared spared (get_or (done ++ rest) j d) → IsMissing old (get_or (done ++ rest) j d)
       → HasHome now (get_or (done ++ rest) j d) → HasHome now (get_or (done ++ rest) i d)
-  in_order_now i j d lt h missing there =
+  in_order_now i j d lt h sp_i sp_j missing there =
       elim (cases_lt j (length done)) [
         | inl lt_done ↦ let before : i < length done =
             omega arith in
-            at_done (HasHome now) done rest d before (home_there (get_or done i d) now (p.homes_are i d before))
+            at_done (λ m. IsSpared spared m → HasHome now m) done rest d before (λ own. home_there (get_or done i d) now (p.homes_are i d before own)) sp_i
         | inr ge ↦
-            absurd (missing_there (get_or (done ++ rest) j d) now (homes_none (get_or (done ++ rest) j d).target.base old now (kept_at j d ge h) missing) there)
+            absurd (missing_there (get_or (done ++ rest) j d) now (homes_none (get_or (done ++ rest) j d).target.base old now (kept_at j d ge h sp_j) missing)
+            there)
       ]
 
   other_now : (base : List ℕ) → IsFalse (is_base_of (done ++ rest) base) → IsFalse (is_base_of done base)
   other_now base off = grind (arith, list_any-append)
 
-  pub progress_stands : KeptSoFar (done ++ rest) old now
+  pub progress_stands : KeptSoFar spared (done ++ rest) old now
   progress_stands = record {
     sound = grind (arith, sound_now, other_now);
     still = still_now;
@@ -111,16 +121,32 @@ module _ (done rest : List Message) (old now : Files) (named : AreNamed (done ++
   }
 
 -- where a message that was missing is missing yet, nothing happened
-nothing_delivered : {m : Message} {mid now : Files} → IsMissing mid m → IsMissing now m → DeliversMessage m mid now → KeepsHomes mid now
-nothing_delivered {m} {mid} {now} was is delivers = grind (arith, cases_Bool, is_name-true)
+nothing_delivered : {spared : Spared} {m : Message} {mid now : Files} → (IsSpared spared m → IsMissing mid m) → (IsSpared spared m → IsMissing now m)
+    → DeliversMessage spared m mid now → KeepsHomes spared mid now
+nothing_delivered {spared} {m} {mid} {now} was is delivers = record {
+  kept = λ b named.
+      elim (cases_Bool (is_name m.target.base b)) [
+        | inr off ↦ delivers.others b named off
+        | inl on ↦
+            let same = is_name-true _ _ on in
+            let sp : IsSpared spared m = ap spared same ∙ (and_parts _ _ named).0 in
+            rw (← same, was sp, is sp) (IsPermutation-refl [])
+      ];
+}
 
 -- a message that was missing was delivered, or is missing yet
-pub progress_or_more : {done : List Message} {m : Message} {old mid now : Files} → AreNamed done → All (λ n. IsFalse (is_name m.target.base n.target.base)) done
-    → IsMissing mid m → DeliversMessage m mid now → Progress done old mid → Progress done old now ⊎ Progress (done ++ m ∷ []) old now
-progress_or_more {done} {m} {old} {mid} {now} named apart was delivers p =
-    elim delivers.own [
-      | inl is ↦ inl (progress_on named (nothing_delivered was is delivers) p)
-      | inr home ↦ inr (progress_delivered named apart delivers home p)
+pub progress_or_more : {spared : Spared} {done : List Message} {m : Message} {old mid now : Files} → AreNamed done
+    → All (λ n. IsFalse (is_name m.target.base n.target.base)) done
+    → (IsSpared spared m → IsMissing mid m) → DeliversMessage spared m mid now → Progress spared done old mid
+    → Progress spared done old now ⊎ Progress spared (done ++ m ∷ []) old now
+progress_or_more {spared} {done} {m} {old} {mid} {now} named apart was delivers p =
+    elim (cases_Bool (spared m.target.base)) [
+      | inr off ↦ inr (progress_delivered named apart delivers (λ sp. cc) p)
+      | inl sp ↦
+          elim (delivers.own sp) [
+            | inl is ↦ inl (progress_on named (nothing_delivered was (λ _. is) delivers) p)
+            | inr home ↦ inr (progress_delivered named apart delivers (λ _. home) p)
+          ]
     ]
 
 -- ---- messages that were done
@@ -138,8 +164,8 @@ apart_prefix done m later distinct =
 not_done : (done : List Message) (m : Message) → All (λ n. IsFalse (is_name m.target.base n.target.base)) done → IsFalse (is_base_of done m.target.base)
 not_done done m apart = grind (arith, list_any_none, All-weaker, total)
 
-module _ (done : List Message) (m : Message) (old now : Files) (named : IsTrue (is_converter_base m.target.base))
-    (apart : All (λ n. IsFalse (is_name m.target.base n.target.base)) done) (p : Progress done old now) where
+module _ {spared : Spared} (done : List Message) (m : Message) (old now : Files) (named : IsTrue (is_spared spared m.target.base))
+    (apart : All (λ n. IsFalse (is_name m.target.base n.target.base)) done) (p : Progress spared done old now) where
   pub still_missing : IsMissing old m → IsMissing now m
   still_missing h = grind (arith, homes_none, not_done)
 

@@ -2,7 +2,7 @@
 use Rattle.std.proofs.Common.{◌≡◌, ℕ, Bool, false, cond, not, List, [], ◌∷◌, map, Option, Some, arith}
 use Rattle.std.proofs.Common.{None, IsPermutation, IsTrue, IsFalse, sym, ap, ◌∙◌, arith, filter}
 use Rattle.maildir_run.proofs.Common.{list_any, get, insert, remove, keys, retain_keys, same_map, contains_key-keys, any-filter_same, list_any-IsPermutation}
-use Rattle.maildir_run.proofs.Common.{is_converter_name, Files, FileMap, is_name, Call, Listing, Writing, Placing, Removing, Move, Other, Again}
+use Rattle.maildir_run.proofs.Common.{is_converter_name, Files, FileMap, is_name, Call, Listing, Writing, Placing, Removing, Move, Other, Again, all_bases}
 use Rattle.maildir_run.proofs.Common.{Torn, after, effect, placed, torn, IsOwn, swept, added, Message, KeepsForeign, Do, quietly, AllDone, sweep_of}
 use Rattle.maildir_name.specs.declared.target.Place.{Place}
 use Rattle.maildir_name.specs.declared.target.Place.TheVariants.{New, Cur}
@@ -46,7 +46,7 @@ torn_others : (call : Call) → OfConverter call → (bytes : List ℕ) {s : Fil
 torn_others (Writing name _) h bytes {s} = wrote s name bytes h
 torn_others other h bytes {s} = others_same s
 
-pub own_others : (call : Call) → OfConverter call → (ms : List Move) {s : Files} → IsOwn ms → KeepsForeign s (after s call ms)
+pub own_others : (call : Call) → OfConverter call → (ms : List Move) {s : Files} → IsOwn ms → KeepsForeign s (after all_bases s call ms)
 own_others call h [] {s} own = others_same s
 own_others call h (Other action ∷ ms) own = absurd own
 own_others call h (Again ∷ ms) {s} own =

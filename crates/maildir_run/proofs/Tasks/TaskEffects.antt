@@ -1,8 +1,9 @@
 -- What tasks that were performed leave.
 use Rattle.std.proofs.Common.{Option, Some, None, ◌≡◌, ℕ, ◌≤◌, Bool, true, false, cond, List, [], ◌∷◌, ◌++◌, ◌⊎◌, map, length, All, IsPermutation}
-use Rattle.std.proofs.Common.{IsFalse, refl, sym, ap, subst, ◌∙◌, inl, inr, arith, append_assoc, length-append, filter, append-nil}
+use Rattle.std.proofs.Common.{IsFalse, IsTrue, refl, sym, ap, subst, ◌∙◌, inl, inr, arith, append_assoc, length-append, filter, append-nil}
 use Rattle.maildir_run.proofs.Common.{get, keys, cases_Bool, get_or-append_seam, get_or_append_left, All-head, All-tail, any-filter_same}
-use Rattle.maildir_run.proofs.Common.{Target, is_converter_name, RunFault, filled, added, Removing, AnyMoves}
+use Rattle.maildir_run.proofs.Common.{Target, is_converter_name, RunFault, filled, added, Call, Listing, Writing, Placing, Removing, AnyMoves}
+use Rattle.maildir_run.proofs.Common.{OneTouches, Touches, Spared, SparesAll, AllSpared, IsSpared, and_parts}
 use Rattle.maildir_run.proofs.Common.{PlacesElsewhere, IsSwept, Message, IsMissing, IsHome, IsSoundAt, AreNamed, AreDistinct, has_home}
 use Rattle.maildir_run.proofs.Common.{leftover_count, Files, is_name, is_listed, KeepsHomes, TmpWithin, DeliversMessage}
 use Rattle.maildir_run.proofs.Common.{Progress, Knows, IsTarget, KeepsForeign, Task, Ask, Do, call_of, Done, Way, honestly, quietly, AllDone}
@@ -11,7 +12,7 @@ use Rattle.maildir_run.specs.Tasks.{TaskRefused}
 use Rattle.maildir_run.proofs.Names.Maps.{is_name-true}
 use Rattle.maildir_run.proofs.Tasks.Progress.{progress_home, progress_delivered, progress_or_more, apart_prefix, still_missing, still_there}
 use Rattle.maildir_run.proofs.Tasks.QuietRuns.{OfConverter, others_same, foreign_then, effect_others, own_others, delivers_exact, step_tmp}
-use Rattle.maildir_run.proofs.Call.Homes.{none_of, home_known}
+use Rattle.maildir_run.proofs.Call.Homes.{none_of, home_known, spared_named}
 use Rattle.maildir_run.proofs.Call.Steps.{ok_moves, called_kept, write_delivers, write_ok, place_delivers, place_home}
 use Rattle.maildir_run.proofs.Call.Steps.{removing_within, listing_within, base_name, leaves_none, leaves_trans}
 use Rattle.maildir_run.proofs.Call.FolderListings.{listed_within, three_listings, few_listed}
@@ -32,7 +33,7 @@ stopped_parts w (x ∷ xs) ys a c (inr (mid, one, more)) =
     ]
 
 -- ---- a base at which nothing is placed
-done_moves : (task : Task) {old new : Files} → Done task old new → AnyMoves (call_of task) old new
+done_moves : {spared : Spared} (task : Task) {old new : Files} → Done spared task old new → AnyMoves spared (call_of task) old new
 done_moves (Ask sub names) h = grind arith
 done_moves (Do call) {old} {new} h = ok_moves h
 
@@ -60,14 +61,15 @@ module _ (w : Way) (R : Files → Files → Type 0) (same : (s : Files) → R s 
   across (Some f) (task ∷ tasks) each old new (inr (mid, done, more)) =
       then old mid new (one task each.0 old mid (inl done)) (across (Some f) tasks each.1 mid new more)
 
-one_leaves : (task : Task) → PlacesNone task → (old new : Files) → Done task old new ⊎ TaskRefused task old new → KeepsHomes old new
+one_leaves : {spared : Spared} (task : Task) → PlacesNone task → (old new : Files) → Done spared task old new ⊎ TaskRefused spared task old new
+    → KeepsHomes spared old new
 one_leaves task off old new h = record {
   kept = λ b named. called_kept b named (off b) (elim h [ inl done ↦ done_moves task done | inr refused ↦ refused ]);
 }
 
-pub done_leaves : (fault : Option RunFault) (tasks : List Task) → EachTask PlacesNone tasks
-    → (old new : Files) → DoneUntil honestly tasks old fault new → KeepsHomes old new
-done_leaves = across honestly KeepsHomes leaves_none leaves_trans PlacesNone one_leaves
+pub done_leaves : {spared : Spared} (fault : Option RunFault) (tasks : List Task) → EachTask PlacesNone tasks
+    → (old new : Files) → DoneUntil (honestly spared) tasks old fault new → KeepsHomes spared old new
+done_leaves {spared} = across (honestly spared) (KeepsHomes spared) leaves_none leaves_trans PlacesNone one_leaves
 
 pub listings_place_none : (names : Listings) → EachTask PlacesNone (listing_tasks names)
 listings_place_none names = ((λ b. tt), ((λ b. tt), ((λ b. tt), tt)))
@@ -80,15 +82,16 @@ pub sweep_places_none : (names : List (List ℕ)) → EachTask PlacesNone (sweep
 sweep_places_none names = grind (arith, removes_place_none)
 
 -- ---- the listings
-pub record KnownByListings (names : Listings) (old new : Files) : Type 0 where
-  pub within : TmpWithin names.tmp new
-  pub few : length (filter is_converter_name names.tmp) ≤ leftover_count old
-  pub knows : Knows (is_listed names.new names.cur) old
+pub record KnownByListings (spared : Spared) (names : Listings) (old new : Files) : Type 0 where
+  pub within : TmpWithin spared names.tmp new
+  pub few : SparesAll spared → length (filter is_converter_name names.tmp) ≤ leftover_count old
+  pub knows : Knows spared (is_listed names.new names.cur) old
 
-pub known_by_listings : {names : Listings} {old new : Files} → AllDone honestly (listing_tasks names) old new → KnownByListings names old new
-known_by_listings {names} {old} (a, first, (b, second, (c, third, e))) = record {
+pub known_by_listings : {spared : Spared} {names : Listings} {old new : Files} → AllDone (honestly spared) (listing_tasks names) old new
+    → KnownByListings spared names old new
+known_by_listings {spared} {names} {old} (a, first, (b, second, (c, third, e))) = record {
   within =
-      subst (TmpWithin names.tmp) (sym e)
+      subst (TmpWithin spared names.tmp) (sym e)
       (listed_within third (listed_within second (listing_within first)));
   few = few_listed first;
   knows = λ base named. three_listings base named first second third;
@@ -111,59 +114,61 @@ sweep_ours (name ∷ names) =
       | false ↦ λ e. sweep_ours names
     ] refl
 
-each_swept : (names : List (List ℕ)) → EachTask IsOurs (map (λ name. Do (Removing name)) names) → {old new : Files}
-    → TmpWithin names old → AllDone honestly (map (λ name. Do (Removing name)) names) old new → TmpWithin [] new
-each_swept [] ours within e = subst (TmpWithin []) (sym e) within
-each_swept (name ∷ names) ours {new} within (mid, one, more) = each_swept names ours.1 (removing_within ours.0 one within) more
+each_swept : {spared : Spared} (names : List (List ℕ)) {old new : Files}
+    → TmpWithin spared names old → AllDone (honestly spared) (map (λ name. Do (Removing name)) names) old new → TmpWithin spared [] new
+each_swept {spared} [] within e = subst (TmpWithin spared []) (sym e) within
+each_swept (name ∷ names) {new} within (mid, one, more) = each_swept names (removing_within one within) more
 
-pub all_swept : {names : List (List ℕ)} {old new : Files} → TmpWithin names old → AllDone honestly (sweep_of names) old new → TmpWithin [] new
+pub all_swept : {spared : Spared} {names : List (List ℕ)} {old new : Files} → TmpWithin spared names old → AllDone (honestly spared) (sweep_of names) old new
+    → TmpWithin spared [] new
 all_swept {names} {old} {new} within =
-    each_swept (filter is_converter_name names) (sweep_ours names) (record {
+    each_swept (filter is_converter_name names) (record {
       gone = λ q ours off.
           within.gone q ours
-          (sym (any-filter_same (is_name q) is_converter_name true (λ k e. ap is_converter_name (sym (is_name-true q k e)) ∙ ours) names) ∙ off);
+          (sym (any-filter_same (is_name q) is_converter_name true (λ k e. ap is_converter_name (sym (is_name-true q k e)) ∙ (and_parts _ _ ours).1) names) ∙
+          off);
     })
 
 -- ---- one message
-pub record DeliveredMessage (m : Message) (old new : Files) : Type 0 where
-  pub delivers : DeliversMessage m old new
-  pub home : IsHome new m
-  pub within : TmpWithin [] old → TmpWithin [] new
+pub record DeliveredMessage (spared : Spared) (m : Message) (old new : Files) : Type 0 where
+  pub delivers : DeliversMessage spared m old new
+  pub home : IsSpared spared m → IsHome new m
+  pub within : TmpWithin spared [] old → TmpWithin spared [] new
 
-module _ (m : Message) (is : IsTarget m.target) (old new : Files) (missing : IsMissing old m) where
-  pub delivered : AllDone honestly (delivery_of m.target m.body) old new → DeliveredMessage m old new
+module _ {spared : Spared} (m : Message) (is : IsTarget m.target) (old new : Files) (missing : IsSpared spared m → IsMissing old m) where
+  pub delivered : AllDone (honestly spared) (delivery_of m.target m.body) old new → DeliveredMessage spared m old new
   delivered (mid, wrote, (end, put, e)) =
       let t = m.target in
       let w = write_ok is wrote missing in
       let home = place_home m is old mid end w put in
-      subst (DeliveredMessage m old) (sym e) (record {
+      subst (DeliveredMessage spared m old) (sym e) (record {
         delivers = place_delivers m is old mid end w (ok_moves put);
         home = home.0;
         within = home.1;
       })
 
-  pub stopped_delivers : Stopped honestly (delivery_of m.target m.body) old new → DeliversMessage m old new
+  pub stopped_delivers : Stopped (honestly spared) (delivery_of m.target m.body) old new → DeliversMessage spared m old new
   stopped_delivers (inl h) = write_delivers is h missing
   stopped_delivers (inr (mid, wrote, inl h)) = place_delivers m is old mid new (write_ok is wrote missing) h
   stopped_delivers (inr (mid, wrote, inr (end, put, e))) = (delivered (mid, wrote, (end, put, e))).delivers
 
 -- ---- messages, in order
 -- how far a run has come, of whose messages these are done
-pub record CameTo (all : List Message) (start now : Files) : Type 0 where
+pub record CameTo (spared : Spared) (all : List Message) (start now : Files) : Type 0 where
   pub done : List Message
   pub rest : List Message
   pub is : all ≡ done ++ rest
-  pub progress : Progress done start now
+  pub progress : Progress spared done start now
 
-module _ (start : Files) (is_there : List ℕ → Bool) (knows : Knows is_there start) where
-  home_is : (t : Target) (shown : Bool) → IsTarget t → is_there t.base ≡ shown → has_home start t.base ≡ shown
-  home_is t shown named e = sym (knows t.base named.named) ∙ e
+module _ (spared : Spared) (start : Files) (is_there : List ℕ → Bool) (knows : Knows spared is_there start) where
+  home_is : (t : Target) (shown : Bool) → IsTarget t → IsTrue (spared t.base) → is_there t.base ≡ shown → has_home start t.base ≡ shown
+  home_is t shown named sp e = sym (knows t.base (spared_named spared t.base sp named.named)) ∙ e
 
   as_shown : (w : Way) (m : Message) (shown : Bool) (old new : Files) → is_there m.target.base ≡ shown
       → AllDone w (delivery_if is_there m) old new → AllDone w (cond shown [] (delivery_of m.target m.body)) old new
   as_shown w m shown old new e h = rw e at h
 
-  module _ (all : List Message) (distinct : AreDistinct all) (are : All (λ m. IsTarget m.target) all) (sound : All (IsSoundAt start) all) where
+  module _ (all : List Message) (distinct : AreDistinct all) (are : All (λ m. IsTarget m.target) all) (sound : AllSpared spared (IsSoundAt start) all) where
     at : (P : Message → Type 0) → All P all → (done ms : List Message) (m : Message) → all ≡ done ++ m ∷ ms → P m
     at P holds done ms m e = subst P (get_or-append_seam done m ms m) (subst (All P) e holds (length done) m (omega (arith, length-append done (m ∷ ms))))
 
@@ -175,52 +180,56 @@ module _ (start : Files) (is_there : List ℕ → Bool) (knows : Knows is_there 
         rw (get_or_append_left done ms d k h) at ((subst (All (λ m. IsTarget m.target)) e are k d (omega (arith, h, length-append done ms))).named)
 
     module _ (done ms : List Message) (m : Message) where
-      missing_here : (now : Files) → all ≡ done ++ m ∷ ms → is_there m.target.base ≡ false → Progress done start now → IsMissing now m
-      missing_here now e off p =
+      missing_here : (now : Files) → all ≡ done ++ m ∷ ms → is_there m.target.base ≡ false → Progress spared done start now
+          → IsSpared spared m → IsMissing now m
+      missing_here now e off p sp =
           let is = at (λ m. IsTarget m.target) are done ms m e in
-          still_missing done m start now is.named (apart done ms m e) p (none_of _ (home_is m.target false is off))
+          still_missing done m start now (spared_named spared _ sp is.named) (apart done ms m e) p (none_of _ (home_is m.target false is sp off))
 
-      home_here : (now : Files) → all ≡ done ++ m ∷ ms → is_there m.target.base ≡ true → Progress done start now → IsHome now m
-      home_here now e on p =
+      home_here : (now : Files) → all ≡ done ++ m ∷ ms → is_there m.target.base ≡ true → Progress spared done start now
+          → IsSpared spared m → IsHome now m
+      home_here now e on p sp =
           let is = at (λ m. IsTarget m.target) are done ms m e in
-          still_there done m start now is.named (apart done ms m e) p
-          (home_known m start (home_is m.target true is on) (at (IsSoundAt start) sound done ms m e))
+          still_there done m start now (spared_named spared _ sp is.named) (apart done ms m e) p
+          (home_known m start (home_is m.target true is sp on) (at (λ n. IsSpared spared n → IsSoundAt start n) sound done ms m e sp))
 
       next : all ≡ done ++ m ∷ ms → all ≡ (done ++ m ∷ []) ++ ms
       next e = e ∙ sym (append_assoc done (m ∷ []) ms)
 
       -- one message was done
-      one_done : (old new : Files) → all ≡ done ++ m ∷ ms → Progress done start old → TmpWithin [] old
-          → AllDone honestly (delivery_if is_there m) old new → Progress (done ++ m ∷ []) start new × TmpWithin [] new
+      one_done : (old new : Files) → all ≡ done ++ m ∷ ms → Progress spared done start old → TmpWithin spared [] old
+          → AllDone (honestly spared) (delivery_if is_there m) old new → Progress spared (done ++ m ∷ []) start new × TmpWithin spared [] new
       one_done old new e p within h =
           elim (cases_Bool (is_there m.target.base)) [
             | inl on ↦
-                let same : new ≡ old = as_shown honestly m true old new on h in (
-                  subst (Progress (done ++ m ∷ []) start) (sym same) (progress_home m (home_here old e on p) p),
-                  subst (TmpWithin []) (sym same) within,
+                let same : new ≡ old = as_shown (honestly spared) m true old new on h in (
+                  subst (Progress spared (done ++ m ∷ []) start) (sym same) (progress_home m (home_here old e on p) p),
+                  subst (TmpWithin spared []) (sym same) within,
                 )
             | inr off ↦
                 let d =
-                delivered m (at (λ m. IsTarget m.target) are done ms m e) old new (missing_here old e off p) (as_shown honestly m false old new off h) in
+                delivered m (at (λ m. IsTarget m.target) are done ms m e) old new (missing_here old e off p) (as_shown (honestly spared) m false old new off h)
+                in
                 (progress_delivered (done_named done (m ∷ ms) e) (apart done ms m e) d.delivers d.home p, d.within within)
           ]
 
-    pub all_progress : (done ms : List Message) (old new : Files) → all ≡ done ++ ms → Progress done start old
-        → TmpWithin [] old → AllDone honestly (deliveries_of is_there ms) old new → Progress all start new × TmpWithin [] new
-    all_progress done [] old new e p within h = (rw (e ∙ append-nil done) (subst (Progress done start) (sym h) p), subst (TmpWithin []) (sym h) within)
+    pub all_progress : (done ms : List Message) (old new : Files) → all ≡ done ++ ms → Progress spared done start old
+        → TmpWithin spared [] old → AllDone (honestly spared) (deliveries_of is_there ms) old new → Progress spared all start new × TmpWithin spared [] new
+    all_progress done [] old new e p within h =
+        (rw (e ∙ append-nil done) (subst (Progress spared done start) (sym h) p), subst (TmpWithin spared []) (sym h) within)
     all_progress done (m ∷ ms) old new e p within h =
-        let r = all_parts honestly _ _ old new h in
+        let r = all_parts (honestly spared) _ _ old new h in
         let one = one_done done ms m old r.0 e p within r.1 in
         all_progress (done ++ m ∷ []) ms r.0 new (next done ms m e) one.0 one.1 r.2
 
     -- the run stopped at one message
     one_stopped : (done ms : List Message) (m : Message) (old new : Files) → all ≡ done ++ m ∷ ms
-        → Progress done start old → Stopped honestly (delivery_if is_there m) old new → CameTo all start new
+        → Progress spared done start old → Stopped (honestly spared) (delivery_if is_there m) old new → CameTo spared all start new
     one_stopped done ms m old new e p h =
         elim (cases_Bool (is_there m.target.base)) [
           | inl on ↦
               let same : new ≡ old = rw on at h in
-              record { done = done; rest = m ∷ ms; is = e; progress = subst (Progress done start) (sym same) p }
+              record { done = done; rest = m ∷ ms; is = e; progress = subst (Progress spared done start) (sym same) p }
           | inr off ↦
               let missing = missing_here done ms m old e off p in
               let delivers = stopped_delivers m (at (λ m. IsTarget m.target) are done ms m e) old new missing (rw off at h) in
@@ -230,11 +239,11 @@ module _ (start : Files) (is_there : List ℕ → Bool) (knows : Knows is_there 
               ]
         ]
 
-    pub stopped_came : (done ms : List Message) (old new : Files) → all ≡ done ++ ms → Progress done start old
-        → TmpWithin [] old → Stopped honestly (deliveries_of is_there ms) old new → CameTo all start new
-    stopped_came done [] old new e p within h = record { done = done; rest = []; is = e; progress = subst (Progress done start) (sym h) p }
+    pub stopped_came : (done ms : List Message) (old new : Files) → all ≡ done ++ ms → Progress spared done start old
+        → TmpWithin spared [] old → Stopped (honestly spared) (deliveries_of is_there ms) old new → CameTo spared all start new
+    stopped_came done [] old new e p within h = record { done = done; rest = []; is = e; progress = subst (Progress spared done start) (sym h) p }
     stopped_came done (m ∷ ms) old new e p within h =
-        elim (stopped_parts honestly _ _ old new h) [
+        elim (stopped_parts (honestly spared) _ _ old new h) [
           | inl s ↦ one_stopped done ms m old new e p s
           | inr (mid, first, then) ↦
               let one = one_done done ms m old mid e p within first in
@@ -242,24 +251,25 @@ module _ (start : Files) (is_there : List ℕ → Bool) (knows : Knows is_there 
         ]
 
   -- ---- and where the folder is quiet
-  pub all_filled : (ms : List Message) → All (λ m. IsTarget m.target) ms → (old new : Files)
-      → IsSwept old → AllDone quietly (deliveries_of is_there ms) old new → new ≡ filled start ms old
-  all_filled [] are old new free e = e
-  all_filled (m ∷ ms) are old new free h =
+  pub all_filled : SparesAll spared → (ms : List Message) → All (λ m. IsTarget m.target) ms → (old new : Files)
+      → IsSwept spared old → AllDone quietly (deliveries_of is_there ms) old new → new ≡ filled start ms old
+  all_filled every [] are old new free e = e
+  all_filled every (m ∷ ms) are old new free h =
       let is = All-head (λ (x : Message). IsTarget x.target) m ms are in
       let more = All-tail (λ (x : Message). IsTarget x.target) m ms are in
       let t = m.target in
       let r = all_parts quietly _ _ old new h in
+      let sp = every t.base is.named in
       let step : r.0 ≡ cond (has_home start t.base) old (added old t.place t.name m.body) =
       elim (cases_Bool (is_there t.base)) [
-        | inl on ↦ as_shown quietly m true old r.0 on r.1 ∙ ap (λ b. cond b old (added old t.place t.name m.body)) (sym (home_is t true is on))
+        | inl on ↦ as_shown quietly m true old r.0 on r.1 ∙ ap (λ b. cond b old (added old t.place t.name m.body)) (sym (home_is t true is sp on))
         | inr off ↦
             let d = as_shown quietly m false old r.0 off r.1 in
             let end = d.2 in
-            (end.2 ∙ delivers_exact old t.base m.body t.place t.name d.1.1 end.1.1 (free t.base (base_name m is)))
-            ∙ ap (λ b. cond b old (added old t.place t.name m.body)) (sym (home_is t false is off))
+            (end.2 ∙ delivers_exact old t.base m.body t.place t.name d.1.1 end.1.1 (free t.base (base_name spared m is sp)))
+            ∙ ap (λ b. cond b old (added old t.place t.name m.body)) (sym (home_is t false is sp off))
       ] in
-      all_filled ms more r.0 new
+      all_filled every ms more r.0 new
       (λ name ours. ap (λ s. get s.tmp name) step ∙ ap (λ x. get x name) (step_tmp (has_home start t.base) old m) ∙ free name ours) r.2
       ∙ ap (filled start ms) step
 
@@ -270,3 +280,16 @@ one_others task ours old new h = grind (arith, others_same, effect_others, own_o
 pub done_others : (fault : Option RunFault) (tasks : List Task) → EachTask IsOurs tasks
     → (old new : Files) → DoneUntil quietly tasks old fault new → KeepsForeign old new
 done_others = across quietly KeepsForeign others_same foreign_then IsOurs one_others
+
+-- ---- what is touched
+call_touched : (call : Call) → OfConverter call → (name : List ℕ) → Touches call name → IsTrue (is_converter_name name)
+call_touched (Listing sub) ours name h = absurd h
+call_touched (Writing own bytes) ours name h = rw h ours
+call_touched (Placing own place target) ours name (inl h) = rw h ours.0
+call_touched (Placing own place target) ours name (inr h) = rw h ours.1
+call_touched (Removing own) ours name h = rw h ours
+
+pub ours_touched : (tasks : List Task) → EachTask IsOurs tasks → (name : List ℕ) → OneTouches tasks name → IsTrue (is_converter_name name)
+ours_touched [] each name h = absurd h
+ours_touched (task ∷ tasks) each name (inl h) = call_touched (call_of task) each.0 name h
+ours_touched (task ∷ tasks) each name (inr h) = ours_touched tasks each.1 name h

@@ -15,24 +15,32 @@ use Rattle.maildir_run.specs.Private.Counting.{Makes}
 use Rattle.maildir_run.specs.Counting.{GoesUpWith, HasCallNumber, IsOfFolder, fault_of}
 use Rattle.maildir_run.specs.Cuts.{Follows}
 use Rattle.maildir_run.specs.Delivery.{Message}
+use Rattle.maildir_run.specs.Files.{Spared}
 use Rattle.maildir_run.specs.Seen.{Seen}
 use Rattle.maildir_run.specs.Private.Given.{IsPrefixOf, GaveAll, SourceStopped}
 use Rattle.maildir_run.specs.Plan.{is_listed}
 use Rattle.maildir_run.specs.Private.Progress.{message_at}
 use Rattle.maildir_run.specs.Reading.{IsReading}
-use Rattle.maildir_run.specs.Tasks.{Task, DoneUntil, honestly, leaving, Listings, listing_tasks}
+use Rattle.maildir_run.specs.Tasks.{Task, DoneUntil, call_of, honestly, leaving, Listings, listing_tasks}
 use Rattle.maildir_run.specs.Private.Tasks.{quietly}
 use Rattle.maildir_run.specs.Texts.{messages_of, bodies_of}
 use Rattle.maildir_run.specs.Parts.{deliveries_of, sweep_of}
+use Rattle.maildir_run.specs.Touched.{Touches, TouchedOnly}
+
+-- one of these tasks touches this name
+abbrev pub OneTouches : List Task → List ℕ → Type 0
+OneTouches [] name = ⊥
+OneTouches (task ∷ tasks) name = Touches (call_of task) name ⊎ OneTouches tasks name
 
 -- A run that had made so many calls performed these tasks: all of them with no fault, and with one up to the one that was refused.
 pub record Performed (tasks : List Task) (old new : Seen) (made made' : ℕ) (fault : Option RunFault) : Type 0 where
-  pub honest : old.honest → new.honest
-  pub done_honestly : old.honest → DoneUntil honestly tasks old.files fault new.files
-  pub left : old.honest → Follows (λ before now. DoneUntil leaving tasks before fault now) old.may_leave new.may_leave
-  pub still_rooted : old.honest → old.rooted → new.rooted
+  pub honest : (spared : Spared) → old.honest spared → new.honest spared
+  pub done_honestly : (spared : Spared) → old.honest spared → DoneUntil (honestly spared) tasks old.files fault new.files
+  pub left : (spared : Spared) → old.honest spared → Follows (λ before now. DoneUntil (leaving spared) tasks before fault now) old.may_leave new.may_leave
+  pub still_rooted : (spared : Spared) → old.honest spared → old.rooted → new.rooted
   pub quiet : old.quiet → new.quiet
   pub done_quietly : old.quiet → DoneUntil quietly tasks old.files fault new.files
+  pub touches : TouchedOnly (OneTouches tasks) old.touched new.touched
   pub n : ℕ
   pub most : n ≤ length tasks
   pub all : fault ≡ None → n ≡ length tasks

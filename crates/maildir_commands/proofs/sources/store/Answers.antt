@@ -42,18 +42,18 @@ returns-clause-stored g c =
     record {
       end = done.end;
       calls = rw c.sync.ensures.calls done.calls;
-      honest = λ h. if_ok c.sync.result ok (sync.honest (run.honest h));
-      texts = λ h text is p sound.
-          let still = run.honest h in
-          let owes = done.owes h text.bytes is.small p in
-          let keeps = owes.keeps text.messages is.are (sound_now text.messages _ sound) in
+      honest = λ spared h. if_ok c.sync.result ok (sync.honest spared (run.honest spared h));
+      texts = λ spared h text is p sound.
+          let still = run.honest spared h in
+          let owes = done.owes spared h text.bytes is.small p in
+          let keeps = owes.keeps text.messages is.are (sound_now spared text.messages _ sound) in
           record {
-            reports = reports_after_run text.bytes text.messages is.are is.small _ _ c.in_ok-report.report owes sound;
-            known = both_have keeps (sync.acts still);
-            swept = swept_acts (sync.acts still) keeps.ends.delivered.swept;
+            reports = reports_after_run spared text.bytes text.messages is.are is.small _ _ c.in_ok-report.report owes sound;
+            known = both_have keeps (sync.acts spared still);
+            swept = swept_acts (sync.acts spared still) keeps.ends.delivered.swept;
             safe = λ intact.
-                safe_after_both text.bytes text.messages is.are is.small _ _ _ _ _ _ _ c.in_ok-report.report c.sync.result owes sound
-                (done.left h text.bytes text.messages p is.are) intact (sync.acts still) ok (sync.synced still) (sync.rooted still);
+                safe_after_both spared text.bytes text.messages is.are is.small _ _ _ _ _ _ _ c.in_ok-report.report c.sync.result owes sound
+                (done.left spared h text.bytes text.messages p is.are) intact (sync.acts spared still) ok (sync.synced spared still) (sync.rooted spared still);
           };
       quiet = λ q. if_ok c.sync.result ok (sync.quiet (run.quiet q));
       alone = λ q t ms p are. sync.quietly (run.quiet q) ∙ (done.alone q t ms p are).0;

@@ -3,8 +3,9 @@ use Rattle.maildir_disk.proofs.Left.LeftTasks.{own_hold, texts_hold}
 use Rattle.maildir_disk.proofs.cuts.left_of_a_run.Goals as goal
 
 pub returns-clause-intact : goal.returns-clause-intact
-returns-clause-intact c = λ t ms names before now answer are small ran. all_intact ms before now (own_hold t ms are small names before answer now ran)
+returns-clause-intact c = λ spared t ms names before now answer are small ran.
+    all_intact spared ms before now (own_hold spared t ms are small names before answer now ran)
 
 pub returns-clause-bodies : goal.returns-clause-bodies
-returns-clause-bodies c = λ t ms others names before now answer are small ran named alike.
-    all_bodies others before now (texts_hold t ms are small names before answer now ran others named alike)
+returns-clause-bodies c = λ spared t ms others names before now answer are small ran named alike.
+    all_bodies spared others before now (texts_hold spared t ms are small names before answer now ran others named alike)

@@ -1,9 +1,12 @@
-use Rattle.std.proofs.Common.{arith, rules}
+use Rattle.std.proofs.Common.{get_or}
 use Rattle.maildir_disk.proofs.Left.SingleHomes.{single_sound, single_home}
 use Rattle.maildir_disk.proofs.cuts.one_name_each.Goals as goal
+use Rattle.maildir_disk.proofs.Common.{spared_named}
 
 pub returns-clause-sound : goal.returns-clause-sound
-returns-clause-sound c = search (rules, single_sound)
+returns-clause-sound c = λ spared ms s left named sound intact single k d below sp.
+    single_sound spared (get_or ms k d) (spared_named spared _ sp (named k d below)) s left (sound k d below sp) (intact k d below sp) single
 
 pub returns-clause-home : goal.returns-clause-home
-returns-clause-home c = grind (arith, single_home)
+returns-clause-home c = λ spared ms s left named home has single k d below sp.
+    single_home spared (get_or ms k d) (spared_named spared _ sp (named k d below)) s left (home k d below sp) (has k d below sp) single

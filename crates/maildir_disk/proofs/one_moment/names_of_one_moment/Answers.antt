@@ -1,7 +1,7 @@
-use Rattle.std.proofs.Common.{refl, rules}
+use Rattle.std.proofs.Common.{rules}
 use Rattle.maildir_disk.proofs.Calls.Listings.{names_taken, reading_failed}
 use Rattle.maildir_disk.proofs.Calls.Looking.{looks_then}
-use Rattle.maildir_disk.proofs.one_moment.names_of_one_moment.Goals.{else-loop-test, then-loop-test+in_ok-names+in-Wait+in_ok-instant+then-ge}
+use Rattle.maildir_disk.proofs.one_moment.names_of_one_moment.Goals.{else-loop-test, then-loop-test+in_ok-names+in-Wait+in_ok-instant+then-is_over}
 use Rattle.maildir_disk.proofs.one_moment.names_of_one_moment.Goals as goal
 
 pub loop-preserved : goal.loop-preserved
@@ -21,8 +21,8 @@ returns-in_err-instant g c = search (rules, reading_failed, looks_then)
 
 pub returns : goal.returns
 returns g c = elim c.loop-test.branch [
-  | else-loop-test w ↦ rw w.system-is (reading_failed c.args.sub _ refl c.loop.invariant)
-  | then-loop-test+in_ok-names+in-Wait+in_ok-instant+then-ge w ↦
-      rw w.system-is (reading_failed c.args.sub _ refl
+  | else-loop-test w ↦ rw w.system-is (reading_failed c.args.sub _ c.give_up.ensures.err c.loop.invariant)
+  | then-loop-test+in_ok-names+in-Wait+in_ok-instant+then-is_over w ↦
+      rw w.system-is (reading_failed c.args.sub _ c.give_up.ensures.err
       (looks_then (looks_then c.loop.invariant w.take_names.ensures.looks) w.instant-in-loop.ensures))
 ]

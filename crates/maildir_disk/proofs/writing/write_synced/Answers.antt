@@ -25,10 +25,12 @@ loop-preserved g c = elim c.match-append.branch [
 ]
 
 pub returns-in_err-file : goal.returns-in_err-file
-returns-in_err-file g c = search (rules, not_made)
+returns-in_err-file g c = not_made _ c.from_residual.ensures.0 c.in_err-file.ensures.makes
 
 pub returns-then-at-bytes : goal.returns-then-at-bytes
-returns-then-at-bytes g c = search (rules, take_all, synced)
+returns-then-at-bytes g c =
+    let so_far = rw (take_all c.loop.at c.args.bytes.now (search rules)) at c.loop.invariant.so_far in
+    synced _ so_far c.sync_file.ensures.looks c.sync_file.ensures.kept
 
 pub returns-in-Ok-eq0 : goal.returns-in-Ok-eq0
 returns-in-Ok-eq0 g c = search (rules, append_given_up)

@@ -2,7 +2,7 @@ use Rattle.maildir_run.proofs.Chains.OneText.{one_sound, sound_one, one_runs, ru
 use Rattle.maildir_run.proofs.laws.one_text.Goals as goal
 
 pub returns-clause-sound : goal.returns-clause-sound
-returns-clause-sound c = λ text old new is. (one_sound is, sound_one)
+returns-clause-sound c = λ spared text old new is. (one_sound is, sound_one)
 
 pub returns-clause-runs : goal.returns-clause-runs
 returns-clause-runs c = one_runs

@@ -6,5 +6,5 @@ pub returns-clause-any : goal.returns-clause-any
 returns-clause-any c = grind (arith, placing)
 
 pub returns-clause-ok : goal.returns-clause-ok
-returns-clause-ok c = λ b name target place old new named ours on e done.
-    let a = placing_ok b name place target named ours on old new done e in (a.bytes, a.was, a.homes_are)
+returns-clause-ok c = λ spared b name target place old new named ours on e done.
+    let a = placing_ok spared b name place target named ours on old new done e in (a.bytes, a.was, a.homes_are)

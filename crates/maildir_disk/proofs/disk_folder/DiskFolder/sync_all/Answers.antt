@@ -20,21 +20,22 @@ returns-clause-syncs g c =
       honest = asks.honest;
       acts = asks.acts;
       left = asks.left;
-      rooted = λ h. root.rooted (looks.honest h);
+      rooted = λ spared h. root.rooted spared (looks.honest spared h);
       still_rooted = asks.still_rooted;
-      synced = λ h.
-          let on = first.asks.honest h in
-          let last = looks.honest h in
+      touches = asks.touches;
+      synced = λ spared h.
+          let on = first.asks.honest spared h in
+          let last = looks.honest spared h in
           on_ok _ c.sync_root.result (λ left may.
-          let three = root.asks.left last left may in
-          let two = second.names on three.0 three.1 in
-          let one = first.names h two.0 two.1 in (
+          let three = root.asks.left spared last left may in
+          let two = second.names spared on three.0 three.1 in
+          let one = first.names spared h two.0 two.1 in (
             one.0,
             one.1,
             record {
               mid = record { files = _; left = two.0 };
               first = one.2;
-              then = kept_later two.2 (root.asks.acts last) three.2;
+              then = kept_later two.2 (root.asks.acts spared last) three.2;
             },
           ));
       quiet = asks.quiet;

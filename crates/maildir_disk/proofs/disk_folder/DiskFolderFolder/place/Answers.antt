@@ -8,4 +8,4 @@ returns-clause-places g c =
     let ok : IfOk c.rename.result (λ value. c.match-rename.answer ≡ Ok value) = search rules in
     let err : OnErr c.rename.result (IsErr c.match-rename.answer) = search rules in
     call_answered g.S.System (Placing c.args.name.now c.args.place c.args.target.now) c.args.self.now c.count_call.new.self c.rename.result
-    (taken _ (λ s. tt) c.rename.ensures.places) c.count_call.ensures ok err tt
+    (taken _ (λ spared s. tt) c.rename.ensures.places) c.count_call.ensures ok err tt

@@ -8,5 +8,5 @@ returns g c =
     record {
       removes =
           call_answered g.S.System (Removing c.args.name.now) c.args.self.now c.count_call.new.self _
-          (taken _ (λ s. tt) c.unlink.ensures.removes) c.count_call.ensures answer.ok answer.err answer.not_absent;
+          (taken _ (λ spared s. tt) c.unlink.ensures.removes) c.count_call.ensures answer.ok answer.err answer.not_absent;
     }

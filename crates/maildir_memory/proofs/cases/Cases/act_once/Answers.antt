@@ -1,37 +1,37 @@
-use Rattle.std.proofs.Common.{arith}
-use Rattle.maildir_memory.proofs.Common.{Half}
+use Rattle.maildir_memory.proofs.Common.{Half, files_of}
 use Rattle.maildir_memory.specs.declared.cases.Change.TheVariants.{Other}
 use Rattle.maildir_memory.proofs.Memory.Changes.{acts_of_act, acted_leaves, keeps_lost, keeps_on, left_by_change}
 use Rattle.maildir_disk.proofs.Left.Lefts.{leaves_none, on_ok, left_by_others_then}
 use Rattle.maildir_memory.proofs.cases.Cases.act_once.Goals as goal
 
 pub returns-in_err-may_lose-clause-left : goal.returns-in_err-may_lose-clause-left
-returns-in_err-may_lose-clause-left c =
-    left_by_change (Half c.args.act) c.args.folder.now c.args.folder.now c.args.self.now c.may_lose.new.self c.may_lose.ensures.more leaves_none
+returns-in_err-may_lose-clause-left c = λ spared spares.
+    left_by_change (Half c.args.act) c.args.folder.now c.args.folder.now c.args.self.now c.may_lose.new.self c.may_lose.ensures.more tt leaves_none
 
 pub returns-in_err-may_lose-2-clause-left : goal.returns-in_err-may_lose-2-clause-left
-returns-in_err-may_lose-2-clause-left c =
+returns-in_err-may_lose-2-clause-left c = λ spared spares.
     let folder = c.args.folder.now in
     left_by_others_then
-    (left_by_change (Half c.args.act) folder folder c.args.self.now c.may_lose.new.self c.may_lose.ensures.more leaves_none)
-    (left_by_change (Other c.args.act) folder folder c.may_lose.new.self c.may_lose-2.new.self c.may_lose-2.ensures.more leaves_none)
+    (left_by_change (Half c.args.act) folder folder c.args.self.now c.may_lose.new.self c.may_lose.ensures.more tt leaves_none)
+    (left_by_change (Other c.args.act) folder folder c.may_lose.new.self c.may_lose-2.new.self c.may_lose-2.ensures.more spares leaves_none)
 
 pub returns-clause-acts : goal.returns-clause-acts
-returns-clause-acts c = grind (arith, acts_of_act)
+returns-clause-acts c = λ spared spares.
+    acts_of_act spared c.args.act.now spares (files_of c.args.folder.now) c.perform.result c.perform.ensures.ok c.perform.ensures.err
 
 pub returns-clause-left : goal.returns-clause-left
-returns-clause-left c =
+returns-clause-left c = λ spared spares.
     let folder = c.args.folder.now in
     left_by_others_then
-    (left_by_change (Half c.args.act) folder folder c.args.self.now c.may_lose.new.self c.may_lose.ensures.more leaves_none)
-    (left_by_change (Other c.args.act) folder c.act.new.self c.may_lose.new.self c.may_lose-2.new.self c.may_lose-2.ensures.more
-    (acted_leaves _ _ c.act.ensures.ok c.act.ensures.err))
+    (left_by_change (Half c.args.act) folder folder c.args.self.now c.may_lose.new.self c.may_lose.ensures.more tt leaves_none)
+    (left_by_change (Other c.args.act) folder c.perform.new.folder c.may_lose.new.self c.may_lose-2.new.self c.may_lose-2.ensures.more spares
+    (acted_leaves _ spares _ c.perform.ensures.ok c.perform.ensures.err))
 
 pub returns-clause-keeps : goal.returns-clause-keeps
 returns-clause-keeps c =
     let folder = c.args.folder.now in
-    on_ok _ c.act.result (keeps_on
+    on_ok _ c.perform.result (keeps_on
     (keeps_lost (Half c.args.act)
     folder folder c.args.self.now c.may_lose.new.self c.may_lose.ensures.more c.may_lose.ensures.room c.in_ok-may_lose.ensures.loses)
     (keeps_lost (Other c.args.act)
-    folder c.act.new.self c.may_lose.new.self c.may_lose-2.new.self c.may_lose-2.ensures.more c.may_lose-2.ensures.room c.in_ok-may_lose-2.ensures.loses))
+    folder c.perform.new.folder c.may_lose.new.self c.may_lose-2.new.self c.may_lose-2.ensures.more c.may_lose-2.ensures.room c.in_ok-may_lose-2.ensures.loses))

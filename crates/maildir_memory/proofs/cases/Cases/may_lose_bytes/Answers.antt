@@ -10,14 +10,14 @@ loop-end-init c = record {
   room = refl;
   no_fewer = omega arith;
   still = λ left has. has;
-  left = λ left has. (left, inr has, leaves_none);
+  left = λ spared left has. (left, inr has, leaves_none);
   loses = λ room. record { without = λ lt. absurd (omega (arith, lt)); prefixes = λ n above below. absurd (omega (arith, above, below)) };
 }
 
 pub returns-in_err-may_lose-clause-left : goal.returns-in_err-may_lose-clause-left
-returns-in_err-may_lose-clause-left c =
+returns-in_err-may_lose-clause-left c = λ spared.
     left_by_bytes _
-    c.args.folder.now c.args.self.now c.loop-end.self c.may_lose.new.self c.loop-end.invariant.left c.may_lose.ensures.more
+    c.args.folder.now c.args.self.now c.loop-end.self c.may_lose.new.self (c.loop-end.invariant.left spared) c.may_lose.ensures.more
 
 pub loop-end-preserved : goal.loop-end-preserved
 loop-end-preserved c =
@@ -29,7 +29,7 @@ loop-end-preserved c =
       room = c.may_lose.ensures.room ∙ c.loop-end.invariant.room;
       no_fewer = omega (arith, longer, c.loop-end.invariant.no_fewer);
       still = λ left has. still_there c.may_lose.ensures.more (c.loop-end.invariant.still left has);
-      left = left_by_bytes bytes c.args.folder.now c.args.self.now mid new c.loop-end.invariant.left c.may_lose.ensures.more;
+      left = λ spared. left_by_bytes bytes c.args.folder.now c.args.self.now mid new (c.loop-end.invariant.left spared) c.may_lose.ensures.more;
       loses = λ room.
           let before : HasRoom mid = omega (arith, room, longer, c.may_lose.ensures.room) in
           one_prefix c.args.name.now c.args.holds.now c.args.held c.args.folder.now c.args.self.now c.loop-end.auto.end

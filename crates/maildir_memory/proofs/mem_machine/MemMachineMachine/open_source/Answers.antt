@@ -4,7 +4,7 @@ use Rattle.maildir_commands.proofs.Resting.{opens_none}
 use Rattle.maildir_memory.proofs.mem_machine.MemMachineMachine.open_source.Goals as goal
 
 pub returns-then-eq : goal.returns-then-eq
-returns-then-eq c = record { opens = opens_none; text = λ h. grind (arith, common_steps); refused = λ h. tt }
+returns-then-eq c = record { opens = opens_none; text = λ spared h. grind (arith, common_steps); refused = λ spared h. tt }
 
 pub returns : goal.returns
-returns c = record { opens = opens_none; text = λ h. tt; refused = λ h allocation. grind (arith, common_steps) }
+returns c = record { opens = opens_none; text = λ spared h. tt; refused = λ spared h allocation. grind (arith, common_steps) }

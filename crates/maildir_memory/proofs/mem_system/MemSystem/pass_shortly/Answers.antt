@@ -9,9 +9,10 @@ use Rattle.maildir_memory.proofs.mem_system.MemSystem.pass_shortly.Goals as goal
 pub returns-in_err-begin-clause-others : goal.returns-in_err-begin-clause-others
 returns-in_err-begin-clause-others c = let failed = (an_error c.from_residual.result c.from_residual.ensures.0).1 in record {
   honest = λ honest. honest;
-  acts = acts_none;
-  passes = λ sub. passes_none;
-  left = left_none;
+  still = λ spared spares. spares;
+  acts = λ spared spares. acts_none;
+  passes = λ spared spares sub. passes_none;
+  left = λ spared spares. left_none;
   keeps = rw failed tt;
   root = refl;
 }

@@ -15,9 +15,10 @@ returns-in_default-clause-appends c =
     let looks = c.pass_shortly.ensures.looks in
     record {
       honest = looks.honest;
-      appended = grind arith;
-      left = λ honest. left_early (looks.left honest);
+      appended = λ spared h current. let acts = looks.acts spared h in record { before = acts.actions; rest = []; left = grind arith };
+      left = λ spared honest. left_early (looks.left spared honest);
       still_rooted = looks.still_rooted;
+      touches = looks.touches;
       quiet = looks.quiet;
       quietly = grind arith;
     }
@@ -31,8 +32,8 @@ returns-in_err-map_err-clause-appends c =
     let looks = c.pass_shortly.ensures.looks in
     not_appended _ c.from_residual-in_err-map_err.ensures.0
     (fails c.args.self.now mid mid.folder c.may_lose_bytes.new.self mid.stamp mid.calls_left looks (λ h. h) (λ h. refl)
-    (λ h. rw c.as_str-2.ensures.value at (left_of_bytes mid.folder mid.folder mid.cases c.may_lose_bytes.new.self
-    (looks.left h) c.may_lose_bytes.ensures.left leaves_none)))
+    (λ spared h. rw c.as_str-2.ensures.value at (left_of_bytes mid.folder mid.folder mid.cases c.may_lose_bytes.new.self
+    (looks.left spared h) (c.may_lose_bytes.ensures.left spared) leaves_none)))
 
 pub returns-in-Ok-clause-appends : goal.returns-in-Ok-clause-appends
 returns-in-Ok-clause-appends c =
@@ -40,13 +41,17 @@ returns-in-Ok-clause-appends c =
     let looks = c.pass_shortly.ensures.looks in
     let lines = c.write.ensures.scripted.script.lines in
     record {
-      honest = λ honest. lines ∙ looks.honest honest;
-      appended = grind arith;
-      left = λ honest.
-          let written = rw (c.as_str-3.ensures.value) at (leaves_torn {bytes = []} (called_leaves _ (c.write.ensures.writes.called tt))) in
-          let bytes = rw (c.as_str-2.ensures.value) at c.may_lose_bytes.ensures.left in
-          left_of_bytes mid.folder c.write.new.self mid.cases c.may_lose_bytes.new.self (looks.left honest) bytes written;
+      honest = λ spared honest. let still = looks.honest spared honest in record { no_script = lines ∙ still.no_script; spares = still.spares };
+      appended = λ spared h current. let acts = looks.acts spared h in record { before = acts.actions; rest = []; left = grind arith };
+      left = λ spared h.
+          let written =
+          rw (c.as_str-3.ensures.value) at
+          (leaves_torn {bytes = []}
+          (called_leaves _ (c.write.ensures.writes.called spared tt))) in
+          let bytes = rw (c.as_str-2.ensures.value) at (c.may_lose_bytes.ensures.left spared) in
+          left_of_bytes mid.folder c.write.new.self mid.cases c.may_lose_bytes.new.self (looks.left spared h) bytes written;
       still_rooted = looks.still_rooted;
+      touches = looks.touches;
       quiet = λ quiet. let still = looks.quiet quiet in record { no_script = lines ∙ still.no_script; no_turns = still.no_turns };
       quietly = grind arith;
     }
@@ -81,7 +86,9 @@ returns-clause-appends c =
     not_appended _ refl
     (fails c.args.self.now mid c.write.new.self c.may_lose_bytes.new.self mid.stamp mid.calls_left looks
     (λ h. c.write.ensures.scripted.script.lines ∙ h) (λ h. quiet_fault _ _ _ _ h c.in-Err.ensures.scripted)
-    (λ h.
-    let written = rw (c.as_str-3.ensures.value) at (leaves_torn {bytes = []} (called_leaves _ (c.write.ensures.writes.called tt))) in
-    let bytes = rw (c.as_str-2.ensures.value) at c.may_lose_bytes.ensures.left in
-    left_of_bytes mid.folder c.write.new.self mid.cases c.may_lose_bytes.new.self (looks.left h) bytes written))
+    (λ spared h.
+    let written =
+    rw (c.as_str-3.ensures.value) at
+    (leaves_torn {bytes = []} (called_leaves _ (c.write.ensures.writes.called spared tt))) in
+    let bytes = rw (c.as_str-2.ensures.value) at (c.may_lose_bytes.ensures.left spared) in
+    left_of_bytes mid.folder c.write.new.self mid.cases c.may_lose_bytes.new.self (looks.left spared h) bytes written))

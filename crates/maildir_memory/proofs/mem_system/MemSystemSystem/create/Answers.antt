@@ -1,4 +1,4 @@
-use Rattle.std.proofs.Common.{◌∙◌, [], ap, refl, rules}
+use Rattle.std.proofs.Common.{◌∙◌, [], ap, inr, refl, rules}
 use Rattle.maildir_run.proofs.Memory.Followed.{quiet_fault}
 use Rattle.maildir_memory.proofs.Common.{Make, Writing, effect}
 use Rattle.maildir_memory.proofs.Memory.Changes.{left_made, left_unmade, lost}
@@ -20,7 +20,7 @@ returns-in_err-map_err-clause-makes c =
     let looks = c.pass_shortly.ensures.looks in
     not_made _ c.from_residual-in_err-map_err.ensures.0
     (fails c.args.self.now mid mid.folder c.may_lose.new.self mid.stamp mid.calls_left looks (λ h. h) (λ h. refl)
-    (λ h. left_unmade (Make c.args.name) mid.folder mid.cases c.may_lose.new.self (looks.left h) c.may_lose.ensures.more))
+    (λ spared h. left_unmade (Make c.args.name) tt mid.folder mid.cases c.may_lose.new.self (looks.left spared h) c.may_lose.ensures.more))
 
 pub returns-in-Ok-clause-makes : goal.returns-in-Ok-clause-makes
 returns-in-Ok-clause-makes c =
@@ -29,22 +29,24 @@ returns-in-Ok-clause-makes c =
     let lines = c.write.ensures.scripted.script.lines in
     let did = c.in-Ok.ensures.writes in
     record {
-      honest = λ h. lines ∙ looks.honest h;
-      created = λ h.
-          let acts = looks.acts h in
-          let written = (did.quietly (looks.honest h)).1 in
+      honest = λ spared h. let still = looks.honest spared h in record { no_script = lines ∙ still.no_script; spares = still.spares };
+      created = λ spared h.
+          let acts = looks.acts spared h in
+          let written = (did.quietly (looks.honest spared h).no_script).1 in
           record { before = acts.actions; rest = []; left = written ∙ ap (effect (Writing c.args.name.now [])) acts.files_are };
-      left = λ h.
-          left_made (Make c.args.name) mid.folder c.write.new.self mid.cases c.may_lose.new.self c.write.result
-          (looks.left h) c.may_lose.ensures.more (c.write.ensures.writes.called tt);
+      left = λ spared h.
+          left_made (Make c.args.name) tt mid.folder c.write.new.self mid.cases c.may_lose.new.self c.write.result
+          (looks.left spared h) c.may_lose.ensures.more
+          (c.write.ensures.writes.called spared tt);
       still_rooted = looks.still_rooted;
+      touches = λ name now. inr tt;
       quiet = λ q. let still = looks.quiet q in record { no_script = lines ∙ still.no_script; no_turns = still.no_turns };
       quietly = λ q. (tt, (did.quietly (looks.quiet q).no_script).1 ∙ ap (effect (Writing c.args.name.now [])) (looks.quietly q));
     }
 
 pub returns-in-Ok-clause-loses : goal.returns-in-Ok-clause-loses
 returns-in-Ok-clause-loses c = λ honest.
-    let quiet = c.pass_shortly.ensures.looks.honest honest in
+    let quiet = c.in_ok-pass_shortly.ensures.others.honest honest in
     lost (Make c.args.name) c.pass_shortly.new.self c.in_ok-pass_shortly.ensures.others.keeps c.may_lose.ensures.more c.may_lose.ensures.room
     (if_ok c.may_lose.result (search rules) c.may_lose.ensures.loses) (c.in-Ok.ensures.writes.quietly quiet).1
 
@@ -55,5 +57,5 @@ returns-in-Err-clause-makes c =
     not_made _ refl
     (fails c.args.self.now mid c.write.new.self c.may_lose.new.self c.stamp_at-self.result mid.calls_left looks
     (λ h. c.write.ensures.scripted.script.lines ∙ h) (λ h. quiet_fault _ _ _ _ h c.in-Err.ensures.scripted)
-    (λ h. left_made (Make c.args.name) mid.folder c.write.new.self mid.cases c.may_lose.new.self c.write.result
-    (looks.left h) c.may_lose.ensures.more (c.write.ensures.writes.called tt)))
+    (λ spared h. left_made (Make c.args.name) tt mid.folder c.write.new.self mid.cases c.may_lose.new.self c.write.result
+    (looks.left spared h) c.may_lose.ensures.more (c.write.ensures.writes.called spared tt)))

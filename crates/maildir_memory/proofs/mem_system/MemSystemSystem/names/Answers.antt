@@ -12,7 +12,7 @@ returns-in_err-pass_shortly-in-Ok c =
     let failed = (an_error c.from_residual.result c.from_residual.ensures.0).1 in
     reads c.args.self.now c.pass_shortly.new.self c.list.new.self c.args.sub c.in-Ok.names _ c.list.ensures.scripted.script.lines
     (rw c.in-Ok.is at c.list.ensures.lists.call.quietly) c.pass_shortly.ensures.others c.pass_shortly.ensures.looks
-    (λ honest. rw failed tt) (λ quiet. rw failed tt)
+    (λ spared honest. rw failed tt) (λ quiet. rw failed tt)
 
 -- another program changed the folder meanwhile
 pub returns-in-Ok-duration_since : goal.returns-in-Ok-duration_since
@@ -20,7 +20,7 @@ returns-in-Ok-duration_since c =
     let did = c.pass_shortly.ensures in
     reads c.args.self.now c.pass_shortly.new.self c.list.new.self c.args.sub c.in-Ok.names _ c.list.ensures.scripted.script.lines
     (rw c.in-Ok.is at c.list.ensures.lists.call.quietly) did.others did.looks
-    (λ honest. elim (did.others.passes c.args.sub).stamp_is [
+    (λ spared honest. elim (did.others.passes spared honest.spares c.args.sub).stamp_is [
       | inl same ↦
           let none : as_nanos c.in-Ok-duration_since.later ≡ 0 = omega (arith, same, c.in-Ok-duration_since.ensures.ok) in
           let zero : c.is_zero.result ≡ true = c.is_zero.ensures.1 none in
@@ -32,7 +32,8 @@ pub returns-in_default : goal.returns-in_default
 returns-in_default c =
     reads c.args.self.now c.pass_shortly.new.self c.list.new.self c.args.sub c.in-Ok.names _ c.list.ensures.scripted.script.lines
     (rw c.in-Ok.is at c.list.ensures.lists.call.quietly) c.pass_shortly.ensures.others c.pass_shortly.ensures.looks
-    (λ honest. inl (rw c.in-Ok.is at (c.list.ensures.lists.names honest))) (λ quiet. rw c.in-Ok.is at (c.list.ensures.lists.names quiet.no_script))
+    (λ spared honest. inl (rw c.in-Ok.is at (c.list.ensures.lists.names honest.no_script)))
+    (λ quiet. rw c.in-Ok.is at (c.list.ensures.lists.names quiet.no_script))
 
 -- nothing was listed
 pub returns-in-Err : goal.returns-in-Err
@@ -42,7 +43,7 @@ returns-in-Err c =
     rw c.in-Err.is at (quiet_fault _ _ _ _ honest c.list.ensures.scripted) in
     record {
       looks = looks_same old c.list.new.self c.list.ensures.scripted.script.lines same;
-      passes = λ honest. passes_same c.args.sub old c.list.new.self (same honest);
-      names = λ honest. tt;
+      passes = λ spared honest. passes_same c.args.sub old c.list.new.self (same honest.no_script);
+      names = λ spared honest. tt;
       exact = λ quiet. tt;
     }

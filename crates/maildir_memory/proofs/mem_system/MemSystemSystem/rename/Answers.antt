@@ -1,4 +1,4 @@
-use Rattle.std.proofs.Common.{refl, rules}
+use Rattle.std.proofs.Common.{[], arith, refl, rules}
 use Rattle.maildir_memory.specs.declared.cases.Change.TheVariants.{Place}
 use Rattle.maildir_memory.proofs.Memory.Changes.{keeps_none, left_unmade, lost, taken}
 use Rattle.maildir_memory.proofs.Memory.Looking.{fails, fails_early, looks_begun, not_taken}
@@ -14,13 +14,14 @@ returns-in_err-map_err-clause-places c =
     let old = c.args.self.now in
     not_taken _ c.from_residual-in_err-map_err.ensures.0
     (fails old old old.folder c.may_lose.new.self old.stamp c.begin.new.calls_left looks_none (λ h. h) (λ h. refl)
-    (λ h. left_unmade (Place c.args.name c.args.place c.args.target) old.folder old.cases c.may_lose.new.self left_none c.may_lose.ensures.more))
+    (λ spared h. left_unmade (Place c.args.name c.args.place c.args.target) tt old.folder old.cases c.may_lose.new.self left_none c.may_lose.ensures.more))
 
 pub returns-in-Ok-clause-places : goal.returns-in-Ok-clause-places
 returns-in-Ok-clause-places c =
     let did = c.in-Ok.ensures.places in
-    taken (Place c.args.name c.args.place c.args.target) c.args.self.now c.place.new.self c.may_lose.new.self c.stamp_at-self.result c.begin.new.calls_left _
-    c.place.ensures.scripted.script.lines c.may_lose.ensures.more (did.called tt) did.quietly
+    taken (Place c.args.name c.args.place c.args.target) (λ spared. tt) c.args.self.now c.place.new.self c.may_lose.new.self c.stamp_at-self.result
+    c.begin.new.calls_left _
+    c.place.ensures.scripted.script.lines c.may_lose.ensures.more (λ spared. did.called spared tt) did.quietly
 
 pub returns-in-Ok-clause-loses : goal.returns-in-Ok-clause-loses
 returns-in-Ok-clause-loses c = λ honest.
@@ -31,5 +32,9 @@ returns-in-Ok-clause-loses c = λ honest.
 pub returns-in-Err-clause-places : goal.returns-in-Err-clause-places
 returns-in-Err-clause-places c =
     let did = c.in-Err.ensures.places in
-    taken (Place c.args.name c.args.place c.args.target) c.args.self.now c.place.new.self c.may_lose.new.self c.stamp_at-self.result c.begin.new.calls_left _
-    c.place.ensures.scripted.script.lines c.may_lose.ensures.more (did.called tt) did.quietly
+    taken (Place c.args.name c.args.place c.args.target) (λ spared. tt) c.args.self.now c.place.new.self c.may_lose.new.self c.stamp_at-self.result
+    c.begin.new.calls_left _
+    c.place.ensures.scripted.script.lines c.may_lose.ensures.more (λ spared. did.called spared tt) did.quietly
+
+pub returns-in-Err-clause-gone : goal.returns-in-Err-clause-gone
+returns-in-Err-clause-gone c = λ spared quiet is. record { before = []; rest = []; gone = grind arith; left = grind arith }

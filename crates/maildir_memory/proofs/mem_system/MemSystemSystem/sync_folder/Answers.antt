@@ -13,8 +13,9 @@ returns-clause-asks c =
     (looks_stayed (λ s. keys (folder_of sub s) ≡ keys (folder_of sub (files_of mid.folder))) mid c.keep_names.new.self c.keep_names.ensures.stays))
 
 pub returns-clause-names : goal.returns-clause-names
-returns-clause-names c = λ honest.
+returns-clause-names c = λ spared honest.
     let mid = c.pass_shortly.new.self in
-    let acts = c.pass_shortly.ensures.others.acts in
+    let others = c.pass_shortly.ensures.others in
+    let acts = others.acts spared honest.spares in
     names_stayed c.sub_of.ensures (world_of c.args.self.now) mid.folder mid.cases c.keep_names.new.self
-    (acts.actions, acts.files_are) c.pass_shortly.ensures.others.left c.keep_names.ensures.stays
+    (acts.actions, acts.files_are) (others.left spared honest.spares) c.keep_names.ensures.stays

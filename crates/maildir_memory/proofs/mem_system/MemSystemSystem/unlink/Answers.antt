@@ -14,13 +14,13 @@ returns-in_err-map_err-clause-removes c =
     let old = c.args.self.now in
     not_taken _ c.from_residual-in_err-map_err.ensures.0
     (fails old old old.folder c.may_lose.new.self old.stamp c.begin.new.calls_left looks_none (λ h. h) (λ h. refl)
-    (λ h. left_unmade (Remove c.args.name) old.folder old.cases c.may_lose.new.self left_none c.may_lose.ensures.more))
+    (λ spared h. left_unmade (Remove c.args.name) tt old.folder old.cases c.may_lose.new.self left_none c.may_lose.ensures.more))
 
 pub returns-in-Ok-clause-removes : goal.returns-in-Ok-clause-removes
 returns-in-Ok-clause-removes c =
     let did = c.in-Ok.ensures.removes in
-    taken (Remove c.args.name) c.args.self.now c.remove.new.self c.may_lose.new.self c.stamp_at-self.result c.begin.new.calls_left _
-    c.remove.ensures.scripted.script.lines c.may_lose.ensures.more (did.called tt) did.quietly
+    taken (Remove c.args.name) (λ spared. tt) c.args.self.now c.remove.new.self c.may_lose.new.self c.stamp_at-self.result c.begin.new.calls_left _
+    c.remove.ensures.scripted.script.lines c.may_lose.ensures.more (λ spared. did.called spared tt) did.quietly
 
 pub returns-in-Ok-clause-loses : goal.returns-in-Ok-clause-loses
 returns-in-Ok-clause-loses c = λ honest.
@@ -31,5 +31,5 @@ returns-in-Ok-clause-loses c = λ honest.
 pub returns-in-Err-clause-removes : goal.returns-in-Err-clause-removes
 returns-in-Err-clause-removes c =
     let did = c.in-Err.ensures.removes in
-    taken (Remove c.args.name) c.args.self.now c.remove.new.self c.may_lose.new.self c.stamp_at-self.result c.begin.new.calls_left _
-    c.remove.ensures.scripted.script.lines c.may_lose.ensures.more (did.called tt) did.quietly
+    taken (Remove c.args.name) (λ spared. tt) c.args.self.now c.remove.new.self c.may_lose.new.self c.stamp_at-self.result c.begin.new.calls_left _
+    c.remove.ensures.scripted.script.lines c.may_lose.ensures.more (λ spared. did.called spared tt) did.quietly

@@ -1,4 +1,4 @@
--- The names of a Maildir's folders.
+-- The paths of a Maildir.
 use Rattle.std.specs.Prelude.{ℕ, List, codes}
 use Rattle.maildir_run.specs.declared.folder.Sub.{Sub}
 use Rattle.maildir_run.specs.declared.folder.Sub.TheVariants.{Tmp, New, Cur}

@@ -1,0 +1,45 @@
+// What other programs do at their turns to a Maildir in memory.
+ghost use Rattle.std.specs.Prelude.{◌≡◌, IfErr, OnErr, OnOk};
+ghost use Rattle.maildir_run.specs.MemFolder.{SameScript, files_of};
+ghost use Rattle.maildir_memory.specs.Private.TurnActs.{half_turned, turned};
+
+use maildir_run::{Act, FolderFault, MemFolder, Sub};
+
+/// What another program does at its turn.
+#[derive(Drop)]
+pub enum TurnAct {
+    /// What a mail reader may do to any message, or anything to a file whose name is not a converter's.
+    Reader(Act),
+    /// Deletes a file, whatever its name.
+    Delete(Sub, String),
+}
+
+impl TurnAct {
+    pub(crate) fn perform(&self, folder: &mut MemFolder) -> Result<(), FolderFault>
+        ensures ok { OnOk result (files_of folder.new ≡ turned self.now (files_of folder.old)) }
+        ensures err { OnErr result (files_of folder.new ≡ files_of folder.old) }
+        ensures script { SameScript folder.old folder.new }
+        ensures refused { IfErr result (λ fault. fault ≡ FolderFault.OutOfMemory) }
+    {
+        match self {
+            TurnAct::Reader(act) => folder.act(act),
+            TurnAct::Delete(sub, name) => {
+                folder.delete(*sub, name.as_str());
+                Ok(())
+            }
+        }
+    }
+
+    /// Half of it: a file that is moved is under both names. Of anything else half is nothing.
+    pub(crate) fn perform_half(&self, folder: &mut MemFolder) -> Result<(), FolderFault>
+        ensures ok { OnOk result (files_of folder.new ≡ half_turned self.now (files_of folder.old)) }
+        ensures err { OnErr result (files_of folder.new ≡ files_of folder.old) }
+        ensures script { SameScript folder.old folder.new }
+        ensures refused { IfErr result (λ fault. fault ≡ FolderFault.OutOfMemory) }
+    {
+        match self {
+            TurnAct::Reader(act) => folder.act_half(act),
+            TurnAct::Delete(_, _) => Ok(()),
+        }
+    }
+}

@@ -1,0 +1,124 @@
+"""What a migration is made of: the record, digests of beginnings, what of a text is in a folder, and what a child tells."""
+import hashlib
+import os
+import unittest
+from pathlib import Path
+
+from context import A, folder
+from mbox2maildir_admin.children import LONGEST, Child, row_of
+from mbox2maildir_admin.faults import Fault
+from mbox2maildir_admin.handle import Digest, Handle
+from mbox2maildir_admin.inventory import Inventory
+from mbox2maildir_admin.outcome import DONE
+from mbox2maildir_admin.presence import Presence
+from mbox2maildir_admin.record import BACK, BEGUN, CONVERTED, MOST, NAME, Record
+
+ONE, TWO = b"Subject: 1\n\none\n", b"Subject: 2\n\ntwo\n"
+
+
+class FolderTest(unittest.TestCase):
+    def setUp(self):
+        entered = folder()
+        self.here = entered.__enter__()
+        self.addCleanup(entered.__exit__, None, None, None)
+
+
+class RecordTest(FolderTest):
+    KEY = b".", 10, "a" * 64
+
+    def test_steps(self):
+        with Record.open(self.here) as record:
+            for step, messages in ((BEGUN, 3), (BACK, 2), (BEGUN, 3), (BACK, 1), (CONVERTED, 3), ("wrote", 0)):
+                record.add(step, self.KEY, messages, b"/box\n")
+            self.assertRaisesRegex(Fault, "another migrate is at work", Record.open, self.here)
+        with Record.open(self.here, make=False) as record:
+            self.assertEqual((record.steps, record.back[self.KEY]), ({self.KEY: CONVERTED}, 3))
+            self.assertEqual([line.path for line in record.notes("wrote", b".")], ["/box\\x0a"])
+            self.assertLess(abs(record.begun_at(self.KEY) - os.stat(self.here).st_mtime), 5)
+
+    def test_torn_line(self):
+        path = Path(os.fsdecode(os.path.join(self.here, NAME)))
+        path.write_bytes(b"done\t.\t10\t" + b"a" * 64)
+        path.chmod(0o600)
+        with Record.open(self.here) as record:
+            self.assertEqual(record.steps, {})
+            record.add(BEGUN, self.KEY, 1, b"/box")
+        with Record.open(self.here) as record:
+            self.assertEqual(record.steps, {self.KEY: BEGUN})
+
+    def test_full(self):
+        path = Path(os.fsdecode(os.path.join(self.here, NAME)))
+        path.write_bytes(b"\n" * MOST)
+        path.chmod(0o600)
+        with Record.open(self.here) as record:
+            self.assertRaisesRegex(Fault, "it is full", record.add, BEGUN, self.KEY, 1, b"/box")
+
+    def test_beginning(self):
+        with Record.open(self.here) as record:
+            digests = {size: str(size) * 32 for size in (10, 20, 30)}
+            for size, step in ((10, DONE), (20, BEGUN), (30, DONE)):
+                record.add(step, (b".", size, digests[size]), 1, b"/box")
+            self.assertEqual(record.beginning(b".", 30, digests), (10, (20, BEGUN)))
+            self.assertEqual(record.beginning(b".x", 30, digests), (0, None))
+
+
+class DigestTest(unittest.TestCase):
+    def test_beginnings(self):
+        digest = Digest((3, 7, 100))
+        for offset, block in ((0, b"abcd"), (9, b"xx"), (4, b"efgh")):
+            digest.add(offset, block)
+        wanted = {size: hashlib.sha256(b"abcdefgh"[:size]).hexdigest() for size in (3, 7)}
+        self.assertEqual((digest.beginnings, digest.hash.hexdigest()), (wanted, hashlib.sha256(b"abcdefgh").hexdigest()))
+
+
+class PresenceTest(FolderTest):
+    def look(self, bodies, files):
+        """Looks for messages among files."""
+        for sub in (b"new", b"cur"):
+            os.mkdir(os.path.join(self.here, sub))
+        for name, body in files.items():
+            Path(os.fsdecode(self.here), name).write_bytes(body)
+        text = Path(os.fsdecode(self.here), "text")
+        text.write_bytes(b"".join(A.split(b"\n")[0] + b"\n" + body + b"\n" for body in bodies))
+        with Handle(os.fsencode(str(text)), os.open(str(text), os.O_RDONLY)) as handle:
+            return Presence.look(self.here, Inventory.read(handle, 0))
+
+    def test_equal_messages(self):
+        base = hashlib.sha256(ONE).hexdigest()
+        seen = self.look([ONE, TWO, ONE, ONE], {"new/" + base + ".2": ONE, "cur/17.host,U=1:2,S": ONE})
+        self.assertEqual((seen.count(), seen.nowhere(), seen.is_plain(0)), (2, 2, False))
+        # a text with as many equal messages as leave one without a home: the second has one
+        self.assertEqual(seen.wanted(0), [0, 1])
+
+    def test_growth(self):
+        seen = self.look([ONE, TWO, ONE], {"new/" + hashlib.sha256(ONE).hexdigest() + ".1": ONE})
+        self.assertFalse(seen.is_plain(2))
+        self.assertEqual(seen.wanted(2), [0, 2])
+
+
+class ChildTest(unittest.TestCase):
+    def test_rows(self):
+        row = row_of(["\x1b[2J", ".", "a\nb", 3, "done", "\0"])
+        self.assertEqual((row.path, row.kind, row.why), (b"\x1b[2J", "a\\x0ab", "\\x00"))
+        for words in ([], ["", "", "", 1, "fine", ""], ["", "", "", "x", "done", ""], [[], "", "", 1, "done", ""]):
+            self.assertRaises((ValueError, AttributeError), row_of, words)
+
+    def test_lines(self):
+        told, tell = os.pipe()
+        child, rows = Child("mia", 0, told, 0), []
+
+        class Reporter:
+            def row(self, row, name):
+                rows.append((name, row.verdict))
+
+        reporter = Reporter()
+        for piece in (b"x" * LONGEST, b"x\n", b'["row"]\n{}\n7\n["row", "", ".", "", 1, "done", ""]\n', b'["end"]\n'):
+            os.write(tell, piece)
+            child.hear(reporter)
+        self.assertEqual((rows, child.has_ended_well), ([("mia", "done")], True))
+        os.close(told)
+        os.close(tell)
+
+
+if __name__ == "__main__":
+    unittest.main()
