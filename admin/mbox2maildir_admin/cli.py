@@ -91,6 +91,7 @@ def add_migrate(words):
     one.add_argument("--dry-run", action="store_true", help="print what would be done, and make nothing")
     one.add_argument("--folder", metavar="NAME", help="the folder of MAILDIR into which the mailboxes go")
     one.add_argument("--again", action="store_true", help="convert one mailbox whatever stands there")
+    one.add_argument("--dovecot", action="store_true", help="write Dovecot's files, so that its clients see no change")
     one.add_argument("--users", action="store_true", help="as root: migrate the mailboxes of a spool, each as its user")
     one.add_argument("--maildir", metavar="NAME", default="Maildir", help="with --users: the Maildir of each home (Maildir)")
     one.add_argument("--tree", metavar="NAME", help="with --users: a folder of mailboxes, or a mailbox, of each home too")

@@ -5,6 +5,7 @@ import sys
 
 from . import ADMIN
 from .converting import Program
+from .dovecot import OLD_SUBSCRIPTIONS, SUBSCRIPTIONS, Dovecot, subscribe
 from .faults import Fault, OutputFault, PlaceFault
 from .migrating import Migration
 from .outcome import INBOX, LEFT, Row
@@ -104,8 +105,25 @@ def run_all(words, root, names, reporter, program, own=False):
         for one in plan:
             reporter.begin()
             work = Migration(program, root, record, lambda *says, path=one.path: reporter.progress(shown(path), *says),
-                             words.dry_run, words.again)
+                             words.dry_run, words.again, Dovecot(record) if words.dovecot else None)
             reporter.row(with_name(run_one(work, one, root, own, names), one))
+        if words.dovecot and not words.dry_run:
+            subscribe_all(root, [name for name in names if is_tree(name, own)], record, reporter)
+
+
+def subscribe_all(root, trees, record, reporter):
+    """Writes the subscriptions of trees; what can't be written is reported."""
+    for tree in trees:
+        names = subscribe(root, tree, record)
+        if names:
+            why = "%s is there; what is not in it yet belongs into it: %s" % (
+                shown(os.path.join(root, SUBSCRIPTIONS)), " ".join(map(word, names)))
+            reporter.row(Row(os.path.join(tree, OLD_SUBSCRIPTIONS), INBOX, "", None, LEFT, why))
+
+
+def is_tree(name, own):
+    """Whether a name is that of a folder of mailboxes, and no link where none is followed."""
+    return os.path.isdir(name) and not (own and os.path.islink(name))
 
 
 def run_one(work, one, root, own, names):
@@ -130,7 +148,7 @@ def plan_of(words, names, reporter, own):
     # an Inbox of a user's tree is not the user's mailbox
     taken = {INBOX} if own else set()
     for name in names:
-        if not os.path.isdir(name) or own and os.path.islink(name):
+        if not is_tree(name, own):
             folder = on_disk(folder_of(words.folder)) if words.folder else INBOX
             taken.add(folder)
             yield Planned(name, folder)
