@@ -4,13 +4,13 @@ Dovecot reads them at its first look, so they are written before that, and never
 """
 import hashlib
 import os
+import stat
 
 from .dovecot_headers import LETTERS, Reading, header_at, info_of, internal_head
 from .maildir import paths_of
 from .messages import messages_of
 from .migrating import Extra
 from .outcome import Left
-from .presence import is_file
 from .record import sync_folder
 from .terminal import shown, word
 from .trees import folder_of
@@ -153,6 +153,14 @@ def place_file(folder, name, text, record):
     finally:
         os.unlink(part)
     sync_folder(folder)
+
+
+def is_file(path):
+    """Whether a path is that of a plain file."""
+    try:
+        return stat.S_ISREG(os.lstat(path).st_mode)
+    except OSError:
+        return False
 
 
 def content_of(path):

@@ -128,8 +128,11 @@ class Reading:
         fields, uid = fields_of(header), 0
         first = not self.uids and not self.head
         for field in fields:
-            head = head_of(field) if first and not self.head else None
-            if head:
+            head = head_of(field) if first else None
+            if head and self.head:
+                # a second one is Dovecot's to the last UID alone
+                self.last = max(self.last, head.last)
+            elif head:
                 self.begin(head)
                 # a UID before it counts for nothing
                 self.hides_first, uid = head.is_hidden, 0
