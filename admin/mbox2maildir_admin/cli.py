@@ -86,8 +86,8 @@ def add_migrate(words):
               "is done there is never converted again. A MAILBOX that is a folder of mailboxes becomes folders of MAILDIR. With "
               "--users the mailboxes of the folder OLD are those of the users that they are named after, and each is migrated "
               "with its user's rights into a Maildir of the home. Status 0 only where each mailbox is done and verified.")
-    one.usage = ("%s migrate [--dry-run] [--folder NAME] [--again] MAILDIR MAILBOX...\n       %s migrate --users [--dry-run] "
-                 "[--maildir NAME] [--tree NAME] [--jobs N] [--again] OLD [NAME...]" % (ADMIN, ADMIN))
+    one.usage = ("%s migrate [--dry-run] [--folder NAME] [--again] [--dovecot] MAILDIR MAILBOX...\n       %s migrate --users "
+                 "[--dry-run] [--maildir NAME] [--tree NAME] [--jobs N] [--again] [--dovecot] OLD [NAME...]" % (ADMIN, ADMIN))
     one.add_argument("--dry-run", action="store_true", help="print what would be done, and make nothing")
     one.add_argument("--folder", metavar="NAME", help="the folder of MAILDIR into which the mailboxes go")
     one.add_argument("--again", action="store_true", help="convert one mailbox whatever stands there")

@@ -171,8 +171,7 @@ def do_dates(words):
 def date_file(maildir, file, by_header):
     """Gives the files of one mailbox their dates, and says which have none."""
     with open_text(file, maildir) as (source, start):
-        start = left_out(source, maildir, start)
-        dating = give_dates(maildir, source, by_header, start, 1 + source.at(0, start).count(b"\n"))
+        dating = give_dates(maildir, source, by_header, *left_out(source, start, maildir))
         if dating.one_date is not None:
             complain("%s: all From_ lines have one date: %s" % (shown(file), shown(dating.one_date.rstrip())))
         for count, line in enumerate(dating.undone(maildir)):
@@ -192,8 +191,7 @@ def do_verify(words):
 def verify_file(maildir, file):
     """Says what of one mailbox is there, and answers whether each message is, once."""
     with open_text(file, maildir) as (source, start):
-        start = left_out(source, maildir, start)
-        verified = verify(maildir, source, start, 1 + source.at(0, start).count(b"\n"))
+        verified = verify(maildir, source, *left_out(source, start, maildir))
     states = [verified.count(state) for state in (THERE, RENAMED, OTHER, NOWHERE)]
     put("%s: messages %d, bytes %d, there %d, under another name %d, other bytes %d, nowhere %d, doubles %d" % (
         shown(file), len(verified.sizes), sum(verified.sizes), *states, len(verified.doubles)))

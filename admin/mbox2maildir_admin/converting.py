@@ -3,10 +3,7 @@ import os
 import select
 import subprocess
 
-from . import PROGRAM
-from .faults import Fault
 from .outcome import Failed
-from .source import BLOCK
 
 # how often it is said how far a conversion is, in milliseconds
 BEAT = 300
@@ -55,35 +52,3 @@ class Program:
                     return said.decode("utf-8", "replace").strip()
                 said = (said + piece)[:MOST_SAID]
             source.say("converting", os.lseek(source.number, 0, os.SEEK_CUR), source.size)
-
-    def listing(self, source, start):
-        """What the program lists of a text from an offset on."""
-        os.lseek(source.number, start, os.SEEK_SET)
-        return OpenListing(self.path, source)
-
-
-class OpenListing:
-    """What the program lists of an open text, to be compared message by message."""
-
-    def __init__(self, path, source):
-        self.child = subprocess.Popen([path, b"list"], stdin=source.number, stdout=subprocess.PIPE, stderr=subprocess.DEVNULL,
-                                      bufsize=BLOCK)
-
-    def __enter__(self):
-        return self
-
-    def __exit__(self, *_):
-        self.child.kill()
-        self.child.communicate()
-
-    def compare(self, message, base):
-        """A fault where the next line is not of this message."""
-        row = self.child.stdout.readline().split(b" ")
-        wanted = [b"%d" % message.number, message.hash.hexdigest().encode() + base[32:], b"%d" % message.size]
-        if row[:2] + row[4:5] != wanted:
-            raise Fault("line %d: message %d is not as `%s list` has it" % (message.line, message.number, PROGRAM))
-
-    def end(self):
-        """A fault where there is more, or the program failed."""
-        if self.child.stdout.read() or self.child.wait():
-            raise Fault("`%s list` has more messages, or failed" % PROGRAM)

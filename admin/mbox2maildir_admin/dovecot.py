@@ -4,13 +4,13 @@ Dovecot reads them at its first look, so they are written before that, and never
 """
 import hashlib
 import os
+import stat
 
 from .dovecot_headers import LETTERS, Reading, header_at, info_of, internal_head
 from .maildir import paths_of
 from .messages import messages_of
 from .migrating import Extra
 from .outcome import Left
-from .presence import is_file
 from .record import sync_folder
 from .terminal import shown, word
 from .trees import folder_of
@@ -87,14 +87,15 @@ class Dovecot(Extra):
         return any(note.digest == digest and os.fsencode(note.path) == name for note in self.record.notes(WROTE, work.name))
 
 
-def left_out(source, maildir, start):
-    """Where the text of a mailbox goes on that begins there: after the message that is left out with its numbers, unless the
-    Maildir has it."""
+def left_out(source, start, maildir):
+    """Where the messages of a text begin that begins at `start`, and in which line: after the message that is left out with its
+    numbers, unless the Maildir has it."""
     head, end = internal_head(source, start)
-    if not head:
-        return start
-    base = next(messages_of(source, start)).hash.hexdigest().encode() + b".1"
-    return start if any(name.startswith(base) for name, _ in paths_of(maildir)) else end
+    if head:
+        base = next(messages_of(source, start)).hash.hexdigest().encode() + b".1"
+        if not any(name.startswith(base) for name, _ in paths_of(maildir)):
+            start = end
+    return start, 1 + source.at(0, start).count(b"\n")
 
 
 def is_beginning(work, note):
@@ -152,6 +153,14 @@ def place_file(folder, name, text, record):
     finally:
         os.unlink(part)
     sync_folder(folder)
+
+
+def is_file(path):
+    """Whether a path is that of a plain file."""
+    try:
+        return stat.S_ISREG(os.lstat(path).st_mode)
+    except OSError:
+        return False
 
 
 def content_of(path):

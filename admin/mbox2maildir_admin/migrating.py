@@ -18,7 +18,7 @@ from .record import BACK, BEGUN, CONVERTED, FAILED, LAST
 from .room import make_maildir, want_room, what_fails
 from .terminal import shown, word
 from .unnamed import copy_of_some, quoted_copy, quoted_size
-from .verifying import NOWHERE
+from .verifying import NOWHERE, Listing
 
 SYNC_FAILED = ("its sync failed: mount the disk anew, and look into the system's log, before anything there is believed; then "
                "--again")
@@ -151,7 +151,7 @@ class Migration:
         else:
             work.start = work.plan.start
         work.start = self.extra.start_of(work.source, work.start)
-        with self.program.listing(work.source, work.start) as listing:
+        with Listing.open(work.source, work.start, self.program.path) as listing:
             work.inventory = Inventory.read(work.source, work.start, listing)
         if work.done_size:
             self.find_first(work)

@@ -32,12 +32,11 @@ class Listing:
 
     @classmethod
     @contextlib.contextmanager
-    def open(cls, source, start=0):
-        """The list of a text that begins at an offset, by a handle of its own."""
-        with open("/proc/self/fd/%d" % source.number, "rb", 0) as file:
-            file.seek(start)
-            child = subprocess.Popen([find_program(), "list"], stdin=file, stdout=subprocess.PIPE, stderr=subprocess.DEVNULL,
-                                     bufsize=BLOCK)
+    def open(cls, source, start=0, program=None):
+        """The list of a text that begins at an offset. The place of the source's own handle is moved."""
+        os.lseek(source.number, start, os.SEEK_SET)
+        child = subprocess.Popen([program or find_program(), "list"], stdin=source.number, stdout=subprocess.PIPE,
+                                 stderr=subprocess.DEVNULL, bufsize=BLOCK)
         try:
             yield cls(child)
         finally:
