@@ -84,7 +84,8 @@ class Dovecot(Extra):
         if name not in (KEYWORDS, LIST) or not is_file(path):
             return False
         digest = hashlib.sha256(content_of(path)).hexdigest()
-        return any(note.digest == digest and os.fsencode(note.path) == name for note in self.record.notes(WROTE, work.name))
+        return any(note.digest == digest and os.path.basename(note.path) == os.fsdecode(name)
+                   for note in self.record.notes(WROTE, work.name))
 
 
 def left_out(source, start, maildir):
