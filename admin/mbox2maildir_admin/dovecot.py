@@ -140,7 +140,7 @@ def place_file(folder, name, text, record):
         if is_file(path) and content_of(path) == text:
             return
         raise Left("an earlier run left another %s; next: rm %s" % (shown(name), word(path)))
-    record(name, len(text), hashlib.sha256(text).hexdigest())
+    record(path, len(text), hashlib.sha256(text).hexdigest())
     if os.path.lexists(part):
         os.unlink(part)
     with open(os.open(part, os.O_WRONLY | os.O_CREAT | os.O_EXCL | os.O_CLOEXEC, 0o600), "wb") as file:
