@@ -84,7 +84,8 @@ class Dovecot(Extra):
         if name not in (KEYWORDS, LIST) or not is_file(path):
             return False
         digest = hashlib.sha256(content_of(path)).hexdigest()
-        return any(note.digest == digest and os.fsencode(note.path) == name for note in self.record.notes(WROTE, work.name))
+        return any(note.digest == digest and os.path.basename(note.path) == os.fsdecode(name)
+                   for note in self.record.notes(WROTE, work.name))
 
 
 def left_out(source, start, maildir):
@@ -139,7 +140,7 @@ def place_file(folder, name, text, record):
         if is_file(path) and content_of(path) == text:
             return
         raise Left("an earlier run left another %s; next: rm %s" % (shown(name), word(path)))
-    record(name, len(text), hashlib.sha256(text).hexdigest())
+    record(path, len(text), hashlib.sha256(text).hexdigest())
     if os.path.lexists(part):
         os.unlink(part)
     with open(os.open(part, os.O_WRONLY | os.O_CREAT | os.O_EXCL | os.O_CLOEXEC, 0o600), "wb") as file:

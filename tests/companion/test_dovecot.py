@@ -126,7 +126,7 @@ class FilesTest(unittest.TestCase):
             noted = []
             place_file(here, b"dovecot-uidlist", b"text", lambda *says: noted.append(says))
             place_file(here, b"dovecot-uidlist", b"text", lambda *says: self.fail("it is there"))
-            self.assertEqual(noted[0][:2], (b"dovecot-uidlist", 4))
+            self.assertEqual(noted[0][:2], (here + b"/dovecot-uidlist", 4))
             with self.assertRaises(Left):
                 place_file(here, b"dovecot-uidlist", b"other", lambda *says: None)
             files = sorted(path.name for path in Path(here.decode()).rglob("*"))

@@ -1,4 +1,5 @@
 """A Dovecot of its own for a test: its configuration, its folder, its ports on the loopback, and what it shows of a mailbox."""
+import grp
 import imaplib
 import os
 import poplib
@@ -108,7 +109,7 @@ class Dovecot:
         os.makedirs(f"{self.folder}/home")
         os.chmod(self.folder, 0o755)
         me = pwd.getpwuid(os.geteuid())
-        names = [me.pw_name] * 3
+        names = [me.pw_name, grp.getgrgid(me.pw_gid).gr_name, me.pw_name]
         if os.geteuid() == 0:
             names = ["dovecot", "dovecot", "dovenull"]
         with open(self.configuration, "w", encoding="utf-8") as file:
