@@ -23,7 +23,7 @@ BY_ITSELF = "Dovecot has looked at this folder, and numbers by itself for good; 
 
 
 class Dovecot(Extra):
-    """Numbers, flags and keywords of a mailbox, as Dovecot's mbox driver read them, go into the folder of its Maildir."""
+    """Brings numbers, flags and keywords of a mailbox, as Dovecot's mbox driver read them, into the folder."""
 
     def __init__(self, record):
         self.record = record
@@ -70,8 +70,8 @@ class Dovecot(Extra):
                 raise Left("%s is there: %s" % (shown(name), BY_ITSELF))
         last = self.record.notes(NUMBERED, work.name)
         if last and not is_beginning(work, last[-1]):
-            raise Left("%s has the numbers of another mailbox, and Dovecot numbers these messages after them; next: the same without "
-                       "--dovecot" % shown(work.name))
+            raise Left("%s has the numbers of another mailbox, and Dovecot numbers these messages after them; next: "
+                       "the same without --dovecot" % shown(work.name))
         if LIST in there:
             return ["Dovecot numbers what is new"] if work.first else []
         if work.first:
@@ -89,8 +89,8 @@ class Dovecot(Extra):
 
 
 def left_out(source, start, maildir):
-    """Where the messages of a text begin that begins at `start`, and in which line: after the message that is left out with its
-    numbers, unless the Maildir has it."""
+    """Where the messages of a text begin that begins at `start`, and in which line: after the message that is left out
+    with its numbers, unless the Maildir has it."""
     head, end = internal_head(source, start)
     if head:
         base = next(messages_of(source, start)).hash.hexdigest().encode() + b".1"
@@ -105,7 +105,7 @@ def is_beginning(work, note):
 
 
 def rename(folder, inventory, marks):
-    """Gives each message the flags and keywords of its marks, and answers the names of the files by the places of the messages."""
+    """Gives each message the flags and keywords of its marks, and answers the names of the files by their places."""
     files = {}
     for name, path in list(paths_of(folder)):
         place = inventory.place(name)
@@ -182,7 +182,7 @@ def subscriptions_of(old):
 
 
 def subscribe(root, old, record):
-    """Writes the subscriptions of a tree, in Dovecot's form, and answers those that could not be, since a file was there."""
+    """Writes the subscriptions of a tree, in Dovecot's form, and answers those that aren't, where a file was there."""
     names = subscriptions_of(old)
     text = FORM + b"".join(name.replace(b".", b"\t") + b"\n" for name in names)
     path = os.path.join(root, SUBSCRIPTIONS)

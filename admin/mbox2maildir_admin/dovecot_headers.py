@@ -1,7 +1,7 @@
 """What Dovecot's mbox driver keeps in the headers of a mailbox: UIDVALIDITY, UIDs, keywords and flags.
 
-Messages come from strangers, and so may these headers. They count as they do for Dovecot 2.3, so that a client sees after a
-conversion what it saw before.
+Messages come from strangers, and so may these headers. They count as they do for Dovecot 2.3, so that a client sees
+after a conversion what it saw before.
 """
 import array
 import re
@@ -13,7 +13,8 @@ from .source import BLOCK
 MOST_VALIDITY, MOST_UID, LETTERS = (1 << 32) - 1, 4294967293, 26
 LONGEST_KEYWORD, LONGEST_INTERNAL = 50, 1 << 13
 
-FIELD = re.compile(rb"^(x-imapbase|x-imap|x-uid|x-keywords|x-status|status)([ \t]*):([^\n]*(?:\n[ \t][^\n]*)*)", re.I | re.M)
+FIELD = re.compile(rb"^(x-imapbase|x-imap|x-uid|x-keywords|x-status|status)([ \t]*):([^\n]*(?:\n[ \t][^\n]*)*)",
+                   re.I | re.M)
 HEADER_END = re.compile(rb"(?:\A|\n)\r?(?:\n|From )")
 HEAD = re.compile(rb"[ \t]?([0-9]+) [ \t\r\n]*([0-9]+)(?=[ \t\r\n]|\Z)")
 UID = re.compile(rb"[ \t]?([0-9]+)[ \t\r]*\Z")
@@ -22,8 +23,8 @@ NO_KEYWORD = re.compile(rb"[^!-~]|[(){%*\"\\\]]")
 INTERNAL_SUBJECT = b"DON'T DELETE THIS MESSAGE -- FOLDER INTERNAL DATA"
 INTERNAL_BODY = re.compile(
     rb"This text is part of the internal format of your mail folder, and is not\s+a real message\.\s+"
-    rb"It is created automatically by the mail system software\.\s+If deleted, important folder data will be lost, and it will be "
-    rb"re-created\s+with the data reset to initial values\.\s*\Z")
+    rb"It is created automatically by the mail system software\.\s+If deleted, important folder data will be lost, "
+    rb"and it will be re-created\s+with the data reset to initial values\.\s*\Z")
 SUBJECT = re.compile(rb"^subject:[ \t]*([^\r\n]*?)[ \t]*\r?$", re.I | re.M)
 
 # the flags of Dovecot by their letters in Status and X-Status, and the letters of a Maildir
@@ -34,7 +35,7 @@ CONVERTED = {b"A": "R", b"D": "T", b"F": "F", b"R": "S"}
 
 
 class Head(NamedTuple):
-    """What an `X-IMAPbase` or `X-IMAP` of the first message says, and whether that is the message which Dovecot hides."""
+    """What an `X-IMAPbase` or `X-IMAP` of the first message says, and whether Dovecot hides that message."""
     validity: int
     last: int
     keywords: List[bytes]
@@ -42,7 +43,7 @@ class Head(NamedTuple):
 
 
 class Field(NamedTuple):
-    """A line of a header that Dovecot writes: its name in lower case, its value, and whether blanks stand before the colon."""
+    """A field that Dovecot writes: its name in lower case, its value, and whether blanks stand before the colon."""
     name: bytes
     value: bytes
     is_spaced: bool = False
@@ -88,8 +89,8 @@ def keywords_of(value) -> List[bytes]:
 
 
 def internal_head(source, start):
-    """The head of the message by which Dovecot and UW-IMAP keep an empty mailbox, to the letter, where that stands first in a text
-    that starts there, and where it ends; no head where it doesn't."""
+    """The head of the message by which Dovecot and UW-IMAP keep an empty mailbox, to the letter, where that stands
+    first in a text that starts there, and where it ends; no head where it doesn't."""
     text = source.at(start, LONGEST_INTERNAL)
     message, following, _ = text.partition(b"\nFrom ")
     message += b"\n" * bool(following)
@@ -143,7 +144,7 @@ class Reading:
         self.marks.append(marks_of(fields, self.names))
 
     def kept(self, value):
-        """The UID of a value which a message keeps: one that rises, and is no higher than the next; 0 where it is none."""
+        """The UID of a value, where the message keeps it: it rises, and is no higher than the next. Else 0."""
         found = UID.match(value)
         number = number_of(found.group(1)) if found else 0
         return number if self.previous < number <= self.last + 1 else 0
@@ -161,8 +162,8 @@ class Reading:
         return uid
 
     def numbers(self, moment):
-        """UIDVALIDITY, the next UID, and the places of the messages by their UIDs. Where nothing was kept, UIDVALIDITY is that
-        moment, in seconds since 1970, and the numbers begin at 1."""
+        """UIDVALIDITY, the next UID, and the places of the messages by their UIDs. Where nothing was kept, UIDVALIDITY
+        is that moment, in seconds since 1970, and the numbers begin at 1."""
         order = list(range(self.hides_first, len(self.uids)))
         if self.hides_first:
             order.append(0)
@@ -174,8 +175,8 @@ class Reading:
 
 
 def marks_of(fields, names):
-    """The flags and keywords of a message in bits: from 0 on its keywords by their places, from 32 on the flags that Dovecot
-    reads, and from 40 on those that mbox2maildir gave it."""
+    """The flags and keywords of a message in bits: from 0 on its keywords by their places, from 32 on the flags that
+    Dovecot reads, and from 40 on those that mbox2maildir gave it."""
     marks, first = 0, {}
     keywords = None
     for field in fields:

@@ -90,7 +90,8 @@ def want_roots(path, root, names):
     except KeyError:
         raise PlaceFault("%s: it belongs to the user %d; run this as that one" % (shown(path), owner)) from None
     words = " ".join(word(os.path.abspath(name)) for name in [root, *names])
-    raise PlaceFault("%s: it belongs to %s; next: runuser -u %s -- %s migrate %s" % (shown(path), user, user, ADMIN, words))
+    raise PlaceFault("%s: it belongs to %s; next: runuser -u %s -- %s migrate %s" % (
+        shown(path), user, user, ADMIN, words))
 
 
 def run_all(words, root, names, reporter, program, own=False):

@@ -20,8 +20,8 @@ from .terminal import shown, word
 from .unnamed import copy_of_some, quoted_copy, quoted_size
 from .verifying import NOWHERE, Listing
 
-SYNC_FAILED = ("its sync failed: mount the disk anew, and look into the system's log, before anything there is believed; then "
-               "--again")
+SYNC_FAILED = ("its sync failed: mount the disk anew, and look into the system's log, before anything there is "
+               "believed; then --again")
 FOLDER_CALL = re.compile(r"folder call (\d+) failed")
 # the calls that list a folder, which come first; a sync comes last
 LISTINGS = 3
@@ -59,7 +59,8 @@ class Work:
         """What became of it."""
         if self.plan:
             kind, messages = kind or self.plan.kind, self.plan.messages if messages is None else messages
-        return Row(self.handle.path, self.name, kind, messages, verdict, "; ".join(self.remarks) if why is None else why)
+        why = "; ".join(self.remarks) if why is None else why
+        return Row(self.handle.path, self.name, kind, messages, verdict, why)
 
     def has_changed(self):
         """Whether the mailbox is another than the one that was looked at."""
@@ -163,8 +164,8 @@ class Migration:
         if work.source is not work.handle:
             if not work.plan.quoting:
                 path = work.handle.path
-                raise Left("it grew after it was done, and what is new can't be told from its copy; next: tail -c +%d %s >%s, and "
-                           "migrate that" % (size + 1, word(path), word(path + b".rest")))
+                raise Left("it grew after it was done, and what is new can't be told from its copy; next: tail -c +%d "
+                           "%s >%s, and migrate that" % (size + 1, word(path), word(path + b".rest")))
             size = quoted_size(work.handle, work.plan, size)
         work.first = bisect.bisect_left(offsets, size)
         if offsets[work.first] == size:
@@ -197,12 +198,13 @@ class Migration:
         self.record.add("done", work.key, len(work.inventory), work.handle.path)
 
     def look_into_folder(self, work):
-        """What of the mailbox is there. Left where some is, and no record says why; or where there is no room for the rest."""
+        """What of the mailbox is there. Left where some is and no record says why, or without room for the rest."""
         seen = Presence.look(work.folder, work.inventory, self.say)
         if work.before is None and not self.again and 0 < seen.count() < len(work.inventory):
-            raise Left("%d of its messages are there, and no record says why: if it was rewritten since, --again doubles what "
-                       "changed, and brings back what was deleted" % seen.count())
-        sizes = [size for place, size in enumerate(work.inventory.sizes) if place >= work.first and seen.is_nowhere(place)]
+            raise Left("%d of its messages are there, and no record says why: if it was rewritten since, --again "
+                       "doubles what changed, and brings back what was deleted" % seen.count())
+        sizes = [size for place, size in enumerate(work.inventory.sizes)
+                 if place >= work.first and seen.is_nowhere(place)]
         want_room(work.folder, sizes)
         return seen
 
@@ -246,8 +248,8 @@ class Migration:
                bytes.fromhex(digest) + b".1" not in work.inventory.table.places}
         for name, where in names_of(work.folder) if cut else ():
             if name[:64] in cut:
-                raise Left("a message was cut, since it was being written when it was read; it came whole by now; next: rm %s" %
-                           word(where))
+                raise Left("a message was cut, since it was being written when it was read; it came whole by now; "
+                           "next: rm %s" % word(where))
 
     def explained(self, failed, work):
         """Why the program failed, said better than it can. That a sync failed is kept in mind."""
