@@ -8,16 +8,19 @@ import re
 from typing import List, NamedTuple, Optional
 
 from .source import BLOCK
+from .terminal import shown
 
-# what UIDVALIDITY and a UID may be at most, and how many keywords the name of a file has letters for
-MOST_VALIDITY, MOST_UID, LETTERS = (1 << 32) - 1, 4294967293, 26
+# what UIDVALIDITY may be at most, how many keywords the name of a file has letters for, and the highest UID. Dovecot's
+# next UID is at most 4294967294, and with the one after that its Maildir driver fails at each look, for good: so this
+# leaves as many numbers for mail that comes as no folder gets
+MOST_VALIDITY, LETTERS, MOST_UID = (1 << 32) - 1, 26, 4294967293 - (1 << 24)
 LONGEST_KEYWORD, LONGEST_INTERNAL = 50, 1 << 13
 
 FIELD = re.compile(rb"^(x-imapbase|x-imap|x-uid|x-keywords|x-status|status)([ \t]*):([^\n]*(?:\n[ \t][^\n]*)*)",
                    re.I | re.M)
-HEADER_END = re.compile(rb"(?:\A|\n)\r?(?:\n|From )")
+HEADER_END = re.compile(rb"\n\r?(?:\n|From )")
 HEAD = re.compile(rb"[ \t]?([0-9]+) [ \t\r\n]*([0-9]+)(?=[ \t\r\n]|\Z)")
-UID = re.compile(rb"[ \t]?([0-9]+)[ \t\r]*\Z")
+UID = re.compile(rb"[ \t]?([0-9]+)[ \t\r\n]*\Z")
 # what no atom of IMAP has
 NO_KEYWORD = re.compile(rb"[^!-~]|[(){%*\"\\\]]")
 INTERNAL_SUBJECT = b"DON'T DELETE THIS MESSAGE -- FOLDER INTERNAL DATA"
@@ -92,8 +95,8 @@ def internal_head(source, start):
     """The head of the message by which Dovecot and UW-IMAP keep an empty mailbox, to the letter, where that stands
     first in a text that starts there, and where it ends; no head where it doesn't."""
     text = source.at(start, LONGEST_INTERNAL)
-    message, following, _ = text.partition(b"\nFrom ")
-    message += b"\n" * bool(following)
+    message, next_mark, _ = text.partition(b"\nFrom ")
+    message += b"\n" * bool(next_mark)
     if len(message) == LONGEST_INTERNAL:
         return None, start
     header = header_at(source, start)
@@ -123,6 +126,26 @@ class Reading:
         """Takes the head of the mailbox."""
         self.head, self.last = head, max(self.last, head.last)
         self.names = {name.lower(): place for place, name in enumerate(head.keywords)}
+
+    @property
+    def keywords(self):
+        """The keywords that are named, of which the first have letters."""
+        return self.head.keywords if self.head else []
+
+    def remarks(self):
+        """What is to be said of numbers and keywords that are not as they were."""
+        if not self.head:
+            yield "it had no numbers of Dovecot's"
+        elif self.is_used_up():
+            yield "its numbers begin anew, since few are left above the last"
+        elif self.is_renumbered:
+            yield "some get another UID than they have, since a message before them has none"
+        if self.keywords[LETTERS:]:
+            yield "%d keywords are kept, without: %s" % (LETTERS, shown(b" ".join(self.keywords[LETTERS:])))
+
+    def is_used_up(self):
+        """Whether too few numbers are left for mail that comes."""
+        return self.last + self.hides_first > MOST_UID
 
     def add(self, header):
         """Takes the header of the next message."""
@@ -164,14 +187,11 @@ class Reading:
     def numbers(self, moment):
         """UIDVALIDITY, the next UID, and the places of the messages by their UIDs. Where nothing was kept, UIDVALIDITY
         is that moment, in seconds since 1970, and the numbers begin at 1."""
-        order = list(range(self.hides_first, len(self.uids)))
-        if self.hides_first:
-            order.append(0)
-            self.last += 1
-            self.uids[0] = self.last
-        if self.head and self.last <= MOST_UID:
-            return self.head.validity, self.last + 1, [(self.uids[place], place) for place in order]
-        return moment, len(order) + 1, list(enumerate(order, 1))
+        order = list(range(self.hides_first, len(self.uids))) + [0] * self.hides_first
+        if not self.head or self.is_used_up():
+            return moment, len(order) + 1, list(enumerate(order, 1))
+        last = self.last + self.hides_first
+        return self.head.validity, last + 1, [(self.uids[place] or last, place) for place in order]
 
 
 def marks_of(fields, names):

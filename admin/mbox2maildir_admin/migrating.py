@@ -36,6 +36,14 @@ class Extra:
         """Where the text begins that is converted, of one that begins at this offset."""
         return start
 
+    def says_of_done(self, name):
+        """What is to be said of a mailbox that was done before into this folder."""
+        return ""
+
+    def foresee(self, work):
+        """What `run` would say, where nothing may be made."""
+        return []
+
     def run(self, work):
         """Done after the dates and before all is verified; it answers what is to be said of it."""
         return []
@@ -81,7 +89,7 @@ class Migration:
                 return Row(path, name, "", None, PASSED, "")
             with open_mailbox(path, self.record.sizes(name), self.say, follow) as handle:
                 if self.is_done(handle, name):
-                    return Row(path, name, "", None, BEFORE, "")
+                    return Row(path, name, "", None, BEFORE, self.extra.says_of_done(name))
                 folder = self.root if name == INBOX else os.path.join(self.root, name)
                 return self.migrate(Work(handle, name, folder))
         except Left as left:
@@ -180,10 +188,10 @@ class Migration:
         """The steps from where the record has it."""
         if work.before != CONVERTED or self.again:
             seen = self.look_into_folder(work)
-            if self.dry:
-                return
-            self.convert(work, seen)
-        elif self.dry:
+            if not self.dry:
+                self.convert(work, seen)
+        if self.dry:
+            work.remarks += self.extra.foresee(work)
             return
         undated = give_dates(work.folder, work.inventory, work.first)
         if undated:
