@@ -20,8 +20,8 @@ from .terminal import shown, word
 from .unnamed import copy_of_some, quoted_copy, quoted_size
 from .verifying import NOWHERE, Listing
 
-SYNC_FAILED = ("its sync failed: mount the disk anew, and look into the system's log, before anything there is believed; then "
-               "--again")
+SYNC_FAILED = ("its sync failed: mount the disk anew, and look into the system's log, before anything there is "
+               "believed; then --again")
 FOLDER_CALL = re.compile(r"folder call (\d+) failed")
 # the calls that list a folder, which come first; a sync comes last
 LISTINGS = 3
@@ -35,6 +35,14 @@ class Extra:
     def start_of(self, source, start):
         """Where the text begins that is converted, of one that begins at this offset."""
         return start
+
+    def says_of_done(self, name):
+        """What is to be said of a mailbox that was done before into this folder."""
+        return ""
+
+    def foresee(self, work):
+        """What `run` would say, where nothing may be made."""
+        return []
 
     def run(self, work):
         """Done after the dates and before all is verified; it answers what is to be said of it."""
@@ -59,7 +67,8 @@ class Work:
         """What became of it."""
         if self.plan:
             kind, messages = kind or self.plan.kind, self.plan.messages if messages is None else messages
-        return Row(self.handle.path, self.name, kind, messages, verdict, "; ".join(self.remarks) if why is None else why)
+        why = "; ".join(self.remarks) if why is None else why
+        return Row(self.handle.path, self.name, kind, messages, verdict, why)
 
     def has_changed(self):
         """Whether the mailbox is another than the one that was looked at."""
@@ -80,7 +89,7 @@ class Migration:
                 return Row(path, name, "", None, PASSED, "")
             with open_mailbox(path, self.record.sizes(name), self.say, follow) as handle:
                 if self.is_done(handle, name):
-                    return Row(path, name, "", None, BEFORE, "")
+                    return Row(path, name, "", None, BEFORE, self.extra.says_of_done(name))
                 folder = self.root if name == INBOX else os.path.join(self.root, name)
                 return self.migrate(Work(handle, name, folder))
         except Left as left:
@@ -163,8 +172,8 @@ class Migration:
         if work.source is not work.handle:
             if not work.plan.quoting:
                 path = work.handle.path
-                raise Left("it grew after it was done, and what is new can't be told from its copy; next: tail -c +%d %s >%s, and "
-                           "migrate that" % (size + 1, word(path), word(path + b".rest")))
+                raise Left("it grew after it was done, and what is new can't be told from its copy; next: tail -c +%d "
+                           "%s >%s, and migrate that" % (size + 1, word(path), word(path + b".rest")))
             size = quoted_size(work.handle, work.plan, size)
         work.first = bisect.bisect_left(offsets, size)
         if offsets[work.first] == size:
@@ -179,10 +188,10 @@ class Migration:
         """The steps from where the record has it."""
         if work.before != CONVERTED or self.again:
             seen = self.look_into_folder(work)
-            if self.dry:
-                return
-            self.convert(work, seen)
-        elif self.dry:
+            if not self.dry:
+                self.convert(work, seen)
+        if self.dry:
+            work.remarks += self.extra.foresee(work)
             return
         undated = give_dates(work.folder, work.inventory, work.first)
         if undated:
@@ -197,12 +206,13 @@ class Migration:
         self.record.add("done", work.key, len(work.inventory), work.handle.path)
 
     def look_into_folder(self, work):
-        """What of the mailbox is there. Left where some is, and no record says why; or where there is no room for the rest."""
+        """What of the mailbox is there. Left where some is and no record says why, or without room for the rest."""
         seen = Presence.look(work.folder, work.inventory, self.say)
         if work.before is None and not self.again and 0 < seen.count() < len(work.inventory):
-            raise Left("%d of its messages are there, and no record says why: if it was rewritten since, --again doubles what "
-                       "changed, and brings back what was deleted" % seen.count())
-        sizes = [size for place, size in enumerate(work.inventory.sizes) if place >= work.first and seen.is_nowhere(place)]
+            raise Left("%d of its messages are there, and no record says why: if it was rewritten since, --again "
+                       "doubles what changed, and brings back what was deleted" % seen.count())
+        sizes = [size for place, size in enumerate(work.inventory.sizes)
+                 if place >= work.first and seen.is_nowhere(place)]
         want_room(work.folder, sizes)
         return seen
 
@@ -246,8 +256,8 @@ class Migration:
                bytes.fromhex(digest) + b".1" not in work.inventory.table.places}
         for name, where in names_of(work.folder) if cut else ():
             if name[:64] in cut:
-                raise Left("a message was cut, since it was being written when it was read; it came whole by now; next: rm %s" %
-                           word(where))
+                raise Left("a message was cut, since it was being written when it was read; it came whole by now; "
+                           "next: rm %s" % word(where))
 
     def explained(self, failed, work):
         """Why the program failed, said better than it can. That a sync failed is kept in mind."""

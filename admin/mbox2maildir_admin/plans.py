@@ -12,7 +12,7 @@ NO_MAIL = re.compile(rb"(?:\A|/)(?:\.imap/.*|\.subscriptions|\.mailboxlist|[^/]+
 
 
 class Plan(NamedTuple):
-    """What a mailbox is, how many messages it has, where its text begins, and how its copy is quoted, where it needs one."""
+    """What a mailbox is, how many messages it has, where its text begins, and how a copy that it needs is quoted."""
     kind: str
     messages: int
     start: int = 0
