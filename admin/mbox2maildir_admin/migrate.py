@@ -73,11 +73,10 @@ def refuse(root, names):
         if os.path.isdir(os.path.join(name, b"cur")):
             raise PlaceFault("%s: it is a Maildir, and no mailbox: the Maildir comes first" % shown(name))
     if os.geteuid() == 0:
-        parent = os.path.dirname(os.path.abspath(root))
-        want_roots(root if os.path.lexists(root) else parent, root, names)
-        for name in names:
-            if os.path.exists(name):
-                want_roots(name, root, names)
+        # whose folder the Maildir is in could put another in its place
+        for path in (root, os.path.dirname(os.path.abspath(root)), *names):
+            if os.path.exists(path):
+                want_roots(path, root, names)
 
 
 def want_roots(path, root, names):
