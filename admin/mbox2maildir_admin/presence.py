@@ -46,8 +46,8 @@ class Presence:
             if not self.there[place]:
                 lacking[base[:32]].append(place)
                 sizes.add(self.inventory.sizes[place])
-        for name, path in names_of(self.folder):
-            self.say("looking into the folder")
+        for number, (name, path) in enumerate(names_of(self.folder), 1):
+            self.say("looking at file %d of the folder" % number)
             if BASE.match(name) and b"," not in name.split(b":")[0]:
                 continue
             digest = digest_of_file(path, sizes)
