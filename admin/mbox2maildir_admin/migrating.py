@@ -229,8 +229,8 @@ class Migration:
         """Converts what is nowhere, and answers when each message is there."""
         path, first = work.handle.path, work.first
         make_maildir(work.folder, work.name == INBOX)
-        if work.before == BEGUN and not self.again:
-            back = seen.may_come_back(first, work.begun_at)
+        if not self.again:
+            back = seen.come_back(first) + (seen.may_come_back(first, work.begun_at) if work.before == BEGUN else 0)
             if back:
                 self.record.add(BACK, work.key, back, path)
         self.record.add(BEGUN, work.key, len(work.inventory), path)

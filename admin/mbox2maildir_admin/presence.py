@@ -88,6 +88,11 @@ class Presence:
                         lacking -= not self.there[place]
         return sorted(wanted)
 
+    def come_back(self, first):
+        """How many messages before a place come back with those that are wanted from there on, which are equal to them."""
+        return sum(place < first and self.is_nowhere(place) for places in self.inventory.equal().values()
+                   if any(place >= first and self.is_nowhere(place) for place in places) for place in places)
+
     def may_come_back(self, first, begun_at):
         """How many messages may have been placed, and deleted or moved since, by a run that was broken off. It placed them in
         their order: so those that lack one after them; and all that lack, where names have changed since the last was placed."""
