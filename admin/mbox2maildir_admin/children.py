@@ -27,7 +27,7 @@ class Teller:
     def tell(self, *words):
         """Tells a line. That nobody listens any more ends the child."""
         try:
-            os.write(self.told, json.dumps(words).encode() + b"\n")
+            os.write(self.told, json.dumps(words, ensure_ascii=False).encode() + b"\n")
         except OSError:
             raise KeyboardInterrupt from None
 
