@@ -72,6 +72,7 @@ pub use Rattle.maildir_run.specs.Tasks.{AllDone, Ask, call_of, Do, Done, DoneUnt
 pub use Rattle.maildir_run.specs.Tasks.{Performs, planned_tasks, honestly, Stopped, Task, task_of, tasks_of, Way}
 pub use Rattle.maildir_run.specs.Private.Tasks.{quietly}
 pub use Rattle.maildir_run.specs.Texts.{bodies_of, messages_of, MessagesOf, with_bodies}
+pub use Rattle.maildir_run.specs.declared.engine.Engine.{Engine}
 pub use Rattle.maildir_run.specs.declared.fault.RunFault.{RunFault}
 pub use Rattle.maildir_run.specs.declared.fault.RunFault.TheVariants.{NoFromLine, OutOfMemory, ReadFault, TooManyReads}
 pub use Rattle.maildir_run.specs.declared.folder.FolderFault.{FolderFault}

@@ -26,7 +26,6 @@ mod acting;
 mod bases;
 mod calls;
 mod converting;
-mod delivery;
 mod engine;
 mod fault;
 mod file_tree;

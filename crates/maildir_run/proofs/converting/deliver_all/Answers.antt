@@ -39,9 +39,7 @@ pieces-init g c =
       gave = begins.gave;
       begun = begins.begun;
       count = c.in_ok-engine.ensures.counts.0;
-      there = refl;
-      swept = refl;
-      delivers = delivers_none _ c.in_ok-engine.ensures.namer;
+      delivers = delivers_none c.in_ok-engine.ensures.namer;
     }
 
 pub deliver_entries-requires : goal.deliver_entries-requires
@@ -64,9 +62,7 @@ pieces-preserved g c =
           (rw c.if-ended.false at i.gave) c.in_ok-ended-2.ensures.went;
       begun = λ e. batch_begun _ c.read.new.out.items (i.begun c.if-ended.false);
       count = batch_count _ _ i.given whole entries i.count c.in_ok-deliver_entries.ensures.all is;
-      there = c.in_ok-deliver_entries.ensures.there ∙ i.there;
-      swept = c.in_ok-deliver_entries.ensures.swept ∙ i.swept;
-      delivers = one_batch i.given whole entries _ i.there is few c.requires.few i.delivers c.in_ok-deliver_entries.ensures.delivers;
+      delivers = one_batch i.given whole entries _ is few c.requires.few i.delivers c.in_ok-deliver_entries.ensures.delivers;
     }
 
 pub returns-in_err-deliver_entries : goal.returns-in_err-deliver_entries
@@ -79,7 +75,7 @@ returns-in_err-deliver_entries g c =
     let prefix = given_prefix _ _ _ _ _ _ given i.gave in
     let few = prefix_few prefix in
     let listed = tells_listed _ _ _ look.0 (bodies_of given) c.in_ok-engine.ensures.there look.3.1 look.3.2 in
-    let delivers = one_batch i.given _ _ _ i.there
+    let delivers = one_batch i.given _ _ _
     c.deref.ensures.value few c.requires.few i.delivers c.in_err-deliver_entries.ensures.delivers in
     stops_in_folder is c.in_err-deliver_entries.ensures.causes given prefix look.0 look.1 _ _ refl
     (all_ran look.0 _ c.new-calls.ensures look.3.0 begin.2 listed look.2 begin.1 delivers.ran)
@@ -95,7 +91,7 @@ returns-in_err-ended-2 g c =
     let prefix = given_prefix _ _ _ _ _ _ given i.gave in
     let few = prefix_few prefix in
     let listed = tells_listed _ _ _ look.0 (bodies_of given) c.in_ok-engine.ensures.there look.3.1 look.3.2 in
-    let delivers = one_batch i.given _ _ _ i.there
+    let delivers = one_batch i.given _ _ _
     c.deref.ensures.value few c.requires.few i.delivers c.in_ok-deliver_entries.ensures.delivers in
     let gave = rw c.if-ended.false at i.gave in
     let went = c.in_err-ended-2.ensures.went in
@@ -115,7 +111,7 @@ returns-then-ended g c =
     let prefix = given_prefix _ _ _ _ _ _ given i.gave in
     let few = prefix_few prefix in
     let listed = tells_listed _ _ _ look.0 (bodies_of given) c.in_ok-engine.ensures.there look.3.1 look.3.2 in
-    let delivers = one_batch i.given _ entries _ i.there
+    let delivers = one_batch i.given _ entries _
     c.deref.ensures.value few c.requires.few i.delivers c.in_ok-deliver_entries.ensures.delivers in
     let count = batch_count _ _ i.given
     _ entries i.count c.in_ok-deliver_entries.ensures.all c.deref.ensures.value in
@@ -133,5 +129,5 @@ returns-then-ended g c =
       tells =
           report_tells look.0 given _ _ _ _ _ listed count counts.1 (delivers.placed_are refl)
           c.report.ensures.messages c.report.ensures.there c.report.ensures.placed
-          (c.report.ensures.swept ∙ c.in_ok-deliver_entries.ensures.swept ∙ i.swept ∙ rw look.3.0 at counts.2);
+          (c.report.ensures.swept ∙ delivers.swept ∙ rw look.3.0 at counts.2);
     }
