@@ -14,8 +14,8 @@ pub mod Tasks
 pub mod Parts
 -- What the parts of a run leave.
 pub mod Progress
--- What a lister has listed.
-pub mod TableSoFar
+-- What is written of messages that are printed one after the other.
+pub mod Printing
 -- Whether half of a rename comes.
 pub mod Script
 -- How a call of the folder in memory begins.

@@ -36,6 +36,7 @@ mod mem_files;
 mod mem_folder;
 mod modes;
 mod planner;
+mod printing;
 mod reader;
 mod report;
 mod rewriting;

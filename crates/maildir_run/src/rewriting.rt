@@ -1,12 +1,12 @@
 // A text in its regular spelling.
-ghost use Rattle.std.specs.Prelude.{◌≡◌, ◌^◌, ◌≤◌, IfErr};
+ghost use Rattle.std.specs.Prelude.{◌≡◌, ◌^◌, ◌≤◌, length, IfErr};
 ghost use Rattle.std.specs.List.{flat_map};
 ghost use Rattle.mbox_text.specs.Spelling.{spelling};
 ghost use Rattle.mbox_text.specs.Writing.{Writes};
 ghost use Rattle.maildir_run.specs.Output.{WritesMessages};
 
 use crate::fault::RunFault;
-use crate::reader::Reader;
+use crate::printing::{Printer, print_all};
 use mbox_text::{Entry, write_entry};
 use std::alloc::Global;
 use std::io::{Read, Write};
@@ -17,6 +17,7 @@ use std::io::{Read, Write};
 /// Errors: `NoFromLine` if the text is not empty and doesn't begin with `From `, as soon as the bytes decide, and then
 /// nothing was written; `ReadFault`; `TooManyReads` if `reads` reads didn't reach the end; `OutputFault`; `OutOfMemory`. What
 /// was written by then is a prefix of what belongs to the text.
+#[tactic(auto, using(crate::proofs::Output::Poured::flat_output))]
 pub fn rewrite<R: Read, W: Write>(
     alloc: Global,
     source: &mut R,
@@ -27,17 +28,28 @@ pub fn rewrite<R: Read, W: Write>(
     ensures { WritesMessages (flat_map spelling) (R.remaining source.old) (R.remaining source.new)
         (W.contents out.old) (W.contents out.new) reads result }
 {
-    let mut reader = Reader::new(alloc, reads)?;
-    let mut whole = Vec::new(alloc);
-    let mut count = 0u64;
-    'pieces: loop {
-        let ended = reader.read(source, &mut whole)?;
-        write_entries(&whole, out)?;
-        count += whole.len() as u64;
-        if ended {
-            return Ok(count);
-        }
-        whole.clear();
+    print_all(alloc, source, &mut Rewriter { count: 0 }, out, reads)
+}
+
+/// Writes messages in their regular spelling one after the other.
+#[derive(Drop)]
+struct Rewriter {
+    count: u64,
+}
+
+impl Printer for Rewriter {
+    ghost output = { flat_map spelling };
+
+    ghost printed = { λ given rewriter. rewriter.count ≡ length given };
+
+    fn print<W: Write>(&mut self, entries: &[Entry], out: &mut W) -> Result<(), RunFault> {
+        write_entries(entries, out)?;
+        self.count = self.count.saturating_add(entries.len() as u64);
+        Ok(())
+    }
+
+    fn count(&self) -> u64 {
+        self.count
     }
 }
 

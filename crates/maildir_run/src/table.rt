@@ -1,13 +1,12 @@
 // A table of the messages of a text, with the targets that a conversion would give them.
 ghost use Rattle.std.specs.Prelude.{◌≡◌, ◌⊎◌, ◌^◌, ◌≤◌, ◌∷◌, [], IfErr};
 ghost use Rattle.mbox_text.specs.FromLine.{IsFromLine};
-ghost use Rattle.mbox_text.specs.Spelling.{FromLines};
-ghost use Rattle.maildir_run.specs.Private.TableSoFar.{HasListed, ListsMore};
+ghost use Rattle.maildir_run.specs.Private.Printing.{HasListed, PrintsMore};
 ghost use Rattle.maildir_run.specs.Table.{table_of};
 ghost use Rattle.maildir_run.specs.Output.{WritesMessages};
 
 use crate::fault::RunFault;
-use crate::reader::Reader;
+use crate::printing::{Printer, print_all};
 use crate::row::row_of;
 use maildir_name::Namer;
 use mbox_text::{Entry, write_bytes};
@@ -22,6 +21,7 @@ use std::io::{Read, Write};
 /// Errors: `NoFromLine` if the text is not empty and doesn't begin with `From `, as soon as the bytes decide, and then
 /// nothing was written; `ReadFault`; `TooManyReads` if `reads` reads didn't reach the end; `OutputFault`; `OutOfMemory`. What
 /// was written by then is a prefix of what belongs to the text.
+#[tactic(auto, using(crate::proofs::Output::TableRows::listing_output))]
 pub fn list_text<R: Read, W: Write>(
     alloc: Global,
     source: &mut R,
@@ -32,17 +32,7 @@ pub fn list_text<R: Read, W: Write>(
     ensures { WritesMessages table_of (R.remaining source.old) (R.remaining source.new)
         (W.contents out.old) (W.contents out.new) reads result }
 {
-    let mut reader = Reader::new(alloc, reads)?;
-    let mut lister = Lister::new(alloc);
-    let mut whole = Vec::new(alloc);
-    'pieces: loop {
-        let ended = reader.read(source, &mut whole)?;
-        lister.list(&whole, out)?;
-        if ended {
-            return Ok(lister.count);
-        }
-        whole.clear();
-    }
+    print_all(alloc, source, &mut Lister::new(alloc), out, reads)
 }
 
 /// Lists messages one after the other.
@@ -65,24 +55,11 @@ impl Lister {
         }
     }
 
-    // Writes the rows of some messages.
-    fn list<W: Write>(&mut self, entries: &[Entry], out: &mut W) -> Result<(), RunFault>
-        requires { FromLines entries.now }
-        ensures lists { ListsMore self.old.namer self.old.count entries.now
-            (W.contents out.old) (W.contents out.new) result self.new.namer self.new.count }
-        ensures causes { IfErr result (λ fault. (fault ≡ RunFault.OutputFault) ⊎ (fault ≡ RunFault.OutOfMemory)) }
-    {
-        for entry in entries {
-            self.list_one(entry, out)?;
-        }
-        Ok(())
-    }
-
     // Writes the row of a message.
     fn list_one<W: Write>(&mut self, entry: &Entry, out: &mut W) -> Result<(), RunFault>
         requires { IsFromLine entry.now.from_line }
-        ensures lists { ListsMore self.old.namer self.old.count (entry.now ∷ [])
-            (W.contents out.old) (W.contents out.new) result self.new.namer self.new.count }
+        ensures lists { PrintsMore table_of (λ given lister. HasListed given lister.namer lister.count) self.old (entry.now ∷ [])
+            (W.contents out.old) (W.contents out.new) result self.new }
         ensures causes { IfErr result (λ fault. (fault ≡ RunFault.OutputFault) ⊎ (fault ≡ RunFault.OutOfMemory)) }
     {
         let Ok(target) = self.namer.target(entry.body.as_slice()) else {
@@ -94,5 +71,22 @@ impl Lister {
             Ok(()) => Ok(()),
             Err(_) => Err(RunFault::OutputFault),
         }
+    }
+}
+
+impl Printer for Lister {
+    ghost output = { table_of };
+
+    ghost printed = { λ given lister. HasListed given lister.namer lister.count };
+
+    fn print<W: Write>(&mut self, entries: &[Entry], out: &mut W) -> Result<(), RunFault> {
+        for entry in entries {
+            self.list_one(entry, out)?;
+        }
+        Ok(())
+    }
+
+    fn count(&self) -> u64 {
+        self.count
     }
 }

@@ -4,10 +4,9 @@ use Rattle.std.proofs.Common.{refl, arith}
 use Rattle.std.proofs.Common.{arith, append_assoc, MatchResult, IsErr, append-nil, length-append, take-append-drop, length-take-le}
 use Rattle.maildir_run.proofs.Common.{Appends, Appends-nil, false≢true, length-map, map-append, take_more}
 use Rattle.maildir_run.proofs.Common.{Entry, sender, AppendsPrefix, Writes, Target, Counts, Named, targets}
-use Rattle.maildir_run.proofs.Common.{length-targets, targets-prefix, HasListed, info, place_word, shown_sender}
+use Rattle.maildir_run.proofs.Common.{length-targets, targets-prefix, HasListed, IsOutput, info, place_word, shown_sender}
 use Rattle.std.specs.Fmt.{decimal}
 use Rattle.maildir_run.specs.Table.{message_row, rows_from, table_of}
-use Rattle.maildir_run.proofs.Output.Poured.{IsOutput}
 
 -- the bodies of some messages
 abbrev pub bodies : List Entry → List (List ℕ)
