@@ -52,7 +52,7 @@ pub use Rattle.maildir_run.specs.Delivery.{IsMissing, IsSoundAt, IsSwept, leftov
 pub use Rattle.maildir_run.specs.Files.{all_bases, is_spared, is_spared_name, Spared, SparesAll}
 pub use Rattle.maildir_run.specs.Files.{acted, Action, AgreeOnSpared, all_acted, DropTmp, FileMap, Files, has_base, held_under, homes, is_name}
 pub use Rattle.maildir_run.specs.Files.{KeepsSpared, may_take, name_cmp, Outside, outsiders_of, Reflag, reflag, to_cur, ToCur, KeepsHomes}
-pub use Rattle.maildir_run.specs.Private.Given.{IsPrefixOf, Gave, GaveAll, IsGiven, SourceStopped}
+pub use Rattle.maildir_run.specs.Private.Given.{GivesBatch, GivesNoMore, IsPrefixOf, Gave, GaveAll, IsGiven, SourceStopped, StoppedAfter}
 pub use Rattle.maildir_run.specs.Private.Printing.{HasListed, IsOutput, PrintsMore}
 pub use Rattle.maildir_run.specs.Table.{info, table_of, message_row, place_word, shown_byte, shown_sender}
 pub use Rattle.maildir_run.specs.MemFiles.{files_in, with_file, without_file}
@@ -63,7 +63,6 @@ pub use Rattle.maildir_run.specs.Parts.{deliveries_of, delivery_if, delivery_of,
 pub use Rattle.maildir_run.specs.Plan.{deliveries_from, steps_for, each_alone, is_listed, planned, removals}
 pub use Rattle.maildir_run.specs.Private.Progress.{DeliversMessage, IsTarget, Knows, message_at, Progress, TmpWithin}
 pub use Rattle.maildir_run.specs.Foreign.{KeepsForeign}
-pub use Rattle.maildir_run.specs.Private.Reading.{Breaks, NeverReads, Went}
 pub use Rattle.maildir_run.specs.Reading.{IsReading, ReadsAtLeast, ReadsAtMost}
 pub use Rattle.maildir_run.specs.Runs.{Acted, Chain, CountsRun, Keeps, Link, Linked, Possible, IsRun, Runs}
 pub use Rattle.maildir_run.specs.Script.{acts_at, all_performed, Answers, done, fails, halved, IsCutShort, IsPart, mode_at, performed}

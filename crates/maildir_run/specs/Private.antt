@@ -2,8 +2,6 @@
 
 -- The bases of names, as a set.
 pub mod Bases
--- What one read comes to.
-pub mod Reading
 -- How far a source was read, and which messages were given of it.
 pub mod Given
 -- The calls that a part of a run makes, and the fault that it answers for one.

@@ -48,11 +48,10 @@ pub(crate) fn print_all<R: Read, W: Write, P: Printer>(
     let mut reader = Reader::new(alloc, reads)?;
     let mut whole = Vec::new(alloc);
     'pieces: loop {
-        let ended = reader.read(source, &mut whole)?;
+        let ended = reader.next_batch(source, &mut whole)?;
         printer.print(&whole, out)?;
         if ended {
             return Ok(printer.count());
         }
-        whole.clear();
     }
 }

@@ -4,11 +4,10 @@ use Rattle.std.proofs.Common.{[], ◌++◌, length, Result, refl, arith, IsErrAn
 use Rattle.maildir_run.proofs.Common.{contains_key, length-map, Engine, Entry, Named, RunFault, NoFromLine, Report, BaseSet}
 use Rattle.maildir_run.proofs.Common.{Conversion, ReportsTasks, run_tasks, Seen, Performed, DeliversMessages, sweep_of}
 use Rattle.maildir_run.proofs.Common.{messages_after, deliveries_of, IsOfFolder, Message, IsPrefixOf}
-use Rattle.maildir_run.proofs.Common.{SourceStopped, is_listed, IsReading, Task, Listings, listing_tasks, messages_of, bodies_of}
+use Rattle.maildir_run.proofs.Common.{SourceStopped, StoppedAfter, is_listed, IsReading, Task, Listings, listing_tasks, messages_of, bodies_of}
 use Rattle.std.proofs.lemmas.Result.{err_from_is_err_and}
 use Rattle.maildir_run.proofs.Run.Delivering.{delivers_then}
 use Rattle.maildir_run.proofs.Run.Batches.{all_messages}
-use Rattle.maildir_run.proofs.Source.Givens.{refused_prefix}
 use Rattle.maildir_run.proofs.Chains.MessageLemmas.{length-messages_of}
 use Rattle.maildir_run.proofs.Source.PossibleMessages.{batch_bodies, batch_few}
 use Rattle.maildir_run.proofs.Tasks.Tasks.{ran_nothing, ran_then}
@@ -28,10 +27,10 @@ module _ {before now : Option (List ℕ)} {reads : ℕ} {old new : Seen} {r : Re
 
 -- before anything was done
 pub stops_unread : {before now : Option (List ℕ)} {reads : ℕ} {s : Seen} {r : Result Report RunFault} {fault : RunFault}
-    → IsErrAnd r (λ e. e ≡ fault) → IsReading fault → SourceStopped before now reads fault → Conversion before now reads s s r
-stops_unread {before} {now} {reads} {s} {r} {fault} is reading refused =
+    → IsErrAnd r (λ e. e ≡ fault) → IsReading fault → StoppedAfter before now reads [] fault → Conversion before now reads s s r
+stops_unread {before} {now} {reads} {s} {r} {fault} is reading stop =
     let names : Listings = record { tmp = []; new = []; cur = [] } in
-    stops is refused (inl reading) (λ e. refl) [] (refused_prefix refused) names (omega arith) 0 0 refl
+    stops is stop.refused (inl reading) (λ e. refl) [] stop.prefix names (omega arith) 0 0 refl
     (ran_nothing reading)
 
 -- ---- the set of bases tells what was listed
