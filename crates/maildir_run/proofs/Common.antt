@@ -81,5 +81,5 @@ pub use Rattle.maildir_run.specs.declared.reader.Reader.{Reader}
 pub use Rattle.maildir_run.specs.declared.planner.Step.{Step}
 pub use Rattle.maildir_run.specs.declared.planner.Step.TheVariants.{Place, Remove, Write}
 pub use Rattle.maildir_run.specs.declared.report.Report.{Report}
-pub use Rattle.maildir_run.specs.declared.script.Mode.{Mode}
-pub use Rattle.maildir_run.specs.declared.script.Mode.TheVariants.{FailAfter, FailBefore, Half, Plain, Twice}
+pub use Rattle.maildir_run.specs.declared.in_memory.script.Mode.{Mode}
+pub use Rattle.maildir_run.specs.declared.in_memory.script.Mode.TheVariants.{FailAfter, FailBefore, Half, Plain, Twice}
