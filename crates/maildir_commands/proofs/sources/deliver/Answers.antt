@@ -1,21 +1,19 @@
-use Rattle.std.proofs.Common.{Err, IsOk, ap, sym, ◌∙◌}
+use Rattle.std.proofs.Common.{Err, IsOk, ap, sym, ◌∙◌, rules}
 use Rattle.maildir_commands.proofs.Common.{IsPossibly}
 use Rattle.maildir_run.proofs.Chains.Chains.{sound_now}
 use Rattle.maildir_disk.proofs.Kept.Safety.{safe_after_both, reports_after_run}
 use Rattle.maildir_disk.proofs.Left.Lefts.{if_ok}
-use Rattle.maildir_commands.proofs.Causes.{failed_in_run, long_possible, of_fault, of_run}
+use Rattle.maildir_commands.proofs.Causes.{failed_in_run, long_possible, of_run}
+use Rattle.maildir_commands.proofs.Delivering.{not_stored, stored_printed}
 use Rattle.maildir_commands.proofs.Known.{both_have, swept_acts}
 use Rattle.maildir_commands.proofs.Storing.{kept_by_both, kept_by_run}
-use Rattle.maildir_commands.proofs.sources.store.Goals as goal
+use Rattle.maildir_commands.proofs.sources.deliver.Goals as goal
 
 -- the run ended with a fault
-pub returns-in_err-report-clause-keeps : goal.returns-in_err-report-clause-keeps
-returns-in_err-report-clause-keeps g c = kept_by_run g.S.System c.args.folder.now c.convert.new.folder c.convert.ensures
-
-pub returns-in_err-report-clause-stopped : goal.returns-in_err-report-clause-stopped
-returns-in_err-report-clause-stopped g c =
+pub returns-in_err-report-clause-does : goal.returns-in_err-report-clause-does
+returns-in_err-report-clause-does g c =
     let failed = c.in_err-report.ensures in
-    of_fault _ _ c.from_residual.ensures.1 (record {
+    not_stored _ c.from_residual.ensures.1 (kept_by_run g.S.System c.args.folder.now c.convert.new.folder c.convert.ensures) (record {
       cause =
           of_run (IsPossibly (g.I.Read.remaining c.args.source.now) (g.I.Read.remaining c.convert.new.source)) _
           (λ e t p entries. failed.no_from_line (ap Err e) t entries p) (λ e. long_possible (failed.spent (ap Err e)));
@@ -24,22 +22,21 @@ returns-in_err-report-clause-stopped g c =
     })
 
 -- the sync ended with a fault
-pub returns-in_err-map_err-clause-keeps : goal.returns-in_err-map_err-clause-keeps
-returns-in_err-map_err-clause-keeps g c =
-    kept_by_both g.S.System c.args.folder.now c.convert.new.folder c.convert.ensures c.sync.new.self c.sync.ensures.syncs
+pub returns-in_err-map_err-clause-does : goal.returns-in_err-map_err-clause-does
+returns-in_err-map_err-clause-does g c =
+    not_stored _ c.from_residual-in_err-map_err.ensures.1
+    (kept_by_both g.S.System c.args.folder.now c.convert.new.folder c.convert.ensures c.sync.new.self c.sync.ensures.syncs)
+    (search rules)
 
 -- it is done
-pub returns-clause-keeps : goal.returns-clause-keeps
-returns-clause-keeps g c =
-    kept_by_both g.S.System c.args.folder.now c.convert.new.folder c.convert.ensures c.sync.new.self c.sync.ensures.syncs
-
-pub returns-clause-stored : goal.returns-clause-stored
-returns-clause-stored g c =
+pub returns-clause-does : goal.returns-clause-does
+returns-clause-does g c =
     let run = c.convert.ensures in
     let done = c.in_ok-report.ensures in
     let sync = c.sync.ensures.syncs in
     let ok : IsOk c.sync.result = sym c.in_ok-map_err.ensures.variant in
-    record {
+    stored_printed (kept_by_both g.S.System c.args.folder.now c.convert.new.folder c.convert.ensures c.sync.new.self sync)
+    (record {
       end = done.end;
       calls = rw c.sync.ensures.calls done.calls;
       honest = λ spared h. if_ok c.sync.result ok (sync.honest spared (run.honest spared h));
@@ -57,4 +54,4 @@ returns-clause-stored g c =
           };
       quiet = λ q. if_ok c.sync.result ok (sync.quiet (run.quiet q));
       alone = λ q t ms p are. sync.quietly (run.quiet q) ∙ (done.alone q t ms p are).0;
-    }
+    }) _ c.print_report.ensures.printed c.print_report.ensures.causes
