@@ -5,7 +5,8 @@ ghost use Rattle.maildir_run.specs.Output.{WritesMessages};
 ghost use Rattle.maildir_commands.specs.Output.{output_of};
 ghost use Rattle.maildir_commands.specs.Program.{Does, RanOn, Refuses};
 ghost use Rattle.maildir_commands.specs.Seen.{seen_with, streams};
-ghost use Rattle.maildir_commands.specs.Private.Words.{request};
+ghost use Rattle.maildir_commands.specs.Words.Request.{ToWrite};
+ghost use Rattle.maildir_commands.specs.Private.Words.{name_of};
 
 use crate::command::{Command, Form};
 use crate::fault::Fault;
@@ -39,7 +40,12 @@ pub fn run<M: Machine, I: Read, W: Write + Drop, E: Write>(
         let _ = tell_wrong_words(err);
         return 2;
     };
-    let answer = work(machine, alloc, command, input, out);
+    let answer = match command {
+        Command::Write(form, file) => write_out(machine, alloc, form, file, input, out),
+        Command::Convert(maildir, files) => {
+            deliver_sources(machine, alloc, maildir, files, input, out)
+        }
+    };
     // what was written is handed on also after a fault
     match answer.and(flush(out)) {
         Ok(()) => 0,
@@ -63,31 +69,25 @@ pub fn refuse<E: Write>(error: &io::Error, err: &mut E) -> u8
     2
 }
 
-// Does the work of a command.
-fn work<M: Machine, I: Read, W: Write + Drop>(
+// Writes the messages of the file, or of standard input where none is named.
+fn write_out<M: Machine, I: Read, W: Write>(
     machine: &mut M,
     alloc: Global,
-    command: Command<'_>,
+    form: Form,
+    file: Option<&str>,
     input: &mut I,
-    out: &mut BufWriter<W>,
+    out: &mut W,
 ) -> Result<(), Fault>
     ensures does { let at = M.at in
-        Does (request command.entry) result
-        (seen_with (at machine.old) (I.remaining input.old) (writer_contents W.contents out.old))
-        (seen_with (at machine.new) (I.remaining input.new) (writer_contents W.contents out.new)) }
+        Does (ToWrite form (name_of file.entry)) result
+        (seen_with (at machine.old) (I.remaining input.old) (W.contents out.old))
+        (seen_with (at machine.new) (I.remaining input.new) (W.contents out.new)) }
 {
-    match command {
-        Command::Write(form, file) => {
-            match file {
-                None => write_text(alloc, form, input, out)?,
-                Some(path) => write_text(alloc, form, &mut open(machine, path)?, out)?,
-            };
-            Ok(())
-        }
-        Command::Convert(maildir, files) => {
-            deliver_sources(machine, alloc, maildir, files, input, out)
-        }
-    }
+    match file {
+        None => write_text(alloc, form, input, out)?,
+        Some(path) => write_text(alloc, form, &mut open(machine, path)?, out)?,
+    };
+    Ok(())
 }
 
 // Writes the messages of a text, and answers how many they are.

@@ -1,7 +1,9 @@
 use Rattle.std.proofs.Common.{refl, sym, ◌∙◌, rules}
+use Rattle.std.specs.Io.Buffered.{writer_contents}
 use Rattle.maildir_commands.proofs.Common.{Keeps-refl}
-use Rattle.maildir_commands.proofs.Requests.{did_all, does_both}
+use Rattle.maildir_commands.proofs.Requests.{did_all, does_both, of_command}
 use Rattle.maildir_commands.specs.Program.{Done, Stopped, WrongWords}
+use Rattle.maildir_commands.proofs.program.run.Goals.{in-Write, in-Convert}
 use Rattle.maildir_commands.proofs.program.run.Goals as goal
 
 -- it is done
@@ -12,7 +14,11 @@ returns-in-Ok-clause-ran g c =
       ending = Done;
       status_is = refl;
       ran = (
-        did_all c.in-Some.ensures (does_both _ _ _ _ _ flush.same _ _ (sym c.in-Ok.is ∙ c.and.ensures) flush.causes c.work-answer.ensures.does),
+        did_all c.in-Some.ensures (does_both _ _ _ (writer_contents g.W.Write.contents c.match-command.out) _ flush.same c.match-command.answer c.flush.result
+            (sym c.in-Ok.is ∙ c.and.ensures) flush.causes (elim c.match-command.branch [
+              | in-Write w ↦ rw (w.machine-is, w.input-is, w.out-is, w.answer-is) (of_command w.in-Write.is w.write_out-answer.ensures.does)
+              | in-Convert w ↦ rw (w.machine-is, w.input-is, w.out-is, w.answer-is) (of_command w.in-Convert.is w.deliver_sources-answer.ensures.does)
+            ])),
         Keeps-refl _,
       );
       untouched = λ two. absurd (cc two);
@@ -26,7 +32,11 @@ returns-in-Err-clause-ran g c =
       ending = Stopped c.in-Err.fault;
       status_is = refl;
       ran = (
-        did_all c.in-Some.ensures (does_both _ _ _ _ _ flush.same _ _ (sym c.in-Err.is ∙ c.and.ensures) flush.causes c.work-answer.ensures.does),
+        did_all c.in-Some.ensures (does_both _ _ _ (writer_contents g.W.Write.contents c.match-command.out) _ flush.same c.match-command.answer c.flush.result
+            (sym c.in-Err.is ∙ c.and.ensures) flush.causes (elim c.match-command.branch [
+              | in-Write w ↦ rw (w.machine-is, w.input-is, w.out-is, w.answer-is) (of_command w.in-Write.is w.write_out-answer.ensures.does)
+              | in-Convert w ↦ rw (w.machine-is, w.input-is, w.out-is, w.answer-is) (of_command w.in-Convert.is w.deliver_sources-answer.ensures.does)
+            ])),
         (c.tell_fault.result, c.tell_fault.ensures.told),
       );
       untouched = λ two. absurd (cc two);
