@@ -108,9 +108,9 @@ pub record Did (words : List (List ℕ)) (answer : Result Unit Fault) (old new :
   pub form : AreOfAForm words
   pub does : (request : Request) → AskFor words request → Does request answer old new
 
--- the line of this text was written to standard error, or a prefix of it where the writer failed
+-- a line was written, or a prefix of it where the writer failed
 abbrev pub Tells : List ℕ → Option (List ℕ) → Option (List ℕ) → Type 0
-Tells text was is = (written : Result Unit TextFault) × Writes was is written (told text)
+Tells line was is = (written : Result Unit TextFault) × Writes was is written line
 
 -- how a run ended: it is done, a fault stopped it, or the words are wrong
 pub data Ending : Type 0 where
@@ -128,8 +128,8 @@ status_of WrongWords = 2
 -- where all was done; else one line, that of the fault which ended the work or for wrong words, or a prefix of it where the writer failed.
 abbrev pub Ran : List (List ℕ) → Ending → Seen → Seen → Option (List ℕ) → Option (List ℕ) → Type 0
 Ran words Done old new was is = Did words (Ok tt) old new × Keeps was is
-Ran words (Stopped fault) old new was is = Did words (Err fault) old new × Tells (fault_text fault) was is
-Ran words WrongWords old new was is = ¬ AreOfAForm words × Tells (codes "wrong words") was is
+Ran words (Stopped fault) old new was is = Did words (Err fault) old new × Tells (told (fault_text fault)) was is
+Ran words WrongWords old new was is = ¬ AreOfAForm words × Tells (told (codes "wrong words")) was is
 
 -- A run of the program with these words ended with this status, from one moment of a machine and of its streams to another.
 pub record RanOn {M : Type 0} (at : M → SeenMachine) (words : List (List ℕ)) (status : ℕ) (old new : M) (was is : Streams) : Type 0 where
@@ -142,5 +142,5 @@ pub record RanOn {M : Type 0} (at : M → SeenMachine) (words : List (List ℕ))
 -- The words could not be read with this error, and the program ended so with this status: for want of memory, or since they are of no form.
 abbrev pub Refuses : Error → ℕ → Option (List ℕ) → Option (List ℕ) → Type 0
 Refuses error status was is =
-    (IsFailedAllocation error × (status ≡ 1) × Tells (fault_text (Run run.OutOfMemory)) was is)
-    ⊎ (¬ IsFailedAllocation error × (status ≡ 2) × Tells (codes "wrong words") was is)
+    (IsFailedAllocation error × (status ≡ 1) × Tells (told (fault_text (Run run.OutOfMemory))) was is)
+    ⊎ (¬ IsFailedAllocation error × (status ≡ 2) × Tells (told (codes "wrong words")) was is)
