@@ -10,8 +10,8 @@ ghost use Rattle.maildir_run.specs.MemFiles.{files_in};
 ghost use Rattle.maildir_run.specs.Script.{acts_at, performed, half_performed, all_performed, IsCutShort};
 ghost use Rattle.maildir_run.specs.Private.Script.{may_link};
 
-use crate::in_memory::file_tree::FileTree;
 use crate::folder::Sub;
+use crate::in_memory::file_tree::FileTree;
 use crate::in_memory::mem_files::MemFiles;
 use crate::in_memory::script::{Act, ScriptLine};
 use maildir_name::{base_of, is_converter_name};

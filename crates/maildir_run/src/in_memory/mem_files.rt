@@ -5,8 +5,8 @@ ghost use Rattle.maildir_run.specs.Calls.{effect, folder_of, IsReady};
 ghost use Rattle.maildir_run.specs.Calls.Call.{Placing, Writing};
 ghost use Rattle.maildir_run.specs.MemFiles.{files_in, no_files, with_file, without_file};
 
-use crate::in_memory::file_tree::FileTree;
 use crate::folder::Sub;
+use crate::in_memory::file_tree::FileTree;
 use maildir_name::Place;
 use std::alloc::{AllocError, Global};
 

@@ -6,8 +6,8 @@ ghost use Rattle.maildir_run.specs.Table.{table_of};
 ghost use Rattle.maildir_run.specs.Output.{WritesMessages};
 
 use crate::fault::RunFault;
-use crate::printing::{Printer, print_all};
 use crate::outputs::row::row_of;
+use crate::printing::{Printer, print_all};
 use maildir_name::Namer;
 use mbox_text::{Entry, write_bytes};
 use std::alloc::Global;
