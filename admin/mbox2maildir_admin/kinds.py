@@ -90,13 +90,15 @@ class Look:
         # the message that ends by its length, and where; and the first message without a length
         self.claimed_by = self.claimed = self.without = 0
 
-    def read(self):
-        """Looks at the whole text."""
+    def read(self, enough=lambda look: False):
+        """Looks at the whole text, or at its beginning that is enough."""
         part, line = None, 1 + self.source.at(0, self.start).count(b"\n")
         self.source.file.seek(self.start)
         for part in parts_of(self.source.file, self.start, line):
             if part.what == MARK:
                 self.mark(part)
+                if enough(self):
+                    return self
             elif part.what == TEXT and not self.seen["CR in text"].count and b"\r\n" in part.piece:
                 self.seen["CR in text"].add(part.line + part.piece.count(b"\n", 0, part.piece.index(b"\r\n")))
         # a message that ends there by its length is whole
@@ -232,8 +234,8 @@ SAID = [
 ]
 
 
-def look_at(source):
-    """What an open file is, and what is to be done with it."""
+def look_at(source, enough=lambda look: False):
+    """What an open file is, and what is to be done with it. What is known of its text after a beginning may be enough."""
     head = source.at(0, HEAD)
     start = text_start(head)
     if start is None:
@@ -246,7 +248,7 @@ def look_at(source):
         count, how = from_lines_of(LineEnds(source.file)), Quoting("mboxrd", cr=True)
         source.check()
         return Verdict("line ends of CR alone", how.command(), 1, count, count, start=start)
-    return verdict_on(Look(source, start).read())
+    return verdict_on(Look(source, start).read(enough))
 
 
 # the sorts that keep a text from being converted as it is, as they are to be looked after

@@ -28,9 +28,14 @@ def is_no_mail(path):
     return bool(NO_MAIL.search(path)) or os.path.basename(path).startswith(b".") and os.path.getsize(path) == 0
 
 
-def plan_of(handle):
-    """Looks at all of a mailbox. It is left where anything would be a guess."""
-    verdict = look_at(handle)
+def is_as_it_is(look):
+    """Whether no copy of a text is made, whatever follows: a message has no right length, and a From_ line no CR LF."""
+    return not look.start and max(look.count("lengths"), look.count("CR LF")) < look.messages
+
+
+def plan_of(handle, enough=lambda look: False):
+    """Looks at all of a mailbox, or at what is enough. It is left where anything would be a guess."""
+    verdict = look_at(handle, enough)
     # what stands before the text belongs to it
     handle.digest.add(0, handle.at(0, verdict.start))
     if not verdict.is_mail:

@@ -1,4 +1,5 @@
-"""What the sources of the crates say: their items, each with its head, and the contracts of their functions."""
+"""What the sources of the crates say: their items, each with its head, and the contracts of their functions; and which of
+them docs/PROMISES.md has its reader read."""
 import re
 
 from tools.common import TOP, text_of
@@ -9,6 +10,8 @@ EXPORT = re.compile(r"^pub use ((?:\w+::)*\w+)::(?:\{([^}]*)\}|(\w+));", re.MULT
 PUBLIC_MODULE = re.compile(r"^pub mod (\w+);", re.MULTILINE)
 # a function with its contract: up to the line where its body begins, or a semicolon
 FUNCTION = re.compile(r"^ *(pub )?(?:pub\(crate\) )?fn (\w+)(?:.*\n)*?(?:.*;|.*\{\}|(?! *ensures).*\{)$", re.MULTILINE)
+READING = re.compile(r"^\| In \| Read \| For \|\n((?:\|.*\n)+)", re.MULTILINE)
+TO_READ = re.compile(r"^\| `([^`]+)` \| ([^|]*) \| ([^|]*) \|$", re.MULTILINE)
 GHOST = re.compile(r"^ *ghost (?!use ).*?[;,]$", re.DOTALL | re.MULTILINE)
 
 
@@ -71,6 +74,11 @@ def public_contracts():
             for head, block in items(text):
                 for name, contract in contracts(head, block, None if file.stem in public else exported):
                     yield f"{file.relative_to(TOP)}: {name}", contract, scope
+
+
+def files_to_read():
+    """The rows of the list of docs/PROMISES.md: a file or a folder, what is to be read there, and what for."""
+    return TO_READ.findall("".join(READING.findall(text_of(TOP / "docs/PROMISES.md"))))
 
 
 def functions():
