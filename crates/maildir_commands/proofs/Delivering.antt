@@ -9,7 +9,6 @@ use Rattle.maildir_run.specs.Delivery.{IsSoundAt}
 use Rattle.mbox_text.specs.Writing.{Writes}
 use Rattle.maildir_run.specs.declared.fault.RunFault.TheVariants as run
 use Rattle.maildir_commands.proofs.Causes.{of_output, output_no_call}
-use Rattle.maildir_commands.proofs.Known.{of_reports}
 use Rattle.maildir_commands.proofs.Several.{on_err_then, on_ok_then, prefix_of_all}
 
 -- a writer that failed is no call that failed
@@ -54,7 +53,7 @@ module _ (spared : Spared) (was is : Bytes) {before after : Bytes} {old new : Se
   one_stopped (inl keeps) = inl keeps
   one_stopped (inr (report, stored, prefix)) =
       let stores = stored.texts spared h text are possible sound in
-      inr (record { report = report; true_of = of_reports stores.reports; safe = stores.safe intact; line = prefix })
+      inr (record { report = report; true_of = stores.reports; safe = stores.safe intact; line = prefix })
 
   pub one_of : {answer : Result Unit Fault} → DeliversSource answer before after was is old new → DeliversOne spared answer text old.held new.held was is
   one_of {answer} did =
@@ -65,7 +64,7 @@ module _ (spared : Spared) (was is : Bytes) {before after : Bytes} {old new : Se
         line = on_ok_then answer (λ printed. record {
           report = printed.report;
           line = printed.line;
-          said = of_reports (stores printed).reports;
+          said = (stores printed).reports;
         }) did.printed;
         known = on_ok_then answer (λ printed. (stores printed).known) did.printed;
         swept = on_ok_then answer (λ printed. (stores printed).swept) did.printed;

@@ -28,7 +28,6 @@ mod program;
 mod sources;
 
 pub use fault::Fault;
-pub use line::{tell_fault, tell_wrong_words};
 pub use machine::Machine;
 pub use program::{refuse, run};
 pub use sources::deliver;

@@ -39,7 +39,7 @@ pub(crate) fn report_line(report: Report) -> ArrayVec<u8, REPORT_BYTES>
 /// Writes the line of a fault to standard error, in one piece.
 ///
 /// Error: `WriteFault`, where the writer failed or took no byte; then a prefix of the line was taken.
-pub fn tell_fault<E: Write>(fault: Fault, err: &mut E) -> Result<(), TextFault>
+pub(crate) fn tell_fault<E: Write>(fault: Fault, err: &mut E) -> Result<(), TextFault>
     ensures told { Writes (E.contents err.old) (E.contents err.new) result (told (fault_text fault)) }
     ensures causes { IfErr result (λ fault. fault ≡ TextFault.WriteFault) }
 {
@@ -49,7 +49,7 @@ pub fn tell_fault<E: Write>(fault: Fault, err: &mut E) -> Result<(), TextFault>
 /// Writes to standard error that the words are of no form, in one piece.
 ///
 /// Error: `WriteFault`, where the writer failed or took no byte; then a prefix of the line was taken.
-pub fn tell_wrong_words<E: Write>(err: &mut E) -> Result<(), TextFault>
+pub(crate) fn tell_wrong_words<E: Write>(err: &mut E) -> Result<(), TextFault>
     ensures told { Writes (E.contents err.old) (E.contents err.new) result (told (codes "wrong words")) }
     ensures causes { IfErr result (λ fault. fault ≡ TextFault.WriteFault) }
 {

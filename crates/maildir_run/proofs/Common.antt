@@ -54,7 +54,7 @@ pub use Rattle.maildir_run.specs.Files.{acted, Action, AgreeOnSpared, all_acted,
 pub use Rattle.maildir_run.specs.Files.{KeepsSpared, may_take, name_cmp, Outside, outsiders_of, Reflag, reflag, to_cur, ToCur, KeepsHomes}
 pub use Rattle.maildir_run.specs.Private.Given.{GivesBatch, GivesNoMore, IsPrefixOf, Gave, GaveAll, IsGiven, SourceStopped, StoppedAfter}
 pub use Rattle.maildir_run.specs.Private.Printing.{HasListed, IsOutput, PrintsMore}
-pub use Rattle.maildir_run.specs.Table.{info, table_of, message_row, place_word, shown_byte, shown_sender}
+pub use Rattle.maildir_run.specs.Table.{info, table_of, message_row, shown_byte, shown_sender}
 pub use Rattle.maildir_run.specs.MemFiles.{files_in, with_file, without_file}
 pub use Rattle.maildir_run.specs.Private.Parts.{DeliversMessages, Conversion, messages_after, names_in, OneTouches, Performed, run_tasks, ReportsTasks}
 pub use Rattle.maildir_run.specs.Touched.{Touches, TouchedOnly, TouchedConverters}

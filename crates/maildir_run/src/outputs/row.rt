@@ -2,9 +2,11 @@
 ghost use Rattle.std.specs.Prelude.{◌≡◌, ◌++◌, [], ◌∷◌, IfOk, OnOk, string_bytes};
 ghost use Rattle.std.specs.Fmt.{decimal};
 ghost use Rattle.mbox_text.specs.FromLine.{IsFromLine};
-ghost use Rattle.maildir_run.specs.Table.{info, message_row, place_word, shown_byte, shown_sender};
+ghost use Rattle.maildir_run.specs.Folders.{folder_name, folder_of_place};
+ghost use Rattle.maildir_run.specs.Table.{info, message_row, shown_byte, shown_sender};
 
-use maildir_name::{Place, Target};
+use crate::folder::Sub;
+use maildir_name::Target;
 use mbox_text::{Entry, sender_of};
 use std::alloc::{AllocError, Global};
 
@@ -28,23 +30,14 @@ pub(crate) fn row_of(
 
 // The row up to the sender.
 fn prefix_of(alloc: Global, index: u64, target: &Target, size: usize) -> Result<String, AllocError>
-    ensures { IfOk result (λ prefix. string_bytes prefix ≡ decimal index ++ 32 ∷ (target.now.base ++ 32 ∷ (place_word target.now.place
+    ensures { let place = folder_name (folder_of_place target.now.place) in
+        IfOk result (λ prefix. string_bytes prefix ≡ decimal index ++ 32 ∷ (target.now.base ++ 32 ∷ (place
         ++ 32 ∷ (info target.now.name ++ 32 ∷ (decimal size ++ 32 ∷ []))))) }
 {
     let base = target.base.as_str();
-    let place = place_word(target.place);
+    let place = Sub::of_place(target.place).name();
     let info = info_of(target.name.as_str());
     format!(in alloc; "{index} {base} {place} {info} {size} ")
-}
-
-// The name of the folder.
-fn place_word(place: Place) -> &'static str
-    ensures { result.now ≡ place_word place }
-{
-    match place {
-        Place::New => "new",
-        Place::Cur => "cur",
-    }
 }
 
 // What follows the first colon of a name, or a hyphen.
