@@ -6,7 +6,7 @@ from tools.common import TOP, text_of
 
 GHOST_USE = re.compile(r"^ *ghost use ([^\s;{]+?)(?:\.\{(.*?)\})?(?: as (\S+))?;", re.MULTILINE)
 ITEM = re.compile(r"^(pub )?(?:pub\(crate\) )?(?:(struct|enum|trait|fn) (\w+)|impl(?:<.*?>)? (?:(\w+)(?:<.*>)? for )?(\w+))", re.MULTILINE)
-EXPORT = re.compile(r"^pub use (\w+)::(?:\{([^}]*)\}|(\w+));", re.MULTILINE)
+EXPORT = re.compile(r"^pub use ((?:\w+::)*\w+)::(?:\{([^}]*)\}|(\w+));", re.MULTILINE)
 PUBLIC_MODULE = re.compile(r"^pub mod (\w+);", re.MULTILINE)
 # a function with its contract: up to the line where its body begins, or a semicolon
 FUNCTION = re.compile(r"^ *(pub )?(?:pub\(crate\) )?fn (\w+)(?:.*\n)*?(?:.*;|.*\{\}|(?! *ensures).*\{)$", re.MULTILINE)
@@ -47,7 +47,7 @@ def heads(block):
 
 def exports(lib):
     """The names that a crate exports, each with its module."""
-    return {name: module for module, many, one in EXPORT.findall(text_of(lib)) for name in re.findall(r"\w+", many or one)}
+    return {name: module.replace("::", ".") for module, many, one in EXPORT.findall(text_of(lib)) for name in re.findall(r"\w+", many or one)}
 
 
 def contracts(head, block, exported):

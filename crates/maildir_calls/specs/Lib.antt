@@ -2,7 +2,5 @@
 pub mod Answers
 -- What a file is, and whose.
 pub mod Own
--- The paths of a Maildir.
-pub mod Paths
 -- What a time of change says.
 pub mod Stamps

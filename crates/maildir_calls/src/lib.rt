@@ -23,5 +23,5 @@ mod stamps;
 
 pub use answers::{if_allowed, if_found, if_new, locked, not_moved, synced_if_possible};
 pub use own::{FILE_MODE, Facts, check_own, check_same, folder_mode, there_already};
-pub use paths::{Paths, sub_of};
+pub use paths::Paths;
 pub use stamps::time_of_change;

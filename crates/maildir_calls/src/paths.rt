@@ -1,9 +1,7 @@
 // The paths of a Maildir.
 ghost use Rattle.std.specs.Prelude.{◌≡◌, ◌++◌, ◌∷◌, codes, IfOk, string_bytes};
-ghost use Rattle.maildir_disk.specs.Paths.{folder_of_place};
-ghost use Rattle.maildir_calls.specs.Paths.{folder_name};
+ghost use Rattle.maildir_run.specs.Folders.{folder_name};
 
-use maildir_name::Place;
 use maildir_run::Sub;
 use std::alloc::{AllocError, Global};
 
@@ -42,7 +40,7 @@ impl Paths {
     pub fn folder(&self, sub: Sub) -> Result<String, AllocError>
         ensures { IfOk result (λ path. string_bytes path ≡ string_bytes self.now.root ++ 47 ∷ folder_name sub) }
     {
-        let (root, sub) = (self.root.as_str(), name_of(sub));
+        let (root, sub) = (self.root.as_str(), sub.name());
         format!(in self.alloc; "{root}/{sub}")
     }
 
@@ -50,27 +48,7 @@ impl Paths {
     pub fn file(&self, sub: Sub, name: &str) -> Result<String, AllocError>
         ensures { IfOk result (λ path. string_bytes path ≡ string_bytes self.now.root ++ 47 ∷ (folder_name sub ++ 47 ∷ name.now)) }
     {
-        let (root, sub) = (self.root.as_str(), name_of(sub));
+        let (root, sub) = (self.root.as_str(), sub.name());
         format!(in self.alloc; "{root}/{sub}/{name}")
-    }
-}
-
-/// The folder of a place.
-pub fn sub_of(place: Place) -> Sub
-    ensures { result ≡ folder_of_place place }
-{
-    match place {
-        Place::New => Sub::New,
-        Place::Cur => Sub::Cur,
-    }
-}
-
-fn name_of(sub: Sub) -> &'static str
-    ensures { result.now ≡ folder_name sub }
-{
-    match sub {
-        Sub::Tmp => "tmp",
-        Sub::New => "new",
-        Sub::Cur => "cur",
     }
 }

@@ -1,6 +1,6 @@
 -- What any commands leave of a Maildir that follow one another.
 use Rattle.std.proofs.Common.{◌≡◌, ℕ, ◌<◌, List, [], ◌∷◌, ◌++◌, length, get_or, All, Contains, IsTrue, Result, Ok, Err, zero, suc, ap, take, Bool}
-use Rattle.std.proofs.Common.{OnOk, refl, sym, subst, ◌∙◌, inl, inr, arith}
+use Rattle.std.proofs.Common.{OnOk, refl, sym, subst, inl, inr, arith}
 use Rattle.std.specs.FinMap.{empty, get-empty}
 use Rattle.std.proofs.lemmas.List.Sorted.{IsPermutation-trans}
 use Rattle.maildir_commands.proofs.Common.{All-contains, All-nil, AreAlike, AreAllSafe, AreAt, AreFit, AreIntact, Does, Fault, Files, HasBody, HeldMaildir}
@@ -14,11 +14,8 @@ use Rattle.maildir_run.proofs.Chains.Chains.{chain_keeps, chain_parts}
 use Rattle.maildir_disk.proofs.Kept.CutChains.{moved_sound}
 use Rattle.maildir_disk.proofs.Left.LeftHomes.{SteadyAt, intact_on, none_in, steady_kept}
 use Rattle.maildir_disk.proofs.Left.SingleHomes.{single_home, single_sound}
-use Rattle.maildir_commands.specs.declared.ending.Ending.{Ending}
-use Rattle.maildir_commands.specs.declared.ending.Ending.TheVariants.{Done, Stopped, WrongWords}
 use Rattle.maildir_commands.specs.Commands.{Commanded, Command, PrintedSafely, Cut, Event, Happens, IsHistory, IsNewTo, IsToDeliver, LeftByPowerCut, Readers}
-use Rattle.maildir_commands.specs.Endings.{status_of}
-use Rattle.maildir_commands.proofs.Endings.{one_no_two, one_no_zero, two_no_zero}
+use Rattle.maildir_commands.specs.Program.{Done, Ending, Stopped, WrongWords, status_of}
 use Rattle.maildir_commands.proofs.Known.{swept_rests}
 use Rattle.maildir_commands.proofs.Resting.{rest_same}
 use Rattle.maildir_commands.proofs.Several.{both_of, named_of, on_ok, on_ok_then, rest_all_safe, rest_sound, rest_stays, safe_stay}
@@ -204,15 +201,15 @@ module _ (spared : Spared) {M : Type 0} (seen : M → SeenMachine)
           let does = did.does asks.0 asks.1 in
           let all = doing asks.0 (Ok tt) does (ran.delivers asks.0 asks.1) in
           (all.0, does.honest spared well.0, λ zero. all.1)
-      ended (Stopped fault written) ends (did, line) =
+      ended (Stopped fault) ends (did, line) =
           let asks = did.form in
           let some = doing asks.0 (Err fault) (did.does asks.0 asks.1) (ran.delivers asks.0 asks.1) in
-          (some.0, ran.again ends, λ zero. absurd (one_no_zero (sym ends ∙ zero)))
-      ended (WrongWords written) ends wrong =
+          (some.0, ran.again ends, λ zero. absurd (omega (arith, ends, zero)))
+      ended WrongWords ends wrong =
           let same = (ran.ran.untouched ends).0 in (
             subst (λ m. Goes spared texts (at old) (at m)) (sym same) (goes_resting fit well.1 rest_same),
             subst (λ m. (seen m).honest spared) (sym same) well.0,
-            λ zero. absurd (two_no_zero (sym ends ∙ zero)),
+            λ zero. absurd (omega (arith, ends, zero)),
           )
 
       commanded : Goes spared texts (at old) (at new) × (seen new).honest spared × (status ≡ 0 → IsDone named new)
@@ -247,11 +244,11 @@ module _ (spared : Spared) {M : Type 0} (seen : M → SeenMachine)
       failed : (ending : Ending) → 1 ≡ status_of ending
           → Ran words ending (seen_at (seen old) ran.was) (seen_at (seen new) ran.is) ran.was.errors ran.is.errors
           → All (Contains texts) named × PrintedSafely spared named ran.was.output ran.is.output (at new)
-      failed Done ends done = absurd (one_no_zero ends)
-      failed (Stopped fault written) ends (did, line) =
+      failed Done ends done = absurd (omega (arith, ends))
+      failed (Stopped fault) ends (did, line) =
           let asks = did.form in
           failing asks.0 (did.does asks.0 asks.1) (ran.delivers asks.0 asks.1)
-      failed (WrongWords written) ends wrong = absurd (one_no_two ends)
+      failed WrongWords ends wrong = absurd (omega (arith, ends))
 
     -- ---- any events
     goes_event : (event : Event) (old new : M) → IsWell old → Happens spared seen maildir texts event old new

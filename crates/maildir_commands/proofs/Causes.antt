@@ -1,6 +1,6 @@
 -- Why a command ended with a fault.
 use Rattle.std.proofs.Common.{◌≡◌, ℕ, ◌≤◌, ◌⊎◌, ◌^◌, List, [], ◌∷◌, ◌++◌, length}
-use Rattle.std.proofs.Common.{Some, None, Result, Ok, Err, IfErr, IsErrAnd, refl, sym, ap, subst, inl, inr, arith}
+use Rattle.std.proofs.Common.{Some, None, Err, refl, sym, ap, subst, inl, inr, arith}
 use Rattle.maildir_commands.proofs.Common.{Bytes, Contains, Fault, Folder, Form, GivesNothing, IsCauseOf, IsFailedCall, IsNoMbox, IsOfDelivery, IsOfFiles}
 use Rattle.maildir_commands.proofs.Common.{IsOfOne, IsOfRun, IsPossibly, IsReading, IsTooLong, Locked, OpenFault, Possible, ReadsAtLeast, ReadsAtMost}
 use Rattle.maildir_commands.proofs.Common.{Report, Run, RunFault, Seen, SeenMachine, Source, ToConvert, ToWrite, fault_of_opening, length-append}
@@ -9,11 +9,6 @@ use Rattle.maildir_run.specs.declared.folder.FolderFault.TheVariants as folder
 use Rattle.maildir_run.specs.Counting.{CallNumber, GoesUpWith}
 use Rattle.maildir_disk.specs.declared.faults.OpenFault.TheVariants as opening
 use Rattle.maildir_commands.proofs.Several.{possible_whole}
-
--- where `?` returned this fault
-pub of_fault : {T E : Type 0} (answer : Result T E) {fault : E} (P : E → Type 0) → IsErrAnd answer (λ given. given ≡ fault) → P fault → IfErr answer P
-of_fault (Ok x) P given is = tt
-of_fault (Err e) P given is = subst P (sym given) is
 
 -- ---- a run
 pub of_run : (one : (List ℕ → Type 0) → Type 0) (fault : RunFault) → (fault ≡ run.NoFromLine → one IsNoMbox)

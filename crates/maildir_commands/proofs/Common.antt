@@ -9,7 +9,7 @@ pub use Rattle.maildir_commands.specs.Output.{WritesAll, WritesPrefix, output_of
 pub use Rattle.maildir_commands.specs.Private.Causes.{IsOfFiles}
 pub use Rattle.maildir_commands.specs.Private.Report.{DeliversFiles, DeliversOne, PrintsOne}
 pub use Rattle.maildir_commands.specs.Program.{Delivers, Did, Does, IsKnown, MayHaveHad, Ran, Works, source_of}
-pub use Rattle.maildir_commands.specs.Report.{AreReportsOf, AreTrueOf, IsReportOf, PrintsEach, PrintsReport, PrintsReports, PrintsSome, also, report_line}
+pub use Rattle.maildir_commands.specs.Report.{AreReportsOf, AreTrueOf, PrintsEach, PrintsReport, PrintsReports, PrintsSome, also, report_line}
 pub use Rattle.maildir_commands.specs.Seen.{OpenMaildir, Seen, SeenMachine, opened, seen_at, seen_with}
 pub use Rattle.maildir_commands.specs.Sources.{DeliversSource, KeepsSource, KeepsText, SeenMaildir, StopsSource, StoresSource, seen_folder}
 pub use Rattle.maildir_commands.specs.Words.{AskFor, Request, files_of}
@@ -28,7 +28,7 @@ pub use Rattle.maildir_run.proofs.Call.Homes.{spared_named}
 pub use Rattle.maildir_run.specs.Foreign.{KeepsForeign}
 pub use Rattle.maildir_run.specs.Output.{GivesAll, GivesNothing, GivesPrefix, WritesMessages}
 pub use Rattle.maildir_run.specs.Reading.{IsReading, ReadsAtLeast, ReadsAtMost}
-pub use Rattle.maildir_run.specs.Runs.{IsRun, Possible, ReportsMessages}
+pub use Rattle.maildir_run.specs.Runs.{IsReportOf, IsRun, Possible, ReportsMessages}
 pub use Rattle.maildir_run.specs.Several.{IsMailbox, Mailbox}
 pub use Rattle.maildir_run.specs.Touched.{TouchedConverters, TouchedNone}
 pub use Rattle.maildir_run.specs.declared.fault.RunFault.{RunFault}

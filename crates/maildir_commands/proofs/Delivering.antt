@@ -1,13 +1,14 @@
 -- What the delivery of one source owes, as the work goes on.
-use Rattle.std.proofs.Common.{◌≡◌, ◌⊎◌, [], Result, Ok, Err, IfErr, inl, inr}
-use Rattle.maildir_commands.proofs.Common.{All-head, Appends-kept, AppendsPrefix, AreAlike, AreIntact, Bytes, DeliversOne, DeliversSource, Fault, IsMailbox}
-use Rattle.maildir_commands.proofs.Common.{Keeps-refl, KeepsSource, Mailbox, Possible, PrintsOne, PrintsReport, Report, Run, SeenMaildir, AllSpared, Spared}
+use Rattle.std.proofs.Common.{◌≡◌, ◌⊎◌, ℕ, List, [], Result, Ok, Err, IfErr, IsErrAnd, inl, inr, subst, sym}
+use Rattle.maildir_commands.proofs.Common.{All-head, AllSpared, Appends, Appends-kept, AppendsPrefix, AreAlike, AreIntact, Bytes, DeliversOne, DeliversSource}
+use Rattle.maildir_commands.proofs.Common.{Fault, IsMailbox, Keeps-refl, KeepsSource, Mailbox, Possible, PrintsOne, PrintsReport, Report, Run, SeenMaildir}
+use Rattle.maildir_commands.proofs.Common.{Spared}
 use Rattle.maildir_commands.proofs.Common.{StopsSource, StoresSource, report_line}
 use Rattle.std.specs.Io.KnownBytes.{Keeps}
 use Rattle.maildir_run.specs.Delivery.{IsSoundAt}
+use Rattle.mbox_text.specs.Writing.{Writes}
 use Rattle.maildir_run.specs.declared.fault.RunFault.TheVariants as run
 use Rattle.maildir_commands.proofs.Causes.{of_output, output_no_call}
-use Rattle.maildir_commands.proofs.Known.{of_reports}
 use Rattle.maildir_commands.proofs.Several.{on_err_then, on_ok_then, prefix_of_all}
 
 -- a writer that failed is no call that failed
@@ -16,34 +17,32 @@ pub stops_output : {fault : Fault} {before after : Bytes} {old new : SeenMaildir
 stops_output {before = before} {after} is =
     record { cause = of_output before after is; failed_call = λ number is_call. output_no_call is is_call }
 
-module _ {before after : Bytes} {old new : SeenMaildir} (keeps : KeepsSource before after old new) where
-  -- nothing was written
-  pub not_stored : {fault : Fault} {was : Bytes} → StopsSource fault before after old new → DeliversSource (Err fault) before after was was old new
-  not_stored {was = was} stopped = record { keeps = keeps; printed = tt; stopped = stopped; prefix = inl (Keeps-refl was) }
-
-  -- it was delivered, and its line was written, or was not
-  pub not_printed : {fault : Fault} {was is : Bytes} (report : Report) → StoresSource report before after old new
-      → fault ≡ Run run.OutputFault → AppendsPrefix was is (report_line report) → DeliversSource (Err fault) before after was is old new
-  not_printed report stored is_output prefix =
-      record { keeps = keeps; printed = tt; stopped = stops_output is_output; prefix = inr (report, stored, prefix) }
-
--- and where its line is handed on, or is not
-pub source_handed : {before after was given kept : Bytes} {old new : SeenMaildir} → Keeps given kept
-    → DeliversSource (Ok tt) before after was given old new → (handed : Result Unit Fault) → IfErr handed (λ fault. fault ≡ Run run.OutputFault)
-    → DeliversSource handed before after was kept old new
-source_handed {was = was} {given} {kept} keeps did (Ok tt) causes = record {
-  keeps = did.keeps;
-  printed = record {
-    report = did.printed.report;
-    line = Appends-kept was given kept (report_line did.printed.report) did.printed.line keeps;
-    said = did.printed.said;
-  };
-  stopped = tt;
-  prefix = tt;
+-- nothing was written, where `?` answered this fault
+pub not_stored : {before after : Bytes} {old new : SeenMaildir} (answer : Result Unit Fault) {fault : Fault} {was : Bytes}
+    → IsErrAnd answer (λ given. given ≡ fault) → KeepsSource before after old new → StopsSource fault before after old new
+    → DeliversSource answer before after was was old new
+not_stored (Ok x) is keeps stopped = absurd is
+not_stored {before} {after} {old} {new} (Err e) {was = was} is keeps stopped = record {
+  keeps = keeps;
+  printed = tt;
+  stopped = subst (λ fault. StopsSource fault before after old new) (sym is) stopped;
+  prefix = inl (Keeps-refl was);
 }
-source_handed {was = was} {given} {kept} keeps did (Err fault) is_output =
-    let line = Appends-kept was given kept (report_line did.printed.report) did.printed.line keeps in
-    not_printed did.keeps did.printed.report did.printed.said is_output (prefix_of_all was kept line)
+
+-- it was delivered, and its line was written, or was not
+pub stored_printed : {before after was is : Bytes} {old new : SeenMaildir} {report : Report} → KeepsSource before after old new
+    → StoresSource report before after old new → (printed : Result Unit Fault) → Writes was is printed (report_line report)
+    → IfErr printed (λ fault. fault ≡ Run run.OutputFault) → DeliversSource printed before after was is old new
+stored_printed {report = report} keeps stored (Ok tt) line causes =
+    record { keeps = keeps; printed = record { report = report; line = line; said = stored }; stopped = tt; prefix = tt }
+stored_printed {report = report} keeps stored (Err fault) prefix is_output =
+    record { keeps = keeps; printed = tt; stopped = stops_output is_output; prefix = inr (report, stored, prefix) }
+
+-- a line that was given to a buffer, which handed it on, or did not
+pub line_handed : (was given kept : Bytes) (line : List ℕ) → Keeps given kept → Appends was given line → (handed : Result Unit Fault)
+    → Writes was kept handed line
+line_handed was given kept line keeps gave (Ok tt) = Appends-kept was given kept line gave keeps
+line_handed was given kept line keeps gave (Err fault) = prefix_of_all was kept (Appends-kept was given kept line gave keeps)
 
 -- ---- a text that the source may have had, and for which the Maildir is sound
 module _ (spared : Spared) (was is : Bytes) {before after : Bytes} {old new : SeenMaildir} (h : old.honest spared) (text : Mailbox) (are : IsMailbox text)
@@ -54,7 +53,7 @@ module _ (spared : Spared) (was is : Bytes) {before after : Bytes} {old new : Se
   one_stopped (inl keeps) = inl keeps
   one_stopped (inr (report, stored, prefix)) =
       let stores = stored.texts spared h text are possible sound in
-      inr (record { report = report; true_of = of_reports stores.reports; safe = stores.safe intact; line = prefix })
+      inr (record { report = report; true_of = stores.reports; safe = stores.safe intact; line = prefix })
 
   pub one_of : {answer : Result Unit Fault} → DeliversSource answer before after was is old new → DeliversOne spared answer text old.held new.held was is
   one_of {answer} did =
@@ -65,7 +64,7 @@ module _ (spared : Spared) (was is : Bytes) {before after : Bytes} {old new : Se
         line = on_ok_then answer (λ printed. record {
           report = printed.report;
           line = printed.line;
-          said = of_reports (stores printed).reports;
+          said = (stores printed).reports;
         }) did.printed;
         known = on_ok_then answer (λ printed. (stores printed).known) did.printed;
         swept = on_ok_then answer (λ printed. (stores printed).swept) did.printed;

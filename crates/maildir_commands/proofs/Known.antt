@@ -3,7 +3,7 @@ use Rattle.std.proofs.Common.{◌≡◌, ℕ, ◌+◌, ◌-◌, ◌≤◌, ◌||
 use Rattle.std.proofs.Common.{refl, sym, ap, subst, ◌∙◌, inl, inr, arith}
 use Rattle.std.proofs.lemmas.List.Folds.{Any-from_list_any}
 use Rattle.maildir_commands.proofs.Common.{Action, Acts, All-head, All-tail, AreReportsOf, Files, HasAlso, HeldMaildir, IsReportOf, Mailbox, Report}
-use Rattle.maildir_commands.proofs.Common.{ReportsMessages, Rests, World, acted, all_acted, also, cases_Bool, get, is_name}
+use Rattle.maildir_commands.proofs.Common.{Rests, World, acted, all_acted, also, cases_Bool, get, is_name}
 use Rattle.maildir_name.specs.Names.{is_converter_base, is_converter_name}
 use Rattle.maildir_run.specs.Delivery.{Message, AreNamed, IsHome, IsSwept, has_home, is_any, is_base_of, leftover_count}
 use Rattle.maildir_run.specs.Runs.{Keeps}
@@ -48,10 +48,6 @@ both_have {spared} {ms} {old} {mid} {report} keeps acts b named =
     (ap (λ s. has_home s b) acts.files_are ∙ acted_has spared b named acts.actions mid.files) ∙ run_has keeps b named
 
 -- ---- reports
-pub of_reports : {spared : Spared} {text : Mailbox} {old : Files} {report : Report}
-    → ReportsMessages spared text.messages old report → IsReportOf spared (has_home old) (leftover_count old) text report
-of_reports true_of = record { messages = true_of.messages; there = true_of.there; placed = true_of.placed; swept = true_of.swept }
-
 count_agree : (spared : Spared) {has had : List ℕ → Bool} → Agree spared has had → (ms : List Message) → AreNamed ms → All (IsSpared spared) ms
     → count_by (λ (m : Message). has m.target.base) ms ≡ count_by (λ (m : Message). had m.target.base) ms
 count_agree spared agree [] named all = refl
@@ -63,15 +59,14 @@ count_agree spared {has} {had} agree (m ∷ ms) named all =
     ∙ (ap (λ k. cond (had m.target.base) 1 0 + k) (count_agree spared agree ms rest (All-tail (IsSpared spared) m ms all))
     ∙ sym (count-cons (λ (n : Message). had n.target.base) m ms (had m.target.base) refl))
 
-pub report_agree : (spared : Spared) {has had : List ℕ → Bool} → Agree spared has had → {left most : ℕ} → (SparesAll spared → left ≤ most) → {text : Mailbox}
-    → AreNamed text.messages
-    → {report : Report} → IsReportOf spared had left text report → IsReportOf spared has most text report
-report_agree spared {has} {had} agree {left} {most} few {text} named {report} is =
+pub report_agree : (spared : Spared) {has had : List ℕ → Bool} → Agree spared has had → {left most : ℕ} → (SparesAll spared → left ≤ most) → {ms : List Message}
+    → AreNamed ms → {report : Report} → IsReportOf spared had left ms report → IsReportOf spared has most ms report
+report_agree spared {has} {had} agree {left} {most} few {ms} named {report} is =
     let same = count_agree spared agree _ named in
     record {
       messages = is.messages;
       there = λ all. subst (λ k. report.there ≡ k) (sym (same all)) (is.there all);
-      placed = λ all. subst (λ k. report.placed ≡ length text.messages - k) (sym (same all)) (is.placed all);
+      placed = λ all. subst (λ k. report.placed ≡ length ms - k) (sym (same all)) (is.placed all);
       swept = λ all. omega (arith, is.swept all, few all);
     }
 
@@ -108,16 +103,16 @@ none_after : (texts : List Mailbox) → left_after 0 texts ≡ 0
 none_after [] = refl
 none_after (text ∷ texts) = refl
 
-pub reports_more : (spared : Spared) (has : List ℕ → Bool) (left : ℕ) (texts : List Mailbox) (reports : List Report) {text : Mailbox} {report : Report}
-    → AreReportsOf spared has left texts reports → IsReportOf spared (also_all has texts) (left_after left texts) text report
+pub reports_more : (spared : Spared) (has : List ℕ → Bool) (left : ℕ) (texts : List Mailbox) (reports : List Report) (text : Mailbox) {report : Report}
+    → AreReportsOf spared has left texts reports → IsReportOf spared (also_all has texts) (left_after left texts) text.messages report
     → AreReportsOf spared has left (texts ++ text ∷ []) (reports ++ report ∷ [])
-reports_more spared has left [] [] before is = (is, tt)
-reports_more spared has left [] (other ∷ reports) before is = absurd before
-reports_more spared has left (first ∷ texts) [] before is = absurd before
-reports_more spared has left (first ∷ texts) (other ∷ reports) {text} {report} (one, rest) is = (
+reports_more spared has left [] [] text before is = (is, tt)
+reports_more spared has left [] (other ∷ reports) text before is = absurd before
+reports_more spared has left (first ∷ texts) [] text before is = absurd before
+reports_more spared has left (first ∷ texts) (other ∷ reports) text {report} (one, rest) is = (
   one,
-  reports_more spared (also has first) 0 texts reports rest
-      (subst (λ n. IsReportOf spared (also_all (also has first) texts) n text report) (sym (none_after texts)) is),
+  reports_more spared (also has first) 0 texts reports text rest
+      (subst (λ n. IsReportOf spared (also_all (also has first) texts) n text.messages report) (sym (none_after texts)) is),
 )
 
 -- ---- leftovers: other programs bring none

@@ -2,8 +2,6 @@
 pub mod Common
 -- Why a command ended with a fault.
 pub mod Causes
--- How the program's work ended.
-pub mod Endings
 -- What came of delivering several texts.
 pub mod Delivered
 -- What the words ask for.

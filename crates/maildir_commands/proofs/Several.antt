@@ -3,7 +3,7 @@ use Rattle.std.proofs.Common.{◌≡◌, ℕ, suc, ◌+◌, ◌<◌, ◌≤◌, 
 use Rattle.std.proofs.Common.{Result, OnOk, OnErr, Ok, Err, refl, sym, ap, subst, ◌∙◌, inl, inr, arith, add-one, append-nil, append_assoc}
 use Rattle.maildir_commands.proofs.Common.{All-cons, All-nil, All-take, Appends, Appends-kept, Appends-nil, Appends-trans, AppendsPrefix, Spared, SparesAll}
 use Rattle.maildir_commands.proofs.Common.{AreAlike, AreAllSafe, AreFit, AreSafe, AreTrueOf, Bytes, DeliversOne, Files, HasAlso, HeldMaildir}
-use Rattle.maildir_commands.proofs.Common.{IsMailbox, IsReportOf, IsSafeIn, IsSoundFor, Mailbox, OthersStay, Possible, PrintsEach, PrintsOne, PrintsReport}
+use Rattle.maildir_commands.proofs.Common.{IsMailbox, IsSafeIn, IsSoundFor, Mailbox, OthersStay, Possible, PrintsEach, PrintsOne, PrintsReport, ReportsMessages}
 use Rattle.maildir_commands.proofs.Common.{PrintsSome, ReadsAtMost, Report, Rests, Stays, bytes_of, cases_order, flat_map, flat_map-append, get_or-map}
 use Rattle.maildir_commands.proofs.Common.{get_or-take, get_or_default, length-map, length-take, report_line, take_all, take_more}
 use Rattle.std.specs.Io.KnownBytes.{Keeps}
@@ -214,16 +214,16 @@ module _ {spared : Spared} {texts : List Mailbox} (fit : AreFit texts) {n : ℕ}
   more : take (n + 1) texts ≡ take n texts ++ text_at texts n ∷ []
   more = take_more texts n no_text inside
 
-  true_more : {report : Report} → IsReportOf spared (has_home old.files) (leftover_count old.files) (text_at texts n) report
+  true_more : {report : Report} → ReportsMessages spared (text_at texts n).messages old.files report
       → AreTrueOf spared start.files (take (n + 1) texts) (up.reports ++ report ∷ [])
   true_more {report} is_true =
       subst (λ ts. AreTrueOf spared start.files ts (up.reports ++ report ∷ [])) (sym more)
-      (reports_more spared (has_home start.files) _ _ _ up.true_of
+      (reports_more spared (has_home start.files) _ _ _ _ up.true_of
       (report_agree spared (λ b named. sym (up.has b named)) up.left (named_all texts fit.are n no_text inside) is_true))
 
   -- one text more
   pub one_more : IsSafeIn spared new (text_at texts n)
-      → PrintsReport mid is (IsReportOf spared (has_home old.files) (leftover_count old.files) (text_at texts n))
+      → PrintsReport mid is (ReportsMessages spared (text_at texts n).messages old.files)
       → HasAlso spared (text_at texts n).messages old.files new.files → IsSwept spared new.files → UpTo spared (n + 1) texts start new was is
   one_more safe line known swept =
       let first = has_home start.files in

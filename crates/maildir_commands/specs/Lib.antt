@@ -1,7 +1,5 @@
 -- Why a command ended with a fault.
 pub mod Causes
--- How the program's work ended.
-pub mod Endings
 -- The words of the command line, and what they ask for.
 pub mod Words
 -- Which fault a command returns for what failed, and the line that reports it.

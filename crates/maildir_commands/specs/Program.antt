@@ -1,8 +1,9 @@
 -- What a run of the program owes.
-use Rattle.std.specs.Prelude.{◌≡◌, ℕ, List, [], length, max, codes, Option, Some, None, Result, Ok, Err, OnOk, OnErr, IfErr}
+use Rattle.std.specs.Prelude.{◌≡◌, ◌⊎◌, ℕ, List, [], length, max, codes, Option, Some, None, Result, Ok, Err, OnOk, OnErr, IfErr}
 use Rattle.std.specs.Io.KnownBytes.{Keeps}
 use Rattle.std.specs.declared.io.Error.{Error}
 use Rattle.mbox_text.specs.declared.entry.Entry.{Entry}
+use Rattle.mbox_text.specs.declared.fault.TextFault.{TextFault}
 use Rattle.mbox_text.specs.Writing.{Writes}
 use Rattle.maildir_run.specs.declared.fault.RunFault.TheVariants as run
 use Rattle.maildir_run.specs.Delivery.{IsSwept}
@@ -11,12 +12,9 @@ use Rattle.maildir_run.specs.Runs.{Possible}
 use Rattle.maildir_run.specs.Several.{Mailbox}
 use Rattle.maildir_run.specs.Touched.{TouchedConverters}
 use Rattle.maildir_disk.specs.Faults.{IsFailedAllocation}
-use Rattle.maildir_commands.specs.declared.ending.Ending.{Ending}
-use Rattle.maildir_commands.specs.declared.ending.Ending.TheVariants.{Done, Stopped, WrongWords}
 use Rattle.maildir_commands.specs.declared.fault.Fault.{Fault}
 use Rattle.maildir_commands.specs.declared.fault.Fault.TheVariants.{Run}
 use Rattle.maildir_commands.specs.Causes.{IsCauseOf}
-use Rattle.maildir_commands.specs.Endings.{status_of}
 use Rattle.maildir_commands.specs.Faults.{fault_text, told}
 use Rattle.maildir_commands.specs.Machines.{AreAllSafe, AreFit, GivesTexts, HeldMaildir, IsSoundFor, OthersStay, Rests}
 use Rattle.maildir_commands.specs.Output.{WritesAll, WritesPrefix, output_of}
@@ -110,12 +108,28 @@ pub record Did (words : List (List ℕ)) (answer : Result Unit Fault) (old new :
   pub form : AreOfAForm words
   pub does : (request : Request) → AskFor words request → Does request answer old new
 
+-- a line was written, or a prefix of it where the writer failed
+abbrev pub Tells : List ℕ → Option (List ℕ) → Option (List ℕ) → Type 0
+Tells line was is = (written : Result Unit TextFault) × Writes was is written line
+
+-- how a run ended: it is done, a fault stopped it, or the words are wrong
+pub data Ending : Type 0 where
+  Done : Ending
+  Stopped : (fault : Fault) → Ending
+  WrongWords : Ending
+
+-- the status of the program (this project's own rule)
+abbrev pub status_of : Ending → ℕ
+status_of Done = 0
+status_of (Stopped fault) = 1
+status_of WrongWords = 2
+
 -- A run of the program with these words ended so. `was` and `is` are what had been written to standard error, before it and after it: nothing
 -- where all was done; else one line, that of the fault which ended the work or for wrong words, or a prefix of it where the writer failed.
 abbrev pub Ran : List (List ℕ) → Ending → Seen → Seen → Option (List ℕ) → Option (List ℕ) → Type 0
 Ran words Done old new was is = Did words (Ok tt) old new × Keeps was is
-Ran words (Stopped fault written) old new was is = Did words (Err fault) old new × Writes was is written (told (fault_text fault))
-Ran words (WrongWords written) old new was is = ¬ AreOfAForm words × Writes was is written (told (codes "wrong words"))
+Ran words (Stopped fault) old new was is = Did words (Err fault) old new × Tells (told (fault_text fault)) was is
+Ran words WrongWords old new was is = ¬ AreOfAForm words × Tells (told (codes "wrong words")) was is
 
 -- A run of the program with these words ended with this status, from one moment of a machine and of its streams to another.
 pub record RanOn {M : Type 0} (at : M → SeenMachine) (words : List (List ℕ)) (status : ℕ) (old new : M) (was is : Streams) : Type 0 where
@@ -125,10 +139,8 @@ pub record RanOn {M : Type 0} (at : M → SeenMachine) (words : List (List ℕ))
   -- where the words are of no form, nothing was done
   pub untouched : status ≡ 2 → (new ≡ old) × (is.input ≡ was.input)
 
--- The words could not be read with this error, and the program ended so: for want of memory, or since they are of no form. `was` and `is` are what had
--- been written to standard error, as above.
-abbrev pub Refuses : Error → Ending → Option (List ℕ) → Option (List ℕ) → Type 0
-Refuses error Done was is = ⊥
-Refuses error (Stopped fault written) was is =
-    IsFailedAllocation error × (fault ≡ Run run.OutOfMemory) × Writes was is written (told (fault_text fault))
-Refuses error (WrongWords written) was is = ¬ IsFailedAllocation error × Writes was is written (told (codes "wrong words"))
+-- The words could not be read with this error, and the program ended so with this status: for want of memory, or since they are of no form.
+abbrev pub Refuses : Error → ℕ → Option (List ℕ) → Option (List ℕ) → Type 0
+Refuses error status was is =
+    (IsFailedAllocation error × (status ≡ 1) × Tells (told (fault_text (Run run.OutOfMemory))) was is)
+    ⊎ (¬ IsFailedAllocation error × (status ≡ 2) × Tells (told (codes "wrong words")) was is)

@@ -1,12 +1,13 @@
 -- What is printed of a conversion.
-use Rattle.std.specs.Prelude.{◌≡◌, ◌≤◌, ℕ, ◌-◌, ◌||◌, Bool, List, [], ◌∷◌, ◌++◌, length, take, count_by, codes, Option, All}
+use Rattle.std.specs.Prelude.{◌≡◌, ℕ, ◌||◌, Bool, List, [], ◌∷◌, ◌++◌, length, take, codes, Option}
 use Rattle.std.specs.Fmt.{decimal}
 use Rattle.std.specs.Io.KnownBytes.{Appends}
 use Rattle.std.specs.List.{flat_map}
 use Rattle.mbox_text.specs.Writing.{AppendsPrefix}
-use Rattle.maildir_run.specs.Delivery.{has_home, is_base_of, leftover_count, IsSpared}
-use Rattle.maildir_run.specs.Files.{Files, Spared, SparesAll}
+use Rattle.maildir_run.specs.Delivery.{has_home, is_base_of, leftover_count}
+use Rattle.maildir_run.specs.Files.{Files, Spared}
 use Rattle.maildir_run.specs.declared.report.Report.{Report}
+use Rattle.maildir_run.specs.Runs.{IsReportOf}
 use Rattle.maildir_run.specs.Several.{Mailbox}
 use Rattle.maildir_commands.specs.Machines.{HeldMaildir, AreAllSafe}
 
@@ -25,20 +26,6 @@ pub record PrintsReport (was is : Option (List ℕ)) (as_said : Report → Type 
 abbrev pub PrintsReports : Option (List ℕ) → Option (List ℕ) → ℕ → Type 0
 PrintsReports was is runs = (reports : List Report) × (length reports ≡ runs) × Appends was is (flat_map report_line reports)
 
--- how many messages of the text have a home, where this tells which bases have one
-abbrev pub known_count : (List ℕ → Bool) → Mailbox → ℕ
-known_count has text = count_by (λ m. has m.target.base) text.messages
-
--- A report of a run over a text: its messages, those that had a home as the run began, and those that it placed; and of this many leftovers at
--- most, those that it swept.
-pub record IsReportOf (spared : Spared) (has : List ℕ → Bool) (leftovers : ℕ) (text : Mailbox) (report : Report) : Type 0 where
-  pub messages : report.messages ≡ length text.messages
-  -- if all of its messages are spared
-  pub there : All (IsSpared spared) text.messages → report.there ≡ known_count has text
-  pub placed : All (IsSpared spared) text.messages → report.placed ≡ length text.messages - known_count has text
-  -- if every converter's base is
-  pub swept : SparesAll spared → report.swept ≤ leftovers
-
 -- which bases have a home once a text was delivered
 abbrev pub also : (List ℕ → Bool) → Mailbox → List ℕ → Bool
 also has text b = is_base_of text.messages b || has b
@@ -49,7 +36,7 @@ AreReportsOf spared has leftovers [] [] = Unit {0}
 AreReportsOf spared has leftovers [] (report ∷ reports) = ⊥
 AreReportsOf spared has leftovers (text ∷ texts) [] = ⊥
 AreReportsOf spared has leftovers (text ∷ texts) (report ∷ reports) =
-    IsReportOf spared has leftovers text report × AreReportsOf spared (also has text) 0 texts reports
+    IsReportOf spared has leftovers text.messages report × AreReportsOf spared (also has text) 0 texts reports
 
 -- reports that are true of runs over these texts, which begin with these files
 abbrev pub AreTrueOf : Spared → Files → List Mailbox → List Report → Type 0

@@ -1,8 +1,7 @@
 //! The commands of the program: their words, their input and output, and the status that each ends with.
 //!
 //! [`run`] does what the words of the command line say, on any [`Machine`], and returns the status: 0 if it is done, 1 after a
-//! [`Fault`], 2 if the words are wrong. [`execute`] does the same and returns an [`Ending`]. [`deliver`] delivers one source
-//! into a folder and syncs it.
+//! [`Fault`], 2 if the words are wrong. [`deliver`] delivers one source into a folder and syncs it.
 //!
 //! Proved: the words alone decide which command runs; with status 0 every message of every named source is delivered, synced
 //! and reported, or every message is written to the output; each fault is possible for its command, and its cause holds, but
@@ -22,20 +21,14 @@
 #![tactic(auto)]
 
 mod command;
-mod ending;
 mod fault;
 pub mod laws;
 mod line;
 mod machine;
 mod program;
-mod report_line;
 mod sources;
-mod streams;
-mod telling;
 
-pub use ending::Ending;
 pub use fault::Fault;
 pub use machine::Machine;
-pub use program::{execute, refuse, run};
+pub use program::{refuse, run};
 pub use sources::deliver;
-pub use telling::{tell_fault, tell_wrong_words};

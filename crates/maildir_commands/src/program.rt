@@ -2,20 +2,17 @@
 ghost use Rattle.std.specs.Prelude.{◌≡◌, ◌^◌, [], map, string_bytes};
 ghost use Rattle.std.specs.Io.Buffered.{writer_buffer, writer_contents};
 ghost use Rattle.maildir_run.specs.Output.{WritesMessages};
-ghost use Rattle.maildir_commands.specs.Endings.{status_of};
 ghost use Rattle.maildir_commands.specs.Output.{output_of};
-ghost use Rattle.maildir_commands.specs.Program.{Does, Ran, RanOn, Refuses};
+ghost use Rattle.maildir_commands.specs.Program.{Does, RanOn, Refuses};
 ghost use Rattle.maildir_commands.specs.Seen.{seen_with, streams};
 ghost use Rattle.maildir_commands.specs.Words.Request.{ToWrite};
-ghost use Rattle.maildir_commands.specs.Private.Words.{name_of, request};
+ghost use Rattle.maildir_commands.specs.Private.Words.{name_of};
 
 use crate::command::{Command, Form};
-use crate::ending::Ending;
 use crate::fault::Fault;
+use crate::line::{tell_fault, tell_wrong_words};
 use crate::machine::Machine;
-use crate::sources::deliver_sources;
-use crate::streams::{READS, flush, open};
-use crate::telling::{tell_fault, tell_wrong_words};
+use crate::sources::{READS, deliver_sources, flush, open};
 use maildir_disk::is_failed_allocation;
 use maildir_run::{RunFault, list_text, rewrite};
 use std::alloc::Global;
@@ -23,8 +20,8 @@ use std::io;
 use std::io::{BufWriter, Read, Write};
 
 /// Does the program's work, and returns its status: 0 if it is done; 1 after a fault and 2 for wrong words, each with one
-/// line on standard error. A fault in writing to standard error changes no status. The output goes through the buffer, which
-/// is flushed after status 0.
+/// line on standard error, or a prefix of it. A fault in writing to standard error changes no status. The output goes through
+/// the buffer, which is flushed once the work is done.
 pub fn run<M: Machine, I: Read, W: Write + Drop, E: Write>(
     machine: &mut M,
     alloc: Global,
@@ -39,72 +36,37 @@ pub fn run<M: Machine, I: Read, W: Write + Drop, E: Write>(
     ensures handed { result ≡ 0 → writer_buffer out.new ≡ [] }
     ensures untouched { result ≡ 2 → out.new ≡ out.old }
 {
-    execute(machine, alloc, words, input, out, err).status()
-}
-
-/// Does the program's work, and returns how it ended: done, with a fault, or with wrong words; the latter two with one line
-/// on standard error, or a prefix of it. A fault in writing to standard error changes nothing else. The output goes through
-/// the buffer, which is flushed once the work is done.
-pub fn execute<M: Machine, I: Read, W: Write + Drop, E: Write>(
-    machine: &mut M,
-    alloc: Global,
-    words: &[String],
-    input: &mut I,
-    out: &mut BufWriter<W>,
-    err: &mut E,
-) -> Ending
-    ensures ran { let at = M.at in
-        Ran (map string_bytes words.now) result
-        (seen_with (at machine.old) (I.remaining input.old) (writer_contents W.contents out.old))
-        (seen_with (at machine.new) (I.remaining input.new) (writer_contents W.contents out.new))
-        (E.contents err.old) (E.contents err.new) }
-    ensures handed { status_of result ≡ 0 → writer_buffer out.new ≡ [] }
-    ensures untouched { status_of result ≡ 2 →
-        (machine.new ≡ machine.old) × (out.new ≡ out.old) × (I.remaining input.new ≡ I.remaining input.old) }
-{
     let Some(command) = Command::of(words) else {
-        return Ending::WrongWords(tell_wrong_words(err));
+        let _ = tell_wrong_words(err);
+        return 2;
     };
-    let answer = work(machine, alloc, command, input, out);
-    // what was written is handed on also after a fault
-    match answer.and(flush(out)) {
-        Ok(()) => Ending::Done,
-        Err(fault) => Ending::Stopped(fault, tell_fault(fault, err)),
-    }
-}
-
-/// Tells on standard error why the words could not be read, and returns how the program ended: an allocation failed, or they
-/// are of no form, as those that are not UTF-8.
-pub fn refuse<E: Write>(error: &io::Error, err: &mut E) -> Ending
-    ensures { Refuses error.now result (E.contents err.old) (E.contents err.new) }
-{
-    if is_failed_allocation(error) {
-        let fault = Fault::Run(RunFault::OutOfMemory);
-        Ending::Stopped(fault, tell_fault(fault, err))
-    } else {
-        Ending::WrongWords(tell_wrong_words(err))
-    }
-}
-
-// Does the work of a command.
-fn work<M: Machine, I: Read, W: Write + Drop>(
-    machine: &mut M,
-    alloc: Global,
-    command: Command<'_>,
-    input: &mut I,
-    out: &mut BufWriter<W>,
-) -> Result<(), Fault>
-    ensures does { let at = M.at in
-        Does (request command.entry) result
-        (seen_with (at machine.old) (I.remaining input.old) (writer_contents W.contents out.old))
-        (seen_with (at machine.new) (I.remaining input.new) (writer_contents W.contents out.new)) }
-{
-    match command {
+    let answer = match command {
         Command::Write(form, file) => write_out(machine, alloc, form, file, input, out),
         Command::Convert(maildir, files) => {
             deliver_sources(machine, alloc, maildir, files, input, out)
         }
+    };
+    // what was written is handed on also after a fault
+    match answer.and(flush(out)) {
+        Ok(()) => 0,
+        Err(fault) => {
+            let _ = tell_fault(fault, err);
+            1
+        }
     }
+}
+
+/// Tells on standard error why the words could not be read, and returns the status: 1 where an allocation failed, else 2,
+/// since they are of no form, as those that are not UTF-8.
+pub fn refuse<E: Write>(error: &io::Error, err: &mut E) -> u8
+    ensures { Refuses error.now result (E.contents err.old) (E.contents err.new) }
+{
+    if is_failed_allocation(error) {
+        let _ = tell_fault(Fault::Run(RunFault::OutOfMemory), err);
+        return 1;
+    }
+    let _ = tell_wrong_words(err);
+    2
 }
 
 // Writes the messages of the file, or of standard input where none is named.

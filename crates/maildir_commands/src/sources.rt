@@ -1,23 +1,27 @@
 // The sources of a conversion, each with a run of its own and its line.
-ghost use Rattle.std.specs.Prelude.{◌≡◌, ◌+◌, ◌*◌, ◌-◌, ◌^◌, min, [], map, string_bytes, IfOk, IfErr, OnOk};
+ghost use Rattle.std.specs.Prelude.{◌≡◌, ◌⊎◌, ◌+◌, ◌*◌, ◌-◌, ◌^◌, min, [], map, string_bytes, IfErr, OnOk};
 ghost use Rattle.std.specs.Io.Buffered.{writer_buffer, writer_contents};
+ghost use Rattle.std.specs.Io.KnownBytes.{Keeps};
 ghost use Rattle.mbox_text.specs.Writing.{Writes};
+ghost use Rattle.maildir_commands.specs.Opening.{OpensSource};
 ghost use Rattle.maildir_commands.specs.Program.{Does};
 ghost use Rattle.maildir_commands.specs.Report.{report_line};
 ghost use Rattle.maildir_commands.specs.Seen.{seen_with};
-ghost use Rattle.maildir_commands.specs.Sources.{DeliversSource, KeepsSource, StopsSource, StoresSource, seen_folder};
+ghost use Rattle.maildir_commands.specs.Sources.{DeliversSource, seen_folder};
 ghost use Rattle.maildir_commands.specs.Words.Request.{ToConvert};
 ghost use Rattle.maildir_commands.specs.Private.Report.{DeliversFiles};
 
 use crate::fault::Fault;
+use crate::line::report_line;
 use crate::machine::Machine;
-use crate::report_line::report_line;
-use crate::streams::{READS, flush, open};
 use maildir_disk::{DiskFolder, System};
 use maildir_run::{Folder, Report, RunFault, convert};
 use mbox_text::write_bytes;
 use std::alloc::Global;
 use std::io::{BufWriter, Read, Write};
+
+/// How many reads a run makes at most.
+pub(crate) const READS: u64 = 1 << 40;
 
 /// Delivers the messages of standard input, or of each file where files are named, into the Maildir. The first file is
 /// opened before the Maildir, so that a file that cannot be opened leaves no folder behind.
@@ -36,7 +40,7 @@ pub(crate) fn deliver_sources<M: Machine, I: Read, W: Write + Drop>(
 {
     let Some((first, rest)) = files.split_first() else {
         let mut folder = DiskFolder::new(machine.open_maildir(maildir)?);
-        let answer = deliver_one(alloc, &mut folder, input, out);
+        let answer = deliver(alloc, &mut folder, input, out);
         machine.close_maildir(maildir, folder.into_system());
         return answer;
     };
@@ -60,16 +64,19 @@ fn deliver_each<M: Machine, W: Write + Drop>(
         DeliversFiles (M.Source.remaining first.old) (map string_bytes rest.now) result (at machine.old) (at machine.new)
         (folder_at folder.old) (folder_at folder.new) (writer_contents W.contents out.old) (writer_contents W.contents out.new) }
 {
-    deliver_one(alloc, folder, first, out)?;
+    deliver(alloc, folder, first, out)?;
     for path in rest {
         let mut source = open(machine, path.as_str())?;
-        deliver_one(alloc, folder, &mut source, out)?;
+        deliver(alloc, folder, &mut source, out)?;
     }
     Ok(())
 }
 
-// Delivers the messages of one source, and hands on its line.
-fn deliver_one<S: System, I: Read, W: Write + Drop>(
+/// Delivers the messages of one source, by a run of its own, syncs the Maildir and then prints the run's line and hands it
+/// on: each line that was printed stays true, whatever becomes of the next source, and through a power cut (this project's
+/// own rule). The fault is the run's, the sync's (the folder call after the run's last, or `OutOfMemory`), or
+/// `OutputFault` where the line could not be written.
+pub fn deliver<S: System, I: Read, W: Write + Drop>(
     alloc: Global,
     folder: &mut DiskFolder<S>,
     source: &mut I,
@@ -80,47 +87,11 @@ fn deliver_one<S: System, I: Read, W: Write + Drop>(
         (writer_contents W.contents out.old) (writer_contents W.contents out.new) (at folder.old) (at folder.new) }
     ensures handed { OnOk result (writer_buffer out.new ≡ []) }
 {
-    deliver(alloc, folder, source, out)?;
-    flush(out)
-}
-
-/// Delivers the messages of one source, by a run of its own, syncs the Maildir and then prints the run's line at once:
-/// each line that was printed stays true, whatever becomes of the next source, and through a power cut (this project's
-/// own rule). The fault is the run's, the sync's (the folder call after the run's last, or `OutOfMemory`), or
-/// `OutputFault` where the line could not be written.
-pub fn deliver<S: System, I: Read, W: Write>(
-    alloc: Global,
-    folder: &mut DiskFolder<S>,
-    source: &mut I,
-    out: &mut W,
-) -> Result<(), Fault>
-    ensures does { let at = seen_folder S.System in
-        DeliversSource result (I.remaining source.old) (I.remaining source.new) (W.contents out.old) (W.contents out.new)
-        (at folder.old) (at folder.new) }
-{
-    let report = store(alloc, folder, source)?;
-    print_report(report, out)?;
-    Ok(())
-}
-
-// Delivers the messages of one source, by a run of its own, and syncs the Maildir.
-fn store<S: System, I: Read>(
-    alloc: Global,
-    folder: &mut DiskFolder<S>,
-    source: &mut I,
-) -> Result<Report, Fault>
-    ensures keeps { let at = seen_folder S.System in
-        KeepsSource (I.remaining source.old) (I.remaining source.new) (at folder.old) (at folder.new) }
-    ensures stored { let at = seen_folder S.System in
-        IfOk result (λ report. StoresSource report (I.remaining source.old) (I.remaining source.new) (at folder.old) (at folder.new)) }
-    ensures stopped { let at = seen_folder S.System in
-        IfErr result (λ fault. StopsSource fault (I.remaining source.old) (I.remaining source.new) (at folder.old) (at folder.new)) }
-{
     let report = convert(alloc, folder, source, READS)?;
     folder
         .sync()
         .map_err(|fault| Fault::of_sync(fault, calls_of(report)))?;
-    Ok(report)
+    print_report(report, out)
 }
 
 // How many calls of the folder a run made that gave this report: three listings, a removal for each file that was
@@ -135,10 +106,35 @@ fn calls_of(report: Report) -> u64
         .saturating_add(3)
 }
 
-// Prints the line of a run, in one piece.
-fn print_report<W: Write>(report: Report, out: &mut W) -> Result<(), RunFault>
-    ensures printed { Writes (W.contents out.old) (W.contents out.new) result (report_line report) }
-    ensures causes { IfErr result (λ fault. fault ≡ RunFault.OutputFault) }
+// Prints the line of a run, and hands it on.
+fn print_report<W: Write + Drop>(report: Report, out: &mut BufWriter<W>) -> Result<(), Fault>
+    ensures printed { Writes (writer_contents W.contents out.old) (writer_contents W.contents out.new) result (report_line report) }
+    ensures handed { OnOk result (writer_buffer out.new ≡ []) }
+    ensures causes { IfErr result (λ fault. fault ≡ Fault.Run RunFault.OutputFault) }
 {
-    write_bytes(report_line(report).as_slice(), out).map_err(|_| RunFault::OutputFault)
+    match write_bytes(report_line(report).as_slice(), out) {
+        Ok(()) => flush(out),
+        Err(_) => Err(Fault::Run(RunFault::OutputFault)),
+    }
+}
+
+/// Opens a file that is named as a source.
+pub(crate) fn open<M: Machine>(machine: &mut M, path: &str) -> Result<M::Source, Fault>
+    ensures opens { OpensSource M.Source.remaining (λ fault. fault ≡ Fault.Source) path.now result (M.at machine.old) (M.at machine.new) }
+    ensures causes { IfErr result (λ fault. (fault ≡ Fault.Source) ⊎ (fault ≡ Fault.Run RunFault.OutOfMemory)) }
+{
+    match machine.open_source(path) {
+        Ok(source) => Ok(source),
+        Err(error) => Err(Fault::of_source(&error)),
+    }
+}
+
+/// Hands on all that was written.
+pub(crate) fn flush<W: Write + Drop>(out: &mut BufWriter<W>) -> Result<(), Fault>
+    ensures same { Keeps (writer_contents W.contents out.old) (writer_contents W.contents out.new) }
+    ensures handed { OnOk result (writer_buffer out.new ≡ []) }
+    ensures causes { IfErr result (λ fault. fault ≡ Fault.Run RunFault.OutputFault) }
+{
+    out.flush().map_err(|_| RunFault::OutputFault)?;
+    Ok(())
 }

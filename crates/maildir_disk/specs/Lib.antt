@@ -4,8 +4,6 @@ pub mod World
 pub mod Writing
 -- What it means that a placement finds no file.
 pub mod Placing
--- The folder of a place.
-pub mod Paths
 -- What is seen of a system at one moment, and what its calls do to that.
 pub mod SeenSystem
 -- What is seen of a Maildir on a file system, and what a sync of it does.

@@ -21,6 +21,8 @@ use std::io::ErrorKind;
 #[derive(Drop)]
 pub struct DiskFolder<S> {
     system: S,
+    // No code reads these two: contracts compare them, as those that say how many calls a run made, and that a fault has its
+    // one failed call. With 128 bits they never begin again from 0.
     calls: u128,
     failures: u128,
 }

@@ -5,7 +5,7 @@ ghost use Rattle.std.specs.declared.io.ErrorKind.TheVariants.{NotFound};
 ghost use Rattle.maildir_run.specs.Calls.Call.{Placing, Removing};
 ghost use Rattle.maildir_run.specs.Cuts.{Follows};
 ghost use Rattle.maildir_run.specs.Files.{Spared};
-ghost use Rattle.maildir_disk.specs.Paths.{folder_of_place};
+ghost use Rattle.maildir_run.specs.Folders.{folder_of_place};
 ghost use Rattle.maildir_disk.specs.Placing.{WasGone};
 ghost use Rattle.maildir_disk.specs.PowerCuts.{KeepsHeld, KeepsNames};
 ghost use Rattle.maildir_disk.specs.SeenSystem.{Appends, Asks, Looks, MakesFile, SeenSystem, TakesFromTmp};

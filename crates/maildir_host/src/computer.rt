@@ -1,5 +1,4 @@
 // The machine of the program.
-ghost use Rattle.std.specs.Prelude.{◌≡◌};
 ghost use Rattle.maildir_commands.proofs.Resting.{same_at};
 ghost use Rattle.maildir_commands.specs.Seen.{nothing_seen};
 
@@ -20,10 +19,7 @@ pub struct Computer<'a, R> {
 
 impl<'a, R> Computer<'a, R> {
     /// The machine of this runtime.
-    pub fn new(rt: &'a R, alloc: Global) -> Self
-        ensures runtime { result.rt.now ≡ rt.now }
-        ensures allocator { result.alloc ≡ alloc }
-    {
+    pub fn new(rt: &'a R, alloc: Global) -> Self {
         Computer { rt, alloc }
     }
 }

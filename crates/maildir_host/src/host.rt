@@ -4,7 +4,7 @@ ghost use Rattle.maildir_host.specs.Paths.{root_at, root_of};
 
 use crate::disk;
 use crate::lock::lock_folder;
-use maildir_calls::{Paths, sub_of};
+use maildir_calls::Paths;
 use maildir_disk::{DiskFolder, OpenFault, System};
 use maildir_name::Place;
 use maildir_run::{Folder, FolderFault, Sub};
@@ -139,7 +139,7 @@ impl<'a, R: Files + Clock> System for Host<'a, R> {
 
     fn rename(&mut self, name: &str, place: Place, target: &str) -> io::Result<()> {
         let from = self.paths.file(Sub::Tmp, name)?;
-        let to = self.paths.file(sub_of(place), target)?;
+        let to = self.paths.file(Sub::of_place(place), target)?;
         disk::rename(self.rt, from.as_str(), to.as_str())
     }
 
@@ -148,7 +148,7 @@ impl<'a, R: Files + Clock> System for Host<'a, R> {
     }
 
     fn sync_folder(&mut self, place: Place) -> io::Result<()> {
-        disk::sync_folder(self.rt, self.paths.folder(sub_of(place))?.as_str())
+        disk::sync_folder(self.rt, self.paths.folder(Sub::of_place(place))?.as_str())
     }
 
     fn sync_root(&mut self) -> io::Result<()> {

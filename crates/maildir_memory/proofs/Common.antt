@@ -12,7 +12,7 @@ pub use Rattle.maildir_run.specs.MemFolder.{files_of, SameScript}
 pub use Rattle.maildir_run.specs.Script.{half_performed}
 pub use Rattle.maildir_run.specs.declared.folder.Sub.{Sub}
 pub use Rattle.maildir_run.specs.declared.folder.Sub.TheVariants.{Tmp}
-pub use Rattle.maildir_run.specs.declared.mem_folder.MemFolder.{MemFolder}
+pub use Rattle.maildir_run.specs.declared.in_memory.mem_folder.MemFolder.{MemFolder}
 pub use Rattle.maildir_memory.specs.Cases.{HasRoom, lefts_of, may_find}
 pub use Rattle.maildir_memory.specs.MemSystem.{opened_as, world_of}
 pub use Rattle.maildir_memory.specs.TurnActs.{Spares}

@@ -1,7 +1,7 @@
 -- The cases of what a power cut may leave of a Maildir in memory.
 use Rattle.std.specs.Prelude.{◌≡◌, ◌⊎◌, ◌<◌, List, length, map, Contains}
 use Rattle.maildir_run.specs.Files.{Files}
-use Rattle.maildir_run.specs.declared.mem_folder.MemFolder.{MemFolder}
+use Rattle.maildir_run.specs.declared.in_memory.mem_folder.MemFolder.{MemFolder}
 use Rattle.maildir_run.specs.MemFolder.{files_of}
 use Rattle.maildir_memory.specs.declared.cases.Cases.{Cases}
 

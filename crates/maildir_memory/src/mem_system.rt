@@ -9,7 +9,6 @@ ghost use Rattle.maildir_run.specs.Files.{Spared};
 ghost use Rattle.maildir_run.specs.MemFiles.{no_files};
 ghost use Rattle.maildir_run.specs.MemFolder.{IsQuiet, files_of};
 ghost use Rattle.maildir_memory.specs.Cases.{HasRoom, lefts_of};
-ghost use Rattle.maildir_disk.specs.Paths.{folder_of_place};
 ghost use Rattle.maildir_disk.specs.Placing.{WasGone};
 ghost use Rattle.maildir_disk.specs.SeenSystem.{Appends, MakesFile, TakesFromTmp};
 ghost use Rattle.maildir_memory.specs.MemSystem.{IsHonest, SparesByTurns, MayLose, MayLosePrefixes, cases_of, opened_as, seen_system};
@@ -289,7 +288,7 @@ impl System for MemSystem {
 
     fn sync_folder(&mut self, place: Place) -> io::Result<()> {
         self.pass_shortly()?;
-        self.cases.keep_names(&self.folder, sub_of(place));
+        self.cases.keep_names(&self.folder, Sub::of_place(place));
         Ok(())
     }
 
@@ -297,15 +296,6 @@ impl System for MemSystem {
         self.pass_shortly()?;
         self.is_rooted = true;
         Ok(())
-    }
-}
-
-fn sub_of(place: Place) -> Sub
-    ensures { result ≡ folder_of_place place }
-{
-    match place {
-        Place::New => Sub::New,
-        Place::Cur => Sub::Cur,
     }
 }
 

@@ -52,9 +52,9 @@ pub use Rattle.maildir_run.specs.Delivery.{IsMissing, IsSoundAt, IsSwept, leftov
 pub use Rattle.maildir_run.specs.Files.{all_bases, is_spared, is_spared_name, Spared, SparesAll}
 pub use Rattle.maildir_run.specs.Files.{acted, Action, AgreeOnSpared, all_acted, DropTmp, FileMap, Files, has_base, held_under, homes, is_name}
 pub use Rattle.maildir_run.specs.Files.{KeepsSpared, may_take, name_cmp, Outside, outsiders_of, Reflag, reflag, to_cur, ToCur, KeepsHomes}
-pub use Rattle.maildir_run.specs.Private.Given.{IsPrefixOf, Gave, GaveAll, IsGiven, SourceStopped}
-pub use Rattle.maildir_run.specs.Private.TableSoFar.{HasListed}
-pub use Rattle.maildir_run.specs.Table.{info, table_of, message_row, place_word, shown_byte, shown_sender}
+pub use Rattle.maildir_run.specs.Private.Given.{GivesBatch, GivesNoMore, IsPrefixOf, Gave, GaveAll, IsGiven, SourceStopped, StoppedAfter}
+pub use Rattle.maildir_run.specs.Private.Printing.{HasListed, IsOutput, PrintsMore}
+pub use Rattle.maildir_run.specs.Table.{info, table_of, message_row, shown_byte, shown_sender}
 pub use Rattle.maildir_run.specs.MemFiles.{files_in, with_file, without_file}
 pub use Rattle.maildir_run.specs.Private.Parts.{DeliversMessages, Conversion, messages_after, names_in, OneTouches, Performed, run_tasks, ReportsTasks}
 pub use Rattle.maildir_run.specs.Touched.{Touches, TouchedOnly, TouchedConverters}
@@ -63,7 +63,6 @@ pub use Rattle.maildir_run.specs.Parts.{deliveries_of, delivery_if, delivery_of,
 pub use Rattle.maildir_run.specs.Plan.{deliveries_from, steps_for, each_alone, is_listed, planned, removals}
 pub use Rattle.maildir_run.specs.Private.Progress.{DeliversMessage, IsTarget, Knows, message_at, Progress, TmpWithin}
 pub use Rattle.maildir_run.specs.Foreign.{KeepsForeign}
-pub use Rattle.maildir_run.specs.Private.Reading.{Breaks, NeverReads, Went}
 pub use Rattle.maildir_run.specs.Reading.{IsReading, ReadsAtLeast, ReadsAtMost}
 pub use Rattle.maildir_run.specs.Runs.{Acted, Chain, CountsRun, Keeps, Link, Linked, Possible, IsRun, Runs}
 pub use Rattle.maildir_run.specs.Script.{acts_at, all_performed, Answers, done, fails, halved, IsCutShort, IsPart, mode_at, performed}
@@ -72,6 +71,7 @@ pub use Rattle.maildir_run.specs.Tasks.{AllDone, Ask, call_of, Do, Done, DoneUnt
 pub use Rattle.maildir_run.specs.Tasks.{Performs, planned_tasks, honestly, Stopped, Task, task_of, tasks_of, Way}
 pub use Rattle.maildir_run.specs.Private.Tasks.{quietly}
 pub use Rattle.maildir_run.specs.Texts.{bodies_of, messages_of, MessagesOf, with_bodies}
+pub use Rattle.maildir_run.specs.declared.engine.Engine.{Engine}
 pub use Rattle.maildir_run.specs.declared.fault.RunFault.{RunFault}
 pub use Rattle.maildir_run.specs.declared.fault.RunFault.TheVariants.{NoFromLine, OutOfMemory, ReadFault, TooManyReads}
 pub use Rattle.maildir_run.specs.declared.folder.FolderFault.{FolderFault}
@@ -81,5 +81,5 @@ pub use Rattle.maildir_run.specs.declared.reader.Reader.{Reader}
 pub use Rattle.maildir_run.specs.declared.planner.Step.{Step}
 pub use Rattle.maildir_run.specs.declared.planner.Step.TheVariants.{Place, Remove, Write}
 pub use Rattle.maildir_run.specs.declared.report.Report.{Report}
-pub use Rattle.maildir_run.specs.declared.script.Mode.{Mode}
-pub use Rattle.maildir_run.specs.declared.script.Mode.TheVariants.{FailAfter, FailBefore, Half, Plain, Twice}
+pub use Rattle.maildir_run.specs.declared.in_memory.script.Mode.{Mode}
+pub use Rattle.maildir_run.specs.declared.in_memory.script.Mode.TheVariants.{FailAfter, FailBefore, Half, Plain, Twice}

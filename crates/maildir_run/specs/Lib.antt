@@ -1,3 +1,5 @@
+-- The three folders of a Maildir.
+pub mod Folders
 -- The files of a Maildir, and what other programs may do to them.
 pub mod Files
 -- What the messages of a text are in a folder: missing or at home, sound, delivered.

@@ -3,7 +3,7 @@ use Rattle.std.specs.Prelude.{ℕ, List}
 use Rattle.std.specs.FinMap.{insert, remove, empty}
 use Rattle.maildir_run.specs.declared.folder.Sub.{Sub}
 use Rattle.maildir_run.specs.declared.folder.Sub.TheVariants.{Tmp, New, Cur}
-use Rattle.maildir_run.specs.declared.mem_files.MemFiles.{MemFiles}
+use Rattle.maildir_run.specs.declared.in_memory.mem_files.MemFiles.{MemFiles}
 use Rattle.maildir_run.specs.Files.{Files}
 
 -- the files of three folders in memory

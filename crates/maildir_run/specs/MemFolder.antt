@@ -2,11 +2,11 @@
 use Rattle.std.specs.Prelude.{◌≡◌, ◌⊎◌, ℕ, ◌+◌, ◌-◌, ◌^◌, min, List, [], Option, IsFalse, Result, IsErrOf}
 use Rattle.maildir_run.specs.declared.folder.FolderFault.{FolderFault}
 use Rattle.maildir_run.specs.declared.folder.FolderFault.TheVariants.{OutOfMemory}
-use Rattle.maildir_run.specs.declared.mem_folder.MemFolder.{MemFolder}
-use Rattle.maildir_run.specs.declared.script.Act.{Act}
-use Rattle.maildir_run.specs.declared.script.Mode.{Mode}
-use Rattle.maildir_run.specs.declared.script.Mode.TheVariants.{Plain}
-use Rattle.maildir_run.specs.declared.script.ScriptLine.{ScriptLine}
+use Rattle.maildir_run.specs.declared.in_memory.mem_folder.MemFolder.{MemFolder}
+use Rattle.maildir_run.specs.declared.in_memory.script.Act.{Act}
+use Rattle.maildir_run.specs.declared.in_memory.script.Mode.{Mode}
+use Rattle.maildir_run.specs.declared.in_memory.script.Mode.TheVariants.{Plain}
+use Rattle.maildir_run.specs.declared.in_memory.script.ScriptLine.{ScriptLine}
 use Rattle.maildir_run.specs.Calls.{Call}
 use Rattle.maildir_run.specs.Files.{Files}
 use Rattle.maildir_run.specs.MemFiles.{files_in}

@@ -2,8 +2,6 @@
 
 -- The bases of names, as a set.
 pub mod Bases
--- What one read comes to.
-pub mod Reading
 -- How far a source was read, and which messages were given of it.
 pub mod Given
 -- The calls that a part of a run makes, and the fault that it answers for one.
@@ -14,8 +12,8 @@ pub mod Tasks
 pub mod Parts
 -- What the parts of a run leave.
 pub mod Progress
--- What a lister has listed.
-pub mod TableSoFar
+-- What is written of messages that are printed one after the other.
+pub mod Printing
 -- Whether half of a rename comes.
 pub mod Script
 -- How a call of the folder in memory begins.

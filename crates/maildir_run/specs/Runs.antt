@@ -1,11 +1,11 @@
 -- What one run owes, and sequences of runs, with any results, and other programs' actions.
-use Rattle.std.specs.Prelude.{◌≡◌, ℕ, ◌+◌, ◌*◌, ◌-◌, ◌%◌, ◌^◌, ◌≤◌, List, [], ◌∷◌, ◌++◌, length, All, AllPairs, IfOk, OnOk, Option, Some, Result}
+use Rattle.std.specs.Prelude.{◌≡◌, Bool, ℕ, ◌+◌, ◌*◌, ◌-◌, ◌%◌, ◌^◌, ◌≤◌, List, [], ◌∷◌, ◌++◌, length, All, AllPairs, IfOk, OnOk, Option, Some, Result}
 use Rattle.mbox_text.specs.declared.entry.Entry.{Entry}
 use Rattle.mbox_text.specs.Mbox.{Mbox}
 use Rattle.maildir_run.specs.declared.fault.RunFault.{RunFault}
 use Rattle.maildir_run.specs.declared.report.Report.{Report}
 use Rattle.maildir_run.specs.Files.{Spared, SparesAll, Files, Action, acted}
-use Rattle.maildir_run.specs.Delivery.{Message, HasHome, IsMissing, IsSpared, AllSpared, Sound, Delivered, there_count, leftover_count}
+use Rattle.maildir_run.specs.Delivery.{Message, HasHome, IsMissing, IsSpared, AllSpared, Sound, Delivered, has_home, there_count, leftover_count}
 use Rattle.maildir_run.specs.Texts.{MessagesOf}
 
 -- A text is possible for a call that read from a source: what was read is a prefix of it, and all of it if the source has
@@ -19,14 +19,18 @@ pub record Possible (before after : Option (List ℕ)) (t : List ℕ) : Type 0 w
   pub prefix : t ≡ read ++ more
   pub whole : left ≡ [] → more ≡ []
 
--- A report is true of a run over these messages from these files.
-pub record ReportsMessages (spared : Spared) (ms : List Message) (old : Files) (report : Report) : Type 0 where
+-- A report is true of a run over these messages, where this tells which bases had a home as it began, and `tmp` had at most so many leftovers.
+pub record IsReportOf (spared : Spared) (has : List ℕ → Bool) (leftovers : ℕ) (ms : List Message) (report : Report) : Type 0 where
   pub messages : report.messages ≡ length ms
   -- if all messages are spared
-  pub there : All (IsSpared spared) ms → report.there ≡ there_count old ms
-  pub placed : All (IsSpared spared) ms → report.placed ≡ length ms - there_count old ms
+  pub there : All (IsSpared spared) ms → report.there ≡ there_count has ms
+  pub placed : All (IsSpared spared) ms → report.placed ≡ length ms - there_count has ms
   -- if every converter's base is
-  pub swept : SparesAll spared → report.swept ≤ leftover_count old
+  pub swept : SparesAll spared → report.swept ≤ leftovers
+
+-- of a run from these files
+abbrev pub ReportsMessages : Spared → List Message → Files → Report → Type 0
+ReportsMessages spared ms old = IsReportOf spared (has_home old) (leftover_count old) ms
 
 -- A run over these messages ended with Ok: they are delivered, and the report is true.
 pub record EndedWell (spared : Spared) (ms : List Message) (old : Files) (report : Report) (new : Files) : Type 0 where

@@ -4,11 +4,11 @@ use Rattle.std.specs.Prelude.{List, [], ◌∷◌, ◌++◌, length, take, Optio
 use Rattle.maildir_name.specs.Names.{is_converter_name}
 use Rattle.maildir_run.specs.declared.folder.FolderFault.{FolderFault}
 use Rattle.maildir_run.specs.declared.folder.FolderFault.TheVariants as fault
-use Rattle.maildir_run.specs.declared.script.Act.{Act}
-use Rattle.maildir_run.specs.declared.script.Act.TheVariants as act
-use Rattle.maildir_run.specs.declared.script.Mode.{Mode}
-use Rattle.maildir_run.specs.declared.script.Mode.TheVariants.{Plain, FailBefore, FailAfter, Half, Twice}
-use Rattle.maildir_run.specs.declared.script.ScriptLine.{ScriptLine}
+use Rattle.maildir_run.specs.declared.in_memory.script.Act.{Act}
+use Rattle.maildir_run.specs.declared.in_memory.script.Act.TheVariants as act
+use Rattle.maildir_run.specs.declared.in_memory.script.Mode.{Mode}
+use Rattle.maildir_run.specs.declared.in_memory.script.Mode.TheVariants.{Plain, FailBefore, FailAfter, Half, Twice}
+use Rattle.maildir_run.specs.declared.in_memory.script.ScriptLine.{ScriptLine}
 use Rattle.maildir_run.specs.Files.{Files, ToCur, Reflag, DropTmp, acted, all_bases}
 use Rattle.maildir_run.specs.Cuts.{doubled}
 use Rattle.maildir_run.specs.Calls.{Call, Writing, Placing, Removing, effect, torn, IsReady}

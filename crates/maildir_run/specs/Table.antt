@@ -4,16 +4,10 @@ use Rattle.std.specs.List.{after_first, position_or_len}
 use Rattle.std.specs.Fmt.{decimal}
 use Rattle.mbox_text.specs.declared.entry.Entry.{Entry}
 use Rattle.mbox_text.specs.FromLine.{sender}
-use Rattle.maildir_name.specs.declared.target.Place.{Place}
-use Rattle.maildir_name.specs.declared.target.Place.TheVariants.{New, Cur}
 use Rattle.maildir_name.specs.declared.target.Target.{Target}
 use Rattle.maildir_name.specs.Names.{is_colon}
 use Rattle.maildir_name.specs.Targets.{targets}
-
--- the folder's name
-abbrev pub place_word : Place → List ℕ
-place_word New = codes "new"
-place_word Cur = codes "cur"
+use Rattle.maildir_run.specs.Folders.{folder_name, folder_of_place}
 
 -- what follows the first colon of a name, or a hyphen if it has none
 abbrev pub info : List ℕ → List ℕ
@@ -33,7 +27,7 @@ unfoldable pub message_row : ℕ → Entry → Target → List ℕ
 message_row index entry target =
     decimal index ++ 32
     ∷ (target.base ++ 32
-    ∷ (place_word target.place ++ 32
+    ∷ (folder_name (folder_of_place target.place) ++ 32
     ∷ (info target.name ++ 32
     ∷ (decimal (length entry.body) ++ 32
     ∷ (shown_sender (sender entry.from_line) ++ 10

@@ -1,10 +1,8 @@
 // One run: a source's messages into a folder.
-ghost use Rattle.std.specs.Prelude.{◌≡◌, ◌^◌, ◌≤◌, [], IfOk, IfErr};
+ghost use Rattle.std.specs.Prelude.{◌^◌, ◌≤◌, []};
 ghost use Rattle.mbox_text.specs.Fed.{Fed};
 ghost use Rattle.maildir_run.specs.Converting.{Converts};
-ghost use Rattle.maildir_run.specs.Private.Given.{Begins, SourceStopped};
 ghost use Rattle.maildir_run.specs.Private.Parts.{Conversion};
-ghost use Rattle.maildir_run.specs.Reading.{IsReading};
 
 use crate::calls::Calls;
 use crate::engine::Engine;
@@ -50,12 +48,11 @@ fn deliver_all<F: Folder, R: Read>(
     whole: &mut Vec<Entry>,
 ) -> Result<Report, RunFault>
     requires fresh { Fed [] [] reader.old.splitter }
-    requires empty { whole.old.items ≡ [] }
     requires few { reader.old.reads_left ≤ 2 ^ 40 }
     ensures { let at = F.at in
         Conversion (R.remaining source.old) (R.remaining source.new) reader.old.reads_left (at folder.old) (at folder.new) result }
 {
-    let mut ended = read_first(reader, source, whole)?;
+    let mut ended = reader.next_batch(source, whole)?;
     let mut calls = Calls::new();
     let listings = list_all(folder, &mut calls)?;
     let mut engine = Engine::begin(alloc, folder, calls, &listings)?;
@@ -64,29 +61,6 @@ fn deliver_all<F: Folder, R: Read>(
         if ended {
             return Ok(engine.report());
         }
-        whole.clear();
-        ended = reader.read(source, whole)?;
-    }
-}
-
-/// Reads until a message is complete or the source has ended, and returns whether it has. By then the first bytes have
-/// decided whether the text is an mbox text.
-fn read_first<R: Read>(
-    reader: &mut Reader,
-    source: &mut R,
-    whole: &mut Vec<Entry>,
-) -> Result<bool, RunFault>
-    requires fresh { Fed [] [] reader.old.splitter }
-    requires empty { whole.old.items ≡ [] }
-    ensures begins { IfOk result (λ ended. Begins ended (R.remaining source.old) (R.remaining source.new)
-        reader.new.splitter reader.new.reads_left reader.old.reads_left whole.new.items) }
-    ensures refused { IfErr result (SourceStopped (R.remaining source.old) (R.remaining source.new) reader.old.reads_left) }
-    ensures causes { IfErr result IsReading }
-{
-    'pieces: loop {
-        let ended = reader.read(source, whole)?;
-        if ended || !whole.is_empty() {
-            return Ok(ended);
-        }
+        ended = reader.next_batch(source, whole)?;
     }
 }

@@ -5,13 +5,11 @@ ghost use Rattle.maildir_name.specs.Named.{Named};
 ghost use Rattle.maildir_run.specs.Calls.{names_of};
 ghost use Rattle.maildir_run.specs.Counting.{IsOfFolder, fault_of};
 ghost use Rattle.maildir_run.specs.Plan.{is_listed};
-ghost use Rattle.maildir_run.specs.Private.Parts.{DeliversMessages, Performed};
 ghost use Rattle.maildir_run.specs.Parts.{sweep_of};
 ghost use Rattle.maildir_run.specs.Texts.{bodies_of};
 
 use crate::bases::Bases;
 use crate::calls::Calls;
-use crate::delivery::deliver_message;
 use crate::fault::RunFault;
 use crate::folder::Folder;
 use crate::listings::Listings;
@@ -34,6 +32,8 @@ pub(crate) struct Engine<'a> {
 }
 
 impl<'a> Engine<'a> {
+    ghost use Rattle.maildir_run.specs.Private.Parts.{DeliversMessages, Performed};
+
     /// A run that was answered these names, and removes what broken runs left in `tmp`.
     pub(crate) fn begin<F: Folder>(
         alloc: Global,
@@ -79,21 +79,22 @@ impl<'a> Engine<'a> {
         }
     }
 
-    /// Delivers the next message, if it was not there. The set of bases is asked once.
+    /// Delivers the next message, if it was not there: writes it in `tmp` under its base, and then places it at its target by
+    /// one rename. Only what this call itself wrote is placed (maildir(5)). The set of bases is asked once.
     fn deliver<F: Folder>(&mut self, folder: &mut F, body: &[u8]) -> Result<(), RunFault>
         requires { self.old.messages < 2 ^ 63 }
         ensures delivers { let at = F.at in (bodies : List (List ℕ)) → Named bodies self.old.namer → length bodies < 2 ^ 63 →
-            DeliversMessages (contains_key self.old.there) bodies (body.now ∷ []) (at folder.old) (at folder.new)
-            self.old.calls.made self.new.calls.made self.old.placed self.new.placed self.new.namer (fault_of result) }
-        ensures there { self.new.there ≡ self.old.there }
-        ensures swept { self.new.swept ≡ self.old.swept }
+            DeliversMessages bodies (body.now ∷ []) (at folder.old) (at folder.new) self.old self.new (fault_of result) }
         ensures one { OnOk result (self.new.messages ≡ self.old.messages + 1) }
         ensures causes { IfErr result IsOfFolder }
     {
         let target = self.namer.target(body)?;
         self.messages += 1;
-        if !self.there.contains(target.base.as_str()) {
-            deliver_message(folder, &mut self.calls, &target, body)?;
+        let base = target.base.as_str();
+        if !self.there.contains(base) {
+            self.calls.write(folder, base, body)?;
+            self.calls
+                .place(folder, base, target.place, target.name.as_str())?;
             self.placed += 1;
         }
         Ok(())
@@ -108,10 +109,7 @@ impl<'a> Engine<'a> {
         requires { self.old.messages + length entries.now < 2 ^ 63 }
         ensures delivers { let at = F.at in
             (bodies : List (List ℕ)) → Named bodies self.old.namer → length bodies + length entries.now ≤ 2 ^ 63 →
-            DeliversMessages (contains_key self.old.there) bodies (bodies_of entries.now) (at folder.old) (at folder.new)
-            self.old.calls.made self.new.calls.made self.old.placed self.new.placed self.new.namer (fault_of result) }
-        ensures there { self.new.there ≡ self.old.there }
-        ensures swept { self.new.swept ≡ self.old.swept }
+            DeliversMessages bodies (bodies_of entries.now) (at folder.old) (at folder.new) self.old self.new (fault_of result) }
         ensures all { OnOk result (self.new.messages ≡ self.old.messages + length entries.now) }
         ensures causes { IfErr result IsOfFolder }
     {

@@ -2,6 +2,7 @@
 ghost use Rattle.std.specs.Prelude.{◌≡◌};
 ghost use Rattle.maildir_run.specs.Calls.Call.{Writing, Placing, Removing};
 ghost use Rattle.maildir_run.specs.Files.{Spared};
+ghost use Rattle.maildir_run.specs.Folders.{folder_name, folder_of_place};
 ghost use Rattle.maildir_run.specs.Seen.{Seen, CallOf, ListingOf};
 ghost use Rattle.maildir_run.specs.declared.folder.FolderFault.TheVariants.{OutOfMemory};
 
@@ -18,6 +19,29 @@ pub enum Sub {
     New,
     /// `cur`: messages that a reader has seen, or that have flags.
     Cur,
+}
+
+impl Sub {
+    /// The folder of a place.
+    pub fn of_place(place: Place) -> Sub
+        ensures { result ≡ folder_of_place place }
+    {
+        match place {
+            Place::New => Sub::New,
+            Place::Cur => Sub::Cur,
+        }
+    }
+
+    /// Its name.
+    pub fn name(self) -> &'static str
+        ensures { result.now ≡ folder_name self }
+    {
+        match self {
+            Sub::Tmp => "tmp",
+            Sub::New => "new",
+            Sub::Cur => "cur",
+        }
+    }
 }
 
 /// Why a call of a folder failed.

@@ -14,7 +14,8 @@ ghost use Rattle.maildir_run.specs.Files.{Files, Action, KeepsSpared, acted, all
 ghost use Rattle.maildir_run.specs.Files.Action.{Outside};
 ghost use Rattle.maildir_run.specs.Calls.{Call, Move, after, Lists, Succeeded, PlacesElsewhere, WritesElsewhere, StaysOrGoes, NoneOrOne};
 ghost use Rattle.maildir_run.specs.Calls.Call.{Placing};
-ghost use Rattle.maildir_run.specs.Delivery.{Message, leftover_count, there_count, IsMissing, IsHome, IsSoundAt, IsSpared, AllSpared};
+ghost use Rattle.maildir_run.specs.Delivery.{has_home, leftover_count, there_count};
+ghost use Rattle.maildir_run.specs.Delivery.{Message, IsMissing, IsHome, IsSoundAt, IsSpared, AllSpared};
 ghost use Rattle.maildir_run.specs.Delivery.{AreNamed, AreDistinct, Sound, Delivered};
 ghost use Rattle.maildir_run.specs.Texts.{MessagesOf};
 ghost use Rattle.maildir_run.specs.Runs.{CountsRun, Link, IsRun, ReportsMessages, Runs};
@@ -154,7 +155,8 @@ pub fn all_are_spared()
     ensures missing { (ms : List Message) (s : Files) → AllSpared all_bases (IsMissing s) ms ↔ All (IsMissing s) ms }
     ensures sound { (ms : List Message) (s : Files) → AllSpared all_bases (IsSoundAt s) ms ↔ All (IsSoundAt s) ms }
     ensures reports { (ms : List Message) (s : Files) (report : Report) → ReportsMessages all_bases ms s report →
-        (report.there ≡ there_count s ms) × (report.placed ≡ length ms - there_count s ms) × (report.swept ≤ leftover_count s) }
+        let there = there_count (has_home s) ms in
+        (report.there ≡ there) × (report.placed ≡ length ms - there) × (report.swept ≤ leftover_count s) }
 {}
 
 /// If the messages are delivered, a quiet run changes no file, and a run that returns Ok places nothing, sweeps nothing

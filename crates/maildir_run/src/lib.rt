@@ -22,35 +22,28 @@
 //! Errors: [`RunFault`] says why a run ended early, and [`FolderFault`] why a call of a folder failed.
 #![tactic(auto)]
 
-mod acting;
 mod bases;
 mod calls;
 mod converting;
-mod delivery;
 mod engine;
 mod fault;
-mod file_tree;
 mod folder;
+mod in_memory;
 pub mod laws;
 mod listings;
-mod mem_files;
-mod mem_folder;
-mod modes;
+mod outputs;
 mod planner;
+mod printing;
 mod reader;
 mod report;
-mod rewriting;
-mod row;
-mod script;
 mod sweep;
-mod table;
 
 pub use converting::convert;
 pub use fault::RunFault;
 pub use folder::{Folder, FolderFault, Sub};
-pub use mem_folder::MemFolder;
+pub use in_memory::mem_folder::MemFolder;
+pub use in_memory::script::{Act, Mode, ScriptLine};
+pub use outputs::rewriting::rewrite;
+pub use outputs::table::list_text;
 pub use planner::{Step, plan};
 pub use report::Report;
-pub use rewriting::rewrite;
-pub use script::{Act, Mode, ScriptLine};
-pub use table::list_text;

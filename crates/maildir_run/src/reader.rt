@@ -25,7 +25,7 @@ pub(crate) struct Reader {
 
 impl Reader {
     ghost use Rattle.maildir_run.specs.Reading.{IsReading};
-    ghost use Rattle.maildir_run.specs.Private.Reading.{Went};
+    ghost use Rattle.maildir_run.specs.Private.Given.{GivesBatch, GivesNoMore};
 
     /// Nothing was read. So many reads may be made.
     pub(crate) fn new(alloc: Global, reads: u64) -> Result<Reader, AllocError>
@@ -39,29 +39,57 @@ impl Reader {
         })
     }
 
-    /// Makes one read, and appends each message that is whole now. True where the source is at its end: then the last
-    /// message was appended too, and no read is to follow.
+    /// Reads until a message is whole or the source is at its end, and gives the messages that are whole now. True at the
+    /// source's end: then the last message is among them, and no read is to follow. By the end of the first batch the first
+    /// bytes have decided whether the text is an mbox text.
     ///
     /// Errors: `TooManyReads` where no read is left, and then none is made; `ReadFault`; `NoFromLine` as soon as what was
     /// read can't begin an mbox text; `OutOfMemory`.
-    pub(crate) fn read<R: Read>(
+    pub(crate) fn next_batch<R: Read>(
         &mut self,
         source: &mut R,
-        out: &mut Vec<Entry>,
+        whole: &mut Vec<Entry>,
     ) -> Result<bool, RunFault>
-        ensures went { Went self.old (R.remaining source.old) (R.remaining source.new)
-            out.old.items out.new.items self.new.splitter self.new.reads_left result }
+        ensures gives { IfOk result (λ ended. GivesBatch ended self.old (R.remaining source.old) (R.remaining source.new)
+            self.new.splitter self.new.reads_left whole.new.items) }
+        ensures refused { IfErr result (GivesNoMore self.old (R.remaining source.old) (R.remaining source.new)) }
         ensures causes { IfErr result IsReading }
     {
-        spend(&mut self.reads_left)?;
-        let n = read_piece(source, &mut self.buffer)?;
-        if n == 0 {
-            let splitter = mem::replace(&mut self.splitter, Splitter::new(self.alloc));
-            finish(splitter, out)?;
-            return Ok(true);
+        whole.clear();
+        'pieces: loop {
+            let n = read_piece(source, &mut self.buffer, &mut self.reads_left)?;
+            if n == 0 {
+                let splitter = mem::replace(&mut self.splitter, Splitter::new(self.alloc));
+                finish(splitter, whole)?;
+                return Ok(true);
+            }
+            feed(&mut self.splitter, &self.buffer[..n], whole)?;
+            if !whole.is_empty() {
+                return Ok(false);
+            }
         }
-        feed(&mut self.splitter, &self.buffer[..n], out)?;
-        Ok(false)
+    }
+}
+
+/// Makes one read of those that are left, into the buffer, and returns how many bytes it took: none only at the source's end.
+fn read_piece<R: Read>(
+    source: &mut R,
+    buffer: &mut Vec<u8>,
+    reads_left: &mut u64,
+) -> Result<usize, RunFault>
+    requires { 0 < vec_len buffer.old }
+    ensures took { IfOk result (λ n. (n ≤ length buffer.new.items)
+        × Consumes (R.remaining source.old) (R.remaining source.new) (take n buffer.new.items)
+        × (n ≡ 0 → IsAtEnd (R.remaining source.new))) }
+    ensures spent { OnOk result (reads_left.new + 1 ≡ reads_left.old) }
+    ensures room { vec_len buffer.new ≡ vec_len buffer.old }
+    ensures refused { IfErr result (λ fault. Consumes (R.remaining source.old) (R.remaining source.new) []
+        × ((fault ≡ RunFault.TooManyReads) × (reads_left.old ≡ 0) ⊎ (fault ≡ RunFault.ReadFault))) }
+{
+    spend(reads_left)?;
+    match source.read(buffer) {
+        Ok(n) => Ok(n),
+        Err(_) => Err(RunFault::ReadFault),
     }
 }
 
@@ -76,20 +104,6 @@ fn spend(reads: &mut u64) -> Result<(), RunFault>
             Ok(())
         }
         None => Err(RunFault::TooManyReads),
-    }
-}
-
-/// Makes one read into the buffer, and returns how many bytes it took: none only at the source's end.
-fn read_piece<R: Read>(source: &mut R, buffer: &mut [u8]) -> Result<usize, RunFault>
-    requires { 0 < length buffer.old }
-    ensures gave { MatchResult result
-        (λ n. (n ≤ length buffer.new) × Consumes (R.remaining source.old) (R.remaining source.new) (take n buffer.new)
-        × (n ≡ 0 → IsAtEnd (R.remaining source.new)))
-        (λ fault. (fault ≡ RunFault.ReadFault) × Consumes (R.remaining source.old) (R.remaining source.new) []) }
-{
-    match source.read(buffer) {
-        Ok(n) => Ok(n),
-        Err(_) => Err(RunFault::ReadFault),
     }
 }
 

@@ -13,7 +13,7 @@ const OUTPUT_BYTES: usize = 1 << 16;
 fn main(rt: HostRuntime) -> ExitCode {
     ExitCode::from(match run_words(&rt) {
         Ok(status) => status,
-        Err(error) => refuse(&error, &mut rt.stderr()).status(),
+        Err(error) => refuse(&error, &mut rt.stderr()),
     })
 }
 

@@ -14,8 +14,6 @@
 #![tactic(auto)]
 
 #[cfg(test)]
-mod any_runs;
-#[cfg(test)]
 mod bases;
 #[cfg(test)]
 mod commands;

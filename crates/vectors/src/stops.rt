@@ -2,7 +2,7 @@
 use crate::rows::same;
 use crate::runs::{Answer, run_over};
 use crate::scripts::{Deed, Run, Scene, go, go_all, script_of};
-use crate::texts::{ABC, EMPTY_ONE, EMPTY_TWO, File, THREE, TWO_EMPTY, UNENDED};
+use crate::texts::{ABC, EMPTY_ONE, EMPTY_TWO, File, THREE, UNENDED};
 use maildir_run::{MemFolder, Mode, RunFault, Sub};
 use std::alloc::Global;
 use std::test::Fail;
@@ -105,14 +105,6 @@ const LAST_IS_LEFT_OVER: Run<'_> = (&[], THREE, Ok((3, 2, 1, 1)), ALL_THREE);
 
 const DROPS: &[Deed<'_>] = &[Deed::DropTmp(ABC)];
 
-const DROPS_LEFTOVER: &[Deed<'_>] = &[Deed::DropTmp(EMPTY_TWO)];
-
-const LEFTOVER: &[File<'_>] = &[(Sub::Tmp, EMPTY_TWO, b"half")];
-
-const FIRST_ONE: &[File<'_>] = &[(Sub::New, EMPTY_ONE, b"")];
-
-const ABC_ALONE: &[File<'_>] = &[(Sub::New, ABC, b"abc")];
-
 const FAULT_4: Answer = Err(RunFault::FolderFailed(4));
 
 const FAULT_7: Answer = Err(RunFault::FolderFailed(7));
@@ -147,27 +139,6 @@ const STOPPED: &[Scene<'_>] = &[
             LAST_IS_MISSING,
         ],
     ),
-    // what is left over in `tmp` goes before anything is written there, and a message is written under its own base
-    (
-        "the_sweep_comes_before_the_messages",
-        LEFTOVER,
-        &[(
-            &[(5, &[], Mode::Half)],
-            UNENDED,
-            FAULT_5,
-            &[(Sub::Tmp, ABC, b"a")],
-        )],
-    ),
-    // a text whose run broke off, another one that shares a message with it, and the first again
-    (
-        "another_text_after_a_stop",
-        &[],
-        &[
-            (&[(5, &[], Mode::FailAfter)], TWO_EMPTY, FAULT_5, FIRST_ONE),
-            (&[], b"From c\n\n", Ok((1, 1, 0, 0)), FIRST_ONE),
-            (&[], TWO_EMPTY, Ok((2, 1, 1, 0)), FIRST_TWO),
-        ],
-    ),
 ];
 
 // What a placement answers for a file that is not in `tmp`, by its mode.
@@ -187,15 +158,6 @@ const NOTHING_TO_PLACE: &[(&str, Mode, Answer)] = &[
     ),
 ];
 
-// The call before which a leftover goes, and how many are swept: `tmp` is listed before `new`, and what goes before the second
-// call was seen.
-const LEFTOVER_GOES: &[(&str, u64, u64)] = &[
-    ("tmp_is_listed_first, 1", 1, 0),
-    ("tmp_is_listed_first, 2", 2, 1),
-    ("tmp_is_listed_first, 3", 3, 1),
-    ("tmp_is_listed_first, 4", 4, 1),
-];
-
 #[test]
 fn stopped_runs(rt: HostRuntime) -> Result<(), Fail> {
     for &(name, files, runs) in STOPPED {
@@ -204,11 +166,6 @@ fn stopped_runs(rt: HostRuntime) -> Result<(), Fail> {
     for &(name, mode, answer) in NOTHING_TO_PLACE {
         let run: Run<'_> = (&[(5, DROPS, mode)], UNENDED, answer, &[]);
         go_all(rt.alloc(), &name, &[], &[run])?;
-    }
-    for &(name, call, swept) in LEFTOVER_GOES {
-        let lines = [(call, DROPS_LEFTOVER, Mode::Plain)];
-        let run = (lines.as_slice(), UNENDED, Ok((1, 0, 1, swept)), ABC_ALONE);
-        go_all(rt.alloc(), &name, LEFTOVER, &[run])?;
     }
     Ok(())
 }

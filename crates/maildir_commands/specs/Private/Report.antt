@@ -2,9 +2,10 @@
 use Rattle.std.specs.Prelude.{◌≡◌, ◌⊎◌, ℕ, ◌+◌, List, [], ◌∷◌, length, map, IfErr, OnErr, OnOk, Option, Some, Result}
 use Rattle.std.specs.Io.KnownBytes.{Keeps}
 use Rattle.mbox_text.specs.Writing.{AppendsPrefix}
-use Rattle.maildir_run.specs.Delivery.{IsSwept, has_home, leftover_count}
+use Rattle.maildir_run.specs.Delivery.{IsSwept}
 use Rattle.maildir_run.specs.declared.report.Report.{Report}
 use Rattle.maildir_run.specs.Foreign.{KeepsForeign}
+use Rattle.maildir_run.specs.Runs.{ReportsMessages}
 use Rattle.maildir_run.specs.Several.{Mailbox}
 use Rattle.maildir_run.specs.Touched.{TouchedConverters}
 use Rattle.maildir_commands.specs.Machines.{AreFit, HasAlso, HeldMaildir, IsSafeIn, IsSoundFor, OthersStay, bytes_of}
@@ -12,7 +13,7 @@ use Rattle.maildir_commands.specs.declared.fault.Fault.{Fault}
 use Rattle.maildir_commands.specs.Private.Causes.{IsOfFiles}
 use Rattle.maildir_commands.specs.Opening.{OpensSources}
 use Rattle.maildir_commands.specs.Program.{Delivers}
-use Rattle.maildir_commands.specs.Report.{IsReportOf, PrintsReport, PrintsReports, report_line}
+use Rattle.maildir_commands.specs.Report.{PrintsReport, PrintsReports, report_line}
 use Rattle.maildir_commands.specs.Seen.{SeenMachine}
 use Rattle.maildir_commands.specs.Sources.{SeenMaildir}
 use Rattle.maildir_run.specs.Files.{Spared}
@@ -20,14 +21,14 @@ use Rattle.maildir_run.specs.Files.{Spared}
 -- The line of a true report of the text was written, or a prefix of it; the text is in the Maildir, and survives a power cut.
 pub record PrintsOne (spared : Spared) (old new : HeldMaildir) (text : Mailbox) (was is : Option (List ℕ)) : Type 0 where
   pub report : Report
-  pub true_of : IsReportOf spared (has_home old.files) (leftover_count old.files) text report
+  pub true_of : ReportsMessages spared text.messages old.files report
   pub safe : IsSafeIn spared new text
   pub line : AppendsPrefix was is (report_line report)
 
 -- What came of delivering one text.
 pub record DeliversOne {A E : Type 0} (spared : Spared) (answer : Result A E) (text : Mailbox) (old new : HeldMaildir) (was is : Option (List ℕ)) : Type 0 where
   pub safe : OnOk answer (IsSafeIn spared new text)
-  pub line : OnOk answer (PrintsReport was is (IsReportOf spared (has_home old.files) (leftover_count old.files) text))
+  pub line : OnOk answer (PrintsReport was is (ReportsMessages spared text.messages old.files))
   pub known : OnOk answer (HasAlso spared text.messages old.files new.files)
   pub swept : OnOk answer (IsSwept spared new.files)
   pub stopped : OnErr answer (Keeps was is ⊎ PrintsOne spared old new text was is)

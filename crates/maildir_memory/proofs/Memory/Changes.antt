@@ -13,7 +13,7 @@ use Rattle.std.proofs.lemmas.List.Elements.{All-cons, All-contains, All-get_or, 
 use Rattle.std.proofs.lemmas.List.{take_more}
 use Rattle.std.specs.Global.{Vec}
 use Rattle.std.specs.Prelude.{IfSome, option_to_list}
-use Rattle.maildir_run.specs.declared.script.Act.{Act}
+use Rattle.maildir_run.specs.declared.in_memory.script.Act.{Act}
 use Rattle.std.specs.declared.time.SystemTime.{SystemTime}
 use Rattle.maildir_disk.specs.SeenSystem.{TakesFromTmp}
 use Rattle.maildir_run.specs.Calls.{CalledQuietly}
@@ -24,7 +24,7 @@ use Rattle.maildir_memory.specs.MemSystem.{may_be_left, MayLose, SparesByTurns, 
 use Rattle.maildir_memory.proofs.Memory.CaseLists.{no_fewer, there_or_added}
 use Rattle.maildir_disk.proofs.Left.Lefts.{leaves_none, leaves_then, left_both, left_early, left_none}
 use Rattle.maildir_disk.proofs.Calls.Passing.{all_acted-append}
-use Rattle.maildir_run.specs.declared.script.Act.TheVariants as act
+use Rattle.maildir_run.specs.declared.in_memory.script.Act.TheVariants as act
 use Rattle.maildir_run.specs.Files.{Outside, acted}
 use Rattle.maildir_run.specs.MemFiles.{without_file}
 use Rattle.maildir_run.proofs.Call.Outsiders.{outside_reaches}

@@ -2,7 +2,7 @@
 use Rattle.std.specs.Prelude.{◌≡◌, ◌⊎◌, ◌<◌, ◌≤◌, ◌++◌, ℕ, List, [], length, take, All, Contains, get_or}
 use Rattle.maildir_run.specs.Calls.{Writing, Placing, Removing, effect}
 use Rattle.maildir_run.specs.Files.{Files}
-use Rattle.maildir_run.specs.declared.mem_folder.MemFolder.{MemFolder}
+use Rattle.maildir_run.specs.declared.in_memory.mem_folder.MemFolder.{MemFolder}
 use Rattle.maildir_run.specs.MemFiles.{no_files}
 use Rattle.maildir_memory.specs.declared.cases.Cases.{Cases}
 use Rattle.maildir_memory.specs.declared.cases.Change.{Change}

@@ -7,8 +7,8 @@ use Rattle.maildir_run.proofs.Common.{Called, CalledQuietly, Listed, MayAnswer, 
 use Rattle.maildir_run.proofs.Common.{IsCutShort, acts_at, Answers}
 use Rattle.maildir_run.specs.Calls.{CountsFailure, GoesUp}
 use Rattle.maildir_run.specs.declared.folder.FolderFault.TheVariants as fault
-use Rattle.maildir_run.specs.declared.mem_files.MemFiles.{MemFiles}
-use Rattle.maildir_run.specs.declared.mem_folder.MemFolder.{MemFolder}
+use Rattle.maildir_run.specs.declared.in_memory.mem_files.MemFiles.{MemFiles}
+use Rattle.maildir_run.specs.declared.in_memory.mem_folder.MemFolder.{MemFolder}
 use Rattle.maildir_run.specs.MemFiles.{files_in}
 use Rattle.maildir_run.specs.MemFolder.{files_of, all_call_count, failure_count}
 use Rattle.maildir_run.specs.MemFolder.{next_acts, next_call, next_files, next_mode}

@@ -9,13 +9,13 @@ use Rattle.maildir_run.proofs.Common.{AgreeOnSpared, KeepsSpared, Call, Listing,
 use Rattle.maildir_run.proofs.Common.{after, IsOthers, IsWhole, folder_of, AnyMoves, Lists, Called, linked, with_file}
 use Rattle.maildir_run.proofs.Common.{without_file, performed, all_performed, acts_at, may_link, IsCutShort, IsPart, Answers, halved, done}
 use Rattle.std.proofs.lemmas.Map.Text.{is_eq-slice_cmp}
-use Rattle.maildir_run.specs.declared.script.Act.{Act}
-use Rattle.maildir_run.specs.declared.script.ScriptLine.{ScriptLine}
+use Rattle.maildir_run.specs.declared.in_memory.script.Act.{Act}
+use Rattle.maildir_run.specs.declared.in_memory.script.ScriptLine.{ScriptLine}
 use Rattle.maildir_run.proofs.Names.Maps.{is_name-true, alike, get_inserted, get_removed, remove-insert}
 use Rattle.maildir_run.proofs.Call.Moves.{after-append}
 use Rattle.maildir_run.proofs.Call.Outsiders.{outside_reaches}
 use Rattle.maildir_run.specs.declared.folder.FolderFault.TheVariants as fault
-use Rattle.maildir_run.specs.declared.script.Act.TheVariants as act
+use Rattle.maildir_run.specs.declared.in_memory.script.Act.TheVariants as act
 
 -- ---- acts are actions of other programs
 set_agrees : (spared : Spared) (m : FileMap) (k v : List ℕ) → is_converter_name k ≡ false → AgreeOnSpared spared m (insert m k v)

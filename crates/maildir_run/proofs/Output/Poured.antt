@@ -1,18 +1,12 @@
 -- A source that is read piece by piece while what belongs to its messages is written.
-use Rattle.std.proofs.Common.{◌≡◌, ℕ, ◌+◌, ◌*◌, ◌^◌, ◌<◌, ◌≤◌, Bool, true, false, Option, Result, Ok, IsErrAnd, List, [], arith}
-use Rattle.std.proofs.Common.{◌++◌, ◌⊎◌, length, refl, sym, ◌∙◌, ap, arith, flat_map, append-nil, length-append}
-use Rattle.maildir_run.proofs.Common.{flat_map-append, spelling, FromLines, Appends, Consumes-nil, Appends-trans, Appends-nil, Entry, Splitter, Fed}
-use Rattle.maildir_run.proofs.Common.{IsAtEnd, RunFault, NoFromLine, OutOfMemory, IsReading, ReadsAtMost}
+use Rattle.std.proofs.Common.{◌≡◌, ℕ, Option, Result, Ok, IsErrAnd, List, [], arith}
+use Rattle.std.proofs.Common.{◌++◌, ◌⊎◌, length, refl, sym, ◌∙◌, ap, flat_map, append-nil}
+use Rattle.maildir_run.proofs.Common.{flat_map-append, spelling, Appends, Entry, IsOutput, RunFault, NoFromLine, OutOfMemory, IsReading}
 use Rattle.maildir_run.specs.declared.fault.RunFault.TheVariants.{OutputFault}
-use Rattle.maildir_run.proofs.Common.{AppendsPrefix, prefix_more, prefix_then, Reader, IsPrefixOf, Gave, GaveAll, SourceStopped, Breaks, Went}
+use Rattle.maildir_run.proofs.Common.{AppendsPrefix, prefix_more, prefix_then, IsPrefixOf, GaveAll, StoppedAfter}
 use Rattle.std.specs.Io.KnownBytes.{Keeps}
-use Rattle.maildir_run.proofs.Source.Givens.{read_nothing, given-from_lines, read_is, gave_more, gave_refused, given_prefix, broken_prefix}
-use Rattle.maildir_run.specs.Output.{GivesAll, GivesPrefix, GivesNothing, WritesMessages}
-
--- what is written for the first messages is a prefix of what is written for all
-pub record IsOutput (output : List Entry → List ℕ) : Type 0 where
-  pub none : output [] ≡ []
-  pub prefix : (a b : List Entry) → (rest : List ℕ) × (output (a ++ b) ≡ output a ++ rest)
+use Rattle.maildir_run.proofs.Source.Givens.{read_is}
+use Rattle.maildir_run.specs.Output.{GivesPrefix, WritesMessages}
 
 gives_prefix : {output : List Entry → List ℕ} {before now : Option (List ℕ)} (was is : Option (List ℕ)) {reads : ℕ} {given : List Entry}
     → IsOutput output → IsPrefixOf before now reads given → AppendsPrefix was is (output given) → GivesPrefix output before now was is
@@ -25,124 +19,29 @@ gives_prefix {output} {before} {now} was is {given = given} o f h t entries p m 
 appends_nothing : (was is : Option (List ℕ)) → Appends was is [] → Keeps was is
 appends_nothing was is h = grind (arith, append-nil)
 
--- all that was given is written, and nothing is whole that was not
-pub record Poured (output : List Entry → List ℕ) (given : List Entry) (before now was is : Option (List ℕ))
-    (splitter : Splitter) (left : ℕ) (whole : List Entry) (reads count : ℕ) : Type 0 where
-  pub gave : Gave before now splitter left reads given
-  pub written : Appends was is (output given)
-  pub count_is : count ≡ length given
-  pub empty : whole ≡ []
+-- ---- the call as a whole, where it ends; what belongs to these messages is written
+module _ {output : List Entry → List ℕ} {before now was : Option (List ℕ)} (is : Option (List ℕ)) {reads : ℕ} (given : List Entry) {fault : RunFault}
+    (o : IsOutput output) (written : Appends was is (output given)) (result : Result ℕ RunFault) (at : IsErrAnd result (λ e. e ≡ fault)) where
+  -- no more could be read
+  pub reading_failed : IsReading fault → StoppedAfter before now reads given fault → WritesMessages output before now was is reads result
+  reading_failed reading stop =
+      let prefix = gives_prefix _ is o stop.prefix (output given, [], sym (append-nil (output given)), written) in
+      let nothing = λ (e : fault ≡ NoFromLine). appends_nothing _ is (rw (stop.none e, o.none) at written) in
+      grind arith
 
--- a read that was refused
-pub record Broken (output : List Entry → List ℕ) (before now was is : Option (List ℕ)) (reads : ℕ) (fault : RunFault) : Type 0 where
-  pub prefix : GivesPrefix output before now was is
-  pub nothing : fault ≡ NoFromLine → GivesNothing before now was is
-  pub refused : SourceStopped before now reads fault
+  -- the writer failed in the next batch
+  pub writing_failed : (fault ≡ OutputFault) ⊎ (fault ≡ OutOfMemory) → (is' : Option (List ℕ)) (bytes : List ℕ) (whole : List Entry)
+      → IsPrefixOf before now reads (given ++ whole) → output (given ++ whole) ≡ output given ++ bytes → AppendsPrefix is is' bytes
+      → WritesMessages output before now was is' reads result
+  writing_failed cause is' bytes whole f e h =
+      let all = prefix_then _ is is' _ bytes [] _ written h (e ∙ ap (λ z. output given ++ z) (sym (append-nil bytes))) in
+      let prefix = gives_prefix _ is' o f all in
+      grind arith
 
-pub read_broken : {output : List Entry → List ℕ} {given : List Entry} {before mid now : Option (List ℕ)}
-    {was is : Option (List ℕ)} (messages : Reader) {whole : List Entry} {reads count : ℕ} {fault : RunFault}
-    → IsOutput output → Poured output given before mid was is messages.splitter messages.reads_left whole reads count
-    → Breaks messages mid now fault → Broken output before now was is reads fault
-read_broken {output} {given} {now} {was} {is} messages {fault} o p b =
-    let refused = gave_refused now messages fault p.gave b in
-    record {
-      prefix = gives_prefix was is o (broken_prefix messages p.gave b) (output given, [], sym (append-nil (output given)), p.written);
-      nothing = grind (arith, appends_nothing);
-      refused = refused;
-    }
-
--- no memory was found before the first read
-pub unread : {output : List Entry → List ℕ} {before was : Option (List ℕ)} {reads : ℕ} → IsOutput output → Broken output before before was was reads OutOfMemory
-unread {before = before} {was} {reads} o = grind (arith, read_nothing, gives_prefix, Appends-nil)
-
--- ---- the call as a whole, where it ends
-module _ {output : List Entry → List ℕ} {before now was is : Option (List ℕ)} {reads : ℕ} {fault : RunFault}
-    (result : Result ℕ RunFault) (at : IsErrAnd result (λ e. e ≡ fault)) where
-  pub reading_failed : IsReading fault → Broken output before now was is reads fault → WritesMessages output before now was is reads result
-  reading_failed reading b = grind arith
-
-  pub writing_failed : (fault ≡ OutputFault) ⊎ (fault ≡ OutOfMemory) → GivesPrefix output before now was is
-      → ReadsAtMost before now (65536 * reads) → WritesMessages output before now was is reads result
-  writing_failed cause prefix budget = grind arith
-
-pub all_written : {output : List Entry → List ℕ} {before now was is : Option (List ℕ)} {reads count : ℕ} → GivesAll output before was is count
-    → IsAtEnd now → ReadsAtMost before now (65536 * reads) → WritesMessages output before now was is reads (Ok count)
-all_written all end budget = grind arith
-
--- a read, and what became whole by it
-pub record Batch (output : List Entry → List ℕ) (given : List Entry) (before now was is : Option (List ℕ)) (whole : List Entry) (reads count : ℕ) : Type 0 where
-  pub prefix : IsPrefixOf before now reads (given ++ whole)
-  pub written : Appends was is (output given)
-  pub count_is : count ≡ length given
-  pub from_lines : FromLines whole
-
-pub batch : {output : List Entry → List ℕ} {given : List Entry} {before mid now was is : Option (List ℕ)}
-    (messages : Reader) (splitter : Splitter) (left : ℕ) {old whole : List Entry} {reads count : ℕ} (ended : Bool)
-    → Poured output given before mid was is messages.splitter messages.reads_left old reads count
-    → Went messages mid now old whole splitter left (Ok ended) → Batch output given before now was is whole reads count
-batch {given = given} {before} {now} messages splitter left {old} {whole} {reads} ended p w =
-    let more = gave_more ended now messages splitter left old whole p.empty p.gave w in
-    record {
-      prefix = grind (arith, given_prefix);
-      written = p.written;
-      count_is = p.count_is;
-      from_lines = grind (arith, given-from_lines);
-    }
-
-module _ {output : List Entry → List ℕ} {given : List Entry} {before now was is : Option (List ℕ)}
-    {whole : List Entry} {reads count : ℕ} (b : Batch output given before now was is whole reads count) where
-  -- the count is far from its type's end
-  pub count_fits : reads ≤ 2 ^ 40 → count + length whole < 2 ^ 64
-  count_fits most = omega (arith, length-append given whole, b.prefix.few, b.prefix.budget, b.count_is)
-
-  -- there are numbers for all messages
-  pub names_fit : reads ≤ 2 ^ 40 → length (given ++ whole) < 2 ^ 63
-  names_fit most = omega (arith, b.prefix.few, b.prefix.budget)
-
-  -- the writer failed in the batch
-  pub batch_broken : (is' : Option (List ℕ)) (bytes : List ℕ) → IsOutput output
-      → output (given ++ whole) ≡ output given ++ bytes → AppendsPrefix is is' bytes → GivesPrefix output before now was is'
-  batch_broken is' bytes o e h =
-      gives_prefix was is' o b.prefix
-      (prefix_then was is is' _ bytes [] _ b.written h (e ∙ ap (λ z. output given ++ z) (sym (append-nil bytes))))
-
--- nothing is left of the source
-all_given : (output : List Entry → List ℕ) (before now was is : Option (List ℕ)) {reads : ℕ} (all : List Entry) {count : ℕ}
-    → GaveAll before now reads all → count ≡ length all → Appends was is (output all) → GivesAll output before was is count
-all_given output before now was is all gave c h = grind (arith, append-nil)
-
--- the batch is written
-module _ {output : List Entry → List ℕ} {given : List Entry} {before mid : Option (List ℕ)} (now : Option (List ℕ)) {was is : Option (List ℕ)}
-    (is' : Option (List ℕ)) (messages : Reader) (splitter : Splitter) (left : ℕ) {old : List Entry} (whole : List Entry) {reads count : ℕ} (bytes : List ℕ)
-    (p : Poured output given before mid was is messages.splitter messages.reads_left old reads count)
-    (e : output (given ++ whole) ≡ output given ++ bytes) (h : Appends is is' bytes) where
-  written : Appends was is' (output (given ++ whole))
-  written = grind (arith, Appends-trans)
-
-  total : count + length whole ≡ length (given ++ whole)
-  total = omega (arith, length-append given whole, p.count_is)
-
-  -- and the source is at its end
-  pub poured_all : Went messages mid now old whole splitter left (Ok true) → GivesAll output before was is' (count + length whole)
-  poured_all w = all_given output before now was is' _ (gave_more true now messages splitter left old whole p.empty p.gave w) total written
-
-  -- and more is to come
-  pub poured_more : (after : List Entry) → Went messages mid now old whole splitter left (Ok false) → after ≡ []
-      → Poured output (given ++ whole) before now was is' splitter left after reads (count + length whole)
-  poured_more after w none =
-      record { gave = gave_more false now messages splitter left old whole p.empty p.gave w; written = written; count_is = total; empty = none }
-
--- nothing was read
-pub poured_none : (output : List Entry → List ℕ) {before was : Option (List ℕ)} {splitter : Splitter} {reads left : ℕ} {whole : List Entry}
-    → IsOutput output → Fed [] [] splitter → left ≡ reads → whole ≡ []
-    → Poured output [] before before was was splitter left whole reads 0
-poured_none output {before} {was} o f l none = grind (arith, Consumes-nil before, Appends-nil was)
+pub all_written : {output : List Entry → List ℕ} {before now was is : Option (List ℕ)} {reads count : ℕ} {all : List Entry} → GaveAll before now reads all
+    → Appends was is (output all) → count ≡ length all → WritesMessages output before now was is reads (Ok count)
+all_written gave written total = grind (arith, append-nil)
 
 -- what each message is written as is an output
 pub flat_output : IsOutput (flat_map spelling)
 flat_output = record { none = refl; prefix = λ a b. (flat_map spelling b, flat_map-append spelling a b) }
-
--- what went out of a batch
-pub flat_more : (given : List Entry) {whole entries : List Entry} → entries ≡ whole
-    → flat_map spelling (given ++ whole) ≡ flat_map spelling given ++ flat_map spelling entries
-flat_more given {whole} e = grind (arith, flat_map-append)

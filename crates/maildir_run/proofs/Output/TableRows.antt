@@ -4,10 +4,10 @@ use Rattle.std.proofs.Common.{refl, arith}
 use Rattle.std.proofs.Common.{arith, append_assoc, MatchResult, IsErr, append-nil, length-append, take-append-drop, length-take-le}
 use Rattle.maildir_run.proofs.Common.{Appends, Appends-nil, false≢true, length-map, map-append, take_more}
 use Rattle.maildir_run.proofs.Common.{Entry, sender, AppendsPrefix, Writes, Target, Counts, Named, targets}
-use Rattle.maildir_run.proofs.Common.{length-targets, targets-prefix, HasListed, info, place_word, shown_sender}
+use Rattle.maildir_run.proofs.Common.{length-targets, targets-prefix, HasListed, IsOutput, info, shown_sender}
+use Rattle.maildir_run.specs.Folders.{folder_name, folder_of_place}
 use Rattle.std.specs.Fmt.{decimal}
 use Rattle.maildir_run.specs.Table.{message_row, rows_from, table_of}
-use Rattle.maildir_run.proofs.Output.Poured.{IsOutput}
 
 -- the bodies of some messages
 abbrev pub bodies : List Entry → List (List ℕ)
@@ -95,7 +95,8 @@ module _ (given entries : List Entry) (i : ℕ) (e : Entry) where
 
 -- the line from its parts
 pub row-is : (index size : ℕ) (entry : Entry) (target : Target) (prefix sent line line' line'' : List ℕ)
-    → prefix ≡ decimal index ++ 32 ∷ (target.base ++ 32 ∷ (place_word target.place ++ 32 ∷ (info target.name ++ 32 ∷ (decimal size ++ 32 ∷ []))))
+    → prefix ≡ decimal index ++ 32 ∷ (target.base ++ 32 ∷ (folder_name (folder_of_place target.place)
+    ++ 32 ∷ (info target.name ++ 32 ∷ (decimal size ++ 32 ∷ []))))
     → size ≡ length entry.body → line ≡ prefix → sent ≡ sender entry.from_line
     → line' ≡ line ++ shown_sender sent → line'' ≡ line' ++ 10 ∷ [] → line'' ≡ message_row index entry target
 unfolding message_row

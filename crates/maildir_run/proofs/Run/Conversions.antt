@@ -1,14 +1,13 @@
 -- A run at its exits, from its parts.
 use Rattle.std.proofs.Common.{◌≡◌, ℕ, ◌+◌, ◌-◌, ◌*◌, ◌<◌, ◌≤◌, ◌^◌, Option, Some, None, List, arith}
 use Rattle.std.proofs.Common.{[], ◌++◌, length, Result, refl, arith, IsErrAnd, ◌⊎◌, inl}
-use Rattle.maildir_run.proofs.Common.{contains_key, length-map, Entry, Counts, Named, RunFault, NoFromLine, Report, BaseSet}
+use Rattle.maildir_run.proofs.Common.{contains_key, length-map, Engine, Entry, Named, RunFault, NoFromLine, Report, BaseSet}
 use Rattle.maildir_run.proofs.Common.{Conversion, ReportsTasks, run_tasks, Seen, Performed, DeliversMessages, sweep_of}
 use Rattle.maildir_run.proofs.Common.{messages_after, deliveries_of, IsOfFolder, Message, IsPrefixOf}
-use Rattle.maildir_run.proofs.Common.{SourceStopped, is_listed, IsReading, Task, Listings, listing_tasks, messages_of, bodies_of}
+use Rattle.maildir_run.proofs.Common.{SourceStopped, StoppedAfter, is_listed, IsReading, Task, Listings, listing_tasks, messages_of, bodies_of}
 use Rattle.std.proofs.lemmas.Result.{err_from_is_err_and}
 use Rattle.maildir_run.proofs.Run.Delivering.{delivers_then}
 use Rattle.maildir_run.proofs.Run.Batches.{all_messages}
-use Rattle.maildir_run.proofs.Source.Givens.{refused_prefix}
 use Rattle.maildir_run.proofs.Chains.MessageLemmas.{length-messages_of}
 use Rattle.maildir_run.proofs.Source.PossibleMessages.{batch_bodies, batch_few}
 use Rattle.maildir_run.proofs.Tasks.Tasks.{ran_nothing, ran_then}
@@ -28,10 +27,10 @@ module _ {before now : Option (List ℕ)} {reads : ℕ} {old new : Seen} {r : Re
 
 -- before anything was done
 pub stops_unread : {before now : Option (List ℕ)} {reads : ℕ} {s : Seen} {r : Result Report RunFault} {fault : RunFault}
-    → IsErrAnd r (λ e. e ≡ fault) → IsReading fault → SourceStopped before now reads fault → Conversion before now reads s s r
-stops_unread {before} {now} {reads} {s} {r} {fault} is reading refused =
+    → IsErrAnd r (λ e. e ≡ fault) → IsReading fault → StoppedAfter before now reads [] fault → Conversion before now reads s s r
+stops_unread {before} {now} {reads} {s} {r} {fault} is reading stop =
     let names : Listings = record { tmp = []; new = []; cur = [] } in
-    stops is refused (inl reading) (λ e. refl) [] (refused_prefix refused) names (omega arith) 0 0 refl
+    stops is stop.refused (inl reading) (λ e. refl) [] stop.prefix names (omega arith) 0 0 refl
     (ran_nothing reading)
 
 -- ---- the set of bases tells what was listed
@@ -49,14 +48,12 @@ all_ran names ms none tmp_is begun_is tasks_are look sweep deliver =
     ran_then (rw none at look) (ran_then (rw tmp_is at sweep) (rw (tasks_are, begun_is) at deliver))
 
 -- one more batch
-pub one_batch : {there there' : BaseSet} {a b c : Seen} {made mid made' p q n : ℕ} {namer namer' : Counts} {fault : Option RunFault} (given whole
-    entries : List Entry) (reads : ℕ) → there' ≡ there → entries ≡ whole → length (given ++ whole) ≤ 65536 * reads → reads ≤ 2 ^ 40
-    → DeliversMessages (contains_key there) [] (bodies_of given) a b made mid p q namer None → ((bodies : List (List ℕ)) → Named bodies namer
-    → length bodies + length entries ≤ 2 ^ 63 → DeliversMessages (contains_key there') bodies (bodies_of entries) b c mid made' q n namer' fault)
-    → DeliversMessages (contains_key there) [] (bodies_of (given ++ whole)) a c made made' p n namer' fault
-one_batch {there} {there'} {a} {b} {c} {made} {mid} {made'} {p} {q} {n} {namer} {namer'} {fault} given whole entries reads same e few most first then =
-    rw (batch_bodies given e) at (delivers_then first
-    (rw same at (then (bodies_of given) (first.named refl) (batch_few given e few most))))
+pub one_batch : {a b c : Seen} {run mid run' : Engine} {fault : Option RunFault} (given whole entries : List Entry) (reads : ℕ)
+    → entries ≡ whole → length (given ++ whole) ≤ 65536 * reads → reads ≤ 2 ^ 40 → DeliversMessages [] (bodies_of given) a b run mid None
+    → ((bodies : List (List ℕ)) → Named bodies mid.namer → length bodies + length entries ≤ 2 ^ 63
+    → DeliversMessages bodies (bodies_of entries) b c mid run' fault) → DeliversMessages [] (bodies_of (given ++ whole)) a c run run' fault
+one_batch given whole entries reads e few most first then =
+    rw (batch_bodies given e) at (delivers_then first (then (bodies_of given) (first.named refl) (batch_few given e few most)))
 
 pub report_tells : (names : Listings) (all : List Entry) (report : Report) (tasks : List Task) (messages placed before : ℕ)
     → tasks ≡ deliveries_of (is_listed names.new names.cur) (messages_of (bodies_of all)) → messages ≡ length all

@@ -45,7 +45,7 @@ deliveries_ours is_there (m ∷ ms) are =
 
 -- ---- how many they are
 deliveries_count : (spared : Spared) (start : Files) (is_there : List ℕ → Bool) → Knows spared is_there start → (ms : List Message)
-    → All (λ m. IsTarget m.target) ms → All (IsSpared spared) ms → length (deliveries_of is_there ms) + 2 * there_count start ms ≡ 2 * length ms
+    → All (λ m. IsTarget m.target) ms → All (IsSpared spared) ms → length (deliveries_of is_there ms) + 2 * there_count (has_home start) ms ≡ 2 * length ms
 deliveries_count spared start is_there knows [] are all = omega arith
 deliveries_count spared start is_there knows (m ∷ ms) are all =
     let more = deliveries_count spared start is_there knows ms (All-tail (λ (x : Message). IsTarget x.target) m ms are) (All-tail (IsSpared spared) m ms all) in

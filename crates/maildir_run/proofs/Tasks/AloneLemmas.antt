@@ -31,7 +31,7 @@ alone-delivered {ms} {s} d = nothing_filled s ms d.homes_are ∙ nothing_swept d
 no_converter_kept : (m : FileMap) → ((name : List ℕ) → IsTrue (is_converter_name name) → get m name ≡ None) → retain_keys m is_converter_name ≡ empty
 no_converter_kept m gone = same_map total same _ _ (λ q. grind (arith, get_under, gone q, get-empty {X = List ℕ} name_cmp q))
 
-all_there : (s : Files) (ms : List Message) → All (IsHome s) ms → there_count s ms ≡ length ms
+all_there : (s : Files) (ms : List Message) → All (IsHome s) ms → there_count (has_home s) ms ≡ length ms
 all_there s [] there = refl
 all_there s (m ∷ ms) there =
     let rest = all_there s ms (All-tail (IsHome s) m ms there) in

@@ -7,6 +7,7 @@ use Rattle.mbox_text.specs.Fed.{Fed}
 use Rattle.mbox_text.specs.Mbox.{Mbox, IsUnreadable}
 use Rattle.maildir_run.specs.declared.fault.RunFault.{RunFault}
 use Rattle.maildir_run.specs.declared.fault.RunFault.TheVariants.{NoFromLine, TooManyReads}
+use Rattle.maildir_run.specs.declared.reader.Reader.{Reader}
 use Rattle.maildir_run.specs.Runs.{Possible}
 use Rattle.maildir_run.specs.Reading.{ReadsAtLeast, ReadsAtMost}
 
@@ -41,13 +42,26 @@ pub record IsPrefixOf (before now : Option (List ℕ)) (reads : ℕ) (given : Li
       → Mbox (text ++ more) entries → (rest : List Entry) × (entries ≡ given ++ rest)
   pub none : (more left : List ℕ) → now ≡ Some left → (left ≡ [] → more ≡ []) → IsUnreadable (text ++ more) → given ≡ []
 
--- the source was read up to its end, or up to where these messages are whole, of which there is one
-pub record Begins (ended : Bool) (before now : Option (List ℕ)) (splitter : Splitter) (left reads : ℕ) (whole : List Entry) : Type 0 where
-  pub gave : IsGiven ended before now splitter left reads whole
-  pub begun : ended ≡ false → 0 < length whole
-
 -- nothing more could be read; with `TooManyReads` each of the reads gave a byte, and with `NoFromLine` no text that the source may have had is an mbox text
 pub record SourceStopped (before now : Option (List ℕ)) (reads : ℕ) (fault : RunFault) : Type 0 where
   pub budget : ReadsAtMost before now (65536 * reads)
   pub spent : fault ≡ TooManyReads → ReadsAtLeast before now reads
   pub unreadable : fault ≡ NoFromLine → (t : List ℕ) (entries : List Entry) → Possible before now t → ¬ Mbox t entries
+
+-- A reader gave a batch of messages, after any that were given before: up to the source's end, or one at least.
+pub record GivesBatch (ended : Bool) (old : Reader) (mid now : Option (List ℕ)) (splitter : Splitter) (left : ℕ) (whole : List Entry) : Type 0 where
+  pub gave : (before : Option (List ℕ)) (reads : ℕ) (given : List Entry) → Gave before mid old.splitter old.reads_left reads given
+      → IsGiven ended before now splitter left reads (given ++ whole)
+  pub some : ended ≡ false → 0 < length whole
+  pub fewer : ended ≡ false → left < old.reads_left
+
+-- nothing more could be read after these messages; there are none where it is for want of a From_ line
+pub record StoppedAfter (before now : Option (List ℕ)) (reads : ℕ) (given : List Entry) (fault : RunFault) : Type 0 where
+  pub refused : SourceStopped before now reads fault
+  pub prefix : IsPrefixOf before now reads given
+  pub none : fault ≡ NoFromLine → given ≡ []
+
+-- and whatever was given before
+abbrev pub GivesNoMore : Reader → Option (List ℕ) → Option (List ℕ) → RunFault → Type 0
+GivesNoMore old mid now fault = (before : Option (List ℕ)) (reads : ℕ) (given : List Entry)
+    → Gave before mid old.splitter old.reads_left reads given → StoppedAfter before now reads given fault

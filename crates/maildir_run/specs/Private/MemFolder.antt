@@ -1,8 +1,8 @@
 -- How a call of the folder in memory begins.
 use Rattle.std.specs.Prelude.{◌≡◌, IfOk, OnOk, OnErr, Result}
 use Rattle.std.specs.declared.alloc.AllocError.{AllocError}
-use Rattle.maildir_run.specs.declared.mem_folder.MemFolder.{MemFolder}
-use Rattle.maildir_run.specs.declared.script.Mode.{Mode}
+use Rattle.maildir_run.specs.declared.in_memory.mem_folder.MemFolder.{MemFolder}
+use Rattle.maildir_run.specs.declared.in_memory.script.Mode.{Mode}
 use Rattle.maildir_run.specs.Calls.{GoesUp}
 use Rattle.maildir_run.specs.MemFolder.{files_of, all_call_count, failure_count, next_mode, next_acts, next_files, SameScript, CountsCall}
 use Rattle.maildir_run.specs.Script.{IsCutShort}

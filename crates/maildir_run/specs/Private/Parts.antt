@@ -1,12 +1,14 @@
 -- What the parts of a run say of what they did.
-use Rattle.std.specs.Prelude.{◌≡◌, ℕ, ◌+◌, ◌*◌, ◌-◌, ◌<◌, ◌≤◌, ◌^◌, ◌⊎◌, Bool, List, [], ◌∷◌, ◌++◌}
+use Rattle.std.specs.Prelude.{◌≡◌, ℕ, ◌+◌, ◌*◌, ◌-◌, ◌<◌, ◌≤◌, ◌^◌, ◌⊎◌, List, [], ◌∷◌, ◌++◌}
 use Rattle.std.specs.Prelude.{length, Option, None, OnOk, IfOk, IfErr, IsErrOf, Result, Ok, Err}
 use Rattle.std.specs.declared.vec.Vec.{Vec}
 use Rattle.std.specs.declared.string.String.{String}
 use Rattle.std.specs.declared.alloc.Global.{Global}
+use Rattle.std.specs.FinMap.{contains_key}
 use Rattle.mbox_text.specs.declared.entry.Entry.{Entry}
-use Rattle.maildir_name.specs.Named.{Counts, Named}
+use Rattle.maildir_name.specs.Named.{Named}
 use Rattle.maildir_name.specs.Targets.{target}
+use Rattle.maildir_run.specs.declared.engine.Engine.{Engine}
 use Rattle.maildir_run.specs.declared.fault.RunFault.{RunFault}
 use Rattle.maildir_run.specs.declared.fault.RunFault.TheVariants.{NoFromLine}
 use Rattle.maildir_run.specs.declared.report.Report.{Report}
@@ -59,12 +61,13 @@ abbrev pub messages_after : List (List ℕ) → List (List ℕ) → List Message
 messages_after before [] = []
 messages_after before (body ∷ more) = message_at (target before body) body ∷ messages_after (before ++ body ∷ []) more
 
--- Of the messages with the bodies `more`, which follow the bodies `before`, those that were missing were delivered; each takes two calls.
-pub record DeliversMessages (is_there : List ℕ → Bool) (before more : List (List ℕ)) (old new : Seen)
-    (made made' placed placed' : ℕ) (namer' : Counts) (fault : Option RunFault) : Type 0 where
-  pub ran : Performed (deliveries_of is_there (messages_after before more)) old new made made' fault
-  pub named : fault ≡ None → Named (before ++ more) namer'
-  pub placed_are : fault ≡ None → 2 * placed' ≡ 2 * placed + length (deliveries_of is_there (messages_after before more))
+-- Of the messages with the bodies `more`, which follow the bodies `before`, a run delivered those that were missing; each takes two calls.
+pub record DeliversMessages (before more : List (List ℕ)) (old new : Seen) (run run' : Engine) (fault : Option RunFault) : Type 0 where
+  pub ran : Performed (deliveries_of (contains_key run.there) (messages_after before more)) old new run.calls.made run'.calls.made fault
+  pub there : run'.there ≡ run.there
+  pub swept : run'.swept ≡ run.swept
+  pub named : fault ≡ None → Named (before ++ more) run'.namer
+  pub placed_are : fault ≡ None → 2 * run'.placed ≡ 2 * run.placed + length (deliveries_of (contains_key run.there) (messages_after before more))
 
 -- ---- a whole run
 -- the listings, the sweep and these messages

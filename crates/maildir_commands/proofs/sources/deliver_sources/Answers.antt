@@ -21,7 +21,7 @@ returns-in_default g c =
       does = named_as none
           (input_converted g.M.Machine.at g.M.Maildir.System g.met.M.Machine.same_words g.met.M.Machine.quiet_is_honest
           (folder_opened (opened g.M.Maildir.System) c.new-folder.ensures.system c.in_ok-open_maildir.ensures)
-          (folder_closed (opened g.M.Maildir.System) c.into_system.ensures c.close_maildir.ensures) c.deliver_one-answer.ensures.does);
+          (folder_closed (opened g.M.Maildir.System) c.into_system.ensures c.close_maildir.ensures) c.deliver-answer.ensures.does);
     }
 
 -- the first file was not opened

@@ -1,8 +1,8 @@
-use Rattle.std.proofs.Common.{rules, [], ◌++◌, refl, ◌∙◌, inl}
+use Rattle.std.proofs.Common.{rules, [], ◌++◌, refl, ◌∙◌, ap, inl, length, arith}
 use Rattle.maildir_run.proofs.Common.{bodies_of}
 use Rattle.maildir_run.proofs.Run.Delivering.{delivers_none}
 use Rattle.maildir_run.proofs.Run.Conversions.{stops, stops_in_folder, stops_unread, all_ran, tells_listed, one_batch, report_tells}
-use Rattle.maildir_run.proofs.Source.Givens.{gave_more, gave_refused, given_prefix, prefix_few, broken_prefix, never_again}
+use Rattle.maildir_run.proofs.Source.Givens.{gave_none, given_prefix, prefix_few}
 use Rattle.maildir_run.proofs.Run.Batches.{batch_fits, batch_count, batch_begun}
 use Rattle.maildir_run.proofs.Tasks.Tasks.{ran_then, ran_before, ran_stop}
 use Rattle.maildir_run.proofs.converting.deliver_all.Goals as goal
@@ -10,38 +10,36 @@ use Rattle.maildir_run.proofs.converting.deliver_all.Goals as goal
 -- Searched: the residual's name is another one where the folder is listed first, and there it is the clause that is to fail.
 pub returns-in_err-ended : goal.returns-in_err-ended
 returns-in_err-ended g c =
-    stops_unread (search rules) c.in_err-ended.ensures.causes c.in_err-ended.ensures.refused
+    stops_unread (search rules) c.in_err-ended.ensures.causes (c.in_err-ended.ensures.refused _ _ [] (gave_none _ c.requires.fresh))
 
 pub returns-in_err-listings : goal.returns-in_err-listings
 returns-in_err-listings g c =
     let is = c.from_residual-in_err-listings.ensures.1 in
-    let begins = c.in_ok-ended.ensures.begins in
+    let begins = c.in_ok-ended.ensures.gives in
     let look = c.in_err-listings.ensures.ran in
     stops_in_folder is c.in_err-listings.ensures.causes _
-    (given_prefix _ _ _ _ _ _ _ begins.gave) look.0 look.1 _ _ c.new-calls.ensures
+    (given_prefix _ _ _ _ _ _ _ (begins.gave _ _ [] (gave_none _ c.requires.fresh))) look.0 look.1 _ _ c.new-calls.ensures
     (ran_before _ look.2)
 
 pub returns-in_err-engine : goal.returns-in_err-engine
 returns-in_err-engine g c =
     let is = c.from_residual-in_err-engine.ensures.1 in
-    let begins = c.in_ok-ended.ensures.begins in
+    let begins = c.in_ok-ended.ensures.gives in
     let look = c.in_ok-listings.ensures.ran in
     let sweep = rw look.3.0 at c.in_err-engine.ensures.ran.1 in
     stops_in_folder is c.in_err-engine.ensures.causes _
-    (given_prefix _ _ _ _ _ _ _ begins.gave) look.0 look.1 _ _ c.new-calls.ensures
+    (given_prefix _ _ _ _ _ _ _ (begins.gave _ _ [] (gave_none _ c.requires.fresh))) look.0 look.1 _ _ c.new-calls.ensures
     (ran_then look.2 (ran_before _ sweep))
 
 pub pieces-init : goal.pieces-init
 pieces-init g c =
-    let begins = c.in_ok-ended.ensures.begins in
+    let begins = c.in_ok-ended.ensures.gives in
     record {
       given = [];
-      gave = begins.gave;
-      begun = begins.begun;
+      gave = begins.gave _ _ [] (gave_none _ c.requires.fresh);
+      begun = begins.some;
       count = c.in_ok-engine.ensures.counts.0;
-      there = refl;
-      swept = refl;
-      delivers = delivers_none _ c.in_ok-engine.ensures.namer;
+      delivers = delivers_none c.in_ok-engine.ensures.namer;
     }
 
 pub deliver_entries-requires : goal.deliver_entries-requires
@@ -59,14 +57,10 @@ pieces-preserved g c =
     let few = prefix_few (given_prefix _ _ _ _ _ _ _ i.gave) in
     record {
       given = i.given ++ whole;
-      gave =
-          gave_more c.in_ok-ended-2.ended _ c.pieces.reader _ _ c.clear.new.self.items c.read.new.out.items c.clear.ensures.items
-          (rw c.if-ended.false at i.gave) c.in_ok-ended-2.ensures.went;
-      begun = λ e. batch_begun _ c.read.new.out.items (i.begun c.if-ended.false);
+      gave = c.in_ok-ended-2.ensures.gives.gave _ _ _ (rw c.if-ended.false at i.gave);
+      begun = λ e. batch_begun _ c.next_batch-in-pieces.new.whole.items (i.begun c.if-ended.false);
       count = batch_count _ _ i.given whole entries i.count c.in_ok-deliver_entries.ensures.all is;
-      there = c.in_ok-deliver_entries.ensures.there ∙ i.there;
-      swept = c.in_ok-deliver_entries.ensures.swept ∙ i.swept;
-      delivers = one_batch i.given whole entries _ i.there is few c.requires.few i.delivers c.in_ok-deliver_entries.ensures.delivers;
+      delivers = one_batch i.given whole entries _ is few c.requires.few i.delivers c.in_ok-deliver_entries.ensures.delivers;
     }
 
 pub returns-in_err-deliver_entries : goal.returns-in_err-deliver_entries
@@ -79,7 +73,7 @@ returns-in_err-deliver_entries g c =
     let prefix = given_prefix _ _ _ _ _ _ given i.gave in
     let few = prefix_few prefix in
     let listed = tells_listed _ _ _ look.0 (bodies_of given) c.in_ok-engine.ensures.there look.3.1 look.3.2 in
-    let delivers = one_batch i.given _ _ _ i.there
+    let delivers = one_batch i.given _ _ _
     c.deref.ensures.value few c.requires.few i.delivers c.in_err-deliver_entries.ensures.delivers in
     stops_in_folder is c.in_err-deliver_entries.ensures.causes given prefix look.0 look.1 _ _ refl
     (all_ran look.0 _ c.new-calls.ensures look.3.0 begin.2 listed look.2 begin.1 delivers.ran)
@@ -87,7 +81,6 @@ returns-in_err-deliver_entries g c =
 pub returns-in_err-ended-2 : goal.returns-in_err-ended-2
 returns-in_err-ended-2 g c =
     let is = c.from_residual-in_err-ended-2.ensures.1 in
-    let fault = c.in_err-ended-2.field-0.0 in
     let i = c.pieces.invariant in
     let given = i.given ++ c.pieces.whole.items in
     let look = c.in_ok-listings.ensures.ran in
@@ -95,13 +88,11 @@ returns-in_err-ended-2 g c =
     let prefix = given_prefix _ _ _ _ _ _ given i.gave in
     let few = prefix_few prefix in
     let listed = tells_listed _ _ _ look.0 (bodies_of given) c.in_ok-engine.ensures.there look.3.1 look.3.2 in
-    let delivers = one_batch i.given _ _ _ i.there
+    let delivers = one_batch i.given _ _ _
     c.deref.ensures.value few c.requires.few i.delivers c.in_ok-deliver_entries.ensures.delivers in
-    let gave = rw c.if-ended.false at i.gave in
-    let went = c.in_err-ended-2.ensures.went in
-    stops is (gave_refused _ c.pieces.reader fault gave went)
-    (inl c.in_err-ended-2.ensures.causes) (λ e. absurd (never_again _ c.pieces.reader fault gave (i.begun c.if-ended.false) went e))
-    given (broken_prefix c.pieces.reader gave went) look.0 look.1 _ _ refl
+    let stop = c.in_err-ended-2.ensures.refused _ _ given (rw c.if-ended.false at i.gave) in
+    stops is stop.refused (inl c.in_err-ended-2.ensures.causes)
+    (λ e. absurd (omega (arith, ap length (stop.none e), i.begun c.if-ended.false))) given stop.prefix look.0 look.1 _ _ refl
     (ran_stop c.in_err-ended-2.ensures.causes (all_ran look.0 _ c.new-calls.ensures look.3.0 begin.2 listed look.2 begin.1 delivers.ran))
 
 pub returns-then-ended : goal.returns-then-ended
@@ -115,7 +106,7 @@ returns-then-ended g c =
     let prefix = given_prefix _ _ _ _ _ _ given i.gave in
     let few = prefix_few prefix in
     let listed = tells_listed _ _ _ look.0 (bodies_of given) c.in_ok-engine.ensures.there look.3.1 look.3.2 in
-    let delivers = one_batch i.given _ entries _ i.there
+    let delivers = one_batch i.given _ entries _
     c.deref.ensures.value few c.requires.few i.delivers c.in_ok-deliver_entries.ensures.delivers in
     let count = batch_count _ _ i.given
     _ entries i.count c.in_ok-deliver_entries.ensures.all c.deref.ensures.value in
@@ -133,5 +124,5 @@ returns-then-ended g c =
       tells =
           report_tells look.0 given _ _ _ _ _ listed count counts.1 (delivers.placed_are refl)
           c.report.ensures.messages c.report.ensures.there c.report.ensures.placed
-          (c.report.ensures.swept ∙ c.in_ok-deliver_entries.ensures.swept ∙ i.swept ∙ rw look.3.0 at counts.2);
+          (c.report.ensures.swept ∙ delivers.swept ∙ rw look.3.0 at counts.2);
     }

@@ -1,5 +1,5 @@
 use Rattle.std.proofs.Common.{◌≡◌, suc, ◌<◌, false, cond, List, [], ◌++◌, length, None}
-use Rattle.maildir_run.proofs.Common.{contains_key, Entry, IsGiven, DeliversMessages, bodies_of}
+use Rattle.maildir_run.proofs.Common.{Entry, IsGiven, DeliversMessages, bodies_of}
 use Rattle.maildir_run.proofs.converting.deliver_all.Given as goal
 
 abbrev pub invariant-pieces : goal.invariant-pieces
@@ -11,10 +11,7 @@ invariant-pieces g l =
           l.reader.splitter l.reader.reads_left l.fn.reader.reads_left (given ++ l.whole.items);
       begun : l.ended ≡ false → 0 < length (given ++ l.whole.items);
       count : l.engine.messages ≡ length given;
-      there : l.engine.there ≡ l.initial.engine.there;
-      swept : l.engine.swept ≡ l.initial.engine.swept;
-      delivers : DeliversMessages (contains_key l.initial.engine.there) [] (bodies_of given) (at l.initial.folder) (at l.folder)
-          l.initial.engine.calls.made l.engine.calls.made l.initial.engine.placed l.engine.placed l.engine.namer None;
+      delivers : DeliversMessages [] (bodies_of given) (at l.initial.folder) (at l.folder) l.initial.engine l.engine None;
     }
 
 abbrev pub decreases-pieces : goal.decreases-pieces

@@ -8,7 +8,7 @@ use Rattle.maildir_memory.proofs.mem_system.MemSystemSystem.sync_folder.Goals as
 pub returns-clause-asks : goal.returns-clause-asks
 returns-clause-asks c =
     let mid = c.pass_shortly.new.self in
-    let sub = c.sub_of.result in
+    let sub = c.of_place.result in
     asked (looks_then c.pass_shortly.ensures.looks
     (looks_stayed (λ s. keys (folder_of sub s) ≡ keys (folder_of sub (files_of mid.folder))) mid c.keep_names.new.self c.keep_names.ensures.stays))
 
@@ -17,5 +17,5 @@ returns-clause-names c = λ spared honest.
     let mid = c.pass_shortly.new.self in
     let others = c.pass_shortly.ensures.others in
     let acts = others.acts spared honest.spares in
-    names_stayed c.sub_of.ensures (world_of c.args.self.now) mid.folder mid.cases c.keep_names.new.self
+    names_stayed c.of_place.ensures (world_of c.args.self.now) mid.folder mid.cases c.keep_names.new.self
     (acts.actions, acts.files_are) (others.left spared honest.spares) c.keep_names.ensures.stays

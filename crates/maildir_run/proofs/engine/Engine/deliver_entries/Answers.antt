@@ -1,4 +1,4 @@
-use Rattle.std.proofs.Common.{◌+◌, ◌<◌, [], ◌++◌, length, take, drop, ◌∙◌, arith, refl, rules}
+use Rattle.std.proofs.Common.{◌+◌, ◌<◌, [], ◌++◌, length, take, drop, arith, refl, rules}
 use Rattle.maildir_run.proofs.Common.{bodies_of}
 use Rattle.maildir_run.proofs.Run.Batches.{bodies_next, bodies_split, few_next}
 use Rattle.maildir_run.proofs.Run.Delivering.{delivers_none, delivers_then, delivers_before}
@@ -15,10 +15,10 @@ returns-in_err-deliver-clause-delivers g c = λ bodies named few.
     let lt : i < length entries = c.loop-entry-test.true in
     let before = c.loop-entry.invariant in
     let first = before.delivers bodies named few in
-    let then = rw (before.there, c.as_slice.ensures) at (c.in_err-deliver.ensures.delivers (bodies ++ bodies_of (take i entries))
+    let then = rw c.as_slice.ensures at (c.in_err-deliver.ensures.delivers (bodies ++ bodies_of (take i entries))
     (first.named refl) (few_next entries i entry lt c.entry-item.is bodies few)) in
     rw (bodies_split entries i entry lt c.entry-item.is [])
-    (delivers_before _ _ (bodies_of (drop (i + 1) entries)) c.from_residual.ensures.1 (delivers_then first then))
+    (delivers_before _ (bodies_of (drop (i + 1) entries)) c.from_residual.ensures.1 (delivers_then first then))
 
 pub loop-entry-preserved : goal.loop-entry-preserved
 loop-entry-preserved g c =
@@ -32,10 +32,8 @@ loop-entry-preserved g c =
     record {
       delivers = λ bodies named few.
           let first = before.delivers bodies named few in
-          let then = rw (before.there, c.as_slice.ensures) at (c.in_ok-deliver.ensures.delivers (bodies ++ bodies_of (take i entries))
+          let then = rw c.as_slice.ensures at (c.in_ok-deliver.ensures.delivers (bodies ++ bodies_of (take i entries))
           (first.named refl) (few_next entries i entry lt c.entry-item.is bodies few)) in
           rw (bodies_next entries i entry lt c.entry-item.is []) (delivers_then first then);
-      there = c.in_ok-deliver.ensures.there ∙ before.there;
-      swept = c.in_ok-deliver.ensures.swept ∙ before.swept;
       count = omega arith;
     }

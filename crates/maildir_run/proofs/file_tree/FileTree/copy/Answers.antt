@@ -1,6 +1,0 @@
-use Rattle.std.proofs.Common.{arith}
-use Rattle.maildir_run.proofs.Memory.Trees.{copied_pairs}
-use Rattle.maildir_run.proofs.file_tree.FileTree.copy.Goals as goal
-
-pub returns : goal.returns
-returns c = grind (arith, copied_pairs)
