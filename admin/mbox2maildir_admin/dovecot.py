@@ -192,7 +192,7 @@ def content_of(path):
 
 
 def lines_of(path):
-    """The lines of a file of subscriptions, and whether tabs stand between the parts of a name, as in its newer form."""
+    """The lines of a file of subscriptions, and whether tabs stand between the parts of names, as in its newer form."""
     first, *lines = (content_of(path) or b"").split(b"\n")
     has_tabs = first.startswith(b"V\t")
     return [line for line in ([] if has_tabs else [first]) + lines if line], has_tabs
@@ -206,7 +206,7 @@ def subscriptions_of(old):
 
 
 def subscribe(root, old, record, dry=False):
-    """Writes the subscriptions of a tree once, in Dovecot's form; answers the lines that a file which is there lacks."""
+    """Writes the subscriptions of a tree once, in Dovecot's form; answers the lines that a file there lacks."""
     names, path = subscriptions_of(old), os.path.join(root, SUBSCRIPTIONS)
     lines = [name.replace(b".", b"\t") for name in names]
     text = FORM + b"".join(line + b"\n" for line in lines)

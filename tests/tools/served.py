@@ -83,8 +83,9 @@ class Case:
 
     def run(self, *words):
         """Runs a command as the user, and answers what it printed."""
-        ran = subprocess.run([self.top / "bin" / words[0], *words[1:]], cwd=self.home, stdin=subprocess.DEVNULL, check=False,
-                             stdout=subprocess.PIPE, stderr=subprocess.STDOUT, preexec_fn=self.server.become,
+        ran = subprocess.run([self.top / "bin" / words[0], *words[1:]], cwd=self.home, stdin=subprocess.DEVNULL,
+                             stdout=subprocess.PIPE, stderr=subprocess.STDOUT, check=False,
+                             preexec_fn=self.server.become,
                              env={"PATH": f"{self.top}/bin:{os.environ['PATH']}", "TZ": "UTC", "LC_ALL": "C.UTF-8"})
         return ran.returncode, ran.stdout.decode(errors="replace")
 
