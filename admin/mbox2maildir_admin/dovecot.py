@@ -13,7 +13,7 @@ from .migrating import Extra
 from .outcome import Left, folder_name
 from .record import sync_folder
 from .source import open_file
-from .terminal import shown, word
+from .terminal import is_text, shown, word
 from .trees import folder_of
 
 KEYWORDS, LIST, SUBSCRIPTIONS = b"dovecot-keywords", b"dovecot-uidlist", b"subscriptions"
@@ -86,9 +86,9 @@ class Dovecot(Extra):
         numbered = self.record.notes(NUMBERED, work.name)[-1:]
         if numbered and not is_beginning(work, numbered[0]):
             raise Left(OF_ANOTHER % folder_name(work.name))
-        if numbered and work.first:
-            return [WHAT_IS_NEW]
         there = [name for name in names_in(work.folder) if name.startswith(b"dovecot")]
+        if numbered and work.first and LIST in there:
+            return [WHAT_IS_NEW]
         for name in there:
             if not self.is_own(work, name):
                 raise Left("%s is there: %s" % (shown(name), BY_ITSELF))
@@ -125,7 +125,7 @@ def rename(folder, inventory, marks):
     files = {}
     for name, path in list(paths_of(folder)):
         place = inventory.place(name)
-        base, info, flags = name.partition(b":2,")
+        base, _, flags = name.partition(b":2,")
         if place is None or b":" in base:
             continue
         wanted = info_of(marks[place], flags.decode("latin-1")).encode("latin-1")
@@ -199,10 +199,10 @@ def lines_of(path):
 
 
 def subscriptions_of(old):
-    """The folders that a tree's `.subscriptions` names, as they are named now."""
+    """The folders that a tree's `.subscriptions` names, as they are named now: those that a mailbox of it becomes."""
     lines, has_tabs = lines_of(os.path.join(old, OLD_SUBSCRIPTIONS))
-    names = (line.replace(b"\t", b"/") if has_tabs else line for line in lines)
-    return [folder_of(name.decode("utf-8", "surrogateescape")).encode("utf-8", "surrogateescape") for name in names]
+    return [folder_of((line.replace(b"\t", b"/") if has_tabs else line).decode()).encode()
+            for line in lines if is_text(line)]
 
 
 def subscribe(root, old, record, dry=False):

@@ -1,6 +1,7 @@
 """What Dovecot's mbox driver reads in headers: each row was seen of Dovecot 2.3.19, over IMAP, on a mailbox without an
 index."""
 import re
+import time
 import unittest
 from pathlib import Path
 
@@ -154,6 +155,14 @@ class ReadingTest(unittest.TestCase):
             with source_of(text) as source:
                 self.assertIsNone(internal_head(source, 0)[0], text)
 
+    def test_a_long_subject_takes_no_time(self):
+        begun = time.monotonic()
+        for line in (b"Subject:" + b" " * 7000 + b"\rx\n", b"X-IMAP:" + b" \t" * 3000 + b"x\n",
+                     b"X-UID" + b" " * 7000 + b"x\n"):
+            with source_of(b"From a\n" + line + b"\n\n") as source:
+                self.assertIsNone(internal_head(source, 0)[0])
+        self.assertLess(time.monotonic() - begun, 5)
+
     def test_names_of_files(self):
         draft, deleted = (reading_of([HEAD + header]).marks[0]
                           for header in ("X-Status: T\nX-Keywords: Foo\n", "Status: D\n"))
@@ -200,7 +209,7 @@ class FilesTest(unittest.TestCase):
     def test_subscriptions(self):
         with folder() as here:
             self.assertEqual(subscriptions_of(here), [])
-            for text in (b"V\t2\n\nSent\nlists\tgarden\n2005.archive\nGr&APwA3w-e\nINBOX\n",
+            for text in (b"V\t2\n\nSent\ncaf\xe9\nlists\tgarden\n2005.archive\nGr&APwA3w-e\nINBOX\n",
                          b"Sent\nlists/garden\n2005.archive\nGr&APwA3w-e\nINBOX\n"):
                 Path(here.decode(), ".subscriptions").write_bytes(text)
                 self.assertEqual(subscriptions_of(here),
