@@ -123,19 +123,20 @@ def is_beginning(work, note):
 def rename(folder, inventory, marks):
     """Gives each message the flags and keywords of its marks, and answers the names of the files by their places."""
     files = {}
-    for name, path in list(paths_of(folder)):
-        place = inventory.place(name)
-        base, _, flags = name.partition(b":2,")
-        if place is None or b":" in base:
-            continue
-        wanted = info_of(marks[place], flags.decode("latin-1")).encode("latin-1")
-        if wanted != flags:
-            new = base + b":2," + wanted
-            target = os.path.join(folder, b"cur", new)
-            if not os.path.lexists(target):
-                os.rename(path, target)
-                name = new
-        files[place] = name
+    for sub in (b"new", b"cur"):
+        for name in os.listdir(os.path.join(folder, sub)):
+            place = inventory.place(name)
+            base, _, flags = name.partition(b":2,")
+            if place is None or b":" in base:
+                continue
+            wanted = info_of(marks[place], flags.decode("latin-1")).encode("latin-1")
+            if wanted != flags:
+                new = base + b":2," + wanted
+                target = os.path.join(folder, b"cur", new)
+                if not os.path.lexists(target):
+                    os.rename(os.path.join(folder, sub, name), target)
+                    name = new
+            files[place] = name
     for sub in (b"new", b"cur"):
         sync_folder(os.path.join(folder, sub))
     return files
@@ -144,9 +145,11 @@ def rename(folder, inventory, marks):
 def list_of(numbers, files):
     """The text of `dovecot-uidlist`."""
     validity, following, order = numbers
-    lines = [b"3 V%d N%d\n" % (validity, following)]
-    lines += [b"%d :%s\n" % (uid, files[place]) for uid, place in order if place in files]
-    return b"".join(lines)
+    text = bytearray(b"3 V%d N%d\n" % (validity, following))
+    for uid, place in order:
+        if place in files:
+            text += b"%d :%s\n" % (uid, files[place])
+    return text
 
 
 def place_file(folder, name, text, record):
