@@ -8,7 +8,7 @@ import re
 from typing import List, NamedTuple, Optional
 
 from .source import BLOCK
-from .terminal import shown
+from .terminal import NAMED, shown
 
 # what UIDVALIDITY may be at most, how many keywords the name of a file has letters for, and the highest UID. Dovecot's
 # next UID is at most 4294967294, and with the one after that its Maildir driver fails at each look, for good: so this
@@ -141,8 +141,10 @@ class Reading:
             yield "its numbers begin anew, since few are left above the last"
         elif self.is_renumbered:
             yield "some get another UID than they have, since a message before them has none"
-        if self.keywords[LETTERS:]:
-            yield "%d keywords are kept, without: %s" % (LETTERS, shown(b" ".join(self.keywords[LETTERS:])))
+        left = self.keywords[LETTERS:]
+        if left:
+            more = " and %d more" % (len(left) - NAMED) if left[NAMED:] else ""
+            yield "%d keywords are kept, without: %s%s" % (LETTERS, shown(b" ".join(left[:NAMED])), more)
 
     def is_used_up(self):
         """Whether too few numbers are left for mail that comes."""

@@ -134,6 +134,8 @@ class ReadingTest(unittest.TestCase):
                               "X-Keywords: k01 k28\n"])
         self.assertEqual([info_of(marks, "") for marks in reading.marks], ["az", "", "b"])
         self.assertEqual(list(reading.remarks()), ["26 keywords are kept, without: k26 k27 k28 k29"])
+        many = reading_of(["X-IMAPbase: 222 9 %s\n" % " ".join("k%02d" % number for number in range(99))])
+        self.assertEqual(list(many.remarks()), ["26 keywords are kept, without: k26 k27 k28 k29 k30 and 68 more"])
 
     def test_what_is_said_of_numbers(self):
         self.assertEqual(list(reading_of([HEAD, "X-UID: 6\n", ""]).remarks()), [])
