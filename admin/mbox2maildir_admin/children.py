@@ -22,12 +22,12 @@ class Teller:
     """What stands in a child in place of the reporter: it tells root."""
 
     def __init__(self, told):
-        self.told, self.last, self.next_time, self.total = told, None, 0, 0
+        self.told, self.next_time, self.total = told, 0, 0
 
     def tell(self, *words):
         """Tells a line. That nobody listens any more ends the child."""
         try:
-            os.write(self.told, json.dumps(words).encode() + b"\n")
+            os.write(self.told, json.dumps(words, ensure_ascii=False).encode() + b"\n")
         except OSError:
             raise KeyboardInterrupt from None
 
@@ -35,10 +35,10 @@ class Teller:
         """Root counts users, and no mailboxes."""
 
     def progress(self, _, *says):
-        """Tells how far a mailbox is, where that is news."""
+        """Tells how far a mailbox is, and so that it is at work: also where the words are those that were told before."""
         now = time.monotonic()
-        if says != self.last and now >= self.next_time:
-            self.last, self.next_time = says, now + .5
+        if now >= self.next_time:
+            self.next_time = now + .5
             self.tell("at", *says)
 
     def row(self, row, name=None):

@@ -37,8 +37,9 @@ class Program:
         return os.lseek(source.number, 0, os.SEEK_CUR)
 
     def wait_for(self, child, source):
-        """Waits for the end of the program, and answers what it said."""
-        said, poll = b"", select.poll()
+        """Waits for the end of the program, and answers what it said. How far it is is told where that is news, so that one that
+        was stopped is silent."""
+        said, last, poll = b"", None, select.poll()
         poll.register(child.stderr, select.POLLIN)
         if self.alive is not None:
             poll.register(self.alive, select.POLLIN)
@@ -51,4 +52,7 @@ class Program:
                 if not piece:
                     return said.decode("utf-8", "replace").strip()
                 said = (said + piece)[:MOST_SAID]
-            source.say("converting", os.lseek(source.number, 0, os.SEEK_CUR), source.size)
+            place = os.lseek(source.number, 0, os.SEEK_CUR)
+            if place != last:
+                source.say("converting", place, source.size)
+            last = place

@@ -34,15 +34,22 @@ class Digest:
 
     def add(self, offset, block):
         """Takes a block of the text, which counts where it is the next one."""
-        if offset != self.place:
-            return
+        if offset == self.place:
+            self.update(block)
+
+    def update(self, block):
+        """Takes the next bytes."""
+        block, offset = memoryview(block), self.place
         while self.sizes and self.sizes[-1] <= offset + len(block):
             size = self.sizes.pop()
-            part = self.hash.copy()
-            part.update(memoryview(block)[:size - offset])
-            self.beginnings[size] = part.hexdigest()
-        self.hash.update(block)
-        self.place += len(block)
+            self.take(block[self.place - offset:size - offset])
+            self.beginnings[size] = self.hash.hexdigest()
+        self.take(block[self.place - offset:])
+
+    def take(self, piece):
+        """Hashes bytes."""
+        self.hash.update(piece)
+        self.place += len(piece)
 
 
 class Reader:

@@ -61,26 +61,33 @@ def check_words(words):
 def migrate_own(words, reporter):
     """Migrates into a Maildir of whoever runs this."""
     root, names = os.fsencode(words.target), list(map(os.fsencode, words.names))
-    refuse(root, names)
+    refuse(root, names, options_of(words))
     os.umask(0o077)
     run_all(words, root, names, reporter, Program(os.fsencode(find_program())))
 
 
-def refuse(root, names):
-    """A fault for what is refused before anything is made."""
+def options_of(words):
+    """The options as they were given, each followed by a space."""
+    given = [option for option in ("dry-run", "again", "dovecot") if getattr(words, option.replace("-", "_"))]
+    return "".join("--%s " % option for option in given) + (
+        "--folder %s " % word(os.fsencode(words.folder)) if words.folder else "")
+
+
+def refuse(root, names, options=""):
+    """A fault for what is refused before anything is made. The options are said in what is to be run instead."""
     want_maildir(root)
     for name in names:
         if os.path.isdir(os.path.join(name, b"cur")):
             raise PlaceFault("%s: it is a Maildir, and no mailbox: the Maildir comes first" % shown(name))
     if os.geteuid() == 0:
-        parent = os.path.dirname(os.path.abspath(root))
-        want_roots(root if os.path.lexists(root) else parent, root, names)
-        for name in names:
-            if os.path.exists(name):
-                want_roots(name, root, names)
+        operands = " ".join(word(os.path.abspath(name)) for name in [root, *names])
+        # whose folder the Maildir is in could put another in its place
+        for path in (root, os.path.dirname(os.path.abspath(root)), *names):
+            if os.path.exists(path):
+                want_roots(path, options + operands)
 
 
-def want_roots(path, root, names):
+def want_roots(path, words):
     """A fault where what root names is another user's, with the words that would do it as that."""
     owner = os.stat(path).st_uid
     if owner == 0:
@@ -89,7 +96,6 @@ def want_roots(path, root, names):
         user = pwd.getpwuid(owner).pw_name
     except KeyError:
         raise PlaceFault("%s: it belongs to the user %d; run this as that one" % (shown(path), owner)) from None
-    words = " ".join(word(os.path.abspath(name)) for name in [root, *names])
     raise PlaceFault("%s: it belongs to %s; next: runuser -u %s -- %s migrate %s" % (
         shown(path), user, user, ADMIN, words))
 

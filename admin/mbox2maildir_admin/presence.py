@@ -46,8 +46,8 @@ class Presence:
             if not self.there[place]:
                 lacking[base[:32]].append(place)
                 sizes.add(self.inventory.sizes[place])
-        for name, path in names_of(self.folder):
-            self.say("looking into the folder")
+        for number, (name, path) in enumerate(names_of(self.folder), 1):
+            self.say("looking at file %d of the folder" % number)
             if BASE.match(name) and b"," not in name.split(b":")[0]:
                 continue
             digest = digest_of_file(path, sizes)
@@ -87,6 +87,11 @@ class Presence:
                         wanted.append(place)
                         lacking -= not self.there[place]
         return sorted(wanted)
+
+    def come_back(self, first):
+        """How many messages before a place come back with those that are wanted from there on, which are equal to them."""
+        return sum(place < first and self.is_nowhere(place) for places in self.inventory.equal().values()
+                   if any(place >= first and self.is_nowhere(place) for place in places) for place in places)
 
     def may_come_back(self, first, begun_at):
         """How many messages may have been placed, and deleted or moved since, by a run that was broken off. It placed
