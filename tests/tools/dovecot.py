@@ -119,12 +119,13 @@ class Dovecot:
             file.write(CONFIGURATION.format(self.folder, *names, self.imap, self.pop3, self.account.pw_uid,
                                             self.account.pw_gid))
 
-    def turn(self):
-        """Writes that each user's Maildir is served from the next start on."""
+    def change(self, before, after):
+        """Changes its configuration, which holds from the next start on."""
         with open(self.configuration, encoding="utf-8") as file:
             text = file.read()
+        assert before in text, before
         with open(self.configuration, "w", encoding="utf-8") as file:
-            file.write(text.replace("mail_location = mbox:~/mail:INBOX=~/inbox", "mail_location = maildir:~/Maildir"))
+            file.write(text.replace(before, after))
 
     def home(self, user):
         return f"{self.folder}/home/{user}"

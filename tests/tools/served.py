@@ -97,7 +97,7 @@ class Case:
                              env={"PATH": f"{self.top}/bin:{os.environ['PATH']}", "TZ": "UTC", "LC_ALL": "C.UTF-8"})
         return ran.returncode, ran.stdout.decode(errors="replace")
 
-    def migrate(self, *words, names=None, kill=None):
+    def migrate(self, *words, names=None, into="Maildir", kill=None):
         """Migrates it, or files of these names, as somebody does an hour later; all is killed after so many seconds."""
         self.own()
         for path in self.home.rglob("*"):
@@ -105,7 +105,7 @@ class Case:
                 os.utime(path, (time.time() - 3600,) * 2)
         names = names or ["inbox"] + ["mail"] * (len(self.folders) > 1)
         before = [] if kill is None else [shutil.which("timeout"), "-s", "KILL", f"{kill:.3f}"]
-        return self.run(*before, "mbox2maildir-admin", "migrate", *(words or ["--dovecot"]), "Maildir", *names)
+        return self.run(*before, "mbox2maildir-admin", "migrate", *(words or ["--dovecot"]), into, *names)
 
     def after(self):
         """What Dovecot shows of the Maildir."""
