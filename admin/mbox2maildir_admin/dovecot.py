@@ -13,7 +13,7 @@ from .migrating import Extra
 from .outcome import Left, folder_name
 from .record import sync_folder
 from .source import open_file
-from .terminal import shown, word
+from .terminal import is_text, shown, word
 from .trees import folder_of
 
 KEYWORDS, LIST, SUBSCRIPTIONS = b"dovecot-keywords", b"dovecot-uidlist", b"subscriptions"
@@ -86,9 +86,9 @@ class Dovecot(Extra):
         numbered = self.record.notes(NUMBERED, work.name)[-1:]
         if numbered and not is_beginning(work, numbered[0]):
             raise Left(OF_ANOTHER % folder_name(work.name))
-        if numbered and work.first:
-            return [WHAT_IS_NEW]
         there = [name for name in names_in(work.folder) if name.startswith(b"dovecot")]
+        if numbered and work.first and LIST in there:
+            return [WHAT_IS_NEW]
         for name in there:
             if not self.is_own(work, name):
                 raise Left("%s is there: %s" % (shown(name), BY_ITSELF))
@@ -123,19 +123,20 @@ def is_beginning(work, note):
 def rename(folder, inventory, marks):
     """Gives each message the flags and keywords of its marks, and answers the names of the files by their places."""
     files = {}
-    for name, path in list(paths_of(folder)):
-        place = inventory.place(name)
-        base, info, flags = name.partition(b":2,")
-        if place is None or b":" in base:
-            continue
-        wanted = info_of(marks[place], flags.decode("latin-1")).encode("latin-1")
-        if wanted != flags:
-            new = base + b":2," + wanted
-            target = os.path.join(folder, b"cur", new)
-            if not os.path.lexists(target):
-                os.rename(path, target)
-                name = new
-        files[place] = name
+    for sub in (b"new", b"cur"):
+        for name in os.listdir(os.path.join(folder, sub)):
+            place = inventory.place(name)
+            base, _, flags = name.partition(b":2,")
+            if place is None or b":" in base:
+                continue
+            wanted = info_of(marks[place], flags.decode("latin-1")).encode("latin-1")
+            if wanted != flags:
+                new = base + b":2," + wanted
+                target = os.path.join(folder, b"cur", new)
+                if not os.path.lexists(target):
+                    os.rename(os.path.join(folder, sub, name), target)
+                    name = new
+            files[place] = name
     for sub in (b"new", b"cur"):
         sync_folder(os.path.join(folder, sub))
     return files
@@ -144,9 +145,11 @@ def rename(folder, inventory, marks):
 def list_of(numbers, files):
     """The text of `dovecot-uidlist`."""
     validity, following, order = numbers
-    lines = [b"3 V%d N%d\n" % (validity, following)]
-    lines += [b"%d :%s\n" % (uid, files[place]) for uid, place in order if place in files]
-    return b"".join(lines)
+    text = bytearray(b"3 V%d N%d\n" % (validity, following))
+    for uid, place in order:
+        if place in files:
+            text += b"%d :%s\n" % (uid, files[place])
+    return text
 
 
 def place_file(folder, name, text, record):
@@ -192,21 +195,21 @@ def content_of(path):
 
 
 def lines_of(path):
-    """The lines of a file of subscriptions, and whether tabs stand between the parts of a name, as in its newer form."""
+    """The lines of a file of subscriptions, and whether tabs stand between the parts of names, as in its newer form."""
     first, *lines = (content_of(path) or b"").split(b"\n")
     has_tabs = first.startswith(b"V\t")
     return [line for line in ([] if has_tabs else [first]) + lines if line], has_tabs
 
 
 def subscriptions_of(old):
-    """The folders that a tree's `.subscriptions` names, as they are named now."""
+    """The folders that a tree's `.subscriptions` names, as they are named now: those that a mailbox of it becomes."""
     lines, has_tabs = lines_of(os.path.join(old, OLD_SUBSCRIPTIONS))
-    names = (line.replace(b"\t", b"/") if has_tabs else line for line in lines)
-    return [folder_of(name.decode("utf-8", "surrogateescape")).encode("utf-8", "surrogateescape") for name in names]
+    return [folder_of((line.replace(b"\t", b"/") if has_tabs else line).decode()).encode()
+            for line in lines if is_text(line)]
 
 
 def subscribe(root, old, record, dry=False):
-    """Writes the subscriptions of a tree once, in Dovecot's form; answers the lines that a file which is there lacks."""
+    """Writes the subscriptions of a tree once, in Dovecot's form; answers the lines that a file there lacks."""
     names, path = subscriptions_of(old), os.path.join(root, SUBSCRIPTIONS)
     lines = [name.replace(b".", b"\t") for name in names]
     text = FORM + b"".join(line + b"\n" for line in lines)

@@ -8,7 +8,7 @@ import re
 from typing import List, NamedTuple, Optional
 
 from .source import BLOCK
-from .terminal import shown
+from .terminal import NAMED, shown
 
 # what UIDVALIDITY may be at most, how many keywords the name of a file has letters for, and the highest UID. Dovecot's
 # next UID is at most 4294967294, and with the one after that its Maildir driver fails at each look, for good: so this
@@ -28,7 +28,7 @@ INTERNAL_BODY = re.compile(
     rb"This text is part of the internal format of your mail folder, and is not\s+a real message\.\s+"
     rb"It is created automatically by the mail system software\.\s+If deleted, important folder data will be lost, "
     rb"and it will be re-created\s+with the data reset to initial values\.\s*\Z")
-SUBJECT = re.compile(rb"^subject:[ \t]*([^\r\n]*?)[ \t]*\r?$", re.I | re.M)
+SUBJECT = re.compile(rb"^subject:([^\n]*)", re.I | re.M)
 
 # the flags of Dovecot by their letters in Status and X-Status, and the letters of a Maildir
 STATUS, X_STATUS = {b"R": "S"}, {b"A": "R", b"D": "T", b"F": "F", b"T": "D"}
@@ -103,7 +103,8 @@ def internal_head(source, start):
     subject = SUBJECT.search(header)
     body = message[message.find(b"\n") + 1 + len(header):].lstrip(b"\r\n")
     head = next(filter(None, map(head_of, fields_of(header))), None)
-    is_it = head and head.is_hidden and subject and subject.group(1) == INTERNAL_SUBJECT and INTERNAL_BODY.match(body)
+    is_named = subject and subject.group(1).strip() == INTERNAL_SUBJECT
+    is_it = is_named and head and head.is_hidden and INTERNAL_BODY.match(body)
     return (head if is_it else None), start + len(message)
 
 
@@ -140,8 +141,10 @@ class Reading:
             yield "its numbers begin anew, since few are left above the last"
         elif self.is_renumbered:
             yield "some get another UID than they have, since a message before them has none"
-        if self.keywords[LETTERS:]:
-            yield "%d keywords are kept, without: %s" % (LETTERS, shown(b" ".join(self.keywords[LETTERS:])))
+        left = self.keywords[LETTERS:]
+        if left:
+            more = " and %d more" % (len(left) - NAMED) if left[NAMED:] else ""
+            yield "%d keywords are kept, without: %s%s" % (LETTERS, shown(b" ".join(left[:NAMED])), more)
 
     def is_used_up(self):
         """Whether too few numbers are left for mail that comes."""

@@ -235,7 +235,8 @@ SAID = [
 
 
 def look_at(source, enough=lambda look: False):
-    """What an open file is, and what is to be done with it. What is known of its text after a beginning may be enough."""
+    """What an open file is, and what is to be done with it. What is known of its text after a beginning may be
+    enough."""
     head = source.at(0, HEAD)
     start = text_start(head)
     if start is None:

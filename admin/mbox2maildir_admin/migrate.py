@@ -124,9 +124,8 @@ def subscribe_to(root, tree, record, reporter, dry):
     path = os.path.join(tree, OLD_SUBSCRIPTIONS)
     try:
         lines, file = subscribe(root, tree, record, dry), os.path.join(root, SUBSCRIPTIONS)
-        lines = (line.replace(b"\\", b"\\\\").replace(b"\t", b"\\t") for line in lines)
-        words = " ".join(map(word, lines))
-        why = "%s is there, and stays; next: printf '%%b\\n' %s >>%s" % (shown(file), words, word(file)) if words else ""
+        words = " ".join(word(line.replace(b"\\", b"\\\\").replace(b"\t", b"\\t")) for line in lines)
+        why = words and "%s is there, and stays; next: printf '%%b\\n' %s >>%s" % (shown(file), words, word(file))
     except (Left, Fault, OSError) as fault:
         why = why_left(fault, path)
     if why:

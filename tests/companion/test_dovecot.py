@@ -1,5 +1,7 @@
-"""What Dovecot's mbox driver reads in headers: each row was seen of Dovecot 2.3.19, over IMAP, on a mailbox without an index."""
+"""What Dovecot's mbox driver reads in headers: each row was seen of Dovecot 2.3.19, over IMAP, on a mailbox without an
+index."""
 import re
+import time
 import unittest
 from pathlib import Path
 
@@ -52,31 +54,38 @@ KEYWORDS = [
     (["X-IMAPbase: 222 9 Foo\n Bar\n\tBaz\nX-Keywords: Foo\n Bar\n", "X-Keywords: Baz\n"], [["Foo", "Bar"], ["Baz"]]),
     (["X-IMAPbase: 222 9 Foo\n Bar\nX-Keywords:\n Foo\n Bar\n", "X-Keywords: Foo\n\tBar\n", "X-Keywords: Foo Foo\n"],
      [["Foo", "Bar"], ["Foo", "Bar"], ["Foo"]]),
-    (["X-IMAPbase: 222 9 A B\nX-Keywords: z\nX-Keywords: A\n", "X-Keywords: A\nX-Keywords: B\n", "X-Keywords: \nX-Keywords: B\n"],
+    (["X-IMAPbase: 222 9 A B\nX-Keywords: z\nX-Keywords: A\n", "X-Keywords: A\nX-Keywords: B\n",
+      "X-Keywords: \nX-Keywords: B\n"],
      [["A"], ["A"], ["B"]]),
-    (["X-IMAPbase: 222 9 a(b " + "a" * 51 + " " + "b" * 50 + " Ok\nX-Keywords: ok\n", "X-Keywords: a(b\n", "X-Keywords: " + "b" * 50],
+    (["X-IMAPbase: 222 9 a(b " + "a" * 51 + " " + "b" * 50 + " Ok\nX-Keywords: ok\n", "X-Keywords: a(b\n",
+      "X-Keywords: " + "b" * 50],
      [["Ok"], [], ["b" * 50]]),
 ]
 # headers, and the flags of Dovecot, by their letters in a Maildir
 STATES = [("Status: D\n", ""), ("Status: RO\n", "S"), ("Status: O\nStatus: R\n", "S"), ("X-Status: R\n", ""),
-          ("X-Status: ADFT\n", "DFRT"), ("Status: ADFT\n", ""), ("X-Status: A\nX-Status: F\n", "FR"), ("Status: ro\n", ""),
+          ("X-Status: ADFT\n", "DFRT"), ("Status: ADFT\n", ""), ("X-Status: A\nX-Status: F\n", "FR"),
+          ("Status: ro\n", ""),
           ("Status:\n RO\n", "S"), ("Status: O\n R\n", "S"), ("X-Status:\n AF\n", "FR"), ("X-Status: A\n F\n", "FR")]
 # the first lines of lists that Dovecot took, and of those for which it numbered all anew
-TAKEN = ["3 V222 N12", "3 V1 N12", "3 V4294967295 N12", "3 V222 N4294967294", "3 V222 N12 G0123456789abcdef0123456789abcdef"]
-REFUSED = ["3 V0 N12", "3 V4294967296 N12", "3 V222 N0", "3 V222 N4294967296", "3 V222 N12 G0", "3 V222 N12 G" + 31 * "a",
-           "3 V222 N12 G" + 33 * "a", "3 V222 N12 Gz" + 31 * "a"]
+TAKEN = ["3 V222 N12", "3 V1 N12", "3 V4294967295 N12", "3 V222 N4294967294",
+         "3 V222 N12 G0123456789abcdef0123456789abcdef"]
+REFUSED = ["3 V0 N12", "3 V4294967296 N12", "3 V222 N0", "3 V222 N4294967296", "3 V222 N12 G0",
+           "3 V222 N12 G" + 31 * "a", "3 V222 N12 G" + 33 * "a", "3 V222 N12 Gz" + 31 * "a"]
 FIRST_LINE = re.compile(r"3 V([1-9]\d{0,9}) N([1-9]\d{0,9})(?: G[0-9a-f]{32})?")
 INTERNAL = (b"From MAILER_DAEMON  Thu Nov 26 11:55:37 2026\nDate: Thu, 26 Nov 2026 11:55:37 +0000\n"
-            b"From: Mail System Internal Data <MAILER-DAEMON@host>\nSubject: DON'T DELETE THIS MESSAGE -- FOLDER INTERNAL DATA\n"
+            b"From: Mail System Internal Data <MAILER-DAEMON@host>\n"
+            b"Subject: DON'T DELETE THIS MESSAGE -- FOLDER INTERNAL DATA\n"
             b"Message-ID: <1795694137@host>\nX-IMAP: 1795694136 0000000002\nStatus: RO\n\n"
             b"This text is part of the internal format of your mail folder, and is not\na real message.  It is created "
-            b"automatically by the mail system software.\nIf deleted, important folder data will be lost, and it will be re-created\n"
+            b"automatically by the mail system software.\n"
+            b"If deleted, important folder data will be lost, and it will be re-created\n"
             b"with the data reset to initial values.\n\n")
 
 
 def reading_of(headers):
     """What is read of a mailbox whose messages have these headers."""
-    text = "".join(f"From a@b Mon Mar  3 09:12:44 2025\nSubject: s\n{header}\nX-UID: 77\n\n" for header in headers).encode()
+    text = "".join(f"From a@b Mon Mar  3 09:12:44 2025\nSubject: s\n{header}\nX-UID: 77\n\n"
+                   for header in headers).encode()
     with source_of(text) as source:
         reading = Reading()
         for found in re.finditer(b"(?m)^From ", text):
@@ -94,25 +103,27 @@ class ReadingTest(unittest.TestCase):
         for headers, wanted in KEYWORDS:
             reading = reading_of(headers)
             names = [name.decode() for name in reading.head.keywords]
-            self.assertEqual([[name for place, name in enumerate(names) if marks >> place & 1] for marks in reading.marks], wanted)
+            found = [[name for place, name in enumerate(names) if marks >> place & 1] for marks in reading.marks]
+            self.assertEqual(found, wanted)
 
     def test_flags(self):
         for header, wanted in STATES:
             marks = reading_of([header]).marks[0]
-            self.assertEqual("".join(flag for place, flag in enumerate(FLAGS) if marks >> 32 + place & 1), wanted, header)
+            flags = "".join(flag for place, flag in enumerate(FLAGS) if marks >> 32 + place & 1)
+            self.assertEqual(flags, wanted, header)
 
     def test_a_hidden_message_comes_last(self):
         reading = reading_of(["X-IMAP: 222 9\nX-UID: 5\n", "X-UID: 6\n", ""])
         self.assertEqual(reading.numbers(0), (222, 12, [(6, 1), (10, 2), (11, 0)]))
 
     def test_numbers_that_leave_none_for_more_mail(self):
-        room = 1 << 24
-        for last, wanted in ((4294967292 - room, (222, 4294967294 - room)), (4294967293 - room, (1700000000, 2)),
-                             (4294967292, (1700000000, 2)), (4294967294, (1700000000, 2)), (4294967295, (1700000000, 2))):
+        room, anew = 1 << 24, (1700000000, 2)
+        for last, wanted in ((4294967292 - room, (222, 4294967294 - room)), (4294967293 - room, anew),
+                             (4294967292, anew), (4294967294, anew), (4294967295, anew)):
             for headers in (["X-IMAPbase: 222 %d\n" % last], ["X-IMAP: 222 %d\n" % last]):
-                self.assertEqual(reading_of(headers).numbers(1700000000)[:2], wanted)
-            says = list(reading_of(["X-IMAPbase: 222 %d\n" % last]).remarks())
-            self.assertEqual(says, [] if wanted[0] == 222 else ["its numbers begin anew, since few are left above the last"])
+                reading = reading_of(headers)
+                self.assertEqual(reading.numbers(1700000000)[:2], wanted)
+                self.assertEqual("its numbers begin anew" in " ".join(reading.remarks()), wanted == anew)
 
     def test_digits_without_end(self):
         self.assertEqual(reading_of([HEAD, "X-UID: %s\n" % ("9" * 9000)]).numbers(0)[1:], (11, [(5, 0), (10, 1)]))
@@ -123,6 +134,8 @@ class ReadingTest(unittest.TestCase):
                               "X-Keywords: k01 k28\n"])
         self.assertEqual([info_of(marks, "") for marks in reading.marks], ["az", "", "b"])
         self.assertEqual(list(reading.remarks()), ["26 keywords are kept, without: k26 k27 k28 k29"])
+        many = reading_of(["X-IMAPbase: 222 9 %s\n" % " ".join("k%02d" % number for number in range(99))])
+        self.assertEqual(list(many.remarks()), ["26 keywords are kept, without: k26 k27 k28 k29 k30 and 68 more"])
 
     def test_what_is_said_of_numbers(self):
         self.assertEqual(list(reading_of([HEAD, "X-UID: 6\n", ""]).remarks()), [])
@@ -134,7 +147,8 @@ class ReadingTest(unittest.TestCase):
         self.assertTrue(reading_of([HEAD, "", "X-UID: 6\n"]).is_renumbered)
 
     def test_the_internal_message(self):
-        for text, end in ((INTERNAL, len(INTERNAL)), (INTERNAL + INTERNAL, len(INTERNAL)), (INTERNAL[:-1], len(INTERNAL) - 1)):
+        length = len(INTERNAL)
+        for text, end in ((INTERNAL, length), (INTERNAL + INTERNAL, length), (INTERNAL[:-1], length - 1)):
             with source_of(text) as source:
                 head, its_end = internal_head(source, 0)
             self.assertEqual((head and head.validity, its_end), (1795694136, end))
@@ -143,8 +157,17 @@ class ReadingTest(unittest.TestCase):
             with source_of(text) as source:
                 self.assertIsNone(internal_head(source, 0)[0], text)
 
+    def test_a_long_subject_takes_no_time(self):
+        begun = time.monotonic()
+        for line in (b"Subject:" + b" " * 7000 + b"\rx\n", b"X-IMAP:" + b" \t" * 3000 + b"x\n",
+                     b"X-UID" + b" " * 7000 + b"x\n"):
+            with source_of(b"From a\n" + line + b"\n\n") as source:
+                self.assertIsNone(internal_head(source, 0)[0])
+        self.assertLess(time.monotonic() - begun, 5)
+
     def test_names_of_files(self):
-        draft, deleted = (reading_of([HEAD + header]).marks[0] for header in ("X-Status: T\nX-Keywords: Foo\n", "Status: D\n"))
+        draft, deleted = (reading_of([HEAD + header]).marks[0]
+                          for header in ("X-Status: T\nX-Keywords: Foo\n", "Status: D\n"))
         self.assertEqual([info_of(draft, ""), info_of(draft, "Da"), info_of(deleted, "T"), info_of(deleted, "")],
                          ["Da", "Da", "", ""])
 
@@ -158,10 +181,12 @@ def is_taken(line):
 class FilesTest(unittest.TestCase):
     def test_first_lines(self):
         self.assertEqual([line for line in TAKEN + REFUSED if is_taken(line)], TAKEN)
-        for headers, *_ in UIDS + [(["X-IMAPbase: %d %d\nX-UID: %d\n" % (validity, last, last), ""],)
-                                   for validity in (0, 1, 4294967295, 4294967296, 1 << 64)
-                                   for last in (0, 1, (1 << 32) - (1 << 24), 4294967293, 4294967295, 4294967296, 1 << 64)]:
-            text = list_of(reading_of(headers).numbers(1700000000), {place: b"a" for place in range(len(headers))}).decode()
+        high = 4294967293
+        for headers in [row[0] for row in UIDS] + [
+                ["X-IMAPbase: %d %d\nX-UID: %d\n" % (validity, last, last), ""]
+                for validity in (0, 1, high + 2, high + 3, 1 << 64)
+                for last in (0, 1, high - (1 << 24), high, high + 2, high + 3, 1 << 64)]:
+            text = list_of(reading_of(headers).numbers(1700000000), dict.fromkeys(range(len(headers)), b"a")).decode()
             first, *lines = text.splitlines()
             uids = [0] + [int(line.split(" :")[0]) for line in lines] + [int(first.split("N")[1])]
             self.assertTrue(is_taken(first) and all(one < two for one, two in zip(uids, uids[1:])), (headers, text))
@@ -180,15 +205,17 @@ class FilesTest(unittest.TestCase):
             with self.assertRaises(Left):
                 place_file(here, b"dovecot-uidlist", b"other", lambda *says: None)
             files = sorted(path.name for path in Path(here.decode()).rglob("*"))
-            self.assertEqual((files, Path(here.decode(), "dovecot-uidlist").read_bytes()), (["dovecot-uidlist", "tmp"], b"text"))
+            self.assertEqual(files, ["dovecot-uidlist", "tmp"])
+            self.assertEqual(Path(here.decode(), "dovecot-uidlist").read_bytes(), b"text")
 
     def test_subscriptions(self):
         with folder() as here:
             self.assertEqual(subscriptions_of(here), [])
-            for text in (b"V\t2\n\nSent\nlists\tgarden\n2005.archive\nGr&APwA3w-e\nINBOX\n",
+            for text in (b"V\t2\n\nSent\ncaf\xe9\nlists\tgarden\n2005.archive\nGr&APwA3w-e\nINBOX\n",
                          b"Sent\nlists/garden\n2005.archive\nGr&APwA3w-e\nINBOX\n"):
                 Path(here.decode(), ".subscriptions").write_bytes(text)
-                self.assertEqual(subscriptions_of(here), [b"Sent", b"lists.garden", b"2005-archive", b"Gr&APwA3w-e", b"INBOX"])
+                self.assertEqual(subscriptions_of(here),
+                                 [b"Sent", b"lists.garden", b"2005-archive", b"Gr&APwA3w-e", b"INBOX"])
 
     def test_subscriptions_that_are_there(self):
         with folder() as here, Record.open(here) as record:

@@ -1,4 +1,5 @@
-"""A Dovecot of its own for a test: its configuration, its folder, its ports on the loopback, and what it shows of a mailbox."""
+"""A Dovecot of its own for a test: its configuration, its folder, its ports on the loopback, and what it shows of a
+mailbox."""
 import grp
 import imaplib
 import os
@@ -11,7 +12,8 @@ import subprocess
 import time
 
 # headers that its mbox has, and hides
-HIDDEN = re.compile(rb"(?mi)^(?:status|x-status|x-keywords|x-imapbase|x-imap|x-uid|content-length|x-uidl)[ \t]*:.*\n(?:[ \t].*\n)*")
+HIDDEN = re.compile(rb"(?mi)^(?:status|x-status|x-keywords|x-imapbase|x-imap|x-uid|content-length|x-uidl)[ \t]*:.*\n"
+                    rb"(?:[ \t].*\n)*")
 UNQUOTED = re.compile(rb"(?m)^>From ")
 CONFIGURATION = """\
 base_dir = {0}/run
@@ -95,7 +97,8 @@ def free_port():
 
 
 class Dovecot:
-    """A server below a folder. Each user has a home with `inbox` and the tree `mail`, and as `USER@after` the Maildir in it."""
+    """A server below a folder. Each user has a home with `inbox` and the tree `mail`, and as `USER@after` the Maildir
+    in it."""
 
     def __init__(self, folder, imap=None, pop3=None):
         self.folder, self.imap, self.pop3 = folder, imap or free_port(), pop3 or free_port()
@@ -113,14 +116,16 @@ class Dovecot:
         if os.geteuid() == 0:
             names = ["dovecot", "dovecot", "dovenull"]
         with open(self.configuration, "w", encoding="utf-8") as file:
-            file.write(CONFIGURATION.format(self.folder, *names, self.imap, self.pop3, self.account.pw_uid, self.account.pw_gid))
+            file.write(CONFIGURATION.format(self.folder, *names, self.imap, self.pop3, self.account.pw_uid,
+                                            self.account.pw_gid))
 
-    def turn(self):
-        """Writes that each user's Maildir is served from the next start on."""
+    def change(self, before, after):
+        """Changes its configuration, which holds from the next start on."""
         with open(self.configuration, encoding="utf-8") as file:
             text = file.read()
+        assert before in text, before
         with open(self.configuration, "w", encoding="utf-8") as file:
-            file.write(text.replace("mail_location = mbox:~/mail:INBOX=~/inbox", "mail_location = maildir:~/Maildir"))
+            file.write(text.replace(before, after))
 
     def home(self, user):
         return f"{self.folder}/home/{user}"
@@ -175,8 +180,8 @@ class Dovecot:
 
     def doveadm(self, *words):
         """Runs doveadm with its configuration, and answers what it printed."""
-        return subprocess.run(["doveadm", "-c", self.configuration, *words], stdout=subprocess.PIPE, stderr=subprocess.PIPE,
-                              check=False)
+        return subprocess.run(["doveadm", "-c", self.configuration, *words], check=False,
+                              stdout=subprocess.PIPE, stderr=subprocess.PIPE)
 
     def client(self, user, folder=None):
         """A client over IMAP, with a folder open."""
@@ -188,7 +193,8 @@ class Dovecot:
         return client
 
     def by_imap(self, user, folder="INBOX"):
-        """What IMAP shows of a folder: its UIDVALIDITY, the next UID, and of each message UID, flags, keywords, date and mail."""
+        """What IMAP shows of a folder: its UIDVALIDITY, the next UID, and of each message UID, flags, keywords, date
+        and mail."""
         client = self.client(user)
         status, says = client.select(f'"{folder}"', readonly=True)
         assert status == "OK", says
@@ -220,11 +226,13 @@ class Dovecot:
 
 
 def row_of(pair, rest):
-    """A message as IMAP shows it: UID, flags, keywords, date, and the mail without the headers that mbox hides, and without the
-    quoting of an mbox, which a Maildir has not."""
+    """A message as IMAP shows it: UID, flags, keywords, date, and the mail without the headers that mbox hides, and
+    without the quoting of an mbox, which a Maildir has not."""
     says, mail = pair[0] + rest, pair[1]
-    uid, flags = int(re.search(rb"UID (\d+)", says)[1]), set(re.search(rb"FLAGS \(([^)]*)\)", says)[1].split()) - {rb"\Recent"}
+    uid = int(re.search(rb"UID (\d+)", says)[1])
+    flags = set(re.search(rb"FLAGS \(([^)]*)\)", says)[1].split()) - {rb"\Recent"}
     date = re.search(rb'INTERNALDATE "([^"]*)"', says)[1]
     system = {flag for flag in flags if flag.startswith(b"\\")}
     header, gap, body = mail.replace(b"\r\n", b"\n").partition(b"\n\n")
-    return uid, sorted(system), sorted(flags - system), date, UNQUOTED.sub(b"From ", HIDDEN.sub(b"", header + b"\n") + gap[1:] + body)
+    mail = UNQUOTED.sub(b"From ", HIDDEN.sub(b"", header + b"\n") + gap[1:] + body)
+    return uid, sorted(system), sorted(flags - system), date, mail

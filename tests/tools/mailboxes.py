@@ -6,8 +6,9 @@ import shutil
 from tools.served import FLAGS, INTERNAL, mail
 
 KEYWORDS = ["Garden", "$Forwarded", "NonJunk", "later"]
-FORGED = {"X-IMAPbase": "777 0000000099 Evil", "X-IMAP": "777 0000000099 Evil", "X-UID": "2", "X-Keywords": "Evil Garden",
-          "Status": "ROD", "X-UID ": "4294967295"}
+FORGED = {"X-IMAPbase": "777 0000000099 Evil", "X-IMAP": "777 0000000099 Evil", "X-UID": "2",
+          "X-Keywords": "Evil Garden", "Status": "ROD", "X-UID ": "4294967295"}
+LATE = ["", "", "X-UID: 3\n", "X-Keywords: Evil\n", "X-IMAPbase: 777 99 Evil\n"]
 
 
 def kept(case):
@@ -130,17 +131,19 @@ def drawn(seed):
             count = len(case.server.by_imap(case.name)[2])
             for _ in range(draw.randint(0, 3)):
                 if count:
-                    flags = draw.sample(FLAGS[:3] + FLAGS[4:], draw.randint(0, 2)) + draw.sample(KEYWORDS, draw.randint(0, 2))
+                    flags = draw.sample(FLAGS[:3] + FLAGS[4:], draw.randint(0, 2))
+                    flags += draw.sample(KEYWORDS, draw.randint(0, 2))
                     case.store(str(draw.randint(1, count)), " ".join(flags))
             if count and draw.random() < .5:
                 case.expunge("1:*" if draw.random() < .2 else str(draw.randint(1, count)))
         for _ in range(draw.randint(0, 2)):
-            case.deliver(mail(number, draw.choice(["", "", "X-UID: 3\n", "X-Keywords: Evil\n", "X-IMAPbase: 777 99 Evil\n"])))
+            case.deliver(mail(number, draw.choice(LATE)))
             number += 1
     build.__doc__ = f"random, by the seed {seed}"
     return build
 
 
-CASES = [kept, marked, emptied, emptied_and_filled, emptied_with_tail, tail, hole, hole_without_index, never_read, tree] + [
+CASES = [kept, marked, emptied, emptied_and_filled, emptied_with_tail, tail, hole, hole_without_index, never_read,
+         tree] + [
     forged(field, value, place, looked) for field, value in FORGED.items() for place in ("first", "middle", "last")
     for looked in (True, False)]

@@ -1,4 +1,5 @@
 """A mailbox of a user whom a Dovecot serves: what is done to it, what is seen of it, and how it is migrated."""
+import copy
 import os
 import re
 import shutil
@@ -76,26 +77,35 @@ class Case:
 
     def before(self):
         """What Dovecot shows of a copy of what is there, index and all."""
-        user = self.name + "-before"
-        shutil.rmtree(self.server.home(user), ignore_errors=True)
-        subprocess.run(["cp", "-a", self.home, self.server.home(user)], check=True)
-        return self.shown(user)
+        other = self.copy(self.name + "-before")
+        return self.shown(other.name)
+
+    def copy(self, name):
+        """The same of another user, who has a copy of all that is there."""
+        other = copy.copy(self)
+        other.name, other.home = name, Path(self.server.home(name))
+        other.inbox = other.home / "inbox"
+        shutil.rmtree(other.home, ignore_errors=True)
+        subprocess.run(["cp", "-a", self.home, other.home], check=True)
+        return other
 
     def run(self, *words):
         """Runs a command as the user, and answers what it printed."""
-        ran = subprocess.run([self.top / "bin" / words[0], *words[1:]], cwd=self.home, stdin=subprocess.DEVNULL, check=False,
-                             stdout=subprocess.PIPE, stderr=subprocess.STDOUT, preexec_fn=self.server.become,
+        ran = subprocess.run([self.top / "bin" / words[0], *words[1:]], cwd=self.home, stdin=subprocess.DEVNULL,
+                             stdout=subprocess.PIPE, stderr=subprocess.STDOUT, check=False,
+                             preexec_fn=self.server.become,
                              env={"PATH": f"{self.top}/bin:{os.environ['PATH']}", "TZ": "UTC", "LC_ALL": "C.UTF-8"})
         return ran.returncode, ran.stdout.decode(errors="replace")
 
-    def migrate(self, *words, names=None):
-        """Migrates it, or files of these names, as somebody does an hour later."""
+    def migrate(self, *words, names=None, into="Maildir", kill=None):
+        """Migrates it, or files of these names, as somebody does an hour later; all is killed after so many seconds."""
         self.own()
         for path in self.home.rglob("*"):
             if path.is_file() and "Maildir" not in path.parts:
                 os.utime(path, (time.time() - 3600,) * 2)
         names = names or ["inbox"] + ["mail"] * (len(self.folders) > 1)
-        return self.run("mbox2maildir-admin", "migrate", *(words or ["--dovecot"]), "Maildir", *names)
+        before = [] if kill is None else [shutil.which("timeout"), "-s", "KILL", f"{kill:.3f}"]
+        return self.run(*before, "mbox2maildir-admin", "migrate", *(words or ["--dovecot"]), into, *names)
 
     def after(self):
         """What Dovecot shows of the Maildir."""
