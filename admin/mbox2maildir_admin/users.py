@@ -9,6 +9,7 @@ from .converting import Program
 from .faults import Fault
 from .migrate import refuse, run_all
 from .outcome import LEFT, Left, Row, why_left
+from .room import want_own
 from .terminal import shown
 from .trees import folder_of
 from .verifying import find_program
@@ -73,6 +74,7 @@ def as_user(words, mailbox, account, program, teller, alive):
         root = os.path.join(home, os.fsencode(words.maildir))
         names = [name for name in (mailbox, tree if has_tree(tree) else None) if name]
         own = argparse.Namespace(**dict(vars(words), users=False))
+        want_own(root)
         refuse(root, names)
         run_all(own, root, names, Named(teller, mailbox, home), Program(program, alive), True)
     except (Left, Fault, OSError) as fault:
