@@ -19,7 +19,8 @@ class Check(Verified):
 
     def __init__(self, inventory, first, say=silent):
         super().__init__(None)
-        self.table, self.sizes, self.lines, self.doubts = inventory.table, inventory.sizes, inventory.lines, inventory.doubts
+        self.table, self.sizes = inventory.table, inventory.sizes
+        self.lines, self.doubts = inventory.lines, inventory.doubts
         self.states, self.first, self.say, self.looked = bytearray(len(inventory)), first, say, 0
         # where they were converted long ago
         self.may_be_nowhere = False
@@ -58,8 +59,8 @@ class Check(Verified):
 
     def is_right(self):
         """Whether each message is there, once, as its owner's."""
-        return not (self.count(OTHER) or self.count(NOWHERE) and not self.may_be_nowhere or self.doubles or self.strangers or
-                    self.doubts.count)
+        return not (self.count(OTHER) or self.count(NOWHERE) and not self.may_be_nowhere or self.doubles or
+                    self.strangers or self.doubts.count)
 
     def report(self):
         """What is said where not each message is there, once."""

@@ -13,7 +13,7 @@ class Message:
     def __init__(self, number, mark, hashed):
         self.number, self.offset, self.line, self.from_line = number, mark.offset, mark.line, mark.piece
         self.size, self.hash = 0, hashed()
-        # the bytes of its From_ line, and those that are no mail: the blank line at the end, and a `>` of each quoted line
+        # the bytes of its From_ line, and those that are no mail: the blank line at the end, a `>` of each quoted line
         self.from_size = self.left_out = 0
         self.last, self.held = b"\n", False
 

@@ -21,8 +21,8 @@ from .terminal import shown, word
 from .unnamed import copy_of_some, quoted_copy, quoted_size
 from .verifying import NOWHERE, Listing, is_own
 
-SYNC_FAILED = ("its sync failed: mount the disk anew, and look into the system's log, before anything there is believed; then "
-               "--again")
+SYNC_FAILED = ("its sync failed: mount the disk anew, and look into the system's log, before anything there is "
+               "believed; then --again")
 FOLDER_CALL = re.compile(r"folder call (\d+) failed")
 # the calls that list a folder, which come first; a sync comes last
 LISTINGS = 3
@@ -36,6 +36,14 @@ class Extra:
     def start_of(self, source, start):
         """Where the text begins that is converted, of one that begins at this offset."""
         return start
+
+    def says_of_done(self, name):
+        """What is to be said of a mailbox that was done before into this folder."""
+        return ""
+
+    def foresee(self, work):
+        """What `run` would say, where nothing may be made."""
+        return []
 
     def run(self, work):
         """Done after the dates and before all is verified; it answers what is to be said of it."""
@@ -62,7 +70,8 @@ class Work:
         """What became of it."""
         if self.plan:
             kind, messages = kind or self.plan.kind, self.plan.messages if messages is None else messages
-        return Row(self.handle.path, self.name, kind, messages, verdict, "; ".join(self.remarks) if why is None else why)
+        why = "; ".join(self.remarks) if why is None else why
+        return Row(self.handle.path, self.name, kind, messages, verdict, why)
 
     def has_changed(self):
         """Whether the mailbox is another than the one that was looked at."""
@@ -83,7 +92,7 @@ class Migration:
                 return Row(path, name, "", None, PASSED, "")
             with open_mailbox(path, self.record.sizes(name), self.say, follow) as handle:
                 if self.is_done(handle, name):
-                    return Row(path, name, "", None, BEFORE, "")
+                    return Row(path, name, "", None, BEFORE, self.extra.says_of_done(name))
                 folder = self.root if name == INBOX else os.path.join(self.root, name)
                 return self.migrate(Work(handle, name, folder))
         except Left as left:
@@ -192,10 +201,10 @@ class Migration:
         """The steps from where the record has it."""
         if work.before != CONVERTED or self.again:
             seen = self.look_into_folder(work)
-            if self.dry:
-                return
-            self.convert(work, seen)
-        elif self.dry:
+            if not self.dry:
+                self.convert(work, seen)
+        if self.dry:
+            work.remarks += self.extra.foresee(work)
             return
         undated = date_from(work.first, work.folder, work.inventory, self.say)
         if undated:
@@ -210,13 +219,14 @@ class Migration:
         self.record.add("done", work.key, len(work.inventory), work.handle.path)
 
     def look_into_folder(self, work):
-        """What of the mailbox is there. Left where some is, and no record says why; or where there is no room for the rest."""
+        """What of the mailbox is there. Left where some is and no record says why, or without room for the rest."""
         seen = Presence.look(work.folder, work.inventory, self.say)
         if work.before is None and not self.again and 0 < seen.count() < len(work.inventory):
-            raise Left("%d of its messages are there, and no record says why: another mailbox has them too, or it was rewritten; "
-                       "next: %s, which brings back what was deleted, and doubles what was changed" % (
+            raise Left("%d of its messages are there, and no record says why: another mailbox has them too, or it was "
+                       "rewritten; next: %s, which brings back what was deleted, and doubles what was changed" % (
                            seen.count(), self.words_again(work)))
-        sizes = [size for place, size in enumerate(work.inventory.sizes) if place >= work.first and seen.is_nowhere(place)]
+        sizes = [size for place, size in enumerate(work.inventory.sizes)
+                 if place >= work.first and seen.is_nowhere(place)]
         want_room(work.folder, sizes)
         return seen
 
@@ -284,8 +294,8 @@ class Migration:
                bytes.fromhex(digest) + b".1" not in work.inventory.table.places}
         for name, where in names_of(work.folder) if cut else ():
             if name[:64] in cut:
-                raise Left("a message was cut, since it was being written when it was read; it came whole by now; next: rm %s" %
-                           word(where))
+                raise Left("a message was cut, since it was being written when it was read; it came whole by now; "
+                           "next: rm %s" % word(where))
 
     def explained(self, failed, work):
         """Why the program failed, said better than it can. That a sync failed is kept in mind."""

@@ -115,8 +115,8 @@ class Tree:
 
 
 def folder_on_disk(name):
-    """The name on the disk of the folder of a mailbox, as its copy that is made by hand would be named: without the ending of
-    what is compressed."""
+    """The name on the disk of the folder of a mailbox, as its copy that is made by hand would be named: without the
+    ending of what is compressed."""
     return on_disk(folder_of((name if name.endswith(COPY) else name + COPY).decode()))
 
 
