@@ -1,20 +1,17 @@
 """The dates of what was converted, and whether each of its messages is there, once."""
-from .dating import NONE, NOT_HELD, Dating
+from .dating import NONE, NOT_HELD, set_dates
 from .handle import silent
 from .terminal import NAMED, shown
 from .verifying import NOWHERE, OTHER, RENAMED, THERE, Verified
 
 
-def give_dates(folder, inventory, first):
+def date_from(first, folder, inventory, say=silent):
     """Gives the files of the messages from a place on their dates, and answers how many have none."""
-    dating = Dating(None)
-    dating.table, dating.dates = inventory.table, inventory.dates[:]
-    dating.states = bytearray(len(inventory))
+    dates = inventory.dates[:]
     for place in range(first):
-        dating.dates[place] = NONE
-    dating.give(folder)
-    places = range(first, len(inventory))
-    return sum(inventory.dates[place] == NONE or dating.states[place] == NOT_HELD for place in places)
+        dates[place] = NONE
+    states = set_dates(folder, inventory.table, dates, say)
+    return sum(dates[place] == NONE or states[place] == NOT_HELD for place in range(first, len(inventory)))
 
 
 class Check(Verified):

@@ -3,6 +3,7 @@ import array
 import os
 
 from .dates import seconds_of
+from .handle import silent
 from .headers import Header
 from .maildir import Table, listings_of
 from .messages import messages_of
@@ -45,7 +46,6 @@ class Dating:
             self.offsets.append(message.offset)
             self.lines.append(message.line)
         self.source.check()
-        self.states = bytearray(self.messages)
         if self.messages > 1 and self.dates[0] != NONE and self.dates.count(self.dates[0]) == self.messages:
             self.one_date = self.from_line(0)
 
@@ -63,21 +63,6 @@ class Dating:
                 date = seconds_of(Header.read(self.source, mark)[b"date"])
                 self.dates[place] = NONE if date is None else date
 
-    def give(self, maildir):
-        """Gives the files of a Maildir their dates."""
-        known = self.messages - self.dates.count(NONE)
-        for paths in listings_of(maildir):
-            for name, path in paths:
-                place = self.table.place(name)
-                if place is not None and self.dates[place] != NONE:
-                    try:
-                        self.states[place] = DONE if set_date(path, self.dates[place]) else NOT_HELD
-                    except FileNotFoundError:
-                        # it was renamed meanwhile
-                        continue
-            if self.messages - self.states.count(UNDONE) == known:
-                return
-
     def undone(self, maildir):
         """What is said of messages that have no file with their date."""
         for place, state in enumerate(self.states):
@@ -87,6 +72,24 @@ class Dating:
                 else:
                     why = "the file system has no such date" if state == NOT_HELD else "not in %s" % shown(maildir)
                 yield "message %d (line %d): %s" % (place + 1, self.lines[place], why)
+
+
+def set_dates(maildir, table, dates, say=silent):
+    """Gives the files of a Maildir the dates of the messages that they hold, and answers what became of each message."""
+    states, known = bytearray(len(dates)), len(dates) - dates.count(NONE)
+    for paths in listings_of(maildir):
+        for number, (name, path) in enumerate(paths, 1):
+            say("dating file %d" % number)
+            place = table.place(name)
+            if place is not None and dates[place] != NONE:
+                try:
+                    states[place] = DONE if set_date(path, dates[place]) else NOT_HELD
+                except FileNotFoundError:
+                    # it was renamed meanwhile
+                    continue
+        if len(states) - states.count(UNDONE) == known:
+            break
+    return states
 
 
 def set_date(path, date):
@@ -108,5 +111,5 @@ def give_dates(maildir, source, by_header=False, start=0, line=1):
     dating.read(start, line)
     if by_header:
         dating.take_headers()
-    dating.give(maildir)
+    dating.states = set_dates(maildir, dating.table, dating.dates)
     return dating

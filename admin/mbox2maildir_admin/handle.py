@@ -9,7 +9,7 @@ import time
 
 from .faults import Fault
 from .outcome import Left
-from .source import BLOCK
+from .source import BLOCK, Reader
 from .terminal import shown
 
 # the lock of a handle, which no other close drops, and which a child inherits; Python has the name since 3.9
@@ -52,23 +52,19 @@ class Digest:
         self.place += len(piece)
 
 
-class Reader:
-    """A part of a file that is read by `pread`."""
+class Watched(Reader):
+    """Reads a file up to an end. A digest takes each block, and it is said how far that is."""
 
     def __init__(self, number, end, digest=None, say=silent):
-        self.number, self.end, self.digest, self.say, self.place = number, end, digest, say, 0
-
-    def seek(self, place):
-        """Reads from there on."""
-        self.place = place
+        super().__init__(number)
+        self.end, self.digest, self.say = end, digest, say
 
     def read(self, count):
         """The next bytes; none at the end."""
-        block = os.pread(self.number, min(count, self.end - self.place), self.place)
+        block = super().read(min(count, self.end - self.offset))
         if self.digest:
-            self.digest.add(self.place, block)
-        self.place += len(block)
-        self.say("reading", self.place, self.end)
+            self.digest.add(self.offset - len(block), block)
+        self.say("reading", self.offset, self.end)
         return block
 
 
@@ -84,7 +80,7 @@ class Handle:
         """Takes the file as it is now."""
         self.state = os.fstat(self.number)
         self.size = self.state.st_size
-        self.file = Reader(self.number, self.size, self.digest, self.say)
+        self.file = Watched(self.number, self.size, self.digest, self.say)
 
     def __enter__(self):
         return self
@@ -99,7 +95,7 @@ class Handle:
     def beginning(self, size):
         """The first bytes of the text, as a text."""
         part = Handle(self.path, self.number, None, self.say)
-        part.size, part.file = size, Reader(self.number, size, None, self.say)
+        part.size, part.file = size, Watched(self.number, size, None, self.say)
         return part
 
     def key(self):

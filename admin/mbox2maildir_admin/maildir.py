@@ -1,5 +1,6 @@
 """The files of a Maildir."""
 import binascii
+import errno
 import hashlib
 import os
 import re
@@ -67,9 +68,9 @@ class Table:
 
 def digest_of(path, sizes=None):
     """The digest of a file of one of these sizes, or of any, and its owner; no digest where its size is another, or
-    where it is no file."""
+    where it is no file. A link may lead anywhere, and is no mail."""
     try:
-        with open_file(path) as file:
+        with open_file(path, os.O_NOFOLLOW) as file:
             state = os.fstat(file.fileno())
             if sizes is not None and state.st_size not in sizes:
                 return None, state.st_uid
@@ -81,5 +82,7 @@ def digest_of(path, sizes=None):
     except Fault:
         return None, None
     except OSError as error:
+        if error.errno == errno.ELOOP:
+            return None, None
         # a read does not name the file
         raise OSError(error.errno, error.strerror, path) from error

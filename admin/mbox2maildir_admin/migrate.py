@@ -102,8 +102,6 @@ def want_roots(path, words):
 
 def run_all(words, root, names, reporter, program, own=False):
     """Migrates each mailbox into its folder. With `own` nothing is touched but what is the user's own, over no link."""
-    if own:
-        want_own(root)
     if not words.dry_run:
         make_maildir(root, True)
     with Record.open(root, not words.dry_run) as record:

@@ -6,7 +6,7 @@ import re
 import tempfile
 
 from . import ADMIN
-from .checking import Check, give_dates
+from .checking import Check, date_from
 from .converting import Program
 from .faults import Fault
 from .handle import Digest, open_mailbox, silent
@@ -206,7 +206,7 @@ class Migration:
         if self.dry:
             work.remarks += self.extra.foresee(work)
             return
-        undated = give_dates(work.folder, work.inventory, work.first)
+        undated = date_from(work.first, work.folder, work.inventory, self.say)
         if undated:
             work.remarks.append("%d without a date" % undated)
         work.remarks += self.extra.run(work)

@@ -11,9 +11,9 @@ LONG = 998
 NO_FILE = "it is no file"
 
 
-def open_file(path):
+def open_file(path, flags=0):
     """Opens a file, and nothing else; a pipe would be waited for."""
-    number = os.open(path, os.O_RDONLY | os.O_NONBLOCK | os.O_NOCTTY | os.O_CLOEXEC)
+    number = os.open(path, os.O_RDONLY | os.O_NONBLOCK | os.O_NOCTTY | os.O_CLOEXEC | flags)
     if not stat.S_ISREG(os.fstat(number).st_mode):
         os.close(number)
         raise Fault(NO_FILE)

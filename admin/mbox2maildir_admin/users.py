@@ -9,6 +9,7 @@ from .converting import Program
 from .faults import Fault
 from .migrate import refuse, run_all
 from .outcome import LEFT, Left, Row, why_left
+from .room import want_own
 from .terminal import shown
 from .trees import folder_of
 from .verifying import find_program
@@ -73,6 +74,7 @@ def as_user(words, mailbox, account, program, teller, alive):
         root = os.path.join(home, os.fsencode(words.maildir))
         names = [name for name in (mailbox, tree if has_tree(tree) else None) if name]
         own = argparse.Namespace(**dict(vars(words), users=False))
+        want_own(root)
         refuse(root, names)
         run_all(own, root, names, Named(teller, mailbox, account), Program(program, alive), True)
     except (Left, Fault, OSError) as fault:
@@ -90,7 +92,7 @@ def has_tree(tree):
 
 class Named:
     """Tells rows by the names that root prints after the user's: none for the spool's mailbox, else one below home. What is
-    to be done next with that is not for root: the user could lead root elsewhere."""
+    to be done next in a home is not for root: the user could lead root elsewhere."""
 
     def __init__(self, teller, mailbox, account):
         self.teller, self.mailbox, self.account = teller, mailbox, account
@@ -98,8 +100,8 @@ class Named:
 
     def row(self, row):
         """Tells a row."""
-        if row.path == self.mailbox:
-            self.teller.row(row._replace(path=b""))
-        else:
-            why = row.why.replace("next: ", "next, as %s: " % self.account.pw_name)
-            self.teller.row(row._replace(path=os.path.relpath(row.path, os.fsencode(self.account.pw_dir)), why=why))
+        is_spools, why = row.path == self.mailbox, row.why
+        if not is_spools or self.account.pw_dir in why:
+            why = why.replace("next: ", "next, as %s: " % self.account.pw_name)
+        path = b"" if is_spools else os.path.relpath(row.path, os.fsencode(self.account.pw_dir))
+        self.teller.row(row._replace(path=path, why=why))

@@ -45,7 +45,10 @@ class Listing:
 
     def compare(self, message, base):
         """Whether the next line is that of a message."""
-        row = self.child.stdout.readline().split(b" ")
+        line = self.child.stdout.readline()
+        if not line:
+            raise Fault("`%s list` has fewer messages, or failed" % PROGRAM)
+        row = line.split(b" ")
         wanted = [b"%d" % message.number, message.hash.hexdigest().encode() + base[32:], b"%d" % message.size]
         if row[:2] + row[4:5] != wanted:
             raise Fault("line %d: message %d is not as `%s list` has it" % (message.line, message.number, PROGRAM))

@@ -122,7 +122,7 @@ class OpenTextTest(unittest.TestCase):
         text = self.PLAIN + b"x" * (4 << 20) + b"\n"
         with opened(self.path_of(text)) as handle:
             plan_of(handle, is_as_it_is)
-            self.assertLessEqual(handle.file.place, 1 << 20)
+            self.assertLessEqual(handle.file.offset, 1 << 20)
 
 
 if __name__ == "__main__":
