@@ -76,7 +76,7 @@ def add_dates(words):
               "of TZ, or of this machine. Status 1 where a message has no date, or no file. A FILE may be a folder of "
               "mailboxes.", "MAILDIR", "FILE")
     one.add_argument("--header", action="store_true",
-                     help="take the date of the header Date where the From_ line has none, and where all From_ lines have one")
+                     help="take the date of the header Date where the From_ line has none, and where all have the same")
 
 
 def add_migrate(words):
