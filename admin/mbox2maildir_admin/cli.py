@@ -23,7 +23,7 @@ def parser():
     words = top.add_subparsers(metavar="WORD", dest="word")
     words.required = True
     add(words, "kind", do_kind, "say what files are, and what to do first",
-        "Prints what each FILE is, how many messages it has, and the one command to run next; then why, with the "
+        "Prints what each FILE is, how many messages it has, and what to run next; then why, with the "
         "numbers of lines. Changes nothing. Status 0 only where every file can be converted as it is. A FILE may be a "
         "folder of mailboxes.", "FILE")
     add_quote(words)
