@@ -23,7 +23,7 @@ def parser():
     words = top.add_subparsers(metavar="WORD", dest="word")
     words.required = True
     add(words, "kind", do_kind, "say what files are, and what to do first",
-        "Prints what each FILE is, how many messages it has, and the one command to run next; then why, with the "
+        "Prints what each FILE is, how many messages it has, and what to run next; then why, with the "
         "numbers of lines. Changes nothing. Status 0 only where every file can be converted as it is. A FILE may be a "
         "folder of mailboxes.", "FILE")
     add_quote(words)
@@ -78,8 +78,7 @@ def add_dates(words):
               "in that of TZ, or of this machine. Status 1 where a message has no date, or no file. A FILE may be a "
               "folder of mailboxes.", "MAILDIR", "FILE")
     one.add_argument("--header", action="store_true",
-                     help="take the date of the header Date where the From_ line has none, and where all From_ lines "
-                     "have one")
+                     help="take the date of the header Date where the From_ line has none, and where all have the same")
 
 
 def add_migrate(words):

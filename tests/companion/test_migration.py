@@ -1,17 +1,21 @@
-"""What a migration is made of: the record, digests of beginnings, what of a text is in a folder, and what a child tells."""
+"""What a migration is made of: the record, digests of beginnings, room, what of a text is in a folder, and what a child
+tells."""
 import hashlib
 import os
 import unittest
 from pathlib import Path
+from types import SimpleNamespace
+from unittest.mock import patch
 
 from context import A, folder
 from mbox2maildir_admin.children import LONGEST, Child, row_of
 from mbox2maildir_admin.faults import Fault
 from mbox2maildir_admin.handle import Digest, Handle
 from mbox2maildir_admin.inventory import Inventory
-from mbox2maildir_admin.outcome import DONE
+from mbox2maildir_admin.outcome import DONE, Left
 from mbox2maildir_admin.presence import Presence
 from mbox2maildir_admin.record import BACK, BEGUN, CONVERTED, MOST, NAME, Record
+from mbox2maildir_admin.room import want_room
 
 ONE, TWO = b"Subject: 1\n\none\n", b"Subject: 2\n\ntwo\n"
 
@@ -53,12 +57,16 @@ class RecordTest(FolderTest):
         with Record.open(self.here) as record:
             self.assertRaisesRegex(Fault, "it is full", record.add, BEGUN, self.KEY, 1, b"/box")
 
+    def test_a_line_is_on_the_disk(self):
+        with Record.open(self.here) as record, patch("os.fsync", side_effect=OSError(5, "no disk")):
+            self.assertRaisesRegex(Fault, "no disk", record.add, BEGUN, self.KEY, 1, b"/box")
+
     def test_beginning(self):
         with Record.open(self.here) as record:
-            digests = {size: str(size) * 32 for size in (10, 20, 30)}
-            for size, step in ((10, DONE), (20, BEGUN), (30, DONE)):
+            digests = {size: str(size) * 32 for size in (10, 15, 20, 30)}
+            for size, step in ((10, DONE), (15, DONE), (20, BEGUN), (30, DONE)):
                 record.add(step, (b".", size, digests[size]), 1, b"/box")
-            self.assertEqual(record.beginning(b".", 30, digests), (10, (20, BEGUN)))
+            self.assertEqual(record.beginning(b".", 30, digests), (15, (20, BEGUN)))
             self.assertEqual(record.beginning(b".x", 30, digests), (0, None))
 
 
@@ -69,6 +77,20 @@ class DigestTest(unittest.TestCase):
             digest.add(offset, block)
         wanted = {size: hashlib.sha256(b"abcdefgh"[:size]).hexdigest() for size in (3, 7)}
         self.assertEqual((digest.beginnings, digest.hash.hexdigest()), (wanted, hashlib.sha256(b"abcdefgh").hexdigest()))
+
+
+class RoomTest(unittest.TestCase):
+    def want(self, count):
+        """Wants room for so many files of one byte, where ten blocks and seven inodes are free."""
+        disk = SimpleNamespace(f_frsize=4096, f_bavail=10, f_files=100, f_favail=7)
+        with patch("mbox2maildir_admin.room.disk_of", return_value=disk):
+            want_room(b"maildir", [1] * count)
+
+    def test_room(self):
+        self.want(2)
+        # a file each, three folders, a mark and the record
+        self.assertRaisesRegex(Left, "no inodes: it needs 8, and 7 are free", self.want, 3)
+        self.assertRaisesRegex(Left, "no room", self.want, 11)
 
 
 class PresenceTest(FolderTest):
