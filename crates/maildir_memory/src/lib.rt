@@ -24,10 +24,12 @@ mod cases;
 mod faults;
 mod mem_machine;
 mod mem_system;
+mod small_machine;
 mod stamps;
 mod turn_act;
 
 pub use mem_machine::{MemMachine, NamedText};
 pub use mem_system::{MemFile, MemSystem};
+pub use small_machine::SmallMachine;
 pub use stamps::Stamps;
 pub use turn_act::TurnAct;
