@@ -6,3 +6,5 @@ pub mod Delivered
 pub mod Owed
 -- The events of the history, one after the other.
 pub mod Happening
+-- A text with two messages, whose bodies are empty.
+pub mod Example

@@ -1,5 +1,5 @@
 -- The events of the history, one after the other.
-use Rattle.std.proofs.Common.{◌≡◌, ℕ, ◌≤◌, Bool, true, false, List, [], ◌∷◌, length, map, All, Contains, Option, Some, Result, Ok, Err, IfErr, OnOk, IsTrue, codes}
+use Rattle.std.proofs.Common.{◌≡◌, ℕ, ◌≤◌, Bool, true, false, List, [], ◌∷◌, length, All, Contains, Option, Some, Result, Ok, Err, IfErr, OnOk, IsTrue, codes}
 use Rattle.std.proofs.Common.{refl, sym, ap, subst, ◌∙◌, inl, inr, arith}
 use Rattle.std.specs.List.{flat_map}
 use Rattle.std.proofs.lemmas.List.Elements.{All-cons, All-contains, All-nil}
@@ -19,18 +19,18 @@ use Rattle.maildir_run.specs.declared.fault.RunFault.TheVariants.{FolderFailed, 
 use Rattle.maildir_disk.proofs.Left.LeftHomes.{first_in, none_in}
 use Rattle.maildir_commands.proofs.Forms.{one_request}
 use Rattle.maildir_commands.specs.Causes.{IsCauseOf}
-use Rattle.maildir_commands.specs.Commands.{Commanded, IsNewTo, IsToDeliver, LeftByPowerCut}
+use Rattle.maildir_commands.specs.Commands.{Commanded, IsToDeliver, LeftByPowerCut}
 use Rattle.maildir_commands.specs.Faults.{fault_text, told}
 use Rattle.maildir_commands.specs.Machines.{HeldMaildir, Rests}
 use Rattle.maildir_commands.specs.Program.{Delivers, DeliversInto, Did, Does}
 use Rattle.maildir_commands.specs.Report.{PrintsReports, report_line}
-use Rattle.maildir_commands.specs.Seen.{Seen, seen_at, seen_with, streams}
+use Rattle.maildir_commands.specs.Seen.{Seen, seen_with, streams}
 use Rattle.maildir_commands.specs.Words.{AskFor, Request, convert_words}
 use Rattle.maildir_commands.specs.Words.Request.{ToConvert}
 use Rattle.maildir_commands.specs.declared.ending.Ending.TheVariants.{Done, Stopped}
 use Rattle.maildir_commands.specs.declared.fault.Fault.{Fault}
 use Rattle.maildir_commands.specs.declared.fault.Fault.TheVariants.{Run}
-use Rattle.maildir_memory.specs.Histories.{CanHappen, all_but, first_words, other_words, seen_of}
+use Rattle.maildir_memory.specs.Histories.{CanHappen, all_but, seen_of}
 use Rattle.maildir_memory.specs.Cases.{lefts_of}
 use Rattle.maildir_memory.specs.Laws.{quiet_system}
 use Rattle.maildir_memory.specs.MemMachines.{open_in_memory}
@@ -263,9 +263,19 @@ module _ (machine : SmallMachine) (system : MemSystem) (quiet : HasNoTurns syste
         none = no_homes gone.target.base;
         there = All-contains (IsHome all) ms gone full has;
         deleted = deleted_none gone all;
-        happens =
-            (moment all false, breaks_off, (moment no_files false, (cuts, honest_at no_files false spared), (moment all true, prints,
-            (moment (deleted gone all) true, (deletes, λ h. honest_at (deleted gone all) true spared), (moment all true, ends, refl)))));
+        happens = (
+          moment all false,
+          breaks_off,
+          (
+            moment no_files false,
+            (cuts, honest_at no_files false spared),
+            (
+              moment all true,
+              prints,
+              (moment (deleted gone all) true, (deletes, λ h. honest_at (deleted gone all) true spared), (moment all true, ends, refl)),
+            ),
+          ),
+        );
       }
 
       -- from a machine with this Maildir, which has no file and was not synced
