@@ -4,8 +4,10 @@ use Rattle.std.proofs.Common.{refl, sym, ap, subst, ◌∙◌, inl, inr, arith}
 use Rattle.maildir_name.specs.declared.target.Place.{Place}
 use Rattle.maildir_name.specs.declared.target.Place.TheVariants.{New, Cur}
 use Rattle.maildir_run.proofs.Common.{All-cons, All-contains, All-head, All-nil, All-tail, IsPermutation-append_left, IsPermutation-append_right}
-use Rattle.maildir_run.proofs.Common.{IsPermutation-middle, IsPermutation-sym, IsPermutation-trans, and_parts, cases_Bool, or_parts, added, base, get, get-empty, insert}
-use Rattle.maildir_run.proofs.Common.{is_converter_base, is_converter_name, is_name, retain_keys, name_cmp, FileMap, Files, Message, IsTarget, IsHome, IsMissing, AreDistinct}
+use Rattle.maildir_run.proofs.Common.{IsPermutation-middle, IsPermutation-sym, IsPermutation-trans, and_parts, cases_Bool}
+use Rattle.maildir_run.proofs.Common.{or_parts, added, base, get, get-empty, insert}
+use Rattle.maildir_run.proofs.Common.{is_converter_base, is_converter_name, is_name, retain_keys, name_cmp, FileMap}
+use Rattle.maildir_run.proofs.Common.{Files, Message, IsTarget, IsHome, IsMissing, AreDistinct}
 use Rattle.maildir_run.proofs.Common.{KeepsForeign, Spared, has_base, held_under, homes, is_base_of}
 use Rattle.maildir_run.proofs.Call.Homes.{held-insert_new, held-insert_other, held_same}
 use Rattle.maildir_run.proofs.Call.Moves.{both_none, held_none, none_held, permutation_of_one}

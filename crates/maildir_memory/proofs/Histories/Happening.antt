@@ -37,7 +37,8 @@ use Rattle.maildir_memory.specs.MemMachines.{open_in_memory}
 use Rattle.maildir_memory.specs.MemSystem.{HasNoTurns, IsHonest}
 use Rattle.maildir_memory.specs.declared.mem_system.MemSystem.{MemSystem}
 use Rattle.maildir_memory.specs.declared.small_machine.SmallMachine.{SmallMachine}
-use Rattle.maildir_memory.proofs.Histories.Delivered.{IsPart, all_foreign, deleted, deleted_foreign, deleted_none, deleted_is_part, deleted_spares, delivered, delivered_home, delivered_is_part}
+use Rattle.maildir_memory.proofs.Histories.Delivered.{IsPart, all_foreign, deleted, deleted_foreign, deleted_is_part, deleted_none, deleted_spares}
+use Rattle.maildir_memory.proofs.Histories.Delivered.{delivered, delivered_home, delivered_is_part}
 use Rattle.maildir_memory.proofs.Histories.Delivered.{delivered_swept, no_homes, none_is_part}
 use Rattle.maildir_memory.proofs.Histories.Owed.{IsPartly, are_fit, delivers_err, delivers_ok, only_text, prints_first, prints_none, report_from}
 
@@ -97,7 +98,8 @@ module _ (machine : SmallMachine) (system : MemSystem) (quiet : HasNoTurns syste
 
       did : (answer : Result (Unit {0}) Fault) (after : Option (List ℕ)) → OnOk answer (PrintsReports (Some []) after 1)
           → ((spared : Spared) → Delivers spared answer (text ∷ []) (held s r) (held t q) (Some []) after)
-          → IfErr answer (IsCauseOf (ToConvert word (file ∷ [])) (seen s r (Some [])) (Some [])) → ((spared : Spared) → OnOk answer (IsHonest (system_with system t q) spared))
+          → IfErr answer (IsCauseOf (ToConvert word (file ∷ [])) (seen s r (Some [])) (Some []))
+          → ((spared : Spared) → OnOk answer (IsHonest (system_with system t q) spared))
           → Did (convert_words word (file ∷ [])) answer (seen s r (Some [])) (seen t q after)
       did answer after printed owed cause honest =
           let one : Does (ToConvert word (file ∷ [])) answer (seen s r (Some [])) (seen t q after) = record {
@@ -140,7 +142,8 @@ module _ (machine : SmallMachine) (system : MemSystem) (quiet : HasNoTurns syste
           }
 
       stopped : (spared : Spared) (fault : Fault) (after : List ℕ) → IsCauseOf (ToConvert word (file ∷ [])) (seen s r (Some [])) (Some []) fault
-          → ((spared : Spared) → Delivers {A = Unit {0}} {E = Fault} spared (Err fault) (text ∷ []) (held s r) (held t q) (Some []) (Some after)) → IsCommand spared 1
+          → ((spared : Spared) → Delivers {A = Unit {0}} {E = Fault} spared (Err fault) (text ∷ []) (held s r) (held t q) (Some []) (Some after))
+          → IsCommand spared 1
       stopped spared fault after cause owed = record {
         was = streams (Some []) (Some []) (Some []);
         is = streams (Some []) (Some after) (Some (told (fault_text fault)));
@@ -228,7 +231,8 @@ module _ (machine : SmallMachine) (system : MemSystem) (quiet : HasNoTurns syste
           record {
             actions = Outside (deleted gone all) ∷ [];
             files_are = sym is;
-            left = λ left may. (all, inl refl, record { kept = Came (Other (Outside (deleted gone all))) ∷ []; are = left_is (deleted gone all) true left may ∙ sym is });
+            left = λ left may.
+                (all, inl refl, record { kept = Came (Other (Outside (deleted gone all))) ∷ []; are = left_is (deleted gone all) true left may ∙ sym is });
             found = λ rooted. rooted;
             touches = λ name now. now;
           }
