@@ -156,7 +156,7 @@ def for_mailboxes(maildir, path, task):
 def has_mail(tree, path):
     """Whether a file of a tree is a mailbox that has mail."""
     with Source.open(path) as source:
-        is_mail = source.size and look_at(source).is_mail
+        is_mail = source.size and look_at(source, enough=lambda look: True).is_mail
     if not is_mail:
         tree.leave(path, "no mail", PASSED)
     return is_mail

@@ -54,8 +54,8 @@ class Verdict(NamedTuple):
     # where the text begins, and how a copy is to be made where that is no guess
     start: int = 0
     quoting: Optional[Quoting] = None
-    # what is said of the lines that keep it from being converted as it is; and how many messages it has where these are From_
-    # lines, and nothing else keeps it
+    # what is said of the lines that keep it from being converted as it is; and how many messages it has where these are
+    # From_ lines, and nothing else keeps it
     reasons: List[str] = []
     decided: Optional[int] = None
 
@@ -90,13 +90,15 @@ class Look:
         # the message that ends by its length, and where; and the first message without a length
         self.claimed_by = self.claimed = self.without = 0
 
-    def read(self):
-        """Looks at the whole text."""
+    def read(self, enough=lambda look: False):
+        """Looks at the whole text, or at its beginning that is enough."""
         part, line = None, 1 + self.source.at(0, self.start).count(b"\n")
         self.source.file.seek(self.start)
         for part in parts_of(self.source.file, self.start, line):
             if part.what == MARK:
                 self.mark(part)
+                if enough(self):
+                    return self
             elif part.what == TEXT and not self.seen["CR in text"].count and b"\r\n" in part.piece:
                 self.seen["CR in text"].add(part.line + part.piece.count(b"\n", 0, part.piece.index(b"\r\n")))
         # a message that ends there by its length is whole
@@ -122,8 +124,8 @@ class Look:
             self.header(header, mark)
 
     def sort_of(self, mark, header):
-        """What a line `From ` before something like a header looks like: a From_ line, "dated" or "undated", an "odd" one
-        without a header, a "doubtful" one of several words without a date, or "text"."""
+        """What a line `From ` before something like a header looks like: a From_ line, "dated" or "undated", an "odd"
+        one without a header, a "doubtful" one of several words without a date, or "text"."""
         has_header = FIELD.match(header.text)
         if is_dated(mark.piece):
             return "dated" if has_header or header.is_empty() else "odd"
@@ -200,14 +202,14 @@ class Look:
     def reasons(self):
         """What is said of the lines that keep it from being converted as it is."""
         for sorts in KEEPING:
-            found = [(line, dict(SAID)[sort].format(text, other)) for sort in sorts if sort != "doubtful" or self.doubts()
-                     for line, text, other in self.first(sort)]
+            found = [(line, dict(SAID)[sort].format(text, other)) for sort in sorts
+                     if sort != "doubtful" or self.doubts() for line, text, other in self.first(sort)]
             if found:
                 return ["line %d: %s" % one for one in sorted(found)]
         return []
 
     def decided(self):
-        """How many messages there are where a human has decided that doubtful lines are From_ lines, and nothing else keeps it."""
+        """How many messages there are once a human took doubtful lines for From_ lines, where nothing else keeps it."""
         others = [sort for sorts in KEEPING for sort in sorts if sort not in ("odd", "doubtful")]
         return None if self.start or self.count(*others) else self.messages
 
@@ -232,13 +234,14 @@ SAID = [
 ]
 
 
-def look_at(source):
-    """What an open file is, and what is to be done with it."""
+def look_at(source, enough=lambda look: False):
+    """What an open file is, and what is to be done with it. What is known of its text after a beginning may be enough."""
     head = source.at(0, HEAD)
     start = text_start(head)
     if start is None:
         look = Look(source)
-        kind, then, remarks = what_else(source, head, lambda mark: look.sort_of(mark, Header.read(source, mark)) != "text")
+        kind, then, remarks = what_else(
+            source, head, lambda mark: look.sort_of(mark, Header.read(source, mark)) != "text")
         source.check()
         return Verdict(kind, then, remarks=remarks)
     if b"\r" in head[start:].split(b"\n")[0][:-1]:
@@ -246,11 +249,12 @@ def look_at(source):
         count, how = from_lines_of(LineEnds(source.file)), Quoting("mboxrd", cr=True)
         source.check()
         return Verdict("line ends of CR alone", how.command(), 1, count, count, start=start)
-    return verdict_on(Look(source, start).read())
+    return verdict_on(Look(source, start).read(enough))
 
 
 # the sorts that keep a text from being converted as it is, as they are to be looked after
-KEEPING = (("deleted",), ("inside, dated", "odd", "doubtful"), ("inside", "text"), ("holds mail",), ("no end",), ("CR LF",))
+KEEPING = (("deleted",), ("inside, dated", "odd", "doubtful"), ("inside", "text"), ("holds mail",), ("no end",),
+           ("CR LF",))
 
 
 def verdict_on(look):
@@ -258,9 +262,10 @@ def verdict_on(look):
     then, quoting = next_of(look)
     then = quoting.command() if quoting else then
     # a guess is what a human may decide otherwise
-    sure = quoting and not quoting.trusted and quoting.by in ("lengths", "mboxrd") and look.count("CR LF") in (0, look.messages)
-    return Verdict(kind_of(look), then, int(then != CONVERT), look.fewest(), look.most(), list(look.remarks()), look.start,
-                   quoting if sure else None, look.reasons(), look.decided())
+    sure = quoting and not quoting.trusted and quoting.by in ("lengths", "mboxrd") and (
+        look.count("CR LF") in (0, look.messages))
+    return Verdict(kind_of(look), then, int(then != CONVERT), look.fewest(), look.most(), list(look.remarks()),
+                   look.start, quoting if sure else None, look.reasons(), look.decided())
 
 
 def kind_of(look):

@@ -12,7 +12,7 @@ NO_MAIL = re.compile(rb"(?:\A|/)(?:\.imap/.*|\.subscriptions|\.mailboxlist|[^/]+
 
 
 class Plan(NamedTuple):
-    """What a mailbox is, how many messages it has, where its text begins, and how its copy is quoted, where it needs one."""
+    """What a mailbox is, how many messages it has, where its text begins, and how a copy that it needs is quoted."""
     kind: str
     messages: int
     start: int = 0
@@ -28,11 +28,17 @@ def is_no_mail(path):
     return bool(NO_MAIL.search(path)) or os.path.basename(path).startswith(b".") and os.path.getsize(path) == 0
 
 
-def plan_of(handle):
-    """Looks at all of a mailbox. It is left where anything would be a guess."""
-    verdict = look_at(handle)
-    # what stands before the text belongs to it
-    handle.digest.add(0, handle.at(0, verdict.start))
+def is_as_it_is(look):
+    """Whether no copy of a text is made, whatever follows: a message has no right length, and a From_ line no CR LF."""
+    return not look.start and max(look.count("lengths"), look.count("CR LF")) < look.messages
+
+
+def plan_of(handle, enough=lambda look: False):
+    """Looks at all of a mailbox, or at what is enough. It is left where anything would be a guess."""
+    verdict = look_at(handle, enough)
+    if handle.digest:
+        # what stands before the text belongs to it
+        handle.digest.add(0, handle.at(0, verdict.start))
     if not verdict.is_mail:
         raise NoMail(verdict.kind)
     how = verdict.quoting
@@ -67,9 +73,11 @@ def plan_by_hand(handle, copy):
     """The plan of a copy that was made by hand, which is taken in place of a mailbox that may have as many messages."""
     name = shown(copy.path)
     if copy.state.st_uid != handle.state.st_uid:
-        raise Left("its copy %s belongs to another user" % name)
+        # as root makes one of a user's mailbox
+        raise Left("its copy %s belongs to another user; next: chown --reference=%s %s" % (
+            name, word(handle.path), word(copy.path)))
     if copy.state.st_mtime_ns < handle.state.st_mtime_ns:
-        raise Left("it changed after its copy %s was made" % name)
+        raise Left("it changed after its copy %s was made; next: rm %s, and run this again" % (name, word(copy.path)))
     try:
         plan = plan_of(handle)
         fewest = most = plan.messages

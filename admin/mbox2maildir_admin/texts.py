@@ -2,9 +2,9 @@
 import contextlib
 import os
 
-from .handle import Digest, Handle
+from .handle import Handle
 from .outcome import Left
-from .plans import plan_by_hand, plan_of
+from .plans import is_as_it_is, plan_by_hand, plan_of
 from .source import open_file
 from .unnamed import quoted_copy
 
@@ -24,7 +24,7 @@ def text_of(stack, path, maildir):
             copy = stack.enter_context(opened(by_hand))
             plan_by_hand(handle, copy)
             return copy, 0
-        plan = plan_of(handle)
+        plan = plan_of(handle, is_as_it_is)
     except Left:
         return handle, 0
     if plan.quoting:
@@ -35,4 +35,4 @@ def text_of(stack, path, maildir):
 def opened(path):
     """An open file, of which no lock is wanted."""
     with open_file(path) as file:
-        return Handle(path, os.dup(file.fileno()), Digest())
+        return Handle(path, os.dup(file.fileno()))

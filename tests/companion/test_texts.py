@@ -1,15 +1,20 @@
 """The reader of texts: its parts, its messages, and the handle that it reads by."""
 import hashlib
+import itertools
 import os
 import unittest
+from pathlib import Path
 from unittest import mock
 
-from context import A, B, source_of
+from context import A, B, folder, source_of
 from mbox2maildir_admin import parts
 from mbox2maildir_admin.faults import Fault
 from mbox2maildir_admin.messages import messages_of
+from mbox2maildir_admin.outcome import Left
 from mbox2maildir_admin.parts import FROM_LINE, MARK, TEXT, from_lines_of, parts_of
+from mbox2maildir_admin.plans import is_as_it_is, plan_of
 from mbox2maildir_admin.source import LineEnds, Reader
+from mbox2maildir_admin.texts import open_text, opened
 
 
 class PartsTest(unittest.TestCase):
@@ -78,6 +83,46 @@ class SourceTest(unittest.TestCase):
                 for block in iter(lambda: file.read(size), b""):
                     read += block
             self.assertEqual(read, b"\na\nb\n\nc\n")
+
+
+class OpenTextTest(unittest.TestCase):
+    PLAIN, WRONG = A + b"\nhello\n\n", A + b"Content-Length: 99999\n\nhello\n\n"
+    RIGHT, INSIDE = A + b"Content-Length: 6\n\nhello\n\n", A + b"Content-Length: 15\n\nFrom here then\n\n"
+    CRLF = PLAIN.replace(b"\n", b"\r\n")
+
+    def path_of(self, text):
+        """A mailbox with this text."""
+        entered = folder()
+        here = entered.__enter__()
+        self.addCleanup(entered.__exit__, None, None, None)
+        Path(here.decode(), "box").write_bytes(text)
+        return here + b"/box"
+
+    def test_a_beginning_tells_what_the_whole_does(self):
+        def quoting(path, *enough):
+            with opened(path) as handle:
+                try:
+                    return plan_of(handle, *enough).quoting
+                except Left:
+                    return None
+        pieces = self.PLAIN, self.WRONG, self.RIGHT, self.INSIDE, self.CRLF, B
+        texts = [b"".join(some) for count in (1, 2, 3) for some in itertools.product(pieces, repeat=count)]
+        for text in texts + [b"\n" + text for text in texts[:6]]:
+            path = self.path_of(text)
+            self.assertEqual(quoting(path, is_as_it_is), quoting(path), text)
+
+    def test_what_is_read(self):
+        for text, wanted, start in ((self.PLAIN, self.PLAIN, 0), (b"\n" + self.PLAIN, b"\n" + self.PLAIN, 1), (
+                self.INSIDE, A + b"\n>From here then\n\n", 0), (self.CRLF, self.PLAIN, 0)):
+            path = self.path_of(text)
+            with open_text(path, os.path.dirname(path)) as (source, begins):
+                self.assertEqual((source.at(0, len(text)), begins), (wanted, start), text)
+
+    def test_a_plain_text_is_not_looked_at_twice(self):
+        text = self.PLAIN + b"x" * (4 << 20) + b"\n"
+        with opened(self.path_of(text)) as handle:
+            plan_of(handle, is_as_it_is)
+            self.assertLessEqual(handle.file.place, 1 << 20)
 
 
 if __name__ == "__main__":
