@@ -29,7 +29,7 @@ impl<'a> SmallMachine<'a> {
     pub fn new(alloc: Global, text: &'a [u8], clock: SystemTime, instant: Instant) -> Self
         ensures happens { (of : Mailbox) (gone : Message) → IsMailbox of → of.bytes ≡ text.now → Contains of.messages gone →
             CanHappen of gone result }
-        ensures one { text.now ≡ codes "From a\n\nFrom b\n\n" →
+        ensures example { text.now ≡ codes "From a\n\nFrom b\n\n" →
             (of : Mailbox) × (length of.messages ≡ 2) × All (λ gone. CanHappen of gone result) of.messages }
     {
         let nobody = Vec::new(alloc);

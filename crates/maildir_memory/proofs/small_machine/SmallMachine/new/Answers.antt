@@ -11,6 +11,6 @@ returns-clause-happens c = λ text gone are is has.
     (c.lose.ensures.kept ∙ c.new-maildir.ensures.kept) text are is gone has (c.lose.ensures.files ∙ (c.new-maildir.ensures.files ∙ c.new.ensures.files))
     c.lose.ensures.found
 
-pub returns-clause-one : goal.returns-clause-one
-returns-clause-one c = λ is.
+pub returns-clause-example : goal.returns-clause-example
+returns-clause-example c = λ is.
     (example, example_has_two, λ k d below. returns-clause-happens c example _ is_example (sym is) (All-contains_itself example.messages k d below))
