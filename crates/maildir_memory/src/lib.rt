@@ -2,9 +2,11 @@
 //!
 //! [`MemSystem`] is a Maildir in memory that does what [`System`](maildir_disk::System) assumes. Other programs may act within
 //! its calls, its calls may fail, its stamps may be coarse ([`Stamps`]), and a power cut may leave any case of what was not
-//! synced. [`MemMachine`] is a [`Machine`](maildir_commands::Machine) with texts and such Maildirs.
+//! synced. [`MemMachine`] is a [`Machine`](maildir_commands::Machine) with texts and such Maildirs, and [`SmallMachine`] one
+//! with one of each.
 //!
-//! Proved: both do what the traits that they implement state, so what is assumed there can be met.
+//! Proved: they do what the traits that they implement state, so what is assumed there can be met; and so can what is assumed
+//! of any commands that follow one another.
 //!
 //! ```rust
 //! use maildir_disk::DiskFolder;
@@ -24,10 +26,12 @@ mod cases;
 mod faults;
 mod mem_machine;
 mod mem_system;
+mod small_machine;
 mod stamps;
 mod turn_act;
 
 pub use mem_machine::{MemMachine, NamedText};
 pub use mem_system::{MemFile, MemSystem};
+pub use small_machine::SmallMachine;
 pub use stamps::Stamps;
 pub use turn_act::TurnAct;

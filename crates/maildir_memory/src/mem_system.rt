@@ -1,5 +1,5 @@
 // The system calls of a Maildir in memory.
-ghost use Rattle.std.specs.Prelude.{◌≡◌, ◌≤◌, ◌++◌, ◌∷◌, [], All, IfErr, IfOk, IsTrue, OnOk, get_or, length};
+ghost use Rattle.std.specs.Prelude.{◌≡◌, ◌≤◌, ◌++◌, ◌∷◌, [], All, IfErr, IfOk, IsTrue, OnOk, false, get_or, length};
 ghost use Rattle.std.specs.FinMap.{contains_key};
 ghost use Rattle.std.specs.IoError.{error_kind};
 ghost use Rattle.std.specs.declared.io.ErrorKind.TheVariants.{NotFound};
@@ -72,6 +72,7 @@ impl MemSystem {
         ensures turns { result.turns ≡ turns }
         ensures stamps { result.stamps ≡ stamps }
         ensures left { cases_of result ≡ files_of folder ∷ [] }
+        ensures kept { lefts_of result.cases ≡ [] }
     {
         folder.script(Vec::new(alloc), None);
         MemSystem {
@@ -98,6 +99,8 @@ impl MemSystem {
         ensures room { self.new.cases.room ≡ room }
         ensures calls { self.new.calls_left ≡ self.old.calls_left }
         ensures left { cases_of self.new ≡ lefts_of self.old.cases ++ (files_of self.old.folder ∷ (no_files ∷ [])) }
+        ensures kept { lefts_of self.new.cases ≡ lefts_of self.old.cases }
+        ensures found { self.new.is_rooted ≡ false }
     {
         self.cases.room = room;
         self.is_rooted = false;

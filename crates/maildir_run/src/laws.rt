@@ -148,8 +148,10 @@ pub fn one_text()
         Runs spared text.bytes links old new → RunsOver spared (text ∷ []) (map (link_over text) links) old new }
 {}
 
-/// Of the set of all bases each message is spared, and a report is exact.
+/// The set of all bases has each base: each message is spared, and a report is exact.
 pub fn all_are_spared()
+    ensures each { (b : List ℕ) → IsTrue (all_bases b) }
+    ensures all { SparesAll all_bases }
     ensures spared { (ms : List Message) → All (IsSpared all_bases) ms }
     ensures home { (ms : List Message) (s : Files) → AllSpared all_bases (IsHome s) ms ↔ All (IsHome s) ms }
     ensures missing { (ms : List Message) (s : Files) → AllSpared all_bases (IsMissing s) ms ↔ All (IsMissing s) ms }
