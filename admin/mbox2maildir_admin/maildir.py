@@ -45,10 +45,10 @@ class Table:
 
     def add(self, digest):
         """Adds the next message, which has this digest, and answers its base."""
-        count = 1
-        if digest + b".1" in self.places:
-            count = self.repeats[digest] = self.repeats.get(digest, 1) + 1
-        base = digest + b".%d" % count
+        base = digest + b".1"
+        if base in self.places:
+            self.repeats[digest] = self.repeats.get(digest, 1) + 1
+            base = digest + b".%d" % self.repeats[digest]
         self.places[base] = len(self.places)
         return base
 

@@ -36,8 +36,9 @@ def is_as_it_is(look):
 def plan_of(handle, enough=lambda look: False):
     """Looks at all of a mailbox, or at what is enough. It is left where anything would be a guess."""
     verdict = look_at(handle, enough)
-    # what stands before the text belongs to it
-    handle.digest.add(0, handle.at(0, verdict.start))
+    if handle.digest:
+        # what stands before the text belongs to it
+        handle.digest.add(0, handle.at(0, verdict.start))
     if not verdict.is_mail:
         raise NoMail(verdict.kind)
     how = verdict.quoting

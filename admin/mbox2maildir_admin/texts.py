@@ -2,7 +2,7 @@
 import contextlib
 import os
 
-from .handle import Digest, Handle
+from .handle import Handle
 from .outcome import Left
 from .plans import is_as_it_is, plan_by_hand, plan_of
 from .source import open_file
@@ -35,4 +35,4 @@ def text_of(stack, path, maildir):
 def opened(path):
     """An open file, of which no lock is wanted."""
     with open_file(path) as file:
-        return Handle(path, os.dup(file.fileno()), Digest())
+        return Handle(path, os.dup(file.fileno()))
