@@ -18,12 +18,12 @@ class Program:
         self.path, self.alive = path, alive
 
     def convert(self, source, start, folder, record):
-        """Converts a text from an offset on, and answers how far it was read. Until then nobody else moves the offset. The
-        program inherits the locks of the mailbox and of the record."""
+        """Converts a text from an offset on, and answers how far it was read. Until then nobody else moves the offset.
+        The program inherits the locks of the mailbox and of the record."""
         os.lseek(source.number, start, os.SEEK_SET)
         # in its own folder a Maildir has a name that is UTF-8
-        child = subprocess.Popen([self.path, b"convert", b"."], cwd=folder, stdin=source.number, stdout=subprocess.DEVNULL,
-                                 stderr=subprocess.PIPE, pass_fds=[record.number])
+        child = subprocess.Popen([self.path, b"convert", b"."], cwd=folder, pass_fds=[record.number],
+                                 stdin=source.number, stdout=subprocess.DEVNULL, stderr=subprocess.PIPE)
         try:
             said = self.wait_for(child, source)
         except BaseException:

@@ -74,7 +74,7 @@ class Reporter:
     def row(self, row, name=None):
         """Prints what became of a mailbox, unless it is in the sum alone."""
         self.counts[row.verdict] += 1
-        if row.verdict == BEFORE or row.verdict == PASSED:
+        if row.verdict == PASSED or row.verdict == BEFORE and not row.why:
             return
         if self.is_written:
             self.rewrite("")

@@ -55,7 +55,7 @@ def names_of(spool, tree, first):
 
 
 def is_passed(spool, name, names):
-    """Whether a name of a spool is no mailbox of its own: a lock, a copy that was made by hand, an empty hidden file."""
+    """Whether a name of a spool is no mailbox of its own: a lock, a copy made by hand, an empty hidden file."""
     if name.endswith(b".lock") or name.endswith(b".mboxrd") and name[:-len(b".mboxrd")] in names:
         return True
     return name.startswith(b".") and os.lstat(os.path.join(spool, name)).st_size == 0
@@ -89,8 +89,8 @@ def has_tree(tree):
 
 
 class Named:
-    """Tells rows by the names that root prints after the user's: none for the mailbox of the spool, and else one below home.
-    What is to be done next with that is not for root: the user could lead root elsewhere."""
+    """Tells rows by the names that root prints after the user's: none for the spool's mailbox, else one below home. What is
+    to be done next with that is not for root: the user could lead root elsewhere."""
 
     def __init__(self, teller, mailbox, account):
         self.teller, self.mailbox, self.account = teller, mailbox, account
