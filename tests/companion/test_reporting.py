@@ -27,7 +27,10 @@ class TerminalTest(unittest.TestCase):
             reporter.progress(who, "converting", 1200000000, 3400000000)
             reporter.progress(who, "verifying")
             reporter.rewrite("")
-            written = os.read(master, 4096).decode()
+            written = ""
+            # a terminal may give what was written piece by piece
+            while written.count("\r\x1b[K") < 3:
+                written += os.read(master, 4096).decode()
         os.close(master)
         return written.split("\r\x1b[K")[1:]
 
