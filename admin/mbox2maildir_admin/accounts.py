@@ -28,6 +28,14 @@ def is_users(account, first):
     return account.pw_uid >= first and account.pw_uid not in NOBODY
 
 
+def name_of(number):
+    """The name of the user with a number."""
+    try:
+        return pwd.getpwuid(number).pw_name
+    except KeyError:
+        return "the user %d" % number
+
+
 def want_entered(spool):
     """A fault where users can't enter a folder."""
     here = spool
@@ -56,7 +64,7 @@ def account_of(spool, name, first):
     if not stat.S_ISREG(state.st_mode):
         raise Left("it is a link" if stat.S_ISLNK(state.st_mode) else "it is no file")
     if state.st_uid != account.pw_uid:
-        raise Left("it belongs to another user")
+        raise Left("it belongs to %s" % name_of(state.st_uid))
     return account, True
 
 

@@ -63,4 +63,5 @@ def copy_of_some(source, inventory, places, folder):
                     raise Left("it was cut while it was read: stop whoever writes to it")
                 write(piece)
                 here += len(piece)
+                source.say("copying", here, source.size)
     return written(folder, source, fill)

@@ -16,6 +16,7 @@ from mbox2maildir_admin.outcome import DONE, Left
 from mbox2maildir_admin.presence import Presence
 from mbox2maildir_admin.record import BACK, BEGUN, CONVERTED, MOST, NAME, Record
 from mbox2maildir_admin.room import want_room
+from mbox2maildir_admin.unnamed import copy_of_some
 
 ONE, TWO = b"Subject: 1\n\none\n", b"Subject: 2\n\ntwo\n"
 
@@ -116,6 +117,21 @@ class PresenceTest(FolderTest):
         seen = self.look([ONE, TWO, ONE], {"new/" + hashlib.sha256(ONE).hexdigest() + ".1": ONE})
         self.assertFalse(seen.is_plain(2))
         self.assertEqual(seen.wanted(2), [0, 2])
+
+
+class CopyTest(FolderTest):
+    def test_some(self):
+        text, said = Path(os.fsdecode(self.here), "text"), []
+        first, second, third = (A.split(b"\n")[0] + b"\n" + body + b"\n" for body in (ONE, TWO, ONE))
+        text.write_bytes(first + second + third)
+        with Handle(os.fsencode(str(text)), os.open(str(text), os.O_RDONLY), None, lambda *says: said.append(says)) as handle:
+            inventory = Inventory.read(handle, 0)
+            said.clear()
+            with copy_of_some(handle, inventory, [0, 2], self.here) as copy:
+                self.assertEqual(copy.at(0, 1000), first + third)
+            # it says that it is at work, and how far in the mailbox
+            size = len(first + second + third)
+            self.assertEqual(said, [("copying", len(first), size), ("copying", size, size)])
 
 
 class ChildTest(unittest.TestCase):

@@ -27,7 +27,10 @@ class TerminalTest(unittest.TestCase):
             reporter.progress(who, "converting", 1200000000, 3400000000)
             reporter.progress(who, "verifying")
             reporter.rewrite("")
-            written = os.read(master, 4096).decode()
+            written = ""
+            # a terminal may give what was written piece by piece
+            while written.count("\r\x1b[K") < 3:
+                written += os.read(master, 4096).decode()
         os.close(master)
         return written.split("\r\x1b[K")[1:]
 
@@ -50,9 +53,9 @@ class TerminalTest(unittest.TestCase):
 
 class CrewTest(unittest.TestCase):
     def run_one(self, task):
-        """What is said of a child that does a task, where one may be silent for a second."""
+        """What is said of a child that does a task."""
         left = []
-        with mock.patch.object(children, "SILENCE", 1), mock.patch.object(children, "become", lambda *_: os.setsid()):
+        with mock.patch.object(children, "become", lambda *_: os.setsid()):
             with children.Crew(1, mock.Mock(), lambda *says: left.append(says)) as crew:
                 crew.add("mia", None, task)
         return left
@@ -61,17 +64,19 @@ class CrewTest(unittest.TestCase):
         self.assertEqual(self.run_one(lambda *_: os.kill(os.getpid(), signal.SIGSTOP)), [("mia", "its user stopped it")])
 
     def test_silent(self):
-        self.assertEqual(self.run_one(lambda *_: time.sleep(60)), [("mia", "it said nothing for 0 minutes")])
+        with mock.patch.object(children, "SILENCE", 1):
+            self.assertEqual(self.run_one(lambda *_: time.sleep(60)), [("mia", "it said nothing for 0 minutes")])
 
     def test_nothing_new(self):
-        def task(teller, _):
-            end = time.monotonic() + 2
-            while time.monotonic() < end:
+        """A child that is at work is not silent, also where it has nothing new to tell."""
+        told, tell = os.pipe()
+        teller = children.Teller(tell)
+        with mock.patch.object(time, "monotonic", side_effect=[100, 100.1, 101]):
+            for _ in range(3):
                 teller.progress("", "verifying")
-                time.sleep(.01)
-            teller.tell("end")
-            return 0
-        self.assertEqual(self.run_one(task), [])
+        self.assertEqual(os.read(told, 4096), b'["at", "verifying"]\n' * 2)
+        os.close(told)
+        os.close(tell)
 
 
 if __name__ == "__main__":
