@@ -2,6 +2,7 @@
 import fcntl
 import os
 import pty
+import select
 import signal
 import struct
 import sys
@@ -27,12 +28,12 @@ class TerminalTest(unittest.TestCase):
             reporter.progress(who, "converting", 1200000000, 3400000000)
             reporter.progress(who, "verifying")
             reporter.rewrite("")
-            written = ""
-            # a terminal may give what was written piece by piece
-            while written.count("\r\x1b[K") < 3:
-                written += os.read(master, 4096).decode()
+            written = b""
+            # what was written comes in pieces
+            while written.count(b"\r\x1b[K") < 3 and select.select([master], [], [], 10)[0]:
+                written += os.read(master, 4096)
         os.close(master)
-        return written.split("\r\x1b[K")[1:]
+        return written.decode().split("\r\x1b[K")[1:]
 
     def test_line(self):
         self.assertEqual(self.lines(80, "u12"), ["12/41 u12: converting 1.2 of 3.4 GB", "12/41 u12: verifying", ""])
