@@ -13,6 +13,7 @@ from mbox2maildir_admin.copies import UNFINISHED, Copy
 from mbox2maildir_admin.faults import Fault, PlaceFault
 from mbox2maildir_admin.kinds import Quoting
 from mbox2maildir_admin.quoting import quote
+from mbox2maildir_admin.source import Source
 
 TEXT = A + b"\n>>From x\n\n" + B + b"\nyes\n"
 MBOXO = Quoting("mboxo")
@@ -44,6 +45,17 @@ class CopyTest(unittest.TestCase):
         self.assertEqual(Path(self.path.decode()).read_bytes(), TEXT.replace(b">>From", b">>>From"))
         self.assertEqual((quoter.messages, quoter.quoted, quoter.left_out), (2, 1, 0))
         self.assertEqual(os.listdir(self.here), [b"copy"])
+
+    @unittest.skipUnless(os.geteuid() == 0, "another owner wants root")
+    def test_owner_and_mode(self):
+        mailbox = self.here + b"/box"
+        Path(mailbox.decode()).write_bytes(TEXT)
+        os.chown(mailbox, 65534, 65534)
+        os.chmod(mailbox, 0o640)
+        with Source.open(mailbox) as source, Copy.open(self.path) as file:
+            quote(MBOXO, source, file)
+        state = os.stat(self.path)
+        self.assertEqual((state.st_uid, state.st_gid, state.st_mode & 0o777), (65534, 65534, 0o640))
 
     def test_without_files_that_have_no_name(self):
         with mock.patch.object(copies.os, "O_TMPFILE", os.O_DIRECTORY):
