@@ -79,6 +79,11 @@ class CopyTest(unittest.TestCase):
             self.copied(Lossy)
         self.assertEqual(os.listdir(self.here), [])
 
+    def test_no_copy_that_is_not_synced(self):
+        with mock.patch("os.fsync", side_effect=OSError(5, "no disk")), self.assertRaisesRegex(Fault, "no disk"):
+            self.copied()
+        self.assertEqual(os.listdir(self.here), [])
+
     def test_no_copy_with_another_number_of_messages(self):
         with mock.patch.object(Copy, "written", lambda copy: (copy.file.flush() or os.fstat(copy.file.fileno()).st_size, 3)):
             with self.assertRaisesRegex(Fault, "the copy would have 3 messages, and `mbox2maildir-admin kind` counts 2"):
