@@ -13,6 +13,7 @@ from mbox2maildir_admin.copies import UNFINISHED, Copy
 from mbox2maildir_admin.faults import Fault, PlaceFault
 from mbox2maildir_admin.kinds import Quoting
 from mbox2maildir_admin.quoting import quote
+from mbox2maildir_admin.source import Source
 
 TEXT = A + b"\n>>From x\n\n" + B + b"\nyes\n"
 MBOXO = Quoting("mboxo")
@@ -45,6 +46,17 @@ class CopyTest(unittest.TestCase):
         self.assertEqual((quoter.messages, quoter.quoted, quoter.left_out), (2, 1, 0))
         self.assertEqual(os.listdir(self.here), [b"copy"])
 
+    @unittest.skipUnless(os.geteuid() == 0, "another owner wants root")
+    def test_owner_and_mode(self):
+        mailbox = self.here + b"/box"
+        Path(mailbox.decode()).write_bytes(TEXT)
+        os.chown(mailbox, 65534, 65534)
+        os.chmod(mailbox, 0o640)
+        with Source.open(mailbox) as source, Copy.open(self.path) as file:
+            quote(MBOXO, source, file)
+        state = os.stat(self.path)
+        self.assertEqual((state.st_uid, state.st_gid, state.st_mode & 0o777), (65534, 65534, 0o640))
+
     def test_without_files_that_have_no_name(self):
         with mock.patch.object(copies.os, "O_TMPFILE", os.O_DIRECTORY):
             with source_of(TEXT) as source, Copy.open(self.path) as file:
@@ -65,6 +77,11 @@ class CopyTest(unittest.TestCase):
     def test_no_copy_that_lacks_a_byte(self):
         with self.assertRaisesRegex(Fault, r"of \d+ bytes, with 1 more and 0 less, the copy has \d+"):
             self.copied(Lossy)
+        self.assertEqual(os.listdir(self.here), [])
+
+    def test_no_copy_that_is_not_synced(self):
+        with mock.patch("os.fsync", side_effect=OSError(5, "no disk")), self.assertRaisesRegex(Fault, "no disk"):
+            self.copied()
         self.assertEqual(os.listdir(self.here), [])
 
     def test_no_copy_with_another_number_of_messages(self):
