@@ -40,8 +40,9 @@ fn unless<T>(kind: ErrorKind, outcome: io::Result<T>) -> io::Result<Option<T>>
     }
 }
 
-/// The error of a rename(2) that found nothing, by a look at the file to be moved: the look's own error, if it failed too. If
-/// the file is there, the folder to move it to is gone, and the error is of the kind `Other`.
+/// The error of a rename(2) that found nothing, by a look at the file to be moved: the look's own
+/// error, if it failed too. If the file is there, the folder to move it to is gone, and the error
+/// is of the kind `Other`.
 pub fn not_moved(found: io::Result<Facts>) -> io::Error
     ensures folder { OnOk found (error_kind result ≡ ErrorKind.Other) }
     ensures file { IfErr found (λ error. result ≡ error) }
@@ -88,7 +89,8 @@ pub fn locked(outcome: io::Result<()>) -> Result<(), OpenFault>
     }
 }
 
-// EBADF (a network file system that locks only files open for writing), ENOLCK, ENOSYS and EOPNOTSUPP.
+// EBADF (a network file system that locks only files open for writing), ENOLCK, ENOSYS and
+// EOPNOTSUPP.
 fn has_no_locks(error: &io::Error) -> bool
     ensures { IsTrue result ↔ HasNoLocks error.now }
 {

@@ -1,7 +1,8 @@
-//! What is decided between the calls of a machine: what their answers mean, whose a file is, what its time of change is, and
-//! which paths a Maildir has.
+//! What is decided between the calls of a machine: what their answers mean, whose a file is, what
+//! its time of change is, and which paths a Maildir has.
 //!
-//! The library makes no call. `maildir_host` makes them, and asks here what follows from each answer.
+//! The library makes no call. `maildir_host` makes them, and asks here what follows from each
+//! answer.
 //!
 //! Proved: each decision is exactly the one that its contract states.
 //!

@@ -6,7 +6,8 @@ ghost use Rattle.maildir_calls.specs.Own.{IsFolder, IsOwn, IsSameOwn};
 use std::io;
 use std::io::ErrorKind;
 
-/// The mode of the files that are made. Mail is private: only its owner can read it, whatever the umask allows.
+/// The mode of the files that are made. Mail is private: only its owner can read it, whatever the
+/// umask allows.
 pub const FILE_MODE: u32 = 0o600;
 
 // The kind of file that `st_mode` has beside the mode: its bits, a regular file and a folder.
@@ -36,13 +37,15 @@ pub struct Facts {
     pub device: u64,
     /// Its number there.
     pub number: u64,
-    /// When it was last changed (ctime): seconds since 1970, or 0 where the file system keeps no such time.
+    /// When it was last changed (ctime): seconds since 1970, or 0 where the file system keeps no
+    /// such time.
     pub seconds: i64,
     /// The nanoseconds after these.
     pub nanos: i64,
 }
 
-/// Whether a folder was made that could not be: it was not, if a folder is there; else the error stays.
+/// Whether a folder was made that could not be: it was not, if a folder is there; else the error
+/// stays.
 pub fn there_already(error: io::Error, found: io::Result<Facts>) -> io::Result<bool>
     ensures there { IfOk found (λ facts. IsFolder facts → result ≡ Ok false) }
     ensures other { IfOk found (λ facts. ¬ IsFolder facts → result ≡ Err error) }
@@ -54,8 +57,9 @@ pub fn there_already(error: io::Error, found: io::Result<Facts>) -> io::Result<b
     }
 }
 
-/// Whether the converter may have made a file: it is a regular file with one name, it belongs to the owner of the folder, and
-/// nobody else may open it. If others could, one may have opened it already, and would read the message as it is written.
+/// Whether the converter may have made a file: it is a regular file with one name, it belongs to
+/// the owner of the folder, and nobody else may open it. If others could, one may have opened it
+/// already, and would read the message as it is written.
 ///
 /// Error: of the kind `Other`, if it may not have.
 pub fn check_own(found: &Facts, owner: u32) -> io::Result<()>
@@ -69,7 +73,8 @@ pub fn check_own(found: &Facts, owner: u32) -> io::Result<()>
     }
 }
 
-/// Whether the file that was opened is the one that was found and checked before, and still our own.
+/// Whether the file that was opened is the one that was found and checked before, and still our
+/// own.
 ///
 /// Error: of the kind `Other`, if it is not.
 pub fn check_same(opened: &Facts, found: &Facts) -> io::Result<()>

@@ -30,7 +30,8 @@ impl Paths {
 
     /// The path of its parent.
     pub fn parent(&self) -> Result<String, AllocError>
-        ensures { IfOk result (λ path. string_bytes path ≡ string_bytes self.now.root ++ codes "/..") }
+        ensures { IfOk result
+            (λ path. string_bytes path ≡ string_bytes self.now.root ++ codes "/..") }
     {
         let root = self.root.as_str();
         format!(in self.alloc; "{root}/..")
@@ -38,7 +39,8 @@ impl Paths {
 
     /// The path of one of the three folders.
     pub fn folder(&self, sub: Sub) -> Result<String, AllocError>
-        ensures { IfOk result (λ path. string_bytes path ≡ string_bytes self.now.root ++ 47 ∷ folder_name sub) }
+        ensures { IfOk result
+            (λ path. string_bytes path ≡ string_bytes self.now.root ++ 47 ∷ folder_name sub) }
     {
         let (root, sub) = (self.root.as_str(), sub.name());
         format!(in self.alloc; "{root}/{sub}")
@@ -46,7 +48,9 @@ impl Paths {
 
     /// The path of a file in one of the three folders.
     pub fn file(&self, sub: Sub, name: &str) -> Result<String, AllocError>
-        ensures { IfOk result (λ path. string_bytes path ≡ string_bytes self.now.root ++ 47 ∷ (folder_name sub ++ 47 ∷ name.now)) }
+        ensures { IfOk result
+            (λ path. string_bytes path ≡ string_bytes self.now.root ++ 47 ∷
+            (folder_name sub ++ 47 ∷ name.now)) }
     {
         let (root, sub) = (self.root.as_str(), sub.name());
         format!(in self.alloc; "{root}/{sub}/{name}")

@@ -1,5 +1,6 @@
 // The time of a change.
-ghost use Rattle.std.specs.Prelude.{◌≡◌, ◌+◌, ◌*◌, ◌↔◌, ◌<ℤ◌, ◌≤ℤ◌, pos, unsigned_abs, IfErr, IfSome, IsErr, IsSome};
+ghost use Rattle.std.specs.Prelude.{◌≡◌, ◌+◌, ◌*◌, ◌↔◌, ◌<ℤ◌, ◌≤ℤ◌, pos, unsigned_abs, IfErr};
+ghost use Rattle.std.specs.Prelude.{IfSome, IsErr, IsSome};
 ghost use Rattle.std.specs.IoError.{error_kind};
 ghost use Rattle.std.specs.Time.{FitsClock, system_time_nanos};
 ghost use Rattle.maildir_calls.specs.Stamps.{TellsTime};
@@ -14,7 +15,8 @@ use std::time::{Duration, SystemTime, UNIX_EPOCH};
 /// Error: of the kind `Other`, if the file system keeps no such time.
 pub fn time_of_change(found: &Facts) -> io::Result<SystemTime>
     ensures time { pos 1 ≤ℤ found.now.seconds → pos 0 ≤ℤ found.now.nanos →
-        TellsTime (unsigned_abs found.now.seconds * 1_000_000_000 + unsigned_abs found.now.nanos) result }
+        TellsTime (unsigned_abs found.now.seconds * 1_000_000_000 + unsigned_abs found.now.nanos)
+        result }
     ensures no_seconds { found.now.seconds <ℤ pos 1 → IsErr result }
     ensures no_nanos { found.now.nanos <ℤ pos 0 → IsErr result }
     ensures kind { IfErr result (λ error. error_kind error ≡ ErrorKind.Other) }
@@ -34,7 +36,8 @@ fn no_time() -> io::Error
 // The time this long after the beginning of 1970, if a clock shows it.
 fn time_of(seconds: u64, nanos: u64) -> Option<SystemTime>
     ensures variant { IsSome result ↔ FitsClock (seconds * 1_000_000_000 + nanos) }
-    ensures some { IfSome result (λ time. system_time_nanos time ≡ seconds * 1_000_000_000 + nanos) }
+    ensures some { IfSome result
+        (λ time. system_time_nanos time ≡ seconds * 1_000_000_000 + nanos) }
 {
     UNIX_EPOCH
         .checked_add(Duration::from_secs(seconds))?

@@ -4,7 +4,7 @@ use Rattle.std.proofs.Common.{OnOk, refl, sym, subst, inl, inr, arith}
 use Rattle.std.specs.FinMap.{empty, get-empty}
 use Rattle.std.proofs.lemmas.List.Sorted.{IsPermutation-trans}
 use Rattle.maildir_commands.proofs.Common.{All-contains, All-nil, AreAlike, AreAllSafe, AreAt, AreFit, AreIntact, Does, Fault, Files, HasBody, HeldMaildir}
-use Rattle.maildir_commands.proofs.Common.{IsIntact, IsMailbox, IsSafeIn, IsSoundFor, Mailbox, OthersStay, Ran, Request, Rests, Seen, SeenMachine, Stays}
+use Rattle.maildir_commands.proofs.Common.{IsIntact, IsMailbox, IsSafeIn, IsSoundFor, Mailbox, OthersStay, Ran, Request, Rests, SeenMachine, SeenProgram, Stays}
 use Rattle.maildir_commands.proofs.Common.{ToConvert, ToWrite, seen_at, AllSpared, Spared, is_spared, spared_named, All-take, AreReportsOf, Report, also}
 use Rattle.maildir_run.specs.Delivery.{Message, IsMissing, IsSoundAt, IsSwept}
 use Rattle.maildir_run.specs.Files.{name_cmp}
@@ -14,7 +14,7 @@ use Rattle.maildir_run.proofs.Chains.Chains.{chain_keeps, chain_parts}
 use Rattle.maildir_disk.proofs.Kept.CutChains.{moved_sound}
 use Rattle.maildir_disk.proofs.Left.LeftHomes.{SteadyAt, intact_on, none_in, steady_kept}
 use Rattle.maildir_disk.proofs.Left.SingleHomes.{single_home, single_sound}
-use Rattle.maildir_commands.specs.Commands.{Commanded, Command, PrintedSafely, Cut, Event, Happens, IsHistory, IsNewTo, IsToDeliver, LeftByPowerCut, Readers}
+use Rattle.maildir_commands.specs.Commands.{Commanded, Command, PrintedSafely, Cut, Episode, LeadsTo, IsHistory, IsNewTo, IsToDeliver, LeftByPowerCut, Readers}
 use Rattle.maildir_commands.specs.Program.{Done, Ending, Stopped, WrongWords, status_of}
 use Rattle.maildir_commands.proofs.Known.{swept_rests}
 use Rattle.maildir_commands.proofs.Resting.{rest_same}
@@ -166,10 +166,10 @@ module _ (spared : Spared) {M : Type 0} (seen : M → SeenMachine)
   module _ (fit : AreFit texts) where
     module _ {words : List (List ℕ)} {named : List Mailbox} {status : ℕ} {old new : M}
         (ran : Commanded spared seen maildir texts words named status old new) (well : IsWell old) where
-      abbrev was : Seen
+      abbrev was : SeenProgram
       was = seen_at (seen old) ran.was
 
-      abbrev is : Seen
+      abbrev is : SeenProgram
       is = seen_at (seen new) ran.is
 
       none_due : named ≡ [] → IsDone named new
@@ -250,45 +250,45 @@ module _ (spared : Spared) {M : Type 0} (seen : M → SeenMachine)
           failing asks.0 (did.does asks.0 asks.1) (ran.delivers asks.0 asks.1)
       failed WrongWords ends wrong = absurd (omega (arith, ends))
 
-    -- ---- any events
-    goes_event : (event : Event) (old new : M) → IsWell old → Happens spared seen maildir texts event old new
+    -- ---- any episodes
+    goes_episode : (episode : Episode) (old new : M) → IsWell old → LeadsTo spared seen maildir texts episode old new
         → Goes spared texts (at old) (at new) × (seen new).honest spared
-    goes_event (Command words named status) old new well ran =
+    goes_episode (Command words named status) old new well ran =
         let all = commanded ran well in
         (all.0, all.1)
-    goes_event Readers old new well (rests, honest) = (goes_resting fit well.1 rests, honest well.0)
-    goes_event Cut old new well (cut, honest) = (goes_cut fit well.1 cut, honest)
+    goes_episode Readers old new well (rests, honest) = (goes_resting fit well.1 rests, honest well.0)
+    goes_episode Cut old new well (cut, honest) = (goes_cut fit well.1 cut, honest)
 
-    well_after : (event : Event) (old new : M) → IsWell old → Happens spared seen maildir texts event old new → IsWell new
-    well_after event old new well happens =
-        let goes = goes_event event old new well happens in
+    well_after : (episode : Episode) (old new : M) → IsWell old → LeadsTo spared seen maildir texts episode old new → IsWell new
+    well_after episode old new well happens =
+        let goes = goes_episode episode old new well happens in
         (goes.1, goes.0.sound)
 
-    well_through : (events : List Event) (old new : M) → IsWell old → IsHistory spared seen maildir texts events old new → IsWell new
-    well_through = chain_keeps (Happens spared seen maildir texts) IsWell well_after
+    well_through : (episodes : List Episode) (old new : M) → IsWell old → IsHistory spared seen maildir texts episodes old new → IsWell new
+    well_through = chain_keeps (LeadsTo spared seen maildir texts) IsWell well_after
 
-    safe_through : (named : List Mailbox) → All (Contains texts) named → (events : List Event) (old new : M) → IsWell old × AreAllSafe spared named (at old)
-        → IsHistory spared seen maildir texts events old new → IsWell new × AreAllSafe spared named (at new)
-    safe_through named among = chain_keeps (Happens spared seen maildir texts) (λ m. IsWell m × AreAllSafe spared named (at m)) (λ event a b is happens. (
-      well_after event a b is.0 happens,
-      λ k d below. (goes_event event a b is.0 happens).0.safe (get_or named k d) (among k d below) (is.1 k d below),
+    safe_through : (named : List Mailbox) → All (Contains texts) named → (episodes : List Episode) (old new : M) → IsWell old × AreAllSafe spared named (at old)
+        → IsHistory spared seen maildir texts episodes old new → IsWell new × AreAllSafe spared named (at new)
+    safe_through named among = chain_keeps (LeadsTo spared seen maildir texts) (λ m. IsWell m × AreAllSafe spared named (at m)) (λ episode a b is happens. (
+      well_after episode a b is.0 happens,
+      λ k d below. (goes_episode episode a b is.0 happens).0.safe (get_or named k d) (among k d below) (is.1 k d below),
     ))
 
   -- ---- a Maildir that is sound at first
   module _ (old new : M) (h : (seen old).honest spared) (fit : AreFit texts) (sound : IsSoundFor spared texts (at old)) where
-    pub sound_through : (events : List Event) → IsHistory spared seen maildir texts events old new → IsSoundFor spared texts (at new)
-    sound_through events come = (well_through fit events old new (h, sound) come).1
+    pub sound_through : (episodes : List Episode) → IsHistory spared seen maildir texts episodes old new → IsSoundFor spared texts (at new)
+    sound_through episodes come = (well_through fit episodes old new (h, sound) come).1
 
-    pub safe_since : (named : List Mailbox) (words : List (List ℕ)) (before rest : List Event)
+    pub safe_since : (named : List Mailbox) (words : List (List ℕ)) (before rest : List Episode)
         → IsHistory spared seen maildir texts (before ++ (Command words named 0 ∷ rest)) old new → AreAllSafe spared named (at new)
     safe_since named words before rest come =
-        let parts = chain_parts (Happens spared seen maildir texts) before (Command words named 0 ∷ rest) old new come in
+        let parts = chain_parts (LeadsTo spared seen maildir texts) before (Command words named 0 ∷ rest) old new come in
         let still = well_through fit before old parts.0 (h, sound) parts.1 in
         let all = commanded fit parts.2.1 still in
         let done = all.2 refl in
         (safe_through fit named done.0 rest parts.2.0 new ((all.1, all.0.sound), done.1) parts.2.2).1
 
-    pub printed_since : (named : List Mailbox) (words : List (List ℕ)) (before rest : List Event) (mid next : M)
+    pub printed_since : (named : List Mailbox) (words : List (List ℕ)) (before rest : List Episode) (mid next : M)
         → IsHistory spared seen maildir texts before old mid → (ran : Commanded spared seen maildir texts words named 1 mid next)
         → IsHistory spared seen maildir texts rest next new → 0 < length named → PrintedSafely spared named ran.was.output ran.is.output (at new)
     printed_since named words before rest mid next come ran more some =
@@ -303,9 +303,9 @@ module _ (spared : Spared) {M : Type 0} (seen : M → SeenMachine)
               ((all.1, all.0.sound), now.1.safe) more).1;
         }
 
-    pub swept_at : (named : List Mailbox) (words : List (List ℕ)) (before : List Event)
+    pub swept_at : (named : List Mailbox) (words : List (List ℕ)) (before : List Episode)
         → IsHistory spared seen maildir texts (before ++ (Command words named 0 ∷ [])) old new → 0 < length named → IsSwept spared (at new).files
     swept_at named words before come =
-        let parts = chain_parts (Happens spared seen maildir texts) before (Command words named 0 ∷ []) old new come in
+        let parts = chain_parts (LeadsTo spared seen maildir texts) before (Command words named 0 ∷ []) old new come in
         let still = well_through fit before old parts.0 (h, sound) parts.1 in
         subst (λ m. 0 < length named → IsSwept spared (at m).files) (sym parts.2.2) ((commanded fit parts.2.1 still).2 refl).2

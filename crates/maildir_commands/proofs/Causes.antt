@@ -3,7 +3,7 @@ use Rattle.std.proofs.Common.{◌≡◌, ℕ, ◌≤◌, ◌⊎◌, ◌^◌, Lis
 use Rattle.std.proofs.Common.{Some, None, Err, refl, sym, ap, subst, inl, inr, arith}
 use Rattle.maildir_commands.proofs.Common.{Bytes, Contains, Fault, Folder, Form, GivesNothing, IsCauseOf, IsFailedCall, IsNoMbox, IsOfDelivery, IsOfFiles}
 use Rattle.maildir_commands.proofs.Common.{IsOfOne, IsOfRun, IsPossibly, IsReading, IsTooLong, Locked, OpenFault, Possible, ReadsAtLeast, ReadsAtMost}
-use Rattle.maildir_commands.proofs.Common.{Report, Run, RunFault, Seen, SeenMachine, Source, ToConvert, ToWrite, fault_of_opening, length-append}
+use Rattle.maildir_commands.proofs.Common.{Report, Run, RunFault, SeenMachine, SeenProgram, Source, ToConvert, ToWrite, fault_of_opening, length-append}
 use Rattle.maildir_run.specs.declared.fault.RunFault.TheVariants as run
 use Rattle.maildir_run.specs.declared.folder.FolderFault.TheVariants as folder
 use Rattle.maildir_run.specs.Counting.{CallNumber, GoesUpWith}
@@ -114,14 +114,14 @@ of_output before after is = subst (IsOfDelivery before after) (sym is) tt
 
 -- ---- a conversion
 module _ (maildir : List ℕ) where
-  pub of_files : (file : List ℕ) (files : List (List ℕ)) (old : Seen) (after : Bytes) (fault : Fault)
+  pub of_files : (file : List ℕ) (files : List (List ℕ)) (old : SeenProgram) (after : Bytes) (fault : Fault)
       → IsOfFiles old.machine (file ∷ files) fault → IsCauseOf (ToConvert maildir (file ∷ files)) old after fault
   of_files file files old after Source is = is
   of_files file files old after Folder is = absurd is
   of_files file files old after Locked is = absurd is
   of_files file files old after (Run fault) is = is
 
-  pub of_input : (old : Seen) (after : Bytes) (fault : Fault) → IsOfDelivery old.input after fault
+  pub of_input : (old : SeenProgram) (after : Bytes) (fault : Fault) → IsOfDelivery old.input after fault
       → IsCauseOf (ToConvert maildir []) old after fault
   of_input old after Source is = absurd is
   of_input old after Folder is = absurd is
@@ -129,7 +129,7 @@ module _ (maildir : List ℕ) where
   of_input old after (Run fault) is = is
 
   -- the Maildir was not opened
-  pub of_maildir : (files : List (List ℕ)) (old : Seen) (after : Bytes) (reason : OpenFault)
+  pub of_maildir : (files : List (List ℕ)) (old : SeenProgram) (after : Bytes) (reason : OpenFault)
       → old.machine.refuses_maildir maildir reason → IsCauseOf (ToConvert maildir files) old after (fault_of_opening reason)
   of_maildir files old after opening.Locked refused = (opening.Locked, refl, refused)
   of_maildir files old after (opening.Folder folder.OutOfMemory) refused = tt
@@ -137,7 +137,7 @@ module _ (maildir : List ℕ) where
   of_maildir files old after (opening.Folder folder.Failed) refused = (opening.Folder folder.Failed, refl, refused)
 
 -- ---- a text that is written
-module _ (form : Form) (old : Seen) (after : Bytes) where
+module _ (form : Form) (old : SeenProgram) (after : Bytes) where
   -- from standard input
   pub of_read_input : (fault : RunFault) → IsOfRun (IsPossibly old.input after) ⊥ fault → IsCauseOf (ToWrite form None) old after (Run fault)
   of_read_input fault is = is

@@ -1,7 +1,8 @@
 -- What is owed for a request, as the work goes on.
 use Rattle.std.proofs.Common.{◌≡◌, ◌⊎◌, ◌*◌, ◌^◌, ℕ, List, [], Option, Some, None, Result, Ok, Err, IsErrAnd, OnErr, OnOk, IfErr, refl, sym, ap, subst}
 use Rattle.maildir_commands.proofs.Common.{AreAllSafe, AskFor, Bytes, Delivers, Did, Does, Fault, Form, HeldMaildir, IfErr-weaker, IsCauseOf, IsKnown, Spared}
-use Rattle.maildir_commands.proofs.Common.{Mailbox, MayHaveHad, OpensSources, Possible, PrintsEach, ReadsAtMost, Request, Run, RunFault, Seen, SeenMachine}
+use Rattle.maildir_commands.proofs.Common.{Mailbox, MayHaveHad, OpensSources, Possible, PrintsEach}
+use Rattle.maildir_commands.proofs.Common.{ReadsAtMost, Request, Run, RunFault, SeenMachine, SeenProgram}
 use Rattle.maildir_commands.proofs.Common.{Source, ToConvert, ToWrite, Works, WritesAll, WritesMessages, files_of, output_of, seen_with, source_of}
 use denote.Ref.{Bor}
 use Rattle.std.specs.Io.KnownBytes.{Keeps}
@@ -16,26 +17,26 @@ use Rattle.maildir_commands.proofs.Resting.{opens_none}
 use Rattle.maildir_commands.proofs.Several.{both_of, possible_whole}
 
 -- where `?` answered this fault
-pub ended : {request : Request} {old new : Seen} (answer : Result Unit Fault) {fault : Fault} → IsErrAnd answer (λ given. given ≡ fault)
+pub ended : {request : Request} {old new : SeenProgram} (answer : Result Unit Fault) {fault : Fault} → IsErrAnd answer (λ given. given ≡ fault)
     → Does request (Err fault) old new → Does request answer old new
 ended (Ok x) is does = absurd is
 ended {request} {old} {new} (Err e) is does = subst (λ fault. Does request (Err fault) old new) (sym is) does
 
 -- of the file that is named, or of none
-pub asked_as : {form : Form} {file this : Option (Bor (List ℕ))} {answer : Result Unit Fault} {old new : Seen}
+pub asked_as : {form : Form} {file this : Option (Bor (List ℕ))} {answer : Result Unit Fault} {old new : SeenProgram}
     → file ≡ this → Does (ToWrite form (name_of this)) answer old new → Does (ToWrite form (name_of file)) answer old new
 asked_as {form} {answer = answer} {old} {new} is = subst (λ file. Does (ToWrite form (name_of file)) answer old new) (sym is)
 
-pub named_as : {maildir : List ℕ} {names these : List (List ℕ)} {answer : Result Unit Fault} {old new : Seen}
+pub named_as : {maildir : List ℕ} {names these : List (List ℕ)} {answer : Result Unit Fault} {old new : SeenProgram}
     → names ≡ these → Does (ToConvert maildir these) answer old new → Does (ToConvert maildir names) answer old new
 named_as {maildir} {names} {these} {answer} {old} {new} is = subst (λ files. Does (ToConvert maildir files) answer old new) (sym is)
 
-pub of_command : {command this : Command} {answer : Result Unit Fault} {old new : Seen}
+pub of_command : {command this : Command} {answer : Result Unit Fault} {old new : SeenProgram}
     → command ≡ this → Does (request this) answer old new → Does (request command) answer old new
 of_command {answer} {old} {new} is = subst (λ command. Does (request command) answer old new) (sym is)
 
 -- the words ask for nothing else
-pub did_all : {words : List (List ℕ)} {request : Request} {answer : Result Unit Fault} {old new : Seen} → AskFor words request
+pub did_all : {words : List (List ℕ)} {request : Request} {answer : Result Unit Fault} {old new : SeenProgram} → AskFor words request
     → Does request answer old new → Did words answer old new
 did_all {words} {request} {answer} {old} {new} asks does = record {
   form = (request, asks);
@@ -158,7 +159,7 @@ delivers_both {spared} answer handed {given} {kept} keeps {texts} {maildir} {now
   sound = did.sound;
 }
 
-module _ (old : Seen) (machine : SeenMachine) (input given kept : Bytes) (keeps : Keeps given kept) (answer handed : Result Unit Fault) where
+module _ (old : SeenProgram) (machine : SeenMachine) (input given kept : Bytes) (keeps : Keeps given kept) (answer handed : Result Unit Fault) where
   works_both : (request : Request) → Works request answer old (seen_with machine input given)
       → Works request (result_and answer handed) old (seen_with machine input kept)
   works_both (ToWrite form file) did = record {

@@ -12,7 +12,7 @@ use Rattle.maildir_disk.specs.declared.faults.OpenFault.{OpenFault}
 use Rattle.maildir_commands.specs.declared.fault.Fault.{Fault}
 use Rattle.maildir_commands.specs.declared.fault.Fault.TheVariants.{Source, Folder, Locked, Run}
 use Rattle.maildir_commands.specs.Faults.{fault_of_opening}
-use Rattle.maildir_commands.specs.Seen.{Seen}
+use Rattle.maildir_commands.specs.Seen.{SeenProgram}
 use Rattle.maildir_commands.specs.Words.{Request, files_of}
 use Rattle.maildir_commands.specs.Words.Request.{ToWrite, ToConvert}
 
@@ -61,7 +61,7 @@ IsToldAs refuses fault = (reason : OpenFault) × (fault ≡ fault_of_opening rea
 
 -- What is so where a request ended with this fault, and left this of standard input: a file that is named may be refused, or the Maildir; a text is no mbox
 -- text, or too long; folder calls are made. Of reads and writes that fail, and want of memory, nothing is known.
-abbrev pub IsCauseOf : Request → Seen → Option (List ℕ) → Fault → Type 0
+abbrev pub IsCauseOf : Request → SeenProgram → Option (List ℕ) → Fault → Type 0
 IsCauseOf request old after Source = (name : List ℕ) × Contains (files_of request) name × old.machine.refuses_source name
 IsCauseOf request old after Folder = IsInto request (λ maildir. IsToldAs (old.machine.refuses_maildir maildir) Folder)
 IsCauseOf request old after Locked = IsInto request (λ maildir. IsToldAs (old.machine.refuses_maildir maildir) Locked)

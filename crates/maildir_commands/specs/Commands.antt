@@ -12,7 +12,7 @@ use Rattle.maildir_disk.specs.PowerCuts.{IsSingle}
 use Rattle.maildir_commands.specs.Machines.{AreAllSafe, GivesTexts, HeldMaildir, Rests}
 use Rattle.maildir_commands.specs.Program.{RanOn}
 use Rattle.maildir_commands.specs.Report.{report_line}
-use Rattle.maildir_commands.specs.Seen.{Seen, SeenMachine, Streams, seen_at}
+use Rattle.maildir_commands.specs.Seen.{SeenMachine, SeenProgram, Streams, seen_at}
 use Rattle.maildir_commands.specs.Words.{AskFor, Request}
 use Rattle.maildir_commands.specs.Words.Request.{ToWrite, ToConvert}
 
@@ -22,16 +22,16 @@ pub record IsNewTo (spared : Spared) (texts : List Mailbox) (maildir : HeldMaild
   pub none_left : (left : Files) → maildir.may_leave left → OfEachSpared spared (IsMissing left) texts
 
 -- what happens to a Maildir
-pub data Event : Type 0 where
+pub data Episode : Type 0 where
   -- a command with these words, which is to deliver these texts into it, ended with this status
-  Command : (words : List (List ℕ)) → (named : List Mailbox) → (status : ℕ) → Event
+  Command : (words : List (List ℕ)) → (named : List Mailbox) → (status : ℕ) → Episode
   -- other programs acted, or none did
-  Readers : Event
+  Readers : Episode
   -- the power was cut
-  Cut : Event
+  Cut : Episode
 
 -- what a request is to deliver into a Maildir: some of the texts, in order, where it is a conversion into it, and nothing where it is another, or none
-abbrev pub IsToDeliver : List ℕ → List Mailbox → List Mailbox → Seen → Option (List ℕ) → Request → Type 0
+abbrev pub IsToDeliver : List ℕ → List Mailbox → List Mailbox → SeenProgram → Option (List ℕ) → Request → Type 0
 IsToDeliver maildir texts named old left (ToWrite form file) = named ≡ []
 IsToDeliver maildir texts named old left (ToConvert into files) =
     (old.machine.same into maildir × All (Contains texts) named × GivesTexts old.machine.text_of old.input left files named)
@@ -59,12 +59,12 @@ pub record LeftByPowerCut (spared : Spared) (old new : HeldMaildir) : Type 0 whe
   pub stays : (later : Files) → new.may_leave later → KeepsHomes spared new.files later
   pub still_rooted : old.rooted → new.rooted
 
--- an event leads from one moment of a machine to another
-abbrev pub Happens : {M : Type 0} → Spared → (M → SeenMachine) → List ℕ → List Mailbox → Event → M → M → Type 0
-Happens spared at maildir texts (Command words named status) old new = Commanded spared at maildir texts words named status old new
-Happens spared at maildir texts Readers old new =
+-- an episode leads from one moment of a machine to another
+abbrev pub LeadsTo : {M : Type 0} → Spared → (M → SeenMachine) → List ℕ → List Mailbox → Episode → M → M → Type 0
+LeadsTo spared at maildir texts (Command words named status) old new = Commanded spared at maildir texts words named status old new
+LeadsTo spared at maildir texts Readers old new =
     Rests spared ((at old).maildir_at maildir) ((at new).maildir_at maildir) × ((at old).honest spared → (at new).honest spared)
-Happens spared at maildir texts Cut old new = LeftByPowerCut spared ((at old).maildir_at maildir) ((at new).maildir_at maildir) × (at new).honest spared
+LeadsTo spared at maildir texts Cut old new = LeftByPowerCut spared ((at old).maildir_at maildir) ((at new).maildir_at maildir) × (at new).honest spared
 
 -- What was written is a prefix of the lines of as many reports as there are first texts, and each of these is delivered in the Maildir, and
 -- survives a power cut.
@@ -73,6 +73,6 @@ pub record PrintedSafely (spared : Spared) (named : List Mailbox) (was is : Opti
   pub lines : AppendsPrefix was is (flat_map report_line reports)
   pub safe : AreAllSafe spared (take (length reports) named) maildir
 
--- any sequence of events
-abbrev pub IsHistory : {M : Type 0} → Spared → (M → SeenMachine) → List ℕ → List Mailbox → List Event → M → M → Type 0
-IsHistory spared at maildir texts = Chain (Happens spared at maildir texts)
+-- any sequence of episodes
+abbrev pub IsHistory : {M : Type 0} → Spared → (M → SeenMachine) → List ℕ → List Mailbox → List Episode → M → M → Type 0
+IsHistory spared at maildir texts = Chain (LeadsTo spared at maildir texts)

@@ -19,28 +19,28 @@ use Rattle.maildir_commands.specs.Faults.{fault_text, told}
 use Rattle.maildir_commands.specs.Machines.{AreAllSafe, AreFit, GivesTexts, HeldMaildir, IsSoundFor, OthersStay, Rests}
 use Rattle.maildir_commands.specs.Output.{WritesAll, WritesPrefix, output_of}
 use Rattle.maildir_commands.specs.Report.{PrintsEach, PrintsReports, PrintsSome}
-use Rattle.maildir_commands.specs.Seen.{Seen, SeenMachine, Streams, seen_at}
+use Rattle.maildir_commands.specs.Seen.{SeenMachine, SeenProgram, Streams, seen_at}
 use Rattle.maildir_commands.specs.Words.{AreOfAForm, AskFor, Request, files_of}
 use Rattle.maildir_commands.specs.Words.Request.{ToWrite, ToConvert}
 use Rattle.maildir_run.specs.Files.{Spared}
 
 -- ---- `rewrite` and `list`
 -- a file has the text that the machine says, where that does as assumed; standard input has what is left of it
-abbrev pub IsKnown : Spared → Option (List ℕ) → Seen → Type 0
+abbrev pub IsKnown : Spared → Option (List ℕ) → SeenProgram → Type 0
 IsKnown spared None old = Unit {0}
 IsKnown spared (Some file) old = old.machine.honest spared
 
-abbrev pub source_of : Option (List ℕ) → Seen → Option (List ℕ)
+abbrev pub source_of : Option (List ℕ) → SeenProgram → Option (List ℕ)
 source_of None old = old.input
 source_of (Some file) old = Some (old.machine.text_of file)
 
 -- the text that the source had, or one that standard input may have had, where this is left of it
-abbrev pub MayHaveHad : Option (List ℕ) → Seen → Option (List ℕ) → List ℕ → Type 0
+abbrev pub MayHaveHad : Option (List ℕ) → SeenProgram → Option (List ℕ) → List ℕ → Type 0
 MayHaveHad None old after t = Possible old.input after t
 MayHaveHad (Some file) old after t = t ≡ old.machine.text_of file
 
 -- What belongs to the messages of a source's text was written, all of it or a prefix, and no Maildir was touched.
-pub record WritesOut (output : List Entry → List ℕ) (file : Option (List ℕ)) (answer : Result Unit Fault) (old new : Seen) : Type 0 where
+pub record WritesOut (output : List Entry → List ℕ) (file : Option (List ℕ)) (answer : Result Unit Fault) (old new : SeenProgram) : Type 0 where
   -- with Ok all of it
   pub all : (spared : Spared) → IsKnown spared file old → OnOk answer (WritesAll output (source_of file old) old.output new.output)
   -- in any case a prefix
@@ -67,7 +67,7 @@ pub record Delivers {A E : Type 0} (spared : Spared) (answer : Result A E) (text
   pub sound : IsSoundFor spared texts new
 
 -- The messages of the files, or of standard input where none is named, were delivered into a Maildir.
-pub record DeliversInto (maildir : List ℕ) (files : List (List ℕ)) (answer : Result Unit Fault) (old new : Seen) : Type 0 where
+pub record DeliversInto (maildir : List ℕ) (files : List (List ℕ)) (answer : Result Unit Fault) (old new : SeenProgram) : Type 0 where
   -- with Ok a line was written for each source
   pub printed : OnOk answer (PrintsReports old.output new.output (max 1 (length files)))
   -- texts that can go into the Maildir, which is sound for them
@@ -87,12 +87,12 @@ pub record DeliversInto (maildir : List ℕ) (files : List (List ℕ)) (answer :
 
 -- ---- the program
 -- what is owed for each request
-abbrev pub Works : Request → Result Unit Fault → Seen → Seen → Type 0
+abbrev pub Works : Request → Result Unit Fault → SeenProgram → SeenProgram → Type 0
 Works (ToWrite form file) = WritesOut (output_of form) file
 Works (ToConvert maildir files) = DeliversInto maildir files
 
 -- What was asked for was done, or ended with a fault.
-pub record Does (request : Request) (answer : Result Unit Fault) (old new : Seen) : Type 0 where
+pub record Does (request : Request) (answer : Result Unit Fault) (old new : SeenProgram) : Type 0 where
   pub works : Works request answer old new
   -- a fault has its cause
   pub cause : (spared : Spared) → old.machine.honest spared → IfErr answer (IsCauseOf request old new.input)
@@ -104,7 +104,7 @@ pub record Does (request : Request) (answer : Result Unit Fault) (old new : Seen
   pub honest : (spared : Spared) → old.machine.honest spared → OnOk answer (new.machine.honest spared)
 
 -- The words are of a form, and whatever they ask for was done, or ended with a fault.
-pub record Did (words : List (List ℕ)) (answer : Result Unit Fault) (old new : Seen) : Type 0 where
+pub record Did (words : List (List ℕ)) (answer : Result Unit Fault) (old new : SeenProgram) : Type 0 where
   pub form : AreOfAForm words
   pub does : (request : Request) → AskFor words request → Does request answer old new
 
@@ -126,7 +126,7 @@ status_of WrongWords = 2
 
 -- A run of the program with these words ended so. `was` and `is` are what had been written to standard error, before it and after it: nothing
 -- where all was done; else one line, that of the fault which ended the work or for wrong words, or a prefix of it where the writer failed.
-abbrev pub Ran : List (List ℕ) → Ending → Seen → Seen → Option (List ℕ) → Option (List ℕ) → Type 0
+abbrev pub Ran : List (List ℕ) → Ending → SeenProgram → SeenProgram → Option (List ℕ) → Option (List ℕ) → Type 0
 Ran words Done old new was is = Did words (Ok tt) old new × Keeps was is
 Ran words (Stopped fault) old new was is = Did words (Err fault) old new × Tells (told (fault_text fault)) was is
 Ran words WrongWords old new was is = ¬ AreOfAForm words × Tells (told (codes "wrong words")) was is

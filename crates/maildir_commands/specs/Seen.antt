@@ -49,13 +49,13 @@ opened f s = record {
 }
 
 -- what is seen of a machine, and of what is left of standard input and was written to standard output, where these are known
-pub record Seen : Type 1 where
+pub record SeenProgram : Type 1 where
   pub machine : SeenMachine
   pub input : Option (List ℕ)
   pub output : Option (List ℕ)
 
 -- these together
-abbrev pub seen_with : SeenMachine → Option (List ℕ) → Option (List ℕ) → Seen
+abbrev pub seen_with : SeenMachine → Option (List ℕ) → Option (List ℕ) → SeenProgram
 seen_with machine input output = record { machine = machine; input = input; output = output }
 
 -- what is left of standard input, and what was written to standard output and standard error, where these are known
@@ -69,5 +69,5 @@ abbrev pub streams : Option (List ℕ) → Option (List ℕ) → Option (List �
 streams input output errors = record { input = input; output = output; errors = errors }
 
 -- what is seen of a machine, together with the program's streams
-abbrev pub seen_at : SeenMachine → Streams → Seen
+abbrev pub seen_at : SeenMachine → Streams → SeenProgram
 seen_at machine these = seen_with machine these.input these.output

@@ -22,7 +22,8 @@ pub enum Command<'a> {
 }
 
 impl<'a> Command<'a> {
-    /// The command of these words, which are compared as they stand; `None` where they are of no form.
+    /// The command of these words, which are compared as they stand; `None` where they are of no
+    /// form.
     pub fn of(words: &'a [String]) -> Option<Command<'a>>
         ensures { let these = map string_bytes words.now in
             MatchOption result (¬ AreOfAForm these) (λ command. AskFor these (request command)) }

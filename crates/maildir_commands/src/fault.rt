@@ -59,7 +59,8 @@ impl From<OpenFault> for Fault {
 impl Fault {
     /// The fault of a source that could not be opened.
     pub fn of_source(error: &io::Error) -> Fault
-        ensures allocation { IsFailedAllocation error.now → result ≡ Fault.Run RunFault.OutOfMemory }
+        ensures allocation { IsFailedAllocation error.now →
+            result ≡ Fault.Run RunFault.OutOfMemory }
         ensures others { ¬ IsFailedAllocation error.now → result ≡ Fault.Source }
     {
         if is_failed_allocation(error) {
@@ -70,7 +71,8 @@ impl Fault {
 
     /// The fault of a folder that could not be synced, after a run that made this many calls of it.
     pub fn of_sync(fault: FolderFault, calls: u64) -> Fault
-        ensures { result ≡ fault_or fault (Fault.Run (RunFault.FolderFailed (min (calls + 1) (2 ^ 64 - 1)))) }
+        ensures { result ≡ fault_or fault
+            (Fault.Run (RunFault.FolderFailed (min (calls + 1) (2 ^ 64 - 1)))) }
     {
         match fault {
             FolderFault::OutOfMemory => Fault::Run(RunFault::OutOfMemory),

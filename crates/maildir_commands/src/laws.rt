@@ -1,41 +1,55 @@
-//! Laws over the contracts of the program alone. Each function's contract is a law; its body is empty.
+//! Laws over the contracts of the program alone. Each function's contract is a law; its body is
+//! empty.
 ghost use Rattle.std.specs.Prelude.{ℕ, ◌<◌, List, [], ◌∷◌, ◌++◌, length};
 ghost use Rattle.maildir_run.specs.Delivery.{IsSwept};
 ghost use Rattle.maildir_run.specs.Files.{Spared};
 ghost use Rattle.maildir_run.specs.Several.{Mailbox};
-ghost use Rattle.maildir_commands.specs.Commands.{Commanded, Event, IsHistory, IsNewTo, PrintedSafely};
-ghost use Rattle.maildir_commands.specs.Commands.Event.{Command};
+ghost use Rattle.maildir_commands.specs.Commands.{Commanded, Episode, IsHistory, IsNewTo};
+ghost use Rattle.maildir_commands.specs.Commands.{PrintedSafely};
+ghost use Rattle.maildir_commands.specs.Commands.Episode.{Command};
 ghost use Rattle.maildir_commands.specs.Machines.{AreAllSafe, AreFit, IsSoundFor};
 
 use crate::machine::Machine;
 
-/// Whatever commands follow one another, with any words and any answers, killed at any moment or not, with other programs
-/// and power cuts between them: a Maildir that is sound for the texts, as one is that has none of their messages, stays
-/// sound for all of them, so that the same words may be given again. Once a command that was to deliver some of the texts
-/// answered 0, each message of each of them is in exactly one file of `new` or `cur`, with exactly its bytes, and stays so
-/// through all that follows; and right after it no file of the converter is left in `tmp`. Where a command ended with a
-/// fault, so it is with each of its texts whose line it had begun to print. All of this is said of the messages whose bases
-/// other programs spare, whatever they do to all others.
+/// Whatever commands follow one another, with any words and any answers, killed at any moment or
+/// not, with other programs and power cuts between them: a Maildir that is sound for the texts, as
+/// one is that has none of their messages, stays sound for all of them, so that the same words may
+/// be given again. Once a command that was to deliver some of the texts answered 0, each message of
+/// each of them is in exactly one file of `new` or `cur`, with exactly its bytes, and stays so
+/// through all that follows; and right after it no file of the converter is left in `tmp`. Where a
+/// command ended with a fault, so it is with each of its texts whose line it had begun to print.
+/// All of this is said of the messages whose bases other programs spare, whatever they do to all
+/// others.
 pub fn after_any_commands<M: Machine>()
     ensures begins { (spared : Spared) (maildir : List ℕ) (texts : List Mailbox) (old : M) →
-        IsNewTo spared texts ((M.at old).maildir_at maildir) → IsSoundFor spared texts ((M.at old).maildir_at maildir) }
-    ensures sound { (spared : Spared) (maildir : List ℕ) (texts : List Mailbox) (events : List Event) (old new : M) →
-        (M.at old).honest spared → AreFit texts → IsSoundFor spared texts ((M.at old).maildir_at maildir) →
-        IsHistory spared M.at maildir texts events old new →
+        IsNewTo spared texts ((M.at old).maildir_at maildir) →
+        IsSoundFor spared texts ((M.at old).maildir_at maildir) }
+    ensures sound { (spared : Spared) (maildir : List ℕ) (texts : List Mailbox)
+        (episodes : List Episode) (old new : M) →
+        (M.at old).honest spared → AreFit texts →
+        IsSoundFor spared texts ((M.at old).maildir_at maildir) →
+        IsHistory spared M.at maildir texts episodes old new →
         IsSoundFor spared texts ((M.at new).maildir_at maildir) }
-    ensures safe { (spared : Spared) (maildir : List ℕ) (texts named : List Mailbox) (words : List (List ℕ)) (before rest : List Event)
+    ensures safe { (spared : Spared) (maildir : List ℕ) (texts named : List Mailbox)
+        (words : List (List ℕ)) (before rest : List Episode)
         (old new : M) →
-        (M.at old).honest spared → AreFit texts → IsSoundFor spared texts ((M.at old).maildir_at maildir) →
+        (M.at old).honest spared → AreFit texts →
+        IsSoundFor spared texts ((M.at old).maildir_at maildir) →
         IsHistory spared M.at maildir texts (before ++ (Command words named 0 ∷ rest)) old new →
         AreAllSafe spared named ((M.at new).maildir_at maildir) }
-    ensures swept { (spared : Spared) (maildir : List ℕ) (texts named : List Mailbox) (words : List (List ℕ)) (before : List Event)
+    ensures swept { (spared : Spared) (maildir : List ℕ) (texts named : List Mailbox)
+        (words : List (List ℕ)) (before : List Episode)
         (old new : M) →
-        (M.at old).honest spared → AreFit texts → IsSoundFor spared texts ((M.at old).maildir_at maildir) →
-        IsHistory spared M.at maildir texts (before ++ (Command words named 0 ∷ [])) old new → 0 < length named →
+        (M.at old).honest spared → AreFit texts →
+        IsSoundFor spared texts ((M.at old).maildir_at maildir) →
+        IsHistory spared M.at maildir texts (before ++ (Command words named 0 ∷ [])) old new →
+        0 < length named →
         IsSwept spared ((M.at new).maildir_at maildir).files }
-    ensures printed { (spared : Spared) (maildir : List ℕ) (texts named : List Mailbox) (words : List (List ℕ)) (before rest : List Event)
+    ensures printed { (spared : Spared) (maildir : List ℕ) (texts named : List Mailbox)
+        (words : List (List ℕ)) (before rest : List Episode)
         (old mid next new : M) →
-        (M.at old).honest spared → AreFit texts → IsSoundFor spared texts ((M.at old).maildir_at maildir) →
+        (M.at old).honest spared → AreFit texts →
+        IsSoundFor spared texts ((M.at old).maildir_at maildir) →
         IsHistory spared M.at maildir texts before old mid →
         (ran : Commanded spared M.at maildir texts words named 1 mid next) →
         IsHistory spared M.at maildir texts rest next new → 0 < length named →

@@ -10,8 +10,8 @@ use maildir_disk::{OpenFault, System};
 use std::io;
 use std::io::Read;
 
-/// A machine: it opens sources and Maildirs by the words that name them. Other programs may act on a Maildir before,
-/// within and after each call.
+/// A machine: it opens sources and Maildirs by the words that name them. Other programs may act on
+/// a Maildir before, within and after each call.
 pub trait Machine {
     /// A source that is open.
     type Source: Read + Drop;
@@ -24,26 +24,34 @@ pub trait Machine {
 
     /// Opens a source. An allocation that failed is no refusal.
     fn open_source(&mut self, path: &str) -> io::Result<Self::Source>
-        ensures { OpensSource Self.Source.remaining (λ error. ¬ IsFailedAllocation error) path.now result (at self.old) (at self.new) };
+        ensures { OpensSource Self.Source.remaining
+            (λ error. ¬ IsFailedAllocation error) path.now result (at self.old) (at self.new) };
 
     /// Opens a Maildir, which is made where it is missing.
     fn open_maildir(&mut self, path: &str) -> Result<Self::Maildir, OpenFault>
-        ensures { OpensMaildir (opened Self.Maildir.System) path.now result (at self.old) (at self.new) };
+        ensures { OpensMaildir (opened Self.Maildir.System) path.now result (at self.old)
+            (at self.new) };
 
     /// Closes a Maildir, which was opened by this word.
     fn close_maildir(&mut self, path: &str, maildir: Self::Maildir)
-        ensures { ClosesMaildir path.now (opened Self.Maildir.System maildir) (at self.old) (at self.new) };
+        ensures { ClosesMaildir path.now (opened Self.Maildir.System maildir) (at self.old)
+            (at self.new) };
 
-    ghost quiet_is_honest: { (machine : Self) (spared : Spared) → (at machine).quiet → (at machine).honest spared };
+    ghost quiet_is_honest: { (machine : Self) (spared : Spared) → (at machine).quiet →
+        (at machine).honest spared };
 
     /// Which words name the same Maildir never changes.
-    ghost same_words: { (one other : Self) (word another : List ℕ) → (at one).same word another → (at other).same word another };
+    ghost same_words: { (one other : Self) (word another : List ℕ) → (at one).same word another →
+        (at other).same word another };
 
-    /// Of two words that name the same Maildir, each has what other programs may make of what the other has.
-    ghost same_maildir: { (machine : Self) (spared : Spared) (word other : List ℕ) → (at machine).same word other →
+    /// Of two words that name the same Maildir, each has what other programs may make of what the
+    /// other has.
+    ghost same_maildir: { (machine : Self) (spared : Spared) (word other : List ℕ) →
+        (at machine).same word other →
         AreAt spared ((at machine).maildir_at word) ((at machine).maildir_at other) };
 
     /// A power cut may leave the files of a Maildir as they are.
-    ghost may_stay: { (machine : Self) (spared : Spared) (word : List ℕ) → (at machine).honest spared →
+    ghost may_stay: { (machine : Self) (spared : Spared) (word : List ℕ) →
+        (at machine).honest spared →
         ((at machine).maildir_at word).may_leave ((at machine).maildir_at word).files };
 }

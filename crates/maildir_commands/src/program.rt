@@ -19,9 +19,10 @@ use std::alloc::Global;
 use std::io;
 use std::io::{BufWriter, Read, Write};
 
-/// Does the program's work, and returns its status: 0 if it is done; 1 after a fault and 2 for wrong words, each with one
-/// line on standard error, or a prefix of it. A fault in writing to standard error changes no status. The output goes through
-/// the buffer, which is flushed once the work is done.
+/// Does the program's work, and returns its status: 0 if it is done; 1 after a fault and 2 for
+/// wrong words, each with one line on standard error, or a prefix of it. A fault in writing to
+/// standard error changes no status. The output goes through the buffer, which is flushed once the
+/// work is done.
 pub fn run<M: Machine, I: Read, W: Write + Drop, E: Write>(
     machine: &mut M,
     alloc: Global,
@@ -32,7 +33,8 @@ pub fn run<M: Machine, I: Read, W: Write + Drop, E: Write>(
 ) -> u8
     ensures ran { RanOn M.at (map string_bytes words.now) result machine.old machine.new
         (streams (I.remaining input.old) (writer_contents W.contents out.old) (E.contents err.old))
-        (streams (I.remaining input.new) (writer_contents W.contents out.new) (E.contents err.new)) }
+        (streams (I.remaining input.new) (writer_contents W.contents out.new)
+        (E.contents err.new)) }
     ensures handed { result ≡ 0 → writer_buffer out.new ≡ [] }
     ensures untouched { result ≡ 2 → out.new ≡ out.old }
 {
@@ -56,8 +58,8 @@ pub fn run<M: Machine, I: Read, W: Write + Drop, E: Write>(
     }
 }
 
-/// Tells on standard error why the words could not be read, and returns the status: 1 where an allocation failed, else 2,
-/// since they are of no form, as those that are not UTF-8.
+/// Tells on standard error why the words could not be read, and returns the status: 1 where an
+/// allocation failed, else 2, since they are of no form, as those that are not UTF-8.
 pub fn refuse<E: Write>(error: &io::Error, err: &mut E) -> u8
     ensures { Refuses error.now result (E.contents err.old) (E.contents err.new) }
 {

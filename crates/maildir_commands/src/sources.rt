@@ -1,5 +1,6 @@
 // The sources of a conversion, each with a run of its own and its line.
-ghost use Rattle.std.specs.Prelude.{◌≡◌, ◌⊎◌, ◌+◌, ◌*◌, ◌-◌, ◌^◌, min, [], map, string_bytes, IfErr, OnOk};
+ghost use Rattle.std.specs.Prelude.{◌≡◌, ◌⊎◌, ◌+◌, ◌*◌, ◌-◌, ◌^◌, min, [], map, string_bytes};
+ghost use Rattle.std.specs.Prelude.{IfErr, OnOk};
 ghost use Rattle.std.specs.Io.Buffered.{writer_buffer, writer_contents};
 ghost use Rattle.std.specs.Io.KnownBytes.{Keeps};
 ghost use Rattle.mbox_text.specs.Writing.{Writes};
@@ -23,8 +24,9 @@ use std::io::{BufWriter, Read, Write};
 /// How many reads a run makes at most.
 pub(crate) const READS: u64 = 1 << 40;
 
-/// Delivers the messages of standard input, or of each file where files are named, into the Maildir. The first file is
-/// opened before the Maildir, so that a file that cannot be opened leaves no folder behind.
+/// Delivers the messages of standard input, or of each file where files are named, into the
+/// Maildir. The first file is opened before the Maildir, so that a file that cannot be opened
+/// leaves no folder behind.
 pub(crate) fn deliver_sources<M: Machine, I: Read, W: Write + Drop>(
     machine: &mut M,
     alloc: Global,
@@ -61,8 +63,10 @@ fn deliver_each<M: Machine, W: Write + Drop>(
     out: &mut BufWriter<W>,
 ) -> Result<(), Fault>
     ensures does { let at = M.at in let folder_at = seen_folder M.Maildir.System in
-        DeliversFiles (M.Source.remaining first.old) (map string_bytes rest.now) result (at machine.old) (at machine.new)
-        (folder_at folder.old) (folder_at folder.new) (writer_contents W.contents out.old) (writer_contents W.contents out.new) }
+        DeliversFiles (M.Source.remaining first.old) (map string_bytes rest.now) result
+        (at machine.old) (at machine.new)
+        (folder_at folder.old) (folder_at folder.new) (writer_contents W.contents out.old)
+        (writer_contents W.contents out.new) }
 {
     deliver(alloc, folder, first, out)?;
     for path in rest {
@@ -72,10 +76,11 @@ fn deliver_each<M: Machine, W: Write + Drop>(
     Ok(())
 }
 
-/// Delivers the messages of one source, by a run of its own, syncs the Maildir and then prints the run's line and hands it
-/// on: each line that was printed stays true, whatever becomes of the next source, and through a power cut (this project's
-/// own rule). The fault is the run's, the sync's (the folder call after the run's last, or `OutOfMemory`), or
-/// `OutputFault` where the line could not be written.
+/// Delivers the messages of one source, by a run of its own, syncs the Maildir and then prints the
+/// run's line and hands it on: each line that was printed stays true, whatever becomes of the next
+/// source, and through a power cut (this project's own rule). The fault is the run's, the sync's
+/// (the folder call after the run's last, or `OutOfMemory`), or `OutputFault` where the line could
+/// not be written.
 pub fn deliver<S: System, I: Read, W: Write + Drop>(
     alloc: Global,
     folder: &mut DiskFolder<S>,
@@ -84,7 +89,8 @@ pub fn deliver<S: System, I: Read, W: Write + Drop>(
 ) -> Result<(), Fault>
     ensures does { let at = seen_folder S.System in
         DeliversSource result (I.remaining source.old) (I.remaining source.new)
-        (writer_contents W.contents out.old) (writer_contents W.contents out.new) (at folder.old) (at folder.new) }
+        (writer_contents W.contents out.old) (writer_contents W.contents out.new) (at folder.old)
+        (at folder.new) }
     ensures handed { OnOk result (writer_buffer out.new ≡ []) }
 {
     let report = convert(alloc, folder, source, READS)?;
@@ -94,8 +100,8 @@ pub fn deliver<S: System, I: Read, W: Write + Drop>(
     print_report(report, out)
 }
 
-// How many calls of the folder a run made that gave this report: three listings, a removal for each file that was
-// swept, and a write and a placement for each message that was placed.
+// How many calls of the folder a run made that gave this report: three listings, a removal for each
+// file that was swept, and a write and a placement for each message that was placed.
 fn calls_of(report: Report) -> u64
     ensures { result ≡ min (3 + report.swept + 2 * report.placed) (2 ^ 64 - 1) }
 {
@@ -108,7 +114,8 @@ fn calls_of(report: Report) -> u64
 
 // Prints the line of a run, and hands it on.
 fn print_report<W: Write + Drop>(report: Report, out: &mut BufWriter<W>) -> Result<(), Fault>
-    ensures printed { Writes (writer_contents W.contents out.old) (writer_contents W.contents out.new) result (report_line report) }
+    ensures printed { Writes (writer_contents W.contents out.old)
+        (writer_contents W.contents out.new) result (report_line report) }
     ensures handed { OnOk result (writer_buffer out.new ≡ []) }
     ensures causes { IfErr result (λ fault. fault ≡ Fault.Run RunFault.OutputFault) }
 {
@@ -120,8 +127,10 @@ fn print_report<W: Write + Drop>(report: Report, out: &mut BufWriter<W>) -> Resu
 
 /// Opens a file that is named as a source.
 pub(crate) fn open<M: Machine>(machine: &mut M, path: &str) -> Result<M::Source, Fault>
-    ensures opens { OpensSource M.Source.remaining (λ fault. fault ≡ Fault.Source) path.now result (M.at machine.old) (M.at machine.new) }
-    ensures causes { IfErr result (λ fault. (fault ≡ Fault.Source) ⊎ (fault ≡ Fault.Run RunFault.OutOfMemory)) }
+    ensures opens { OpensSource M.Source.remaining (λ fault. fault ≡ Fault.Source) path.now result
+        (M.at machine.old) (M.at machine.new) }
+    ensures causes { IfErr result (λ fault. (fault ≡ Fault.Source) ⊎
+        (fault ≡ Fault.Run RunFault.OutOfMemory)) }
 {
     match machine.open_source(path) {
         Ok(source) => Ok(source),

@@ -17,12 +17,13 @@ use maildir_run::{Folder, FolderFault, Sub};
 use std::io;
 use std::io::ErrorKind;
 
-/// A Maildir on a file system (maildir(5)). If the system does what is assumed, each call has the effect that it reports.
+/// A Maildir on a file system (maildir(5)). If the system does what is assumed, each call has the
+/// effect that it reports.
 #[derive(Drop)]
 pub struct DiskFolder<S> {
     system: S,
-    // No code reads these two: contracts compare them, as those that say how many calls a run made, and that a fault has its
-    // one failed call. With 128 bits they never begin again from 0.
+    // No code reads these two: contracts compare them, as those that say how many calls a run made,
+    // and that a fault has its one failed call. With 128 bits they never begin again from 0.
     calls: u128,
     failures: u128,
 }
@@ -48,12 +49,13 @@ impl<S: System> DiskFolder<S> {
         self.system
     }
 
-    /// fsync(2) of `new`, `cur`, the Maildir and its parent, so that no power cut undoes a placement that returned Ok. It is not
-    /// one of the folder's calls, and is not counted.
+    /// fsync(2) of `new`, `cur`, the Maildir and its parent, so that no power cut undoes a
+    /// placement that returned Ok. It is not one of the folder's calls, and is not counted.
     ///
     /// # Errors
     ///
-    /// [`FolderFault::Failed`] if one of the four could not be synced; [`FolderFault::OutOfMemory`] if an allocation failed.
+    /// [`FolderFault::Failed`] if one of the four could not be synced; [`FolderFault::OutOfMemory`]
+    /// if an allocation failed.
     pub fn sync(&mut self) -> Result<(), FolderFault>
         ensures syncs { SyncsMaildir S.System self.old.system result self.new.system }
         ensures calls { self.new.calls ≡ self.old.calls }
@@ -99,9 +101,12 @@ impl<S: System> Folder for DiskFolder<S> {
     }
 
     fn place(&mut self, name: &str, place: Place, target: &str) -> Result<(), FolderFault>
-        ensures places { CallOf (Placing name.now place target.now) (seen_of S.System self.old) result (seen_of S.System self.new) }
-        ensures gone { (spared : Spared) → (S.at self.old.system).honest spared → IsErrOf result FolderFault.Absent →
-            WasGone spared name.now (Placing name.now place target.now) (S.at self.old.system).world.files
+        ensures places { CallOf (Placing name.now place target.now)
+            (seen_of S.System self.old) result (seen_of S.System self.new) }
+        ensures gone { (spared : Spared) → (S.at self.old.system).honest spared →
+            IsErrOf result FolderFault.Absent →
+            WasGone spared name.now (Placing name.now place target.now)
+            (S.at self.old.system).world.files
             (S.at self.new.system).world.files }
     {
         let answer = match self.system.rename(name, place, target) {

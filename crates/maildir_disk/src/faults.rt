@@ -37,8 +37,10 @@ impl From<io::Error> for OpenFault {
 // The fault of a call that failed.
 pub(crate) fn answer_of<T>(outcome: io::Result<T>) -> Result<T, FolderFault>
     ensures ok { IfOk outcome (λ value. result ≡ Ok value) }
-    ensures allocation { IfErr outcome (λ error. IsFailedAllocation error → result ≡ Err FolderFault.OutOfMemory) }
-    ensures others { IfErr outcome (λ error. ¬ IsFailedAllocation error → result ≡ Err FolderFault.Failed) }
+    ensures allocation { IfErr outcome (λ error. IsFailedAllocation error →
+        result ≡ Err FolderFault.OutOfMemory) }
+    ensures others { IfErr outcome (λ error. ¬ IsFailedAllocation error →
+        result ≡ Err FolderFault.Failed) }
     ensures err { OnErr outcome (IsErr result) }
     ensures not_absent { IsNotAbsent result }
 {

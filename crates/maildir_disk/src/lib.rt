@@ -1,13 +1,15 @@
 //! A Maildir on a file system, with what a power cut may leave of it.
 //!
-//! [`System`] is the file system by the calls that one Maildir needs, with what is assumed of each; it is implemented by the
-//! machine's own calls and by a system in memory. [`DiskFolder`] is a [`Folder`](maildir_run::Folder) over any such system:
-//! it syncs each file before it is placed, and lists a folder as it was at one moment. [`DiskFolder::sync`] syncs the folders.
+//! [`System`] is the file system by the calls that one Maildir needs, with what is assumed of each;
+//! it is implemented by the machine's own calls and by a system in memory. [`DiskFolder`] is a
+//! [`Folder`](maildir_run::Folder) over any such system: it syncs each file before it is placed,
+//! and lists a folder as it was at one moment. [`DiskFolder::sync`] syncs the folders.
 //!
-//! Proved: if the system does what [`System`] assumes, each call of the folder has the effect that it reports, also while
-//! mail readers are at work. [`cuts`] has what power cuts leave of runs and syncs: a folder where each message is missing or
-//! correctly delivered stays so, and messages delivered before a sync that succeeded survive. [`laws`] has why listings wait
-//! as long as they do. `docs/MODEL.md` states the assumptions in prose.
+//! Proved: if the system does what [`System`] assumes, each call of the folder has the effect that
+//! it reports, also while mail readers are at work. [`cuts`] has what power cuts leave of runs and
+//! syncs: a folder where each message is missing or correctly delivered stays so, and messages
+//! delivered before a sync that succeeded survive. [`laws`] has why listings wait as long as they
+//! do. `docs/MODEL.md` states the assumptions in prose.
 //!
 //! ```rust
 //! use maildir_disk::DiskFolder;
@@ -21,7 +23,8 @@
 //! assert!(rt; folder.list(Sub::New)?.len() == 1);
 //! ```
 //!
-//! Errors: [`FolderFault`](maildir_run::FolderFault) from the folder, and [`OpenFault`] from opening one.
+//! Errors: [`FolderFault`](maildir_run::FolderFault) from the folder, and [`OpenFault`] from
+//! opening one.
 #![tactic(auto)]
 
 pub mod cuts;

@@ -12,11 +12,12 @@ use std::io;
 use std::io::ErrorKind;
 use std::time::{Duration, Instant, SystemTime, UNIX_EPOCH};
 
-// How far the stamp that a change sets may be from the clock at that moment: file systems stamp by the ticks of a clock,
-// which are late on a busy machine.
+// How far the stamp that a change sets may be from the clock at that moment: file systems stamp by
+// the ticks of a clock, which are late on a busy machine.
 const MARGIN_MILLIS: u64 = 50;
 
-// The same for a stamp without a fraction of a second: the file system may keep none, and some count by two seconds.
+// The same for a stamp without a fraction of a second: the file system may keep none, and some
+// count by two seconds.
 const COARSE_MARGIN_MILLIS: u64 = 2_050;
 
 // How long to try while a folder keeps changing.
@@ -25,10 +26,11 @@ const PATIENCE_SECS: u64 = 30;
 // How long to wait after a change during a listing.
 const PAUSE_MILLIS: u64 = 1;
 
-/// The names of all entries of a folder at one moment, though files in it are created, removed and renamed meanwhile.
-/// readdir(3) takes several steps, and can miss a file that is renamed between two of them. So the names are returned only
-/// if no change before the end of the listing could have set the stamp that the folder has before and after it; otherwise
-/// the folder is listed again, for 30 seconds at most.
+/// The names of all entries of a folder at one moment, though files in it are created, removed and
+/// renamed meanwhile. readdir(3) takes several steps, and can miss a file that is renamed between
+/// two of them. So the names are returned only if no change before the end of the listing could
+/// have set the stamp that the folder has before and after it; otherwise the folder is listed
+/// again, for 30 seconds at most.
 pub(crate) fn names_of_one_moment<S: System>(system: &mut S, sub: Sub) -> io::Result<Vec<String>>
     ensures { ReadsAtOnce sub (S.at system.old) result (S.at system.new) }
 {

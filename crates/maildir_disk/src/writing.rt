@@ -6,8 +6,8 @@ use crate::system::System;
 use std::io;
 use std::io::ErrorKind;
 
-/// Writes these bytes to the file `name` of `tmp`, in place of what it held, and syncs it. After a write(2) of a prefix the
-/// rest follows, and an interrupted one is retried.
+/// Writes these bytes to the file `name` of `tmp`, in place of what it held, and syncs it. After a
+/// write(2) of a prefix the rest follows, and an interrupted one is retried.
 pub(crate) fn write_synced<S: System>(system: &mut S, name: &str, bytes: &[u8]) -> io::Result<()>
     ensures { TakesEffect (Writing name.now bytes.now) (S.at system.old) result (S.at system.new) }
 {

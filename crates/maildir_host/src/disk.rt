@@ -20,8 +20,8 @@ pub(crate) fn make_folder(files: &impl Files, path: &str) -> io::Result<bool> {
     }
 }
 
-/// Makes the folder of a Maildir if there is none, and returns its parent then, opened to be synced. If the parent cannot be
-/// opened, the folder is removed again.
+/// Makes the folder of a Maildir if there is none, and returns its parent then, opened to be
+/// synced. If the parent cannot be opened, the folder is removed again.
 pub(crate) fn make_root<R: Files>(
     files: &R,
     path: &str,
@@ -46,8 +46,8 @@ pub(crate) fn names(files: &impl Files, alloc: Global, path: &str) -> io::Result
     Ok(names)
 }
 
-/// The time of the last change of a folder's entries, owner, mode or other times: ctime of stat(2). Unlike the time of
-/// modification, no program can set it.
+/// The time of the last change of a folder's entries, owner, mode or other times: ctime of stat(2).
+/// Unlike the time of modification, no program can set it.
 pub(crate) fn time_of_change(files: &impl Files, path: &str) -> io::Result<SystemTime> {
     maildir_calls::time_of_change(&look(files, path)?)
 }
@@ -74,9 +74,9 @@ fn facts(found: &Metadata) -> Facts {
     }
 }
 
-/// Creates the file `path` of `folder`, or truncates it if it is there, and opens it for writing. It is created with O_EXCL,
-/// which follows no link and opens no FIFO. If anything but a file of our own has the name, it is an error, and nothing is
-/// changed.
+/// Creates the file `path` of `folder`, or truncates it if it is there, and opens it for writing.
+/// It is created with O_EXCL, which follows no link and opens no FIFO. If anything but a file of
+/// our own has the name, it is an error, and nothing is changed.
 pub(crate) fn create<R: Files>(files: &R, folder: &str, path: &str) -> io::Result<R::File> {
     let mut options = OpenOptions::new();
     options.write(true).create_new(true);
@@ -87,8 +87,9 @@ pub(crate) fn create<R: Files>(files: &R, folder: &str, path: &str) -> io::Resul
     }
 }
 
-// Truncates a file of our own, and opens it for writing. It is checked before it is opened, since opening a device may have
-// an effect, and again through the handle, since by then another file may have its name.
+// Truncates a file of our own, and opens it for writing. It is checked before it is opened, since
+// opening a device may have an effect, and again through the handle, since by then another file may
+// have its name.
 fn empty<R: Files>(files: &R, folder: &str, path: &str) -> io::Result<R::File> {
     let owner = look(files, folder)?.owner;
     let found = look_at(files, path)?;
@@ -101,7 +102,8 @@ fn empty<R: Files>(files: &R, folder: &str, path: &str) -> io::Result<R::File> {
     Ok(file)
 }
 
-/// Moves a file by one rename(2). The error is of the kind `NotFound` only if there was no file to move.
+/// Moves a file by one rename(2). The error is of the kind `NotFound` only if there was no file to
+/// move.
 pub(crate) fn rename(files: &impl Files, from: &str, to: &str) -> io::Result<()> {
     match if_found(fs::rename(files, from, to))? {
         Some(()) => Ok(()),
@@ -120,7 +122,8 @@ pub(crate) fn sync_folder(files: &impl Files, path: &str) -> io::Result<()> {
     fs::open(files, path)?.sync_all()
 }
 
-/// As `sync_folder`, but Ok if the folder cannot be synced: it may not be opened, or the file system has no fsync for it.
+/// As `sync_folder`, but Ok if the folder cannot be synced: it may not be opened, or the file
+/// system has no fsync for it.
 pub(crate) fn sync_folder_if_possible(files: &impl Files, path: &str) -> io::Result<()> {
     match if_allowed(fs::open(files, path))? {
         Some(folder) => synced_if_possible(folder.sync_all()),

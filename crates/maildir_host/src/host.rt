@@ -28,20 +28,22 @@ pub struct Host<'a, R> {
 }
 
 impl<'a, R: Files<File = File> + Clock> Host<'a, R> {
-    /// Opens the Maildir at `path`. The folder, and `tmp`, `new` and `cur` in it, are created with mode 0700 if they are
-    /// missing. The parent of `path` must exist, and where the folder is created it must be one that can be opened, to be
-    /// synced. The folder stays locked while it is open, if the file system has locks for folders.
+    /// Opens the Maildir at `path`. The folder, and `tmp`, `new` and `cur` in it, are created with
+    /// mode 0700 if they are missing. The parent of `path` must exist, and where the folder is
+    /// created it must be one that can be opened, to be synced. The folder stays locked while it is
+    /// open, if the file system has locks for folders.
     ///
     /// # Errors
     ///
-    /// [`OpenFault::Locked`] if another program holds the lock; nothing in the folder was read or changed.
-    /// [`FolderFault::Failed`] if the Maildir cannot be opened to be locked, and then nothing in it was changed; or if one of
-    /// the four is no folder and cannot be created. Those that were created stay, but for a Maildir whose parent cannot be
-    /// opened.
+    /// [`OpenFault::Locked`] if another program holds the lock; nothing in the folder was read or
+    /// changed. [`FolderFault::Failed`] if the Maildir cannot be opened to be locked, and then
+    /// nothing in it was changed; or if one of the four is no folder and cannot be created. Those
+    /// that were created stay, but for a Maildir whose parent cannot be opened.
     /// [`FolderFault::OutOfMemory`] if an allocation failed.
     pub fn open_at(rt: &'a R, alloc: Global, path: &str) -> Result<Self, OpenFault>
         ensures path { IfOk result (λ system. root_at system ≡ path.now) }
-        ensures not_absent { IfErr result (λ fault. ¬ (fault ≡ OpenFault.Folder FolderFault.Absent)) }
+        ensures not_absent { IfErr result
+            (λ fault. ¬ (fault ≡ OpenFault.Folder FolderFault.Absent)) }
     {
         let paths = Paths::new(alloc, path).map_err(io::Error::from)?;
         let parent = paths.parent().map_err(io::Error::from)?;
@@ -70,7 +72,8 @@ impl<'a, R: Files<File = File> + Clock> OpenAt<'a, R> for DiskFolder<Host<'a, R>
         ensures path { IfOk result (λ folder. root_of folder ≡ path.now) }
         ensures calls { IfOk result (λ folder. (⟦<DiskFolder<Host<'a, R>> as Folder>⟧.at folder).calls ≡ 0) }
         ensures failures { IfOk result (λ folder. (⟦<DiskFolder<Host<'a, R>> as Folder>⟧.at folder).failures ≡ 0) }
-        ensures not_absent { IfErr result (λ fault. ¬ (fault ≡ OpenFault.Folder FolderFault.Absent)) }
+        ensures not_absent { IfErr result
+            (λ fault. ¬ (fault ≡ OpenFault.Folder FolderFault.Absent)) }
     {
         Ok(DiskFolder::new(Host::open_at(rt, alloc, path)?))
     }

@@ -4,7 +4,7 @@
 pub mod Delivered
 -- What is owed from one moment of the history to the next.
 pub mod Owed
--- The events of the history, one after the other.
+-- The episodes of the history, one after the other.
 pub mod Happening
 -- A text with two messages, whose bodies are empty.
 pub mod Example

@@ -3,8 +3,8 @@ use Rattle.std.specs.Prelude.{◌≡◌, ℕ, not, List, [], ◌∷◌, Some, co
 use Rattle.maildir_run.specs.Delivery.{Message, IsHome, IsMissing}
 use Rattle.maildir_run.specs.Files.{Files, Spared, is_name}
 use Rattle.maildir_run.specs.Several.{Mailbox}
-use Rattle.maildir_commands.specs.Commands.{Commanded, Event, Happens, IsHistory, IsNewTo}
-use Rattle.maildir_commands.specs.Commands.Event.{Command, Cut, Readers}
+use Rattle.maildir_commands.specs.Commands.{Commanded, Episode, LeadsTo, IsHistory, IsNewTo}
+use Rattle.maildir_commands.specs.Commands.Episode.{Command, Cut, Readers}
 use Rattle.maildir_commands.specs.Machines.{AreFit}
 use Rattle.maildir_commands.specs.Seen.{SeenMachine}
 use Rattle.maildir_commands.specs.Words.{convert_words}
@@ -22,9 +22,9 @@ seen_of machine = seen_small machine.text.now machine.maildir
 abbrev pub files_at : SmallMachine → Files
 files_at machine = ((seen_of machine).maildir_at (codes "M")).files
 
--- an event leads from one moment to another, where all messages but this one are spared
-abbrev pub Leads : Mailbox → Message → Event → SmallMachine → SmallMachine → Type 0
-Leads text gone = Happens (all_but gone) seen_of (codes "M") (text ∷ [])
+-- an episode leads from one moment to another, where all messages but this one are spared
+abbrev pub Leads : Mailbox → Message → Episode → SmallMachine → SmallMachine → Type 0
+Leads text gone = LeadsTo (all_but gone) seen_of (codes "M") (text ∷ [])
 
 -- the words of commands that deliver the text, by two words for one Maildir
 abbrev pub first_words : List (List ℕ)

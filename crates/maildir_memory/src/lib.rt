@@ -1,12 +1,13 @@
 //! A file system and a machine in memory, for tests and for proofs that the assumptions can be met.
 //!
-//! [`MemSystem`] is a Maildir in memory that does what [`System`](maildir_disk::System) assumes. Other programs may act within
-//! its calls, its calls may fail, its stamps may be coarse ([`Stamps`]), and a power cut may leave any case of what was not
-//! synced. [`MemMachine`] is a [`Machine`](maildir_commands::Machine) with texts and such Maildirs, and [`SmallMachine`] one
+//! [`MemSystem`] is a Maildir in memory that does what [`System`](maildir_disk::System) assumes.
+//! Other programs may act within its calls, its calls may fail, its stamps may be coarse
+//! ([`Stamps`]), and a power cut may leave any case of what was not synced. [`MemMachine`] is a
+//! [`Machine`](maildir_commands::Machine) with texts and such Maildirs, and [`SmallMachine`] one
 //! with one of each.
 //!
-//! Proved: they do what the traits that they implement state, so what is assumed there can be met; and so can what is assumed
-//! of any commands that follow one another.
+//! Proved: they do what the traits that they implement state, so what is assumed there can be met;
+//! and so can what is assumed of any commands that follow one another.
 //!
 //! ```rust
 //! use maildir_disk::DiskFolder;

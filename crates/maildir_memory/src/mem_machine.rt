@@ -48,7 +48,8 @@ impl<'a> MemMachine<'a> {
         }
     }
 
-    /// The next Maildir that is missing is made of this one, which holds nothing. Until then a missing one is refused.
+    /// The next Maildir that is missing is made of this one, which holds nothing. Until then a
+    /// missing one is refused.
     pub fn make_of(&mut self, fresh: MemSystem)
         ensures { self.new ≡ record self.old { fresh = Some fresh } }
     {
@@ -62,7 +63,8 @@ impl<'a> MemMachine<'a> {
         maildir: MemSystem,
     ) -> Result<(), AllocFailed<(String, Option<MemSystem>)>>
         ensures texts { self.new.texts ≡ self.old.texts }
-        ensures put { OnOk result (get_by_text self.new.maildirs (string_bytes word) ≡ Some (Some maildir)) }
+        ensures put { OnOk result
+            (get_by_text self.new.maildirs (string_bytes word) ≡ Some (Some maildir)) }
     {
         self.maildirs.insert(word, Some(maildir))?;
         Ok(())
@@ -89,8 +91,10 @@ impl<'a> MemMachine<'a> {
 
     /// The Maildir under a word.
     pub fn maildir(&self, word: &str) -> Option<&MemSystem>
-        ensures there { IfSome result (λ maildir. get_by_text self.now.maildirs word.now ≡ Some (Some maildir.now)) }
-        ensures none { IsNone result → (maildir : MemSystem) → ¬ (get_by_text self.now.maildirs word.now ≡ Some (Some maildir)) }
+        ensures there { IfSome result
+            (λ maildir. get_by_text self.now.maildirs word.now ≡ Some (Some maildir.now)) }
+        ensures none { IsNone result → (maildir : MemSystem) →
+            ¬ (get_by_text self.now.maildirs word.now ≡ Some (Some maildir)) }
     {
         match self.maildirs.get(word) {
             Some(Some(maildir)) => Some(maildir),

@@ -1,5 +1,6 @@
 // The system calls of a Maildir in memory.
-ghost use Rattle.std.specs.Prelude.{◌≡◌, ◌≤◌, ◌++◌, ◌∷◌, [], All, IfErr, IfOk, IsTrue, OnOk, false, get_or, length};
+ghost use Rattle.std.specs.Prelude.{◌≡◌, ◌≤◌, ◌++◌, ◌∷◌, [], All, IfErr, IfOk, IsTrue, OnOk, false};
+ghost use Rattle.std.specs.Prelude.{get_or, length};
 ghost use Rattle.std.specs.FinMap.{contains_key};
 ghost use Rattle.std.specs.IoError.{error_kind};
 ghost use Rattle.std.specs.declared.io.ErrorKind.TheVariants.{NotFound};
@@ -11,7 +12,8 @@ ghost use Rattle.maildir_run.specs.MemFolder.{IsQuiet, files_of};
 ghost use Rattle.maildir_memory.specs.Cases.{HasRoom, lefts_of};
 ghost use Rattle.maildir_disk.specs.Placing.{WasGone};
 ghost use Rattle.maildir_disk.specs.SeenSystem.{Appends, MakesFile, TakesFromTmp};
-ghost use Rattle.maildir_memory.specs.MemSystem.{IsHonest, SparesByTurns, MayLose, MayLosePrefixes, cases_of, opened_as, seen_system};
+ghost use Rattle.maildir_memory.specs.MemSystem.{IsHonest, SparesByTurns, MayLose, MayLosePrefixes};
+ghost use Rattle.maildir_memory.specs.MemSystem.{cases_of, opened_as, seen_system};
 
 use crate::cases::{Cases, Change};
 use crate::faults::error_of;
@@ -32,12 +34,13 @@ pub struct MemFile {
     name: String,
 }
 
-/// A Maildir in memory, with clocks. Each call that only reads, and each step of a write, pops one turn and performs its acts,
-/// which are other programs'. A listing of a folder that changes meanwhile returns no names, and a write takes half of its
-/// bytes.
+/// A Maildir in memory, with clocks. Each call that only reads, and each step of a write, pops one
+/// turn and performs its acts, which are other programs'. A listing of a folder that changes
+/// meanwhile returns no names, and a write takes half of its bytes.
 ///
-/// After [`lose`](MemSystem::lose), a power cut may lose each change that was not synced: a created file, the appended bytes
-/// after any prefix, a rename, half of another program's act. Until the Maildir is synced, it may lose all of it.
+/// After [`lose`](MemSystem::lose), a power cut may lose each change that was not synced: a created
+/// file, the appended bytes after any prefix, a rename, half of another program's act. Until the
+/// Maildir is synced, it may lose all of it.
 #[derive(Drop)]
 pub struct MemSystem {
     alloc: Global,
@@ -65,7 +68,8 @@ impl MemSystem {
         instant: Instant,
         turns: Vec<Vec<TurnAct>>,
     ) -> Self
-        ensures honest { (spared : Spared) → SparesByTurns spared turns.items → (⟦<MemSystem as System>⟧.at result).honest spared }
+        ensures honest { (spared : Spared) → SparesByTurns spared turns.items →
+            (⟦<MemSystem as System>⟧.at result).honest spared }
         ensures quiet { turns.items ≡ [] → (⟦<MemSystem as System>⟧.at result).quiet }
         ensures files { files_of result.folder ≡ files_of folder }
         ensures clock { result.clock ≡ clock }
@@ -89,16 +93,18 @@ impl MemSystem {
         }
     }
 
-    /// From now on a power cut may lose what was not synced, and the Maildir itself. At most `room` cases of what it leaves are
-    /// recorded, besides the files as they are; it leaves no other.
+    /// From now on a power cut may lose what was not synced, and the Maildir itself. At most `room`
+    /// cases of what it leaves are recorded, besides the files as they are; it leaves no other.
     pub fn lose(&mut self, room: usize)
         ensures honest { (spared : Spared) → (⟦<MemSystem as System>⟧.at self.old).honest spared →
             (⟦<MemSystem as System>⟧.at self.new).honest spared }
-        ensures quiet { (⟦<MemSystem as System>⟧.at self.old).quiet → (⟦<MemSystem as System>⟧.at self.new).quiet }
+        ensures quiet { (⟦<MemSystem as System>⟧.at self.old).quiet →
+            (⟦<MemSystem as System>⟧.at self.new).quiet }
         ensures files { files_of self.new.folder ≡ files_of self.old.folder }
         ensures room { self.new.cases.room ≡ room }
         ensures calls { self.new.calls_left ≡ self.old.calls_left }
-        ensures left { cases_of self.new ≡ lefts_of self.old.cases ++ (files_of self.old.folder ∷ (no_files ∷ [])) }
+        ensures left { cases_of self.new ≡ lefts_of self.old.cases ++
+            (files_of self.old.folder ∷ (no_files ∷ [])) }
         ensures kept { lefts_of self.new.cases ≡ lefts_of self.old.cases }
         ensures found { self.new.is_rooted ≡ false }
     {
@@ -130,14 +136,18 @@ impl MemSystem {
             .saturating_add(if self.is_rooted { 1 } else { 2 })
     }
 
-    /// A power cut that leaves the case with this number, or the files as they are if there are fewer.
+    /// A power cut that leaves the case with this number, or the files as they are if there are
+    /// fewer.
     pub fn cut(&mut self, case: usize)
         ensures honest { (spared : Spared) → (⟦<MemSystem as System>⟧.at self.old).honest spared →
             (⟦<MemSystem as System>⟧.at self.new).honest spared }
-        ensures quiet { (⟦<MemSystem as System>⟧.at self.old).quiet → (⟦<MemSystem as System>⟧.at self.new).quiet }
-        ensures found { files_of self.new.folder ≡ get_or (cases_of self.old) case (files_of self.old.folder) }
+        ensures quiet { (⟦<MemSystem as System>⟧.at self.old).quiet →
+            (⟦<MemSystem as System>⟧.at self.new).quiet }
+        ensures found { files_of self.new.folder ≡ get_or (cases_of self.old) case
+            (files_of self.old.folder) }
         ensures stays { All (λ left. left ≡ files_of self.new.folder) (cases_of self.new) }
-        ensures still_rooted { (⟦<MemSystem as System>⟧.at self.old).rooted → (⟦<MemSystem as System>⟧.at self.new).rooted }
+        ensures still_rooted { (⟦<MemSystem as System>⟧.at self.old).rooted →
+            (⟦<MemSystem as System>⟧.at self.new).rooted }
         ensures calls { self.new.calls_left ≡ self.old.calls_left }
     {
         let place = case.saturating_sub(self.cases.folders.len());
@@ -205,10 +215,13 @@ impl System for MemSystem {
 
     fn create(&mut self, name: &str) -> io::Result<MemFile>
         ensures makes { MakesFile name.now (seen_system self.old) result (seen_system self.new) }
-        ensures name { (spared : Spared) → IsHonest self.old spared → IfOk result (λ file. opened_as file ≡ name.now) }
-        ensures current { (spared : Spared) → IsHonest self.old spared → IfOk result (λ file. Unit {0}) }
+        ensures name { (spared : Spared) → IsHonest self.old spared →
+            IfOk result (λ file. opened_as file ≡ name.now) }
+        ensures current { (spared : Spared) → IsHonest self.old spared →
+            IfOk result (λ file. Unit {0}) }
         ensures loses { IsQuiet self.old.folder →
-            OnOk result (HasRoom self.new.cases → MayLose (effect (Writing name.now [])) self.old self.new) }
+            OnOk result (HasRoom self.new.cases →
+            MayLose (effect (Writing name.now [])) self.old self.new) }
     {
         let file = MemFile {
             name: String::from_str(self.alloc, name)?,
@@ -226,7 +239,8 @@ impl System for MemSystem {
 
     fn append(&mut self, file: &mut MemFile, bytes: &[u8]) -> io::Result<usize>
         ensures most { IfOk result (λ n. n ≤ length bytes.now) }
-        ensures appends { Appends (opened_as file.old) (Unit {0}) bytes.now (seen_system self.old) result (seen_system self.new) }
+        ensures appends { Appends (opened_as file.old) (Unit {0}) bytes.now
+            (seen_system self.old) result (seen_system self.new) }
         ensures name { opened_as file.new ≡ opened_as file.old }
         ensures current { (spared : Spared) → IsHonest self.old spared → Unit {0} → Unit {0} }
         ensures loses { IsQuiet self.old.folder → IfOk result (λ n. HasRoom self.new.cases →
@@ -256,11 +270,15 @@ impl System for MemSystem {
     }
 
     fn rename(&mut self, name: &str, place: Place, target: &str) -> io::Result<()>
-        ensures places { TakesFromTmp (Placing name.now place target.now) (seen_system self.old) result (seen_system self.new) }
-        ensures gone { (spared : Spared) → IsHonest self.old spared → IfErr result (λ error. error_kind error ≡ NotFound →
-            WasGone spared name.now (Placing name.now place target.now) (files_of self.old.folder) (files_of self.new.folder)) }
+        ensures places { TakesFromTmp (Placing name.now place target.now)
+            (seen_system self.old) result (seen_system self.new) }
+        ensures gone { (spared : Spared) → IsHonest self.old spared →
+            IfErr result (λ error. error_kind error ≡ NotFound →
+            WasGone spared name.now (Placing name.now place target.now) (files_of self.old.folder)
+            (files_of self.new.folder)) }
         ensures loses { IsQuiet self.old.folder →
-            OnOk result (HasRoom self.new.cases → MayLose (effect (Placing name.now place target.now)) self.old self.new) }
+            OnOk result (HasRoom self.new.cases →
+            MayLose (effect (Placing name.now place target.now)) self.old self.new) }
     {
         begin(&mut self.calls_left)?;
         self.cases
@@ -274,9 +292,11 @@ impl System for MemSystem {
     }
 
     fn unlink(&mut self, name: &str) -> io::Result<()>
-        ensures removes { TakesFromTmp (Removing name.now) (seen_system self.old) result (seen_system self.new) }
+        ensures removes { TakesFromTmp (Removing name.now) (seen_system self.old) result
+            (seen_system self.new) }
         ensures loses { IsQuiet self.old.folder →
-            OnOk result (HasRoom self.new.cases → MayLose (effect (Removing name.now)) self.old self.new) }
+            OnOk result (HasRoom self.new.cases →
+            MayLose (effect (Removing name.now)) self.old self.new) }
     {
         begin(&mut self.calls_left)?;
         self.cases

@@ -23,14 +23,17 @@ pub struct SmallMachine<'a> {
 }
 
 impl<'a> SmallMachine<'a> {
-    /// A machine with this text, and with a Maildir that has no file and was not synced. Commands may follow one another on it
-    /// as is assumed of any commands, with a status 1, a power cut, a deletion of any message of the text, and two words for the
-    /// Maildir; so with a text of two messages.
+    /// A machine with this text, and with a Maildir that has no file and was not synced. Commands
+    /// may follow one another on it as is assumed of any commands, with a status 1, a power cut, a
+    /// deletion of any message of the text, and two words for the Maildir; so with a text of two
+    /// messages.
     pub fn new(alloc: Global, text: &'a [u8], clock: SystemTime, instant: Instant) -> Self
-        ensures happens { (of : Mailbox) (gone : Message) → IsMailbox of → of.bytes ≡ text.now → Contains of.messages gone →
+        ensures happens { (of : Mailbox) (gone : Message) → IsMailbox of → of.bytes ≡ text.now →
+            Contains of.messages gone →
             CanHappen of gone result }
         ensures example { text.now ≡ codes "From a\n\nFrom b\n\n" →
-            (of : Mailbox) × (length of.messages ≡ 2) × All (λ gone. CanHappen of gone result) of.messages }
+            (of : Mailbox) × (length of.messages ≡ 2) ×
+            All (λ gone. CanHappen of gone result) of.messages }
     {
         let nobody = Vec::new(alloc);
         let mut maildir = MemSystem::new(

@@ -43,7 +43,8 @@ pub(crate) fn tick(clock: &mut SystemTime, instant: &mut Instant, pause: Duratio
 
 /// The stamp of a change at this time.
 pub(crate) fn stamp_at(clock: SystemTime, stamps: Stamps) -> SystemTime
-    ensures { IsOfChange (system_time_nanos clock) (system_time_nanos clock) (system_time_nanos result) }
+    ensures { IsOfChange (system_time_nanos clock) (system_time_nanos clock)
+        (system_time_nanos result) }
 {
     match clock.duration_since(UNIX_EPOCH) {
         Ok(since) if stamps == Stamps::WholeSeconds => {

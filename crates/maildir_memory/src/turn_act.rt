@@ -8,7 +8,8 @@ use maildir_run::{Act, FolderFault, MemFolder, Sub};
 /// What another program does at its turn.
 #[derive(Drop)]
 pub enum TurnAct {
-    /// What a mail reader may do to any message, or anything to a file whose name is not a converter's.
+    /// What a mail reader may do to any message, or anything to a file whose name is not a
+    /// converter's.
     Reader(Act),
     /// Deletes a file, whatever its name.
     Delete(Sub, String),
@@ -32,7 +33,8 @@ impl TurnAct {
 
     /// Half of it: a file that is moved is under both names. Of anything else half is nothing.
     pub(crate) fn perform_half(&self, folder: &mut MemFolder) -> Result<(), FolderFault>
-        ensures ok { OnOk result (files_of folder.new ≡ half_turned self.now (files_of folder.old)) }
+        ensures ok { OnOk result
+            (files_of folder.new ≡ half_turned self.now (files_of folder.old)) }
         ensures err { OnErr result (files_of folder.new ≡ files_of folder.old) }
         ensures script { SameScript folder.old folder.new }
         ensures refused { IfErr result (λ fault. fault ≡ FolderFault.OutOfMemory) }

@@ -1,8 +1,10 @@
 // The flags of a message, read from the header of its body.
 ghost use Rattle.std.specs.Prelude.{◌≡◌, ◌==◌, ◌||◌, ◌<◌, ◌≤◌, ◌∷◌, length, take, drop, position};
-ghost use Rattle.maildir_name.specs.Flags.{flags, field, header, lines, stands_in as stands, is_blank as blank, begins_with_name as begins};
+ghost use Rattle.maildir_name.specs.Flags.{flags, field, header, lines, stands_in as stands};
+ghost use Rattle.maildir_name.specs.Flags.{is_blank as blank, begins_with_name as begins};
 
-/// What the header of a message says about it: a flag for each letter of the fields Status and X-Status.
+/// What the header of a message says about it: a flag for each letter of the fields Status and
+/// X-Status.
 #[derive(Clone, Copy, PartialEq, Eq)]
 pub struct Flags {
     /// `O`: a mail program has listed the message.
@@ -17,9 +19,9 @@ pub struct Flags {
     pub trashed: bool,
 }
 
-/// The flags of a body: which letters occur in the first Status line and in the first X-Status line of its header (this
-/// project's own rule, after the documentation of Python's module mailbox). Reads the header alone, up to the first line that
-/// is `\n` or `\r\n`. Allocates nothing.
+/// The flags of a body: which letters occur in the first Status line and in the first X-Status line
+/// of its header (this project's own rule, after the documentation of Python's module mailbox).
+/// Reads the header alone, up to the first line that is `\n` or `\r\n`. Allocates nothing.
 pub fn flags_of(body: &[u8]) -> Flags
     ensures { result ≡ flags body.now }
 {

@@ -1,5 +1,6 @@
 //! Laws of targets. Each function's contract is a law of all bodies; its body is empty.
-ghost use Rattle.std.specs.Prelude.{◌≡◌, ◌≢◌, ℕ, ◌^◌, ◌≤◌, List, [], ◌∷◌, ◌++◌, length, take, count_by, All, AllPairs};
+ghost use Rattle.std.specs.Prelude.{◌≡◌, ◌≢◌, ℕ, ◌^◌, ◌≤◌, List, [], ◌∷◌, ◌++◌, length, take};
+ghost use Rattle.std.specs.Prelude.{count_by, All, AllPairs};
 ghost use Rattle.std.specs.Str.{bytes_eq};
 ghost use Rattle.sha2.specs.Sha256.{sha256};
 ghost use Rattle.maildir_name.specs.Names.{base, IsConverterBase};
@@ -14,7 +15,8 @@ pub fn distinct_bases()
 /// The base of each target is a converter's base, its own base, and the base of its name.
 pub fn named_targets()
     ensures { (bodies : List (List ℕ)) → length bodies ≤ 2 ^ 63 →
-        All (λ target. IsConverterBase target.base × (base target.base ≡ target.base) × (base target.name ≡ target.base)) (targets bodies) }
+        All (λ target. IsConverterBase target.base × (base target.base ≡ target.base) ×
+        (base target.name ≡ target.base)) (targets bodies) }
 {}
 
 /// A converter's base is its own base.
@@ -31,11 +33,14 @@ pub fn one_more_target()
 
 /// The targets of a prefix of the bodies are a prefix of the targets.
 pub fn first_targets()
-    ensures { (bodies more : List (List ℕ)) → take (length bodies) (targets (bodies ++ more)) ≡ targets bodies }
+    ensures { (bodies more : List (List ℕ)) →
+        take (length bodies) (targets (bodies ++ more)) ≡ targets bodies }
 {}
 
-/// If no other body has its digest, the bases of a body that occurs n times have the numbers 1 to n, in order.
+/// If no other body has its digest, the bases of a body that occurs n times have the numbers 1 to
+/// n, in order.
 pub fn equal_bodies()
-    ensures { (bodies : List (List ℕ)) (body : List ℕ) → All (λ other. sha256 other ≡ sha256 body → other ≡ body) bodies →
+    ensures { (bodies : List (List ℕ)) (body : List ℕ) →
+        All (λ other. sha256 other ≡ sha256 body → other ≡ body) bodies →
         bases_of body bodies ≡ numbered_up_to body (count_by (bytes_eq body) bodies) }
 {}

@@ -2,7 +2,8 @@
 ghost use Rattle.std.specs.Prelude.{◌≡◌, ◌==◌, ◌&&◌, nat_le, length, slice_index, string_bytes};
 ghost use Rattle.std.specs.List.{list_all};
 ghost use Rattle.maildir_name.specs.Names.{base, is_converter_name as converter_name};
-ghost use Rattle.maildir_name.specs.Names.{is_lower_hex_digit as digit, is_occurrence as occurrence};
+ghost use Rattle.maildir_name.specs.Names.{is_lower_hex_digit as digit};
+ghost use Rattle.maildir_name.specs.Names.{is_occurrence as occurrence};
 
 use std::marker::Model;
 
@@ -46,8 +47,8 @@ pub fn base_of(name: &str) -> &str
     }
 }
 
-/// Whether a name is this converter's: its base is 64 digits of `0` to `9` and `a` to `f`, a dot, and a
-/// number from 1 to 18446744073709551615 without leading zeros (this project's own rule).
+/// Whether a name is this converter's: its base is 64 digits of `0` to `9` and `a` to `f`, a dot,
+/// and a number from 1 to 18446744073709551615 without leading zeros (this project's own rule).
 pub fn is_converter_name(name: &str) -> bool
     ensures { result ≡ converter_name name.now }
 {

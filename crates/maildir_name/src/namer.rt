@@ -1,5 +1,6 @@
 // The namer: it numbers bodies by how many before them have the same digest.
-ghost use Rattle.std.specs.Prelude.{◌≡◌, ℕ, ◌^◌, ◌<◌, [], ◌∷◌, ◌++◌, List, length, IfOk, OnOk, OnErr, if◌then◌else◌, string_bytes};
+ghost use Rattle.std.specs.Prelude.{◌≡◌, ℕ, ◌^◌, ◌<◌, [], ◌∷◌, ◌++◌, List, length, IfOk, OnOk};
+ghost use Rattle.std.specs.Prelude.{OnErr, if◌then◌else◌, string_bytes};
 ghost use Rattle.std.specs.Fmt.{decimal};
 ghost use Rattle.std.specs.Str.{bytes_eq};
 ghost use Rattle.hex.specs.Hex.{encode_lower};
@@ -15,8 +16,8 @@ use std::alloc::{AllocError, Global};
 use std::collections::BTreeMap;
 use std::marker::Model;
 
-/// Makes the targets of the bodies of a text, in order. Keeps in memory: each distinct digest with its count, which is what
-/// contracts see.
+/// Makes the targets of the bodies of a text, in order. Keeps in memory: each distinct digest with
+/// its count, which is what contracts see.
 #[derive(Drop)]
 pub struct Namer {
     alloc: Global,
@@ -42,15 +43,18 @@ impl Namer {
         }
     }
 
-    /// The target of the next body: its base is the digits of the body's SHA-256, a dot, and how many bodies up to and with
-    /// this one have that digest (this project's own rule).
+    /// The target of the next body: its base is the digits of the body's SHA-256, a dot, and how
+    /// many bodies up to and with this one have that digest (this project's own rule).
     ///
     /// Error: `OutOfMemory` if an allocation failed; the namer is then unchanged.
     pub fn target(&mut self, body: &[u8]) -> Result<Target, NameFault>
-        ensures next { IfOk result (λ target. (bodies : List (List ℕ)) → Named bodies self.old → length bodies < 2 ^ 63 →
-            (targets (bodies ++ body.now ∷ []) ≡ targets bodies ++ target ∷ []) × Named (bodies ++ body.now ∷ []) self.new) }
+        ensures next { IfOk result (λ target. (bodies : List (List ℕ)) → Named bodies self.old →
+            length bodies < 2 ^ 63 →
+            (targets (bodies ++ body.now ∷ []) ≡ targets bodies ++ target ∷ []) ×
+            Named (bodies ++ body.now ∷ []) self.new) }
         ensures base { IfOk result
-            (λ target. IsConverterBase target.base × (base_lem target.base ≡ target.base) × (base_lem target.name ≡ target.base)) }
+            (λ target. IsConverterBase target.base × (base_lem target.base ≡ target.base) ×
+            (base_lem target.name ≡ target.base)) }
         ensures refused { OnErr result (self.new ≡ self.old) }
     {
         let digest = Sha256::digest(body);
@@ -71,7 +75,8 @@ impl Namer {
     // Stores how many bodies so far have a digest.
     fn set_count(&mut self, digest: [u8; 32], number: u64) -> Result<(), AllocError>
         ensures set { OnOk result
-            ((other : List ℕ) → count_of self.new other ≡ (if bytes_eq digest other then number else count_of self.old other)) }
+            ((other : List ℕ) → count_of self.new other ≡
+            (if bytes_eq digest other then number else count_of self.old other)) }
         ensures refused { OnErr result (self.new ≡ self.old) }
     {
         self.counts.insert(digest, number)?;
@@ -81,7 +86,8 @@ impl Namer {
 
 // The digits of a digest, a dot and a number.
 fn numbered(alloc: Global, digest: &[u8; 32], number: u64) -> Result<String, AllocError>
-    ensures { IfOk result (λ text. string_bytes text ≡ encode_lower digest.now ++ 46 ∷ decimal number) }
+    ensures { IfOk result
+        (λ text. string_bytes text ≡ encode_lower digest.now ++ 46 ∷ decimal number) }
 {
     let digits = hex::encode(alloc, digest)?;
     format!(in alloc; "{digits}.{number}")

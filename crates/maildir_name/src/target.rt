@@ -27,7 +27,8 @@ pub struct Target {
 }
 
 impl Target {
-    // The target of a base: with a flag set, in `cur` with info; otherwise in `new` under the base alone.
+    // The target of a base: with a flag set, in `cur` with info; otherwise in `new` under the base
+    // alone.
     pub(crate) fn under_flags(
         alloc: Global,
         base: String,
@@ -71,7 +72,8 @@ fn with_info(alloc: Global, base: &str, flags: Flags) -> Result<String, AllocErr
 // Appends a letter, if its flag is set.
 fn push_if(name: &mut String, is_set: bool, letter: char) -> Result<(), AllocError>
     requires { letter < 128 }
-    ensures { OnOk result (string_bytes name.new ≡ string_bytes name.old ++ letter_if is_set letter) }
+    ensures { OnOk result
+        (string_bytes name.new ≡ string_bytes name.old ++ letter_if is_set letter) }
 {
     if is_set {
         name.push(letter)?;

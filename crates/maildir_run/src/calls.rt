@@ -24,7 +24,8 @@ impl Calls {
         Calls { made: 0 }
     }
 
-    /// Counts a call with this result, and returns it as the run's: the fault of a call that failed has its number.
+    /// Counts a call with this result, and returns it as the run's: the fault of a call that failed
+    /// has its number.
     pub(crate) fn answer<T>(&mut self, answer: Result<T, FolderFault>) -> Result<T, RunFault>
         ensures made { self.new.made ≡ capped (self.old.made + 1) }
         ensures is { result ≡ run_answer self.new.made answer }
@@ -46,7 +47,8 @@ impl Calls {
         sub: Sub,
     ) -> Result<Vec<String>, RunFault>
         ensures ran { let at = F.at in
-            Performed (Ask sub (names_in result) ∷ []) (at folder.old) (at folder.new) self.old.made self.new.made (fault_of result) }
+            Performed (Ask sub (names_in result) ∷ []) (at folder.old)
+            (at folder.new) self.old.made self.new.made (fault_of result) }
         ensures causes { IfErr result IsOfFolder }
     {
         let answer = folder.list(sub);
@@ -61,7 +63,8 @@ impl Calls {
         bytes: &[u8],
     ) -> Result<(), RunFault>
         ensures ran { let at = F.at in
-            Performed (Do (Writing name.now bytes.now) ∷ []) (at folder.old) (at folder.new) self.old.made self.new.made (fault_of result) }
+            Performed (Do (Writing name.now bytes.now) ∷ []) (at folder.old)
+            (at folder.new) self.old.made self.new.made (fault_of result) }
         ensures causes { IfErr result IsOfFolder }
     {
         let answer = folder.write(name, bytes);
@@ -88,7 +91,8 @@ impl Calls {
     /// Removes a file of `tmp`.
     pub(crate) fn remove<F: Folder>(&mut self, folder: &mut F, name: &str) -> Result<(), RunFault>
         ensures ran { let at = F.at in
-            Performed (Do (Removing name.now) ∷ []) (at folder.old) (at folder.new) self.old.made self.new.made (fault_of result) }
+            Performed (Do (Removing name.now) ∷ []) (at folder.old)
+            (at folder.new) self.old.made self.new.made (fault_of result) }
         ensures causes { IfErr result IsOfFolder }
     {
         let answer = folder.remove(name);

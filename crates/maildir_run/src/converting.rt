@@ -15,15 +15,18 @@ use mbox_text::Entry;
 use std::alloc::Global;
 use std::io::Read;
 
-/// Delivers the messages of the source's text that have no home in the folder, and reports what it did. Reads the source
-/// until a message is complete; lists `tmp`, `new` and `cur`, in this order; removes what earlier runs left in `tmp`, as `plan`
-/// says for these lists and no targets; then writes and places each missing message as soon as it is complete, in order.
-/// Makes at most `reads` reads, each of at most 65,536 bytes, and none between a message's write and its placement. Keeps in
-/// memory: the partial message, those that the last read completed, the listed names and the digests.
+/// Delivers the messages of the source's text that have no home in the folder, and reports what it
+/// did. Reads the source until a message is complete; lists `tmp`, `new` and `cur`, in this order;
+/// removes what earlier runs left in `tmp`, as `plan` says for these lists and no targets; then
+/// writes and places each missing message as soon as it is complete, in order. Makes at most
+/// `reads` reads, each of at most 65,536 bytes, and none between a message's write and its
+/// placement. Keeps in memory: the partial message, those that the last read completed, the listed
+/// names and the digests.
 ///
-/// Errors: `NoFromLine` if the text is not empty and doesn't begin with `From `, and then no folder call was made;
-/// `ReadFault`; `TooManyReads` if `reads` reads didn't reach the end; `FolderAbsent`; `FolderFailed` with the number of
-/// the call; `OutOfMemory`. The first fault ends the run, and a later run goes on from there.
+/// Errors: `NoFromLine` if the text is not empty and doesn't begin with `From `, and then no folder
+/// call was made; `ReadFault`; `TooManyReads` if `reads` reads didn't reach the end;
+/// `FolderAbsent`; `FolderFailed` with the number of the call; `OutOfMemory`. The first fault ends
+/// the run, and a later run goes on from there.
 pub fn convert<F: Folder, R: Read>(
     alloc: Global,
     folder: &mut F,
@@ -32,14 +35,16 @@ pub fn convert<F: Folder, R: Read>(
 ) -> Result<Report, RunFault>
     requires { reads ≤ 2 ^ 40 }
     ensures { let at = F.at in
-        Converts (R.remaining source.old) (R.remaining source.new) reads (at folder.old) (at folder.new) result }
+        Converts (R.remaining source.old) (R.remaining source.new) reads (at folder.old)
+        (at folder.new) result }
 {
     let mut reader = Reader::new(alloc, reads)?;
     let mut whole = Vec::new(alloc);
     deliver_all(alloc, folder, source, &mut reader, &mut whole)
 }
 
-/// The run, with a reader that has read nothing and with room for the messages that a read makes whole.
+/// The run, with a reader that has read nothing and with room for the messages that a read makes
+/// whole.
 fn deliver_all<F: Folder, R: Read>(
     alloc: Global,
     folder: &mut F,
@@ -50,7 +55,8 @@ fn deliver_all<F: Folder, R: Read>(
     requires fresh { Fed [] [] reader.old.splitter }
     requires few { reader.old.reads_left ≤ 2 ^ 40 }
     ensures { let at = F.at in
-        Conversion (R.remaining source.old) (R.remaining source.new) reader.old.reads_left (at folder.old) (at folder.new) result }
+        Conversion (R.remaining source.old) (R.remaining source.new) reader.old.reads_left
+        (at folder.old) (at folder.new) result }
 {
     let mut ended = reader.next_batch(source, whole)?;
     let mut calls = Calls::new();

@@ -1,5 +1,6 @@
 // A run over a folder, from its listings on: message after message.
-ghost use Rattle.std.specs.Prelude.{◌≡◌, ◌<◌, ◌≤◌, ◌+◌, ◌-◌, ◌^◌, [], ◌∷◌, List, ℕ, OnOk, length, IfOk, IfErr};
+ghost use Rattle.std.specs.Prelude.{◌≡◌, ◌<◌, ◌≤◌, ◌+◌, ◌-◌, ◌^◌, [], ◌∷◌, List, ℕ, OnOk, length};
+ghost use Rattle.std.specs.Prelude.{IfOk, IfErr};
 ghost use Rattle.std.specs.FinMap.{contains_key};
 ghost use Rattle.maildir_name.specs.Named.{Named};
 ghost use Rattle.maildir_run.specs.Calls.{names_of};
@@ -42,13 +43,17 @@ impl<'a> Engine<'a> {
         listings: &'a Listings,
     ) -> Result<Engine<'a>, RunFault>
         ensures ran { let at = F.at in (made : ℕ)
-            × Performed (sweep_of (names_of listings.now.tmp)) (at folder.old) (at folder.new) calls.made made (fault_of result)
+            × Performed (sweep_of (names_of listings.now.tmp)) (at folder.old)
+            (at folder.new) calls.made made (fault_of result)
             × IfOk result (λ engine. engine.calls.made ≡ made) }
         ensures there { IfOk result
-            (λ engine. (b : List ℕ) → contains_key engine.there b ≡ is_listed (names_of listings.now.new) (names_of listings.now.cur) b) }
+            (λ engine. (b : List ℕ) →
+            contains_key engine.there b ≡ is_listed (names_of listings.now.new)
+            (names_of listings.now.cur) b) }
         ensures namer { IfOk result (λ engine. Named [] engine.namer) }
         ensures counts { IfOk result
-            (λ engine. (engine.messages ≡ 0) × (engine.placed ≡ 0) × (engine.swept ≡ length (sweep_of (names_of listings.now.tmp)))) }
+            (λ engine. (engine.messages ≡ 0) × (engine.placed ≡ 0) ×
+            (engine.swept ≡ length (sweep_of (names_of listings.now.tmp)))) }
         ensures causes { IfErr result IsOfFolder }
     {
         let mut calls = calls;
@@ -79,12 +84,15 @@ impl<'a> Engine<'a> {
         }
     }
 
-    /// Delivers the next message, if it was not there: writes it in `tmp` under its base, and then places it at its target by
-    /// one rename. Only what this call itself wrote is placed (maildir(5)). The set of bases is asked once.
+    /// Delivers the next message, if it was not there: writes it in `tmp` under its base, and then
+    /// places it at its target by one rename. Only what this call itself wrote is placed
+    /// (maildir(5)). The set of bases is asked once.
     fn deliver<F: Folder>(&mut self, folder: &mut F, body: &[u8]) -> Result<(), RunFault>
         requires { self.old.messages < 2 ^ 63 }
-        ensures delivers { let at = F.at in (bodies : List (List ℕ)) → Named bodies self.old.namer → length bodies < 2 ^ 63 →
-            DeliversMessages bodies (body.now ∷ []) (at folder.old) (at folder.new) self.old self.new (fault_of result) }
+        ensures delivers { let at = F.at in (bodies : List (List ℕ)) → Named bodies self.old.namer →
+            length bodies < 2 ^ 63 →
+            DeliversMessages bodies (body.now ∷ []) (at folder.old)
+            (at folder.new) self.old self.new (fault_of result) }
         ensures one { OnOk result (self.new.messages ≡ self.old.messages + 1) }
         ensures causes { IfErr result IsOfFolder }
     {
@@ -108,8 +116,10 @@ impl<'a> Engine<'a> {
     ) -> Result<(), RunFault>
         requires { self.old.messages + length entries.now < 2 ^ 63 }
         ensures delivers { let at = F.at in
-            (bodies : List (List ℕ)) → Named bodies self.old.namer → length bodies + length entries.now ≤ 2 ^ 63 →
-            DeliversMessages bodies (bodies_of entries.now) (at folder.old) (at folder.new) self.old self.new (fault_of result) }
+            (bodies : List (List ℕ)) → Named bodies self.old.namer →
+            length bodies + length entries.now ≤ 2 ^ 63 →
+            DeliversMessages bodies (bodies_of entries.now) (at folder.old)
+            (at folder.new) self.old self.new (fault_of result) }
         ensures all { OnOk result (self.new.messages ≡ self.old.messages + length entries.now) }
         ensures causes { IfErr result IsOfFolder }
     {

@@ -9,7 +9,8 @@ use thiserror::Error;
 /// Why a call of this crate ended before its work was done.
 #[derive(Clone, Copy, Debug, Drop, Error, PartialEq, Eq)]
 pub enum RunFault {
-    /// The text is not empty and does not begin with `From `. No folder call was made and nothing was written.
+    /// The text is not empty and does not begin with `From `. No folder call was made and nothing
+    /// was written.
     #[error("no From line at the start")]
     NoFromLine,
     /// The source failed.

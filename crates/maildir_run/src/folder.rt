@@ -50,7 +50,8 @@ pub enum FolderFault {
     /// `place` alone: it found no file in `tmp`.
     #[error("a file in tmp is gone")]
     Absent,
-    /// The call failed. Its effect may have happened, any number of times, or not; a write may have left other bytes.
+    /// The call failed. Its effect may have happened, any number of times, or not; a write may have
+    /// left other bytes.
     #[error("the folder call failed")]
     Failed,
     /// An allocation failed.
@@ -101,7 +102,8 @@ pub trait Folder {
     ///
     /// [`FolderFault::Absent`] if there was no such file; those of [`Folder::list`].
     fn place(&mut self, name: &str, place: Place, target: &str) -> Result<(), FolderFault>
-        ensures places { CallOf (Placing name.now place target.now) (at self.old) result (at self.new) };
+        ensures places { CallOf (Placing name.now place target.now) (at self.old) result
+            (at self.new) };
 
     /// Removes the file `name` of `tmp`. Returns Ok also if there was none.
     ///
@@ -111,5 +113,6 @@ pub trait Folder {
     fn remove(&mut self, name: &str) -> Result<(), FolderFault>
         ensures removes { CallOf (Removing name.now) (at self.old) result (at self.new) };
 
-    ghost quiet_is_honest: { (folder : Self) (spared : Spared) → (at folder).quiet → (at folder).honest spared };
+    ghost quiet_is_honest: { (folder : Self) (spared : Spared) → (at folder).quiet →
+        (at folder).honest spared };
 }

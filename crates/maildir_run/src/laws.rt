@@ -1,5 +1,6 @@
 //! Laws over the definitions alone. Each function's contract is a law; its body is empty.
-ghost use Rattle.std.specs.Prelude.{◌≡◌, ◌↔◌, ℕ, map, ◌<◌, ◌≤◌, ◌+◌, ◌-◌, ◌%◌, ◌^◌, length, List, [], ◌∷◌};
+ghost use Rattle.std.specs.Prelude.{◌≡◌, ◌↔◌, ℕ, map, ◌<◌, ◌≤◌, ◌+◌, ◌-◌, ◌%◌, ◌^◌, length, List};
+ghost use Rattle.std.specs.Prelude.{[], ◌∷◌};
 ghost use Rattle.std.specs.Prelude.{◌++◌, Some, Ok, All, Contains, IsTrue, IsFalse, IsPermutation};
 ghost use Rattle.std.specs.List.{list_any};
 ghost use Rattle.std.specs.FinMap.{get};
@@ -10,12 +11,15 @@ ghost use Rattle.maildir_run.specs.declared.folder.Sub.TheVariants as sub;
 ghost use Rattle.maildir_run.specs.declared.report.Report.{Report};
 ghost use Rattle.maildir_run.specs.MemFiles.{without_file};
 ghost use Rattle.maildir_run.specs.Files.{Spared, SparesAll, all_bases, is_spared, is_spared_name};
-ghost use Rattle.maildir_run.specs.Files.{Files, Action, KeepsSpared, acted, all_acted, homes, has_base};
+ghost use Rattle.maildir_run.specs.Files.{Files, Action, KeepsSpared, acted, all_acted, homes};
+ghost use Rattle.maildir_run.specs.Files.{has_base};
 ghost use Rattle.maildir_run.specs.Files.Action.{Outside};
-ghost use Rattle.maildir_run.specs.Calls.{Call, Move, after, Lists, Succeeded, PlacesElsewhere, WritesElsewhere, StaysOrGoes, NoneOrOne};
+ghost use Rattle.maildir_run.specs.Calls.{Call, Move, after, Lists, Succeeded, PlacesElsewhere};
+ghost use Rattle.maildir_run.specs.Calls.{WritesElsewhere, StaysOrGoes, NoneOrOne};
 ghost use Rattle.maildir_run.specs.Calls.Call.{Placing};
 ghost use Rattle.maildir_run.specs.Delivery.{has_home, leftover_count, there_count};
-ghost use Rattle.maildir_run.specs.Delivery.{Message, IsMissing, IsHome, IsSoundAt, IsSpared, AllSpared};
+ghost use Rattle.maildir_run.specs.Delivery.{Message, IsMissing, IsHome, IsSoundAt, IsSpared};
+ghost use Rattle.maildir_run.specs.Delivery.{AllSpared};
 ghost use Rattle.maildir_run.specs.Delivery.{AreNamed, AreDistinct, Sound, Delivered};
 ghost use Rattle.maildir_run.specs.Texts.{MessagesOf};
 ghost use Rattle.maildir_run.specs.Runs.{CountsRun, Link, IsRun, ReportsMessages, Runs};
@@ -27,35 +31,42 @@ ghost use Rattle.maildir_run.specs.Plan.{is_listed, planned, each_alone};
 ghost use Rattle.maildir_run.specs.Tasks.{Listings, planned_tasks, listing_tasks};
 ghost use Rattle.maildir_run.specs.Parts.{sweep_of, deliveries_of};
 
-/// The plan for some targets is the plan for none, followed by the steps of each target alone over an empty `tmp`.
+/// The plan for some targets is the plan for none, followed by the steps of each target alone over
+/// an empty `tmp`.
 pub fn plan_is_each_alone()
     ensures { (tmp new cur : List (List ℕ)) (targets : List Target) →
         planned tmp new cur targets ≡ planned tmp new cur [] ++ each_alone 0 new cur targets }
 {}
 
-/// What a run asks of its folder for some messages, one after the other, are the calls of the plan for all of them: the
-/// listings, and then the steps that `plan` answers for what they listed and the messages' targets.
+/// What a run asks of its folder for some messages, one after the other, are the calls of the plan
+/// for all of them: the listings, and then the steps that `plan` answers for what they listed and
+/// the messages' targets.
 pub fn runs_are_planned()
     ensures { (names : Listings) (ms : List Message) → planned_tasks names ms
-        ≡ listing_tasks names ++ (sweep_of names.tmp ++ deliveries_of (is_listed names.new names.cur) ms) }
+        ≡ listing_tasks names ++
+        (sweep_of names.tmp ++ deliveries_of (is_listed names.new names.cur) ms) }
 {}
 
-/// A base that is spared keeps what its homes hold, whatever another program does, and within each call that
-/// places no file under it: a listing, a write, a removal, and a placement under another base.
+/// A base that is spared keeps what its homes hold, whatever another program does, and within each
+/// call that places no file under it: a listing, a write, a removal, and a placement under another
+/// base.
 pub fn homes_are_kept()
-    ensures acted { (spared : Spared) (b : List ℕ) (action : Action) (s : Files) → IsTrue (is_spared spared b) →
+    ensures acted { (spared : Spared) (b : List ℕ) (action : Action) (s : Files) →
+        IsTrue (is_spared spared b) →
         IsPermutation (homes s b) (homes (acted spared action s) b) }
     ensures moved { (spared : Spared) (b : List ℕ) (call : Call) (moves : List Move) (s : Files) →
         IsTrue (is_spared spared b) → PlacesElsewhere b call →
         IsPermutation (homes s b) (homes (after spared s call moves) b) }
 {}
 
-/// An action outside leaves all names that are spared and their bytes as they are, and each state that leaves them
-/// so is reached by one, as where a file is deleted whose name is not spared. Where fewer bases are spared, other
-/// programs may do all that they may do where more are.
+/// An action outside leaves all names that are spared and their bytes as they are, and each state
+/// that leaves them so is reached by one, as where a file is deleted whose name is not spared.
+/// Where fewer bases are spared, other programs may do all that they may do where more are.
 pub fn outside_actions()
-    ensures leaves { (spared : Spared) (files s : Files) → KeepsSpared spared s (acted spared (Outside files) s) }
-    ensures reaches { (spared : Spared) (s t : Files) → KeepsSpared spared s t → acted spared (Outside t) s ≡ t }
+    ensures leaves { (spared : Spared) (files s : Files) →
+        KeepsSpared spared s (acted spared (Outside files) s) }
+    ensures reaches { (spared : Spared) (s t : Files) → KeepsSpared spared s t →
+        acted spared (Outside t) s ≡ t }
     ensures deletes { (spared : Spared) (folder : Sub) (name : List ℕ) (s : Files) →
         IsFalse (is_spared_name spared name) →
         acted spared (Outside (without_file folder name s)) s ≡ without_file folder name s }
@@ -64,10 +75,11 @@ pub fn outside_actions()
         (other : Action) × (acted fewer other s ≡ acted more action s) }
 {}
 
-/// A placement of a name that is spared under such a base that has no home leaves none, or one that holds what
-/// `tmp` had under the name; with Ok it leaves one.
+/// A placement of a name that is spared under such a base that has no home leaves none, or one that
+/// holds what `tmp` had under the name; with Ok it leaves one.
 pub fn place_delivers_one()
-    ensures any { (spared : Spared) (b name target : List ℕ) (place : Place) (moves : List Move) (s : Files) →
+    ensures any { (spared : Spared) (b name target : List ℕ) (place : Place) (moves : List Move)
+        (s : Files) →
         IsTrue (is_spared spared b) → IsTrue (is_spared_name spared name) →
         IsTrue (has_base b target) → homes s b ≡ [] →
         NoneOrOne b (get s.tmp name) (after spared s (Placing name place target) moves) }
@@ -78,23 +90,28 @@ pub fn place_delivers_one()
         (bytes : List ℕ) × (get old.tmp name ≡ Some bytes) × (homes new b ≡ bytes ∷ []) }
 {}
 
-/// Only a write adds a name that is spared to `tmp`, or changes what it holds there, and only its own.
+/// Only a write adds a name that is spared to `tmp`, or changes what it holds there, and only its
+/// own.
 pub fn only_write_adds()
     ensures { (spared : Spared) (name : List ℕ) (call : Call) (moves : List Move) (s : Files) →
         IsTrue (is_spared_name spared name) → WritesElsewhere name call →
         StaysOrGoes name s (after spared s call moves) }
 {}
 
-/// Where every converter's base is spared, no action of another program adds a converter's name to `tmp`.
+/// Where every converter's base is spared, no action of another program adds a converter's name to
+/// `tmp`.
 pub fn leftovers_never_grow()
     ensures { (spared : Spared) (action : Action) (s : Files) → SparesAll spared →
         leftover_count (acted spared action s) ≤ leftover_count s }
 {}
 
-/// A base that is spared and that a listing of `new` does not show, nor a later one of `cur`, has no home, whatever other programs did.
+/// A base that is spared and that a listing of `new` does not show, nor a later one of `cur`, has
+/// no home, whatever other programs did.
 pub fn listed_nowhere()
-    ensures { (spared : Spared) (b : List ℕ) (s t u v : Files) (in_new in_cur : List (List ℕ)) (actions : List Action) →
-        IsTrue (is_spared spared b) → Lists spared sub.New s in_new t → u ≡ all_acted spared actions t →
+    ensures { (spared : Spared) (b : List ℕ) (s t u v : Files) (in_new in_cur : List (List ℕ))
+        (actions : List Action) →
+        IsTrue (is_spared spared b) → Lists spared sub.New s in_new t →
+        u ≡ all_acted spared actions t →
         Lists spared sub.Cur u in_cur v → IsFalse (list_any (has_base b) in_new) →
         IsFalse (list_any (has_base b) in_cur) → homes v b ≡ [] }
 {}
@@ -107,45 +124,60 @@ pub fn messages_have_bases()
         AreDistinct ms }
 {}
 
-/// After any sequence of runs over a text, with any results, and other programs' actions: a folder that had none of
-/// the text's messages that are spared is sound for these. One more run that returns Ok delivers them, and no other
-/// program undoes that, whatever it does to all other messages.
+/// After any sequence of runs over a text, with any results, and other programs' actions: a folder
+/// that had none of the text's messages that are spared is sound for these. One more run that
+/// returns Ok delivers them, and no other program undoes that, whatever it does to all other
+/// messages.
 pub fn after_any_runs()
-    ensures sound { (spared : Spared) (t : List ℕ) (ms : List Message) (links : List Link) (old new : Files) →
-        MessagesOf t ms → length t < 2 ^ 63 → AllSpared spared (IsMissing old) ms → Runs spared t links old new →
+    ensures sound { (spared : Spared) (t : List ℕ) (ms : List Message) (links : List Link)
+        (old new : Files) →
+        MessagesOf t ms → length t < 2 ^ 63 → AllSpared spared (IsMissing old) ms →
+        Runs spared t links old new →
         Sound spared ms old new }
-    ensures delivered { (spared : Spared) (t : List ℕ) (ms : List Message) (links : List Link) (old mid new : Files) (report : Report) →
-        MessagesOf t ms → length t < 2 ^ 63 → AllSpared spared (IsMissing old) ms → Runs spared t links old mid →
+    ensures delivered { (spared : Spared) (t : List ℕ) (ms : List Message) (links : List Link)
+        (old mid new : Files) (report : Report) →
+        MessagesOf t ms → length t < 2 ^ 63 → AllSpared spared (IsMissing old) ms →
+        Runs spared t links old mid →
         IsRun spared t mid (Ok report) new → Delivered spared ms new }
-    ensures kept { (spared : Spared) (t : List ℕ) (ms : List Message) (action : Action) (s : Files) →
-        MessagesOf t ms → length t < 2 ^ 63 → Delivered spared ms s → Delivered spared ms (acted spared action s) }
+    ensures kept { (spared : Spared) (t : List ℕ) (ms : List Message) (action : Action)
+        (s : Files) →
+        MessagesOf t ms → length t < 2 ^ 63 → Delivered spared ms s →
+        Delivered spared ms (acted spared action s) }
 {}
 
-/// After any sequence of runs over several texts, with any results, and other programs' actions: a folder in which no
-/// converter's base had the digest of one of their bodies is sound for all of them, and each body has the numbers 1 to n,
-/// and no others. It is there at least as often as in each text of which a run returned Ok, and at most as often as in
-/// one of which a run was made; each message of a text of which a run returned Ok is at home. The premise: distinct bodies
-/// have distinct digests.
+/// After any sequence of runs over several texts, with any results, and other programs' actions: a
+/// folder in which no converter's base had the digest of one of their bodies is sound for all of
+/// them, and each body has the numbers 1 to n, and no others. It is there at least as often as in
+/// each text of which a run returned Ok, and at most as often as in one of which a run was made;
+/// each message of a text of which a run returned Ok is at home. The premise: distinct bodies have
+/// distinct digests.
 pub fn several_texts()
-    ensures sound { (spared : Spared) (texts : List Mailbox) (links : List LinkOver) (old new : Files) →
-        AreFresh spared texts old → RunsOver spared texts links old new → SoundForAll spared texts old new }
-    ensures counted { (spared : Spared) (texts : List Mailbox) (links : List LinkOver) (old new : Files) →
+    ensures sound { (spared : Spared) (texts : List Mailbox) (links : List LinkOver)
+        (old new : Files) →
+        AreFresh spared texts old → RunsOver spared texts links old new →
+        SoundForAll spared texts old new }
+    ensures counted { (spared : Spared) (texts : List Mailbox) (links : List LinkOver)
+        (old new : Files) →
         AreFresh spared texts old → RunsOver spared texts links old new →
         OfEach (λ m. StandsAfter spared links m.body new) texts }
-    ensures whole { (spared : Spared) (texts : List Mailbox) (links : List LinkOver) (old new : Files) (text : Mailbox) (report : Report) →
-        AreFresh spared texts old → RunsOver spared texts links old new → Contains links (RanOver text (Ok report)) →
+    ensures whole { (spared : Spared) (texts : List Mailbox) (links : List LinkOver)
+        (old new : Files) (text : Mailbox) (report : Report) →
+        AreFresh spared texts old → RunsOver spared texts links old new →
+        Contains links (RanOver text (Ok report)) →
         AllSpared spared (IsHome new) text.messages }
 {}
 
-/// For a list of one text these are the words for one text: the same folders are sound, and the same chains lead from
-/// one moment to another.
+/// For a list of one text these are the words for one text: the same folders are sound, and the
+/// same chains lead from one moment to another.
 pub fn one_text()
     ensures sound { (spared : Spared) (text : Mailbox) (old new : Files) → IsMailbox text →
         SoundForAll spared (text ∷ []) old new ↔ Sound spared text.messages old new }
     ensures runs { (spared : Spared) (text : Mailbox) (links : List LinkOver) (old new : Files) →
-        RunsOver spared (text ∷ []) links old new → Runs spared text.bytes (map link_of links) old new }
+        RunsOver spared (text ∷ []) links old new →
+        Runs spared text.bytes (map link_of links) old new }
     ensures runs_over { (spared : Spared) (text : Mailbox) (links : List Link) (old new : Files) →
-        Runs spared text.bytes links old new → RunsOver spared (text ∷ []) (map (link_over text) links) old new }
+        Runs spared text.bytes links old new →
+        RunsOver spared (text ∷ []) (map (link_over text) links) old new }
 {}
 
 /// The set of all bases has each base: each message is spared, and a report is exact.
@@ -153,19 +185,25 @@ pub fn all_are_spared()
     ensures each { (b : List ℕ) → IsTrue (all_bases b) }
     ensures all { SparesAll all_bases }
     ensures spared { (ms : List Message) → All (IsSpared all_bases) ms }
-    ensures home { (ms : List Message) (s : Files) → AllSpared all_bases (IsHome s) ms ↔ All (IsHome s) ms }
-    ensures missing { (ms : List Message) (s : Files) → AllSpared all_bases (IsMissing s) ms ↔ All (IsMissing s) ms }
-    ensures sound { (ms : List Message) (s : Files) → AllSpared all_bases (IsSoundAt s) ms ↔ All (IsSoundAt s) ms }
-    ensures reports { (ms : List Message) (s : Files) (report : Report) → ReportsMessages all_bases ms s report →
+    ensures home { (ms : List Message) (s : Files) →
+        AllSpared all_bases (IsHome s) ms ↔ All (IsHome s) ms }
+    ensures missing { (ms : List Message) (s : Files) →
+        AllSpared all_bases (IsMissing s) ms ↔ All (IsMissing s) ms }
+    ensures sound { (ms : List Message) (s : Files) →
+        AllSpared all_bases (IsSoundAt s) ms ↔ All (IsSoundAt s) ms }
+    ensures reports { (ms : List Message) (s : Files) (report : Report) →
+        ReportsMessages all_bases ms s report →
         let there = there_count (has_home s) ms in
-        (report.there ≡ there) × (report.placed ≡ length ms - there) × (report.swept ≤ leftover_count s) }
+        (report.there ≡ there) × (report.placed ≡ length ms - there) ×
+        (report.swept ≤ leftover_count s) }
 {}
 
-/// If the messages are delivered, a quiet run changes no file, and a run that returns Ok places nothing, sweeps nothing
-/// and makes three calls, the listings.
+/// If the messages are delivered, a quiet run changes no file, and a run that returns Ok places
+/// nothing, sweeps nothing and makes three calls, the listings.
 pub fn nothing_left_to_do()
     ensures same { (ms : List Message) (s : Files) → Delivered all_bases ms s → alone ms s ≡ s }
-    ensures three_calls { (t : List ℕ) (ms : List Message) (s new : Files) (report : Report) → MessagesOf t ms → Delivered all_bases ms s →
+    ensures three_calls { (t : List ℕ) (ms : List Message) (s new : Files) (report : Report) →
+        MessagesOf t ms → Delivered all_bases ms s →
         IsRun all_bases t s (Ok report) new → (before after : ℕ) → CountsRun report before after →
         (report.placed ≡ 0) × (report.swept ≡ 0) × (after % 2 ^ 128 ≡ (before + 3) % 2 ^ 128) }
 {}

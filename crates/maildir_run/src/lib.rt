@@ -1,14 +1,16 @@
 //! A run of the converter: delivers the messages of a mailbox that are missing in a Maildir.
 //!
-//! [`Folder`] is a Maildir by its four calls: list, write, place, remove. [`convert`] reads a source, lists the folder, removes
-//! what earlier runs left in `tmp`, and writes and places each message that has no file. [`plan`] returns these steps for
-//! given listings. [`rewrite`] and [`list_text`] write the messages of a source, or a table of them, to an output.
-//! [`MemFolder`] is a folder in memory.
+//! [`Folder`] is a Maildir by its four calls: list, write, place, remove. [`convert`] reads a
+//! source, lists the folder, removes what earlier runs left in `tmp`, and writes and places each
+//! message that has no file. [`plan`] returns these steps for given listings. [`rewrite`] and
+//! [`list_text`] write the messages of a source, or a table of them, to an output. [`MemFolder`] is
+//! a folder in memory.
 //!
-//! Proved of [`convert`], over any folder that does what [`Folder`] states, while mail readers move and flag messages: starting
-//! from a folder where each message is missing or correctly delivered, in one file of `new` or `cur` with exactly its bytes,
-//! every run leaves it so; after Ok each message of the text is delivered; after an error the next run goes on from there.
-//! [`laws`] has what any number of runs leaves; `docs/MODEL.md` states the model in prose.
+//! Proved of [`convert`], over any folder that does what [`Folder`] states, while mail readers move
+//! and flag messages: starting from a folder where each message is missing or correctly delivered,
+//! in one file of `new` or `cur` with exactly its bytes, every run leaves it so; after Ok each
+//! message of the text is delivered; after an error the next run goes on from there. [`laws`] has
+//! what any number of runs leaves; `docs/MODEL.md` states the model in prose.
 //!
 //! ```rust
 //! use maildir_run::{MemFolder, convert};
@@ -19,7 +21,8 @@
 //! assert!(rt; report.messages == 1 && report.placed == 1);
 //! ```
 //!
-//! Errors: [`RunFault`] says why a run ended early, and [`FolderFault`] why a call of a folder failed.
+//! Errors: [`RunFault`] says why a run ended early, and [`FolderFault`] why a call of a folder
+//! failed.
 #![tactic(auto)]
 
 mod bases;

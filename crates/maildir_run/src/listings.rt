@@ -17,13 +17,16 @@ pub(crate) struct Listings {
     pub(crate) cur: Vec<String>,
 }
 
-/// Lists the three folders. `new` comes before `cur`, since a mail reader moves files from the one to the other.
+/// Lists the three folders. `new` comes before `cur`, since a mail reader moves files from the one
+/// to the other.
 pub(crate) fn list_all<F: Folder>(folder: &mut F, calls: &mut Calls) -> Result<Listings, RunFault>
     ensures ran { let at = F.at in
         (names : tasks.Listings) × (length names.tmp < 2 ^ 64)
-        × Performed (tasks.listing_tasks names) (at folder.old) (at folder.new) calls.old.made calls.new.made (fault_of result)
+        × Performed (tasks.listing_tasks names) (at folder.old)
+        (at folder.new) calls.old.made calls.new.made (fault_of result)
         × IfOk result
-        (λ listed. (names_of listed.tmp ≡ names.tmp) × (names_of listed.new ≡ names.new) × (names_of listed.cur ≡ names.cur)) }
+        (λ listed. (names_of listed.tmp ≡ names.tmp) × (names_of listed.new ≡ names.new) ×
+        (names_of listed.cur ≡ names.cur)) }
     ensures causes { IfErr result IsOfFolder }
 {
     let tmp = calls.list(folder, Sub::Tmp)?;

@@ -1,4 +1,5 @@
-// The plan of a run: what is to be removed, written and placed, from what is listed and what is owed.
+// The plan of a run: what is to be removed, written and placed, from what is listed and what is
+// owed.
 ghost use Rattle.std.specs.Prelude.{◌≡◌, ℕ, ◌++◌, map, string_bytes, IfOk, IfErr, OnOk};
 ghost use Rattle.std.specs.FinMap.{contains_key};
 ghost use Rattle.maildir_run.specs.Plan.{planned, removals, deliveries_from};
@@ -20,8 +21,8 @@ pub enum Step {
 }
 
 /// The steps of a run over these listed names and these targets: first one `Remove` for each of the
-/// converter's names in `tmp`, in the order of the list; then, for each target in order whose base is the
-/// base of no name in `new` or `cur`, its `Write` and its `Place`.
+/// converter's names in `tmp`, in the order of the list; then, for each target in order whose base
+/// is the base of no name in `new` or `cur`, its `Write` and its `Place`.
 ///
 /// # Errors
 ///
@@ -34,7 +35,8 @@ pub fn plan(
     targets: &[Target],
 ) -> Result<Vec<Step>, RunFault>
     ensures exact { IfOk result (λ steps. steps.items
-        ≡ planned (map string_bytes tmp.now) (map string_bytes new.now) (map string_bytes cur.now) targets.now) }
+        ≡ planned (map string_bytes tmp.now) (map string_bytes new.now)
+        (map string_bytes cur.now) targets.now) }
     ensures refused { IfErr result (λ fault. fault ≡ RunFault.OutOfMemory) }
 {
     let there = Bases::of_listings(alloc, new, cur)?;
@@ -45,7 +47,8 @@ pub fn plan(
 }
 
 fn add_removals(steps: &mut Vec<Step>, tmp: &[String]) -> Result<(), AllocError>
-    ensures { OnOk result (steps.new.items ≡ steps.old.items ++ removals (map string_bytes tmp.now)) }
+    ensures { OnOk result
+        (steps.new.items ≡ steps.old.items ++ removals (map string_bytes tmp.now)) }
 {
     for name in tmp {
         if is_converter_name(name.as_str()) {

@@ -22,16 +22,18 @@ pub(crate) trait Printer {
     /// Writes some messages.
     fn print<W: Write>(&mut self, entries: &[Entry], out: &mut W) -> Result<(), RunFault>
         requires { FromLines entries.now }
-        ensures prints { PrintsMore output printed self.old entries.now (W.contents out.old) (W.contents out.new) result self.new }
-        ensures causes { IfErr result (λ fault. (fault ≡ RunFault.OutputFault) ⊎ (fault ≡ RunFault.OutOfMemory)) };
+        ensures prints { PrintsMore output printed self.old entries.now (W.contents out.old)
+            (W.contents out.new) result self.new }
+        ensures causes { IfErr result (λ fault. (fault ≡ RunFault.OutputFault) ⊎
+            (fault ≡ RunFault.OutOfMemory)) };
 
     /// How many it has written.
     fn count(&self) -> u64
         ensures { (given : List Entry) → printed given self.now → result ≡ length given };
 }
 
-/// Writes what belongs to each message of the source's text, in order, and returns how many there are. Makes at most
-/// `reads` reads. Keeps in memory: one message, and what one read returned.
+/// Writes what belongs to each message of the source's text, in order, and returns how many there
+/// are. Makes at most `reads` reads. Keeps in memory: one message, and what one read returned.
 pub(crate) fn print_all<R: Read, W: Write, P: Printer>(
     alloc: Global,
     source: &mut R,

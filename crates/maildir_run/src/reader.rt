@@ -1,6 +1,8 @@
 // The messages of a source, read piece by piece under a budget of reads.
-ghost use Rattle.std.specs.Prelude.{◌≡◌, ◌⊎◌, ◌<◌, ◌≤◌, ◌+◌, ◌++◌, [], List, ℕ, Option, length, take};
-ghost use Rattle.std.specs.Prelude.{vec_len, IfOk, OnOk, IfErr, IsErrOf, MatchResult, option_to_list};
+ghost use Rattle.std.specs.Prelude.{◌≡◌, ◌⊎◌, ◌<◌, ◌≤◌, ◌+◌, ◌++◌, [], List, ℕ, Option, length};
+ghost use Rattle.std.specs.Prelude.{take};
+ghost use Rattle.std.specs.Prelude.{vec_len, IfOk, OnOk, IfErr, IsErrOf, MatchResult};
+ghost use Rattle.std.specs.Prelude.{option_to_list};
 ghost use Rattle.std.specs.Io.KnownBytes.{Consumes, IsAtEnd};
 ghost use Rattle.mbox_text.specs.Fed.{Fed, Takes, NeverBegins, GivesLast, IsTooShort};
 
@@ -39,20 +41,23 @@ impl Reader {
         })
     }
 
-    /// Reads until a message is whole or the source is at its end, and gives the messages that are whole now. True at the
-    /// source's end: then the last message is among them, and no read is to follow. By the end of the first batch the first
-    /// bytes have decided whether the text is an mbox text.
+    /// Reads until a message is whole or the source is at its end, and gives the messages that are
+    /// whole now. True at the source's end: then the last message is among them, and no read is to
+    /// follow. By the end of the first batch the first bytes have decided whether the text is an
+    /// mbox text.
     ///
-    /// Errors: `TooManyReads` where no read is left, and then none is made; `ReadFault`; `NoFromLine` as soon as what was
-    /// read can't begin an mbox text; `OutOfMemory`.
+    /// Errors: `TooManyReads` where no read is left, and then none is made; `ReadFault`;
+    /// `NoFromLine` as soon as what was read can't begin an mbox text; `OutOfMemory`.
     pub(crate) fn next_batch<R: Read>(
         &mut self,
         source: &mut R,
         whole: &mut Vec<Entry>,
     ) -> Result<bool, RunFault>
-        ensures gives { IfOk result (λ ended. GivesBatch ended self.old (R.remaining source.old) (R.remaining source.new)
+        ensures gives { IfOk result
+            (λ ended. GivesBatch ended self.old (R.remaining source.old) (R.remaining source.new)
             self.new.splitter self.new.reads_left whole.new.items) }
-        ensures refused { IfErr result (GivesNoMore self.old (R.remaining source.old) (R.remaining source.new)) }
+        ensures refused { IfErr result
+            (GivesNoMore self.old (R.remaining source.old) (R.remaining source.new)) }
         ensures causes { IfErr result IsReading }
     {
         whole.clear();
@@ -71,7 +76,8 @@ impl Reader {
     }
 }
 
-/// Makes one read of those that are left, into the buffer, and returns how many bytes it took: none only at the source's end.
+/// Makes one read of those that are left, into the buffer, and returns how many bytes it took: none
+/// only at the source's end.
 fn read_piece<R: Read>(
     source: &mut R,
     buffer: &mut Vec<u8>,
@@ -83,7 +89,8 @@ fn read_piece<R: Read>(
         × (n ≡ 0 → IsAtEnd (R.remaining source.new))) }
     ensures spent { OnOk result (reads_left.new + 1 ≡ reads_left.old) }
     ensures room { vec_len buffer.new ≡ vec_len buffer.old }
-    ensures refused { IfErr result (λ fault. Consumes (R.remaining source.old) (R.remaining source.new) []
+    ensures refused { IfErr result
+        (λ fault. Consumes (R.remaining source.old) (R.remaining source.new) []
         × ((fault ≡ RunFault.TooManyReads) × (reads_left.old ≡ 0) ⊎ (fault ≡ RunFault.ReadFault))) }
 {
     spend(reads_left)?;
@@ -109,9 +116,12 @@ fn spend(reads: &mut u64) -> Result<(), RunFault>
 
 /// Feeds a splitter of which no call failed.
 fn feed(splitter: &mut Splitter, piece: &[u8], out: &mut Vec<Entry>) -> Result<(), RunFault>
-    ensures fed { OnOk result (Takes splitter.old piece.now out.old.items out.new.items splitter.new) }
-    ensures no_from_line { IsErrOf result RunFault.NoFromLine → NeverBegins splitter.old piece.now out.old.items out.new.items }
-    ensures causes { IfErr result (λ fault. (fault ≡ RunFault.NoFromLine) ⊎ (fault ≡ RunFault.OutOfMemory)) }
+    ensures fed { OnOk result
+        (Takes splitter.old piece.now out.old.items out.new.items splitter.new) }
+    ensures no_from_line { IsErrOf result RunFault.NoFromLine →
+        NeverBegins splitter.old piece.now out.old.items out.new.items }
+    ensures causes { IfErr result (λ fault. (fault ≡ RunFault.NoFromLine) ⊎
+        (fault ≡ RunFault.OutOfMemory)) }
 {
     match splitter.feed(piece, out) {
         Ok(()) => Ok(()),
@@ -122,10 +132,12 @@ fn feed(splitter: &mut Splitter, piece: &[u8], out: &mut Vec<Entry>) -> Result<(
 
 /// Appends the last message of a splitter of which no call failed.
 fn finish(splitter: Splitter, out: &mut Vec<Entry>) -> Result<(), RunFault>
-    ensures last { OnOk result ((last : Option Entry) × (out.new.items ≡ out.old.items ++ option_to_list last) × GivesLast splitter last) }
+    ensures last { OnOk result ((last : Option Entry) ×
+        (out.new.items ≡ out.old.items ++ option_to_list last) × GivesLast splitter last) }
     ensures no_from_line { IsErrOf result RunFault.NoFromLine →
         (text : List ℕ) (given : List Entry) → Fed text given splitter → IsTooShort text }
-    ensures causes { IfErr result (λ fault. (fault ≡ RunFault.NoFromLine) ⊎ (fault ≡ RunFault.OutOfMemory)) }
+    ensures causes { IfErr result (λ fault. (fault ≡ RunFault.NoFromLine) ⊎
+        (fault ≡ RunFault.OutOfMemory)) }
 {
     match splitter.finish() {
         Ok(None) => Ok(()),

@@ -11,8 +11,8 @@ use crate::folder::Folder;
 use crate::planner::{Step, plan};
 use std::alloc::Global;
 
-/// Removes the converter's names among those that were listed in `tmp`, by the plan for them and no target. Answers how
-/// many.
+/// Removes the converter's names among those that were listed in `tmp`, by the plan for them and no
+/// target. Answers how many.
 pub(crate) fn sweep<F: Folder>(
     alloc: Global,
     folder: &mut F,
@@ -20,7 +20,8 @@ pub(crate) fn sweep<F: Folder>(
     listed: &[String],
 ) -> Result<u64, RunFault>
     ensures ran { let at = F.at in
-        Performed (sweep_of (map string_bytes listed.now)) (at folder.old) (at folder.new) calls.old.made calls.new.made (fault_of result) }
+        Performed (sweep_of (map string_bytes listed.now)) (at folder.old)
+        (at folder.new) calls.old.made calls.new.made (fault_of result) }
     ensures count { IfOk result (λ n. n ≡ length (sweep_of (map string_bytes listed.now))) }
     ensures causes { IfErr result IsOfFolder }
 {
@@ -35,7 +36,8 @@ fn remove_planned<F: Folder>(
     steps: &[Step],
 ) -> Result<u64, RunFault>
     ensures ran { let at = F.at in
-        Performed (tasks_of [] steps.now) (at folder.old) (at folder.new) calls.old.made calls.new.made (fault_of result) }
+        Performed (tasks_of [] steps.now) (at folder.old)
+        (at folder.new) calls.old.made calls.new.made (fault_of result) }
     ensures count { IfOk result (λ n. n ≡ length (tasks_of [] steps.now)) }
     ensures causes { IfErr result IsOfFolder }
 {

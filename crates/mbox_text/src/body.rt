@@ -1,5 +1,6 @@
 // Bodies: unquoted lines, without the blank line that ends the message.
-ghost use Rattle.std.specs.Prelude.{◌≡◌, ◌-◌, ◌<◌, ◌≤◌, ◌++◌, ◌⊎◌, [], ◌∷◌, true, length, take, drop, IfOk, OnOk, MatchBool};
+ghost use Rattle.std.specs.Prelude.{◌≡◌, ◌-◌, ◌<◌, ◌≤◌, ◌++◌, ◌⊎◌, [], ◌∷◌, true, length, take};
+ghost use Rattle.std.specs.Prelude.{drop, IfOk, OnOk, MatchBool};
 ghost use Rattle.std.specs.List.{flat_map};
 ghost use Rattle.mbox_text.specs.Lines.{lines, Ended, NoEnd};
 ghost use Rattle.mbox_text.specs.Quoting.{begins_from, unquoted};
@@ -51,8 +52,8 @@ pub(crate) fn add_unquoted(body: &mut Vec<u8>, line: &[u8]) -> Result<(), AllocE
     }
 }
 
-/// Appends the whole lines of the text up to the first From_ line, unquoted. Returns where that From_ line begins, or else
-/// the last line, which lacks its `\n`.
+/// Appends the whole lines of the text up to the first From_ line, unquoted. Returns where that
+/// From_ line begins, or else the last line, which lacks its `\n`.
 pub(crate) fn take_lines(body: &mut Vec<u8>, text: &[u8]) -> Result<usize, AllocError>
     ensures within { IfOk result (λ n. n ≤ length text.now) }
     ensures added { IfOk result

@@ -6,10 +6,12 @@ use crate::fault::TextFault;
 use memchr::memchr;
 use std::alloc::{AllocError, Global};
 
-/// The From_ line of a sender and a rest, without its `\n` (qmail's mbox(5)): `From `, the sender with a hyphen for each
-/// space, tab and `\n`, or `MAILER-DAEMON` for an empty one, and, where the rest is not empty, a space and the rest.
+/// The From_ line of a sender and a rest, without its `\n` (qmail's mbox(5)): `From `, the sender
+/// with a hyphen for each space, tab and `\n`, or `MAILER-DAEMON` for an empty one, and, where the
+/// rest is not empty, a space and the rest.
 ///
-/// Errors: `LineEndInRest` exactly if the rest holds a `\n`; else `OutOfMemory` if an allocation failed.
+/// Errors: `LineEndInRest` exactly if the rest holds a `\n`; else `OutOfMemory` if an allocation
+/// failed.
 pub fn build_from(alloc: Global, sender: &[u8], rest: &[u8]) -> Result<Vec<u8>, TextFault>
     ensures built { IfOk result (λ line. line.items ≡ built sender.now rest.now) }
     ensures from_line { IfOk result (λ line. IsFromLine line.items) }

@@ -8,7 +8,8 @@ use thiserror::Error;
 /// Why a call failed.
 #[derive(Clone, Copy, Debug, PartialEq, Eq, Error)]
 pub enum TextFault {
-    /// The text is not empty and doesn't begin with `From `, so its first bytes belong to no message.
+    /// The text is not empty and doesn't begin with `From `, so its first bytes belong to no
+    /// message.
     #[error("no From line at the start")]
     NoFromLine,
     /// The rest of a From_ line that was to be built holds a `\n`.

@@ -6,7 +6,8 @@ ghost use Rattle.mbox_text.specs.Quoting.{begins_from, begins_with, from_bytes};
 
 use memchr::memchr;
 
-/// Whether the bytes are a From_ line without its `\n`: they begin with `From ` and hold no `\n` (mbox(5)).
+/// Whether the bytes are a From_ line without its `\n`: they begin with `From ` and hold no `\n`
+/// (mbox(5)).
 pub fn is_from_line(line: &[u8]) -> bool
     ensures { IsTrue result ↔ IsFromLine line.now }
 {

@@ -1,4 +1,5 @@
-// Laws of the definitions. Each function's contract is a law of all lines, texts and messages; its body is empty.
+// Laws of the definitions. Each function's contract is a law of all lines, texts and messages; its
+// body is empty.
 ghost use Rattle.std.specs.Prelude.{◌≡◌, ℕ, ◌++◌, [], ◌∷◌, ◌↔◌, false, List, map};
 ghost use Rattle.std.specs.List.{flat_map};
 ghost use Rattle.mbox_text.specs.FromLine.{built, cleaned, past_spaces, rest, sender};
@@ -14,7 +15,8 @@ pub fn unquote_of_quote()
     ensures inside { (line : List ℕ) → begins_from (quoted line) ≡ false }
 {}
 
-/// A text has at most one list of messages, and has one exactly if it is empty or begins with `From `.
+/// A text has at most one list of messages, and has one exactly if it is empty or begins with `From
+/// `.
 pub fn one_reading()
     ensures one { (text : List ℕ) (one other : List Entry)
         → Mbox text one → Mbox text other → one ≡ other }
@@ -22,21 +24,23 @@ pub fn one_reading()
         → IsMboxText text ↔ ((entries : List Entry) × Mbox text entries) }
 {}
 
-/// The parts of a built From_ line are the sender as it is written, and the rest without its leading spaces.
+/// The parts of a built From_ line are the sender as it is written, and the rest without its
+/// leading spaces.
 pub fn parts_of_built()
     ensures sender { (from after : List ℕ) → sender (built from after) ≡ cleaned from }
     ensures rest { (from after : List ℕ) → rest (built from after) ≡ past_spaces after }
 {}
 
-/// All messages of a text but the last are a proper prefix of the messages of each longer text that begins with it.
+/// All messages of a text but the last are a proper prefix of the messages of each longer text that
+/// begins with it.
 pub fn prefix_reading()
     ensures { (text more : List ℕ) (entries given : List Entry) (last : Entry)
         → Mbox text (given ++ last ∷ []) → Mbox (text ++ more) entries
         → IsProperPrefix given entries }
 {}
 
-/// The spelling of messages reads as the same messages, with the `\n` that a body lacked at its end. Spelling those gives
-/// the same text: rewriting twice is rewriting once.
+/// The spelling of messages reads as the same messages, with the `\n` that a body lacked at its
+/// end. Spelling those gives the same text: rewriting twice is rewriting once.
 pub fn spelled_again()
     ensures read { (entries : List Entry) → FromLines entries
         → Mbox (flat_map spelling entries) (map completed entries) }

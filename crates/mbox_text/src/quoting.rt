@@ -7,7 +7,8 @@ use crate::from_line::begins_with_from;
 use crate::lines::{line_len, whole_len};
 use memchr::memmem::Finder;
 
-/// Whether the bytes begin with zero or more `>` and then `From `: such a line of a body is written with one `>` more (mbox(5)).
+/// Whether the bytes begin with zero or more `>` and then `From `: such a line of a body is written
+/// with one `>` more (mbox(5)).
 pub fn is_quotable(line: &[u8]) -> bool
     ensures { result ≡ quotable line.now }
 {
@@ -30,8 +31,8 @@ pub(crate) fn is_quoted(line: &[u8]) -> bool
     is_quotable(line)
 }
 
-/// Where the first quotable line begins, or None if no line is quotable. The time is linear in the bytes up to the end of
-/// that line.
+/// Where the first quotable line begins, or None if no line is quotable. The time is linear in the
+/// bytes up to the end of that line.
 pub(crate) fn find_quotable(text: &[u8]) -> Option<usize>
     ensures { FindsQuotable text.now result }
 {

@@ -4,8 +4,8 @@ ghost use Rattle.mbox_text.specs.FromLine.{IsFromLine, before_space, past_spaces
 
 use memchr::memchr;
 
-/// The sender of a From_ line: what follows `From `, up to the next space or the line's end (this project's own rule).
-/// It may be empty. Allocates nothing.
+/// The sender of a From_ line: what follows `From `, up to the next space or the line's end (this
+/// project's own rule). It may be empty. Allocates nothing.
 pub fn sender_of(from_line: &[u8]) -> &[u8]
     requires { IsFromLine from_line.now }
     ensures { result.now ≡ sender from_line.now }
@@ -14,8 +14,8 @@ pub fn sender_of(from_line: &[u8]) -> &[u8]
     &after[..first_space(after)]
 }
 
-/// The rest of a From_ line: what follows the sender and all spaces directly after it (this project's own rule). It is not
-/// parsed: in most texts it is a date. Allocates nothing.
+/// The rest of a From_ line: what follows the sender and all spaces directly after it (this
+/// project's own rule). It is not parsed: in most texts it is a date. Allocates nothing.
 pub fn rest_of(from_line: &[u8]) -> &[u8]
     requires { IsFromLine from_line.now }
     ensures { result.now ≡ rest from_line.now }

@@ -12,10 +12,11 @@ use crate::from_line::begins_with_from;
 use memchr::memchr;
 use std::alloc::{AllocError, Global};
 
-/// The messages of a whole text, in order (mbox(5)): each From_ line begins one, and no blank line is needed before it.
+/// The messages of a whole text, in order (mbox(5)): each From_ line begins one, and no blank line
+/// is needed before it.
 ///
-/// Errors: `NoFromLine` exactly if the text is not empty and doesn't begin with `From ` (this project's own rule), before
-/// any allocation; else `OutOfMemory` if an allocation failed.
+/// Errors: `NoFromLine` exactly if the text is not empty and doesn't begin with `From ` (this
+/// project's own rule), before any allocation; else `OutOfMemory` if an allocation failed.
 pub fn split_all(alloc: Global, text: &[u8]) -> Result<Vec<Entry>, TextFault>
     ensures entries { IfOk result (λ entries. Mbox text.now entries.items) }
     ensures no_from_line { IsErrOf result TextFault.NoFromLine ↔ ¬ IsMboxText text.now }

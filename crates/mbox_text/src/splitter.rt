@@ -1,6 +1,8 @@
 // Splitting a text that arrives in pieces.
-ghost use Rattle.std.specs.Prelude.{◌≡◌, ◌<◌, ◌≤◌, ◌↔◌, [], ◌∷◌, length, take, IfErr, IfOk, IsErr, IsErrOf, OnErr, OnOk};
-ghost use Rattle.mbox_text.specs.Fed.{GivesLast, Fed, IsSplitterFault, NeverBegins, RefusesShort, Takes, TakesPart};
+ghost use Rattle.std.specs.Prelude.{◌≡◌, ◌<◌, ◌≤◌, ◌↔◌, [], ◌∷◌, length, take, IfErr, IfOk, IsErr};
+ghost use Rattle.std.specs.Prelude.{IsErrOf, OnErr, OnOk};
+ghost use Rattle.mbox_text.specs.Fed.{GivesLast, Fed, IsSplitterFault, NeverBegins, RefusesShort};
+ghost use Rattle.mbox_text.specs.Fed.{Takes, TakesPart};
 ghost use Rattle.mbox_text.specs.Private.Moved.{Gives, Moves, Refuses, Stops};
 ghost use Rattle.mbox_text.specs.Held.{HasFailed};
 ghost use Rattle.mbox_text.specs.Lines.{NoEnd};
@@ -15,8 +17,8 @@ use memchr::memchr;
 use std::alloc::{AllocError, Global};
 use std::mem;
 
-/// Splits a text that arrives in pieces into its messages (mbox(5)). Keeps in memory: the partial message and no other. The
-/// time is linear in the bytes, however they are cut into pieces.
+/// Splits a text that arrives in pieces into its messages (mbox(5)). Keeps in memory: the partial
+/// message and no other. The time is linear in the bytes, however they are cut into pieces.
 #[derive(Drop)]
 pub struct Splitter {
     alloc: Global,
@@ -40,11 +42,12 @@ impl Splitter {
         }
     }
 
-    /// Takes the next piece of the text, and appends each message that it completes: after Ok, all calls together have
-    /// appended all messages of the text so far but the last.
+    /// Takes the next piece of the text, and appends each message that it completes: after Ok, all
+    /// calls together have appended all messages of the text so far but the last.
     ///
-    /// Errors: `NoFromLine` if the text so far neither begins with `From ` nor is a prefix of it; `OutOfMemory` if an
-    /// allocation failed, and then a prefix of the messages may have been appended. Every later call fails with `Failed`.
+    /// Errors: `NoFromLine` if the text so far neither begins with `From ` nor is a prefix of it;
+    /// `OutOfMemory` if an allocation failed, and then a prefix of the messages may have been
+    /// appended. Every later call fails with `Failed`.
     pub fn feed(&mut self, piece: &[u8], out: &mut Vec<Entry>) -> Result<(), TextFault>
         ensures fed { OnOk result (Takes self.old piece.now out.old.items out.new.items self.new) }
 
@@ -69,8 +72,8 @@ impl Splitter {
 
     /// The last message of the text, or None if nothing was fed.
     ///
-    /// Errors: `Failed` after a `feed` that failed; `NoFromLine` if one to four bytes were fed; `OutOfMemory` if an allocation
-    /// failed.
+    /// Errors: `Failed` after a `feed` that failed; `NoFromLine` if one to four bytes were fed;
+    /// `OutOfMemory` if an allocation failed.
     pub fn finish(self) -> Result<Option<Entry>, TextFault>
         ensures last { IfOk result (GivesLast self) }
         ensures failed { IsErrOf result TextFault.Failed ↔ HasFailed self }
@@ -113,8 +116,8 @@ impl Splitter {
         Ok(())
     }
 
-    // Takes the leading whole lines of the text, up to a From_ line, and then one more line, or its start. Returns how many
-    // bytes that is.
+    // Takes the leading whole lines of the text, up to a From_ line, and then one more line, or its
+    // start. Returns how many bytes that is.
     fn advance(&mut self, text: &[u8], out: &mut Vec<Entry>) -> Result<usize, TextFault>
         requires { 0 < length text.now }
         ensures some { IfOk result (λ n. 0 < n) }
@@ -140,7 +143,8 @@ impl Splitter {
         }
     }
 
-    // Takes the leading whole lines of the text if a line of a body begins there. Returns how many bytes they are.
+    // Takes the leading whole lines of the text if a line of a body begins there. Returns how many
+    // bytes they are.
     fn take_body_lines(&mut self, text: &[u8]) -> Result<usize, AllocError>
         ensures within { IfOk result (λ n. n ≤ length text.now) }
         ensures held { IfOk result (λ n. Moves self.old (take n text.now) [] self.new) }

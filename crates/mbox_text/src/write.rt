@@ -12,10 +12,12 @@ use crate::lines::line_len;
 use crate::quoting::find_quotable;
 use std::io::{ErrorKind, Write};
 
-/// Writes the message in its regular spelling (mbox(5)): the From_ line and `\n`; the body, with one `>` more before each line
-/// that is zero or more `>` and then `From `; the `\n` that the body lacks at its end; and a blank line. Allocates nothing.
+/// Writes the message in its regular spelling (mbox(5)): the From_ line and `\n`; the body, with
+/// one `>` more before each line that is zero or more `>` and then `From `; the `\n` that the body
+/// lacks at its end; and a blank line. Allocates nothing.
 ///
-/// Error: `WriteFault` if the writer failed, or took no byte though some were offered; it has taken a prefix of the spelling.
+/// Error: `WriteFault` if the writer failed, or took no byte though some were offered; it has taken
+/// a prefix of the spelling.
 pub fn write_entry<W: Write>(entry: &Entry, out: &mut W) -> Result<(), TextFault>
     ensures written { Writes (W.contents out.old) (W.contents out.new) result (spelling entry.now) }
     ensures causes { IfErr result (λ fault. fault ≡ TextFault.WriteFault) }
@@ -29,8 +31,8 @@ pub fn write_entry<W: Write>(entry: &Entry, out: &mut W) -> Result<(), TextFault
 
 /// Writes the bytes as they stand.
 ///
-/// Error: `WriteFault` if the writer failed, or took no byte though some were offered; it has taken a prefix of the bytes. An
-/// interrupted write is retried.
+/// Error: `WriteFault` if the writer failed, or took no byte though some were offered; it has taken
+/// a prefix of the bytes. An interrupted write is retried.
 pub fn write_bytes<W: Write>(bytes: &[u8], out: &mut W) -> Result<(), TextFault>
     ensures written { Writes (W.contents out.old) (W.contents out.new) result bytes.now }
     ensures causes { IfErr result (λ fault. fault ≡ TextFault.WriteFault) }

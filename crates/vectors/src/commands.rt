@@ -1,4 +1,5 @@
-// The same words given again and again, broken off at each call, with a power cut after each command.
+// The same words given again and again, broken off at each call, with a power cut after each
+// command.
 use crate::cuts::{losing, losing_one};
 use crate::planning::names;
 use crate::rows::same;
@@ -11,7 +12,8 @@ use maildir_run::Sub;
 use std::io::BufWriter;
 use std::test::Fail;
 
-// So often the calls fail at another place, each four calls later: the last is after all that the words make.
+// So often the calls fail at another place, each four calls later: the last is after all that the
+// words make.
 const STOPS: u64 = 23;
 
 // Of so many cases each power cut leaves one.
@@ -32,8 +34,9 @@ const Z: &str = "594e519ae499312b29433b7dd8a97ff068defcba9755b6d5d00e84c524d67b0
 
 const MESSAGES: &[(&str, &[u8])] = &[(Z, b"z"), (ABC_LINE, b"abc\n"), (HELLO_LINE, b"hello\n")];
 
-// One command, of which so many calls of the Maildir are answered; then a power cut leaves this case. The status, how many
-// cases there were, and how many of the messages are in `new`, if each file there is one of them with its body.
+// One command, of which so many calls of the Maildir are answered; then a power cut leaves this
+// case. The status, how many cases there were, and how many of the messages are in `new`, if each
+// file there is one of them with its body.
 fn command(
     rt: HostRuntime,
     machine: &mut MemMachine<'static>,
@@ -85,15 +88,16 @@ fn at_home(system: &MemSystem) -> Option<usize> {
     }
 }
 
-// What a history leaves: the first status, how many cases the cut had, and how many messages are there after it; then the second
-// status, and how many are there after the second and the third command.
+// What a history leaves: the first status, how many cases the cut had, and how many messages are
+// there after it; then the second status, and how many are there after the second and the third
+// command.
 type History = (
     (u8, usize, Option<usize>),
     (u8, Option<usize>, Option<usize>),
 );
 
-// The words name a Maildir that is missing, and is made. So many of its calls are answered, and a power cut leaves this case;
-// then they are given again, and once more.
+// The words name a Maildir that is missing, and is made. So many of its calls are answered, and a
+// power cut leaves this case; then they are given again, and once more.
 fn history(rt: HostRuntime, calls: u64, case: usize) -> Result<History, Fail> {
     let mut machine = MemMachine::new(rt.alloc(), TEXTS);
     machine.make_of(losing(rt, &[], 1)?);
@@ -127,8 +131,8 @@ fn commands_and_power_cuts(rt: HostRuntime) -> Result<(), Fail> {
     same(&"done, and stopped", &ended, &(true, true))
 }
 
-// What a command leaves after another program deleted the first message: the status, whether the message is there, and how
-// many are.
+// What a command leaves after another program deleted the first message: the status, whether the
+// message is there, and how many are.
 type Left = (u8, bool, Option<usize>);
 
 fn left_by(rt: HostRuntime, machine: &mut MemMachine<'static>) -> Result<Left, Fail> {
@@ -140,8 +144,8 @@ fn left_by(rt: HostRuntime, machine: &mut MemMachine<'static>) -> Result<Left, F
     Ok((status, is_there, found))
 }
 
-// A command is broken off, and a power cut follows; at this turn another program deletes the first message, if it is there;
-// then the words are given again, and once more.
+// A command is broken off, and a power cut follows; at this turn another program deletes the first
+// message, if it is there; then the words are given again, and once more.
 fn deletion(rt: HostRuntime, turn: u8) -> Result<(u8, Left, Left), Fail> {
     let mut machine = MemMachine::new(rt.alloc(), TEXTS);
     machine.make_of(losing_one(rt, Z, turn)?);

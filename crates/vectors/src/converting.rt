@@ -105,8 +105,9 @@ fn quiet_runs(rt: HostRuntime) -> Result<(), Fail> {
     Ok(())
 }
 
-// A text whose source breaks off after each of so many bytes, in pieces of each of these sizes, and the files that are left
-// then; the report of the next run, over the whole text, and the files that it leaves.
+// A text whose source breaks off after each of so many bytes, in pieces of each of these sizes, and
+// the files that are left then; the report of the next run, over the whole text, and the files that
+// it leaves.
 struct Prefix<'a> {
     name: &'a str,
     text: &'a [u8],

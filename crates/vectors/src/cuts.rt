@@ -1,5 +1,5 @@
-// Power cuts of a system in memory that loses what was not synced. In each other order than the right one the steps that
-// bring a message lose it in some case of what a cut leaves.
+// Power cuts of a system in memory that loses what was not synced. In each other order than the
+// right one the steps that bring a message lose it in some case of what a cut leaves.
 use crate::mem_system::{system_of, system_with};
 use crate::rows::same;
 use crate::scripts::{Deed, turns_of};
@@ -79,8 +79,9 @@ fn is_found(folder: &MemFolder) -> bool {
     }
 }
 
-// Whether the message is found in each case that a cut may leave after these steps, where a reader moves it to `cur` at the
-// turn of this number, and whether two files of it are found in one of them.
+// Whether the message is found in each case that a cut may leave after these steps, where a reader
+// moves it to `cur` at the turn of this number, and whether two files of it are found in one of
+// them.
 fn survives(rt: HostRuntime, steps: &[Step], turn: u8) -> Result<(bool, bool), Fail> {
     let (mut always, mut doubled) = (true, false);
     for case in 0..ROOM {
@@ -146,7 +147,8 @@ const WRONG: &[(&str, &[Step])] = &[
     ),
 ];
 
-// The order of the steps is what keeps a message. In the right one a rename of the reader may come in half.
+// The order of the steps is what keeps a message. In the right one a rename of the reader may come
+// in half.
 #[test]
 fn orders_of_syncs(rt: HostRuntime) -> Result<(), Fail> {
     same(&"the right order", &survives_any(rt, RIGHT)?, &(true, true))?;
@@ -170,7 +172,8 @@ fn both_placed(rt: HostRuntime) -> Result<MemSystem, Fail> {
     Ok(system)
 }
 
-// Whether a cut leaves the first of them in this case, whether it leaves the second, and how many files there are.
+// Whether a cut leaves the first of them in this case, whether it leaves the second, and how many
+// files there are.
 fn left_of_both(rt: HostRuntime, case: usize) -> Result<(bool, bool, usize), Fail> {
     let mut system = both_placed(rt)?;
     system.cut(case);

@@ -23,7 +23,8 @@ fn holds(rt: HostRuntime, root: &str, name: &str, wanted: &[u8]) -> Result<(), F
     same_bytes(&name, fs::read(&rt, path.as_str())?.as_slice(), wanted)
 }
 
-// A shorter write takes the place of a longer one, and removals leave `tmp` empty, of a name that was never there too.
+// A shorter write takes the place of a longer one, and removals leave `tmp` empty, of a name that
+// was never there too.
 fn write_again<F: Folder>(rt: HostRuntime, folder: &mut F, root: &str) -> Result<(), Fail> {
     let written = (folder.write("v", b"longer"), folder.write("v", b"c"));
     same(&"write, write again", &written, &(Ok(()), Ok(())))?;

@@ -85,7 +85,8 @@ const SCENES: &[Scene<'_>] = &[
             (&[], UNENDED, Ok((1, 0, 1, 0)), ABC_ALONE),
         ],
     ),
-    // the first message is moved before the run stops, and both are given other flags before the next one lists `cur`
+    // the first message is moved before the run stops, and both are given other flags before the
+    // next one lists `cur`
     (
         "read_and_reflagged",
         &[],

@@ -44,7 +44,8 @@ fn built_from_lines(rt: HostRuntime) -> Result<(), Fail> {
     Ok(())
 }
 
-// Which bytes are a From_ line, and which lines are quoted in a body; the sender and the rest of a From_ line.
+// Which bytes are a From_ line, and which lines are quoted in a body; the sender and the rest of a
+// From_ line.
 #[test]
 fn taken_from_lines(rt: HostRuntime) -> Result<(), Fail> {
     const LINES: &[(&[u8], bool, bool)] = &[

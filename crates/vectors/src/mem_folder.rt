@@ -7,7 +7,8 @@ use maildir_run::{Folder, FolderFault, MemFolder, Sub};
 use std::fmt::Debug;
 use std::test::Fail;
 
-/// A folder lists these names, in this order. As all calls here, it may be made again where an allocation was refused.
+/// A folder lists these names, in this order. As all calls here, it may be made again where an
+/// allocation was refused.
 pub(crate) fn lists<N: Debug, F: Folder>(
     row: &N,
     folder: &mut F,
@@ -64,7 +65,8 @@ fn remove<F: Folder>(folder: &mut F, again: bool, name: &str) -> Result<(), Fold
     }
 }
 
-/// The calls of a folder that is empty answer as they are to: a file comes, is listed and goes to `cur`.
+/// The calls of a folder that is empty answer as they are to: a file comes, is listed and goes to
+/// `cur`.
 pub(crate) fn answers<F: Folder>(folder: &mut F, again: bool) -> Result<(), Fail> {
     let absent = place(folder, again, "u", Place::New, "u");
     let removed = remove(folder, again, "u");
@@ -88,7 +90,8 @@ fn folder_calls(rt: HostRuntime) -> Result<(), Fail> {
     same(&"calls", &folder.calls(), &5)
 }
 
-// Files that are put in this order, the second `a` in place of the first, are these in the order of their names.
+// Files that are put in this order, the second `a` in place of the first, are these in the order of
+// their names.
 #[test]
 fn files_by_name(rt: HostRuntime) -> Result<(), Fail> {
     const FILES: &[File<'_>] = &[

@@ -38,7 +38,8 @@ const NO_LINE: Answer = Err(TextFault::NoFromLine);
 
 const FAILED: Answer = Err(TextFault::Failed);
 
-// Pieces with the answer to each, how many messages there are when they were fed, the answer at the end, and the messages then.
+// Pieces with the answer to each, how many messages there are when they were fed, the answer at the
+// end, and the messages then.
 type Row<'a> = (&'a [(&'a str, Answer)], usize, Answer, &'a [Message<'a>]);
 
 const FIRST: Message<'_> = (b"From a", b"x\n");

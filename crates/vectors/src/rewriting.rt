@@ -13,8 +13,8 @@ use maildir_run::{RunFault, rewrite};
 use std::alloc::Global;
 use std::test::Fail;
 
-// Writes a text whose source breaks off after so many bytes. It is possible for what was read, with what is lost of it,
-// so what is written is a prefix of what belongs to all of it.
+// Writes a text whose source breaks off after so many bytes. It is possible for what was read, with
+// what is lost of it, so what is written is a prefix of what belongs to all of it.
 fn rewrite_broken(
     alloc: Global,
     text: &[u8],

@@ -7,7 +7,8 @@ use std::alloc::{AllocError, Global};
 use std::fmt::Debug;
 use std::test::Fail;
 
-/// What a run answers: a report, as how many messages there are, were there, were placed and were swept, or its fault.
+/// What a run answers: a report, as how many messages there are, were there, were placed and were
+/// swept, or its fault.
 pub(crate) type Answer = Result<(u64, u64, u64, u64), RunFault>;
 
 /// A run over a source that may make so many reads of it.

@@ -94,8 +94,9 @@ pub(crate) fn script_of(alloc: Global, lines: &[Line<'_>]) -> Result<Vec<ScriptL
 /// A run: its script, the text, what it answers, and the files that it leaves.
 pub(crate) type Run<'a> = (&'a [Line<'a>], &'a [u8], Answer, &'a [File<'a>]);
 
-// How many calls a run makes: it lists three folders, removes what is left over, and writes and places each message that
-// is missing. One that stops does so at the last call that its script names.
+// How many calls a run makes: it lists three folders, removes what is left over, and writes and
+// places each message that is missing. One that stops does so at the last call that its script
+// names.
 fn calls_of(lines: &[Line<'_>], answer: Answer) -> u64 {
     match answer {
         Ok((_, _, placed, swept)) => placed

@@ -17,8 +17,8 @@ pub(crate) enum Then {
     GoesOn,
 }
 
-/// A source that gives its bytes in pieces of at most a size. Where it fails after them, the text is its bytes and then
-/// what is lost.
+/// A source that gives its bytes in pieces of at most a size. Where it fails after them, the text
+/// is its bytes and then what is lost.
 #[derive(Drop)]
 pub(crate) struct Cut<'a> {
     pub bytes: &'a [u8],

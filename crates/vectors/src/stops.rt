@@ -33,8 +33,8 @@ fn repairs(there: u64, swept: u64) -> Run<'static> {
     (&[], THREE, Ok((3, there, placed, swept)), ALL_THREE)
 }
 
-// A run stops at this call, since it goes so or, with no mode, since all calls from it on fail; the next run finds and sweeps
-// so many.
+// A run stops at this call, since it goes so or, with no mode, since all calls from it on fail; the
+// next run finds and sweeps so many.
 fn stop(
     alloc: Global,
     row: (&str, u64),

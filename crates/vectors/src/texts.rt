@@ -1,4 +1,5 @@
-// The worked texts, and the names of their files. The digests are those of FIPS 180-4 and of sha256sum.
+// The worked texts, and the names of their files. The digests are those of FIPS 180-4 and of
+// sha256sum.
 use maildir_run::Sub;
 
 pub(crate) const EMPTY_ONE: &str =
@@ -48,7 +49,8 @@ pub(crate) type Message<'a> = (&'a [u8], &'a [u8]);
 /// A file: its folder, its name and its bytes.
 pub(crate) type File<'a> = (Sub, &'a str, &'a [u8]);
 
-/// A text, its messages, their regular spelling and their list, and the files that a run makes of it.
+/// A text, its messages, their regular spelling and their list, and the files that a run makes of
+/// it.
 pub(crate) struct Text<'a> {
     pub name: &'a str,
     pub text: &'a [u8],
@@ -221,7 +223,8 @@ const TEXTS: &[Text<'_>] = &[
     },
 ];
 
-/// The worked texts. A function hands them out, so that the prover reads their bytes once and not in each test.
+/// The worked texts. A function hands them out, so that the prover reads their bytes once and not
+/// in each test.
 pub(crate) fn texts() -> &'static [Text<'static>] {
     TEXTS
 }

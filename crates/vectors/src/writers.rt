@@ -39,8 +39,8 @@ impl Write for Narrow {
     }
 }
 
-/// Writers that do not take `From x\nabc\n\n` whole: how much they take in all and at a time, whether they fail then, and
-/// what they have taken.
+/// Writers that do not take `From x\nabc\n\n` whole: how much they take in all and at a time,
+/// whether they fail then, and what they have taken.
 pub(crate) const FULL: &[(usize, usize, bool, &[u8])] = &[
     (4, 4, true, b"From"),
     (4, 4, false, b"From"),

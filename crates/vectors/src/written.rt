@@ -18,7 +18,8 @@ enum Form {
 // How many messages were written, or the fault; and what was written.
 type Wanted<'a> = (Result<u64, RunFault>, &'a [u8]);
 
-// Writes a text, of which so many reads may be made, and compares the answer and what the writer has taken.
+// Writes a text, of which so many reads may be made, and compares the answer and what the writer
+// has taken.
 fn writes<N: Debug>(
     alloc: Global,
     row: &N,

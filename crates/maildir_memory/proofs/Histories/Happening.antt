@@ -1,4 +1,4 @@
--- The events of the history, one after the other.
+-- The episodes of the history, one after the other.
 use Rattle.std.proofs.Common.{◌≡◌, ℕ, ◌≤◌, Bool, true, false, List, [], ◌∷◌, length, All, Contains, Option, Some, Result, Ok, Err, IfErr, OnOk, IsTrue, codes}
 use Rattle.std.proofs.Common.{refl, sym, ap, subst, ◌∙◌, inl, inr, arith}
 use Rattle.std.specs.List.{flat_map}
@@ -24,7 +24,7 @@ use Rattle.maildir_commands.specs.Faults.{fault_text, told}
 use Rattle.maildir_commands.specs.Machines.{HeldMaildir, Rests}
 use Rattle.maildir_commands.specs.Program.{Delivers, DeliversInto, Did, Does}
 use Rattle.maildir_commands.specs.Report.{PrintsReports, report_line}
-use Rattle.maildir_commands.specs.Seen.{Seen, seen_with, streams}
+use Rattle.maildir_commands.specs.Seen.{SeenProgram, seen_with, streams}
 use Rattle.maildir_commands.specs.Words.{AskFor, Request, convert_words}
 use Rattle.maildir_commands.specs.Words.Request.{ToConvert}
 use Rattle.maildir_commands.specs.declared.ending.Ending.TheVariants.{Done, Stopped}
@@ -60,7 +60,7 @@ module _ (machine : SmallMachine) (system : MemSystem) (quiet : HasNoTurns syste
   abbrev held : Files → Bool → HeldMaildir
   held s rooted = (open_in_memory (system_with system s rooted)).held
 
-  abbrev seen : Files → Bool → Option (List ℕ) → Seen
+  abbrev seen : Files → Bool → Option (List ℕ) → SeenProgram
   seen s rooted output = seen_with (seen_of (moment s rooted)) (Some []) output
 
   honest_at : (s : Files) (rooted : Bool) (spared : Spared) → IsHonest (system_with system s rooted) spared
@@ -197,7 +197,7 @@ module _ (machine : SmallMachine) (system : MemSystem) (quiet : HasNoTurns syste
           All-cons (λ t. All (λ m. IsSpared spared m → IsMissing no_files m) t.messages) text [] (λ k d below sp. no_homes _)
           (All-nil (λ t. All (λ m. IsSpared spared m → IsMissing no_files m) t.messages))
 
-      -- ---- the events
+      -- ---- the episodes
       breaks_off : IsCommand (codes "M") (codes "mail") no_files all false false (all_foreign ms targets no_files) spared 1
       breaks_off =
           stopped (codes "M") (codes "mail") no_files all false false (all_foreign ms targets no_files) spared (Run (FolderFailed 9)) [] tt

@@ -22,7 +22,8 @@ const CALL_MICROS: u64 = 10;
 impl MemSystem {
     /// Time passes, and other programs perform the acts of the next turn.
     pub(super) fn pass(&mut self, pause: Duration) -> Result<(), FolderFault>
-        ensures others { OthersAct (λ spared. SparesByTurns spared self.old.turns.items) self.old result self.new }
+        ensures others { OthersAct
+            (λ spared. SparesByTurns spared self.old.turns.items) self.old result self.new }
         ensures quiet { HasNoTurns self.old → HasNoTurns self.new }
         ensures quietly { HasNoTurns self.old → SameFiles (world_of self.old) (world_of self.new) }
         ensures same { HasNoTurns self.old → self.new.stamp ≡ self.old.stamp }
@@ -38,7 +39,8 @@ impl MemSystem {
 
     /// A call that takes some time, or fails.
     pub(super) fn pass_shortly(&mut self) -> io::Result<()>
-        ensures others { OthersAct (λ spared. SparesByTurns spared self.old.turns.items) self.old result self.new }
+        ensures others { OthersAct
+            (λ spared. SparesByTurns spared self.old.turns.items) self.old result self.new }
         ensures looks { Looks (seen_system self.old) (seen_system self.new) }
         ensures same { HasNoTurns self.old → self.new.stamp ≡ self.old.stamp }
         ensures calls { OnOk result (self.old.calls_left ≡ self.new.calls_left + 1) }
@@ -50,8 +52,10 @@ impl MemSystem {
 
     // Other programs perform these acts, and the folders are stamped.
     fn act(&mut self, acts: &[TurnAct]) -> Result<(), FolderFault>
-        ensures others { OthersAct (λ spared. All (Spares spared) acts.now) self.old result self.new }
-        ensures done { OnOk result (files_of self.new.folder ≡ all_turned acts.now (files_of self.old.folder)) }
+        ensures others { OthersAct
+            (λ spared. All (Spares spared) acts.now) self.old result self.new }
+        ensures done { OnOk result
+            (files_of self.new.folder ≡ all_turned acts.now (files_of self.old.folder)) }
         ensures calls { self.new.calls_left ≡ self.old.calls_left }
         ensures refused { IfErr result (λ fault. fault ≡ FolderFault.OutOfMemory) }
     {

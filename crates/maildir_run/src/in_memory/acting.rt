@@ -7,7 +7,8 @@ ghost use Rattle.maildir_run.specs.Files.{acted, all_bases, may_take};
 ghost use Rattle.maildir_run.specs.Files.Action.{ToCur, Reflag};
 ghost use Rattle.maildir_run.specs.declared.folder.Sub.TheVariants.{New, Cur};
 ghost use Rattle.maildir_run.specs.MemFiles.{files_in};
-ghost use Rattle.maildir_run.specs.Script.{acts_at, performed, half_performed, all_performed, IsCutShort};
+ghost use Rattle.maildir_run.specs.Script.{acts_at, performed, half_performed, all_performed};
+ghost use Rattle.maildir_run.specs.Script.{IsCutShort};
 ghost use Rattle.maildir_run.specs.Private.Script.{may_link};
 
 use crate::folder::Sub;
@@ -20,8 +21,10 @@ use std::alloc::AllocError;
 impl MemFiles {
     /// Performs the acts of each line with this number, in order, until an allocation fails.
     pub(crate) fn act_before(&mut self, call: u64, lines: &[ScriptLine]) -> Result<(), AllocError>
-        ensures ok { OnOk result (files_in self.new ≡ all_performed (acts_at call lines.now) (files_in self.old)) }
-        ensures err { OnErr result (IsCutShort (acts_at call lines.now) (files_in self.old) (files_in self.new)) }
+        ensures ok { OnOk result
+            (files_in self.new ≡ all_performed (acts_at call lines.now) (files_in self.old)) }
+        ensures err { OnErr result
+            (IsCutShort (acts_at call lines.now) (files_in self.old) (files_in self.new)) }
     {
         for line in lines {
             if line.call == call {
@@ -69,7 +72,8 @@ impl MemFiles {
         }
     }
 
-    /// Makes half of an act: a file that is moved is under both names. Of any other act half is nothing.
+    /// Makes half of an act: a file that is moved is under both names. Of any other act half is
+    /// nothing.
     pub(crate) fn perform_half(&mut self, act: &Act) -> Result<(), AllocError>
         ensures ok { OnOk result (files_in self.new ≡ half_performed act.now (files_in self.old)) }
         ensures err { OnErr result (files_in self.new ≡ files_in self.old) }
@@ -84,8 +88,12 @@ impl MemFiles {
 
     // Moves a file of `new` to `cur`, or renames one of `cur`.
     fn move_to_cur(&mut self, sub: Sub, name: &str, target: &str) -> Result<(), AllocError>
-        ensures to_cur { sub ≡ New → OnOk result (files_in self.new ≡ acted all_bases (ToCur name.now target.now) (files_in self.old)) }
-        ensures reflag { sub ≡ Cur → OnOk result (files_in self.new ≡ acted all_bases (Reflag name.now target.now) (files_in self.old)) }
+        ensures to_cur { sub ≡ New →
+            OnOk result (files_in self.new ≡ acted all_bases (ToCur name.now target.now)
+            (files_in self.old)) }
+        ensures reflag { sub ≡ Cur →
+            OnOk result (files_in self.new ≡ acted all_bases (Reflag name.now target.now)
+            (files_in self.old)) }
         ensures err { OnErr result (files_in self.new ≡ files_in self.old) }
     {
         if self.link(sub, name, target)? {
@@ -98,7 +106,8 @@ impl MemFiles {
     fn link(&mut self, sub: Sub, name: &str, target: &str) -> Result<bool, AllocError>
         ensures ok { OnOk result (files_in self.new ≡ linked (files_in self.old) name.now target.now
             (get (folder_of sub (files_in self.old)) name.now)) }
-        ensures may { IfOk result (λ is_linked. is_linked ≡ may_link (files_in self.old) name.now target.now
+        ensures may { IfOk result
+            (λ is_linked. is_linked ≡ may_link (files_in self.old) name.now target.now
             (get (folder_of sub (files_in self.old)) name.now)) }
         ensures err { OnErr result (files_in self.new ≡ files_in self.old) }
     {

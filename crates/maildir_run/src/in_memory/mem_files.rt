@@ -1,5 +1,6 @@
 // The files of a folder in memory, and the effect of each call on them.
-ghost use Rattle.std.specs.Prelude.{◌≡◌, ◌↔◌, IfOk, OnOk, OnErr, IsTrue, IsFalse, None, string_bytes};
+ghost use Rattle.std.specs.Prelude.{◌≡◌, ◌↔◌, IfOk, OnOk, OnErr, IsTrue, IsFalse, None};
+ghost use Rattle.std.specs.Prelude.{string_bytes};
 ghost use Rattle.std.specs.FinMap.{get};
 ghost use Rattle.maildir_run.specs.Calls.{effect, folder_of, IsReady};
 ghost use Rattle.maildir_run.specs.Calls.Call.{Placing, Writing};
@@ -93,17 +94,20 @@ impl MemFiles {
         self.in_tmp.set(name, bytes)
     }
 
-    // Returns whether the file was there. The copy comes first, so that nothing changes if an allocation fails.
+    // Returns whether the file was there. The copy comes first, so that nothing changes if an
+    // allocation fails.
     pub(crate) fn rename(
         &mut self,
         name: &str,
         place: Place,
         target: &str,
     ) -> Result<bool, AllocError>
-        ensures found { IfOk result (λ found. IsTrue found → IsReady (Placing name.now place target.now) (files_in self.old)) }
+        ensures found { IfOk result (λ found. IsTrue found →
+            IsReady (Placing name.now place target.now) (files_in self.old)) }
         ensures absent { IfOk result (λ found. IsFalse found → get (files_in self.old).tmp name.now
             ≡ None) }
-        ensures there { OnErr result (IsReady (Placing name.now place target.now) (files_in self.old)) }
+        ensures there { OnErr result
+            (IsReady (Placing name.now place target.now) (files_in self.old)) }
         ensures done { OnOk result (files_in self.new ≡ effect (Placing name.now place target.now)
             (files_in self.old)) }
         ensures err { OnErr result (files_in self.new ≡ files_in self.old) }

@@ -6,8 +6,10 @@ ghost use Rattle.std.specs.Option.{option_copied};
 ghost use Rattle.maildir_run.specs.Calls.{folder_of, names_of, CountsFailure};
 ghost use Rattle.maildir_run.specs.Calls.Call.{Listing, Writing, Placing, Removing};
 ghost use Rattle.maildir_run.specs.MemFiles.{no_files, with_file, without_file};
-ghost use Rattle.maildir_run.specs.MemFolder.{files_of, call_count, all_call_count, failure_count, lines_of, seen_of};
-ghost use Rattle.maildir_run.specs.MemFolder.{fail_from_of, IsQuiet, Scripted, SameCounts, SameScript, IsUnchanged};
+ghost use Rattle.maildir_run.specs.MemFolder.{files_of, call_count, all_call_count, failure_count};
+ghost use Rattle.maildir_run.specs.MemFolder.{lines_of, seen_of};
+ghost use Rattle.maildir_run.specs.MemFolder.{fail_from_of, IsQuiet, Scripted, SameCounts};
+ghost use Rattle.maildir_run.specs.MemFolder.{SameScript, IsUnchanged};
 ghost use Rattle.maildir_run.specs.Private.MemFolder.{BeginsCall};
 ghost use Rattle.maildir_run.specs.Script.{half_performed, performed};
 ghost use Rattle.maildir_run.specs.Seen.{CallOf, ListingOf};
@@ -18,7 +20,8 @@ use crate::in_memory::script::{Act, Mode, ScriptLine, mode_of_call};
 use maildir_name::Place;
 use std::alloc::{AllocError, Global};
 
-/// The files of a Maildir in memory. It lists names in the order of their bytes, and follows its script.
+/// The files of a Maildir in memory. It lists names in the order of their bytes, and follows its
+/// script.
 #[derive(Drop)]
 pub struct MemFolder {
     files: MemFiles,
@@ -47,10 +50,11 @@ impl MemFolder {
         }
     }
 
-    /// Replaces the script, and counts the calls from 0 again. Each line says what happens at the call of its number;
-    /// from the call `fail_from` on every call answers `Failed` without effect, whatever its mode is, and acts are still
-    /// made. Where an act, the effect or the answer of a call finds no memory, neither it nor what follows it in this
-    /// call is made, and the call answers `OutOfMemory`.
+    /// Replaces the script, and counts the calls from 0 again. Each line says what happens at the
+    /// call of its number; from the call `fail_from` on every call answers `Failed` without effect,
+    /// whatever its mode is, and acts are still made. Where an act, the effect or the answer of a
+    /// call finds no memory, neither it nor what follows it in this call is made, and the call
+    /// answers `OutOfMemory`.
     pub fn script(&mut self, lines: Vec<ScriptLine>, fail_from: Option<u64>)
         ensures files { files_of self.new ≡ files_of self.old }
         ensures calls { call_count self.new ≡ 0 }
@@ -112,8 +116,8 @@ impl MemFolder {
         Ok(())
     }
 
-    /// Another program does half of this: a file that it moves is under both names. Of any other act half is nothing. No
-    /// call is counted.
+    /// Another program does half of this: a file that it moves is under both names. Of any other
+    /// act half is nothing. No call is counted.
     ///
     /// # Errors
     ///
@@ -172,7 +176,8 @@ impl MemFolder {
 
     /// Whether both have the same names in this folder.
     pub fn has_names_of(&self, other: &MemFolder, sub: Sub) -> bool
-        ensures { IsTrue result ↔ (keys (folder_of sub (files_of self.now)) ≡ keys (folder_of sub (files_of other.now))) }
+        ensures { IsTrue result ↔
+            (keys (folder_of sub (files_of self.now)) ≡ keys (folder_of sub (files_of other.now))) }
     {
         self.files.of(sub).has_names_of(other.files.of(sub))
     }
@@ -215,7 +220,8 @@ impl Folder for MemFolder {
     fn list(&mut self, sub: Sub) -> Result<Vec<String>, FolderFault>
         ensures lists { ListingOf sub (seen_of self.old) result (seen_of self.new) }
         ensures scripted { Scripted (Listing sub) self.old result self.new }
-        ensures in_order { IfOk result (λ names. names_of names ≡ keys (folder_of sub (files_of self.new))) }
+        ensures in_order { IfOk result
+            (λ names. names_of names ≡ keys (folder_of sub (files_of self.new))) }
     {
         let mode = self.begin_call()?;
         let answer = self.files.list_in(mode, sub);
@@ -223,7 +229,8 @@ impl Folder for MemFolder {
     }
 
     fn write(&mut self, name: &str, bytes: &[u8]) -> Result<(), FolderFault>
-        ensures writes { CallOf (Writing name.now bytes.now) (seen_of self.old) result (seen_of self.new) }
+        ensures writes { CallOf (Writing name.now bytes.now) (seen_of self.old) result
+            (seen_of self.new) }
         ensures scripted { Scripted (Writing name.now bytes.now) self.old result self.new }
     {
         let mode = self.begin_call()?;
@@ -232,7 +239,8 @@ impl Folder for MemFolder {
     }
 
     fn place(&mut self, name: &str, place: Place, target: &str) -> Result<(), FolderFault>
-        ensures places { CallOf (Placing name.now place target.now) (seen_of self.old) result (seen_of self.new) }
+        ensures places { CallOf (Placing name.now place target.now) (seen_of self.old) result
+            (seen_of self.new) }
         ensures scripted { Scripted (Placing name.now place target.now) self.old result self.new }
     {
         let mode = self.begin_call()?;

@@ -13,8 +13,10 @@ use maildir_name::Place;
 
 impl MemFiles {
     pub(crate) fn list_in(&self, mode: Mode, sub: Sub) -> Result<Vec<String>, FolderFault>
-        ensures answers { Answers mode (Listing sub) (files_in self.now) result (files_in self.now) }
-        ensures in_order { IfOk result (λ names. names_of names ≡ keys (folder_of sub (files_in self.now))) }
+        ensures answers { Answers mode (Listing sub) (files_in self.now) result
+            (files_in self.now) }
+        ensures in_order { IfOk result
+            (λ names. names_of names ≡ keys (folder_of sub (files_in self.now))) }
     {
         match mode {
             Mode::Plain | Mode::Twice => Ok(self.of(sub).names(self.alloc)?),
@@ -28,7 +30,8 @@ impl MemFiles {
         name: &str,
         bytes: &[u8],
     ) -> Result<(), FolderFault>
-        ensures { Answers mode (Writing name.now bytes.now) (files_in self.old) result (files_in self.new) }
+        ensures { Answers mode (Writing name.now bytes.now) (files_in self.old) result
+            (files_in self.new) }
     {
         match mode {
             Mode::Plain => Ok(self.write(name, bytes)?),
@@ -55,7 +58,8 @@ impl MemFiles {
         place: Place,
         target: &str,
     ) -> Result<(), FolderFault>
-        ensures { Answers mode (Placing name.now place target.now) (files_in self.old) result (files_in self.new) }
+        ensures { Answers mode (Placing name.now place target.now) (files_in self.old) result
+            (files_in self.new) }
     {
         match mode {
             Mode::Plain => found(self.rename(name, place, target)?),

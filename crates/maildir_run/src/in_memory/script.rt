@@ -1,4 +1,5 @@
-// A script for the folder in memory: what other programs do before its calls, and which of its calls fail or come twice.
+// A script for the folder in memory: what other programs do before its calls, and which of its
+// calls fail or come twice.
 ghost use Rattle.std.specs.Prelude.{◌≡◌};
 ghost use Rattle.maildir_run.specs.Script.{mode_of};
 
@@ -7,7 +8,8 @@ use crate::folder::Sub;
 /// What another program does to the files. Where its condition fails it does nothing.
 #[derive(Drop)]
 pub enum Act {
-    /// Moves the first name of `new` to the second of `cur`, if the first is there, the second is free and both have the same base.
+    /// Moves the first name of `new` to the second of `cur`, if the first is there, the second is
+    /// free and both have the same base.
     ToCur(String, String),
     /// Renames the first name of `cur` to the second, on the same conditions.
     Reflag(String, String),
@@ -28,7 +30,8 @@ pub enum Mode {
     FailBefore,
     /// It has its effect, and answers `Failed`.
     FailAfter,
-    /// A write leaves the first half of its bytes in `tmp`, the smaller one, and answers `Failed`; other calls fail without effect.
+    /// A write leaves the first half of its bytes in `tmp`, the smaller one, and answers `Failed`;
+    /// other calls fail without effect.
     Half,
     /// It has its effect twice, and answers as in `Plain`.
     Twice,
@@ -45,8 +48,8 @@ pub struct ScriptLine {
     pub mode: Mode,
 }
 
-/// The mode of a call: that of the first line with its number, and `Plain` without one. From the call `fail_from` on
-/// it is `FailBefore`.
+/// The mode of a call: that of the first line with its number, and `Plain` without one. From the
+/// call `fail_from` on it is `FailBefore`.
 pub(crate) fn mode_of_call(lines: &[ScriptLine], fail_from: Option<u64>, call: u64) -> Mode
     ensures { result ≡ mode_of lines.now fail_from call }
 {

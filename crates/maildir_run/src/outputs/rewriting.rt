@@ -11,12 +11,14 @@ use mbox_text::{Entry, write_entry};
 use std::alloc::Global;
 use std::io::{Read, Write};
 
-/// Writes each message of the source's text in its regular spelling, in order, and returns how many there are.
-/// Makes at most `reads` reads, each of at most 65,536 bytes. Keeps in memory: one message, and what one read returned.
+/// Writes each message of the source's text in its regular spelling, in order, and returns how many
+/// there are. Makes at most `reads` reads, each of at most 65,536 bytes. Keeps in memory: one
+/// message, and what one read returned.
 ///
-/// Errors: `NoFromLine` if the text is not empty and doesn't begin with `From `, as soon as the bytes decide, and then
-/// nothing was written; `ReadFault`; `TooManyReads` if `reads` reads didn't reach the end; `OutputFault`; `OutOfMemory`. What
-/// was written by then is a prefix of what belongs to the text.
+/// Errors: `NoFromLine` if the text is not empty and doesn't begin with `From `, as soon as the
+/// bytes decide, and then nothing was written; `ReadFault`; `TooManyReads` if `reads` reads didn't
+/// reach the end; `OutputFault`; `OutOfMemory`. What was written by then is a prefix of what
+/// belongs to the text.
 #[tactic(auto, using(crate::proofs::Output::Poured::flat_output))]
 pub fn rewrite<R: Read, W: Write>(
     alloc: Global,
@@ -56,7 +58,8 @@ impl Printer for Rewriter {
 /// Writes messages in their regular spelling.
 #[tactic(auto, using(crate::proofs::Output::Each::each_prefix))]
 fn write_entries<W: Write>(entries: &[Entry], out: &mut W) -> Result<(), RunFault>
-    ensures written { Writes (W.contents out.old) (W.contents out.new) result (flat_map spelling entries.now) }
+    ensures written { Writes (W.contents out.old) (W.contents out.new) result
+        (flat_map spelling entries.now) }
     ensures causes { IfErr result (λ fault. fault ≡ RunFault.OutputFault) }
 {
     for entry in entries {

@@ -10,8 +10,8 @@ use maildir_name::Target;
 use mbox_text::{Entry, sender_of};
 use std::alloc::{AllocError, Global};
 
-/// The row of a message: its number, base, place, info (or `-`), size in bytes and sender, with one space between two of
-/// them and a `\n` at the end (this project's own rule).
+/// The row of a message: its number, base, place, info (or `-`), size in bytes and sender, with one
+/// space between two of them and a `\n` at the end (this project's own rule).
 pub(crate) fn row_of(
     alloc: Global,
     index: u64,
@@ -31,7 +31,8 @@ pub(crate) fn row_of(
 // The row up to the sender.
 fn prefix_of(alloc: Global, index: u64, target: &Target, size: usize) -> Result<String, AllocError>
     ensures { let place = folder_name (folder_of_place target.now.place) in
-        IfOk result (λ prefix. string_bytes prefix ≡ decimal index ++ 32 ∷ (target.now.base ++ 32 ∷ (place
+        IfOk result (λ prefix. string_bytes prefix ≡ decimal index ++ 32 ∷
+        (target.now.base ++ 32 ∷ (place
         ++ 32 ∷ (info target.now.name ++ 32 ∷ (decimal size ++ 32 ∷ []))))) }
 {
     let base = target.base.as_str();
@@ -50,7 +51,8 @@ fn info_of(name: &str) -> &str
     }
 }
 
-// Appends a sender, with `?` for each byte that is no visible ASCII character, or a hyphen for none.
+// Appends a sender, with `?` for each byte that is no visible ASCII character, or a hyphen for
+// none.
 fn add_sender(line: &mut Vec<u8>, sender: &[u8]) -> Result<(), AllocError>
     ensures { OnOk result (line.new.items ≡ line.old.items ++ shown_sender sender.now) }
 {

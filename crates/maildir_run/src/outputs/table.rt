@@ -13,14 +13,16 @@ use mbox_text::{Entry, write_bytes};
 use std::alloc::Global;
 use std::io::{Read, Write};
 
-/// Writes one row for each message of the source's text, in order, and returns how many there are: the message's
-/// number from 1, its base, its place (`new` or `cur`), its info or `-`, the size of its body in bytes, and its sender with
-/// `?` for each byte outside 0x21 to 0x7E, or `-`. Makes at most `reads` reads, each of at most 65,536 bytes. Keeps in
-/// memory: one message, what one read returned, and the digests so far.
+/// Writes one row for each message of the source's text, in order, and returns how many there are:
+/// the message's number from 1, its base, its place (`new` or `cur`), its info or `-`, the size of
+/// its body in bytes, and its sender with `?` for each byte outside 0x21 to 0x7E, or `-`. Makes at
+/// most `reads` reads, each of at most 65,536 bytes. Keeps in memory: one message, what one read
+/// returned, and the digests so far.
 ///
-/// Errors: `NoFromLine` if the text is not empty and doesn't begin with `From `, as soon as the bytes decide, and then
-/// nothing was written; `ReadFault`; `TooManyReads` if `reads` reads didn't reach the end; `OutputFault`; `OutOfMemory`. What
-/// was written by then is a prefix of what belongs to the text.
+/// Errors: `NoFromLine` if the text is not empty and doesn't begin with `From `, as soon as the
+/// bytes decide, and then nothing was written; `ReadFault`; `TooManyReads` if `reads` reads didn't
+/// reach the end; `OutputFault`; `OutOfMemory`. What was written by then is a prefix of what
+/// belongs to the text.
 #[tactic(auto, using(crate::proofs::Output::TableRows::listing_output))]
 pub fn list_text<R: Read, W: Write>(
     alloc: Global,
@@ -58,9 +60,11 @@ impl Lister {
     // Writes the row of a message.
     fn list_one<W: Write>(&mut self, entry: &Entry, out: &mut W) -> Result<(), RunFault>
         requires { IsFromLine entry.now.from_line }
-        ensures lists { PrintsMore table_of (λ given lister. HasListed given lister.namer lister.count) self.old (entry.now ∷ [])
+        ensures lists { PrintsMore table_of
+            (λ given lister. HasListed given lister.namer lister.count) self.old (entry.now ∷ [])
             (W.contents out.old) (W.contents out.new) result self.new }
-        ensures causes { IfErr result (λ fault. (fault ≡ RunFault.OutputFault) ⊎ (fault ≡ RunFault.OutOfMemory)) }
+        ensures causes { IfErr result (λ fault. (fault ≡ RunFault.OutputFault) ⊎
+            (fault ≡ RunFault.OutOfMemory)) }
     {
         let Ok(target) = self.namer.target(entry.body.as_slice()) else {
             return Err(RunFault::OutOfMemory);

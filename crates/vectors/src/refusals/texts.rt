@@ -33,8 +33,9 @@ fn split_all_again(rt: HostRuntime) -> Result<(), Fail> {
     Ok(())
 }
 
-// Whether the messages come by pieces of this size. `OutOfMemory` says that an allocation was refused, that a splitter which
-// was refused answers `Failed` then, and that a prefix of the messages came.
+// Whether the messages come by pieces of this size. `OutOfMemory` says that an allocation was
+// refused, that a splitter which was refused answers `Failed` then, and that a prefix of the
+// messages came.
 fn comes(alloc: Global, text: &[u8], size: usize, want: &[Message<'_>]) -> Result<bool, TextFault>
     requires { 0 < size }
 {

@@ -5,9 +5,9 @@ pub returns-clause-begins : goal.returns-clause-begins
 returns-clause-begins g c = λ spared maildir texts old new. sound_new new
 
 pub returns-clause-sound : goal.returns-clause-sound
-returns-clause-sound g c = λ spared maildir texts events old new h fit sound come.
+returns-clause-sound g c = λ spared maildir texts episodes old new h fit sound come.
     sound_through spared g.M.Machine.at (λ machine. g.met.M.Machine.same_maildir machine spared) g.met.M.Machine.same_words
-    maildir texts old new h fit sound events come
+    maildir texts old new h fit sound episodes come
 
 pub returns-clause-safe : goal.returns-clause-safe
 returns-clause-safe g c = λ spared maildir texts named words before rest old new h fit sound come.
