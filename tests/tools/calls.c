@@ -6,10 +6,10 @@
    milliseconds. OUTPUT is how many bytes standard output takes. Where SHORT is set, a read and a write move one byte at
    most, and where it is 1 every other write is interrupted. GONE is put in place of what is to be moved, PLANTED where a
    file is to be made, and REPLACED in place of what is opened to be written and is there: by the first letter a link or a
-   hard link to the path after it, a pipe, a directory, a file, one that others may read, another owner's, or, as 1, nothing.
-   REPLACED may be a change of the file instead: for others to read, an owner, a second name, or another device, as is
-   shown through the handle. The time of modification is shown as the time of change, which no test can set, and 1970 as
-   the other times. It needs no headers, so that any C compiler makes it. */
+   hard link to the path after it, a pipe, a directory, a file, one of the mode after it, one that others may read, another
+   owner's, or, as 1, nothing. REPLACED may be a change of the file instead: for others to read, an owner, a second name,
+   or another device, as is shown through the handle. The time of modification is shown as the time of change, which no
+   test can set, and 1970 as the other times. It needs no headers, so that any C compiler makes it. */
 typedef unsigned long size_t;
 typedef long ssize_t;
 
@@ -120,6 +120,13 @@ static void make(const char *path, unsigned mode) {
     REAL(close)(file);
 }
 
+static unsigned octal(const char *digits) {
+    unsigned found = 0;
+    while (*digits)
+        found = 8 * found + (unsigned)(*digits++ - '0');
+    return found;
+}
+
 static void plant(const char *what, const char *path) {
     switch (what ? *what : 0) {
     case 'l':
@@ -139,6 +146,10 @@ static void plant(const char *what, const char *path) {
         break;
     case 'r':
         make(path, 0644);
+        break;
+    case 'm':
+        make(path, 0600);
+        chmod(path, octal(what + 1));
         break;
     case 'o':
         make(path, 0600);
