@@ -8,11 +8,12 @@ from types import SimpleNamespace
 from unittest.mock import patch
 
 from context import A, folder
-from mbox2maildir_admin.children import LONGEST, Child, row_of
+from mbox2maildir_admin.checking import Check, date_from
+from mbox2maildir_admin.children import LONGEST, Child, Teller, row_of
 from mbox2maildir_admin.faults import Fault
 from mbox2maildir_admin.handle import Digest, Handle
 from mbox2maildir_admin.inventory import Inventory
-from mbox2maildir_admin.outcome import DONE, Left
+from mbox2maildir_admin.outcome import DONE, Left, Row
 from mbox2maildir_admin.presence import Presence
 from mbox2maildir_admin.record import BACK, BEGUN, CONVERTED, MOST, NAME, Record
 from mbox2maildir_admin.room import want_room
@@ -113,6 +114,15 @@ class PresenceTest(FolderTest):
         # a text with as many equal messages as leave one without a home: the second has one
         self.assertEqual(seen.wanted(0), [0, 1])
 
+    def test_what_is_said_is_news(self):
+        """A child that says nothing new for long is ended."""
+        said, bodies = [], [b"Subject: %d\n" % number for number in range(5)]
+        seen = self.look(bodies, {"cur/%s.1:2,S" % hashlib.sha256(body).hexdigest(): body for body in bodies})
+        for task in (lambda say: date_from(0, self.here, seen.inventory, say), lambda say: Check.of(self.here, seen.inventory, 0, say)):
+            del said[:]
+            task(lambda *words: said.append(words))
+            self.assertGreaterEqual(len(set(said)), len(bodies))
+
     def test_growth(self):
         seen = self.look([ONE, TWO, ONE], {"new/" + hashlib.sha256(ONE).hexdigest() + ".1": ONE})
         self.assertFalse(seen.is_plain(2))
@@ -140,6 +150,13 @@ class ChildTest(unittest.TestCase):
         self.assertEqual((row.path, row.kind, row.why), (b"\x1b[2J", "a\\x0ab", "\\x00"))
         for words in ([], ["", "", "", 1, "fine", ""], ["", "", "", "x", "done", ""], [[], "", "", 1, "done", ""]):
             self.assertRaises((ValueError, AttributeError), row_of, words)
+
+    def test_long_row(self):
+        told, tell = os.pipe()
+        Teller(tell).row(Row("\xe4".encode() * 2000, b".", "", 1, DONE, "\xe4" * LONGEST))
+        self.assertLessEqual(len(os.read(told, 2 * LONGEST)), LONGEST)
+        os.close(told)
+        os.close(tell)
 
     def test_lines(self):
         told, tell = os.pipe()
