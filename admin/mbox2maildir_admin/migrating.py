@@ -187,7 +187,8 @@ class Migration:
             return
         # the last message of what is done was not whole when it was read
         work.first -= 1
-        self.note_last(work, offsets[work.first], size)
+        if not self.dry:
+            self.note_last(work, offsets[work.first], size)
 
     def refuse_grown_copy(self, work):
         """What is new of a mailbox can't be told from a copy that was made by hand: it must become a mailbox of its own."""
@@ -253,9 +254,10 @@ class Migration:
                     self.program.convert(rest, 0, work.folder, self.record)
         except Failed as failed:
             raise self.explained(failed, work) from failed
-        if end != work.source.size:
+        has_changed = work.has_changed()
+        if has_changed or end != work.source.size:
             self.note_last(work, work.inventory.offsets[len(work.inventory) - 1], end)
-        if work.has_changed():
+        if has_changed:
             raise Left("it changed while it was converted: stop whoever writes to it, and run this again")
         self.note_cut(work)
         self.refuse_cut(work)
