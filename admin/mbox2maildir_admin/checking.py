@@ -22,8 +22,9 @@ class Check(Verified):
 
     def __init__(self, inventory, first, say=silent):
         super().__init__(None)
-        self.table, self.sizes, self.lines, self.doubts = inventory.table, inventory.sizes, inventory.lines, inventory.doubts
-        self.states, self.first, self.say = bytearray(len(inventory)), first, say
+        self.table, self.sizes = inventory.table, inventory.sizes
+        self.lines, self.doubts = inventory.lines, inventory.doubts
+        self.states, self.first, self.say, self.looked = bytearray(len(inventory)), first, say, 0
         # where they were converted long ago
         self.may_be_nowhere = False
         self.all_sizes = set(self.sizes[first:])
@@ -46,7 +47,9 @@ class Check(Verified):
 
     def look_at(self, name, path, again):
         """Looks at a file, but at none of a message that is not looked for."""
-        self.say("verifying")
+        # what is said is news each time: a child that says nothing new is ended
+        self.looked += 1
+        self.say("verifying file %d" % self.looked)
         place = self.home_of(name)
         if place is not None and place < self.first and bytes.fromhex(name[:64].decode()) not in self.wanted:
             self.states[place] = THERE
@@ -59,8 +62,8 @@ class Check(Verified):
 
     def is_right(self):
         """Whether each message is there, once, as its owner's."""
-        return not (self.count(OTHER) or self.count(NOWHERE) and not self.may_be_nowhere or self.doubles or self.strangers or
-                    self.doubts.count)
+        return not (self.count(OTHER) or self.count(NOWHERE) and not self.may_be_nowhere or self.doubles or
+                    self.strangers or self.doubts.count)
 
     def report(self):
         """What is said where not each message is there, once."""

@@ -8,8 +8,8 @@ import time
 from .outcome import VERDICTS, Row
 from .terminal import shown
 
-# how long a line of a child may be, how long it may say nothing, in seconds, and how long it is listened to at a time, in
-# milliseconds
+# how long a line of a child may be, how long it may say nothing, in seconds, and how long it is listened to at a time,
+# in milliseconds
 LONGEST, SILENCE, TURN, SOON = 1 << 16, 900, 200, 5
 PATH = "/usr/local/sbin:/usr/local/bin:/usr/sbin:/usr/bin:/sbin:/bin"
 SIGNALS = signal.SIGINT, signal.SIGTERM, signal.SIGHUP
@@ -22,12 +22,12 @@ class Teller:
     """What stands in a child in place of the reporter: it tells root."""
 
     def __init__(self, told):
-        self.told, self.last, self.next_time, self.total = told, None, 0, 0
+        self.told, self.next_time, self.total = told, 0, 0
 
     def tell(self, *words):
         """Tells a line. That nobody listens any more ends the child."""
         try:
-            os.write(self.told, json.dumps(words).encode() + b"\n")
+            os.write(self.told, json.dumps(words, ensure_ascii=False).encode() + b"\n")
         except OSError:
             raise KeyboardInterrupt from None
 
@@ -35,10 +35,10 @@ class Teller:
         """Root counts users, and no mailboxes."""
 
     def progress(self, _, *says):
-        """Tells how far a mailbox is, where that is news."""
+        """Tells how far a mailbox is, and so that it is at work: also where the words are those that were told before."""
         now = time.monotonic()
-        if says != self.last and now >= self.next_time:
-            self.last, self.next_time = says, now + .5
+        if now >= self.next_time:
+            self.next_time = now + .5
             self.tell("at", *says)
 
     def row(self, row, name=None):
@@ -48,8 +48,8 @@ class Teller:
 
 
 def start(account, task):
-    """Starts a task with the rights of an account; answers the process, and its pipes: one that it tells by, one that it lives
-    by."""
+    """Starts a task with the rights of an account; answers the process, and its pipes: one that it tells by, one that
+    it lives by."""
     tells, told = os.pipe()
     alive, life = os.pipe()
     signal.pthread_sigmask(signal.SIG_BLOCK, SIGNALS)
@@ -168,7 +168,8 @@ def row_of(words):
     if verdict not in VERDICTS:
         raise ValueError(verdict)
     count = None if messages is None else int(messages)
-    return Row(path.encode("utf-8", "replace"), folder.encode("utf-8", "replace"), shown(kind), count, verdict, shown(why))
+    path, folder = (name.encode("utf-8", "replace") for name in (path, folder))
+    return Row(path, folder, shown(kind), count, verdict, shown(why))
 
 
 def says_end(child, status):

@@ -18,21 +18,22 @@ def parser():
     """The parser of the command line."""
     top = argparse.ArgumentParser(
         prog=ADMIN, description="Looks at mailboxes before mbox2maildir converts them, and at the Maildir afterwards.",
-        epilog="`%s WORD --help` describes a word. Status: 0 where all is well, 1 where something was found or left undone, "
-        "2 for wrong words." % ADMIN)
+        epilog="`%s WORD --help` describes a word. Status: 0 where all is well, 1 where something was found or left "
+        "undone, 2 for wrong words." % ADMIN)
     words = top.add_subparsers(metavar="WORD", dest="word")
     words.required = True
     add(words, "kind", do_kind, "say what files are, and what to do first",
-        "Prints what each FILE is, how many messages it has, and the one command to run next; then why, with the numbers of "
-        "lines. Changes nothing. Status 0 only where every file can be converted as it is. A FILE may be a folder of "
-        "mailboxes.", "FILE")
+        "Prints what each FILE is, how many messages it has, and the one command to run next; then why, with the "
+        "numbers of lines. Changes nothing. Status 0 only where every file can be converted as it is. A FILE may be a "
+        "folder of mailboxes.", "FILE")
     add_quote(words)
     add_dates(words)
     add_migrate(words)
     add(words, "verify", do_verify, "look whether each message is in the Maildir",
-        "Compares each FILE with MAILDIR, and prints how many of its messages are there with exactly their bytes, how many "
-        "under another name, how many with other bytes, how many nowhere, and how many files hold a message again. "
-        "Writes nothing. Status 0 only where each is there, once. A FILE may be a folder of mailboxes.", "MAILDIR", "FILE")
+        "Compares each FILE with MAILDIR, and prints how many of its messages are there with exactly their bytes, how "
+        "many under another name, how many with other bytes, how many nowhere, and how many files hold a message "
+        "again. Writes nothing. Status 0 only where each is there, once. A FILE may be a folder of mailboxes.",
+        "MAILDIR", "FILE")
     return top
 
 
@@ -49,9 +50,9 @@ def add(words, name, task, short, text, *operands):
 def add_quote(words):
     """Adds the word `quote`."""
     one = add(words, "quote", do_quote, "write a quoted copy of a mailbox",
-              "Writes a copy of FILE for mbox2maildir, in which the lines `From ` of mail are quoted: of each message by its "
-              "Content-Length, which is left out, where no option says otherwise. The copy is FILE.mboxrd, whole or not there "
-              "at all. It begins with the first From_ line.")
+              "Writes a copy of FILE for mbox2maildir, in which the lines `From ` of mail are quoted: of each message "
+              "by its Content-Length, which is left out, where no option says otherwise. The copy is FILE.mboxrd, "
+              "whole or not there at all. It begins with the first From_ line.")
     how = one.add_mutually_exclusive_group()
     how.add_argument("--lengths", action="store_true",
                      help="go by lengths also where a message has none, and where they lead over dated From_ lines")
@@ -61,7 +62,8 @@ def add_quote(words):
     how.add_argument("--mboxrd", action="store_true", help="quote nothing")
     how.add_argument("--line", metavar="N", type=int, action="append", help="quote line N alone; it may be given again")
     one.add_argument("--all", action="store_true",
-                     help="with --no-lengths: quote `>From ` too, of programs that quote nothing (git, mailutils, mairix)")
+                     help="with --no-lengths: quote `>From ` too, of programs that quote nothing (git, mailutils, "
+                     "mairix)")
     ends = one.add_mutually_exclusive_group()
     ends.add_argument("--crlf", action="store_true", help="write CR LF as LF")
     ends.add_argument("--cr", action="store_true", help="write CR, and CR LF, as LF; by lengths that can't be")
@@ -72,29 +74,34 @@ def add_quote(words):
 def add_dates(words):
     """Adds the word `dates`."""
     one = add(words, "dates", do_dates, "give converted files the dates of their From_ lines",
-              "Gives the files in MAILDIR that came from FILE the dates of its From_ lines. A date without a zone is in that "
-              "of TZ, or of this machine. Status 1 where a message has no date, or no file. A FILE may be a folder of "
-              "mailboxes.", "MAILDIR", "FILE")
+              "Gives the files in MAILDIR that came from FILE the dates of its From_ lines. A date without a zone is "
+              "in that of TZ, or of this machine. Status 1 where a message has no date, or no file. A FILE may be a "
+              "folder of mailboxes.", "MAILDIR", "FILE")
     one.add_argument("--header", action="store_true",
-                     help="take the date of the header Date where the From_ line has none, and where all From_ lines have one")
+                     help="take the date of the header Date where the From_ line has none, and where all From_ lines "
+                     "have one")
 
 
 def add_migrate(words):
     """Adds the word `migrate`."""
     one = add(words, "migrate", do_migrate, "do the whole migration of mailboxes into a Maildir",
-              "Looks at each MAILBOX, converts it into MAILDIR, sets the dates, verifies it, and keeps a record in MAILDIR: what "
-              "is done there is never converted again. A MAILBOX that is a folder of mailboxes becomes folders of MAILDIR. With "
-              "--users the mailboxes of the folder OLD are those of the users that they are named after, and each is migrated "
-              "with its user's rights into a Maildir of the home. Status 0 only where each mailbox is done and verified.")
-    one.usage = ("%s migrate [--dry-run] [--folder NAME] [--again] [--dovecot] MAILDIR MAILBOX...\n       %s migrate --users "
-                 "[--dry-run] [--maildir NAME] [--tree NAME] [--jobs N] [--again] [--dovecot] OLD [NAME...]" % (ADMIN, ADMIN))
+              "Looks at each MAILBOX, converts it into MAILDIR, sets the dates, verifies it, and keeps a record in "
+              "MAILDIR: what is done there is never converted again. A MAILBOX that is a folder of mailboxes becomes "
+              "folders of MAILDIR. With --users the mailboxes of the folder OLD are those of the users that they are "
+              "named after, and each is migrated with its user's rights into a Maildir of the home. Status 0 only "
+              "where each mailbox is done and verified.")
+    one.usage = ("%s migrate [--dry-run] [--folder NAME] [--again] [--dovecot] MAILDIR MAILBOX...\n"
+                 "       %s migrate --users [--dry-run] [--maildir NAME] [--tree NAME] [--jobs N] [--again] "
+                 "[--dovecot] OLD [NAME...]" % (ADMIN, ADMIN))
     one.add_argument("--dry-run", action="store_true", help="print what would be done, and make nothing")
     one.add_argument("--folder", metavar="NAME", help="the folder of MAILDIR into which the mailboxes go")
     one.add_argument("--again", action="store_true", help="convert one mailbox whatever stands there")
     one.add_argument("--dovecot", action="store_true", help="write Dovecot's files, so that its clients see no change")
     one.add_argument("--users", action="store_true", help="as root: migrate the mailboxes of a spool, each as its user")
-    one.add_argument("--maildir", metavar="NAME", default="Maildir", help="with --users: the Maildir of each home (Maildir)")
-    one.add_argument("--tree", metavar="NAME", help="with --users: a folder of mailboxes, or a mailbox, of each home too")
+    one.add_argument("--maildir", metavar="NAME", default="Maildir",
+                     help="with --users: the Maildir of each home (Maildir)")
+    one.add_argument("--tree", metavar="NAME",
+                     help="with --users: a folder of mailboxes, or a mailbox, of each home too")
     one.add_argument("--jobs", metavar="N", type=int, default=1, help="with --users: how many users at a time (1)")
     one.add_argument("target", metavar="MAILDIR|OLD")
     one.add_argument("names", metavar="MAILBOX|NAME", nargs="*")

@@ -18,12 +18,12 @@ class Program:
         self.path, self.alive = path, alive
 
     def convert(self, source, start, folder, record):
-        """Converts a text from an offset on, and answers how far it was read. Until then nobody else moves the offset. The
-        program inherits the locks of the mailbox and of the record."""
+        """Converts a text from an offset on, and answers how far it was read. Until then nobody else moves the offset.
+        The program inherits the locks of the mailbox and of the record."""
         os.lseek(source.number, start, os.SEEK_SET)
         # in its own folder a Maildir has a name that is UTF-8
-        child = subprocess.Popen([self.path, b"convert", b"."], cwd=folder, stdin=source.number, stdout=subprocess.DEVNULL,
-                                 stderr=subprocess.PIPE, pass_fds=[record.number])
+        child = subprocess.Popen([self.path, b"convert", b"."], cwd=folder, pass_fds=[record.number],
+                                 stdin=source.number, stdout=subprocess.DEVNULL, stderr=subprocess.PIPE)
         try:
             said = self.wait_for(child, source)
         except BaseException:
@@ -37,8 +37,9 @@ class Program:
         return os.lseek(source.number, 0, os.SEEK_CUR)
 
     def wait_for(self, child, source):
-        """Waits for the end of the program, and answers what it said."""
-        said, poll = b"", select.poll()
+        """Waits for the end of the program, and answers what it said. How far it is is told where that is news, so that one that
+        was stopped is silent."""
+        said, last, poll = b"", None, select.poll()
         poll.register(child.stderr, select.POLLIN)
         if self.alive is not None:
             poll.register(self.alive, select.POLLIN)
@@ -51,4 +52,7 @@ class Program:
                 if not piece:
                     return said.decode("utf-8", "replace").strip()
                 said = (said + piece)[:MOST_SAID]
-            source.say("converting", os.lseek(source.number, 0, os.SEEK_CUR), source.size)
+            place = os.lseek(source.number, 0, os.SEEK_CUR)
+            if place != last:
+                source.say("converting", place, source.size)
+            last = place

@@ -15,8 +15,8 @@ UNFINISHED = b".%s-" % ADMIN.encode()
 
 
 class Copy:
-    """A file that is made beside the place of its name, and gets it when it is whole and on the disk. Until then it has no
-    name, or one that is never taken for a mailbox."""
+    """A file that is made beside the place of its name, and gets it when it is whole and on the disk. Until then it has
+    no name, or one that is never taken for a mailbox."""
 
     def __init__(self, path):
         self.path, self.folder = path, os.path.dirname(path) or b"."
@@ -71,9 +71,10 @@ class Copy:
                 os.close(folder)
 
     def link(self, folder):
-        """Gives it its name, unless something has that. That a folder is named makes os.link follow the link of /proc."""
+        """Gives it its name, unless something has that. As a folder is named, os.link follows the link of /proc."""
         try:
-            os.link(self.part or "/proc/self/fd/%d" % self.file.fileno(), self.path, src_dir_fd=None if self.part else folder)
+            os.link(self.part or "/proc/self/fd/%d" % self.file.fileno(), self.path,
+                    src_dir_fd=None if self.part else folder)
         except FileExistsError as error:
             raise Fault("%s is there already" % shown(self.path)) from error
 

@@ -10,9 +10,10 @@ MONTHS = {name: number for number, name in enumerate("jan feb mar apr may jun ju
 WEEKDAY = r"(?i:mon|tue|wed|thu|fri|sat|sun)"
 # hours east of Greenwich; of names that several zones have, the one that mail mostly means
 ZONES = {"Z": 0, "UT": 0, "UTC": 0, "GMT": 0, "WET": 0, "WEST": 1, "BST": 1, "CET": 1, "MET": 1, "MEZ": 1, "CEST": 2,
-         "MEST": 2, "MESZ": 2, "EET": 2, "EEST": 3, "MSK": 3, "MSD": 4, "SGT": 8, "HKT": 8, "AWST": 8, "JST": 9, "KST": 9,
-         "ACST": 9.5, "ACDT": 10.5, "AEST": 10, "AEDT": 11, "NZST": 12, "NZDT": 13, "NST": -3.5, "NDT": -2.5, "AST": -4, "ADT": -3,
-         "EST": -5, "EDT": -4, "CST": -6, "CDT": -5, "MST": -7, "MDT": -6, "PST": -8, "PDT": -7, "AKST": -9, "AKDT": -8, "HST": -10}
+         "MEST": 2, "MESZ": 2, "EET": 2, "EEST": 3, "MSK": 3, "MSD": 4, "SGT": 8, "HKT": 8, "AWST": 8, "JST": 9,
+         "KST": 9, "ACST": 9.5, "ACDT": 10.5, "AEST": 10, "AEDT": 11, "NZST": 12, "NZDT": 13, "NST": -3.5, "NDT": -2.5,
+         "AST": -4, "ADT": -3, "EST": -5, "EDT": -4, "CST": -6, "CDT": -5, "MST": -7, "MDT": -6, "PST": -8, "PDT": -7,
+         "AKST": -9, "AKDT": -8, "HST": -10}
 MONTH = "(?P<{0}month>(?i:%s))" % "|".join(MONTHS)
 CLOCK = r"(?P<{0}hour>[01]?\d|2[0-3]):(?P<{0}minute>[0-5]\d)(?::(?P<{0}second>[0-5]\d|60))?"
 ZONE = r"(?:\s+(?P<{0}zone>(?:GMT|UTC)?[-+]\d{{4}}|[A-Z]+(?:\s+DST)?)\b)?"

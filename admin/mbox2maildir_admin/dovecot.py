@@ -10,20 +10,26 @@ from .dovecot_headers import LETTERS, Reading, header_at, info_of, internal_head
 from .maildir import paths_of
 from .messages import messages_of
 from .migrating import Extra
-from .outcome import Left
+from .outcome import Left, folder_name
 from .record import sync_folder
+from .source import open_file
 from .terminal import shown, word
 from .trees import folder_of
 
 KEYWORDS, LIST, SUBSCRIPTIONS = b"dovecot-keywords", b"dovecot-uidlist", b"subscriptions"
 OLD_SUBSCRIPTIONS, FORM = b".subscriptions", b"V\t2\n\n"
-# the steps of the record: of which mailbox a folder has its numbers, and a file that is written there
-NUMBERED, WROTE = "numbered", "wrote"
+# the steps of the record: of which mailbox a folder has its numbers, a file that is to be written there, and that the
+# subscriptions of a tree were
+NUMBERED, WROTE, SUBSCRIBED = "numbered", "wrote", "subscribed"
 BY_ITSELF = "Dovecot has looked at this folder, and numbers by itself for good; next: the same without --dovecot"
+OF_ANOTHER = ("%s has the numbers of another mailbox, and Dovecot numbers these messages after them; next: the same "
+              "without --dovecot")
+WHAT_IS_NEW = "Dovecot numbers what is new"
+WITHOUT = "without its numbers, since it was done without --dovecot"
 
 
 class Dovecot(Extra):
-    """Numbers, flags and keywords of a mailbox, as Dovecot's mbox driver read them, go into the folder of its Maildir."""
+    """Brings numbers, flags and keywords of a mailbox, as Dovecot's mbox driver read them, into the folder."""
 
     def __init__(self, record):
         self.record = record
@@ -35,28 +41,41 @@ class Dovecot(Extra):
         self.head, end = internal_head(source, start)
         return end if self.head else start
 
+    def says_of_done(self, name):
+        """What is to be said of a mailbox that was done before."""
+        return "" if self.record.notes(NUMBERED, name) else WITHOUT
+
+    def foresee(self, work):
+        """What `run` would say. Nothing is written."""
+        return self.look(work)[0]
+
     def run(self, work):
         """Writes the files, each once, and answers what is to be said of it."""
+        says, reading = self.look(work)
+        if reading:
+            self.write(work, reading)
+        return says
+
+    def look(self, work):
+        """What is to be said, and what is read of the mailbox where the folder gets numbers."""
         says = ["without the message that held Dovecot's numbers"] if self.head else []
         kept = self.kept_from(work)
         if kept is not None:
-            return says + kept
+            return says + kept, None
         reading = Reading(self.head)
         for place in range(len(work.inventory)):
             reading.add(header_at(work.source, work.inventory.offsets[place]))
+        return says + list(reading.remarks()), reading
+
+    def write(self, work, reading):
+        """Writes the files: the list, by which Dovecot takes the others, comes last."""
         self.record.add(NUMBERED, work.key, len(work.inventory), work.handle.path)
-        names = reading.head.keywords if reading.head else []
-        if names:
-            text = b"".join(b"%d %s\n" % pair for pair in enumerate(names[:LETTERS]))
+        if reading.keywords:
+            text = b"".join(b"%d %s\n" % pair for pair in enumerate(reading.keywords[:LETTERS]))
             place_file(work.folder, KEYWORDS, text, self.writer(work.name))
         files = rename(work.folder, work.inventory, reading.marks)
         moment = work.begun_at or self.record.begun_at(work.key)
         place_file(work.folder, LIST, list_of(reading.numbers(moment), files), self.writer(work.name))
-        if reading.is_renumbered:
-            says.append("some get another UID than they have, since a message before them has none")
-        if names[LETTERS:]:
-            says.append("%d keywords are kept, without: %s" % (LETTERS, shown(b" ".join(names[LETTERS:]))))
-        return says
 
     def writer(self, name):
         """Records a file of a folder before it is written."""
@@ -64,33 +83,30 @@ class Dovecot(Extra):
 
     def kept_from(self, work):
         """What is to be said where the folder keeps the numbers that it has; None where it gets some now."""
-        there = [name for name in os.listdir(work.folder) if name.startswith(b"dovecot")]
+        numbered = self.record.notes(NUMBERED, work.name)[-1:]
+        if numbered and not is_beginning(work, numbered[0]):
+            raise Left(OF_ANOTHER % folder_name(work.name))
+        if numbered and work.first:
+            return [WHAT_IS_NEW]
+        there = [name for name in names_in(work.folder) if name.startswith(b"dovecot")]
         for name in there:
             if not self.is_own(work, name):
                 raise Left("%s is there: %s" % (shown(name), BY_ITSELF))
-        last = self.record.notes(NUMBERED, work.name)
-        if last and not is_beginning(work, last[-1]):
-            raise Left("%s has the numbers of another mailbox, and Dovecot numbers these messages after them; next: the same without "
-                       "--dovecot" % shown(work.name))
         if LIST in there:
-            return ["Dovecot numbers what is new"] if work.first else []
-        if work.first:
-            return ["without its numbers, since it was done without --dovecot"]
-        return None
+            return [WHAT_IS_NEW] if numbered and numbered[0].size < work.handle.size else []
+        return [WITHOUT] if work.first else None
 
     def is_own(self, work, name):
         """Whether the record has a file of a folder as one that it wrote."""
-        path = os.path.join(work.folder, name)
-        if name not in (KEYWORDS, LIST) or not is_file(path):
-            return False
-        digest = hashlib.sha256(content_of(path)).hexdigest()
-        return any(note.digest == digest and os.path.basename(note.path) == os.fsdecode(name)
-                   for note in self.record.notes(WROTE, work.name))
+        text = content_of(os.path.join(work.folder, name)) if name in (KEYWORDS, LIST) else None
+        return text is not None and any(
+            note.digest == hashlib.sha256(text).hexdigest() and os.path.basename(note.path) == os.fsdecode(name)
+            for note in self.record.notes(WROTE, work.name))
 
 
 def left_out(source, start, maildir):
-    """Where the messages of a text begin that begins at `start`, and in which line: after the message that is left out with its
-    numbers, unless the Maildir has it."""
+    """Where the messages of a text begin that begins at `start`, and in which line: after the message that is left out
+    with its numbers, unless the Maildir has it."""
     head, end = internal_head(source, start)
     if head:
         base = next(messages_of(source, start)).hash.hexdigest().encode() + b".1"
@@ -105,7 +121,7 @@ def is_beginning(work, note):
 
 
 def rename(folder, inventory, marks):
-    """Gives each message the flags and keywords of its marks, and answers the names of the files by the places of the messages."""
+    """Gives each message the flags and keywords of its marks, and answers the names of the files by their places."""
     files = {}
     for name, path in list(paths_of(folder)):
         place = inventory.place(name)
@@ -137,7 +153,7 @@ def place_file(folder, name, text, record):
     """Writes a file under another name, and links it to its own when it is on the disk. A file that is there stays."""
     path, part = os.path.join(folder, name), os.path.join(folder, b"tmp", b"mbox2maildir-admin-" + name)
     if os.path.lexists(path):
-        if is_file(path) and content_of(path) == text:
+        if content_of(path) == text:
             return
         raise Left("an earlier run left another %s; next: rm %s" % (shown(name), word(path)))
     record(path, len(text), hashlib.sha256(text).hexdigest())
@@ -156,39 +172,52 @@ def place_file(folder, name, text, record):
     sync_folder(folder)
 
 
-def is_file(path):
-    """Whether a path is that of a plain file."""
+def names_in(folder):
+    """The names in a folder, which need not be there."""
     try:
-        return stat.S_ISREG(os.lstat(path).st_mode)
-    except OSError:
-        return False
+        return os.listdir(folder)
+    except FileNotFoundError:
+        return []
 
 
 def content_of(path):
-    """What stands in a small file."""
-    with open(path, "rb") as file:
+    """What stands in a plain file; None where none is there."""
+    try:
+        if not stat.S_ISREG(os.lstat(path).st_mode):
+            return None
+    except FileNotFoundError:
+        return None
+    with open_file(path) as file:
         return file.read()
+
+
+def lines_of(path):
+    """The lines of a file of subscriptions, and whether tabs stand between the parts of a name, as in its newer form."""
+    first, *lines = (content_of(path) or b"").split(b"\n")
+    has_tabs = first.startswith(b"V\t")
+    return [line for line in ([] if has_tabs else [first]) + lines if line], has_tabs
 
 
 def subscriptions_of(old):
     """The folders that a tree's `.subscriptions` names, as they are named now."""
-    path = os.path.join(old, OLD_SUBSCRIPTIONS)
-    if not is_file(path):
-        return []
-    lines = content_of(path).split(b"\n")
-    hierarchical = lines[0].startswith(b"V\t")
-    names = [line.replace(b"\t", b"/") if hierarchical else line for line in lines[hierarchical:] if line]
+    lines, has_tabs = lines_of(os.path.join(old, OLD_SUBSCRIPTIONS))
+    names = (line.replace(b"\t", b"/") if has_tabs else line for line in lines)
     return [folder_of(name.decode("utf-8", "surrogateescape")).encode("utf-8", "surrogateescape") for name in names]
 
 
-def subscribe(root, old, record):
-    """Writes the subscriptions of a tree, in Dovecot's form, and answers those that could not be, since a file was there."""
-    names = subscriptions_of(old)
-    text = FORM + b"".join(name.replace(b".", b"\t") + b"\n" for name in names)
-    path = os.path.join(root, SUBSCRIPTIONS)
-    if not names:
+def subscribe(root, old, record, dry=False):
+    """Writes the subscriptions of a tree once, in Dovecot's form; answers the lines that a file which is there lacks."""
+    names, path = subscriptions_of(old), os.path.join(root, SUBSCRIPTIONS)
+    lines = [name.replace(b".", b"\t") for name in names]
+    text = FORM + b"".join(line + b"\n" for line in lines)
+    key = b".", len(text), hashlib.sha256(text).hexdigest()
+    if not names or any(note.digest == key[2] for note in record.notes(SUBSCRIBED, b".")):
         return []
-    if os.path.lexists(path):
-        return [] if is_file(path) and content_of(path) == text else names
-    place_file(root, SUBSCRIPTIONS, text, lambda file, size, digest: record.add(WROTE, (b".", size, digest), 0, file))
+    if os.path.lexists(path) and content_of(path) != text:
+        there, has_tabs = lines_of(path)
+        return [line for line in (lines if has_tabs else names) if line not in there]
+    if not dry:
+        place_file(root, SUBSCRIPTIONS, text, lambda *_: None)
+        # who leaves a folder afterwards is not told of it again
+        record.add(SUBSCRIBED, key, 0, path)
     return []

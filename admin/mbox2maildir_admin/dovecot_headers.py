@@ -1,29 +1,33 @@
 """What Dovecot's mbox driver keeps in the headers of a mailbox: UIDVALIDITY, UIDs, keywords and flags.
 
-Messages come from strangers, and so may these headers. They count as they do for Dovecot 2.3, so that a client sees after a
-conversion what it saw before.
+Messages come from strangers, and so may these headers. They count as they do for Dovecot 2.3, so that a client sees
+after a conversion what it saw before.
 """
 import array
 import re
 from typing import List, NamedTuple, Optional
 
 from .source import BLOCK
+from .terminal import shown
 
-# what UIDVALIDITY and a UID may be at most, and how many keywords the name of a file has letters for
-MOST_VALIDITY, MOST_UID, LETTERS = (1 << 32) - 1, 4294967293, 26
+# what UIDVALIDITY may be at most, how many keywords the name of a file has letters for, and the highest UID. Dovecot's
+# next UID is at most 4294967294, and with the one after that its Maildir driver fails at each look, for good: so this
+# leaves as many numbers for mail that comes as no folder gets
+MOST_VALIDITY, LETTERS, MOST_UID = (1 << 32) - 1, 26, 4294967293 - (1 << 24)
 LONGEST_KEYWORD, LONGEST_INTERNAL = 50, 1 << 13
 
-FIELD = re.compile(rb"^(x-imapbase|x-imap|x-uid|x-keywords|x-status|status)([ \t]*):([^\n]*(?:\n[ \t][^\n]*)*)", re.I | re.M)
-HEADER_END = re.compile(rb"(?:\A|\n)\r?(?:\n|From )")
+FIELD = re.compile(rb"^(x-imapbase|x-imap|x-uid|x-keywords|x-status|status)([ \t]*):([^\n]*(?:\n[ \t][^\n]*)*)",
+                   re.I | re.M)
+HEADER_END = re.compile(rb"\n\r?(?:\n|From )")
 HEAD = re.compile(rb"[ \t]?([0-9]+) [ \t\r\n]*([0-9]+)(?=[ \t\r\n]|\Z)")
-UID = re.compile(rb"[ \t]?([0-9]+)[ \t\r]*\Z")
+UID = re.compile(rb"[ \t]?([0-9]+)[ \t\r\n]*\Z")
 # what no atom of IMAP has
 NO_KEYWORD = re.compile(rb"[^!-~]|[(){%*\"\\\]]")
 INTERNAL_SUBJECT = b"DON'T DELETE THIS MESSAGE -- FOLDER INTERNAL DATA"
 INTERNAL_BODY = re.compile(
     rb"This text is part of the internal format of your mail folder, and is not\s+a real message\.\s+"
-    rb"It is created automatically by the mail system software\.\s+If deleted, important folder data will be lost, and it will be "
-    rb"re-created\s+with the data reset to initial values\.\s*\Z")
+    rb"It is created automatically by the mail system software\.\s+If deleted, important folder data will be lost, "
+    rb"and it will be re-created\s+with the data reset to initial values\.\s*\Z")
 SUBJECT = re.compile(rb"^subject:[ \t]*([^\r\n]*?)[ \t]*\r?$", re.I | re.M)
 
 # the flags of Dovecot by their letters in Status and X-Status, and the letters of a Maildir
@@ -34,7 +38,7 @@ CONVERTED = {b"A": "R", b"D": "T", b"F": "F", b"R": "S"}
 
 
 class Head(NamedTuple):
-    """What an `X-IMAPbase` or `X-IMAP` of the first message says, and whether that is the message which Dovecot hides."""
+    """What an `X-IMAPbase` or `X-IMAP` of the first message says, and whether Dovecot hides that message."""
     validity: int
     last: int
     keywords: List[bytes]
@@ -42,7 +46,7 @@ class Head(NamedTuple):
 
 
 class Field(NamedTuple):
-    """A line of a header that Dovecot writes: its name in lower case, its value, and whether blanks stand before the colon."""
+    """A field that Dovecot writes: its name in lower case, its value, and whether blanks stand before the colon."""
     name: bytes
     value: bytes
     is_spaced: bool = False
@@ -88,11 +92,11 @@ def keywords_of(value) -> List[bytes]:
 
 
 def internal_head(source, start):
-    """The head of the message by which Dovecot and UW-IMAP keep an empty mailbox, to the letter, where that stands first in a text
-    that starts there, and where it ends; no head where it doesn't."""
+    """The head of the message by which Dovecot and UW-IMAP keep an empty mailbox, to the letter, where that stands
+    first in a text that starts there, and where it ends; no head where it doesn't."""
     text = source.at(start, LONGEST_INTERNAL)
-    message, following, _ = text.partition(b"\nFrom ")
-    message += b"\n" * bool(following)
+    message, next_mark, _ = text.partition(b"\nFrom ")
+    message += b"\n" * bool(next_mark)
     if len(message) == LONGEST_INTERNAL:
         return None, start
     header = header_at(source, start)
@@ -123,6 +127,26 @@ class Reading:
         self.head, self.last = head, max(self.last, head.last)
         self.names = {name.lower(): place for place, name in enumerate(head.keywords)}
 
+    @property
+    def keywords(self):
+        """The keywords that are named, of which the first have letters."""
+        return self.head.keywords if self.head else []
+
+    def remarks(self):
+        """What is to be said of numbers and keywords that are not as they were."""
+        if not self.head:
+            yield "it had no numbers of Dovecot's"
+        elif self.is_used_up():
+            yield "its numbers begin anew, since few are left above the last"
+        elif self.is_renumbered:
+            yield "some get another UID than they have, since a message before them has none"
+        if self.keywords[LETTERS:]:
+            yield "%d keywords are kept, without: %s" % (LETTERS, shown(b" ".join(self.keywords[LETTERS:])))
+
+    def is_used_up(self):
+        """Whether too few numbers are left for mail that comes."""
+        return self.last + self.hides_first > MOST_UID
+
     def add(self, header):
         """Takes the header of the next message."""
         fields, uid = fields_of(header), 0
@@ -143,7 +167,7 @@ class Reading:
         self.marks.append(marks_of(fields, self.names))
 
     def kept(self, value):
-        """The UID of a value which a message keeps: one that rises, and is no higher than the next; 0 where it is none."""
+        """The UID of a value, where the message keeps it: it rises, and is no higher than the next. Else 0."""
         found = UID.match(value)
         number = number_of(found.group(1)) if found else 0
         return number if self.previous < number <= self.last + 1 else 0
@@ -161,21 +185,18 @@ class Reading:
         return uid
 
     def numbers(self, moment):
-        """UIDVALIDITY, the next UID, and the places of the messages by their UIDs. Where nothing was kept, UIDVALIDITY is that
-        moment, in seconds since 1970, and the numbers begin at 1."""
-        order = list(range(self.hides_first, len(self.uids)))
-        if self.hides_first:
-            order.append(0)
-            self.last += 1
-            self.uids[0] = self.last
-        if self.head and self.last <= MOST_UID:
-            return self.head.validity, self.last + 1, [(self.uids[place], place) for place in order]
-        return moment, len(order) + 1, list(enumerate(order, 1))
+        """UIDVALIDITY, the next UID, and the places of the messages by their UIDs. Where nothing was kept, UIDVALIDITY
+        is that moment, in seconds since 1970, and the numbers begin at 1."""
+        order = list(range(self.hides_first, len(self.uids))) + [0] * self.hides_first
+        if not self.head or self.is_used_up():
+            return moment, len(order) + 1, list(enumerate(order, 1))
+        last = self.last + self.hides_first
+        return self.head.validity, last + 1, [(self.uids[place] or last, place) for place in order]
 
 
 def marks_of(fields, names):
-    """The flags and keywords of a message in bits: from 0 on its keywords by their places, from 32 on the flags that Dovecot
-    reads, and from 40 on those that mbox2maildir gave it."""
+    """The flags and keywords of a message in bits: from 0 on its keywords by their places, from 32 on the flags that
+    Dovecot reads, and from 40 on those that mbox2maildir gave it."""
     marks, first = 0, {}
     keywords = None
     for field in fields:

@@ -1,4 +1,4 @@
-"""One handle of a mailbox: opened once, locked for reading, and read by `pread`, so that its offset is the program's alone."""
+"""One handle of a mailbox: opened once, locked for reading, and read by `pread`: its offset is the program's alone."""
 import errno
 import fcntl
 import hashlib
@@ -14,7 +14,8 @@ from .terminal import shown
 
 # the lock of a handle, which no other close drops, and which a child inherits; Python has the name since 3.9
 F_OFD_SETLK = getattr(fcntl, "F_OFD_SETLK", 37)
-# how long a mailbox must have been left alone, how long that is waited for, and how old a lock counts for nothing, in seconds
+# in seconds: how long a mailbox must have been left alone, how long that is waited for, and how old a lock counts for
+# nothing
 QUIET, PATIENCE, STALE = 60, 300, 1200
 # what shows that a file is another than it was
 SIGNS = "st_size", "st_mtime_ns", "st_ctime_ns"
@@ -33,15 +34,22 @@ class Digest:
 
     def add(self, offset, block):
         """Takes a block of the text, which counts where it is the next one."""
-        if offset != self.place:
-            return
+        if offset == self.place:
+            self.update(block)
+
+    def update(self, block):
+        """Takes the next bytes."""
+        block, offset = memoryview(block), self.place
         while self.sizes and self.sizes[-1] <= offset + len(block):
             size = self.sizes.pop()
-            part = self.hash.copy()
-            part.update(memoryview(block)[:size - offset])
-            self.beginnings[size] = part.hexdigest()
-        self.hash.update(block)
-        self.place += len(block)
+            self.take(block[self.place - offset:size - offset])
+            self.beginnings[size] = self.hash.hexdigest()
+        self.take(block[self.place - offset:])
+
+    def take(self, piece):
+        """Hashes bytes."""
+        self.hash.update(piece)
+        self.place += len(piece)
 
 
 class Reader:
@@ -113,8 +121,8 @@ class Handle:
 
 
 def open_mailbox(path, sizes=(), say=silent, follow=False, quiet=True):
-    """Opens and locks a mailbox, and waits until it was left alone for a minute. The digests of its beginnings of these sizes
-    are wanted."""
+    """Opens and locks a mailbox, and waits until it was left alone for a minute. The digests of its beginnings of these
+    sizes are wanted."""
     try:
         flags = os.O_RDONLY | os.O_NONBLOCK | os.O_NOCTTY | os.O_CLOEXEC
         number = os.open(path, flags if follow else flags | os.O_NOFOLLOW)

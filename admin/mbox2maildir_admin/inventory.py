@@ -11,7 +11,7 @@ from .verifying import is_own
 
 
 class Inventory:
-    """What is known of each message of a text by its place, from 0 on: base, size, line, date, and offset in the text."""
+    """What is known of each message of a text by its place, from 0 on: base, size, line, date and offset."""
 
     def __init__(self):
         self.table, self.doubts = Table(), Lines()

@@ -54,8 +54,8 @@ class Verdict(NamedTuple):
     # where the text begins, and how a copy is to be made where that is no guess
     start: int = 0
     quoting: Optional[Quoting] = None
-    # what is said of the lines that keep it from being converted as it is; and how many messages it has where these are From_
-    # lines, and nothing else keeps it
+    # what is said of the lines that keep it from being converted as it is; and how many messages it has where these are
+    # From_ lines, and nothing else keeps it
     reasons: List[str] = []
     decided: Optional[int] = None
 
@@ -124,8 +124,8 @@ class Look:
             self.header(header, mark)
 
     def sort_of(self, mark, header):
-        """What a line `From ` before something like a header looks like: a From_ line, "dated" or "undated", an "odd" one
-        without a header, a "doubtful" one of several words without a date, or "text"."""
+        """What a line `From ` before something like a header looks like: a From_ line, "dated" or "undated", an "odd"
+        one without a header, a "doubtful" one of several words without a date, or "text"."""
         has_header = FIELD.match(header.text)
         if is_dated(mark.piece):
             return "dated" if has_header or header.is_empty() else "odd"
@@ -202,14 +202,14 @@ class Look:
     def reasons(self):
         """What is said of the lines that keep it from being converted as it is."""
         for sorts in KEEPING:
-            found = [(line, dict(SAID)[sort].format(text, other)) for sort in sorts if sort != "doubtful" or self.doubts()
-                     for line, text, other in self.first(sort)]
+            found = [(line, dict(SAID)[sort].format(text, other)) for sort in sorts
+                     if sort != "doubtful" or self.doubts() for line, text, other in self.first(sort)]
             if found:
                 return ["line %d: %s" % one for one in sorted(found)]
         return []
 
     def decided(self):
-        """How many messages there are where a human has decided that doubtful lines are From_ lines, and nothing else keeps it."""
+        """How many messages there are once a human took doubtful lines for From_ lines, where nothing else keeps it."""
         others = [sort for sorts in KEEPING for sort in sorts if sort not in ("odd", "doubtful")]
         return None if self.start or self.count(*others) else self.messages
 
@@ -240,7 +240,8 @@ def look_at(source, enough=lambda look: False):
     start = text_start(head)
     if start is None:
         look = Look(source)
-        kind, then, remarks = what_else(source, head, lambda mark: look.sort_of(mark, Header.read(source, mark)) != "text")
+        kind, then, remarks = what_else(
+            source, head, lambda mark: look.sort_of(mark, Header.read(source, mark)) != "text")
         source.check()
         return Verdict(kind, then, remarks=remarks)
     if b"\r" in head[start:].split(b"\n")[0][:-1]:
@@ -252,7 +253,8 @@ def look_at(source, enough=lambda look: False):
 
 
 # the sorts that keep a text from being converted as it is, as they are to be looked after
-KEEPING = (("deleted",), ("inside, dated", "odd", "doubtful"), ("inside", "text"), ("holds mail",), ("no end",), ("CR LF",))
+KEEPING = (("deleted",), ("inside, dated", "odd", "doubtful"), ("inside", "text"), ("holds mail",), ("no end",),
+           ("CR LF",))
 
 
 def verdict_on(look):
@@ -260,9 +262,10 @@ def verdict_on(look):
     then, quoting = next_of(look)
     then = quoting.command() if quoting else then
     # a guess is what a human may decide otherwise
-    sure = quoting and not quoting.trusted and quoting.by in ("lengths", "mboxrd") and look.count("CR LF") in (0, look.messages)
-    return Verdict(kind_of(look), then, int(then != CONVERT), look.fewest(), look.most(), list(look.remarks()), look.start,
-                   quoting if sure else None, look.reasons(), look.decided())
+    sure = quoting and not quoting.trusted and quoting.by in ("lengths", "mboxrd") and (
+        look.count("CR LF") in (0, look.messages))
+    return Verdict(kind_of(look), then, int(then != CONVERT), look.fewest(), look.most(), list(look.remarks()),
+                   look.start, quoting if sure else None, look.reasons(), look.decided())
 
 
 def kind_of(look):

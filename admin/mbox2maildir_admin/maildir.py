@@ -23,7 +23,7 @@ def paths_of(maildir):
 
 
 def listings_of(maildir):
-    """Lists a Maildir's mail; and again as long as a mail program renames some meanwhile, which a listing may pass over."""
+    """Lists a Maildir's mail, and again while a mail program renames some, which a listing may pass over."""
     for _ in range(PASSES):
         began, before = time.time(), changed_at(maildir)
         yield paths_of(maildir)
@@ -66,8 +66,8 @@ class Table:
 
 
 def digest_of(path, sizes=None):
-    """The digest of a file of one of these sizes, or of any, and its owner; no digest where its size is another, or where it
-    is no file."""
+    """The digest of a file of one of these sizes, or of any, and its owner; no digest where its size is another, or
+    where it is no file."""
     try:
         with open_file(path) as file:
             state = os.fstat(file.fileno())

@@ -10,10 +10,10 @@ from .source import LONG
 class Message:
     """A message of a text: its From_ line, and the size and the digest of its body."""
 
-    def __init__(self, number, mark):
+    def __init__(self, number, mark, hashed):
         self.number, self.offset, self.line, self.from_line = number, mark.offset, mark.line, mark.piece
-        self.size, self.hash = 0, hashlib.sha256()
-        # the bytes of its From_ line, and those that are no mail: the blank line at the end, and a `>` of each quoted line
+        self.size, self.hash = 0, hashed()
+        # the bytes of its From_ line, and those that are no mail: the blank line at the end, a `>` of each quoted line
         self.from_size = self.left_out = 0
         self.last, self.held = b"\n", False
 
@@ -39,8 +39,8 @@ class Message:
         return b"\r" in self.from_line[:-1] or len(self.from_line) > LONG
 
 
-def messages_of(source, start=0, line=1):
-    """The messages of a text, which begins at an offset, in this line."""
+def messages_of(source, start=0, line=1, hashed=hashlib.sha256):
+    """The messages of a text, which begins at an offset, in this line. What `hashed` gives takes the bytes of each."""
     message, quoted, number = None, False, 0
     source.file.seek(start)
     for part in parts_of(source.file, start, line):
@@ -48,7 +48,7 @@ def messages_of(source, start=0, line=1):
             if message:
                 yield message
             number += 1
-            message = Message(number, part)
+            message = Message(number, part, hashed)
         elif part.what == MARK:
             quoted = True
         elif not message:

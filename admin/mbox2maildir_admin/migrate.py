@@ -8,7 +8,7 @@ from .converting import Program
 from .dovecot import OLD_SUBSCRIPTIONS, SUBSCRIPTIONS, Dovecot, subscribe
 from .faults import Fault, OutputFault, PlaceFault
 from .migrating import Migration
-from .outcome import INBOX, LEFT, Row
+from .outcome import BEFORE, INBOX, LEFT, Left, Row, why_left
 from .record import Record
 from .reporting import Reporter
 from .room import make_maildir, want_maildir, want_own
@@ -61,26 +61,33 @@ def check_words(words):
 def migrate_own(words, reporter):
     """Migrates into a Maildir of whoever runs this."""
     root, names = os.fsencode(words.target), list(map(os.fsencode, words.names))
-    refuse(root, names)
+    refuse(root, names, options_of(words))
     os.umask(0o077)
     run_all(words, root, names, reporter, Program(os.fsencode(find_program())))
 
 
-def refuse(root, names):
-    """A fault for what is refused before anything is made."""
+def options_of(words):
+    """The options as they were given, each followed by a space."""
+    given = [option for option in ("dry-run", "again", "dovecot") if getattr(words, option.replace("-", "_"))]
+    return "".join("--%s " % option for option in given) + (
+        "--folder %s " % word(os.fsencode(words.folder)) if words.folder else "")
+
+
+def refuse(root, names, options=""):
+    """A fault for what is refused before anything is made. The options are said in what is to be run instead."""
     want_maildir(root)
     for name in names:
         if os.path.isdir(os.path.join(name, b"cur")):
             raise PlaceFault("%s: it is a Maildir, and no mailbox: the Maildir comes first" % shown(name))
     if os.geteuid() == 0:
-        parent = os.path.dirname(os.path.abspath(root))
-        want_roots(root if os.path.lexists(root) else parent, root, names)
-        for name in names:
-            if os.path.exists(name):
-                want_roots(name, root, names)
+        operands = " ".join(word(os.path.abspath(name)) for name in [root, *names])
+        # whose folder the Maildir is in could put another in its place
+        for path in (root, os.path.dirname(os.path.abspath(root)), *names):
+            if os.path.exists(path):
+                want_roots(path, options + operands)
 
 
-def want_roots(path, root, names):
+def want_roots(path, words):
     """A fault where what root names is another user's, with the words that would do it as that."""
     owner = os.stat(path).st_uid
     if owner == 0:
@@ -89,8 +96,8 @@ def want_roots(path, root, names):
         user = pwd.getpwuid(owner).pw_name
     except KeyError:
         raise PlaceFault("%s: it belongs to the user %d; run this as that one" % (shown(path), owner)) from None
-    words = " ".join(word(os.path.abspath(name)) for name in [root, *names])
-    raise PlaceFault("%s: it belongs to %s; next: runuser -u %s -- %s migrate %s" % (shown(path), user, user, ADMIN, words))
+    raise PlaceFault("%s: it belongs to %s; next: runuser -u %s -- %s migrate %s" % (
+        shown(path), user, user, ADMIN, words))
 
 
 def run_all(words, root, names, reporter, program, own=False):
@@ -107,18 +114,23 @@ def run_all(words, root, names, reporter, program, own=False):
             work = Migration(program, root, record, lambda *says, path=one.path: reporter.progress(shown(path), *says),
                              words.dry_run, words.again, Dovecot(record) if words.dovecot else None)
             reporter.row(with_name(run_one(work, one, root, own, names), one))
-        if words.dovecot and not words.dry_run:
-            subscribe_all(root, [name for name in names if is_tree(name, own)], record, reporter)
+        for name in names:
+            if words.dovecot and is_tree(name, own):
+                subscribe_to(root, name, record, reporter, words.dry_run)
 
 
-def subscribe_all(root, trees, record, reporter):
-    """Writes the subscriptions of trees; what can't be written is reported."""
-    for tree in trees:
-        names = subscribe(root, tree, record)
-        if names:
-            why = "%s is there; what is not in it yet belongs into it: %s" % (
-                shown(os.path.join(root, SUBSCRIPTIONS)), " ".join(map(word, names)))
-            reporter.row(Row(os.path.join(tree, OLD_SUBSCRIPTIONS), INBOX, "", None, LEFT, why))
+def subscribe_to(root, tree, record, reporter, dry):
+    """Writes the subscriptions of a tree; what can't be written is reported."""
+    path = os.path.join(tree, OLD_SUBSCRIPTIONS)
+    try:
+        lines, file = subscribe(root, tree, record, dry), os.path.join(root, SUBSCRIPTIONS)
+        lines = (line.replace(b"\\", b"\\\\").replace(b"\t", b"\\t") for line in lines)
+        words = " ".join(map(word, lines))
+        why = "%s is there, and stays; next: printf '%%b\\n' %s >>%s" % (shown(file), words, word(file)) if words else ""
+    except (Left, Fault, OSError) as fault:
+        why = why_left(fault, path)
+    if why:
+        reporter.row(Row(path, b"", "", None, LEFT, why))
 
 
 def is_tree(name, own):
@@ -138,7 +150,7 @@ def run_one(work, one, root, own, names):
 
 def with_name(row, one):
     """Says too that mail programs will see another name."""
-    if not one.before:
+    if not one.before or row.verdict == BEFORE:
         return row
     return row._replace(why="; ".join(filter(None, [row.why, "its name was %s" % shown(one.before)])))
 

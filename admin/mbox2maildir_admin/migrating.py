@@ -5,10 +5,11 @@ import os
 import re
 import tempfile
 
+from . import ADMIN
 from .checking import Check, give_dates
 from .converting import Program
 from .faults import Fault
-from .handle import open_mailbox, silent
+from .handle import Digest, open_mailbox, silent
 from .inventory import Inventory
 from .messages import messages_of
 from .outcome import BEFORE, DONE, INBOX, LEFT, PASSED, WOULD, Failed, Left, Row, why_left
@@ -18,10 +19,10 @@ from .record import BACK, BEGUN, CONVERTED, FAILED, LAST
 from .room import make_maildir, want_room, what_fails
 from .terminal import shown, word
 from .unnamed import copy_of_some, quoted_copy, quoted_size
-from .verifying import NOWHERE, Listing
+from .verifying import NOWHERE, Listing, is_own
 
-SYNC_FAILED = ("its sync failed: mount the disk anew, and look into the system's log, before anything there is believed; then "
-               "--again")
+SYNC_FAILED = ("its sync failed: mount the disk anew, and look into the system's log, before anything there is "
+               "believed; then --again")
 FOLDER_CALL = re.compile(r"folder call (\d+) failed")
 # the calls that list a folder, which come first; a sync comes last
 LISTINGS = 3
@@ -35,6 +36,14 @@ class Extra:
     def start_of(self, source, start):
         """Where the text begins that is converted, of one that begins at this offset."""
         return start
+
+    def says_of_done(self, name):
+        """What is to be said of a mailbox that was done before into this folder."""
+        return ""
+
+    def foresee(self, work):
+        """What `run` would say, where nothing may be made."""
+        return []
 
     def run(self, work):
         """Done after the dates and before all is verified; it answers what is to be said of it."""
@@ -52,6 +61,8 @@ class Work:
         # the key of the record, and what that says; and how much of the mailbox was done before
         self.key = self.before = self.begun_at = None
         self.done_size = 0
+        # how long it was when a conversion of it began that may not have ended, and may have read what came later
+        self.begun_size = None
         # the place of the first message that was not done before
         self.first = 0
 
@@ -59,7 +70,8 @@ class Work:
         """What became of it."""
         if self.plan:
             kind, messages = kind or self.plan.kind, self.plan.messages if messages is None else messages
-        return Row(self.handle.path, self.name, kind, messages, verdict, "; ".join(self.remarks) if why is None else why)
+        why = "; ".join(self.remarks) if why is None else why
+        return Row(self.handle.path, self.name, kind, messages, verdict, why)
 
     def has_changed(self):
         """Whether the mailbox is another than the one that was looked at."""
@@ -80,7 +92,7 @@ class Migration:
                 return Row(path, name, "", None, PASSED, "")
             with open_mailbox(path, self.record.sizes(name), self.say, follow) as handle:
                 if self.is_done(handle, name):
-                    return Row(path, name, "", None, BEFORE, "")
+                    return Row(path, name, "", None, BEFORE, self.extra.says_of_done(name))
                 folder = self.root if name == INBOX else os.path.join(self.root, name)
                 return self.migrate(Work(handle, name, folder))
         except Left as left:
@@ -115,7 +127,10 @@ class Migration:
         """Looks at all of the mailbox, or at its copy that was made by hand."""
         by_hand = work.handle.path + b".mboxrd"
         if os.path.lexists(by_hand):
-            work.source = stack.enter_context(open_mailbox(by_hand, say=self.say, quiet=False))
+            try:
+                work.source = stack.enter_context(open_mailbox(by_hand, say=self.say, quiet=False))
+            except Left as left:
+                raise Left("its copy %s: %s" % (shown(by_hand), left)) from left
             work.plan = plan_by_hand(work.handle, work.source)
         else:
             work.plan = plan_of(work.handle)
@@ -133,11 +148,14 @@ class Migration:
         work.begun_at = self.record.begun_at(work.key)
         if self.again:
             return
-        done, longest = self.record.beginning(work.name, work.handle.size, work.handle.digest.beginnings)
+        beginnings = work.handle.digest.beginnings
+        done, longest = self.record.beginning(work.name, work.handle.size, beginnings)
         work.done_size = done
+        work.begun_size = min((size for size in beginnings if done < size < work.handle.size and
+                               self.record.steps.get((work.name, size, beginnings[size])) == BEGUN), default=None)
         if longest and work.before is None:
             size, step = longest
-            work.begun_at = self.record.begun_at((work.name, size, work.handle.digest.beginnings[size]))
+            work.begun_at = self.record.begun_at((work.name, size, beginnings[size]))
             work.before = {"done": GREW, FAILED: FAILED}.get(step, BEGUN)
         if work.before == FAILED:
             raise Left(SYNC_FAILED)
@@ -160,29 +178,33 @@ class Migration:
     def find_first(self, work):
         """Finds the first message that was not done before."""
         size, offsets = work.done_size, work.inventory.offsets
-        if work.source is not work.handle:
-            if not work.plan.quoting:
-                path = work.handle.path
-                raise Left("it grew after it was done, and what is new can't be told from its copy; next: tail -c +%d %s >%s, and "
-                           "migrate that" % (size + 1, word(path), word(path + b".rest")))
+        if work.plan.quoting:
             size = quoted_size(work.handle, work.plan, size)
+        elif work.source is not work.handle:
+            self.refuse_grown_copy(work)
         work.first = bisect.bisect_left(offsets, size)
         if offsets[work.first] == size:
             return
-        if work.source is not work.handle:
-            raise Left("it grew within its last message after it was done")
         # the last message of what is done was not whole when it was read
         work.first -= 1
         self.note_last(work, offsets[work.first], size)
+
+    def refuse_grown_copy(self, work):
+        """What is new of a mailbox can't be told from a copy that was made by hand: it must become a mailbox of its own."""
+        path, size = work.handle.path, work.done_size
+        if work.handle.at(size, 5) != b"From ":
+            raise Left("it grew within its last message after it was done")
+        raise Left("it grew after it was done, and what is new can't be told from its copy; next: tail -c +%d %s >%s, and migrate "
+                   "that in its place" % (size + 1, word(path), word(path + b".rest")))
 
     def take_steps(self, work):
         """The steps from where the record has it."""
         if work.before != CONVERTED or self.again:
             seen = self.look_into_folder(work)
-            if self.dry:
-                return
-            self.convert(work, seen)
-        elif self.dry:
+            if not self.dry:
+                self.convert(work, seen)
+        if self.dry:
+            work.remarks += self.extra.foresee(work)
             return
         undated = give_dates(work.folder, work.inventory, work.first)
         if undated:
@@ -197,21 +219,28 @@ class Migration:
         self.record.add("done", work.key, len(work.inventory), work.handle.path)
 
     def look_into_folder(self, work):
-        """What of the mailbox is there. Left where some is, and no record says why; or where there is no room for the rest."""
+        """What of the mailbox is there. Left where some is and no record says why, or without room for the rest."""
         seen = Presence.look(work.folder, work.inventory, self.say)
         if work.before is None and not self.again and 0 < seen.count() < len(work.inventory):
-            raise Left("%d of its messages are there, and no record says why: if it was rewritten since, --again doubles what "
-                       "changed, and brings back what was deleted" % seen.count())
-        sizes = [size for place, size in enumerate(work.inventory.sizes) if place >= work.first and seen.is_nowhere(place)]
+            raise Left("%d of its messages are there, and no record says why: another mailbox has them too, or it was "
+                       "rewritten; next: %s, which brings back what was deleted, and doubles what was changed" % (
+                           seen.count(), self.words_again(work)))
+        sizes = [size for place, size in enumerate(work.inventory.sizes)
+                 if place >= work.first and seen.is_nowhere(place)]
         want_room(work.folder, sizes)
         return seen
+
+    def words_again(self, work):
+        """The words that convert a mailbox whatever stands there."""
+        folder = "" if work.name == INBOX else "--folder %s " % word(work.name[1:].replace(b".", b"/"))
+        return "%s migrate --again %s%s %s" % (ADMIN, folder, word(self.root), word(work.handle.path))
 
     def convert(self, work, seen):
         """Converts what is nowhere, and answers when each message is there."""
         path, first = work.handle.path, work.first
         make_maildir(work.folder, work.name == INBOX)
-        if work.before == BEGUN and not self.again:
-            back = seen.may_come_back(first, work.begun_at)
+        if not self.again:
+            back = seen.come_back(first) + (seen.may_come_back(first, work.begun_at) if work.before == BEGUN else 0)
             if back:
                 self.record.add(BACK, work.key, back, path)
         self.record.add(BEGUN, work.key, len(work.inventory), path)
@@ -228,6 +257,7 @@ class Migration:
             self.note_last(work, work.inventory.offsets[len(work.inventory) - 1], end)
         if work.has_changed():
             raise Left("it changed while it was converted: stop whoever writes to it, and run this again")
+        self.note_cut(work)
         self.refuse_cut(work)
         self.record.add(CONVERTED, work.key, len(work.inventory), path)
 
@@ -239,6 +269,24 @@ class Migration:
             pass
         self.record.add(LAST, (work.name, end, message.hash.hexdigest()), 0, work.handle.path)
 
+    def note_cut(self, work):
+        """Records messages that were being written when a `convert` read them whose `migrate` had been killed: each has a file
+        that holds its beginning."""
+        if work.begun_size is None or work.source is not work.handle:
+            return
+        others, since = {}, self.record.begun_at((work.name, work.begun_size, work.handle.digest.beginnings[work.begun_size]))
+        for name, path in names_of(work.folder):
+            state = os.lstat(path)
+            # what other mailboxes placed has the dates of its From_ lines
+            if is_own(name.split(b":")[0]) and work.inventory.place(name) is None and state.st_mtime >= since:
+                others[name[:64].decode()] = state.st_size
+        first = bisect.bisect_right(work.inventory.offsets, work.begun_size) - 1
+        start = work.inventory.offsets[first]
+        for message in messages_of(work.source, start, hashed=lambda: Digest(set(others.values()))) if others else ():
+            for size, digest in message.hash.beginnings.items():
+                if others.get(digest) == size:
+                    self.record.add(LAST, (work.name, size, digest), 0, work.handle.path)
+
     def refuse_cut(self, work):
         """Left where a file stands of a message that was read when it was not whole."""
         path = shown(os.path.abspath(work.handle.path))
@@ -246,8 +294,8 @@ class Migration:
                bytes.fromhex(digest) + b".1" not in work.inventory.table.places}
         for name, where in names_of(work.folder) if cut else ():
             if name[:64] in cut:
-                raise Left("a message was cut, since it was being written when it was read; it came whole by now; next: rm %s" %
-                           word(where))
+                raise Left("a message was cut, since it was being written when it was read; it came whole by now; "
+                           "next: rm %s" % word(where))
 
     def explained(self, failed, work):
         """Why the program failed, said better than it can. That a sync failed is kept in mind."""

@@ -44,14 +44,14 @@ HEAD = 1 << 16
 
 
 def text_start(head):
-    """Where the mbox text begins in a file with these first bytes, after a byte order mark and blank lines; None in others."""
+    """Where the mbox text begins in a file with these first bytes, after a mark and blank lines; None in others."""
     start = BEFORE_TEXT.match(head).end()
     return start if head.startswith(b"From ", start) or not head else None
 
 
 def what_else(source, head, is_from_line):
-    """The kind of a file that does not begin with mbox text, the next command, and what is said of lines. A mark begins a
-    message where is_from_line says so of it."""
+    """The kind of a file that does not begin with mbox text, the next command, and what is said of lines. A mark begins
+    a message where is_from_line says so of it."""
     other = next((other for other in OTHERS if other.start.match(head)), None)
     if other:
         return other.kind, other.next, []

@@ -7,16 +7,16 @@ from .terminal import shown
 
 DONE, BEFORE, WOULD, PASSED, LEFT = VERDICTS = "done", "done before", "would be done", "no mail", "left"
 
-# the path of a mailbox, the name of its folder on the disk if it has one, what it is, how many messages it has if that is
-# known, what became of it, and what is to be said of that
+# the path of a mailbox, the name of its folder on the disk if it has one, what it is, how many messages it has if that
+# is known, what became of it, and what is to be said of that
 Row = collections.namedtuple("Row", "path folder kind messages verdict why")
 # the name of the Maildir itself among its folders
 INBOX = b"."
 
 
 class Left(Exception):
-    """Why a mailbox is left as it is, with what to do next; and what it is, and how many messages it has or may have, where
-    that is known."""
+    """Why a mailbox is left as it is, with what to do next; where that is known, what it is, and how many messages it
+    has or may have."""
 
     def __init__(self, why, kind="", messages=None, most=None):
         super().__init__(why)

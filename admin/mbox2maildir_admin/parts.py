@@ -42,8 +42,8 @@ def regions_of(file):
 
 
 def parts_of(file, offset=0, line=1):
-    """The parts of a text: a MARK before each line of `>`, any number of them, and `From `, with the line's first bytes; the
-    bytes of a From_ line; and the bytes of other lines. A part is as long as a block at most, but for a few bytes."""
+    """The parts of a text: a MARK before each line of `>`, any number of them, and `From `, with the line's first
+    bytes; the bytes of a From_ line; and those of other lines. A part is hardly longer than a block."""
     in_from = False
     for region, fresh in regions_of(file):
         position = 0

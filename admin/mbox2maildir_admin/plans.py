@@ -12,7 +12,7 @@ NO_MAIL = re.compile(rb"(?:\A|/)(?:\.imap/.*|\.subscriptions|\.mailboxlist|[^/]+
 
 
 class Plan(NamedTuple):
-    """What a mailbox is, how many messages it has, where its text begins, and how its copy is quoted, where it needs one."""
+    """What a mailbox is, how many messages it has, where its text begins, and how a copy that it needs is quoted."""
     kind: str
     messages: int
     start: int = 0
@@ -73,9 +73,11 @@ def plan_by_hand(handle, copy):
     """The plan of a copy that was made by hand, which is taken in place of a mailbox that may have as many messages."""
     name = shown(copy.path)
     if copy.state.st_uid != handle.state.st_uid:
-        raise Left("its copy %s belongs to another user" % name)
+        # as root makes one of a user's mailbox
+        raise Left("its copy %s belongs to another user; next: chown --reference=%s %s" % (
+            name, word(handle.path), word(copy.path)))
     if copy.state.st_mtime_ns < handle.state.st_mtime_ns:
-        raise Left("it changed after its copy %s was made" % name)
+        raise Left("it changed after its copy %s was made; next: rm %s, and run this again" % (name, word(copy.path)))
     try:
         plan = plan_of(handle)
         fewest = most = plan.messages

@@ -20,7 +20,7 @@ def names_of(folder):
 
 
 class Presence:
-    """Which messages of a text have a file under their base, and which under another name, that a mail program gave it."""
+    """Which messages of a text have a file under their base, and which under a name that a mail program gave it."""
 
     def __init__(self, folder, inventory, say=silent):
         self.folder, self.inventory, self.say = folder, inventory, say
@@ -46,8 +46,8 @@ class Presence:
             if not self.there[place]:
                 lacking[base[:32]].append(place)
                 sizes.add(self.inventory.sizes[place])
-        for name, path in names_of(self.folder):
-            self.say("looking into the folder")
+        for number, (name, path) in enumerate(names_of(self.folder), 1):
+            self.say("looking at file %d of the folder" % number)
             if BASE.match(name) and b"," not in name.split(b":")[0]:
                 continue
             digest = digest_of_file(path, sizes)
@@ -67,15 +67,15 @@ class Presence:
         return sum(self.there) + len(self.renamed)
 
     def is_plain(self, first):
-        """Whether the messages from a place on are converted by themselves as they must be: none of them was renamed, or is
-        equal to one before."""
+        """Whether the messages from a place on are converted by themselves as they must be: none of them was renamed,
+        or is equal to one before."""
         if any(place >= first for place in self.renamed):
             return False
         return not first or not any(places[0] < first <= places[-1] for places in self.inventory.equal().values())
 
     def wanted(self, first):
-        """The places of the messages of which a text must be made, so that each from a place on that is nowhere gets a file: of
-        equal ones as many as leave as many without a home as are nowhere."""
+        """The places of the messages of which a text must be made, so that each from a place on that is nowhere gets a
+        file: of equal ones as many as leave as many without a home as are nowhere."""
         equal = self.inventory.equal()
         grouped = {place for places in equal.values() for place in places}
         wanted = [place for place in range(first, len(self.there)) if place not in grouped and self.is_nowhere(place)]
@@ -88,16 +88,22 @@ class Presence:
                         lacking -= not self.there[place]
         return sorted(wanted)
 
+    def come_back(self, first):
+        """How many messages before a place come back with those that are wanted from there on, which are equal to them."""
+        return sum(place < first and self.is_nowhere(place) for places in self.inventory.equal().values()
+                   if any(place >= first and self.is_nowhere(place) for place in places) for place in places)
+
     def may_come_back(self, first, begun_at):
-        """How many messages may have been placed, and deleted or moved since, by a run that was broken off. It placed them in
-        their order: so those that lack one after them; and all that lack, where names have changed since the last was placed."""
+        """How many messages may have been placed, and deleted or moved since, by a run that was broken off. It placed
+        them in their order: so those that lack one after them; and all that lack, where names have changed since the
+        last was placed."""
         last = self.there.rfind(1)
         if not self.is_untouched(first, begun_at):
             last = len(self.there) - 1
         return sum(map(self.is_nowhere, range(first, last + 1)))
 
     def is_untouched(self, first, begun_at):
-        """Whether no name has changed since the last message was placed, by the times that the kernel gives files and folders."""
+        """Whether no name has changed since the last message was placed, by the kernel's times of files and folders."""
         times = array.array("q", bytes(8 * len(self.there)))
         try:
             for name, path in names_of(self.folder):

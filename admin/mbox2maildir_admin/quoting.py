@@ -134,8 +134,8 @@ def bounds_of(how, source):
 
 
 def check_lengths(look, trusted):
-    """Whether a text can be quoted by its lengths: each leads to a From_ line; and where they are not trusted each message has
-    one, and none leads over a dated From_ line."""
+    """Whether a text can be quoted by its lengths: each leads to a From_ line; and where they are not trusted each
+    message has one, and none leads over a dated From_ line."""
     for line, length, _ in look.first("wrong"):
         raise Fault("line %d: this length leads to no From_ line: %s" % (line, length))
     if trusted:
@@ -144,7 +144,8 @@ def check_lengths(look, trusted):
         raise Fault("line %d: a dated From_ line within the message of line %d, by its length: --lengths quotes it" % (
             line, by))
     if look.without:
-        raise Fault("line %d: this message has no length, and others may be no better: --lengths goes by them" % look.without)
+        raise Fault("line %d: this message has no length, and others may be no better: --lengths goes by them" % (
+            look.without))
 
 
 def quote(how, source, copy):

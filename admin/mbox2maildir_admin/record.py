@@ -1,7 +1,7 @@
 """The record of a Maildir: what was done with which mailbox, a line a step.
 
-A line has, between tabs: the step, the folder, the mailbox's size and SHA-256, how many messages it has, when, and from which
-path. The file belongs to whoever owns the Maildir, and nothing in it is believed that could harm anybody else.
+A line has, between tabs: the step, the folder, the mailbox's size and SHA-256, how many messages it has, when, and from
+which path. The file belongs to whoever owns the Maildir, and nothing in it is believed that could harm anybody else.
 """
 import calendar
 import collections
@@ -80,7 +80,8 @@ class Record:
     def check(self):
         """Whether it is a file that nobody else may write."""
         state = os.fstat(self.number)
-        if not stat.S_ISREG(state.st_mode) or state.st_uid != os.geteuid() or state.st_mode & 0o022 or state.st_nlink != 1:
+        is_ours = state.st_uid == os.geteuid() and not state.st_mode & 0o022 and state.st_nlink == 1
+        if not stat.S_ISREG(state.st_mode) or not is_ours:
             raise PlaceFault("%s: it is no file of yours, or others may write it: look at it, and put it aside" %
                              shown(self.path))
         if state.st_size > MOST:
@@ -91,7 +92,8 @@ class Record:
         try:
             fcntl.flock(self.number, fcntl.LOCK_EX | fcntl.LOCK_NB)
         except BlockingIOError as fault:
-            raise PlaceFault("another migrate is at work in %s, or a convert that one left: wait" % shown(maildir)) from fault
+            raise PlaceFault("another migrate is at work in %s, or a convert that one left: wait" % (
+                shown(maildir))) from fault
 
     def read(self):
         """Reads its lines. A last line that was cut counts for nothing."""
@@ -146,8 +148,8 @@ class Record:
         return {size for (its, size, _), step in self.steps.items() if its == folder and step == DONE}
 
     def beginning(self, folder, size, digests):
-        """Of a text that grew, of which some beginnings have these digests: how much of it is done, and the size and the step
-        of the longest beginning that has one, if any has."""
+        """Of a text that grew, of which some beginnings have these digests: how much of it is done, and the size and
+        the step of the longest beginning that has one, if any has."""
         steps = {long: self.steps[folder, long, digest] for long, digest in digests.items()
                  if long < size and (folder, long, digest) in self.steps}
         done = max((long for long in steps if steps[long] == DONE), default=0)

@@ -1,13 +1,15 @@
 """What a migration prints: a line as a mailbox ends, how far it is, and a sum."""
 import collections
+import os
 import sys
 import time
+import unicodedata
 
 from .outcome import BEFORE, LEFT, PASSED, VERDICTS, folder_name
 from .terminal import flush, put, put_error, shown
 
-# how often the line of a terminal is written anew, in seconds
-PAUSE = 0.2
+# how often the line of a terminal is written anew, in seconds, and how wide one is that doesn't tell
+PAUSE, WIDTH = 0.2, 80
 
 
 def amount(place, size):
@@ -15,6 +17,28 @@ def amount(place, size):
     unit, long = next((pair for pair in (("GB", 1e9), ("MB", 1e6), ("kB", 1e3)) if size >= pair[1]), ("bytes", 1))
     form = "%.1f of %.1f %s" if long > 1 else "%d of %d %s"
     return form % (place / long, size / long, unit)
+
+
+def width_of(text):
+    """How many columns of a terminal a text takes."""
+    return sum(2 if unicodedata.east_asian_width(letter) in "WF" else 1 for letter in text)
+
+
+def fitted(name, room):
+    """A name in so many columns: of a longer one its end."""
+    if width_of(name) <= room:
+        return name
+    while name and width_of(name) + 3 > room:
+        name = name[1:]
+    return "..." + name
+
+
+def width_of_terminal():
+    """How many columns the terminal has on which the line stands."""
+    try:
+        return os.get_terminal_size(sys.stderr.fileno()).columns or WIDTH
+    except OSError:
+        return WIDTH
 
 
 class Reporter:
@@ -36,18 +60,21 @@ class Reporter:
         if not self.is_terminal or now < self.next_time:
             return
         self.next_time = now + PAUSE
-        line = "%d/%d %s: %s" % (self.begun, self.total, who, doing)
-        self.rewrite(line if place is None else "%s %s" % (line, amount(place, size)))
+        start, end = "%d/%d " % (self.begun, self.total), ": %s" % doing
+        if place is not None:
+            end += " " + amount(place, size)
+        # a line that is longer than the terminal is wide could not be written over
+        self.rewrite(start + fitted(who, width_of_terminal() - len(start) - len(end) - 1) + end)
 
     def rewrite(self, line):
         """Writes the line of the terminal anew."""
-        put_error(("\r\x1b[K" + line[:200]).encode("utf-8", "surrogateescape"))
+        put_error(("\r\x1b[K" + line).encode("utf-8", "surrogateescape"))
         self.is_written = bool(line)
 
     def row(self, row, name=None):
         """Prints what became of a mailbox, unless it is in the sum alone."""
         self.counts[row.verdict] += 1
-        if row.verdict == BEFORE or row.verdict == PASSED:
+        if row.verdict == PASSED or row.verdict == BEFORE and not row.why:
             return
         if self.is_written:
             self.rewrite("")

@@ -40,7 +40,7 @@ def want_own(folder):
 
 
 def make_maildir(folder, is_root):
-    """Makes a Maildir, or a folder of one with its mark, where it is missing. Its names are on the disk when this ends."""
+    """Makes a Maildir, or a folder of one with its mark, where it is missing; its names are on the disk then."""
     made = make(folder)
     for sub in SUBFOLDERS:
         made = make(os.path.join(folder, sub)) or made
@@ -92,7 +92,7 @@ def amount(size):
 
 
 def what_fails(folder, size):
-    """Tries in `tmp` what the program does there with a message of a size, and says what fails; nothing where all goes well."""
+    """Tries in `tmp` what the program does there with a message of a size, and says what fails, if anything."""
     step, path = "make a file in tmp", None
     try:
         number, path = tempfile.mkstemp(prefix=PREFIX, dir=os.path.join(folder, b"tmp"))

@@ -21,7 +21,7 @@ def open_file(path):
 
 
 class Reader:
-    """Reads an open file from an offset on. The place of the file's handle stays where it is: others may have that too."""
+    """Reads an open file from an offset on. The place of the file's handle stays: others may have that too."""
 
     def __init__(self, number, offset=0):
         self.number, self.offset = number, offset
@@ -58,7 +58,8 @@ class Source:
     def check(self):
         """Whether the file, and what has its name, is as it was."""
         for now in (os.fstat(self.number), os.stat(self.path)):
-            if any(getattr(now, part) != getattr(self.state, part) for part in ("st_dev", "st_ino", "st_size", "st_mtime_ns")):
+            if any(getattr(now, part) != getattr(self.state, part)
+                   for part in ("st_dev", "st_ino", "st_size", "st_mtime_ns")):
                 raise Fault("it changed while it was read: stop whoever writes to it")
 
 

@@ -24,7 +24,9 @@ def word(name):
     """A name as a word of a shell, which is no option."""
     name = b"./" + name if name.startswith(b"-") else name
     text = name.decode("utf-8", "surrogateescape")
-    return shlex.quote(text) if text.isprintable() else "$'%s'" % shown(name.replace(b"\\", b"\\\\").replace(b"'", b"\\'"))
+    if text.isprintable():
+        return shlex.quote(text)
+    return "$'%s'" % shown(name.replace(b"\\", b"\\\\").replace(b"'", b"\\'"))
 
 
 def is_text(name):

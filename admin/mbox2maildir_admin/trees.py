@@ -5,14 +5,15 @@ import os
 import re
 from typing import NamedTuple
 
+from . import ADMIN
 from .copies import UNFINISHED
 from .outcome import INBOX, LEFT, PASSED, Row, folder_name
 from .plans import is_no_mail
-from .terminal import is_text, shown
+from .terminal import is_text, shown, word
 
 # how long a name may be on a disk, and the ending of a copy that was made by hand
 LONGEST, COPY = 255, b".mboxrd"
-BY_ITSELF = "next: migrate it by itself, with --folder NAME"
+BY_ITSELF = "%s; next: " + ADMIN + " migrate --folder NAME MAILDIR %s"
 
 
 class Planned(NamedTuple):
@@ -44,6 +45,10 @@ class Tree:
     def leave(self, path, why, verdict=LEFT):
         """Leaves something out."""
         self.rows.append(Row(path, b"", "", None, verdict, why))
+
+    def leave_to_human(self, path, why):
+        """Leaves a mailbox out for which a human must find a name."""
+        self.leave(path, BY_ITSELF % (why, word(path)))
 
     def walk(self, folder):
         """Takes the files of a folder, and answers the folders in it."""
@@ -93,7 +98,7 @@ class Tree:
                 plan += found
                 continue
             for one in found:
-                self.leave(one.path, "another mailbox goes into %s too; %s" % (folder_name(folder), BY_ITSELF))
+                self.leave_to_human(one.path, "another mailbox goes into %s too" % folder_name(folder))
         return plan
 
     def planned(self, path):
@@ -102,16 +107,16 @@ class Tree:
         if os.path.basename(path).startswith(UNFINISHED):
             self.leave(path, "what a `quote` left that was broken off: remove it")
         elif not is_text(path):
-            self.leave(path, "its name is not UTF-8; " + BY_ITSELF)
+            self.leave_to_human(path, "its name is not UTF-8")
         elif len(folder_on_disk(name)) > LONGEST:
-            self.leave(path, "its folder would have too long a name; " + BY_ITSELF)
+            self.leave_to_human(path, "its folder would have too long a name")
         else:
             yield Planned(path, folder_on_disk(name), renamed(name.decode()))
 
 
 def folder_on_disk(name):
-    """The name on the disk of the folder of a mailbox, as its copy that is made by hand would be named: without the ending of
-    what is compressed."""
+    """The name on the disk of the folder of a mailbox, as its copy that is made by hand would be named: without the
+    ending of what is compressed."""
     return on_disk(folder_of((name if name.endswith(COPY) else name + COPY).decode()))
 
 

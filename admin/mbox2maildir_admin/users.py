@@ -55,7 +55,7 @@ def names_of(spool, tree, first):
 
 
 def is_passed(spool, name, names):
-    """Whether a name of a spool is no mailbox of its own: a lock, a copy that was made by hand, an empty hidden file."""
+    """Whether a name of a spool is no mailbox of its own: a lock, a copy made by hand, an empty hidden file."""
     if name.endswith(b".lock") or name.endswith(b".mboxrd") and name[:-len(b".mboxrd")] in names:
         return True
     return name.startswith(b".") and os.lstat(os.path.join(spool, name)).st_size == 0
@@ -74,7 +74,7 @@ def as_user(words, mailbox, account, program, teller, alive):
         names = [name for name in (mailbox, tree if has_tree(tree) else None) if name]
         own = argparse.Namespace(**dict(vars(words), users=False))
         refuse(root, names)
-        run_all(own, root, names, Named(teller, mailbox, home), Program(program, alive), True)
+        run_all(own, root, names, Named(teller, mailbox, account), Program(program, alive), True)
     except (Left, Fault, OSError) as fault:
         teller.row(Row(mailbox or tree, b"", "", None, LEFT, why_left(fault, b"")), "")
     except Exception as fault:  # pylint: disable=broad-except
@@ -89,13 +89,17 @@ def has_tree(tree):
 
 
 class Named:
-    """Tells rows by the names that root prints after the user's: none for the mailbox of the spool, and else one below home."""
+    """Tells rows by the names that root prints after the user's: none for the spool's mailbox, else one below home. What is
+    to be done next with that is not for root: the user could lead root elsewhere."""
 
-    def __init__(self, teller, mailbox, home):
-        self.teller, self.mailbox, self.home = teller, mailbox, home
+    def __init__(self, teller, mailbox, account):
+        self.teller, self.mailbox, self.account = teller, mailbox, account
         self.total, self.begin, self.progress = 0, teller.begin, teller.progress
 
     def row(self, row):
         """Tells a row."""
-        name = b"" if row.path == self.mailbox else os.path.relpath(row.path, self.home)
-        self.teller.row(row._replace(path=name))
+        if row.path == self.mailbox:
+            self.teller.row(row._replace(path=b""))
+        else:
+            why = row.why.replace("next: ", "next, as %s: " % self.account.pw_name)
+            self.teller.row(row._replace(path=os.path.relpath(row.path, os.fsencode(self.account.pw_dir)), why=why))

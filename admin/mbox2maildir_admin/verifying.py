@@ -67,8 +67,8 @@ class Verified:
         self.sizes, self.lines, self.doubts = array.array("Q"), array.array("Q"), Lines()
         # by message: whether it is there, and where it isn't so under its name the path
         self.states, self.paths = bytearray(), {}
-        # files that have a message's bytes and another name: by the digest, and by what stands before the colon; and all such
-        # names of files that were read
+        # files that have a message's bytes and another name: by the digest, and by what stands before the colon; and
+        # all such names of files that were read
         self.copies, self.met, self.all_sizes = collections.defaultdict(dict), set(), None
         # messages of which a second file was met, files that hold a message again, and files of another owner
         self.met_again, self.doubles, self.strangers = set(), [], {}
@@ -168,7 +168,8 @@ class Verified:
 
     def found(self, state):
         """The messages that are there so: place, line and path."""
-        return ((place, self.lines[place], self.paths.get(place, b"")) for place, its in enumerate(self.states) if its == state)
+        return ((place, self.lines[place], self.paths.get(place, b""))
+                for place, its in enumerate(self.states) if its == state)
 
     def is_right(self):
         """Whether each message is there, once, as its owner's."""

@@ -4,9 +4,10 @@ import unittest
 from pathlib import Path
 
 from context import folder, source_of
-from mbox2maildir_admin.dovecot import list_of, place_file, subscriptions_of
+from mbox2maildir_admin.dovecot import list_of, place_file, subscribe, subscriptions_of
 from mbox2maildir_admin.dovecot_headers import FLAGS, Reading, header_at, info_of, internal_head
 from mbox2maildir_admin.outcome import Left
+from mbox2maildir_admin.record import Record
 
 HEAD = "X-IMAPbase: 222 9 Foo\nX-UID: 5\n"
 # the headers of some messages, and UIDVALIDITY where it is kept, the next UID, and the UIDs
@@ -35,12 +36,22 @@ UIDS = [
     (["X-IMAPbase: x\nX-IMAPbase: 222 9\nX-UID: 3\n", "X-UID: 8\n"], 222, 10, [3, 8]),
     (["X-IMAPbase: 111 7\nX-IMAPbase: 222 9\nX-UID: 3\n", "X-UID: 8\n"], 111, 9, [3, 8]),
     (["X-UID: 1\nX-IMAPbase: 222 9\n", "X-UID: 2\n"], 222, 12, [10, 11]),
+    ([HEAD, "X-UID:\n 7\n", "X-UID: 8\n"], 222, 12, [5, 10, 11]),
+    ([HEAD, "X-UID: 7\n \n", "X-UID: 8\n"], 222, 10, [5, 7, 8]),
+    ([HEAD, "X-UID: 7\n 8\n", "X-UID: 9\n"], 222, 12, [5, 10, 11]),
+    (["X-IMAPbase:\n 222 9\nX-UID: 5\n", "X-UID: 8\n"], None, 3, [1, 2]),
+    (["X-IMAPbase: 4294967295 9\nX-UID: 5\n", "X-UID: 8\n"], 4294967295, 10, [5, 8]),
+    (["X-IMAPbase: 4294967296 9\nX-UID: 5\n", "X-UID: 8\n"], None, 3, [1, 2]),
+    (["X-IMAPbase: 222 0\nX-UID: 5\n", "X-UID: 8\n"], 222, 3, [1, 2]),
+    (["X-IMAPbase: 222 9\nX-UID: 4294967294\n", "X-UID: 8\n"], 222, 12, [10, 11]),
 ]
 # the headers, and the keywords of each message
 KEYWORDS = [
     (["X-IMAPbase: 222 9 Foo $Junk\nX-Keywords: Foo\n", "X-Keywords: foo $JUNK\n", "X-Keywords: Foo bar\n"],
      [["Foo"], ["Foo", "$Junk"], []]),
     (["X-IMAPbase: 222 9 Foo\n Bar\n\tBaz\nX-Keywords: Foo\n Bar\n", "X-Keywords: Baz\n"], [["Foo", "Bar"], ["Baz"]]),
+    (["X-IMAPbase: 222 9 Foo\n Bar\nX-Keywords:\n Foo\n Bar\n", "X-Keywords: Foo\n\tBar\n", "X-Keywords: Foo Foo\n"],
+     [["Foo", "Bar"], ["Foo", "Bar"], ["Foo"]]),
     (["X-IMAPbase: 222 9 A B\nX-Keywords: z\nX-Keywords: A\n", "X-Keywords: A\nX-Keywords: B\n", "X-Keywords: \nX-Keywords: B\n"],
      [["A"], ["A"], ["B"]]),
     (["X-IMAPbase: 222 9 a(b " + "a" * 51 + " " + "b" * 50 + " Ok\nX-Keywords: ok\n", "X-Keywords: a(b\n", "X-Keywords: " + "b" * 50],
@@ -48,7 +59,13 @@ KEYWORDS = [
 ]
 # headers, and the flags of Dovecot, by their letters in a Maildir
 STATES = [("Status: D\n", ""), ("Status: RO\n", "S"), ("Status: O\nStatus: R\n", "S"), ("X-Status: R\n", ""),
-          ("X-Status: ADFT\n", "DFRT"), ("Status: ADFT\n", ""), ("X-Status: A\nX-Status: F\n", "FR"), ("Status: ro\n", "")]
+          ("X-Status: ADFT\n", "DFRT"), ("Status: ADFT\n", ""), ("X-Status: A\nX-Status: F\n", "FR"), ("Status: ro\n", ""),
+          ("Status:\n RO\n", "S"), ("Status: O\n R\n", "S"), ("X-Status:\n AF\n", "FR"), ("X-Status: A\n F\n", "FR")]
+# the first lines of lists that Dovecot took, and of those for which it numbered all anew
+TAKEN = ["3 V222 N12", "3 V1 N12", "3 V4294967295 N12", "3 V222 N4294967294", "3 V222 N12 G0123456789abcdef0123456789abcdef"]
+REFUSED = ["3 V0 N12", "3 V4294967296 N12", "3 V222 N0", "3 V222 N4294967296", "3 V222 N12 G0", "3 V222 N12 G" + 31 * "a",
+           "3 V222 N12 G" + 33 * "a", "3 V222 N12 Gz" + 31 * "a"]
+FIRST_LINE = re.compile(r"3 V([1-9]\d{0,9}) N([1-9]\d{0,9})(?: G[0-9a-f]{32})?")
 INTERNAL = (b"From MAILER_DAEMON  Thu Nov 26 11:55:37 2026\nDate: Thu, 26 Nov 2026 11:55:37 +0000\n"
             b"From: Mail System Internal Data <MAILER-DAEMON@host>\nSubject: DON'T DELETE THIS MESSAGE -- FOLDER INTERNAL DATA\n"
             b"Message-ID: <1795694137@host>\nX-IMAP: 1795694136 0000000002\nStatus: RO\n\n"
@@ -88,12 +105,29 @@ class ReadingTest(unittest.TestCase):
         reading = reading_of(["X-IMAP: 222 9\nX-UID: 5\n", "X-UID: 6\n", ""])
         self.assertEqual(reading.numbers(0), (222, 12, [(6, 1), (10, 2), (11, 0)]))
 
-    def test_numbers_that_dovecot_would_not_take(self):
-        for last, wanted in ((4294967292, (222, 4294967294)), (4294967293, (1700000000, 2)), (4294967295, (1700000000, 2))):
-            self.assertEqual(reading_of(["X-IMAPbase: 222 %d\n" % last]).numbers(1700000000)[:2], wanted)
+    def test_numbers_that_leave_none_for_more_mail(self):
+        room = 1 << 24
+        for last, wanted in ((4294967292 - room, (222, 4294967294 - room)), (4294967293 - room, (1700000000, 2)),
+                             (4294967292, (1700000000, 2)), (4294967294, (1700000000, 2)), (4294967295, (1700000000, 2))):
+            for headers in (["X-IMAPbase: 222 %d\n" % last], ["X-IMAP: 222 %d\n" % last]):
+                self.assertEqual(reading_of(headers).numbers(1700000000)[:2], wanted)
+            says = list(reading_of(["X-IMAPbase: 222 %d\n" % last]).remarks())
+            self.assertEqual(says, [] if wanted[0] == 222 else ["its numbers begin anew, since few are left above the last"])
 
     def test_digits_without_end(self):
         self.assertEqual(reading_of([HEAD, "X-UID: %s\n" % ("9" * 9000)]).numbers(0)[1:], (11, [(5, 0), (10, 1)]))
+
+    def test_more_keywords_than_letters(self):
+        names = ["k%02d" % number for number in range(30)]
+        reading = reading_of(["X-IMAPbase: 222 9 %s\nX-Keywords: k00 k25\n" % " ".join(names), "X-Keywords: k26 k29\n",
+                              "X-Keywords: k01 k28\n"])
+        self.assertEqual([info_of(marks, "") for marks in reading.marks], ["az", "", "b"])
+        self.assertEqual(list(reading.remarks()), ["26 keywords are kept, without: k26 k27 k28 k29"])
+
+    def test_what_is_said_of_numbers(self):
+        self.assertEqual(list(reading_of([HEAD, "X-UID: 6\n", ""]).remarks()), [])
+        self.assertEqual(list(reading_of(["", ""]).remarks()), ["it had no numbers of Dovecot's"])
+        self.assertRegex(list(reading_of([HEAD, "", "X-UID: 6\n"]).remarks())[0], "some get another UID")
 
     def test_what_is_renumbered(self):
         self.assertFalse(reading_of([HEAD, "X-UID: 6\n", ""]).is_renumbered)
@@ -115,7 +149,23 @@ class ReadingTest(unittest.TestCase):
                          ["Da", "Da", "", ""])
 
 
+def is_taken(line):
+    """Whether the first line of a list is one that Dovecot takes."""
+    found = FIRST_LINE.fullmatch(line)
+    return bool(found) and int(found[1]) < 1 << 32 and int(found[2]) <= 4294967294
+
+
 class FilesTest(unittest.TestCase):
+    def test_first_lines(self):
+        self.assertEqual([line for line in TAKEN + REFUSED if is_taken(line)], TAKEN)
+        for headers, *_ in UIDS + [(["X-IMAPbase: %d %d\nX-UID: %d\n" % (validity, last, last), ""],)
+                                   for validity in (0, 1, 4294967295, 4294967296, 1 << 64)
+                                   for last in (0, 1, (1 << 32) - (1 << 24), 4294967293, 4294967295, 4294967296, 1 << 64)]:
+            text = list_of(reading_of(headers).numbers(1700000000), {place: b"a" for place in range(len(headers))}).decode()
+            first, *lines = text.splitlines()
+            uids = [0] + [int(line.split(" :")[0]) for line in lines] + [int(first.split("N")[1])]
+            self.assertTrue(is_taken(first) and all(one < two for one, two in zip(uids, uids[1:])), (headers, text))
+
     def test_the_list(self):
         self.assertEqual(list_of((222, 12, [(6, 1), (10, 2), (11, 0)]), {0: b"a.1", 1: b"b.1:2,S"}),
                          b"3 V222 N12\n6 :b.1:2,S\n11 :a.1\n")
@@ -139,6 +189,23 @@ class FilesTest(unittest.TestCase):
                          b"Sent\nlists/garden\n2005.archive\nGr&APwA3w-e\nINBOX\n"):
                 Path(here.decode(), ".subscriptions").write_bytes(text)
                 self.assertEqual(subscriptions_of(here), [b"Sent", b"lists.garden", b"2005-archive", b"Gr&APwA3w-e", b"INBOX"])
+
+    def test_subscriptions_that_are_there(self):
+        with folder() as here, Record.open(here) as record:
+            for sub in ("tmp", "old"):
+                Path(here.decode(), sub).mkdir()
+            file, old = Path(here.decode(), "subscriptions"), here + b"/old"
+            Path(here.decode(), "old/.subscriptions").write_bytes(b"V\t2\n\nSent\nlists\tgarden\n")
+            for text, wanted in ((b"V\t2\n\nSent\nDrafts\n", [b"lists\tgarden"]), (b"Sent\n", [b"lists.garden"]),
+                                 (b"lists.garden\nSent\n", []), (b"", [b"Sent", b"lists.garden"])):
+                file.write_bytes(text)
+                self.assertEqual((subscribe(here, old, record), file.read_bytes()), (wanted, text))
+            file.unlink()
+            self.assertEqual((subscribe(here, old, record, dry=True), file.exists()), ([], False))
+            self.assertEqual((subscribe(here, old, record), file.read_bytes()), ([], b"V\t2\n\nSent\nlists\tgarden\n"))
+            # who has left a folder since is left alone
+            file.write_bytes(b"V\t2\n\nSent\n")
+            self.assertEqual(subscribe(here, old, record), [])
 
 
 if __name__ == "__main__":

@@ -40,9 +40,12 @@ class TreeTest(unittest.TestCase):
         self.write(UNFINISHED.decode() + "abc")
         self.write("one")
         self.write("one.mbox")
-        shared = "another mailbox goes into one too; next: migrate it by itself, with --folder NAME", LEFT
+        def shared(name):
+            return "another mailbox goes into one too; next: mbox2maildir-admin migrate --folder NAME MAILDIR %s/%s" % (
+                self.here.decode(), name), LEFT
         self.assertEqual(self.found(), ([], {
-            "M": ("a Maildir", PASSED), "index.msf": ("no mail", PASSED), ".empty": ("no mail", PASSED), "one": shared, "one.mbox": shared,
+            "M": ("a Maildir", PASSED), "index.msf": ("no mail", PASSED), ".empty": ("no mail", PASSED), "one": shared("one"),
+            "one.mbox": shared("one.mbox"),
             UNFINISHED.decode() + "abc": ("what a `quote` left that was broken off: remove it", LEFT)}))
 
     def test_links(self):

@@ -1,15 +1,15 @@
 /* Stands before the calls of the system that the program makes which it is loaded into (LD_PRELOAD). It tells each on the
    file 3, a line each, by the path that was opened or by the name of the stream, and lets go wrong what the environment
-   says. FAIL is the number of a call that fails, counted from 1, with ERROR as its error's number; a `close` or a `sleep`
-   has no number. CLOCK is what the clocks show, in milliseconds since 1970, and each sleep moves it on at once. FOLDER is
+   says. FAIL has the numbers of the calls that fail, with a comma between two, counted from 1, with ERROR as their error's
+   number; a `close` or a `sleep` has no number. CLOCK is what the clocks show, in milliseconds since 1970, and each sleep moves it on at once. FOLDER is
    the path of a folder with a slash after it: its first CHANGES readings see it change, and each takes READING
    milliseconds. OUTPUT is how many bytes standard output takes. Where SHORT is set, a read and a write move one byte at
    most, and where it is 1 every other write is interrupted. GONE is put in place of what is to be moved, PLANTED where a
    file is to be made, and REPLACED in place of what is opened to be written and is there: by the first letter a link or a
    hard link to the path after it, a pipe, a directory, a file, one that others may read, another owner's, or, as 1, nothing.
    REPLACED may be a change of the file instead: for others to read, an owner, a second name, or another device, as is
-   shown through the handle. The time of modification is shown as the time of change, which no test can set, and 1970 in its
-   place. It needs no headers, so that any C compiler makes it. */
+   shown through the handle. The time of modification is shown as the time of change, which no test can set, and 1970 as
+   the other times. It needs no headers, so that any C compiler makes it. */
 typedef unsigned long size_t;
 typedef long ssize_t;
 
@@ -45,14 +45,27 @@ static long made;
 /* How far the clocks have moved on, in milliseconds. */
 static long passed;
 
+/* Reads a number, and moves on to what stands behind it. */
+static long read_number(const char **at) {
+    long found = 0;
+    while (**at >= '0' && **at <= '9')
+        found = 10 * found + (*(*at)++ - '0');
+    return found;
+}
+
 static long number(const char *name, long otherwise) {
     const char *at = getenv(name);
-    long found = 0;
-    if (!at)
-        return otherwise;
-    while (*at >= '0' && *at <= '9')
-        found = 10 * found + (*at++ - '0');
-    return found;
+    return at ? read_number(&at) : otherwise;
+}
+
+static int is_one_of(long wanted, const char *name) {
+    const char *at = getenv(name);
+    while (at && *at) {
+        if (read_number(&at) == wanted)
+            return 1;
+        at += *at == ',';
+    }
+    return 0;
 }
 
 static int failed(int error) {
@@ -76,7 +89,7 @@ static void tell(const char *what, const char *name) {
 static int is_to_fail(const char *what, const char *name) {
     tell(what, name);
     made++;
-    return made == number("FAIL", 0) && failed((int)number("ERROR", 0));
+    return is_one_of(made, "FAIL") && failed((int)number("ERROR", 0));
 }
 
 static struct moment now(void) {
@@ -237,11 +250,11 @@ int statx(int folder, const char *path, int flags, unsigned mask, void *found) {
     int status = is_to_fail(*path ? "look at" : "look through", name) ? -1 : REAL(statx)(folder, path, flags, mask, found);
     if (status == 0 && !*path && is_elsewhere)
         *(unsigned *)((char *)found + 140) += 1; /* the device's minor number */
-    /* the time of change is before that of modification */
-    struct moment *moments = (struct moment *)((char *)found + 96);
+    /* the times of access, making, change and modification */
+    struct moment *moments = (struct moment *)((char *)found + 64);
     if (status == 0) {
-        moments[0] = moments[1];
-        moments[1] = (struct moment){0};
+        moments[2] = moments[3];
+        moments[0] = moments[1] = moments[3] = (struct moment){0};
     }
     return status;
 }

@@ -90,6 +90,11 @@ preload() {
     "$compiler" -O1 -fPIC -shared -nostdlib -o "$work/$1.so" "$tools/$1.c"
 }
 
+# of_libraries CHECK: makes a check of the libraries, unless the program is tested alone.
+of_libraries() {
+    test -n "${PROGRAM_ALONE:-}" || "$1"
+}
+
 # The tests of the libraries are built, as $tests: `rt ci` leaves them so.
 build_tests() {
     tests=$top/crates/vectors/out/vectors_tests

@@ -115,8 +115,22 @@ class Dovecot:
         with open(self.configuration, "w", encoding="utf-8") as file:
             file.write(CONFIGURATION.format(self.folder, *names, self.imap, self.pop3, self.account.pw_uid, self.account.pw_gid))
 
+    def turn(self):
+        """Writes that each user's Maildir is served from the next start on."""
+        with open(self.configuration, encoding="utf-8") as file:
+            text = file.read()
+        with open(self.configuration, "w", encoding="utf-8") as file:
+            file.write(text.replace("mail_location = mbox:~/mail:INBOX=~/inbox", "mail_location = maildir:~/Maildir"))
+
     def home(self, user):
         return f"{self.folder}/home/{user}"
+
+    def become(self):
+        """Goes on as the user whose mail it serves."""
+        if os.geteuid() == 0:
+            os.setgroups([])
+            os.setgid(self.account.pw_gid)
+            os.setuid(self.account.pw_uid)
 
     def make_home(self, user):
         """Makes the home of a user."""

@@ -30,7 +30,7 @@ pub record Rests (spared : Spared) (old new : HeldMaildir) : Type 0 where
   pub found : old.rooted → new.rooted
   pub touches : TouchedNone old.touched new.touched
 
--- what two words have that name the same Maildir: what was under one is under the other, as after no time
+-- what two words have that name the same Maildir: other programs may make what is under each of what is under the other
 abbrev pub AreAt : Spared → HeldMaildir → HeldMaildir → Type 0
 AreAt spared one other = Rests spared one other × Rests spared other one
 

@@ -4,7 +4,8 @@
 //! [`Fault`], 2 if the words are wrong. [`deliver`] delivers one source into a folder and syncs it.
 //!
 //! Proved: the words alone decide which command runs; with status 0 every message of every named source is delivered, synced
-//! and reported, or every message is written to the output; each fault is possible for its command, and its cause holds.
+//! and reported, or every message is written to the output; each fault is possible for its command, and its cause holds, but
+//! for those of reads, writes and allocations, of which nothing more is said.
 //! [`laws`] has what any sequence of commands leaves, with power cuts between them.
 //!
 //! ```rust

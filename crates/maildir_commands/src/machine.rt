@@ -39,7 +39,7 @@ pub trait Machine {
     /// Which words name the same Maildir never changes.
     ghost same_words: { (one other : Self) (word another : List ℕ) → (at one).same word another → (at other).same word another };
 
-    /// Two words that name the same Maildir have the same files, of which a power cut may leave the same.
+    /// Of two words that name the same Maildir, each has what other programs may make of what the other has.
     ghost same_maildir: { (machine : Self) (spared : Spared) (word other : List ℕ) → (at machine).same word other →
         AreAt spared ((at machine).maildir_at word) ((at machine).maildir_at other) };
 

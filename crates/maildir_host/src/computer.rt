@@ -24,7 +24,7 @@ impl<'a, R> Computer<'a, R> {
     }
 }
 
-// What a real machine does, no proof knows.
+// What a real machine does, and what its files hold, no proof knows.
 impl<'a, R: Files<File = File> + Clock> Machine for Computer<'a, R> {
     type Source = File;
 
