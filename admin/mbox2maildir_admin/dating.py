@@ -75,7 +75,7 @@ class Dating:
 
 
 def set_dates(maildir, table, dates, say=silent):
-    """Gives the files of a Maildir the dates of the messages that they hold, and answers what became of each message."""
+    """Gives the files of a Maildir the dates of their messages, and answers what became of each message."""
     states, known = bytearray(len(dates)), len(dates) - dates.count(NONE)
     for paths in listings_of(maildir):
         for number, (name, path) in enumerate(paths, 1):

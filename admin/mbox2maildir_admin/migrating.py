@@ -191,12 +191,12 @@ class Migration:
             self.note_last(work, offsets[work.first], size)
 
     def refuse_grown_copy(self, work):
-        """What is new of a mailbox can't be told from a copy that was made by hand: it must become a mailbox of its own."""
+        """Left, since a copy that was made by hand doesn't show what is new: that must become a mailbox of its own."""
         path, size = work.handle.path, work.done_size
         if work.handle.at(size, 5) != b"From ":
             raise Left("it grew within its last message after it was done")
-        raise Left("it grew after it was done, and what is new can't be told from its copy; next: tail -c +%d %s >%s, and migrate "
-                   "that in its place" % (size + 1, word(path), word(path + b".rest")))
+        raise Left("it grew after it was done, and what is new can't be told from its copy; next: tail -c +%d %s >%s, "
+                   "and migrate that in its place" % (size + 1, word(path), word(path + b".rest")))
 
     def take_steps(self, work):
         """The steps from where the record has it."""
@@ -272,11 +272,12 @@ class Migration:
         self.record.add(LAST, (work.name, end, message.hash.hexdigest()), 0, work.handle.path)
 
     def note_cut(self, work):
-        """Records messages that were being written when a `convert` read them whose `migrate` had been killed: each has a file
-        that holds its beginning."""
+        """Records messages that were being written when a `convert` read them whose `migrate` had been killed: each has
+        a file that holds its beginning."""
         if work.begun_size is None or work.source is not work.handle:
             return
-        others, since = {}, self.record.begun_at((work.name, work.begun_size, work.handle.digest.beginnings[work.begun_size]))
+        others, begun = {}, (work.name, work.begun_size, work.handle.digest.beginnings[work.begun_size])
+        since = self.record.begun_at(begun)
         for name, path in names_of(work.folder):
             state = os.lstat(path)
             # what other mailboxes placed has the dates of its From_ lines

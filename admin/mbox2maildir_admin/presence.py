@@ -89,7 +89,7 @@ class Presence:
         return sorted(wanted)
 
     def come_back(self, first):
-        """How many messages before a place come back with those that are wanted from there on, which are equal to them."""
+        """How many messages before a place come back with those from there on that are wanted and equal to them."""
         return sum(place < first and self.is_nowhere(place) for places in self.inventory.equal().values()
                    if any(place >= first and self.is_nowhere(place) for place in places) for place in places)
 

@@ -91,8 +91,8 @@ def has_tree(tree):
 
 
 class Named:
-    """Tells rows by the names that root prints after the user's: none for the spool's mailbox, else one below home. What is
-    to be done next in a home is not for root: the user could lead root elsewhere."""
+    """Tells rows by the names that root prints after the user's: none for the spool's mailbox, else one below home.
+    What is to be done next in a home is not for root: the user could lead root elsewhere."""
 
     def __init__(self, teller, mailbox, account):
         self.teller, self.mailbox, self.account = teller, mailbox, account
