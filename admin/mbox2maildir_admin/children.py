@@ -35,7 +35,7 @@ class Teller:
         """Root counts users, and no mailboxes."""
 
     def progress(self, _, *says):
-        """Tells how far a mailbox is, and so that it is at work: also where the words are those that were told before."""
+        """Tells how far a mailbox is, and so that it is at work: also by the words that were told before."""
         now = time.monotonic()
         if now >= self.next_time:
             self.next_time = now + .5

@@ -88,7 +88,8 @@ def say_kind(path, verdict):
     """Prints what a file is, and answers whether it can be converted as it is."""
     name = word(path) if is_text(path) or PROGRAM + " " not in verdict.next else "<" + word(path)
     beside = may_write_beside(path)
-    then = verdict.next.replace("{output}", "" if beside else " -o COPY").replace("{copy}", "{}.mboxrd" if beside else "COPY")
+    output, copy = ("", "{}.mboxrd") if beside else (" -o COPY", "COPY")
+    then = verdict.next.replace("{output}", output).replace("{copy}", copy)
     count = "" if verdict.messages is None else ", messages %d" % verdict.messages
     count += " to %d" % verdict.most if verdict.messages != verdict.most else ""
     put("%s: %s%s; next: %s" % (shown(path), verdict.kind, count, then.replace("{}", name)))
@@ -149,7 +150,8 @@ def for_mailboxes(maildir, path, task):
     if not os.path.isdir(path):
         return task(maildir, path)
     tree, plan = read_tree(path)
-    right = [each([one.path], lambda file, one=one: not has_mail(tree, file) or task(one.folder_in(maildir), file)) for one in plan]
+    right = [each([one.path], lambda file, one=one: not has_mail(tree, file) or task(one.folder_in(maildir), file))
+             for one in plan]
     return leave_out(tree) and all(right)
 
 

@@ -37,8 +37,8 @@ class Program:
         return os.lseek(source.number, 0, os.SEEK_CUR)
 
     def wait_for(self, child, source):
-        """Waits for the end of the program, and answers what it said. How far it is is told where that is news, so that one that
-        was stopped is silent."""
+        """Waits for the end of the program, and answers what it said. How far it is is told where that is news, so that
+        one that was stopped is silent."""
         said, last, poll = b"", None, select.poll()
         poll.register(child.stderr, select.POLLIN)
         if self.alive is not None:

@@ -22,12 +22,13 @@ class SecondsTest(unittest.TestCase):
         time.tzset()
 
     def test_forms(self):
-        for text, moment in (("From a Mon Mar  3 09:12:44 2025", "2025-03-03T09:12:44-05:00"),
-                             ("From a Thu Jul  3 09:12:44 2025", "2025-07-03T09:12:44-04:00"),
-                             ("From a Mon Mar  3 09:12:44 MET DST 2025", "2025-03-03T09:12:44+02:00"),
-                             ("From a Mon Mar  3 09:12:44 2025 +0530", "2025-03-03T09:12:44+05:30"),
-                             ("Mon, 3 Mar 97 09:12:44 EST", "1997-03-03T09:12:44-05:00")):
-            self.assertEqual(seconds_of(text.encode()), datetime.fromisoformat(moment).timestamp(), text)
+        for text, moment in (("From a Mon Mar  3 09:12:44 2025", "2025-03-03T09:12:44-0500"),
+                             ("From a Thu Jul  3 09:12:44 2025", "2025-07-03T09:12:44-0400"),
+                             ("From a Mon Mar  3 09:12:44 MET DST 2025", "2025-03-03T09:12:44+0200"),
+                             ("From a Mon Mar  3 09:12:44 2025 +0530", "2025-03-03T09:12:44+0530"),
+                             ("Mon, 3 Mar 97 09:12:44 EST", "1997-03-03T09:12:44-0500")):
+            wanted = datetime.strptime(moment, "%Y-%m-%dT%H:%M:%S%z").timestamp()
+            self.assertEqual(seconds_of(text.encode()), wanted, text)
 
     def test_none(self):
         for text in ("From a", "From a Mon Feb 31 09:12:44 2025", "From a Thu Jan  1 00:00:00 1970", "From a Wed Dec 31 19:00:00 1969",
