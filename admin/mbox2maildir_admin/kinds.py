@@ -126,10 +126,10 @@ class Look:
     def sort_of(self, mark, header):
         """What a line `From ` before something like a header looks like: a From_ line, "dated" or "undated", an "odd"
         one without a header, a "doubtful" one of several words without a date, or "text"."""
-        has_header = FIELD.match(header.text)
+        has_header, first = FIELD.match(header.text), mark.offset == self.start
         if is_dated(mark.piece):
-            return "dated" if has_header or header.is_empty() else "odd"
-        first, blank = mark.offset == self.start, self.source.at(mark.offset - 3, 3).endswith((b"\n\n", b"\n\r\n"))
+            return "dated" if first or has_header or header.is_empty() else "odd"
+        blank = self.source.at(mark.offset - 3, 3).endswith((b"\n\n", b"\n\r\n"))
         if first or blank and (has_header or ADDRESS.match(mark.piece)):
             return "undated" if first or ONE_WORD.match(mark.piece) else "doubtful"
         self.seen["text after a blank line"].count += blank

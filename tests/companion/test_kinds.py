@@ -17,7 +17,8 @@ class VerdictTest(unittest.TestCase):
             return verdict
 
     def test_what_is_converted_as_it_is(self):
-        for text, messages in ((b"", 0), (A + b"\n", 1), (A + b"\n" + B + b"\n", 2), (b"From a\n\n" + B + b"\n", 2)):
+        for text, messages in ((b"", 0), (A + b"\n", 1), (A + b"\n" + B + b"\n", 2), (b"From a\n\n" + B + b"\n", 2),
+                               (A.split(b"\n")[0] + b"\nno header\n\n", 1)):
             verdict = self.verdict(text)
             self.assertEqual((verdict.status, verdict.messages, verdict.most, verdict.quoting), (0, messages, messages, None), text)
 
