@@ -23,11 +23,11 @@ use Rattle.maildir_commands.specs.Commands.{Commanded, IsToDeliver, LeftByPowerC
 use Rattle.maildir_commands.specs.Faults.{fault_text, told}
 use Rattle.maildir_commands.specs.Machines.{HeldMaildir, Rests}
 use Rattle.maildir_commands.specs.Program.{Delivers, DeliversInto, Did, Does}
+use Rattle.maildir_commands.specs.Program.Ending.{Done, Stopped}
 use Rattle.maildir_commands.specs.Report.{PrintsReports, report_line}
 use Rattle.maildir_commands.specs.Seen.{SeenProgram, seen_with, streams}
 use Rattle.maildir_commands.specs.Words.{AskFor, Request, convert_words}
 use Rattle.maildir_commands.specs.Words.Request.{ToConvert}
-use Rattle.maildir_commands.specs.declared.ending.Ending.TheVariants.{Done, Stopped}
 use Rattle.maildir_commands.specs.declared.fault.Fault.{Fault}
 use Rattle.maildir_commands.specs.declared.fault.Fault.TheVariants.{Run}
 use Rattle.maildir_memory.specs.Histories.{CanHappen, all_but, seen_of}
@@ -148,9 +148,9 @@ module _ (machine : SmallMachine) (system : MemSystem) (quiet : HasNoTurns syste
         was = streams (Some []) (Some []) (Some []);
         is = streams (Some []) (Some after) (Some (told (fault_text fault)));
         ran = record {
-          ending = Stopped fault (Ok tt);
+          ending = Stopped fault;
           status_is = refl;
-          ran = (did (Err fault) (Some after) tt owed cause (λ spared. tt), refl);
+          ran = (did (Err fault) (Some after) tt owed cause (λ spared. tt), (Ok tt, refl));
           untouched = λ two. cc;
         };
         delivers = to_deliver;

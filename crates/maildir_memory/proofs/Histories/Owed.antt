@@ -5,7 +5,7 @@ use Rattle.std.specs.List.{flat_map}
 use Rattle.std.proofs.lemmas.List.Elements.{All-cons, All-contains, All-head, All-nil}
 use Rattle.maildir_run.proofs.Chains.MessageLemmas.{text_distinct}
 use Rattle.maildir_run.proofs.Source.PossibleMessages.{whole_messages}
-use Rattle.maildir_run.specs.Delivery.{AllSpared, IsHome, IsSoundAt, IsSwept, Message, has_home}
+use Rattle.maildir_run.specs.Delivery.{AllSpared, IsHome, IsSoundAt, IsSwept, Message, has_home, there_count}
 use Rattle.maildir_run.specs.Files.{Files, Spared, homes}
 use Rattle.maildir_run.specs.Several.{IsMailbox, Mailbox}
 use Rattle.maildir_run.specs.Texts.{MessagesOf}
@@ -16,7 +16,7 @@ use Rattle.maildir_disk.specs.Others.{Stays}
 use Rattle.maildir_disk.specs.PowerCuts.{AreAlike, AreIntact, IsIntact}
 use Rattle.maildir_commands.specs.Machines.{AreFit, HeldMaildir, IsSafeIn, IsSoundFor, OthersStay, bytes_of}
 use Rattle.maildir_commands.specs.Program.{Delivers}
-use Rattle.maildir_commands.specs.Report.{PrintsSome, known_count, report_line}
+use Rattle.maildir_commands.specs.Report.{PrintsSome, report_line}
 use Rattle.maildir_commands.specs.declared.fault.Fault.{Fault}
 use Rattle.maildir_memory.proofs.Histories.Delivered.{IsPart}
 
@@ -106,8 +106,8 @@ module _ (text : Mailbox) (are : IsMailbox text) where
   abbrev pub report_from : HeldMaildir → Report
   report_from old = record {
     messages = length text.messages;
-    there = known_count (has_home old.files) text;
-    placed = length text.messages - known_count (has_home old.files) text;
+    there = there_count (has_home old.files) text.messages;
+    placed = length text.messages - there_count (has_home old.files) text.messages;
     swept = 0;
   }
 
