@@ -56,7 +56,7 @@ pub use Rattle.maildir_run.specs.Private.Given.{GivesBatch, GivesNoMore, IsPrefi
 pub use Rattle.maildir_run.specs.Private.Printing.{HasListed, IsOutput, PrintsMore}
 pub use Rattle.maildir_run.specs.Table.{info, table_of, message_row, shown_byte, shown_sender}
 pub use Rattle.maildir_run.specs.MemFiles.{files_in, with_file, without_file}
-pub use Rattle.maildir_run.specs.Private.Parts.{DeliversMessages, Conversion, messages_after, names_in, OneTouches, Performed, run_tasks, ReportsTasks}
+pub use Rattle.maildir_run.specs.Private.Parts.{DeliversMessages, messages_after, names_in, OneTouches, Performed}
 pub use Rattle.maildir_run.specs.Touched.{Touches, TouchedOnly, TouchedConverters}
 pub use Rattle.maildir_run.specs.Seen.{Seen, CallOf, ListingOf}
 pub use Rattle.maildir_run.specs.Parts.{deliveries_of, delivery_if, delivery_of, sweep_of}

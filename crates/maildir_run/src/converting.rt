@@ -1,8 +1,6 @@
 // One run: a source's messages into a folder.
-ghost use Rattle.std.specs.Prelude.{◌^◌, ◌≤◌, []};
-ghost use Rattle.mbox_text.specs.Fed.{Fed};
+ghost use Rattle.std.specs.Prelude.{◌^◌, ◌≤◌};
 ghost use Rattle.maildir_run.specs.Converting.{Converts};
-ghost use Rattle.maildir_run.specs.Private.Parts.{Conversion};
 
 use crate::calls::Calls;
 use crate::engine::Engine;
@@ -11,7 +9,6 @@ use crate::folder::Folder;
 use crate::listings::list_all;
 use crate::reader::Reader;
 use crate::report::Report;
-use mbox_text::Entry;
 use std::alloc::Global;
 use std::io::Read;
 
@@ -40,33 +37,15 @@ pub fn convert<F: Folder, R: Read>(
 {
     let mut reader = Reader::new(alloc, reads)?;
     let mut whole = Vec::new(alloc);
-    deliver_all(alloc, folder, source, &mut reader, &mut whole)
-}
-
-/// The run, with a reader that has read nothing and with room for the messages that a read makes
-/// whole.
-fn deliver_all<F: Folder, R: Read>(
-    alloc: Global,
-    folder: &mut F,
-    source: &mut R,
-    reader: &mut Reader,
-    whole: &mut Vec<Entry>,
-) -> Result<Report, RunFault>
-    requires fresh { Fed [] [] reader.old.splitter }
-    requires few { reader.old.reads_left ≤ 2 ^ 40 }
-    ensures { let at = F.at in
-        Conversion (R.remaining source.old) (R.remaining source.new) reader.old.reads_left
-        (at folder.old) (at folder.new) result }
-{
-    let mut ended = reader.next_batch(source, whole)?;
+    let mut ended = reader.next_batch(source, &mut whole)?;
     let mut calls = Calls::new();
     let listings = list_all(folder, &mut calls)?;
     let mut engine = Engine::begin(alloc, folder, calls, &listings)?;
     'pieces: loop {
-        engine.deliver_entries(folder, whole)?;
+        engine.deliver_entries(folder, &whole)?;
         if ended {
             return Ok(engine.report());
         }
-        ended = reader.next_batch(source, whole)?;
+        ended = reader.next_batch(source, &mut whole)?;
     }
 }

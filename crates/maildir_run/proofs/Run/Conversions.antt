@@ -1,9 +1,9 @@
 -- A run at its exits, from its parts.
 use Rattle.std.proofs.Common.{◌≡◌, ℕ, ◌+◌, ◌-◌, ◌*◌, ◌<◌, ◌≤◌, ◌^◌, Option, Some, None, List, arith}
-use Rattle.std.proofs.Common.{[], ◌++◌, length, Result, refl, arith, IsErrAnd, ◌⊎◌, inl}
+use Rattle.std.proofs.Common.{[], ◌++◌, length, Result, IfErr, IfOk, IsErrOf, OnOk, refl, IsErrAnd, ◌⊎◌, inl}
 use Rattle.maildir_run.proofs.Common.{contains_key, length-map, Engine, Entry, Named, RunFault, NoFromLine, Report, BaseSet}
-use Rattle.maildir_run.proofs.Common.{Conversion, ReportsTasks, run_tasks, Seen, Performed, DeliversMessages, sweep_of}
-use Rattle.maildir_run.proofs.Common.{messages_after, deliveries_of, IsOfFolder, Message, IsPrefixOf}
+use Rattle.maildir_run.proofs.Common.{Seen, Performed, DeliversMessages, sweep_of, fault_of}
+use Rattle.maildir_run.proofs.Common.{messages_after, deliveries_of, IsOfFolder, Message, GaveAll, IsPrefixOf}
 use Rattle.maildir_run.proofs.Common.{SourceStopped, StoppedAfter, is_listed, IsReading, Task, Listings, listing_tasks, messages_of, bodies_of}
 use Rattle.std.proofs.lemmas.Result.{err_from_is_err_and}
 use Rattle.maildir_run.proofs.Run.Delivering.{delivers_then}
@@ -11,6 +11,32 @@ use Rattle.maildir_run.proofs.Run.Batches.{all_messages}
 use Rattle.maildir_run.proofs.Chains.MessageLemmas.{length-messages_of}
 use Rattle.maildir_run.proofs.Source.PossibleMessages.{batch_bodies, batch_few}
 use Rattle.maildir_run.proofs.Tasks.Tasks.{ran_nothing, ran_then}
+
+-- ---- a run
+-- the listings, the sweep and these messages
+abbrev pub run_tasks : Listings → List Message → List Task
+run_tasks names ms = listing_tasks names ++ (sweep_of names.tmp ++ deliveries_of (is_listed names.new names.cur) ms)
+
+-- the report is true of these tasks
+pub record ReportsTasks (names : Listings) (ms : List Message) (report : Report) : Type 0 where
+  pub messages : report.messages ≡ length ms
+  pub there : report.there ≡ report.messages - report.placed
+  pub placed : 2 * report.placed ≡ length (deliveries_of (is_listed names.new names.cur) ms)
+  pub swept : report.swept ≡ length (sweep_of names.tmp)
+
+-- A run was given these first messages of its source, all of them with Ok, and performed the tasks of a run over them: all with Ok, else a prefix.
+pub record Conversion (before now : Option (List ℕ)) (reads : ℕ) (old new : Seen) (result : Result Report RunFault) : Type 0 where
+  pub given : List Entry
+  pub prefix : IsPrefixOf before now reads given
+  pub whole : OnOk result (GaveAll before now reads given)
+  pub refused : IfErr result (SourceStopped before now reads)
+  pub untouched : IsErrOf result NoFromLine → new.calls ≡ old.calls
+  pub causes : IfErr result (λ fault. IsReading fault ⊎ IsOfFolder fault)
+  pub names : Listings
+  pub few : length names.tmp < 2 ^ 64
+  pub made : ℕ
+  pub ran : Performed (run_tasks names (messages_of (bodies_of given))) old new 0 made (fault_of result)
+  pub tells : IfOk result (ReportsTasks names (messages_of (bodies_of given)))
 
 -- ---- at a fault
 module _ {before now : Option (List ℕ)} {reads : ℕ} {old new : Seen} {r : Result Report RunFault} {fault : RunFault} (is : IsErrAnd r (λ e. e ≡ fault)) where

@@ -3,7 +3,8 @@ use Rattle.std.proofs.Common.{◌≡◌, ℕ, ◌+◌, ◌*◌, ◌<◌, ◌≤�
 use Rattle.std.proofs.Common.{Err, IfOk, OnOk, IsTrue, refl, sym, ap, subst, ◌∙◌, inl, inr, arith, append_assoc, length-append, IsErrOf, filter, append-nil}
 use Rattle.maildir_run.proofs.Common.{length-map, All-head, All-tail, length-filter, count_by-le-length, IsAtEnd, Entry, Target}
 use Rattle.maildir_run.proofs.Common.{is_converter_name, is_converter_base, RunFault, NoFromLine, TooManyReads, Report, swept, and_parts, IsSwept, get, filled}
-use Rattle.maildir_run.proofs.Common.{alone, Conversion, ReportsTasks, run_tasks, Seen, Performed, sweep_of, delivery_of, delivery_if}
+use Rattle.maildir_run.proofs.Run.Conversions.{Conversion, ReportsTasks, run_tasks}
+use Rattle.maildir_run.proofs.Common.{alone, Seen, Performed, sweep_of, delivery_of, delivery_if}
 use Rattle.maildir_run.proofs.Common.{deliveries_of, fault_of, capped, HasCallNumber, CallNumber, Follows, Message, IsSoundAt, IsMissing}
 use Rattle.maildir_run.proofs.Common.{Delivered, AreDistinct, Sound, has_home, there_count, leftover_count, Files, SourceStopped}
 use Rattle.maildir_run.proofs.Common.{is_listed, TmpWithin, TouchedConverters, Knows, Progress, IsTarget, KeepsForeign, ReadsAtLeast, Possible, Keeps, IsRun}
@@ -197,7 +198,7 @@ few_tasks names bodies small few = grind (arith, deliveries_most, length-message
 
 -- ---- what a run owes, from what it was given and the tasks that it performed
 module _ {before after : Option (List ℕ)} {reads : ℕ} {start now : Seen} {r : Result Report RunFault}
-    (run : Conversion before after reads start now r) (most : reads ≤ 2 ^ 40) where
+    (most : reads ≤ 2 ^ 40) (honest_of : start.quiet → start.honest all_bases) (run : Conversion before after reads start now r) where
   bodies : List (List ℕ)
   bodies = bodies_of run.given
 
@@ -239,9 +240,9 @@ module _ {before after : Option (List ℕ)} {reads : ℕ} {start now : Seen} {r 
       → OnOk r (Delivered spared ms now.files)
   owes_restart spared h t ms links first small p of missing before = restarted r links first small of missing before (owes_run spared h t small p)
 
-  owes_alone : (start.quiet → start.honest all_bases) → start.quiet → (t : List ℕ) (ms : List Message) → Possible before after t
+  owes_alone : start.quiet → (t : List ℕ) (ms : List Message) → Possible before after t
       → MessagesOf t ms → IfOk r (λ report. (now.files ≡ alone ms start.files) × (report.swept ≡ leftover_count start.files))
-  owes_alone honest_of q t ms p of =
+  owes_alone q t ms p of =
       both_ok r (λ (same : ms ≡ messages_of (bodies_of run.given)) report (alone_is : (now.files ≡ alone (messages_of (bodies_of run.given)) start.files)
       × (report.swept ≡ leftover_count start.files)).
       (grind arith, alone_is.1)) (given_here t ms p of).2
@@ -278,8 +279,8 @@ module _ {before after : Option (List ℕ)} {reads : ℕ} {start now : Seen} {r 
   owes_spent e = (refused_as TooManyReads e).spent refl
 
   -- ---- all of it
-  pub converts : (start.quiet → start.honest all_bases) → Converts before after reads start now r
-  converts honest_of = record {
+  pub converts : Converts before after reads start now r
+  converts = record {
     honest = run.ran.honest;
     as_planned = owes_planned;
     left = owes_left;
@@ -288,7 +289,7 @@ module _ {before after : Option (List ℕ)} {reads : ℕ} {start now : Seen} {r 
     owes = owes_run;
     restartable = owes_restart;
     quiet = run.ran.quiet;
-    alone = owes_alone honest_of;
+    alone = owes_alone;
     others = owes_others;
     calls = owes_calls;
     cause = run.ran.cause;

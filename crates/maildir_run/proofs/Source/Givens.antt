@@ -84,8 +84,9 @@ module _ {before mid : Option (List ℕ)} (now : Option (List ℕ)) {splitter : 
       (never_given p.text piece given n p.fed.given_are, λ more left has whole. never_unreadable _ (never-more (p.text ++ piece) more n)))
 
 -- before the first read
-pub gave_none : (source : Option (List ℕ)) {splitter : Splitter} {reads : ℕ} → Fed [] [] splitter → Gave source source splitter reads reads []
-gave_none source fed = record { text = []; read = Consumes-nil source; budget = omega arith; spent = omega arith; fed = fed }
+pub gave_none : (source : Option (List ℕ)) {splitter : Splitter} {left reads : ℕ} → Fed [] [] splitter × (left ≡ reads)
+    → Gave source source splitter left reads []
+gave_none source at = record { text = []; read = Consumes-nil source; budget = omega (arith, at.1); spent = omega (arith, at.1); fed = at.0 }
 
 -- and where it is not made, for want of memory
 pub unread : (source : Option (List ℕ)) {reads : ℕ} → StoppedAfter source source reads [] OutOfMemory

@@ -7,7 +7,7 @@ use Rattle.maildir_run.proofs.printing.print_all.Goals as goal
 pub pieces-init : goal.pieces-init
 pieces-init g c = record {
   given = [];
-  gave = rw c.in_ok-reader.ensures.1 (gave_none _ c.in_ok-reader.ensures.0);
+  gave = gave_none _ c.in_ok-reader.ensures;
   written = rw c.requires.is_output.none (Appends-nil _);
   printed = c.requires.fresh;
 }

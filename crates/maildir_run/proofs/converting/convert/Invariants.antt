@@ -1,6 +1,6 @@
 use Rattle.std.proofs.Common.{◌≡◌, suc, ◌<◌, false, cond, List, [], ◌++◌, length, None}
 use Rattle.maildir_run.proofs.Common.{Entry, IsGiven, DeliversMessages, bodies_of}
-use Rattle.maildir_run.proofs.converting.deliver_all.Given as goal
+use Rattle.maildir_run.proofs.converting.convert.Given as goal
 
 abbrev pub invariant-pieces : goal.invariant-pieces
 invariant-pieces g l =
@@ -8,7 +8,7 @@ invariant-pieces g l =
     record {
       given : List Entry;
       gave : IsGiven l.ended (g.R.Read.remaining l.fn.source) (g.R.Read.remaining l.source)
-          l.reader.splitter l.reader.reads_left l.fn.reader.reads_left (given ++ l.whole.items);
+          l.reader.splitter l.reader.reads_left l.fn.reads (given ++ l.whole.items);
       begun : l.ended ≡ false → 0 < length (given ++ l.whole.items);
       count : l.engine.messages ≡ length given;
       delivers : DeliversMessages [] (bodies_of given) (at l.initial.folder) (at l.folder) l.initial.engine l.engine None;
