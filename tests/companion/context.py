@@ -20,8 +20,8 @@ def folder():
 @contextlib.contextmanager
 def source_of(text):
     """An open mailbox with this text."""
-    from mbox2maildir_admin.source import Source
+    from mbox2maildir_admin.mbox.mailbox import Mailbox
     with folder() as here:
         Path(here.decode(), "box").write_bytes(text)
-        with Source.open(here + b"/box") as source:
+        with Mailbox.open(here + b"/box") as source:
             yield source

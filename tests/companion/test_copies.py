@@ -8,12 +8,11 @@ from pathlib import Path
 from unittest import mock
 
 from context import A, B, folder, source_of
-from mbox2maildir_admin import copies
-from mbox2maildir_admin.copies import UNFINISHED, Copy
+from mbox2maildir_admin.kinds import copies
+from mbox2maildir_admin.kinds.copies import UNFINISHED, Copy
 from mbox2maildir_admin.faults import Fault, PlaceFault
-from mbox2maildir_admin.kinds import Quoting
-from mbox2maildir_admin.quoting import quote
-from mbox2maildir_admin.source import Source
+from mbox2maildir_admin.kinds.quoting import Quoting, quote
+from mbox2maildir_admin.mbox.mailbox import Mailbox
 
 TEXT = A + b"\n>>From x\n\n" + B + b"\nyes\n"
 MBOXO = Quoting("mboxo")
@@ -52,7 +51,7 @@ class CopyTest(unittest.TestCase):
         Path(mailbox.decode()).write_bytes(TEXT)
         os.chown(mailbox, 65534, 65534)
         os.chmod(mailbox, 0o640)
-        with Source.open(mailbox) as source, Copy.open(self.path) as file:
+        with Mailbox.open(mailbox) as source, Copy.open(self.path) as file:
             quote(MBOXO, source, file)
         state = os.stat(self.path)
         self.assertEqual((state.st_uid, state.st_gid, state.st_mode & 0o777), (65534, 65534, 0o640))
@@ -97,7 +96,7 @@ class CopyTest(unittest.TestCase):
 
 class SignalTest(unittest.TestCase):
     """What a signal leaves: nothing, also where a copy has a name before it is whole, but for SIGKILL then."""
-    RUN = ("import os, sys; sys.path.insert(0, {!r}); from mbox2maildir_admin import copies, cli; copies.os.O_TMPFILE = {}; "
+    RUN = ("import os, sys; sys.path.insert(0, {!r}); from mbox2maildir_admin import cli; from mbox2maildir_admin.kinds import copies; copies.os.O_TMPFILE = {}; "
            "sys.exit(cli.main())")
 
     def left_by(self, number, flag):

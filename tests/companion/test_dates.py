@@ -5,8 +5,10 @@ import unittest
 from datetime import datetime
 
 from context import folder, source_of
-from mbox2maildir_admin.dates import is_dated, seconds_of
-from mbox2maildir_admin.dating import give_dates, set_date
+from mbox2maildir_admin.mbox.dates import is_dated, seconds_of
+from mbox2maildir_admin.maildir.dating import Dating, set_date
+from mbox2maildir_admin.mbox.inventory import Inventory
+from mbox2maildir_admin.units import Offset
 
 
 class SecondsTest(unittest.TestCase):
@@ -58,7 +60,7 @@ class FilesTest(unittest.TestCase):
             for sub in (b"/new", b"/cur"):
                 os.mkdir(here + sub)
                 os.utime(here + sub, (1, 1))
-            dating = give_dates(here, source)
+            dating = Dating.give(here, source, Inventory.read(source, Offset(0)), by_header=False)
             self.assertEqual((dating.messages, dating.dated), (1, 0))
             self.assertEqual(len(list(dating.undone(here))), 1)
 

@@ -6,10 +6,10 @@ import unittest
 from pathlib import Path
 
 from context import folder, source_of
-from mbox2maildir_admin.dovecot import list_of, place_file, subscribe, subscriptions_of
-from mbox2maildir_admin.dovecot_headers import FLAGS, Reading, header_at, info_of, internal_head
-from mbox2maildir_admin.outcome import Left
-from mbox2maildir_admin.record import Record
+from mbox2maildir_admin.migration.dovecot import list_of, place_file, subscribe, subscriptions_of
+from mbox2maildir_admin.mbox.dovecot_headers import FLAGS, Reading, header_at, info_of, internal_head
+from mbox2maildir_admin.faults import Left
+from mbox2maildir_admin.migration.record import Record
 
 HEAD = "X-IMAPbase: 222 9 Foo\nX-UID: 5\n"
 # the headers of some messages, and UIDVALIDITY where it is kept, the next UID, and the UIDs

@@ -3,7 +3,8 @@ import os
 import unittest
 
 from context import A, B, source_of
-from mbox2maildir_admin.kinds import Quoting, look_at
+from mbox2maildir_admin.kinds.quoting import Quoting
+from mbox2maildir_admin.kinds.verdict import look_at
 
 LENGTH = b"Content-Length: 5\n\nhello\n\n"
 

@@ -8,16 +8,19 @@ from types import SimpleNamespace
 from unittest.mock import patch
 
 from context import A, folder
-from mbox2maildir_admin.checking import Check, date_from
-from mbox2maildir_admin.children import LONGEST, Child, Teller, row_of
-from mbox2maildir_admin.faults import Fault
-from mbox2maildir_admin.handle import Digest, Handle
-from mbox2maildir_admin.inventory import Inventory
-from mbox2maildir_admin.outcome import DONE, Left, Row
-from mbox2maildir_admin.presence import Presence
-from mbox2maildir_admin.record import BACK, BEGUN, CONVERTED, MOST, NAME, Record
-from mbox2maildir_admin.room import want_room
-from mbox2maildir_admin.unnamed import copy_of_some
+from mbox2maildir_admin.maildir.checking import Check
+from mbox2maildir_admin.maildir.dating import date_from
+from mbox2maildir_admin.users.children import LONGEST, Child, Teller, row_of
+from mbox2maildir_admin.faults import Fault, Left
+from mbox2maildir_admin.kinds.unnamed import copy_of_some
+from mbox2maildir_admin.maildir.making import RECORD
+from mbox2maildir_admin.maildir.presence import Presence
+from mbox2maildir_admin.maildir.space import want_room
+from mbox2maildir_admin.mbox.digest import Digest
+from mbox2maildir_admin.mbox.inventory import Inventory
+from mbox2maildir_admin.mbox.mailbox import Mailbox
+from mbox2maildir_admin.migration.outcomes import Fate, Row
+from mbox2maildir_admin.migration.record import BACK, BEGUN, CONVERTED, DONE, MOST, Record
 
 ONE, TWO = b"Subject: 1\n\none\n", b"Subject: 2\n\ntwo\n"
 
@@ -43,7 +46,7 @@ class RecordTest(FolderTest):
             self.assertLess(abs(record.begun_at(self.KEY) - os.stat(self.here).st_mtime), 5)
 
     def test_torn_line(self):
-        path = Path(os.fsdecode(os.path.join(self.here, NAME)))
+        path = Path(os.fsdecode(os.path.join(self.here, RECORD)))
         path.write_bytes(b"done\t.\t10\t" + b"a" * 64)
         path.chmod(0o600)
         with Record.open(self.here) as record:
@@ -53,7 +56,7 @@ class RecordTest(FolderTest):
             self.assertEqual(record.steps, {self.KEY: BEGUN})
 
     def test_full(self):
-        path = Path(os.fsdecode(os.path.join(self.here, NAME)))
+        path = Path(os.fsdecode(os.path.join(self.here, RECORD)))
         path.write_bytes(b"\n" * MOST)
         path.chmod(0o600)
         with Record.open(self.here) as record:
@@ -85,7 +88,7 @@ class RoomTest(unittest.TestCase):
     def want(self, count):
         """Wants room for so many files of one byte, where ten blocks and seven inodes are free."""
         disk = SimpleNamespace(f_frsize=4096, f_bavail=10, f_files=100, f_favail=7)
-        with patch("mbox2maildir_admin.room.disk_of", return_value=disk):
+        with patch("mbox2maildir_admin.maildir.space.disk_of", return_value=disk):
             want_room(b"maildir", [1] * count)
 
     def test_room(self):
@@ -104,7 +107,7 @@ class PresenceTest(FolderTest):
             Path(os.fsdecode(self.here), name).write_bytes(body)
         text = Path(os.fsdecode(self.here), "text")
         text.write_bytes(b"".join(A.split(b"\n")[0] + b"\n" + body + b"\n" for body in bodies))
-        with Handle(os.fsencode(str(text)), os.open(str(text), os.O_RDONLY)) as handle:
+        with Mailbox(os.fsencode(str(text)), os.open(str(text), os.O_RDONLY)) as handle:
             return Presence.look(self.here, Inventory.read(handle, 0))
 
     def test_equal_messages(self):
@@ -134,7 +137,7 @@ class CopyTest(FolderTest):
         text, said = Path(os.fsdecode(self.here), "text"), []
         first, second, third = (A.split(b"\n")[0] + b"\n" + body + b"\n" for body in (ONE, TWO, ONE))
         text.write_bytes(first + second + third)
-        with Handle(os.fsencode(str(text)), os.open(str(text), os.O_RDONLY), None, lambda *says: said.append(says)) as handle:
+        with Mailbox(os.fsencode(str(text)), os.open(str(text), os.O_RDONLY), None, lambda *says: said.append(says)) as handle:
             inventory = Inventory.read(handle, 0)
             said.clear()
             with copy_of_some(handle, inventory, [0, 2], self.here) as copy:
@@ -153,7 +156,7 @@ class ChildTest(unittest.TestCase):
 
     def test_long_row(self):
         told, tell = os.pipe()
-        Teller(tell).row(Row("\xe4".encode() * 2000, b".", "", 1, DONE, "\xe4" * LONGEST))
+        Teller(tell).row(Row("\xe4".encode() * 2000, b".", "", 1, Fate.DONE, "\xe4" * LONGEST))
         self.assertLessEqual(len(os.read(told, 2 * LONGEST)), LONGEST)
         os.close(told)
         os.close(tell)
@@ -164,13 +167,13 @@ class ChildTest(unittest.TestCase):
 
         class Reporter:
             def row(self, row, name):
-                rows.append((name, row.verdict))
+                rows.append((name, row.fate))
 
         reporter = Reporter()
         for piece in (b"x" * LONGEST, b"x\n", b'["row"]\n{}\n7\n["row", "", ".", "", 1, "done", ""]\n', b'["end"]\n'):
             os.write(tell, piece)
             child.hear(reporter)
-        self.assertEqual((rows, child.has_ended_well), ([("mia", "done")], True))
+        self.assertEqual((rows, child.has_ended_well), ([("mia", Fate.DONE)], True))
         os.close(told)
         os.close(tell)
 

@@ -12,8 +12,9 @@ import unittest
 from unittest import mock
 
 import context  # noqa: F401, the package is found by it
-from mbox2maildir_admin import children, reporting
-from mbox2maildir_admin.reporting import Reporter, fitted
+from mbox2maildir_admin.migration import rows as reporting
+from mbox2maildir_admin.users import children
+from mbox2maildir_admin.migration.rows import Reporter, fitted
 
 
 class TerminalTest(unittest.TestCase):

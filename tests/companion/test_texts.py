@@ -7,14 +7,15 @@ from pathlib import Path
 from unittest import mock
 
 from context import A, B, folder, source_of
-from mbox2maildir_admin import parts
+from mbox2maildir_admin.mbox import parts
 from mbox2maildir_admin.faults import Fault
-from mbox2maildir_admin.messages import messages_of
-from mbox2maildir_admin.outcome import Left
-from mbox2maildir_admin.parts import FROM_LINE, MARK, TEXT, from_lines_of, parts_of
-from mbox2maildir_admin.plans import is_as_it_is, plan_of
-from mbox2maildir_admin.source import LineEnds, Reader
-from mbox2maildir_admin.texts import open_text, opened
+from mbox2maildir_admin.mbox.messages import messages_of
+from mbox2maildir_admin.faults import Left
+from mbox2maildir_admin.mbox.parts import FROM_LINE, MARK, TEXT, from_lines_of, parts_of
+from mbox2maildir_admin.kinds.plans import is_as_it_is, plan_of
+from mbox2maildir_admin.mbox.files import LineEnds, Reader
+from mbox2maildir_admin.mbox.mailbox import Mailbox
+from mbox2maildir_admin.kinds.texts import open_text
 
 
 class PartsTest(unittest.TestCase):
@@ -46,7 +47,7 @@ class MessagesTest(unittest.TestCase):
         with source_of(A + b"\n>From x\n\n" + B + b"\nyes\n") as source:
             found = list(messages_of(source))
         bodies = [b"Subject: one\n\nFrom x\n", b"Subject: two\n\nyes\n"]
-        self.assertEqual([message.hash.digest() for message in found], [hashlib.sha256(body).digest() for body in bodies])
+        self.assertEqual([message.digest.digest() for message in found], [hashlib.sha256(body).digest() for body in bodies])
         self.assertEqual([message.size for message in found], [len(body) for body in bodies])
         self.assertEqual([message.line for message in found], [1, 6])
         self.assertEqual(sum(message.read_size for message in found), source.size)
@@ -100,7 +101,7 @@ class OpenTextTest(unittest.TestCase):
 
     def test_a_beginning_tells_what_the_whole_does(self):
         def quoting(path, *enough):
-            with opened(path) as handle:
+            with Mailbox.open(path) as handle:
                 try:
                     return plan_of(handle, *enough).quoting
                 except Left:
@@ -120,7 +121,7 @@ class OpenTextTest(unittest.TestCase):
 
     def test_a_plain_text_is_not_looked_at_twice(self):
         text = self.PLAIN + b"x" * (4 << 20) + b"\n"
-        with opened(self.path_of(text)) as handle:
+        with Mailbox.open(self.path_of(text)) as handle:
             plan_of(handle, is_as_it_is)
             self.assertLessEqual(handle.file.offset, 1 << 20)
 

@@ -4,9 +4,9 @@ import unittest
 from pathlib import Path
 
 from context import A, folder
-from mbox2maildir_admin.copies import UNFINISHED
-from mbox2maildir_admin.outcome import LEFT, PASSED
-from mbox2maildir_admin.trees import Tree, folder_of
+from mbox2maildir_admin.kinds.copies import UNFINISHED
+from mbox2maildir_admin.migration.outcomes import Fate
+from mbox2maildir_admin.migration.trees import Tree, folder_of
 
 MAIL = A + b"\n"
 
@@ -26,7 +26,7 @@ class TreeTest(unittest.TestCase):
         """The folders of the mailboxes, and what is left out, with the reason."""
         tree = Tree(self.here).read()
         plan = tree.plan()
-        return [one.folder for one in plan], {os.path.relpath(row.path, self.here).decode(): (row.why, row.verdict) for row in tree.rows}
+        return [one.folder for one in plan], {os.path.relpath(row.path, self.here).decode(): (row.why, row.fate) for row in tree.rows}
 
     def test_mailboxes(self):
         for name in ("Inbox", "Inbox.sbd/Sent", "a.mbox", "quoted", "quoted.mboxrd"):
@@ -42,19 +42,19 @@ class TreeTest(unittest.TestCase):
         self.write("one.mbox")
         def shared(name):
             return "another mailbox goes into one too; next: mbox2maildir-admin migrate --folder NAME MAILDIR %s/%s" % (
-                self.here.decode(), name), LEFT
+                self.here.decode(), name), Fate.LEFT
         self.assertEqual(self.found(), ([], {
-            "M": ("a Maildir", PASSED), "index.msf": ("no mail", PASSED), ".empty": ("no mail", PASSED), "one": shared("one"),
+            "M": ("a Maildir", Fate.NO_MAIL), "index.msf": ("no mail", Fate.NO_MAIL), ".empty": ("no mail", Fate.NO_MAIL), "one": shared("one"),
             "one.mbox": shared("one.mbox"),
-            UNFINISHED.decode() + "abc": ("what a `quote` left that was broken off: remove it", LEFT)}))
+            UNFINISHED.decode() + "abc": ("what a `quote` left that was broken off: remove it", Fate.LEFT)}))
 
     def test_links(self):
         self.write("a/box")
         os.link(self.here + b"/a/box", self.here + b"/z")
         os.symlink("a", self.here + b"/b")
         self.assertEqual(self.found(), ([b".z"], {
-            "b": ("it is a link; next: migrate what it leads to, with --folder NAME", LEFT),
-            "a/box": ("the same as %s/z" % self.here.decode(), PASSED)}))
+            "b": ("it is a link; next: migrate what it leads to, with --folder NAME", Fate.LEFT),
+            "a/box": ("the same as %s/z" % self.here.decode(), Fate.NO_MAIL)}))
 
     def test_names(self):
         for path, name in (("Inbox.sbd/inbox.mbox", "INBOX.inbox"), ("2005.archive.mbox", "2005-archive"), ("Apple.mbox/mbox", "Apple"),

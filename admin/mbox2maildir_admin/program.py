@@ -1,0 +1,122 @@
+"""Runs `mbox2maildir` on an open text: its `convert`, and its `list`."""
+import binascii
+import contextlib
+import os
+import select
+import shutil
+import subprocess
+import sys
+from typing import IO, Callable, Iterator, Optional
+
+from . import PROGRAM
+from .faults import Fault, Left, PlaceFault
+from .units import Line, Offset
+
+# how often it is said how far a conversion is, in milliseconds
+BEAT = 300
+# how much is kept of what the program says
+MOST_SAID = 1 << 12
+BUFFER = 1 << 20
+
+
+class Failed(Left):
+    """What `mbox2maildir convert` said when it failed."""
+
+
+def find_program() -> bytes:
+    """The path of mbox2maildir: beside what was started, or the first of PATH."""
+    beside = os.path.join(os.path.dirname(os.path.realpath(sys.argv[0])), PROGRAM)
+    program = beside if os.path.isfile(beside) else shutil.which(PROGRAM)
+    if not program:
+        raise PlaceFault("no %s is here, beside this program or in PATH" % PROGRAM)
+    return os.fsencode(program)
+
+
+class Program:
+    """The program by its path, and the pipe whose closing ends a run of it, if there is one."""
+
+    def __init__(self, path: bytes, alive: Optional[int] = None) -> None:
+        self.path, self.alive = path, alive
+
+    def convert(self, number: int, start: Offset, folder: bytes, kept: int, tell: Callable[[Offset], None]) -> Offset:
+        """Converts an open text from an offset on, and answers how far it was read. Until then nobody else moves the
+        offset. It is told where that is news. The program inherits the lock of the text, and that of the file which is
+        kept open for it."""
+        os.lseek(number, start, os.SEEK_SET)
+        # in its own folder a Maildir has a name that is UTF-8
+        child = subprocess.Popen(
+            [self.path, b"convert", b"."],
+            cwd=folder,
+            pass_fds=[kept],
+            stdin=number,
+            stdout=subprocess.DEVNULL,
+            stderr=subprocess.PIPE,
+        )
+        assert child.stderr is not None, "it is a pipe"
+        try:
+            said = self.wait_for(child.stderr, number, tell)
+        except BaseException:
+            child.terminate()
+            raise
+        finally:
+            child.wait()
+            child.stderr.close()
+        if child.returncode:
+            raise Failed(said or "convert was ended by signal %d" % -child.returncode)
+        return Offset(os.lseek(number, 0, os.SEEK_CUR))
+
+    def wait_for(self, errors: IO[bytes], number: int, tell: Callable[[Offset], None]) -> str:
+        """Waits for the end of the program, and answers what it said. One that was stopped is silent."""
+        said, last, poll = b"", None, select.poll()
+        poll.register(errors, select.POLLIN)
+        if self.alive is not None:
+            poll.register(self.alive, select.POLLIN)
+        while True:
+            ready = [one for one, _ in poll.poll(BEAT)]
+            if self.alive in ready:
+                raise KeyboardInterrupt
+            if ready:
+                piece = os.read(errors.fileno(), MOST_SAID)
+                if not piece:
+                    return said.decode("utf-8", "replace").strip()
+                said = (said + piece)[:MOST_SAID]
+            place = Offset(os.lseek(number, 0, os.SEEK_CUR))
+            if place != last:
+                tell(place)
+            last = place
+
+
+class Listing:
+    """What mbox2maildir itself lists of a text, to be compared message by message."""
+
+    def __init__(self, child: "subprocess.Popen[bytes]") -> None:
+        assert child.stdout is not None, "it is a pipe"
+        self.child, self.rows = child, child.stdout
+
+    @classmethod
+    @contextlib.contextmanager
+    def open(cls, number: int, start: Offset, program: bytes) -> Iterator["Listing"]:
+        """The list of an open text that begins at an offset, which is moved."""
+        os.lseek(number, start, os.SEEK_SET)
+        child = subprocess.Popen(
+            [program, "list"], stdin=number, stdout=subprocess.PIPE, stderr=subprocess.DEVNULL, bufsize=BUFFER
+        )
+        try:
+            yield cls(child)
+        finally:
+            child.kill()
+            child.communicate()
+
+    def compare(self, number: int, line: Line, base: bytes, size: int) -> None:
+        """Whether the next line is that of a message: its number, its base and its size, and where it begins."""
+        row = self.rows.readline().split(b" ")
+        if row == [b""]:
+            raise Fault("`%s list` has fewer messages, or failed" % PROGRAM)
+        wanted = [b"%d" % number, binascii.hexlify(base[:32]) + base[32:], b"%d" % size]
+        if row[:2] + row[4:5] != wanted:
+            raise Fault("line %d: message %d is not as `%s list` has it" % (line, number, PROGRAM))
+
+    def end(self) -> None:
+        """Whether no line follows."""
+        if self.rows.read() or self.child.wait():
+            raise Fault("`%s list` has more messages, or failed" % PROGRAM)
