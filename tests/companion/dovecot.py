@@ -2,20 +2,22 @@
 """What Dovecot shows of mailboxes before `migrate --dovecot`, and of the Maildir after it, over IMAP and POP3: the
 same. And what a further run does; and that clients which have a state from before fetch nothing again.
 
-`tests/dovecot PROGRAM COUNT` tries so many random mailboxes. It is left out, with a line, where Dovecot is missing.
+The environment's RANDOM_MAILBOXES says how many random mailboxes are tried. All is left out where Dovecot is missing.
 """
+import contextlib
+import os
 import random
 import re
 import shutil
-import sys
 import time
+from functools import lru_cache, partial
 
-from tools.clients import IMAP, POP3, Client, missing
-from tools.common import end
-from tools.companion import fresh_home, install
-from tools.dovecot import Dovecot, is_there
-from tools.mailboxes import CASES, drawn, hole_without_index, kept, mail, never_read, tail, tree
-from tools.served import Case, differences
+from tests.support.cases import LeftOut, nothing_wrong, run_cases
+from tests.support.clients import IMAP, POP3, Client, missing
+from tests.support.companion import fresh_home, install
+from tests.support.server import Dovecot, is_there
+from tests.support.mailboxes import CASES, drawn, hole_without_index, kept, mail, never_read, tail, tree
+from tests.support.served import Case, differences
 
 # lines of the server's configuration: where Maildirs are, and how POP3 names mail
 SERVED, UIDLS = "userdb_mail=maildir:~/Maildir", "pop3_uidl_format = %08Xu%08Xv"
@@ -182,6 +184,8 @@ def leaves_room(home, server):
 
 def fetch_nothing(home):
     """Clients with a state from before, of which each fetches one message more when that has come."""
+    if missing():
+        print(f"dovecot: left out, not here: {', '.join(missing())}")
     server = Dovecot(str(home / "turned"))
     server.write()
     server.start()
@@ -253,30 +257,31 @@ def with_headers(case):
     yield from says("X-UIDL", case.migrate(), 0, ": 6 done, ")
 
 
-def follows_settings(home):
+SETTINGS = {"control": [with_control], "layout": [with_layout], "digests": [with_digests, UIDLS, "pop3_uidl_format = %m"],
+            "headers": [with_headers, UIDLS, f"{UIDLS}\n  pop3_reuse_xuidl = yes"]}
+
+
+def follows_settings(arrange, *change, home):
     """What the guide says of settings of Dovecot: its clients see no change."""
-    for number, (arrange, *change) in enumerate((
-            [with_control], [with_layout], [with_digests, UIDLS, "pop3_uidl_format = %m"],
-            [with_headers, UIDLS, f"{UIDLS}\n  pop3_reuse_xuidl = yes"])):
-        server = Dovecot(str(home / f"settings{number}"))
-        server.write()
-        if change:
-            server.change(*change)
+    server = Dovecot(str(home / "settings"))
+    server.write()
+    if change:
+        server.change(*change)
+    server.start()
+    try:
+        case = Case(home, server, "mia")
+        tree(case)
+        case.deliver(mail(20, "Message-ID: <20@example.com>\nX-UIDL: mine\n"))
+        case.look()
+        before = case.before()
+        yield from arrange(case)
+        case.own()
+        server.stop()
         server.start()
-        try:
-            case = Case(home, server, "mia")
-            tree(case)
-            case.deliver(mail(20, "Message-ID: <20@example.com>\nX-UIDL: mine\n"))
-            case.look()
-            before = case.before()
-            yield from arrange(case)
-            case.own()
-            server.stop()
-            server.start()
-            for line in [*differences(before, case.after(), False), *server.complaints()]:
-                yield f"dovecot: {arrange.__doc__}: {line}"
-        finally:
-            server.stop()
+        for line in [*differences(before, case.after(), False), *server.complaints()]:
+            yield f"dovecot: {arrange.__doc__}: {line}"
+    finally:
+        server.stop()
 
 
 def run_all(clients):
@@ -287,42 +292,56 @@ def run_all(clients):
             yield f"dovecot: {client.name}: {failed}"
 
 
-def try_all(home, builds):
-    """Tries each, and answers what is wrong."""
-    server = Dovecot(str(home / "dovecot"))
-    server.write()
-    server.start()
-    try:
-        for check in (goes_on, is_killed, comes_before, has_others, grows, was_done, foresees, subscribes, leaves_room):
-            yield from check(home, server)
-        for number, build in enumerate(builds):
-            case = Case(home, server, f"user{number}")
-            build(case)
-            said = len(server.complaints())
-            for line in case.wrong():
-                yield f"dovecot: {build.__doc__}: {line}"
-            for line in server.complaints()[said:]:
-                yield f"dovecot: {build.__doc__}: the log: {line}"
-    finally:
-        server.stop()
-    yield from fetch_nothing(home)
-    yield from follows_settings(home)
+def looks_as_before(number, build, home, server):
+    """A mailbox looks as before over IMAP and POP3, and the server complains of nothing."""
+    case = Case(home, server, f"user{number}")
+    build(case)
+    said = len(server.complaints())
+    for line in case.wrong():
+        yield f"dovecot: {build.__doc__}: {line}"
+    for line in server.complaints()[said:]:
+        yield f"dovecot: {build.__doc__}: the log: {line}"
+
+
+@contextlib.contextmanager
+def served():
+    """A home, and a server of what is in it."""
+    with fresh_home() as home:
+        install(home / "bin")
+        server = Dovecot(str(home / "dovecot"))
+        server.write()
+        server.start()
+        try:
+            yield home, server
+        finally:
+            server.stop()
+
+
+def finds_nothing(check):
+    """A check of a server finds nothing that is wrong."""
+    if not is_there():
+        raise LeftOut("Dovecot's server with IMAP and POP3 is not here")
+    nothing_wrong(check)
+
+
+def at_home_alone(check):
+    """A check that starts a server of its own finds nothing that is wrong."""
+    with fresh_home() as home:
+        install(home / "bin")
+        yield from check(home=home)
 
 
 def main():
-    if not is_there():
-        print("dovecot: left out, not here: Dovecot's server with IMAP and POP3")
-        return
-    count = int(sys.argv[2]) if len(sys.argv) > 2 else 12
-    builds = CASES + [drawn(seed) for seed in range(count)]
-    with fresh_home() as home:
-        install(home / "bin")
-        wrong = list(try_all(home, builds))
-    if missing():
-        print(f"dovecot: left out, not here: {', '.join(missing())}")
-    if not wrong:
-        print(f"dovecot: {len(CASES)} mailboxes, and {count} random ones, look as before over IMAP and POP3")
-    end(wrong)
+    own_server = {"fetch_nothing": fetch_nothing, **{f"settings_of_{name}": partial(follows_settings, *row) for name, row in SETTINGS.items()}}
+    checks = {check.__name__: check for check in
+              (goes_on, is_killed, comes_before, has_others, grows, was_done, foresees, subscribes, leaves_room)}
+    builds = CASES + [drawn(seed) for seed in range(int(os.environ.get("RANDOM_MAILBOXES", "12")))]
+    checks.update((build.__name__, partial(looks_as_before, number, build)) for number, build in enumerate(builds))
+    with contextlib.ExitStack() as stack:
+        place = lru_cache(maxsize=None)(lambda: stack.enter_context(served()))
+        cases = {name: partial(finds_nothing, lambda check=check: check(*place())) for name, check in checks.items()}
+        cases.update((name, partial(finds_nothing, partial(at_home_alone, check))) for name, check in own_server.items())
+        run_cases(cases)
 
 
 if __name__ == "__main__":

@@ -6,8 +6,8 @@ import resource
 import subprocess
 import threading
 
-from tools.common import equal
-from tools.companion import A, ADMIN, B, MAY, check_all, decoded, expect, matches, run, with_length
+from tests.support.checks import equal
+from tests.support.companion import A, ADMIN, B, MAY, check_all, decoded, expect, matches, run, want_root, with_length
 
 # a second message with a right length
 C = with_length(B, b"yes\n") + b"\n"
@@ -142,8 +142,7 @@ def other_files(home):
 
 def no_place_beside(home):
     """Where a mailbox's owner may not write in its folder the copy goes elsewhere."""
-    if os.getuid() != 0:
-        return
+    want_root()
     (home / "spool").mkdir(mode=0o755)
     for name, text, then in (("quoted", with_length(A, MAY) + b"\n", "mbox2maildir-admin quote -o COPY spool/quoted"),
                              ("cut", A[1:], "(echo From MAILER-DAEMON; cat spool/cut) >COPY")):

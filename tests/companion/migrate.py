@@ -1,7 +1,7 @@
 #!/usr/bin/env -S python3 -B
 """mbox2maildir-admin migrate: what each step leaves in the record, and what a further run makes of that; mailboxes that grew, that
 are locked, or that were begun, and mail that people moved meanwhile; records and homes of others; and a spool of users, which
-wants root. What wants root is left out without it, with a line."""
+wants root. What wants root is left out without it."""
 import contextlib
 import fcntl
 import hashlib
@@ -14,8 +14,9 @@ import subprocess
 import time
 from pathlib import Path
 
-from tools.common import equal
-from tools.companion import A, ADMIN, B, MAY, check_all, expect, files_of, run, with_length
+from tests.support.cases import LeftOut
+from tests.support.checks import equal
+from tests.support.companion import A, ADMIN, B, MAY, check_all, expect, files_of, run, want_root, with_length
 
 C = b"From carla@example.net Mon Mar  3 12:00:00 2025\nFrom: carla@example.net\nSubject: three\n"
 ONE, TWO, THREE = (head + b"\nhello\n\n" for head in (A, B, C))
@@ -576,9 +577,9 @@ def theirs(path, name):
 
 def spool(home):
     """Each mailbox of a spool goes into its user's home, with that user's rights alone; what is nobody's is left."""
-    if os.getuid() != 0 or not shutil.which("useradd"):
-        print("migrate: --users is left out: this is not root, or there is no useradd")
-        return
+    want_root()
+    if not shutil.which("useradd"):
+        raise LeftOut("useradd is not here")
     with users(home):
         for number, name in enumerate(USERS):
             theirs(mailbox(home / "spool" / name, (ONE, TWO, THREE)[number]), name)

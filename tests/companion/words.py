@@ -1,6 +1,6 @@
 #!/usr/bin/env -S python3 -B
 """mbox2maildir-admin on what the guide has no room for: forms of dates, names of mailboxes, links, what other programs do to a
-Maildir, and outputs that fail. What wants root or a tool that is missing is left out, with a line."""
+Maildir, and outputs that fail. What wants root is left out without it."""
 import base64
 import os
 import random
@@ -10,8 +10,8 @@ import subprocess
 import threading
 from datetime import datetime, timezone
 
-from tools.common import equal
-from tools.companion import A, ADMIN, check_all, decoded, expect, files_of, run, write
+from tests.support.checks import equal
+from tests.support.companion import A, ADMIN, check_all, decoded, expect, files_of, run, want_root, write
 
 MANY = 40_000
 
@@ -190,8 +190,7 @@ def printed(name):
 
 def closed_files(home):
     """What can't be read is told, and the rest goes on."""
-    if os.getuid() != 0:
-        return
+    want_root()
     for path in ("old/a/box", "old/closed/x", "old/open"):
         write(home / path)
     (home / "old/closed").chmod(0)
@@ -272,8 +271,7 @@ def there_twice(home):
 
 def of_another_owner(home):
     """Files of another owner than the Maildir are told, since their user may not be able to read them."""
-    if os.getuid() != 0:
-        return
+    want_root()
     _, bases, counts = ten_messages(home)
     for path in (home / "M", *(home / "M").rglob("*")):
         os.chown(path, 65534, 65534)

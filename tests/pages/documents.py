@@ -4,7 +4,7 @@ where the pages are installed; what a page names by its path is there, also by i
 is in the sources, each file of which begins with a line that says what is in it; docs/PROMISES.md names what is in the
 files that it has a reader read, and each file that reaches the machine; the texts that the program tells are those of the
 page of the manual and of the guide; the pages of the manual please mandoc; README.md names the kit of `rt version`; and no page
-has more words than it may. What wants a tool that is missing is left out, with a line."""
+has more words than it may. What wants a tool that is missing is left out."""
 import os
 import re
 import shutil
@@ -12,8 +12,9 @@ import subprocess
 import tempfile
 from pathlib import Path
 
-from tools.common import TOP, end, text_of
-from tools.sources import files_to_read
+from tests.support.cases import LeftOut, find_nothing
+from tests.support.checks import TOP, text_of
+from tests.support.sources import files_to_read
 
 # the words that a page may have; who wants to say more says something else shorter
 WORDS = {
@@ -52,7 +53,7 @@ def anchors_of(page):
     return {re.sub(r"[^\w\- ]", "", heading.lower()).replace(" ", "-") for heading in HEADING.findall(text_of(page))}
 
 
-def wrong_links(top, pages):
+def links_to_nothing(top, pages):
     for page in pages:
         for target, anchor in LINK.findall(SHOWN.sub("", text_of(page))):
             if "://" in target:
@@ -124,7 +125,7 @@ def wrong_installed():
     with tempfile.TemporaryDirectory() as root:
         subprocess.run([TOP / "packaging/install", os.devnull, f"{root}/usr"], check=True)
         docs = Path(f"{root}{INSTALLED}")
-        yield from (f"installed: {line}" for line in wrong_links(docs, sorted(docs.glob("**/*.md"))))
+        yield from (f"installed: {line}" for line in links_to_nothing(docs, sorted(docs.glob("**/*.md"))))
         for page in [*PAGES, *MANUALS, TOP / "packaging/package"]:
             for path in INSTALLED_PATH.findall(text_of(page).replace("$name", "mbox2maildir")):
                 if not Path(f"{root}{path}").exists():
@@ -156,10 +157,9 @@ def wrong_texts():
 
 
 def printed_by(*words):
-    """What a command prints, on both of its streams; nothing where there is no such command."""
+    """What a command prints, on both of its streams."""
     if not shutil.which(words[0]):
-        print(f"documents: {words[0]} is not here, and what wants it is left out")
-        return ""
+        raise LeftOut(f"{words[0]} is not here")
     ran = subprocess.run(words, cwd=TOP, stdout=subprocess.PIPE, stderr=subprocess.STDOUT, text=True, check=False)
     return ran.stdout
 
@@ -167,7 +167,7 @@ def printed_by(*words):
 def wrong_kit():
     named = KIT.findall(text_of(TOP / "README.md"))
     version = printed_by("rt", "version").strip()
-    if version and named != [version]:
+    if named != [version]:
         yield f"README.md names the kit {named}, and `rt version` is {version}"
 
 
@@ -187,12 +187,11 @@ def wrong_words():
             yield f"{name} has {words} words, of at most {WORDS.get(name, 0)}"
 
 
-def wrong():
-    yield from wrong_links(TOP, PAGES)
-    for check in (wrong_installed, wrong_files, wrong_paths, wrong_reading, wrong_trusted, wrong_code, wrong_texts, wrong_kit,
-                  wrong_manuals, wrong_words):
-        yield from check()
+def wrong_links():
+    """The links of the pages as they stand here."""
+    return links_to_nothing(TOP, PAGES)
 
 
 if __name__ == "__main__":
-    end(wrong())
+    find_nothing(wrong_links, wrong_installed, wrong_files, wrong_paths, wrong_reading, wrong_trusted, wrong_code, wrong_texts, wrong_kit,
+                 wrong_manuals, wrong_words)

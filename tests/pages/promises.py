@@ -12,9 +12,11 @@ the sources.
 """
 import re
 
-from tools.common import TOP, differ, end, text_of
-from tools.sources import carriers, functions, items, public_contracts
+from tests.support.cases import find_nothing
+from tests.support.checks import TOP, differ, text_of
+from tests.support.sources import carriers, functions, items, public_contracts
 
+PROMISES = TOP / "docs/PROMISES.md"
 PAGES = [*(TOP / name for name in ("README.md", "CONTRIBUTING.md")), *sorted(TOP.glob("docs/*.md"))]
 CLAUSE = re.compile(r"\bensures (?:(\w+) )?\{")
 SPAN = re.compile(r"`([^`]+)`")
@@ -54,9 +56,10 @@ def clauses():
     return found
 
 
-def wrong_carriers(says):
+def wrong_carriers():
     """What is said to carry a promise is a record with these fields, or a public call with these clauses."""
-    given = clauses() | records()
+    says = " ".join(says for _, says, _ in carriers())
+    given = {**clauses(), **records()}
     crates = {path.name for path in TOP.glob("crates/*")}
     for span in SPAN.findall(says):
         name, _, parts = span.partition(": ")
@@ -64,8 +67,11 @@ def wrong_carriers(says):
             yield f"`{span}` carries nothing: no public contract or record has it"
 
 
-def wrong_tests(tables):
+def wrong_tests():
     """A test that a row of a table names is where the row says."""
+    tables = TABLE_OF_TESTS.findall(text_of(PROMISES))
+    if not tables:
+        yield "docs/PROMISES.md has no test"
     for names, place in TEST.findall("\n".join(SHOWN_BY.findall("".join(tables)))):
         crate = TOP / "crates" / place / "src"
         files = [*crate.glob("**/*.rt")] if crate.exists() else [TOP / place]
@@ -73,8 +79,9 @@ def wrong_tests(tables):
         yield from (f"the test {name} is not in {place}" for name in NAME.findall(names) if name not in words)
 
 
-def wrong_edits(edits, named):
+def wrong_edits():
     """An edit that names no function, or one that is not there; two of one name; one that is under no promise, or not there."""
+    edits, named = sorted(TOP.glob("crates/*/must-fail/*.edit")), {edit for _, _, by in carriers() for edit in SPAN.findall(by)}
     calls = {call for owner, name in functions() for call in (name, f"{owner}::{name}")}
     seen = {}
     for path in edits:
@@ -107,23 +114,13 @@ def wrong_names():
         yield from (f"{page.relative_to(TOP)}: {name} is nowhere in the sources" for name in sorted(unknown))
 
 
-def wrong_rows(promises, rows):
+def wrong_rows():
     """Each promise of the page has its row, in the same order."""
-    if promises != rows:
-        yield f"docs/PROMISES.md: the promises and the rows of their table are not the same:\n{differ(rows, promises)}"
-
-
-def wrong():
-    page = text_of(TOP / "docs/PROMISES.md")
-    carried, tables = carriers(), TABLE_OF_TESTS.findall(page)
-    if not carried or not tables:
-        yield "docs/PROMISES.md has no promise, or no test"
-    yield from wrong_rows("\n".join(PROMISE.findall(page)), "\n".join(promise for promise, _, _ in carried))
-    yield from wrong_carriers(" ".join(says for _, says, _ in carried))
-    yield from wrong_tests(tables)
-    yield from wrong_edits(sorted(TOP.glob("crates/*/must-fail/*.edit")), {edit for _, _, by in carried for edit in SPAN.findall(by)})
-    yield from wrong_names()
+    promises, rows = PROMISE.findall(text_of(PROMISES)), [promise for promise, _, _ in carriers()]
+    if promises != rows or not rows:
+        yield "docs/PROMISES.md: the promises and the rows of their table are not the same:"
+        yield differ("\n".join(rows), "\n".join(promises))
 
 
 if __name__ == "__main__":
-    end(wrong())
+    find_nothing(wrong_rows, wrong_carriers, wrong_tests, wrong_edits, wrong_names)

@@ -8,8 +8,9 @@ are tables of contents. What the list of docs/PROMISES.md needs is named there, 
 """
 import re
 
-from tools.common import TOP, end, text_of
-from tools.sources import GHOST, GHOST_USE, carriers, exports, files_to_read, imports, items, public_contracts, without_comments
+from tests.support.cases import find_nothing
+from tests.support.checks import TOP, text_of
+from tests.support.sources import GHOST, GHOST_USE, carriers, exports, files_to_read, imports, items, public_contracts, without_comments
 
 USE = re.compile(r"^(?:pub )?use ([^\s;{]+?)(?:\.\{(.*?)\})?(?: as (\S+))?;?$", re.MULTILINE)
 TOKEN = re.compile(r"[^\s(){}\[\],;\"`<>&:]+")
@@ -147,4 +148,4 @@ def wrong_contents():
 
 
 if __name__ == "__main__":
-    end([*wrong_rooms(), *wrong_list(), *wrong_contents()])
+    find_nothing(wrong_rooms, wrong_list, wrong_contents)

@@ -16,10 +16,12 @@ import subprocess
 import sys
 import tempfile
 import time
+from functools import partial
 from pathlib import Path
 
-from tools.common import TOP, equal, program
-from tools.listing import listing, messages_of
+from tests.support.cases import run_cases
+from tests.support.checks import TOP, equal, program
+from tests.support.oracle import listing, messages_of
 
 STARTS = [b"From a\n", b"From  x y\n", b"From a\tb@c Thu Jan  1 00:00:00 1970\r\n", b"From \n"]
 LINES = [
@@ -166,25 +168,37 @@ def check_list(dice, texts, maildir):
     equal(f"bases and bodies of {texts}", sorted((name.split(":")[0], body) for (_, name), body in files.items()), sorted(bodies.items()))
 
 
-def main():
+def companion_reads(work):
+    """5000 texts are read by the companion as the independent listing has them."""
+    modules = companion()
+    for seed in range(5000):
+        check_read(modules, random.Random(seed), any_text(random.Random(seed)), work / "text")
+
+
+def texts(work):
+    """150 texts are listed, converted and spelled as the independent listing has them."""
+    maildir = work / "maildir"
+    for seed in range(150):
+        text = any_text(random.Random(seed))
+        check_text(text, maildir)
+        if seed % 2:
+            check_verified(random.Random(seed), text, maildir, work / "text")
+        shutil.rmtree(maildir)
+
+
+def lists(work):
+    """60 lists of texts are delivered by runs that are killed, with a mail reader between them."""
+    for seed in range(60):
+        dice = random.Random(seed)
+        maildir = work / "maildir"
+        check_list(dice, [any_text(dice) for _ in range(dice.randrange(1, 5))], maildir)
+        shutil.rmtree(maildir)
+
+
+def in_a_folder(case):
     with tempfile.TemporaryDirectory() as work:
-        maildir = Path(work, "maildir")
-        modules = companion()
-        for seed in range(5000):
-            check_read(modules, random.Random(seed), any_text(random.Random(seed)), Path(work, "text"))
-        for seed in range(150):
-            text = any_text(random.Random(seed))
-            check_text(text, maildir)
-            if seed % 2:
-                check_verified(random.Random(seed), text, maildir, Path(work, "text"))
-            shutil.rmtree(maildir)
-        for seed in range(60):
-            dice = random.Random(seed)
-            texts = [any_text(dice) for _ in range(dice.randrange(1, 5))]
-            check_list(dice, texts, maildir)
-            shutil.rmtree(maildir)
-    print("random: 150 texts and 60 lists of texts as the independent listing has them, and 5000 as the companion reads them")
+        case(Path(work))
 
 
 if __name__ == "__main__":
-    main()
+    run_cases({case.__name__: partial(in_a_folder, case) for case in (companion_reads, texts, lists)})

@@ -1,1 +1,1 @@
-"""What the tests use."""
+"""What tests share."""

@@ -1,6 +1,6 @@
-"""What the tests in Python share. A test takes the program's whole path, and without one tests build/mbox2maildir."""
+"""What tests compare, and the program that is tested: build/mbox2maildir, or what the environment's MBOX2MAILDIR says."""
 import difflib
-import sys
+import os
 from pathlib import Path
 
 TOP = Path(__file__).resolve().parents[2]
@@ -8,7 +8,7 @@ TOP = Path(__file__).resolve().parents[2]
 
 def program():
     """The path of the program that is tested."""
-    return sys.argv[1] if len(sys.argv) > 1 else str(TOP / "build/mbox2maildir")
+    return os.environ.get("MBOX2MAILDIR") or str(TOP / "build/mbox2maildir")
 
 
 def text_of(path):
@@ -25,11 +25,3 @@ def differ(got, wanted):
 def equal(what, got, wanted):
     """The two are equal, or the test ends."""
     assert got == wanted, f"{what}:\n{differ(got, wanted)}"
-
-
-def end(wrong):
-    """Prints each line of what is wrong, and ends the test: with status 1 where there is one."""
-    lines = list(wrong)
-    for line in lines:
-        print(line)
-    sys.exit(1 if lines else 0)

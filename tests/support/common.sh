@@ -1,11 +1,14 @@
-# What the tests in shell share: each reads this file first. A test takes the program's whole path, and without one tests
-# build/mbox2maildir.
+# What the tests in shell share: each reads this file first, and ends with the names of its cases. It takes names of cases, and
+# without any runs them all; `--list` prints them. The program that is tested is build/mbox2maildir, or MBOX2MAILDIR.
 set -eu
 this=${0##*/}
-top=$(cd "$(dirname "$0")/.." && pwd)
-tools=$top/tests/tools
-program=${1:-$top/build/mbox2maildir}
+top=$(cd "$(dirname "$0")/../.." && pwd)
+support=$top/tests/support
+program=${MBOX2MAILDIR:-$top/build/mbox2maildir}
+asked=$*
 work=$(mktemp -d)
+# what the cases share, each of which has a folder of its own as $work
+shared=$work
 
 # What a test ends besides, at its own end: it may say so anew.
 clean_up() { :; }
@@ -49,6 +52,57 @@ report() {
     echo "messages $1, there $2, placed $3, swept $4"
 }
 
+# leave_out REASON: ends a case that can't be tried here.
+leave_out() {
+    echo ": $*" >"$shared/reason"
+    exit 77
+}
+
+# What stands before each case, in the case's folder.
+set_up() { :; }
+
+# run_case NAME: runs it in a shell and a folder of its own, and prints how it ended, which tests/run counts.
+run_case() {
+    begun=$(date +%s%N)
+    : >"$shared/reason"
+    set +e
+    (
+        set -e
+        trap 'clean_up || true' EXIT
+        work=$shared/$1
+        mkdir "$work"
+        cd "$work"
+        set_up "$1"
+        "$1"
+    )
+    case $? in
+    0) ended=passed ;;
+    77) ended=skipped ;;
+    *) ended=failed failed=yes ;;
+    esac
+    set -e
+    milliseconds=$((($(date +%s%N) - begun) / 1000000))
+    printf '%s %s:%s %d.%02d s%s\n' "$ended" "$this" "$1" $((milliseconds / 1000)) $((milliseconds % 1000 / 10)) \
+        "$(cat "$shared/reason")"
+    rm -rf "${shared:?}/$1"
+}
+
+# cases NAME..: the last line of a test.
+cases() {
+    if test "$asked" = --list; then
+        printf '%s\n' "$@"
+        exit
+    fi
+    for each in $asked; do
+        case " $* " in *" $each "*) ;; *) fail "no case $each" ;; esac
+    done
+    failed=
+    for each in ${asked:-$*}; do
+        run_case "$each"
+    done
+    test -z "$failed"
+}
+
 # exits COMMAND..: runs it, with its status in $status.
 exits() {
     status=0
@@ -82,17 +136,17 @@ until_placed() {
     done
 }
 
-# preload SOURCE: makes of a C file of the tools what LD_PRELOAD takes, $work/SOURCE.so. The kit brings a C compiler, so that
-# none need be installed.
+# preload SOURCE: makes of a C file beside this what LD_PRELOAD takes, $shared/SOURCE.so. The kit brings a C compiler, so
+# that none need be installed.
 preload() {
     compiler=$(dirname "$(rt doc)")/toolchain/bin/clang
     test -x "$compiler" || compiler=cc
-    "$compiler" -O1 -fPIC -shared -nostdlib -o "$work/$1.so" "$tools/$1.c"
+    "$compiler" -O1 -fPIC -shared -nostdlib -o "$shared/$1.so" "$support/$1.c"
 }
 
-# of_libraries CHECK: makes a check of the libraries, unless the program is tested alone.
+# of_libraries: leaves out a case of the libraries where the program is tested alone.
 of_libraries() {
-    test -n "${PROGRAM_ALONE:-}" || "$1"
+    test -z "${PROGRAM_ALONE:-}" || leave_out 'the program is tested alone'
 }
 
 # The tests of the libraries are built, as $tests: `rt ci` leaves them so.

@@ -5,9 +5,11 @@ import shutil
 import subprocess
 import tempfile
 from contextlib import contextmanager
+from functools import partial
 from pathlib import Path
 
-from tools.common import TOP, differ, equal, program
+from tests.support.cases import LeftOut, run_cases
+from tests.support.checks import TOP, differ, equal, program
 
 ADMIN = TOP / "admin/mbox2maildir-admin"
 PACKAGE = TOP / "admin/mbox2maildir_admin"
@@ -98,9 +100,19 @@ def fresh_home():
         shutil.rmtree(work, ignore_errors=True)
 
 
+def want_root():
+    """A case that only root can try is left out."""
+    if os.getuid() != 0:
+        raise LeftOut("it wants root")
+
+
+def at_home(check):
+    """Runs a check in a fresh folder, which has the programs in bin/."""
+    with fresh_home() as home:
+        install(home / "bin")
+        check(home)
+
+
 def check_all(*checks):
-    """Runs each check in a folder of its own."""
-    for check in checks:
-        with fresh_home() as home:
-            install(home / "bin")
-            check(home)
+    """Runs each check in a folder of its own, as a case of its name."""
+    run_cases({check.__name__: partial(at_home, check) for check in checks})

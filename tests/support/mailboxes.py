@@ -1,9 +1,9 @@
-"""Mailboxes that Dovecot kept, strangers forged, or nobody has read: each is built in a case of tools.served."""
+"""Mailboxes that Dovecot kept, strangers forged, or nobody has read: each is built in a case of tests.support.served."""
 import random
 import re
 import shutil
 
-from tools.served import FLAGS, INTERNAL, mail
+from tests.support.served import FLAGS, INTERNAL, mail
 
 KEYWORDS = ["Garden", "$Forwarded", "NonJunk", "later"]
 FORGED = {"X-IMAPbase": "777 0000000099 Evil", "X-IMAP": "777 0000000099 Evil", "X-UID": "2",
@@ -112,6 +112,7 @@ def forged(field, value, place, looked):
                 case.deliver(mail(21), mail(22))
         if looked:
             case.look()
+    build.__name__ = "_".join([field.replace(" ", "-and-space"), "in", place, "seen" if looked else "unseen"])
     build.__doc__ = f"{field.strip()}: {value} in the {place} message, {'shown' if looked else 'not shown'} before"
     return build
 
@@ -139,6 +140,7 @@ def drawn(seed):
         for _ in range(draw.randint(0, 2)):
             case.deliver(mail(number, draw.choice(LATE)))
             number += 1
+    build.__name__ = f"random_{seed}"
     build.__doc__ = f"random, by the seed {seed}"
     return build
 

@@ -8,7 +8,7 @@ import time
 from itertools import zip_longest
 from pathlib import Path
 
-from tools.common import differ
+from tests.support.checks import differ
 
 FLAGS = [r"\Seen", r"\Answered", r"\Flagged", r"\Deleted", r"\Draft"]
 INTERNAL = re.compile(rb"(?s)From MAILER.DAEMON .*?initial values\.\n\n")

@@ -2,7 +2,7 @@
 docs/PROMISES.md says of them in tables."""
 import re
 
-from tools.common import TOP, text_of
+from tests.support.checks import TOP, text_of
 
 GHOST_USE = re.compile(r"^ *ghost use ([^\s;{]+?)(?:\.\{(.*?)\})?(?: as (\S+))?;", re.MULTILINE)
 ITEM = re.compile(r"^(pub )?(?:pub\(crate\) )?(?:(struct|enum|trait|fn) (\w+)|impl(?:<.*?>)? (?:(\w+)(?:<.*>)? for )?(\w+))", re.MULTILINE)

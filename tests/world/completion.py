@@ -1,6 +1,6 @@
 #!/usr/bin/env -S python3 -B
-"""What the completions for bash, zsh and fish offer after some words. Wants the three files, in this order, or takes those
-of packaging/. A shell that is missing is left out, with a line."""
+"""What the completions for bash, zsh and fish offer after some words: those of packaging/, or three files that the environment's
+COMPLETIONS names, in this order. A shell that is missing is left out."""
 import os
 import pty
 import re
@@ -8,12 +8,13 @@ import select
 import shutil
 import signal
 import subprocess
-import sys
 import tempfile
 import time
+from functools import partial
 from pathlib import Path
 
-from tools.common import TOP, equal
+from tests.support.cases import LeftOut, run_cases
+from tests.support.checks import TOP, equal
 
 SECONDS = 20
 
@@ -127,22 +128,24 @@ def zsh(file, lines, home):
         session.close()
 
 
-def main():
-    files = [Path(word).resolve() for word in sys.argv[1:]] or [TOP / f"packaging/completion.{shell}" for shell in ("bash", "zsh", "fish")]
-    with tempfile.TemporaryDirectory() as home:
-        home = Path(home)
+def offers_what_belongs(offers, file):
+    """A shell offers after each line what is to come there."""
+    if not shutil.which(offers.__name__):
+        raise LeftOut(f"{offers.__name__} is not here")
+    with tempfile.TemporaryDirectory() as folder:
+        home = Path(folder)
         for name in ("Maildir", "old_mail", "bin"):
             (home / name).mkdir()
         for name in ("archive.mbox", "old_mail/a.mbox", "bin/an-odd-command"):
             (home / name).touch(mode=0o755 if name.startswith("bin") else 0o644)
         os.environ["PATH"] = f"{home}/bin:{os.environ['PATH']}"
-        for offers, file in zip((bash, zsh, fish), files):
-            if not shutil.which(offers.__name__):
-                print(f"completion: {offers.__name__} is not here, and left out")
-                continue
-            for (line, wanted), found in zip(LINES, offers(file, [line for line, _ in LINES], home)):
-                equal(f"{offers.__name__}, {line}", sorted(word for word in found if word != "--help" or word in wanted), sorted(wanted))
-            print(f"completion: {offers.__name__} offers what belongs after {len(LINES)} lines")
+        for (line, wanted), found in zip(LINES, offers(file, [line for line, _ in LINES], home)):
+            equal(f"{offers.__name__}, {line}", sorted(word for word in found if word != "--help" or word in wanted), sorted(wanted))
+
+
+def main():
+    named = os.environ.get("COMPLETIONS", "").split() or [TOP / f"packaging/completion.{shell}" for shell in ("bash", "zsh", "fish")]
+    run_cases({offers.__name__: partial(offers_what_belongs, offers, Path(file)) for offers, file in zip((bash, zsh, fish), named)})
 
 
 if __name__ == "__main__":

@@ -5,7 +5,7 @@ the guide tells of.
 A block is a few lines that are indented, the first of which begins with `$ `, or with `# ` where it is for root. The lines
 below a command are what it prints, where `...` stands for anything in a line, and for any lines where it stands alone.
 Blocks whose tools are missing, or that want root, are left out, with a line. What the page says of a server's settings,
-as Postfix's home_mailbox and mailbox_command, was tried by hand, but for what `tests/dovecot` tries, and for Dovecot 2.4's
+as Postfix's home_mailbox and mailbox_command, was tried by hand, but for what `tests/companion/dovecot.py` tries, and for Dovecot 2.4's
 mail_driver, mail_path, mail_control_path, mail_index_path and mailbox_list_layout.
 """
 import gzip
@@ -13,10 +13,12 @@ import os
 import re
 import shutil
 import subprocess
-import sys
+from functools import partial
+from pathlib import Path
 
-from tools.common import TOP, differ, text_of
-from tools.companion import A, B, MAY, fresh_home, install, own_dovecot, with_length
+from tests.support.cases import run_cases
+from tests.support.checks import TOP, differ, text_of
+from tests.support.companion import A, B, MAY, fresh_home, install, own_dovecot, with_length
 
 PAGES = ["README.md", "docs/MIGRATE.md"]
 BLOCK = re.compile(r"^ {4}[$#] .*\n(?: {4}.*\n)*", re.MULTILINE)
@@ -260,7 +262,7 @@ class Guide:
 
 
 def follow(page):
-    """Runs what a page shows in a fresh home folder, and answers whether all went as it says."""
+    """Runs what a page shows in a fresh home folder: all goes as it says."""
     with fresh_home() as home:
         make_files(home)
         make_spool(home)
@@ -270,8 +272,8 @@ def follow(page):
         for block in BLOCK.finditer(text):
             guide.block(block[0])
     print(f"guide: {page}: {guide.done} commands print what it shows, {guide.wrong} do not, {guide.left_out} blocks left out")
-    return guide.wrong == 0
+    assert guide.done and not guide.wrong, f"{page}: {guide.wrong} commands print something else"
 
 
 if __name__ == "__main__":
-    sys.exit(0 if all([follow(page) for page in PAGES]) else 1)
+    run_cases({Path(page).stem: partial(follow, page) for page in PAGES})

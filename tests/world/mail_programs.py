@@ -5,7 +5,7 @@ Each one that is installed and writes mailboxes writes one, whose kind must be t
 it. Then the commands are run that the companion says are next, and the bodies must be those that were put in. And each one
 that works on a Maildir works on one that was converted, and must keep the names or change them, as the guide says.
 
-What a machine lacks is left out, with a line.
+What a machine lacks is left out.
 """
 import os
 import pty
@@ -16,9 +16,11 @@ import signal
 import subprocess
 import tempfile
 import time
+from functools import partial
 
-from tools.common import TOP, differ, end, text_of
-from tools.companion import fresh_home, install, own_dovecot
+from tests.support.cases import LeftOut, run_cases
+from tests.support.checks import TOP, differ, equal, text_of
+from tests.support.companion import fresh_home, install, own_dovecot
 
 PAGE = text_of(TOP / "docs/MIGRATE.md")
 PATH = f"{os.environ['PATH']}:/usr/sbin:/usr/lib/dovecot:/usr/bin/mh:/usr/libexec/opensmtpd"
@@ -505,37 +507,40 @@ def work_of(name, work, keeps, home):
     return [] if f"there {there}, placed {renamed}," in again else [f"{name}: {said}, and then {again}"]
 
 
-def in_a_home(name, task):
-    """Does a task in a new home, and answers what is wrong; nothing where a program did not do its work here."""
+def try_one(tool, task):
+    """Does the task in a new home, with nothing wrong. It is left out where a program is not here, or did not do its work."""
+    if not shutil.which(tool, path=PATH):
+        raise LeftOut("it is not here")
     with fresh_home() as folder:
         try:
-            return task(Home(folder))
+            faults = task(Home(folder))
         except Failed as reason:
-            print(f"programs: left out, {name}: {reason}")
-            return None
+            raise LeftOut(str(reason)) from reason
+    assert not faults, "\n".join(["", *faults])
 
 
-def hold(programs, rows, task, says):
-    """Does the task for each program that is here, and answers what is wrong."""
-    here = [name for name, (tool, _) in programs.items() if shutil.which(tool, path=PATH) and name in rows]
-    found = {name: in_a_home(name, lambda home, name=name: task(name, programs[name][1], rows[name], home)) for name in here}
-    missing = [name for name in programs if name not in here]
-    if missing:
-        print(f"programs: left out, not here: {'; '.join(missing)}")
-    print(f"programs: {sum(of_one == [] for of_one in found.values())} {says}")
-    differ = [f"the guide's table and the test differ: {name}" for name in sorted(rows.keys() ^ programs.keys())]
-    return [*differ, *(fault for of_one in found.values() for fault in of_one or [])]
+def writes_as_told(name, write, kind, home):
+    """What a program writes is of the kind of its row."""
+    return faults_of(name, mailbox_of(write, home), kind, home)
+
+
+def cases_of(verb, programs, rows, task):
+    """A case for each program of a table, and one that the table has these programs and no others."""
+    def same_names():
+        equal("the guide's table and the test", sorted(rows), sorted(programs))
+
+    yield f"{verb}_those_of_the_table", same_names
+    for name, (tool, work) in programs.items():
+        yield "_".join([verb, *re.findall(r"[\w.-]+", name)]), partial(try_one, tool, partial(task, name, work, rows.get(name)))
 
 
 def main():
     kinds, by_hand = writers_of_the_page()
+    assert by_hand, "the guide's table has no program that was tried by hand"
     keeps = readers_of_the_page()
     # no test has Courier
     keeps.pop("Courier", None)
-    faults = hold(WRITERS, kinds, lambda name, write, kind, home: faults_of(name, mailbox_of(write, home), kind, home),
-                  f"write what the guide's table says, and {len(by_hand)} were tried by hand")
-    faults += hold(READERS, keeps, work_of, "keep or change names as the guide's table says")
-    end(f"programs: {fault}" for fault in faults)
+    run_cases(dict([*cases_of("writes", WRITERS, kinds, writes_as_told), *cases_of("works", READERS, keeps, work_of)]))
 
 
 if __name__ == "__main__":

@@ -1,10 +1,7 @@
-"""What the tests of the companion's modules share: the package is found, and texts become files that are open."""
+"""What the tests of the companion's modules share: texts become files that are open."""
 import contextlib
-import sys
 import tempfile
 from pathlib import Path
-
-sys.path.insert(0, str(Path(__file__).resolve().parents[2] / "admin"))
 
 A = b"From alva@example.org Mon Mar  3 09:12:44 2025\nSubject: one\n"
 B = b"From boris@example.com Mon Mar  3 11:40:02 2025\nSubject: two\n"

@@ -7,7 +7,7 @@ import unittest
 from pathlib import Path
 from unittest import mock
 
-from context import A, B, folder, source_of
+from tests.companion.units.context import A, B, folder, source_of
 from mbox2maildir_admin.kinds import copies
 from mbox2maildir_admin.kinds.copies import UNFINISHED, Copy
 from mbox2maildir_admin.faults import Fault, PlaceFault
@@ -16,7 +16,7 @@ from mbox2maildir_admin.mbox.mailbox import Mailbox
 
 TEXT = A + b"\n>>From x\n\n" + B + b"\nyes\n"
 MBOXO = Quoting("mboxo")
-ADMIN = Path(__file__).resolve().parents[2] / "admin/mbox2maildir-admin"
+ADMIN = Path(__file__).resolve().parents[3] / "admin/mbox2maildir-admin"
 
 
 class Lossy(Copy):
@@ -134,7 +134,3 @@ class SignalTest(unittest.TestCase):
     def test_kill(self):
         self.assertEqual(self.left_by(signal.SIGKILL, os.O_TMPFILE), [])
         self.assertTrue(all(name.startswith(UNFINISHED) for name in self.left_by(signal.SIGKILL, os.O_DIRECTORY)))
-
-
-if __name__ == "__main__":
-    unittest.main()

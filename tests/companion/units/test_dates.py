@@ -1,10 +1,10 @@
-"""Dates of From_ lines and headers. More forms, and the files that get them, are in tests/admin."""
+"""Dates of From_ lines and headers. More forms, and the files that get them, are in tests/companion/words.py."""
 import os
 import time
 import unittest
 from datetime import datetime
 
-from context import folder, source_of
+from tests.companion.units.context import folder, source_of
 from mbox2maildir_admin.mbox.dates import is_dated, seconds_of
 from mbox2maildir_admin.maildir.dating import Dating, set_date
 from mbox2maildir_admin.mbox.inventory import Inventory
@@ -63,7 +63,3 @@ class FilesTest(unittest.TestCase):
             dating = Dating.give(here, source, Inventory.read(source, Offset(0)), by_header=False)
             self.assertEqual((dating.messages, dating.dated), (1, 0))
             self.assertEqual(len(list(dating.undone(here))), 1)
-
-
-if __name__ == "__main__":
-    unittest.main()

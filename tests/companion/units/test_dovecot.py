@@ -5,7 +5,7 @@ import time
 import unittest
 from pathlib import Path
 
-from context import folder, source_of
+from tests.companion.units.context import folder, source_of
 from mbox2maildir_admin.migration.dovecot import list_of, place_file, subscribe, subscriptions_of
 from mbox2maildir_admin.mbox.dovecot_headers import FLAGS, Reading, header_at, info_of, internal_head
 from mbox2maildir_admin.faults import Left
@@ -233,7 +233,3 @@ class FilesTest(unittest.TestCase):
             # who has left a folder since is left alone
             file.write_bytes(b"V\t2\n\nSent\n")
             self.assertEqual(subscribe(here, old, record), [])
-
-
-if __name__ == "__main__":
-    unittest.main()

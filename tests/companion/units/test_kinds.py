@@ -1,8 +1,8 @@
-"""Kinds: what a program that builds on the verdict needs of it. What is printed of each kind is tested in tests/kinds."""
+"""Kinds: what a program that builds on the verdict needs of it. What is printed of each kind is tested in tests/companion/kinds.py."""
 import os
 import unittest
 
-from context import A, B, source_of
+from tests.companion.units.context import A, B, source_of
 from mbox2maildir_admin.kinds.quoting import Quoting
 from mbox2maildir_admin.kinds.verdict import look_at
 
@@ -48,7 +48,3 @@ class VerdictTest(unittest.TestCase):
                                    (A + b"\nhello\nFrom here on\n\n", 1, 1)):
             verdict = self.verdict(text)
             self.assertEqual((verdict.messages, verdict.most), (fewest, most), text)
-
-
-if __name__ == "__main__":
-    unittest.main()

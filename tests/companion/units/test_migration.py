@@ -7,7 +7,7 @@ from pathlib import Path
 from types import SimpleNamespace
 from unittest.mock import patch
 
-from context import A, folder
+from tests.companion.units.context import A, folder
 from mbox2maildir_admin.maildir.checking import Check
 from mbox2maildir_admin.maildir.dating import date_from
 from mbox2maildir_admin.users.children import LONGEST, Child, Teller, row_of
@@ -176,7 +176,3 @@ class ChildTest(unittest.TestCase):
         self.assertEqual((rows, child.has_ended_well), ([("mia", Fate.DONE)], True))
         os.close(told)
         os.close(tell)
-
-
-if __name__ == "__main__":
-    unittest.main()

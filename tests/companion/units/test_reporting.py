@@ -11,7 +11,6 @@ import time
 import unittest
 from unittest import mock
 
-import context  # noqa: F401, the package is found by it
 from mbox2maildir_admin.migration import rows as reporting
 from mbox2maildir_admin.users import children
 from mbox2maildir_admin.migration.rows import Reporter, fitted
@@ -79,7 +78,3 @@ class CrewTest(unittest.TestCase):
         self.assertEqual(os.read(told, 4096), b'["at", "verifying"]\n' * 2)
         os.close(told)
         os.close(tell)
-
-
-if __name__ == "__main__":
-    unittest.main()

@@ -6,7 +6,7 @@ import unittest
 from pathlib import Path
 from unittest import mock
 
-from context import A, B, folder, source_of
+from tests.companion.units.context import A, B, folder, source_of
 from mbox2maildir_admin.mbox import parts
 from mbox2maildir_admin.faults import Fault
 from mbox2maildir_admin.mbox.messages import messages_of
@@ -124,7 +124,3 @@ class OpenTextTest(unittest.TestCase):
         with Mailbox.open(self.path_of(text)) as handle:
             plan_of(handle, is_as_it_is)
             self.assertLessEqual(handle.file.offset, 1 << 20)
-
-
-if __name__ == "__main__":
-    unittest.main()

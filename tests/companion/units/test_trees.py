@@ -1,9 +1,9 @@
-"""The finder of files, and the names of their folders. More names are in tests/admin."""
+"""The finder of files, and the names of their folders. More names are in tests/companion/words.py."""
 import os
 import unittest
 from pathlib import Path
 
-from context import A, folder
+from tests.companion.units.context import A, folder
 from mbox2maildir_admin.kinds.copies import UNFINISHED
 from mbox2maildir_admin.migration.outcomes import Fate
 from mbox2maildir_admin.migration.trees import Tree, folder_of
@@ -60,7 +60,3 @@ class TreeTest(unittest.TestCase):
         for path, name in (("Inbox.sbd/inbox.mbox", "INBOX.inbox"), ("2005.archive.mbox", "2005-archive"), ("Apple.mbox/mbox", "Apple"),
                            ("Entwürfe", "Entw&APw-rfe"), ("R&D", "R&-D"), ("R&-E", "R&-E"), ("~a", "-a"), ("2004.gz.mboxrd", "2004")):
             self.assertEqual(folder_of(path), name)
-
-
-if __name__ == "__main__":
-    unittest.main()
