@@ -14,7 +14,8 @@ class LeftOut(Exception):
 def ended(how: str, name: str, begun: float, remark: object = "") -> None:
     """Prints how a case ended: tests/run counts these lines."""
     seconds = time.monotonic() - begun
-    print(f"{how} {Path(sys.argv[0]).stem}:{name} {seconds:.2f} s", *filter(None, [remark]), sep=": ", flush=True)
+    text = " ".join(str(remark).split())
+    print(f"{how} {Path(sys.argv[0]).stem}:{name} {seconds:.2f} s", *filter(None, [text]), sep=": ", flush=True)
 
 
 def tried(name: str, case: Callable[[], None]) -> bool:
