@@ -3,8 +3,8 @@
 where the pages are installed; what a page names by its path is there, also by its path within a crate; code that it shows
 is in the sources, each file of which begins with a line that says what is in it; docs/PROMISES.md names what is in the
 files that it has a reader read, and each file that reaches the machine; the texts that the program tells are those of the
-page of the manual and of the guide; the pages of the manual please mandoc; README.md names the kit of `rt version`; and no page
-has more words than it may. What wants a tool that is missing is left out."""
+page of the manual and of the guide; the pages of the manual please mandoc; and README.md names the kit of `rt version`. What
+wants a tool that is missing is left out."""
 import os
 import re
 import shutil
@@ -16,11 +16,6 @@ from tests.support.cases import LeftOut, find_nothing
 from tests.support.checks import TOP, text_of
 from tests.support.sources import files_to_read
 
-# the words that a page may have; who wants to say more says something else shorter
-WORDS = {
-    "README.md": 1100, "CONTRIBUTING.md": 1510, "docs/DECISIONS.md": 2200, "docs/MIGRATE.md": 3900, "docs/MODEL.md": 2600,
-    "docs/PROMISES.md": 4181, "docs/RULES.md": 1950, "docs/mbox2maildir.1": 1850, "docs/mbox2maildir-admin.1": 1780,
-}
 PAGES = [*sorted(TOP.glob("*.md")), *sorted(TOP.glob("docs/*.md"))]
 MANUAL = TOP / "docs/mbox2maildir.1"
 MANUALS = sorted(TOP.glob("docs/*.1"))
@@ -179,14 +174,6 @@ def wrong_manuals():
                 yield line
 
 
-def wrong_words():
-    """The changelog only grows, so it may."""
-    for page in [*PAGES, *MANUALS]:
-        name, words = str(page.relative_to(TOP)), len(text_of(page).split())
-        if name != "CHANGELOG.md" and words > WORDS.get(name, 0):
-            yield f"{name} has {words} words, of at most {WORDS.get(name, 0)}"
-
-
 def wrong_links():
     """The links of the pages as they stand here."""
     return links_to_nothing(TOP, PAGES)
@@ -194,4 +181,4 @@ def wrong_links():
 
 if __name__ == "__main__":
     find_nothing(wrong_links, wrong_installed, wrong_files, wrong_paths, wrong_reading, wrong_trusted, wrong_code, wrong_texts, wrong_kit,
-                 wrong_manuals, wrong_words)
+                 wrong_manuals)
