@@ -13,11 +13,11 @@ import time
 from functools import lru_cache, partial
 
 from tests.support.cases import LeftOut, nothing_wrong, run_cases
-from tests.support.clients import IMAP, POP3, Client, missing
-from tests.support.companion import fresh_home, install
-from tests.support.server import Dovecot, is_there
-from tests.support.mailboxes import CASES, drawn, hole_without_index, kept, mail, never_read, tail, tree
-from tests.support.served import Case, differences
+from tests.support.dovecot.clients import IMAP, POP3, Client, missing
+from tests.support.homes import fresh_home, install
+from tests.support.dovecot.server import Dovecot, is_there
+from tests.support.dovecot.mailboxes import CASES, drawn, hole_without_index, kept, mail, never_read, tail, tree
+from tests.support.dovecot.served import Case, differences
 
 # lines of the server's configuration: where Maildirs are, and how POP3 names mail
 SERVED, UIDLS = "userdb_mail=maildir:~/Maildir", "pop3_uidl_format = %08Xu%08Xv"

@@ -7,7 +7,7 @@ import subprocess
 import threading
 
 from tests.support.checks import equal
-from tests.support.companion import A, ADMIN, B, MAY, check_all, decoded, expect, matches, run, want_root, with_length
+from tests.support.homes import A, ADMIN, B, MAY, check_all, decoded, expect, matches, run, want_root, with_length
 
 # a second message with a right length
 C = with_length(B, b"yes\n") + b"\n"

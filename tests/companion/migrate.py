@@ -16,7 +16,7 @@ from pathlib import Path
 
 from tests.support.cases import LeftOut
 from tests.support.checks import equal
-from tests.support.companion import A, ADMIN, B, MAY, check_all, expect, files_of, run, want_root, with_length
+from tests.support.homes import A, ADMIN, B, MAY, check_all, expect, files_of, run, want_root, with_length
 
 C = b"From carla@example.net Mon Mar  3 12:00:00 2025\nFrom: carla@example.net\nSubject: three\n"
 ONE, TWO, THREE = (head + b"\nhello\n\n" for head in (A, B, C))

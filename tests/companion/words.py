@@ -11,7 +11,7 @@ import threading
 from datetime import datetime, timezone
 
 from tests.support.checks import equal
-from tests.support.companion import A, ADMIN, check_all, decoded, expect, files_of, run, want_root, write
+from tests.support.homes import A, ADMIN, check_all, decoded, expect, files_of, run, want_root, write
 
 MANY = 40_000
 

@@ -1,35 +1,24 @@
-"""Runs the unit tests of a module, each printed as it ends: python3 -m tests.support.units MODULE [--list] [CASE..]"""
-import importlib
-import sys
-import unittest
-from typing import Iterator, Union
+"""What the tests of the companion's modules share: texts become files that are open."""
+import contextlib
+import tempfile
+from pathlib import Path
 
-from tests.support.cases import run_cases
-
-
-def methods_of(suite: Union[unittest.TestSuite, unittest.TestCase]) -> Iterator[unittest.TestCase]:
-    """Each test of a suite."""
-    if isinstance(suite, unittest.TestCase):
-        yield suite
-    else:
-        for part in suite:
-            yield from methods_of(part)
+A = b"From alva@example.org Mon Mar  3 09:12:44 2025\nSubject: one\n"
+B = b"From boris@example.com Mon Mar  3 11:40:02 2025\nSubject: two\n"
 
 
-def run_one(test: unittest.TestCase) -> None:
-    """Runs a test, or raises what went wrong."""
-    result = unittest.TestResult()
-    test.run(result)
-    for _, trace in [*result.errors, *result.failures]:
-        raise AssertionError(f"\n{trace}")
+@contextlib.contextmanager
+def folder():
+    """A folder that goes away, as bytes."""
+    with tempfile.TemporaryDirectory() as name:
+        yield name.encode()
 
 
-def main() -> None:
-    module = importlib.import_module(sys.argv.pop(1))
-    sys.argv[0] = str(module.__file__)
-    tests = methods_of(unittest.defaultTestLoader.loadTestsFromModule(module))
-    run_cases({test.id().split(".", 4)[-1]: lambda test=test: run_one(test) for test in tests})
-
-
-if __name__ == "__main__":
-    main()
+@contextlib.contextmanager
+def source_of(text):
+    """An open mailbox with this text."""
+    from mbox2maildir_admin.mbox.mailbox import Mailbox
+    with folder() as here:
+        Path(here.decode(), "box").write_bytes(text)
+        with Mailbox.open(here + b"/box") as source:
+            yield source

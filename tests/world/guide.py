@@ -18,7 +18,7 @@ from pathlib import Path
 
 from tests.support.cases import run_cases
 from tests.support.checks import TOP, differ, text_of
-from tests.support.companion import A, B, MAY, fresh_home, install, own_dovecot, with_length
+from tests.support.homes import A, B, MAY, fresh_home, install, own_dovecot, with_length
 
 PAGES = ["README.md", "docs/MIGRATE.md"]
 BLOCK = re.compile(r"^ {4}[$#] .*\n(?: {4}.*\n)*", re.MULTILINE)

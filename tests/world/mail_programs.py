@@ -20,7 +20,7 @@ from functools import partial
 
 from tests.support.cases import LeftOut, run_cases
 from tests.support.checks import TOP, differ, equal, text_of
-from tests.support.companion import fresh_home, install, own_dovecot
+from tests.support.homes import fresh_home, install, own_dovecot
 
 PAGE = text_of(TOP / "docs/MIGRATE.md")
 PATH = f"{os.environ['PATH']}:/usr/sbin:/usr/lib/dovecot:/usr/bin/mh:/usr/libexec/opensmtpd"

@@ -7,7 +7,7 @@ import unittest
 from pathlib import Path
 from unittest import mock
 
-from tests.companion.units.context import A, B, folder, source_of
+from tests.support.units import A, B, folder, source_of
 from mbox2maildir_admin.kinds import copies
 from mbox2maildir_admin.kinds.copies import UNFINISHED, Copy
 from mbox2maildir_admin.faults import Fault, PlaceFault

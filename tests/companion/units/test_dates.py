@@ -4,7 +4,7 @@ import time
 import unittest
 from datetime import datetime
 
-from tests.companion.units.context import folder, source_of
+from tests.support.units import folder, source_of
 from mbox2maildir_admin.mbox.dates import is_dated, seconds_of
 from mbox2maildir_admin.maildir.dating import Dating, set_date
 from mbox2maildir_admin.mbox.inventory import Inventory

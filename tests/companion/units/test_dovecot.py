@@ -5,7 +5,7 @@ import time
 import unittest
 from pathlib import Path
 
-from tests.companion.units.context import folder, source_of
+from tests.support.units import folder, source_of
 from mbox2maildir_admin.migration.dovecot import list_of, place_file, subscribe, subscriptions_of
 from mbox2maildir_admin.mbox.dovecot_headers import FLAGS, Reading, header_at, info_of, internal_head
 from mbox2maildir_admin.faults import Left

@@ -2,7 +2,7 @@
 import os
 import unittest
 
-from tests.companion.units.context import A, B, source_of
+from tests.support.units import A, B, source_of
 from mbox2maildir_admin.kinds.quoting import Quoting
 from mbox2maildir_admin.kinds.verdict import look_at
 

@@ -7,7 +7,7 @@ from pathlib import Path
 from types import SimpleNamespace
 from unittest.mock import patch
 
-from tests.companion.units.context import A, folder
+from tests.support.units import A, folder
 from mbox2maildir_admin.maildir.checking import Check
 from mbox2maildir_admin.maildir.dating import date_from
 from mbox2maildir_admin.users.children import LONGEST, Child, Teller, row_of

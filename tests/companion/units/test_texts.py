@@ -6,7 +6,7 @@ import unittest
 from pathlib import Path
 from unittest import mock
 
-from tests.companion.units.context import A, B, folder, source_of
+from tests.support.units import A, B, folder, source_of
 from mbox2maildir_admin.mbox import parts
 from mbox2maildir_admin.faults import Fault
 from mbox2maildir_admin.mbox.messages import messages_of

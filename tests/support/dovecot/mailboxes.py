@@ -1,9 +1,9 @@
-"""Mailboxes that Dovecot kept, strangers forged, or nobody has read: each is built in a case of tests.support.served."""
+"""Mailboxes that Dovecot kept, strangers forged, or nobody has read: each is built in a case of tests.support.dovecot.served."""
 import random
 import re
 import shutil
 
-from tests.support.served import FLAGS, INTERNAL, mail
+from tests.support.dovecot.served import FLAGS, INTERNAL, mail
 
 KEYWORDS = ["Garden", "$Forwarded", "NonJunk", "later"]
 FORGED = {"X-IMAPbase": "777 0000000099 Evil", "X-IMAP": "777 0000000099 Evil", "X-UID": "2",
