@@ -53,18 +53,18 @@ def is_killed(home, server):
     case.deliver(*map(mail, range(20, 60)))
     whole, begun = case.copy("whole"), time.monotonic()
     yield from says("killed never", whole.migrate(), 0, ": 6 done, ")
-    long, wanted = time.monotonic() - begun, files_of(whole)
+    long, wanted = time.monotonic() - begun, files_below(whole)
     for _ in range(10):
         one, moments = case.copy("once-more"), [draw.uniform(0, long) for _ in range(draw.randint(1, 2))]
         for moment in moments:
             one.migrate(kill=moment)
         yield from says(f"killed after {moments} seconds, and run again", one.migrate(), 0, r"(?m)^\d+ mailboxes: ")
-        if files_of(one) != wanted:
+        if files_below(one) != wanted:
             yield f"dovecot: killed after {moments} seconds, and run again: other files"
     yield from differences(case.before(), one.after(), False)
 
 
-def files_of(case):
+def files_below(case):
     """The files of a Maildir but for its record, with what is in them."""
     top = case.home / "Maildir"
     return {str(path.relative_to(top)): path.read_bytes() for path in top.rglob("*")

@@ -6,8 +6,9 @@ import resource
 import subprocess
 import threading
 
-from tests.support.checks import equal
-from tests.support.homes import A, ADMIN, B, MAY, check_all, decoded, expect, matches, run, want_root, with_length
+from tests.support.checks import equal, matches
+from tests.support.homes import ADMIN, check_all, decoded, expect, run, want_root
+from tests.support.mail import A, B, MAY, with_length
 
 # a second message with a right length
 C = with_length(B, b"yes\n") + b"\n"

@@ -16,19 +16,10 @@ from pathlib import Path
 
 from tests.support.cases import LeftOut
 from tests.support.checks import equal
-from tests.support.homes import A, ADMIN, B, MAY, check_all, expect, files_of, run, want_root, with_length
+from tests.support.homes import ADMIN, check_all, expect, files_of, mail_in, mailbox, run, want_root
+from tests.support.mail import A, B, C, MAY, ONE, THREE, TWO, with_length
 
-C = b"From carla@example.net Mon Mar  3 12:00:00 2025\nFrom: carla@example.net\nSubject: three\n"
-ONE, TWO, THREE = (head + b"\nhello\n\n" for head in (A, B, C))
 RECORD = "mbox2maildir-record"
-
-
-def mailbox(path, text, age=3600):
-    """Writes a mailbox that was left alone for a while."""
-    path.parent.mkdir(parents=True, exist_ok=True)
-    path.write_bytes(text)
-    os.utime(path, (time.time() - age,) * 2)
-    return path
 
 
 def grow(path, text):
@@ -52,7 +43,7 @@ def note(maildir, step, text, messages, folder="."):
 
 def texts(maildir):
     """The subjects of what is there, in order."""
-    return sorted(re.search(r"Subject: (.*)", path.read_text())[1] for sub in ("new", "cur") for path in (maildir / sub).iterdir())
+    return sorted(re.search(r"Subject: (.*)", path.read_text())[1] for path in mail_in(maildir))
 
 
 def file_of(maildir, subject):

@@ -11,7 +11,8 @@ import threading
 from datetime import datetime, timezone
 
 from tests.support.checks import equal
-from tests.support.homes import A, ADMIN, check_all, decoded, expect, files_of, run, want_root, write
+from tests.support.homes import ADMIN, check_all, decoded, expect, files_of, mailbox, run, want_root
+from tests.support.mail import A, ONE
 
 MANY = 40_000
 
@@ -167,8 +168,7 @@ def encoded(name):
 def names_of_folders(home):
     """Each mailbox of a tree has the folder of its name, for each word that takes a tree."""
     for name in [*NAMES, *ENCODED]:
-        write(home / "-old" / name, A.decode() + "\n")
-        os.utime(home / "-old" / name, (1, 1))
+        mailbox(home / "-old" / name, A + b"\n")
     wanted = {name: encoded(name if folder is None else folder) for name, folder in NAMES.items()} | {name: name for name in ENCODED}
     status, out, err = run(["migrate", "--", "M", "-old"], home)
     equal("a tree: what is left", ([line for line in out.splitlines() if ": left: " in line], status, err), ([], 0, ""))
@@ -192,7 +192,7 @@ def closed_files(home):
     """What can't be read is told, and the rest goes on."""
     want_root()
     for path in ("old/a/box", "old/closed/x", "old/open"):
-        write(home / path)
+        mailbox(home / path, ONE)
     (home / "old/closed").chmod(0)
     (home / "old/a/box").chmod(0)
     ran = subprocess.run(["setpriv", "--reuid=65534", "--regid=65534", "--clear-groups", ADMIN, "kind", "old"],
@@ -336,7 +336,7 @@ def read_meanwhile(home):
 def output_fails(home):
     """A reader that goes away, an output that is full, and one that is closed: a line at most, and status 1."""
     (home / "box").write_bytes(A + b"\n")
-    write(home / "old/box")
+    mailbox(home / "old/box", ONE)
     for words in (["kind", *["box"] * 3000], ["quote", "--mboxrd", "-o", "-", "box"], ["--help"]):
         for to, says in (("| true", None), (">/dev/full", "mbox2maildir-admin: the output could not be written: No space left on "
                                             "device\n"), (">&-", None)):

@@ -21,6 +21,7 @@ from pathlib import Path
 
 from tests.support.cases import run_cases
 from tests.support.checks import TOP, equal, program
+from tests.support.homes import ADMIN, mail_in
 from tests.support.oracle import listing, messages_of
 
 STARTS = [b"From a\n", b"From  x y\n", b"From a\tb@c Thu Jan  1 00:00:00 1970\r\n", b"From \n"]
@@ -64,8 +65,8 @@ def run(text, *words):
     return done.stdout
 
 
-def files_of(maildir):
-    return {(sub, path.name): path.read_bytes() for sub in ("tmp", "new", "cur") for path in (maildir / sub).iterdir()}
+def texts_of(maildir):
+    return {(path.parent.name, path.name): path.read_bytes() for path in mail_in(maildir, ("tmp", "new", "cur"))}
 
 
 def check_text(text, maildir):
@@ -73,7 +74,7 @@ def check_text(text, maildir):
     count = len(files)
     equal(f"list of {text}", run(text, "list"), listed)
     equal(f"convert of {text}", run(text, "convert", maildir), f"messages {count}, there 0, placed {count}, swept 0\n".encode())
-    equal(f"the files of {text}", files_of(maildir), files)
+    equal(f"the files of {text}", texts_of(maildir), files)
     spelled = run(text, "rewrite")
     equal(f"rewrite twice of {text}", run(spelled, "rewrite"), spelled)
 
@@ -104,7 +105,7 @@ def change_files(dice, maildir):
     """Some files are taken away, changed, or named as other programs do. Answers how many messages are then there, under another
     name, other bytes, and nowhere."""
     states, missing, copies = collections.Counter(), collections.Counter(), collections.Counter()
-    for number, ((sub, name), _) in enumerate(sorted(files_of(maildir).items())):
+    for number, ((sub, name), _) in enumerate(sorted(texts_of(maildir).items())):
         path, base = maildir / sub / name, name.split(":")[0]
         change = dice.randrange(8)
         if change == 0:
@@ -132,7 +133,7 @@ def check_verified(dice, text, maildir, file):
     counts = (f"{file}: messages {len(messages)}, bytes {sum(len(body) for _, body in messages)}, there {there}, "
               f"under another name {renamed}, other bytes {other}, nowhere {nowhere}, doubles 0")
     doubt = any(b"\r" in from_line[:-1] for from_line, _ in messages)
-    done = subprocess.run([TOP / "admin/mbox2maildir-admin", "verify", maildir, file], capture_output=True, check=False,
+    done = subprocess.run([ADMIN, "verify", maildir, file], capture_output=True, check=False,
                           env={**os.environ, "PATH": f"{Path(program()).parent}:{os.environ['PATH']}"}, text=True)
     equal(f"verify of {text}", (done.stdout.split("\n")[0], done.stderr), (counts, ""))
     equal(f"verify of {text}: status", done.returncode, int(bool(nowhere or other or doubt)))
@@ -149,7 +150,7 @@ def kill_run(dice, text, maildir):
 
 def read_mail(dice, maildir):
     """A mail reader moves some messages to `cur` and gives others flags."""
-    for sub, name in files_of(maildir):
+    for sub, name in texts_of(maildir):
         if sub != "tmp" and dice.randrange(3) == 0:
             base = name.split(":")[0]
             os.rename(maildir / sub / name, maildir / "cur" / f"{base}:2,{dice.choice(['', 'S', 'FS', 'T'])}")
@@ -164,7 +165,7 @@ def check_list(dice, texts, maildir):
         read_mail(dice, maildir)
         bodies.update((name.split(":")[0], body) for (_, name), body in wanted(text)[1].items())
     # what a killed run left in tmp is gone by the run after it
-    files = files_of(maildir)
+    files = texts_of(maildir)
     equal(f"bases and bodies of {texts}", sorted((name.split(":")[0], body) for (_, name), body in files.items()), sorted(bodies.items()))
 
 

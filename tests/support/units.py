@@ -1,24 +1,24 @@
 """What the tests of the companion's modules share: texts become files that are open."""
 import contextlib
-import tempfile
+import os
 from pathlib import Path
+from typing import Iterator
 
-A = b"From alva@example.org Mon Mar  3 09:12:44 2025\nSubject: one\n"
-B = b"From boris@example.com Mon Mar  3 11:40:02 2025\nSubject: two\n"
+from mbox2maildir_admin.mbox.mailbox import Mailbox
+from tests.support.homes import fresh_folder
 
 
 @contextlib.contextmanager
-def folder():
+def folder() -> Iterator[bytes]:
     """A folder that goes away, as bytes."""
-    with tempfile.TemporaryDirectory() as name:
-        yield name.encode()
+    with fresh_folder() as path:
+        yield os.fsencode(str(path))
 
 
 @contextlib.contextmanager
-def source_of(text):
+def source_of(text: bytes) -> Iterator[Mailbox]:
     """An open mailbox with this text."""
-    from mbox2maildir_admin.mbox.mailbox import Mailbox
     with folder() as here:
-        Path(here.decode(), "box").write_bytes(text)
+        Path(os.fsdecode(here), "box").write_bytes(text)
         with Mailbox.open(here + b"/box") as source:
             yield source

@@ -18,13 +18,13 @@ from pathlib import Path
 
 from tests.support.cases import run_cases
 from tests.support.checks import TOP, differ, text_of
-from tests.support.homes import A, B, MAY, fresh_home, install, own_dovecot, with_length
+from tests.support.homes import OWNER, as_owner, decoded, fresh_home, hand_over, install, is_root, own_dovecot, script
+from tests.support.mail import A, B, MAY, with_length
 
 PAGES = ["README.md", "docs/MIGRATE.md"]
 BLOCK = re.compile(r"^ {4}[$#] .*\n(?: {4}.*\n)*", re.MULTILINE)
 TOOLS = ["doveadm", "formail", "runuser"]
-# what the page names, and what stands for it here: a user that each system has, and a folder for the mailboxes
-OWNER = "nobody"
+# the folder of the mailboxes that the page names, which is below the home here
 SPOOL = "/var/mail"
 # when the mailboxes were written: one that changed within the last minute is waited for
 LONG_AGO = (1_700_000_000, 1_700_000_000)
@@ -178,31 +178,21 @@ class Guide:
 
     def __init__(self, home):
         self.home = home
-        self.is_root = os.getuid() == 0
         install(home / "bin")
         own_dovecot(home / "bin")
         # the owner has another home here than the system says
-        (home / "bin/getent").write_text(f'#!/bin/sh\necho "$2:x:::: {home}/homes/$2:" | tr -d " "\n')
-        (home / "bin/getent").chmod(0o755)
+        script(home / "bin/getent", f'echo "$2:x:::: {home}/homes/$2:" | tr -d " "')
         self.path = f"{home}/bin:{os.environ['PATH']}"
         self.done = self.wrong = self.left_out = 0
-        self.hand_over()
-
-    def hand_over(self):
-        """All that is there belongs to the owner."""
-        if self.is_root:
-            for path in [self.home, *self.home.rglob("*")]:
-                shutil.chown(path, OWNER)
+        hand_over(home)
 
     def run(self, command, as_root=False):
         """Runs a command as the owner of the home folder, and answers what it prints."""
-        settings = [f"HOME={self.home}", f"PATH={self.path}", "LC_ALL=C.UTF-8", f"USER={OWNER}"]
-        words = ["env", "-i", *settings, "bash", "-c", command]
-        if self.is_root and not as_root:
-            words = ["runuser", "-u", OWNER, "--", *words]
+        settings = {"HOME": self.home, "PATH": self.path, "LC_ALL": "C.UTF-8", "USER": OWNER}
+        words = as_owner(["bash", "-c", command], settings, as_root)
         ran = subprocess.run(words, cwd=self.home, stdin=subprocess.DEVNULL, stdout=subprocess.PIPE,
                              stderr=subprocess.STDOUT, timeout=60, check=False)
-        return ran.stdout.decode(errors="surrogateescape")
+        return decoded(ran.stdout)
 
     def session(self, lines):
         """Runs the commands of a block, and compares what each prints with the lines below it."""
@@ -224,12 +214,12 @@ class Guide:
         missing = [tool for tool in TOOLS if re.search(rf"\b{tool}\b", text) and not shutil.which(tool)]
         if missing:
             self.leave_out(text, f"no {missing[0]} here")
-        elif not self.is_root and "runuser" in text:
+        elif not is_root() and "runuser" in text:
             self.leave_out(text, "wants root")
         else:
             if f"{SPOOL}/*" in text:
                 make_spool(self.home)
-                self.hand_over()
+                hand_over(self.home)
             text = re.sub(r"\bmia\b", OWNER, text).replace(SPOOL, f"{self.home}{SPOOL}")
             self.session([line[4:] for line in text.splitlines()])
 

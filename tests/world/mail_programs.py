@@ -20,7 +20,7 @@ from functools import partial
 
 from tests.support.cases import LeftOut, run_cases
 from tests.support.checks import TOP, differ, equal, text_of
-from tests.support.homes import fresh_home, install, own_dovecot
+from tests.support.homes import OWNER, as_owner, fresh_home, hand_over, install, mail_in, own_dovecot
 
 PAGE = text_of(TOP / "docs/MIGRATE.md")
 PATH = f"{os.environ['PATH']}:/usr/sbin:/usr/lib/dovecot:/usr/bin/mh:/usr/libexec/opensmtpd"
@@ -30,15 +30,15 @@ BODY = b"hello\nFrom behind text.\n>From quoted once.\n>>From quoted twice.\n\nF
 LESS_ONE = BODY.replace(b"\n>From quoted once.", b"\nFrom quoted once.")
 HEADER = (b"From: alva@example.org\nTo: boris@example.com\nSubject: one\nDate: Mon, 3 Mar 2025 09:12:44 +0000\n"
           b"Message-ID: <1@example.org>\n")
-ONE = HEADER + b"\n" + BODY
+FIRST = HEADER + b"\n" + BODY
 # as it arrives from a program that gives lengths
 WITH_STATUS = HEADER + b"Status: O\n\n" + BODY.replace(b"\n>From", b"\n>>From").replace(b"\nFrom", b"\n>From")
 WITH_LENGTH = HEADER + b"Content-Length: %d\n\n" % len(BODY) + BODY
 # its last line has no end
-TWO = HEADER.replace(b"one", b"two").replace(b"<1@", b"<2@") + b"\nno end"
+SECOND = HEADER.replace(b"one", b"two").replace(b"<1@", b"<2@") + b"\nno end"
 
 
-class Failed(Exception):
+class NotDone(Exception):
     """A program did not do what it was to do."""
 
 
@@ -51,23 +51,16 @@ class Home:
             (folder / name).mkdir(parents=True)
         install(folder)
         own_dovecot(folder)
-        for path in [folder, *folder.rglob("*")]:
-            self.hand_over(path)
-        for number, message in enumerate((ONE, TWO), 1):
+        hand_over(folder)
+        for number, message in enumerate((FIRST, SECOND), 1):
             self.write(f"{number}", message)
             self.write(f"Maildir/cur/{number}.host:2,S", message)
-
-    @staticmethod
-    def hand_over(path):
-        """Gives a file to the user that the programs run as."""
-        if os.getuid() == 0:
-            shutil.chown(path, "nobody")
 
     def write(self, name, content):
         path = self.folder / name
         path.write_bytes(content.encode() if isinstance(content, str) else content)
         path.chmod(0o600)
-        self.hand_over(path)
+        hand_over(path)
 
     def run(self, *words, given=b"", **settings):
         """Runs a program for at most some seconds, and answers what it prints."""
@@ -76,7 +69,7 @@ class Home:
             feed.seek(0)
             return self.wait_for(words, settings, feed, subprocess.PIPE)
 
-    def run_for_each(self, *words, messages=(ONE, TWO), **settings):
+    def run_for_each(self, *words, messages=(FIRST, SECOND), **settings):
         """Runs a program for each message, which it is given."""
         for message in messages:
             self.run(*words, given=message, **settings)
@@ -86,7 +79,7 @@ class Home:
         try:
             leader, follower = pty.openpty()
         except OSError as reason:
-            raise Failed(f"there is no terminal: {reason}") from reason
+            raise NotDone(f"there is no terminal: {reason}") from reason
         try:
             return self.wait_for(words, {"TERM": "vt100"}, follower, follower, leader)
         finally:
@@ -94,14 +87,12 @@ class Home:
             os.close(follower)
 
     def wait_for(self, words, settings, feed, out, leader=None):
-        owner = ["runuser", "-u", "nobody", "--"] if os.getuid() == 0 else []
-        settings = {"HOME": self.folder, "PATH": f"{self.folder}:{PATH}", "USER": "nobody", "LOGNAME": "nobody", "LC_ALL": "C.UTF-8", **settings}
-        pairs = [f"{name}={value}" for name, value in settings.items()]
+        settings = {"HOME": self.folder, "PATH": f"{self.folder}:{PATH}", "USER": OWNER, "LOGNAME": OWNER, "LC_ALL": "C.UTF-8", **settings}
         try:
-            child = subprocess.Popen([*owner, "env", "-i", *pairs, *map(str, words)], cwd=self.folder, stdin=feed, stdout=out,
+            child = subprocess.Popen(as_owner(words, settings), cwd=self.folder, stdin=feed, stdout=out,
                                      stderr=subprocess.STDOUT, start_new_session=True)
         except OSError as reason:
-            raise Failed(f"{words[0]} cannot be run: {reason}") from reason
+            raise NotDone(f"{words[0]} cannot be run: {reason}") from reason
         ends = time.monotonic() + SECONDS
         try:
             while leader is not None and child.poll() is None and time.monotonic() < ends:
@@ -109,13 +100,13 @@ class Home:
                     os.read(leader, 1 << 16)
             printed = child.communicate(timeout=max(0.1, ends - time.monotonic()))[0] or b""
         except subprocess.TimeoutExpired as late:
-            raise Failed(f"{words[0]} did not end") from late
+            raise NotDone(f"{words[0]} did not end") from late
         finally:
             if child.poll() is None:
                 os.killpg(child.pid, signal.SIGKILL)
                 child.wait()
         if child.returncode:
-            raise Failed(f"{words[0]} ended with {child.returncode}: {printed.decode(errors='replace').strip()[-200:]}")
+            raise NotDone(f"{words[0]} ended with {child.returncode}: {printed.decode(errors='replace').strip()[-200:]}")
         return printed
 
 
@@ -152,8 +143,8 @@ def fdm(home):
     home.run_for_each("fdm", "-f", "conf", "-a", "in", "fetch")
 
 
-def formail(home, first=ONE):
-    home.write("box", home.run("formail", given=first) + home.run("formail", given=TWO))
+def formail(home, first=FIRST):
+    home.write("box", home.run("formail", given=first) + home.run("formail", given=SECOND))
 
 
 def formail_of_lengths(home):
@@ -236,10 +227,10 @@ def packf(home):
     home.run("packf", "+inbox", "all", "-mbox", "-file", "box")
 
 
-def procmail(home, first=ONE):
+def procmail(home, first=FIRST):
     # by -m it leaves the user's own mailbox alone
     home.write("rc", f":0\n{home.folder}/box\n")
-    home.run_for_each("procmail", "-m", "-f", "alva@example.org", "rc", messages=(first, TWO))
+    home.run_for_each("procmail", "-m", "-f", "alva@example.org", "rc", messages=(first, SECOND))
 
 
 def procmail_of_lengths(home):
@@ -252,7 +243,7 @@ def python(home):
 
 
 def reformail(home):
-    home.write("box", home.run("reformail", "-f1", given=ONE) + b"\n" + home.run("reformail", "-f1", given=TWO))
+    home.write("box", home.run("reformail", "-f1", given=FIRST) + b"\n" + home.run("reformail", "-f1", given=SECOND))
 
 
 def s_nail(home):
@@ -346,7 +337,7 @@ def bodies_of(home, kind):
     """The bodies of the mail that comes out of a mailbox by the commands that the companion says are next."""
     says, then = SAYS.match(home.run("sh", "-c", "mbox2maildir-admin kind box || true").decode()).groups()
     if says not in KINDS[kind][0]:
-        raise Failed(f"the companion says that it is {says}, not {' or '.join(KINDS[kind][0])}")
+        raise NotDone(f"the companion says that it is {says}, not {' or '.join(KINDS[kind][0])}")
     # nobody but the guide's reader knows that it is an mboxo
     then = "mbox2maildir-admin quote --mboxo box" if kind == "mboxo" else then
     mailbox = "box"
@@ -356,8 +347,7 @@ def bodies_of(home, kind):
     home.run("mbox2maildir", "convert", "Converted", mailbox)
     home.run("mbox2maildir-admin", "dates", "--header", "Converted", mailbox)
     home.run("mbox2maildir-admin", "verify", "Converted", mailbox)
-    files = [path.read_bytes() for sub in ("new", "cur") for path in (home.folder / "Converted" / sub).iterdir()]
-    return [mail.partition(b"\n\n")[2] for mail in files]
+    return [path.read_bytes().partition(b"\n\n")[2] for path in mail_in(home.folder / "Converted")]
 
 
 def wrong_lengths_taken(mailbox, home):
@@ -376,7 +366,7 @@ def mailbox_of(write, home):
     box = home.folder / "box"
     mailbox = box.read_bytes() if box.exists() else b""
     if b"hello" not in mailbox:
-        raise Failed("it wrote no message")
+        raise NotDone("it wrote no message")
     return mailbox
 
 
@@ -392,7 +382,7 @@ def faults_of(name, mailbox, kind, home):
         faults = [] if is_there else [f"{name}: the body is not what it was:\n{differ(bodies, KINDS[kind][1])}"]
         if kind == "mboxcl2":
             faults.extend(f"{name}: a first length plus {change} is taken" for change in wrong_lengths_taken(mailbox, home))
-    except Failed as reason:
+    except NotDone as reason:
         return [f"{name}: {reason}"]
     if b"Subject: two" in mailbox and b"no end" not in [body.rstrip(b"\n") for body in bodies]:
         faults.append(f"{name}: the body without an end is not what it was: {bodies}")
@@ -494,7 +484,7 @@ def work_of(name, work, keeps, home):
     """Has a program work on a converted Maildir, and answers what is wrong with its row."""
     home.run("rm", "-r", "Maildir")
     home.write("box", b"".join(b"From alva@example.org Mon Mar  3 09:12:4%d 2025\n" % number + message.rstrip(b"\n") + b"\n\n"
-                               for number, message in enumerate((WITH_STATUS, TWO))))
+                               for number, message in enumerate((WITH_STATUS, SECOND))))
     home.run("mbox2maildir", "convert", "Maildir", "box")
     work(home)
     said = home.run("mbox2maildir-admin", "verify", "Maildir", "box").decode()
@@ -514,7 +504,7 @@ def try_one(tool, task):
     with fresh_home() as folder:
         try:
             faults = task(Home(folder))
-        except Failed as reason:
+        except NotDone as reason:
             raise LeftOut(str(reason)) from reason
     assert not faults, "\n".join(["", *faults])
 

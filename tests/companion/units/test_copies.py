@@ -7,7 +7,8 @@ import unittest
 from pathlib import Path
 from unittest import mock
 
-from tests.support.units import A, B, folder, source_of
+from tests.support.mail import A, B
+from tests.support.units import folder, source_of
 from mbox2maildir_admin.kinds import copies
 from mbox2maildir_admin.kinds.copies import UNFINISHED, Copy
 from mbox2maildir_admin.faults import Fault, PlaceFault

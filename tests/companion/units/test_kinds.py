@@ -2,7 +2,8 @@
 import os
 import unittest
 
-from tests.support.units import A, B, source_of
+from tests.support.mail import A, B
+from tests.support.units import source_of
 from mbox2maildir_admin.kinds.quoting import Quoting
 from mbox2maildir_admin.kinds.verdict import look_at
 

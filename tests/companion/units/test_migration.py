@@ -7,7 +7,8 @@ from pathlib import Path
 from types import SimpleNamespace
 from unittest.mock import patch
 
-from tests.support.units import A, folder
+from tests.support.mail import A, ONE, TWO, body_of
+from tests.support.units import folder
 from mbox2maildir_admin.maildir.checking import Check
 from mbox2maildir_admin.maildir.dating import date_from
 from mbox2maildir_admin.users.children import LONGEST, Child, Teller, row_of
@@ -22,7 +23,7 @@ from mbox2maildir_admin.mbox.mailbox import Mailbox
 from mbox2maildir_admin.migration.outcomes import Fate, Row
 from mbox2maildir_admin.migration.record import BACK, BEGUN, CONVERTED, DONE, MOST, Record
 
-ONE, TWO = b"Subject: 1\n\none\n", b"Subject: 2\n\ntwo\n"
+FIRST, SECOND = body_of(ONE), body_of(TWO)
 
 
 class FolderTest(unittest.TestCase):
@@ -111,8 +112,8 @@ class PresenceTest(FolderTest):
             return Presence.look(self.here, Inventory.read(handle, 0))
 
     def test_equal_messages(self):
-        base = hashlib.sha256(ONE).hexdigest()
-        seen = self.look([ONE, TWO, ONE, ONE], {"new/" + base + ".2": ONE, "cur/17.host,U=1:2,S": ONE})
+        base = hashlib.sha256(FIRST).hexdigest()
+        seen = self.look([FIRST, SECOND, FIRST, FIRST], {"new/" + base + ".2": FIRST, "cur/17.host,U=1:2,S": FIRST})
         self.assertEqual((seen.count(), seen.nowhere(), seen.is_plain(0)), (2, 2, False))
         # a text with as many equal messages as leave one without a home: the second has one
         self.assertEqual(seen.wanted(0), [0, 1])
@@ -127,7 +128,7 @@ class PresenceTest(FolderTest):
             self.assertGreaterEqual(len(set(said)), len(bodies))
 
     def test_growth(self):
-        seen = self.look([ONE, TWO, ONE], {"new/" + hashlib.sha256(ONE).hexdigest() + ".1": ONE})
+        seen = self.look([FIRST, SECOND, FIRST], {"new/" + hashlib.sha256(FIRST).hexdigest() + ".1": FIRST})
         self.assertFalse(seen.is_plain(2))
         self.assertEqual(seen.wanted(2), [0, 2])
 
@@ -135,16 +136,15 @@ class PresenceTest(FolderTest):
 class CopyTest(FolderTest):
     def test_some(self):
         text, said = Path(os.fsdecode(self.here), "text"), []
-        first, second, third = (A.split(b"\n")[0] + b"\n" + body + b"\n" for body in (ONE, TWO, ONE))
-        text.write_bytes(first + second + third)
+        text.write_bytes(ONE + TWO + ONE)
         with Mailbox(os.fsencode(str(text)), os.open(str(text), os.O_RDONLY), None, lambda *says: said.append(says)) as handle:
             inventory = Inventory.read(handle, 0)
             said.clear()
             with copy_of_some(handle, inventory, [0, 2], self.here) as copy:
-                self.assertEqual(copy.at(0, 1000), first + third)
+                self.assertEqual(copy.at(0, 1000), ONE + ONE)
             # it says that it is at work, and how far in the mailbox
-            size = len(first + second + third)
-            self.assertEqual(said, [("copying", len(first), size), ("copying", size, size)])
+            size = len(ONE + TWO + ONE)
+            self.assertEqual(said, [("copying", len(ONE), size), ("copying", size, size)])
 
 
 class ChildTest(unittest.TestCase):

@@ -6,7 +6,8 @@ import unittest
 from pathlib import Path
 from unittest import mock
 
-from tests.support.units import A, B, folder, source_of
+from tests.support.mail import A, B
+from tests.support.units import folder, source_of
 from mbox2maildir_admin.mbox import parts
 from mbox2maildir_admin.faults import Fault
 from mbox2maildir_admin.mbox.messages import messages_of
@@ -30,7 +31,7 @@ class PartsTest(unittest.TestCase):
             with self.subTest(block=block):
                 found = self.parts(block)
                 self.assertEqual(b"".join(part.piece for part in found if part.what != MARK), self.TEXT)
-                self.assertEqual([(part.line, part.quotes) for part in found if part.what == MARK], [(1, 0), (4, 1), (5, 2), (7, 0)])
+                self.assertEqual([(part.line, part.quotes) for part in found if part.what == MARK], [(1, 0), (5, 1), (6, 2), (8, 0)])
 
     def test_offsets(self):
         for part in self.parts(5):
@@ -46,16 +47,16 @@ class MessagesTest(unittest.TestCase):
     def test_bodies(self):
         with source_of(A + b"\n>From x\n\n" + B + b"\nyes\n") as source:
             found = list(messages_of(source))
-        bodies = [b"Subject: one\n\nFrom x\n", b"Subject: two\n\nyes\n"]
+        bodies = [b"From: alva@example.org\nSubject: one\n\nFrom x\n", b"From: boris@example.com\nSubject: two\n\nyes\n"]
         self.assertEqual([message.digest.digest() for message in found], [hashlib.sha256(body).digest() for body in bodies])
         self.assertEqual([message.size for message in found], [len(body) for body in bodies])
-        self.assertEqual([message.line for message in found], [1, 6])
+        self.assertEqual([message.line for message in found], [1, 7])
         self.assertEqual(sum(message.read_size for message in found), source.size)
 
     def test_from_an_offset(self):
         with source_of(b"\n\n" + A + b"\n" + B) as source:
             self.assertEqual([(message.number, message.line, message.offset) for message in messages_of(source, 2, 3)],
-                             [(1, 3, 2), (2, 6, 3 + len(A))])
+                             [(1, 3, 2), (2, 7, 3 + len(A))])
 
     def test_no_from_line(self):
         with source_of(b"hello\n") as source, self.assertRaises(Fault):

@@ -3,7 +3,8 @@ import os
 import unittest
 from pathlib import Path
 
-from tests.support.units import A, folder
+from tests.support.mail import A
+from tests.support.units import folder
 from mbox2maildir_admin.kinds.copies import UNFINISHED
 from mbox2maildir_admin.migration.outcomes import Fate
 from mbox2maildir_admin.migration.trees import Tree, folder_of
