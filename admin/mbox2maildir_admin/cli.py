@@ -1,17 +1,13 @@
 """The words of the command line."""
 import argparse
-import signal
 import sys
 
 from . import ADMIN
 from .commands import do_dates, do_kind, do_quote, do_verify
 from .faults import Fault, OutputFault
 from .migrate import do_migrate
+from .signals import INTERRUPTS, end_in_order
 from .terminal import complain, drop, flush, open_streams, reason_of
-
-# the signals that end a program, but for the ones that no program sees, and those of faults of its own
-ENDING = ("SIGHUP", "SIGINT", "SIGQUIT", "SIGTERM", "SIGALRM", "SIGVTALRM", "SIGPROF", "SIGUSR1", "SIGUSR2", "SIGXCPU",
-          "SIGPWR", "SIGPOLL", "SIGSTKFLT")
 
 
 def parser():
@@ -106,14 +102,6 @@ def add_migrate(words):
     one.add_argument("names", metavar="MAILBOX|NAME", nargs="*")
 
 
-def end_in_order():
-    """By a signal what is open goes away as by Ctrl-C, unless whoever started this ignores it."""
-    for name in ENDING:
-        number = getattr(signal, name, None)
-        if number is not None and signal.getsignal(number) != signal.SIG_IGN:
-            signal.signal(number, signal.default_int_handler)
-
-
 def run():
     """Does what the words say, and answers the status."""
     try:
@@ -138,6 +126,7 @@ def main():
     open_streams()
     end_in_order()
     try:
-        return run()
+        with INTERRUPTS.let_through():
+            return run()
     except KeyboardInterrupt:
         return 130

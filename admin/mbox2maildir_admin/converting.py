@@ -4,6 +4,7 @@ import select
 import subprocess
 
 from .outcome import Failed
+from .signals import INTERRUPTS, running, status_of
 
 # how often it is said how far a conversion is, in milliseconds
 BEAT = 300
@@ -22,16 +23,9 @@ class Program:
         The program inherits the locks of the mailbox and of the record."""
         os.lseek(source.number, start, os.SEEK_SET)
         # in its own folder a Maildir has a name that is UTF-8
-        child = subprocess.Popen([self.path, b"convert", b"."], cwd=folder, pass_fds=[record.number],
-                                 stdin=source.number, stdout=subprocess.DEVNULL, stderr=subprocess.PIPE)
-        try:
+        with running([self.path, b"convert", b"."], cwd=folder, pass_fds=[record.number], stdin=source.number,
+                     stdout=subprocess.DEVNULL, stderr=subprocess.PIPE) as child, INTERRUPTS.let_through():
             said = self.wait_for(child, source)
-        except BaseException:
-            child.terminate()
-            raise
-        finally:
-            child.wait()
-            child.stderr.close()
         if child.returncode:
             raise Failed(said or "convert was ended by signal %d" % -child.returncode)
         return os.lseek(source.number, 0, os.SEEK_CUR)
@@ -50,6 +44,7 @@ class Program:
             if ready:
                 piece = os.read(child.stderr.fileno(), MOST_SAID)
                 if not piece:
+                    status_of(child)
                     return said.decode("utf-8", "replace").strip()
                 said = (said + piece)[:MOST_SAID]
             place = os.lseek(source.number, 0, os.SEEK_CUR)

@@ -17,6 +17,7 @@ from .plans import NoMail, is_no_mail, plan_by_hand, plan_of
 from .presence import Presence, names_of
 from .record import BACK, BEGUN, CONVERTED, FAILED, LAST
 from .room import make_maildir, want_room, what_fails
+from .signals import INTERRUPTS
 from .terminal import shown, word
 from .unnamed import copy_of_some, quoted_copy, quoted_size
 from .verifying import NOWHERE, Listing, is_own
@@ -169,7 +170,7 @@ class Migration:
         else:
             work.start = work.plan.start
         work.start = self.extra.start_of(work.source, work.start)
-        with Listing.open(work.source, work.start, self.program.path) as listing:
+        with Listing.open(work.source, work.start, self.program.path) as listing, INTERRUPTS.let_through():
             work.inventory = Inventory.read(work.source, work.start, listing)
         if work.done_size:
             self.find_first(work)

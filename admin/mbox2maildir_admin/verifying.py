@@ -12,6 +12,7 @@ from .faults import Fault, PlaceFault
 from .kinds import Lines
 from .maildir import BASE, Table, digest_of, listings_of, paths_of
 from .messages import messages_of
+from .signals import INTERRUPTS, running, status_of
 from .source import BLOCK
 
 
@@ -33,15 +34,12 @@ class Listing:
     @classmethod
     @contextlib.contextmanager
     def open(cls, source, start=0, program=None):
-        """The list of a text that begins at an offset. The place of the source's own handle is moved."""
+        """The list of a text that begins at an offset, in which signals are held. The place of the source's own handle
+        is moved."""
         os.lseek(source.number, start, os.SEEK_SET)
-        child = subprocess.Popen([program or find_program(), "list"], stdin=source.number, stdout=subprocess.PIPE,
-                                 stderr=subprocess.DEVNULL, bufsize=BLOCK)
-        try:
+        with running([program or find_program(), "list"], stdin=source.number, stdout=subprocess.PIPE,
+                     stderr=subprocess.DEVNULL, bufsize=BLOCK) as child:
             yield cls(child)
-        finally:
-            child.kill()
-            child.communicate()
 
     def compare(self, message, base):
         """Whether the next line is that of a message."""
@@ -55,7 +53,7 @@ class Listing:
 
     def end(self):
         """Whether no line follows."""
-        if self.child.stdout.read() or self.child.wait():
+        if self.child.stdout.read() or status_of(self.child):
             raise Fault("`%s list` has more messages, or failed" % PROGRAM)
 
 
@@ -79,7 +77,7 @@ class Verified:
     def read(self, start=0, line=1):
         """Reads the text, and compares it with what the program lists."""
         held = 0
-        with Listing.open(self.source, start) as listing:
+        with Listing.open(self.source, start) as listing, INTERRUPTS.let_through():
             try:
                 for message in messages_of(self.source, start, line):
                     listing.compare(message, self.table.add(message.hash.digest()))
