@@ -1,5 +1,4 @@
 """The command line."""
-import signal
 import sys
 
 from . import ADMIN
@@ -10,24 +9,8 @@ from .commands.quote import add_quote
 from .commands.verify import add_verify
 from .commands.words import Words, WrongWords
 from .faults import Fault, OutputFault
+from .signals import INTERRUPTS, end_in_order
 from .terminal import complain, drop, flush, open_streams, reason_of
-
-# the signals that end a program, but for the ones that no program sees, and those of faults of its own
-ENDING = (
-    "SIGHUP",
-    "SIGINT",
-    "SIGQUIT",
-    "SIGTERM",
-    "SIGALRM",
-    "SIGVTALRM",
-    "SIGPROF",
-    "SIGUSR1",
-    "SIGUSR2",
-    "SIGXCPU",
-    "SIGPWR",
-    "SIGPOLL",
-    "SIGSTKFLT",
-)
 
 
 def words() -> Words:
@@ -41,14 +24,6 @@ def words() -> Words:
     for add in (add_kind, add_quote, add_dates, add_migrate, add_verify):
         add(all_words)
     return all_words
-
-
-def end_in_order() -> None:
-    """By a signal what is open goes away as by Ctrl-C, unless whoever started this ignores it."""
-    for name in ENDING:
-        number = getattr(signal, name, None)
-        if number is not None and signal.getsignal(number) != signal.SIG_IGN:
-            signal.signal(number, signal.default_int_handler)
 
 
 def run() -> int:
@@ -78,6 +53,7 @@ def main() -> int:
     open_streams()
     end_in_order()
     try:
-        return run()
+        with INTERRUPTS.let_through():
+            return run()
     except KeyboardInterrupt:
         return 130

@@ -6,6 +6,7 @@ from ..kinds.texts import Text, open_text
 from ..maildir.checking import Check, State
 from ..mbox.inventory import Inventory
 from ..program import Listing, find_program
+from ..signals import INTERRUPTS
 from ..terminal import put, put_some, shown
 from .files import each, for_mailboxes
 from .words import Words
@@ -47,7 +48,7 @@ def verify_file(maildir: bytes, file: bytes) -> bool:
 
 def inventory_of(text: Text) -> Inventory:
     """The messages of a text, which `mbox2maildir list` must have as they are read."""
-    with Listing.open(text.mailbox.number, text.start, find_program()) as listing:
+    with Listing.open(text.mailbox.number, text.start, find_program()) as listing, INTERRUPTS.let_through():
         return Inventory.read(text.mailbox, text.start, listing)
 
 

@@ -6,13 +6,13 @@ import signal
 import time
 
 from ..migration.outcomes import Fate, Row
+from ..signals import ENDING, INTERRUPTS, blocked
 from ..terminal import shown
 
 # how long a line of a child may be, how long it may say nothing, in seconds, and how long it is listened to at a time,
 # in milliseconds
 LONGEST, SILENCE, TURN, SOON = 1 << 16, 900, 200, 5
 PATH = "/usr/local/sbin:/usr/local/bin:/usr/sbin:/usr/bin:/sbin:/bin"
-SIGNALS = signal.SIGINT, signal.SIGTERM, signal.SIGHUP
 # of waitid; the module os has the name since Python 3.9
 STOPPED = getattr(os, "CLD_STOPPED", 5)
 BROKEN_OFF = 130
@@ -47,30 +47,29 @@ class Teller:
         self.tell("row", path, shown(row.folder), row.kind, row.messages, row.fate.value, why)
 
 
-def start(account, task):
-    """Starts a task with the rights of an account; answers the process, and its pipes: one that it tells by, one that
-    it lives by."""
+def start(account, task, mask):
+    """Starts a task with the rights of an account, which gets this mask of signals; until that is known here, all are
+    blocked. Answers the process, and its pipes: one that it tells by, one that it lives by."""
     tells, told = os.pipe()
     alive, life = os.pipe()
-    signal.pthread_sigmask(signal.SIG_BLOCK, SIGNALS)
     pid = os.fork()
     if not pid:
-        status = 1
+        status, INTERRUPTS.is_held = 1, True
         try:
-            become(account, (told, alive))
-            status = task(Teller(told), alive)
+            become(account, (told, alive), mask)
+            with INTERRUPTS.let_through():
+                status = task(Teller(told), alive)
         except KeyboardInterrupt:
             status = BROKEN_OFF
         finally:
             os._exit(status)
-    signal.pthread_sigmask(signal.SIG_UNBLOCK, SIGNALS)
     os.close(told)
     os.close(alive)
     return pid, tells, life
 
 
-def become(account, kept):
-    """Gives a process the rights of a user, and nothing else of root's but some descriptors."""
+def become(account, kept, mask):
+    """Gives a process the rights of a user, and nothing else of root's but some descriptors and a mask of signals."""
     os.setsid()
     os.chdir("/")
     os.umask(0o077)
@@ -90,9 +89,9 @@ def become(account, kept):
     zone = {"TZ": os.environ["TZ"]} if "TZ" in os.environ else {}
     os.environ.clear()
     os.environ.update(PATH=PATH, HOME=account.pw_dir, USER=account.pw_name, LOGNAME=account.pw_name, **zone)
-    for number in SIGNALS:
-        signal.signal(number, signal.default_int_handler)
-    signal.pthread_sigmask(signal.SIG_UNBLOCK, SIGNALS)
+    for number in ENDING:
+        signal.signal(number, INTERRUPTS.take)
+    signal.pthread_sigmask(signal.SIG_SETMASK, mask)
 
 
 class Child:
@@ -200,7 +199,7 @@ class Crew:
         self.asked, self.is_asked = [], False
 
     def __enter__(self):
-        for number in SIGNALS:
+        for number in ENDING:
             if signal.getsignal(number) != signal.SIG_IGN:
                 signal.signal(number, self.take)
         return self
@@ -228,9 +227,10 @@ class Crew:
             self.turn()
         if self.is_asked:
             return
-        child = Child(name, *start(account, task))
-        self.children[child.tells] = child
-        self.poll.register(child.tells, select.POLLIN)
+        with blocked() as mask:
+            child = Child(name, *start(account, task, mask))
+            self.children[child.tells] = child
+            self.poll.register(child.tells, select.POLLIN)
 
     def turn(self):
         """Listens to the children for a while, and looks after them."""
