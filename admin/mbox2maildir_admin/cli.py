@@ -2,39 +2,35 @@
 import sys
 
 from . import ADMIN
+from .commands.command_line import CommandLine
 from .commands.dates import add_dates
 from .commands.kind import add_kind
 from .commands.migrate import add_migrate
 from .commands.quote import add_quote
 from .commands.verify import add_verify
-from .commands.words import Words, WrongWords
 from .faults import Fault, OutputFault
 from .signals import INTERRUPTS, end_in_order
 from .terminal import complain, drop, flush, open_streams, reason_of
 
 
-def words() -> Words:
-    """The words of the command line."""
-    all_words = Words(
+def command_line() -> CommandLine:
+    """The command line, with each command."""
+    line = CommandLine(
         ADMIN,
         "Looks at mailboxes before mbox2maildir converts them, and at the Maildir afterwards.",
         "`%s WORD --help` describes a word. Status: 0 where all is well, 1 where something was found or left "
         "undone, 2 for wrong words." % ADMIN,
     )
     for add in (add_kind, add_quote, add_dates, add_migrate, add_verify):
-        add(all_words)
-    return all_words
+        add(line)
+    return line
 
 
 def run() -> int:
-    """Does what the words say, and answers the status."""
+    """Does what the command line says, and answers the status."""
     try:
         try:
-            given = words().parser.parse_args()
-            try:
-                return 0 if given.task(given) else 1
-            except WrongWords as wrong:
-                given.error(str(wrong))
+            return 0 if command_line().run() else 1
         finally:
             flush()
     except OutputFault as fault:

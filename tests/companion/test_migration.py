@@ -10,7 +10,8 @@ from unittest.mock import patch
 from context import A, folder
 from mbox2maildir_admin.maildir.checking import Check
 from mbox2maildir_admin.maildir.dating import date_from
-from mbox2maildir_admin.users.children import LONGEST, Child, Teller, row_of
+from mbox2maildir_admin.users.children import Child
+from mbox2maildir_admin.users.telling import LONGEST, Teller, row_of
 from mbox2maildir_admin.faults import Fault, Left
 from mbox2maildir_admin.kinds.unnamed import copy_of_some
 from mbox2maildir_admin.maildir.making import RECORD
