@@ -1,65 +1,36 @@
 """The command line."""
-import signal
 import sys
 
 from . import ADMIN
+from .commands.command_line import CommandLine
 from .commands.dates import add_dates
 from .commands.kind import add_kind
 from .commands.migrate import add_migrate
 from .commands.quote import add_quote
 from .commands.verify import add_verify
-from .commands.words import Words, WrongWords
 from .faults import Fault, OutputFault
+from .signals import INTERRUPTS, end_in_order
 from .terminal import complain, drop, flush, open_streams, reason_of
 
-# the signals that end a program, but for the ones that no program sees, and those of faults of its own
-ENDING = (
-    "SIGHUP",
-    "SIGINT",
-    "SIGQUIT",
-    "SIGTERM",
-    "SIGALRM",
-    "SIGVTALRM",
-    "SIGPROF",
-    "SIGUSR1",
-    "SIGUSR2",
-    "SIGXCPU",
-    "SIGPWR",
-    "SIGPOLL",
-    "SIGSTKFLT",
-)
 
-
-def words() -> Words:
-    """The words of the command line."""
-    all_words = Words(
+def command_line() -> CommandLine:
+    """The command line, with each command."""
+    line = CommandLine(
         ADMIN,
         "Looks at mailboxes before mbox2maildir converts them, and at the Maildir afterwards.",
         "`%s WORD --help` describes a word. Status: 0 where all is well, 1 where something was found or left "
         "undone, 2 for wrong words." % ADMIN,
     )
     for add in (add_kind, add_quote, add_dates, add_migrate, add_verify):
-        add(all_words)
-    return all_words
-
-
-def end_in_order() -> None:
-    """By a signal what is open goes away as by Ctrl-C, unless whoever started this ignores it."""
-    for name in ENDING:
-        number = getattr(signal, name, None)
-        if number is not None and signal.getsignal(number) != signal.SIG_IGN:
-            signal.signal(number, signal.default_int_handler)
+        add(line)
+    return line
 
 
 def run() -> int:
-    """Does what the words say, and answers the status."""
+    """Does what the command line says, and answers the status."""
     try:
         try:
-            given = words().parser.parse_args()
-            try:
-                return 0 if given.task(given) else 1
-            except WrongWords as wrong:
-                given.error(str(wrong))
+            return 0 if command_line().run() else 1
         finally:
             flush()
     except OutputFault as fault:
@@ -78,6 +49,7 @@ def main() -> int:
     open_streams()
     end_in_order()
     try:
-        return run()
+        with INTERRUPTS.let_through():
+            return run()
     except KeyboardInterrupt:
         return 130

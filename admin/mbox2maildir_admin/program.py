@@ -6,10 +6,11 @@ import select
 import shutil
 import subprocess
 import sys
-from typing import IO, Callable, Iterator, Optional
+from typing import Callable, Iterator, Optional
 
 from . import PROGRAM
 from .faults import Fault, Left, PlaceFault
+from .signals import INTERRUPTS, running, status_of
 from .units import Line, Offset
 
 # how often it is said how far a conversion is, in milliseconds
@@ -44,31 +45,24 @@ class Program:
         kept open for it."""
         os.lseek(number, start, os.SEEK_SET)
         # in its own folder a Maildir has a name that is UTF-8
-        child = subprocess.Popen(
+        with running(
             [self.path, b"convert", b"."],
             cwd=folder,
             pass_fds=[kept],
             stdin=number,
             stdout=subprocess.DEVNULL,
             stderr=subprocess.PIPE,
-        )
-        assert child.stderr is not None, "it is a pipe"
-        try:
-            said = self.wait_for(child.stderr, number, tell)
-        except BaseException:
-            child.terminate()
-            raise
-        finally:
-            child.wait()
-            child.stderr.close()
+        ) as child, INTERRUPTS.let_through():
+            said = self.wait_for(child, number, tell)
         if child.returncode:
             raise Failed(said or "convert was ended by signal %d" % -child.returncode)
         return Offset(os.lseek(number, 0, os.SEEK_CUR))
 
-    def wait_for(self, errors: IO[bytes], number: int, tell: Callable[[Offset], None]) -> str:
+    def wait_for(self, child: "subprocess.Popen[bytes]", number: int, tell: Callable[[Offset], None]) -> str:
         """Waits for the end of the program, and answers what it said. One that was stopped is silent."""
+        assert child.stderr is not None, "it is a pipe"
         said, last, poll = b"", None, select.poll()
-        poll.register(errors, select.POLLIN)
+        poll.register(child.stderr, select.POLLIN)
         if self.alive is not None:
             poll.register(self.alive, select.POLLIN)
         while True:
@@ -76,8 +70,9 @@ class Program:
             if self.alive in ready:
                 raise KeyboardInterrupt
             if ready:
-                piece = os.read(errors.fileno(), MOST_SAID)
+                piece = os.read(child.stderr.fileno(), MOST_SAID)
                 if not piece:
+                    status_of(child)
                     return said.decode("utf-8", "replace").strip()
                 said = (said + piece)[:MOST_SAID]
             place = Offset(os.lseek(number, 0, os.SEEK_CUR))
@@ -96,16 +91,12 @@ class Listing:
     @classmethod
     @contextlib.contextmanager
     def open(cls, number: int, start: Offset, program: bytes) -> Iterator["Listing"]:
-        """The list of an open text that begins at an offset, which is moved."""
+        """The list of an open text that begins at an offset, which is moved. Signals are held meanwhile."""
         os.lseek(number, start, os.SEEK_SET)
-        child = subprocess.Popen(
-            [program, "list"], stdin=number, stdout=subprocess.PIPE, stderr=subprocess.DEVNULL, bufsize=BUFFER
-        )
-        try:
+        with running(
+            [program, b"list"], stdin=number, stdout=subprocess.PIPE, stderr=subprocess.DEVNULL, bufsize=BUFFER
+        ) as child:
             yield cls(child)
-        finally:
-            child.kill()
-            child.communicate()
 
     def compare(self, number: int, line: Line, base: bytes, size: int) -> None:
         """Whether the next line is that of a message: its number, its base and its size, and where it begins."""
@@ -118,5 +109,5 @@ class Listing:
 
     def end(self) -> None:
         """Whether no line follows."""
-        if self.rows.read() or self.child.wait():
+        if self.rows.read() or status_of(self.child):
             raise Fault("`%s list` has more messages, or failed" % PROGRAM)

@@ -519,7 +519,8 @@ def broken_off(home):
     """By a signal all ends, with the sum so far; a further run goes on. An output that fails is told."""
     mailbox(home / "box", ONE)
     mailbox(home / "two", TWO)
-    fake(home, f"test -e '{home}/begun' && {{ touch '{home}/at-work'; exec sleep 60; }}; touch '{home}/begun'; exec '{home}/real' \"$@\"")
+    # the shell itself makes these files: a program for that would have the record's lock too
+    fake(home, f"test -e '{home}/begun' && {{ : >'{home}/at-work'; exec sleep 600; }}; : >'{home}/begun'; exec '{home}/real' \"$@\"")
     for number in (signal.SIGTERM, signal.SIGINT, signal.SIGHUP):
         child = subprocess.Popen([ADMIN, "migrate", "M", "box", "two"], cwd=home, stdout=subprocess.PIPE, stderr=subprocess.PIPE,
                                  env={**os.environ, "PATH": f"{home}/bin:{os.environ['PATH']}"}, start_new_session=True)

@@ -1,1 +1,1 @@
-"""The words of the command line."""
+"""The commands of the command line: each with its options, and what it prints."""

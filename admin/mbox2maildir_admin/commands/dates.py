@@ -1,4 +1,4 @@
-"""The word `dates`: converted files get the dates of their From_ lines."""
+"""The command `dates`: converted files get the dates of their From_ lines."""
 import argparse
 import os
 
@@ -6,16 +6,16 @@ from ..kinds.texts import open_text
 from ..maildir.dating import Dating
 from ..mbox.inventory import Inventory
 from ..terminal import complain, put, shown
+from .command_line import CommandLine
 from .files import each, for_mailboxes
-from .words import Words
 
 # how many messages without a date are named
 UNDATED = 10
 
 
-def add_dates(words: Words) -> None:
-    """Adds the word `dates`."""
-    one = words.add(
+def add_dates(command_line: CommandLine) -> None:
+    """Adds the command `dates`."""
+    command = command_line.add(
         "dates",
         do_dates,
         "give converted files the dates of their From_ lines",
@@ -25,22 +25,18 @@ def add_dates(words: Words) -> None:
         "MAILDIR",
         "FILE",
     )
-    one.add_argument(
+    command.add_argument(
         "--header",
         action="store_true",
         help="take the date of the header Date where the From_ line has none, and where all have the same",
     )
 
 
-# how many messages without a date are named
-UNDATED = 10
-
-
-def do_dates(words: argparse.Namespace) -> bool:
+def do_dates(given: argparse.Namespace) -> bool:
     """Gives converted files their dates."""
-    maildir, by_header = os.fsencode(words.maildir), bool(words.header)
+    maildir, by_header = os.fsencode(given.maildir), bool(given.header)
     return each(
-        map(os.fsencode, words.files),
+        map(os.fsencode, given.files),
         lambda path: for_mailboxes(maildir, path, lambda folder, file: date_file(folder, file, by_header)),
     )
 
@@ -52,10 +48,10 @@ def date_file(maildir: bytes, file: bytes, by_header: bool) -> bool:
         dating = Dating.give(maildir, text.mailbox, inventory, by_header)
         if dating.one_date is not None:
             complain("%s: all From_ lines have one date: %s" % (shown(file), shown(dating.one_date.rstrip())))
-        for count, line in enumerate(dating.undone(maildir)):
+        for count, undone in enumerate(dating.undone(maildir)):
             if count == UNDATED:
                 complain("%s: and %d more" % (shown(file), dating.messages - dating.dated - UNDATED))
                 break
-            complain("%s: %s" % (shown(file), line))
+            complain("%s: %s" % (shown(file), undone))
     put("%s: messages %d, dated %d" % (shown(file), dating.messages, dating.dated))
     return dating.dated == dating.messages

@@ -1,4 +1,4 @@
-"""The files that words name, and the mailboxes below folders."""
+"""The files that the command line names, and the mailboxes below folders."""
 import os
 from typing import Callable, Iterable, List, Tuple
 
@@ -33,7 +33,7 @@ def read_tree(path: bytes) -> Tuple[Tree, List[Planned]]:
     return tree, plan
 
 
-def leave_out(tree: Tree) -> bool:
+def say_left_out(tree: Tree) -> bool:
     """Says what was left out of a tree, and answers whether no mail was."""
     for row in tree.rows:
         complain("left out, %s: %s" % (row.why, shown(row.path)))
@@ -50,7 +50,7 @@ def for_mailboxes(maildir: bytes, path: bytes, task: Callable[[bytes, bytes], bo
         return lambda file: not has_mail(tree, file) or task(planned.folder_in(maildir), file)
 
     right = [each([planned.path], task_of(planned)) for planned in plan]
-    return leave_out(tree) and all(right)
+    return say_left_out(tree) and all(right)
 
 
 def has_mail(tree: Tree, path: bytes) -> bool:

@@ -1,4 +1,4 @@
-"""The word `kind`: what a file is, and what to do first."""
+"""The command `kind`: what a file is, and what to do first."""
 import argparse
 import grp
 import os
@@ -13,13 +13,13 @@ from ..mbox.mailbox import Mailbox
 from ..migration.outcomes import Fate
 from ..migration.trees import Tree
 from ..terminal import is_text, put, shown, word
-from .files import each, leave_out, read_tree
-from .words import Words
+from .command_line import CommandLine
+from .files import each, read_tree, say_left_out
 
 
-def add_kind(words: Words) -> None:
-    """Adds the word `kind`."""
-    words.add(
+def add_kind(command_line: CommandLine) -> None:
+    """Adds the command `kind`."""
+    command_line.add(
         "kind",
         do_kind,
         "say what files are, and what to do first",
@@ -30,9 +30,9 @@ def add_kind(words: Words) -> None:
     )
 
 
-def do_kind(words: argparse.Namespace) -> bool:
+def do_kind(given: argparse.Namespace) -> bool:
     """Says what files are."""
-    return each(map(os.fsencode, words.files), kind_below)
+    return each(map(os.fsencode, given.files), kind_below)
 
 
 def kind_below(path: bytes) -> bool:
@@ -44,7 +44,7 @@ def kind_below(path: bytes) -> bool:
         return False
     tree, plan = read_tree(path)
     right = each([one.path for one in plan], lambda file: kind_in(tree, file))
-    return leave_out(tree) and right
+    return say_left_out(tree) and right
 
 
 def kind_in(tree: Tree, path: bytes) -> bool:
@@ -68,12 +68,18 @@ def say_kind(path: bytes, verdict: Verdict) -> bool:
     beside = may_write_beside(path)
     output, copy = ("", "{}" + COPY.decode()) if beside else (" -o COPY", "COPY")
     then = verdict.next.replace("{output}", output).replace("{copy}", copy)
-    count = "" if verdict.messages is None else ", messages %d" % verdict.messages
-    count += " to %d" % verdict.most if verdict.messages != verdict.most else ""
-    put("%s: %s%s; next: %s" % (shown(path), verdict.kind, count, then.replace("{}", name)))
+    put("%s: %s%s; next: %s" % (shown(path), verdict.kind, count_of(verdict), then.replace("{}", name)))
     for line in verdict.remarks:
         put("    " + line)
     return verdict.status == 0
+
+
+def count_of(verdict: Verdict) -> str:
+    """What is said of how many messages a file has, or may have."""
+    if verdict.messages is None:
+        return ""
+    count = ", messages %d" % verdict.messages
+    return count if verdict.most is None or verdict.most == verdict.messages else "%s to %d" % (count, verdict.most)
 
 
 def may_write_beside(path: bytes) -> bool:
@@ -82,12 +88,13 @@ def may_write_beside(path: bytes) -> bool:
     if os.geteuid() != 0:
         return os.access(folder, os.W_OK | os.X_OK)
     state, owner = os.stat(folder), os.stat(path).st_uid
-    bits = stat.S_IWOTH
+    if owner == 0:
+        return True
     if owner == state.st_uid:
-        bits = stat.S_IWUSR
-    elif owner in members_of(state.st_gid):
-        bits = stat.S_IWGRP
-    return owner == 0 or bool(state.st_mode & bits)
+        return bool(state.st_mode & stat.S_IWUSR)
+    if owner in members_of(state.st_gid):
+        return bool(state.st_mode & stat.S_IWGRP)
+    return bool(state.st_mode & stat.S_IWOTH)
 
 
 def members_of(group: int) -> Set[int]:

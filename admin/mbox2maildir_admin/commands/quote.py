@@ -1,4 +1,4 @@
-"""The word `quote`: a quoted copy of a mailbox."""
+"""The command `quote`: a quoted copy of a mailbox."""
 import argparse
 import os
 from typing import Optional
@@ -8,13 +8,13 @@ from ..kinds.quoting import Quoting, print_quoted, quote
 from ..mbox.mailbox import Mailbox
 from ..terminal import put, shown, write
 from ..units import Line
+from .command_line import CommandLine, WrongOptions
 from .files import each
-from .words import Words, WrongWords
 
 
-def add_quote(words: Words) -> None:
-    """Adds the word `quote`."""
-    one = words.add(
+def add_quote(command_line: CommandLine) -> None:
+    """Adds the command `quote`."""
+    command = command_line.add(
         "quote",
         do_quote,
         "write a quoted copy of a mailbox",
@@ -22,7 +22,7 @@ def add_quote(words: Words) -> None:
         "by its Content-Length, which is left out, where no option says otherwise. The copy is FILE.mboxrd, "
         "whole or not there at all. It begins with the first From_ line.",
     )
-    how = one.add_mutually_exclusive_group()
+    how = command.add_mutually_exclusive_group()
     how.add_argument(
         "--lengths",
         action="store_true",
@@ -30,51 +30,58 @@ def add_quote(words: Words) -> None:
     )
     how.add_argument(
         "--no-lengths",
-        action="store_true",
+        dest="by",
+        action="store_const",
+        const="dates",
         help="quote lines `From ` that do not end in a weekday, a date and a time (s-nail, mail.local)",
     )
-    how.add_argument("--mboxo", action="store_true", help="quote lines `>>From ` alone, and with more `>`")
-    how.add_argument("--mboxrd", action="store_true", help="quote nothing")
+    how.add_argument(
+        "--mboxo",
+        dest="by",
+        action="store_const",
+        const="mboxo",
+        help="quote lines `>>From ` alone, and with more `>`",
+    )
+    how.add_argument("--mboxrd", dest="by", action="store_const", const="mboxrd", help="quote nothing")
     how.add_argument("--line", metavar="N", type=int, action="append", help="quote line N alone; it may be given again")
-    one.add_argument(
+    command.set_defaults(by="lengths")
+    command.add_argument(
         "--all",
         action="store_true",
-        help="with --no-lengths: quote `>From ` too, of programs that quote nothing (git, mailutils, " "mairix)",
+        help="with --no-lengths: quote `>From ` too, of programs that quote nothing (git, mailutils, mairix)",
     )
-    ends = one.add_mutually_exclusive_group()
+    ends = command.add_mutually_exclusive_group()
     ends.add_argument("--crlf", action="store_true", help="write CR LF as LF")
     ends.add_argument("--cr", action="store_true", help="write CR, and CR LF, as LF; by lengths that can't be")
-    one.add_argument("-o", "--output", metavar="COPY", help="the name of the copy; - is standard output")
-    one.add_argument("file", metavar="FILE")
+    command.add_argument("-o", "--output", metavar="COPY", help="the name of the copy; - is standard output")
+    command.add_argument("file", metavar="FILE")
 
 
-def do_quote(words: argparse.Namespace) -> bool:
+def do_quote(given: argparse.Namespace) -> bool:
     """Writes a quoted copy."""
-    how = quoting_of(words)
-    return each([os.fsencode(words.file)], lambda file: quote_file(how, file, words.output))
+    lines = frozenset(map(Line, given.line or ()))
+    by = "lines" if lines else given.by
+    quoting = Quoting(by, given.lengths, given.all, lines, given.crlf, given.cr)
+    output = os.fsencode(given.output) if given.output else None
+    want_together(quoting)
+    return each([os.fsencode(given.file)], lambda file: quote_file(quoting, file, output))
 
 
-def quoting_of(words: argparse.Namespace) -> Quoting:
-    """How the words want a copy quoted."""
-    by = "lengths"
-    for option, name in (("mboxrd", "mboxrd"), ("mboxo", "mboxo"), ("line", "lines"), ("no_lengths", "dates")):
-        if getattr(words, option):
-            by = name
-    if words.all and not words.no_lengths:
-        raise WrongWords("--all goes with --no-lengths")
-    if words.cr and by == "lengths":
-        raise WrongWords("--cr goes with an option that says what is quoted, as --mboxrd")
-    lines = frozenset(map(Line, words.line or ()))
-    return Quoting(by, words.lengths, words.all, lines, words.crlf, words.cr)
+def want_together(quoting: Quoting) -> None:
+    """Refuses options of a copy that do not go together."""
+    if quoting.everything and quoting.by != "dates":
+        raise WrongOptions("--all goes with --no-lengths")
+    if quoting.cr and quoting.by == "lengths":
+        raise WrongOptions("--cr goes with an option that says what is quoted, as --mboxrd")
 
 
-def quote_file(how: Quoting, file: bytes, output: Optional[str]) -> bool:
-    """Writes a quoted copy of a file, and says what it has."""
+def quote_file(quoting: Quoting, file: bytes, output: Optional[bytes] = None) -> bool:
+    """Writes a quoted copy of a file, beside it where no other place is named, and says what it has."""
     with Mailbox.open(file) as mailbox:
-        if output == "-":
-            print_quoted(how, mailbox, write)
+        if output == b"-":
+            print_quoted(quoting, mailbox, write)
             return True
-        with Copy.open(os.fsencode(output) if output else file + COPY) as copy:
-            quoter = quote(how, mailbox, copy)
+        with Copy.open(output or file + COPY) as copy:
+            quoter = quote(quoting, mailbox, copy)
     put("%s: messages %d, lines quoted %d" % (shown(copy.path), quoter.messages, quoter.quoted))
     return True

@@ -1,4 +1,4 @@
-"""The word `verify`: whether each message is in the Maildir."""
+"""The command `verify`: whether each message is in the Maildir."""
 import argparse
 import os
 
@@ -6,14 +6,15 @@ from ..kinds.texts import Text, open_text
 from ..maildir.checking import Check, State
 from ..mbox.inventory import Inventory
 from ..program import Listing, find_program
+from ..signals import INTERRUPTS
 from ..terminal import put, put_some, shown
+from .command_line import CommandLine
 from .files import each, for_mailboxes
-from .words import Words
 
 
-def add_verify(words: Words) -> None:
-    """Adds the word `verify`."""
-    words.add(
+def add_verify(command_line: CommandLine) -> None:
+    """Adds the command `verify`."""
+    command_line.add(
         "verify",
         do_verify,
         "look whether each message is in the Maildir",
@@ -25,21 +26,29 @@ def add_verify(words: Words) -> None:
     )
 
 
-def do_verify(words: argparse.Namespace) -> bool:
+def do_verify(given: argparse.Namespace) -> bool:
     """Says whether each message is in the Maildir."""
-    maildir = os.fsencode(words.maildir)
-    return each(map(os.fsencode, words.files), lambda path: for_mailboxes(maildir, path, verify_file))
+    maildir = os.fsencode(given.maildir)
+    return each(map(os.fsencode, given.files), lambda path: for_mailboxes(maildir, path, verify_file))
 
 
 def verify_file(maildir: bytes, file: bytes) -> bool:
     """Says what of one mailbox is there, and answers whether each message is, once."""
     with open_text(file, maildir) as text:
         check = Check.of(maildir, inventory_of(text))
-    states = [check.count(state) for state in (State.THERE, State.RENAMED, State.OTHER, State.NOWHERE)]
     sizes = check.inventory.sizes
     put(
         "%s: messages %d, bytes %d, there %d, under another name %d, other bytes %d, nowhere %d, doubles %d"
-        % (shown(file), len(sizes), sum(sizes), *states, len(check.doubles))
+        % (
+            shown(file),
+            len(sizes),
+            sum(sizes),
+            check.count(State.THERE),
+            check.count(State.RENAMED),
+            check.count(State.OTHER),
+            check.count(State.NOWHERE),
+            len(check.doubles),
+        )
     )
     say_found(check)
     return check.is_right()
@@ -47,7 +56,7 @@ def verify_file(maildir: bytes, file: bytes) -> bool:
 
 def inventory_of(text: Text) -> Inventory:
     """The messages of a text, which `mbox2maildir list` must have as they are read."""
-    with Listing.open(text.mailbox.number, text.start, find_program()) as listing:
+    with Listing.open(text.mailbox.number, text.start, find_program()) as listing, INTERRUPTS.let_through():
         return Inventory.read(text.mailbox, text.start, listing)
 
 

@@ -84,7 +84,7 @@ class Copy:
 
 
 def unfinished(folder: bytes) -> Tuple[BinaryIO, Optional[bytes]]:
-    """Opens a file without a name, or where none such can get one later, one with an odd name, which is answered too."""
+    """Opens a file without a name, or where none such can get one later, one with an odd name, which is answered."""
     part = None
     try:
         os.stat("/proc/self/fd")

@@ -1,5 +1,5 @@
 """The quoted copy of a mailbox."""
-from typing import Callable, FrozenSet, Iterable, NamedTuple, Optional, Union
+from typing import Callable, FrozenSet, NamedTuple, Union
 
 from .. import ADMIN
 from ..faults import Fault

@@ -1,5 +1,5 @@
 """What a file is, and the command to run next."""
-from typing import Iterator, List, NamedTuple, Optional, Set, Tuple
+from typing import List, NamedTuple, Optional, Tuple
 
 from .. import PROGRAM
 from ..mbox.files import LineEnds

@@ -19,14 +19,15 @@ class Digest:
 
     def update(self, block: Union[bytes, memoryview]) -> None:
         """Takes the next bytes."""
-        block, offset = memoryview(block), self.place
-        while self.sizes and self.sizes[-1] <= offset + len(block):
+        while self.sizes and self.sizes[-1] <= self.place + len(block):
             size = self.sizes.pop()
-            self.take(block[self.place - offset : size - offset])
+            wanted = size - self.place
+            self.take(block[:wanted])
+            block = memoryview(block)[wanted:]
             self.beginnings[size] = self.hash.hexdigest()
-        self.take(block[self.place - offset :])
+        self.take(block)
 
-    def take(self, piece: memoryview) -> None:
+    def take(self, piece: Union[bytes, memoryview]) -> None:
         """Hashes bytes."""
         self.hash.update(piece)
         self.place += len(piece)

@@ -22,6 +22,7 @@ from ..mbox.inventory import Inventory
 from ..mbox.locks import open_mailbox
 from ..mbox.messages import messages_of
 from ..program import Failed, Listing, Program
+from ..signals import INTERRUPTS
 from ..terminal import shown, why_left, word
 from ..units import Line, Offset, Place, silent
 from .outcomes import INBOX, Fate, Row
@@ -185,7 +186,7 @@ class Migration:
             want_room(folder, [], work.mailbox.size)
         work.source, start = stack.enter_context(work.choice.text(folder))
         work.start = self.extra.start_of(work.source, start)
-        with Listing.open(work.source.number, work.start, self.program.path) as listing:
+        with Listing.open(work.source.number, work.start, self.program.path) as listing, INTERRUPTS.let_through():
             work.inventory = Inventory.read(work.source, work.start, listing)
         if work.done_size:
             self.find_first(work)

@@ -6,6 +6,7 @@ import time
 import unicodedata
 
 from ..terminal import flush, put, put_error, shown
+from .observer import Observer
 from .outcomes import Fate, folder_name
 
 # how often the line of a terminal is written anew, in seconds, and how wide one is that doesn't tell
@@ -41,7 +42,7 @@ def width_of_terminal():
         return WIDTH
 
 
-class Reporter:
+class Reporter(Observer):
     """Prints rows, and on a terminal how far the mailboxes are."""
 
     def __init__(self):

@@ -11,7 +11,8 @@ from tests.support.mail import A, ONE, TWO, body_of
 from tests.support.units import folder
 from mbox2maildir_admin.maildir.checking import Check
 from mbox2maildir_admin.maildir.dating import date_from
-from mbox2maildir_admin.users.children import LONGEST, Child, Teller, row_of
+from mbox2maildir_admin.users.children import Child
+from mbox2maildir_admin.users.telling import LONGEST, Teller, row_of
 from mbox2maildir_admin.faults import Fault, Left
 from mbox2maildir_admin.kinds.unnamed import copy_of_some
 from mbox2maildir_admin.maildir.making import RECORD

@@ -13,6 +13,7 @@ from unittest import mock
 
 from mbox2maildir_admin.migration import rows as reporting
 from mbox2maildir_admin.users import children
+from mbox2maildir_admin.users.telling import Teller
 from mbox2maildir_admin.migration.rows import Reporter, fitted
 
 
@@ -71,7 +72,7 @@ class CrewTest(unittest.TestCase):
     def test_nothing_new(self):
         """A child that is at work is not silent, also where it has nothing new to tell."""
         told, tell = os.pipe()
-        teller = children.Teller(tell)
+        teller = Teller(tell)
         with mock.patch.object(time, "monotonic", side_effect=[100, 100.1, 101]):
             for _ in range(3):
                 teller.progress("", "verifying")
